@@ -1,24 +1,13 @@
 -- A decision keeps what is kept.
-use Rattle.am_base.proofs.Rows.{low_or_above}
-use Rattle.am_base.proofs.Greatest.{split}
-use Rattle.std.proofs.Common.{◌≡◌, ◌≢◌, ◌⊎◌, ⊎_elim, inl, inr, ℕ, ◌+◌, ◌<◌, ◌≤◌, min, Bool, true, false, List, [], ◌∷◌, ◌++◌, length, take, Some, refl, sym, ap}
-use Rattle.std.proofs.Common.{◌∙◌, subst, arith}
-use Rattle.am_base.specs.declared.entry.Entry.{Entry}
-use Rattle.am_base.specs.declared.entry.Entry.TheVariants.{View}
-use Rattle.am_base.specs.Names.{has}
-use Rattle.am_base.specs.Whole.{Begins, IsGood, mem, view_of, key}
-use Rattle.am_base.proofs.Prefixes.{begins_refl, begins_more, begins_trans, begins_length, begins_both, length_push, below_begins, below_of}
-use Rattle.am_base.proofs.Prefixes.{begins_pushed, begins_take}
-use Rattle.am_base.proofs.Members.{mem_between, mem_viewed, viewed_mem, good_begins, good_push, Ends, ends_of}
-use Rattle.am_base.proofs.Order.{view_viewed, view_fits, key_by, resilience_viewed}
-use Rattle.am_chain.specs.Group.{put, how_many, Node, Chosen, opening, Views, Group, chain_of, current_of, IsThere, IsUp}
-use Rattle.am_chain.specs.Moves.{MayDecide, choice_of, with_choice}
-use Rattle.am_chain.specs.Runs.{IsLawful}
-use Rattle.am_chain.specs.Kept.{LateOk, NodeOk, ServedOk, DepartedOk, ViewsOk, Kept}
-use Rattle.am_chain.proofs.Puts.{put_cases, put_same, put_other, put_at}
-use Rattle.am_chain.proofs.Frames.{Later, later_all, shown_later, served_later, witness_later}
-use Rattle.am_chain.proofs.Nodes.{fronts_longer, view_current}
+use Rattle.am_chain.proofs.Words.{low_or_above, split, ◌≡◌, ◌≢◌, ◌⊎◌, ⊎_elim, inl, inr, ℕ, ◌+◌, ◌<◌, ◌≤◌, min, Bool, true, false, List, [], ◌∷◌, ◌++◌}
+use Rattle.am_chain.proofs.Words.{length, take, Some, refl, sym, ap, ◌∙◌, subst, arith, Entry, View, has, Begins, IsGood, mem, view_of, key, begins_refl}
+use Rattle.am_chain.proofs.Words.{begins_more, begins_trans, begins_length, begins_both, length_push, below_begins, below_of, begins_pushed, begins_take}
+use Rattle.am_chain.proofs.Words.{mem_between, mem_viewed, viewed_mem, good_begins, good_push, Ends, ends_of, view_viewed, view_fits, key_by}
+use Rattle.am_chain.proofs.Words.{resilience_viewed, put, how_many, Node, Chosen, opening, Views, Group, chain_of, current_of, IsThere, IsUp, MayDecide}
+use Rattle.am_chain.proofs.Words.{choice_of, with_choice, IsLawful, LateOk, NodeOk, ServedOk, DepartedOk, ViewsOk, Kept}
 use Rattle.am_chain.proofs.Heart.{ballot_ok, list_chain, member_above, needed_promised, needed_low, departed_in, complete_in, group_in, too_few}
+use Rattle.am_chain.proofs.{Puts.put_cases, Puts.put_same, Puts.put_other, Puts.put_at, Frames.Later, Frames.later_all, Frames.shown_later}
+use Rattle.am_chain.proofs.{Frames.served_later, Frames.witness_later, Nodes.fronts_longer, Nodes.view_current}
 
 module _ (s : Group) (k : Kept s) (lawful : IsLawful s) (c : ℕ) (members : List ℕ) (resilience : ℕ) (d : MayDecide s c members resilience) where
   abbrev list : List Entry

@@ -1,20 +1,16 @@
 -- The group list grows, and the chain does.
-use Rattle.am_chain.proofs.Words.{low_or_above, split, ◌≡◌, ◌≢◌, ◌⊎◌, ⊎_elim, ℕ, zero, suc, ◌+◌, ◌-◌, ◌<◌, ◌≤◌, min, true, false, List, [], ◌∷◌, ◌++◌}
-use Rattle.am_chain.proofs.Words.{length, take, Some, slice_get, refl, sym, ap, ◌∙◌, subst, arith, take-append-le, Entry, View, has, members_of, fits}
+use Rattle.am_chain.proofs.Words.{low_or_above, split, ◌≡◌, ◌≢◌, ◌⊎◌, ⊎_elim, ℕ, ◌+◌, ◌-◌, ◌<◌, ◌≤◌, min, true, false, List, [], ◌∷◌, ◌++◌}
+use Rattle.am_chain.proofs.Words.{length, take, Some, slice_get, sym, ap, ◌∙◌, subst, arith, take-append-le, Entry, View, has, members_of, fits}
 use Rattle.am_chain.proofs.Words.{counted_of, Begins, IsGood, NotView, SmallName, image_of, mem, view_of, key, resilience_of, begins_refl, begins_more}
 use Rattle.am_chain.proofs.Words.{begins_trans, begins_length, begins_both, begins_pushed, begins_take, length_take, Spares, mem_push, good_push}
 use Rattle.am_chain.proofs.Words.{view_push, put, how_many, counted_in, need_of, Node, opening, Views, Group, chain_of, IsThere, IsUp, Leads, MayAccept}
 use Rattle.am_chain.proofs.Words.{NodeOk, ServedOk, Witness, DepartedOk, ViewsOk, Kept}
 use Rattle.am_chain.proofs.{Puts.put_cases, Puts.put_same, Puts.put_at, Frames.Later, Frames.later_all, Frames.shown_later, Frames.served_later}
 use Rattle.am_chain.proofs.{Frames.witness_later, Frames.departed_later}
+use Rattle.am_group.proofs.Places.{get_before}
 
 pub take_more : {a b : List Entry} (n : ℕ) → Begins a b → n ≤ length a → take n b ≡ take n a
 take_more {a} {b} n h l = ap (take n) (sym h.same) ∙ take-append-le n a h.rest l
-
-get_more : (a r : List Entry) (n : ℕ) → n < length a → slice_get (a ++ r) n ≡ slice_get a n
-get_more [] r n l = absurd (omega arith)
-get_more (e ∷ a) r zero l = refl
-get_more (e ∷ a) r (suc n) l = get_more a r n (omega arith)
 
 -- what counts at a number is the same in a longer list
 pub counted_more : {a b : List Entry} (n : ℕ) → Begins a b → 0 < n → n ≤ length a → counted_in b n ≡ counted_in a n
@@ -22,7 +18,7 @@ counted_more {a} {b} n h low l =
     let z : n - 1 ≤ length a = omega arith in
     let w : n - 1 < length a = omega arith in
     ap (λ (x : List Entry). counted_of (slice_get b (n - 1)) (members_of (image_of x))) (take_more (n - 1) h z)
-    ∙ ap (λ o. counted_of o (members_of (image_of (take (n - 1) a)))) (ap (λ l. slice_get l (n - 1)) (sym h.same) ∙ get_more a h.rest (n - 1) w)
+    ∙ ap (λ o. counted_of o (members_of (image_of (take (n - 1) a)))) (ap (λ l. slice_get l (n - 1)) (sym h.same) ∙ get_before a h.rest (n - 1) w)
 
 pub need_more : {a b : List Entry} (n : ℕ) → Begins a b → 0 < n → n ≤ length a → need_of b n ≡ need_of a n
 need_more {a} {b} n h low l =

@@ -1,22 +1,11 @@
 -- A coordinator that decides has all that was accepted.
-use Rattle.am_base.proofs.Rows.{low_or_above}
-use Rattle.am_base.proofs.Greatest.{split}
-use Rattle.std.proofs.Common.{◌≡◌, ◌⊎◌, ⊎_elim, ℕ, zero, suc, ◌+◌, ◌-◌, ◌<◌, ◌≤◌, ◌&&◌, ◌||◌, not, nat_lt, min, Bool, true, false, List, [], ◌∷◌, ◌++◌, length}
-use Rattle.std.proofs.Common.{take, Option, Some, None, slice_get, refl, sym, ap, ◌∙◌, subst, arith}
-use Rattle.std.proofs.lemmas.Bool.Decides.{nat_tests}
-use Rattle.std.proofs.lemmas.Option.{slice_get_within}
-use Rattle.am_base.specs.declared.entry.Entry.{Entry}
-use Rattle.am_base.specs.declared.entry.Entry.TheVariants.{Leave, View}
-use Rattle.am_base.specs.Names.{has}
-use Rattle.am_base.specs.Whole.{Begins, IsGood, mem, view_of, key, resilience_of}
-use Rattle.am_base.proofs.Prefixes.{begins_refl, begins_nil, begins_more, begins_trans, begins_length, begins_both, begins_same, begins_push}
-use Rattle.am_base.proofs.Prefixes.{length_push, begins_take, length_take, take_begins}
-use Rattle.am_base.proofs.Members.{mem_between, mem_nil, mem_viewed, viewed_mem, good_begins, leaver_in, leaver_out}
-use Rattle.am_base.proofs.Order.{view_up, resilience_up, resilience_viewed}
-use Rattle.am_chain.specs.Group.{how_many, counted_in, opening, Group, chain_of, IsThere, IsUp, NoBetter}
-use Rattle.am_chain.specs.Moves.{MayDecide, Voted}
-use Rattle.am_chain.specs.Runs.{counts_for, IsLawful}
-use Rattle.am_chain.specs.Kept.{BallotOk, Kept}
+use Rattle.am_chain.proofs.Words.{low_or_above, split, ◌≡◌, ◌⊎◌, ⊎_elim, ℕ, zero, suc, ◌+◌, ◌-◌, ◌<◌, ◌≤◌, ◌&&◌, ◌||◌, not, nat_lt, min, Bool, true, false}
+use Rattle.am_chain.proofs.Words.{List, [], ◌∷◌, ◌++◌, length, take, Option, Some, None, slice_get, refl, sym, ap, ◌∙◌, subst, arith, nat_tests}
+use Rattle.am_chain.proofs.Words.{slice_get_within, Entry, Leave, View, has, Begins, IsGood, mem, view_of, key, resilience_of, begins_refl, begins_nil}
+use Rattle.am_chain.proofs.Words.{begins_more, begins_trans, begins_length, begins_both, begins_same, begins_push, length_push, begins_take, length_take}
+use Rattle.am_chain.proofs.Words.{take_begins, mem_between, mem_nil, mem_viewed, viewed_mem, good_begins, leaver_in, leaver_out, view_up, resilience_up}
+use Rattle.am_chain.proofs.Words.{resilience_viewed, how_many, counted_in, opening, Group, chain_of, IsThere, IsUp, NoBetter, MayDecide, Voted, counts_for}
+use Rattle.am_chain.proofs.Words.{IsLawful, BallotOk, Kept}
 use Rattle.am_chain.proofs.Puts.{count_within, count_below}
 
 -- the greatest number that passes
@@ -79,9 +68,7 @@ counted_at list n good low high = counted_go list n (slice_get list (n - 1)) goo
 
 and_true : (a b c : Bool) → a ≡ true → b ≡ true → c ≡ false → (a && (b && not c)) ≡ true
 and_true true true false x y z = refl
-and_true false b c x y z = absurd (cc)
-and_true true false c x y z = absurd (cc)
-and_true true true true x y z = absurd (cc)
+and_true _ _ _ x y z = absurd (cc)
 
 either : (a b c : Bool) → (a ≡ false → (b ≡ true) × (c ≡ true)) → (a || (b && c)) ≡ true
 either true b c h = refl

@@ -1,17 +1,7 @@
 -- A view that completes stands in the chain.
-use Rattle.am_base.proofs.Rows.{low_or_above}
-use Rattle.am_base.proofs.Greatest.{split}
-use Rattle.std.proofs.Common.{◌≡◌, ◌⊎◌, ⊎_elim, ℕ, ◌<◌, ◌≤◌, Bool, true, [], ◌∷◌, length, refl, ap, arith}
-use Rattle.am_base.specs.declared.entry.Entry.TheVariants.{View}
-use Rattle.am_base.specs.Names.{has}
-use Rattle.am_base.specs.Lists.{fold}
-use Rattle.am_base.specs.Whole.{Begins, view_of, key}
-use Rattle.am_base.proofs.Prefixes.{begins_more, begins_both, length_push}
-use Rattle.am_base.proofs.Members.{good_begins}
-use Rattle.am_base.proofs.Order.{view_up, view_below}
-use Rattle.am_chain.specs.Group.{opening, Views, Group, chain_of, IsThere}
-use Rattle.am_chain.specs.Runs.{Completes}
-use Rattle.am_chain.specs.Kept.{NodeOk, Kept}
+use Rattle.am_chain.proofs.Words.{low_or_above, split, ◌≡◌, ◌⊎◌, ⊎_elim, ℕ, ◌<◌, ◌≤◌, Bool, true, [], ◌∷◌, length, refl, ap, arith, View, has, fold, Begins}
+use Rattle.am_chain.proofs.Words.{view_of, key, begins_more, begins_both, length_push, good_begins, view_up, view_below, opening, Views, Group, chain_of}
+use Rattle.am_chain.proofs.Words.{IsThere, Completes, NodeOk, Kept}
 
 view_nil : key (view_of []) ≡ 0
 unfolding fold view_of key

@@ -1,14 +1,13 @@
 -- Each move but a decision keeps what is kept, whoever stopped.
-use Rattle.am_chain.proofs.Words.{low_or_above, ◌≡◌, ◌≢◌, ◌⊎◌, ⊎_elim, inl, inr, ℕ, ◌<◌, ◌≤◌, Bool, true, false, List, [], ◌∷◌, ◌++◌, length, take}
-use Rattle.am_chain.proofs.Words.{Some, slice_get, refl, sym, ap, ◌∙◌, subst, arith, Stamp, Entry, Data, Join, Leave, View, fits, Begins, NotView}
-use Rattle.am_chain.proofs.Words.{image_of, mem, view_of, key, begins_refl, begins_nil, begins_more, begins_trans, begins_length, begins_both}
-use Rattle.am_chain.proofs.Words.{below_begins, Spares, mem_between, mem_push, key_by, put, Node, Group, chain_of, IsThere, IsUp, Leads, IsOngoing}
-use Rattle.am_chain.proofs.Words.{IsHeld, MayAccept, longer, own_stamp, IsAbove, MayNumber, MayWelcome, MayDepart, with_node, with_line, ServedOk}
-use Rattle.am_chain.proofs.Words.{DepartedOk, Kept}
+use Rattle.am_chain.proofs.Words.{low_or_above, ◌≡◌, ◌≢◌, ◌⊎◌, ⊎_elim, inl, inr, ℕ, ◌<◌, ◌≤◌, Bool, true, false, List, [], ◌∷◌, ◌++◌, length, take, Some}
+use Rattle.am_chain.proofs.Words.{slice_get, refl, sym, ap, ◌∙◌, subst, arith, Stamp, Entry, Leave, View, fits, Begins, NotView, image_of, mem}
+use Rattle.am_chain.proofs.Words.{view_of, key, begins_refl, begins_nil, begins_more, begins_trans, begins_length, begins_both, below_begins, Spares}
+use Rattle.am_chain.proofs.Words.{mem_between, mem_push, key_by, put, Node, Group, chain_of, IsThere, IsUp, Leads, IsOngoing, IsHeld, MayAccept, longer}
+use Rattle.am_chain.proofs.Words.{own_stamp, IsAbove, MayNumber, MayWelcome, MayDepart, with_node, with_line, ServedOk, DepartedOk, Kept}
 use Rattle.am_chain.proofs.Nodes.{fronts_longer, flags_ok, fronts_ok, raise_ok, begin_ok, own_above, store_ok, fetch_ok, fetch_chain, welcome_ok}
 use Rattle.am_chain.proofs.Nodes.{welcome_now}
-use Rattle.am_chain.proofs.{Puts.put_cases, Puts.put_same, Puts.put_other, Frames.Later, Frames.later_promise, Frames.node_change, Fronts.group_change}
-use Rattle.am_chain.proofs.{Fronts.chain_change, Fronts.grown, Fronts.views_grow, Fronts.chain_is, Fronts.good_grown}
+use Rattle.am_chain.proofs.Fronts.{group_change, chain_change, grown, views_grow, chain_is, good_grown}
+use Rattle.am_chain.proofs.{Puts.put_cases, Puts.put_same, Puts.put_other, Frames.Later, Frames.later_promise, Frames.node_change}
 
 later_longer : (m : Node) (e : Entry) → Later m (longer m e)
 later_longer m e = record {
@@ -20,7 +19,7 @@ later_longer m e = record {
   promise = omega arith;
 }
 
-leave_fits : (list : List Entry) (i : ℕ) → mem list i ≡ true → fits (image_of list) (Leave i) ≡ true
+pub leave_fits : (list : List Entry) (i : ℕ) → mem list i ≡ true → fits (image_of list) (Leave i) ≡ true
 unfolding mem fits
 leave_fits list i h = h
 
@@ -207,16 +206,14 @@ module _ (s : Group) (k : Kept s) where
 
   -- a numbered entry spares its sequencer and who doesn't leave
   spares_own : (i : ℕ) (e : Entry) → MayNumber s.node i e → Spares i e
-  spares_own i (Data from req body) h = tt
-  spares_own i (Join name) h = tt
   spares_own i (Leave name) h = h.1
   spares_own i (View stamp members resilience) h = absurd h
+  spares_own i _ h = tt
 
   spares_staying : (i : ℕ) (e : Entry) → MayNumber s.node i e → (j : ℕ) → (s.node j).leaving ≡ false → Spares j e
-  spares_staying i (Data from req body) h j l = tt
-  spares_staying i (Join name) h j l = tt
   spares_staying i (Leave name) h j l = λ same. let z = h.0 in let w = ap (λ x. (s.node x).leaving) same in absurd (cc)
   spares_staying i (View stamp members resilience) h j l = absurd h
+  spares_staying i _ h j l = tt
 
   pub numbers_keeps : (i : ℕ) (e : Entry) → Leads i (s.node i) → fits (image_of (s.node i).list) e ≡ true → MayNumber s.node i e
       → Kept (with_line s i (longer (s.node i) e))

@@ -1,21 +1,11 @@
 -- What every run keeps.
-use Rattle.std.proofs.Common.{◌≡◌, ℕ, zero, suc, ◌&&◌, not, Bool, true, false, List, [], ◌∷◌, ◌++◌, length, take, refl, sym, ◌∙◌, subst, arith}
-use Rattle.am_base.specs.declared.entry.Entry.{Entry}
-use Rattle.am_base.specs.declared.entry.Entry.TheVariants.{Leave}
-use Rattle.am_base.specs.Whole.{Begins}
-use Rattle.am_base.proofs.Prefixes.{begins_refl, begins_trans, begins_take, begins_both, length_take}
-use Rattle.am_chain.specs.Group.{count, Node, opening, Group, chain_of, MayAccept, put}
-use Rattle.am_chain.specs.Moves.{Move, numbers, stores, accepts, learns, begins, raises, shows, serves, fetches, decides, gives_over, welcomes, asks}
-use Rattle.am_chain.specs.Moves.{departs, closes, stops, longer}
-use Rattle.am_chain.specs.Runs.{Step, IsLawful, start, Run, founded, more, Onward, here, onward, counts_for}
-use Rattle.am_chain.specs.Kept.{Kept}
-use Rattle.am_chain.specs.Claims.{RunsKeep, ChoicesKeep, CompleteViewsStand}
-use Rattle.am_chain.proofs.Start.{start_kept}
-use Rattle.am_chain.proofs.Steps.{quiet_keeps}
-use Rattle.am_chain.proofs.Decide.{decides_keeps, chosen_old, decided_old, group_low}
-use Rattle.am_chain.proofs.Marks.{marks_keep}
-use Rattle.am_base.specs.Whole.{image_of}
-use Rattle.am_base.proofs.Prefixes.{begins_more}
+use Rattle.am_chain.proofs.Words.{◌≡◌, ℕ, zero, suc, ◌&&◌, not, Bool, true, false, List, [], ◌∷◌, ◌++◌, length, take, refl, sym, ◌∙◌, subst, arith, Entry}
+use Rattle.am_chain.proofs.Words.{Leave, Begins, begins_refl, begins_trans, begins_take, begins_both, length_take, count, Node, opening, Group, chain_of}
+use Rattle.am_chain.proofs.Words.{MayAccept, put, Move, numbers, stores, accepts, learns, begins, raises, shows, serves, fetches, decides, gives_over}
+use Rattle.am_chain.proofs.Words.{welcomes, asks, departs, closes, stops, longer, Step, IsLawful, start, Run, founded, more, Onward, here, onward}
+use Rattle.am_chain.proofs.Words.{counts_for, Kept, RunsKeep, ChoicesKeep, CompleteViewsStand, image_of, begins_more}
+use Rattle.am_chain.proofs.{Start.start_kept, Steps.quiet_keeps, Decide.decides_keeps, Decide.chosen_old, Decide.decided_old, Decide.group_low}
+use Rattle.am_chain.proofs.{Marks.marks_keep}
 
 -- what grows along a run
 record Grows (s t : Group) : Type 0 where

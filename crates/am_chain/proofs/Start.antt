@@ -2,19 +2,13 @@
 use Rattle.am_chain.proofs.Words.{◌≡◌, ⊎_elim, ℕ, ◌<◌, ◌≤◌, nat_le, if◌then◌else◌, Bool, true, false, List, [], ◌∷◌, ◌++◌, length, refl, sym, subst}
 use Rattle.am_chain.proofs.Words.{arith, nat_tests, Entry, View, has, no_stamp, blank, fits, fold, Begins, IsGood, mem, key, begins_refl, begins_nil}
 use Rattle.am_chain.proofs.Words.{begins_length, begins_same, begins_pushed, below_length, good_nil, good_push, mem_nil, mem_viewed, viewed_mem}
-use Rattle.am_chain.proofs.Words.{view_viewed, opening, Views, MayBegin, first_stamp, first_choice, start, NodeOk, Kept}
+use Rattle.am_chain.proofs.Words.{view_viewed, opening, MayBegin, first_stamp, first_choice, start, NodeOk, Kept}
 
 first_fits : (founders : List ℕ) (first resilience : ℕ) → has founders first ≡ true → fits blank (View (first_stamp first) founders resilience) ≡ true
 unfolding fits
 first_fits founders first resilience h = let z : nat_le 0 resilience ≡ true = grind (arith, nat_tests) in rw (h, z) refl
 
 module _ (founders : List ℕ) (first resilience : ℕ) (may : MayBegin founders first resilience) where
-  first_list : List Entry
-  first_list = opening (first_choice founders first resilience)
-
-  first_views : Views
-  first_views = (start founders first resilience).views
-
   first_good : IsGood (opening (first_choice founders first resilience))
   unfolding fold
   first_good = good_push [] (View (first_stamp first) founders resilience) good_nil (first_fits founders first resilience may.among) may.small

@@ -1,14 +1,7 @@
 -- The requests of a name along a list.
-use Rattle.am_base.proofs.Greatest.{split}
-use Rattle.std.proofs.Common.{◌≡◌, ◌⊎◌, ⊎_elim, inl, inr, ℕ, zero, suc, ◌+◌, ◌<◌, ◌≤◌, ◌==◌, List, [], ◌∷◌, ◌++◌, length, Some, slice_get, refl, sym, ap, ◌∙◌}
-use Rattle.std.proofs.Common.{subst, arith}
-use Rattle.std.specs.List.{range_with_len}
-use Rattle.am_base.specs.declared.image.Image.{Image}
-use Rattle.am_base.specs.declared.entry.Entry.{Entry}
-use Rattle.am_base.specs.declared.entry.Entry.TheVariants.{Data}
-use Rattle.am_base.specs.Names.{place_of, life_of}
-use Rattle.am_base.specs.Lists.{blank, after, fold, AllFit, request_in, requests_of}
-use Rattle.am_base.proofs.Rows.{row_at, long_after}
+use Rattle.am_chain.proofs.Words.{split, ◌≡◌, ◌⊎◌, ⊎_elim, inl, inr, ℕ, zero, suc, ◌+◌, ◌<◌, ◌≤◌, ◌==◌, List, [], ◌∷◌, ◌++◌, length, Some, slice_get, refl}
+use Rattle.am_chain.proofs.Words.{sym, ap, ◌∙◌, subst, arith, range_with_len, Image, Entry, Data, place_of, life_of, blank, after, fold, AllFit, request_in}
+use Rattle.am_chain.proofs.Words.{requests_of, row_at, long_after}
 use Rattle.am_chain.specs.OrdersClaims.{InTurn, RequestsInTurn, NoSendTwice, SendersInOrder, SendStandsOnce}
 use Rattle.am_base.proofs.Requests.{IsNext, own_request, entry_goes_on, next_at_first}
 
@@ -146,9 +139,8 @@ one_place name next req body other (e ∷ es) (suc k) (suc l) h is also = ⊎_el
     (rest_of name next e es h)
 
 pub no_send_twice : NoSendTwice
-no_send_twice list fit name req zero l body other is also = absurd (cc)
-no_send_twice list fit name req (suc k) zero body other is also = absurd (cc)
 no_send_twice list fit name req (suc k) (suc l) body other is also = ap suc (one_place name 1 req body other list k l (requests_in_turn list fit name) is also)
+no_send_twice list fit name req _ _ body other is also = absurd (cc)
 
 -- ---- of a group
 

@@ -1,46 +1,14 @@
 -- What a node's step comes to in the world of which the records tell.
-use Rattle.std.proofs.Common.{◌≡◌, ℕ, ◌<◌, ◌≤◌, List, [], ◌∷◌, ◌++◌, length, map, Bool, true, false, true≢false, Option}
-use Rattle.std.proofs.Common.{Some, None, sym, refl, ap, ◌∙◌, subst, arith}
-use Rattle.std.specs.Prelude.{if◌then◌else◌, not, ◌==◌}
-use Rattle.std.proofs.lemmas.Bool.Decides.{nat_tests}
-use Rattle.std.proofs.lemmas.List.{length-map}
-use Rattle.std.proofs.lemmas.Option.{none-some}
-use Rattle.am_base.specs.Most.{most_events}
+use Rattle.am_races.proofs.Words.{◌≡◌, ℕ, ◌<◌, ◌≤◌, List, [], ◌∷◌, ◌++◌, length, map, Bool, true, false, true≢false, Option, Some, sym, refl, ap, ◌∙◌}
+use Rattle.am_races.proofs.Words.{subst, arith, if◌then◌else◌, not, ◌==◌, nat_tests, length-map, none-some, most_events, NodeEvent, Rules, place_of, name_at}
+use Rattle.am_races.proofs.Words.{IsPacket, spelling, IsInOrder, Letter, Act, Event, Record, is_for, letters_of, letter_at, Step, step, hear, row, World}
+use Rattle.am_races.proofs.Words.{is_stopped, with_record, with_step, does_event, hears_letter, acts_as, happens, record_of, current, no_caller, start, run}
+use Rattle.am_races.proofs.Words.{happen, Node, with_tag, IsEndOf, Does, spelling_is_heard, HasNumbersLeft, step_end, end_high, runs_go_on, numbers_hold}
+use Rattle.am_races.proofs.Words.{Terms, Follows, has_stopped, world_after, IsNext, IsLawful, what_of, MayAct}
+use Rattle.am_races.proofs.{Legality.next_tells, Knows.knows, Knows.name_now, Knows.each_keeps, Knows.told_more}
 use Rattle.am_base.specs.declared.outcome.Outcome.TheVariants as said
-use Rattle.am_base.specs.declared.event.NodeEvent.{NodeEvent}
 use Rattle.am_base.specs.declared.event.NodeEvent.TheVariants as does
-use Rattle.am_base.specs.Founding.{Rules}
-use Rattle.am_base.specs.Names.{place_of, name_at}
-use Rattle.am_packet.specs.Limits.{IsPacket}
-use Rattle.am_packet.specs.Spelling.{spelling}
-use Rattle.am_state.specs.Cores.{IsInOrder}
-use Rattle.am_packet.specs.Boxes.{Letter}
-use Rattle.am_group.specs.declared.event.Act.{Act}
 use Rattle.am_group.specs.declared.event.Act.TheVariants as act
-use Rattle.am_group.specs.declared.event.Event.{Event}
-use Rattle.am_group.specs.declared.event.Record.{Record}
-use Rattle.am_group.specs.Addressed.{is_for}
-use Rattle.am_group.specs.Journals.{letters_of, letter_at}
-use Rattle.am_model.specs.Emit.{Step}
-use Rattle.am_model.specs.Step.{step, hear, row}
-use Rattle.am_play.specs.World.{World, is_stopped, with_record, with_step, does_event, hears_letter, acts_as, happens, record_of, current, no_caller}
-use Rattle.am_play.specs.World.{start, run, happen}
-use Rattle.am_model.specs.Node.{Node}
-use Rattle.am_play.specs.Group.{with_tag}
-use Rattle.am_model.specs.Ends.{IsEndOf, Does}
-use Rattle.am_meaning.proofs.Bytes.{spelling_is_heard}
-use Rattle.am_model.specs.Nodes.{HasNumbersLeft}
-use Rattle.am_model.proofs.Steps.{step_end, end_high}
-use Rattle.am_play.proofs.Runs.{runs_go_on}
-use Rattle.am_laws.proofs.RunCounts.{numbers_hold}
-use Rattle.am_wire.specs.declared.rule.Terms.{Terms}
-use Rattle.am_wire.specs.Seats.{Follows}
-use Rattle.am_wire.specs.Stops.{has_stopped}
-use Rattle.am_races.specs.Told.{world_after, IsNext}
-use Rattle.am_races.specs.Lawful.{IsLawful}
-use Rattle.am_races.specs.Boxes.{what_of, MayAct}
-use Rattle.am_races.proofs.Legality.{next_tells}
-use Rattle.am_races.proofs.Knows.{knows, name_now, each_keeps, told_more}
 
 -- ---- the run
 
@@ -86,11 +54,7 @@ numbers_left terms before name m follows few is =
 -- ---- an act is a step
 
 some_is : {A : Type 0} (x y : A) → Some x ≡ Some y → x ≡ y
-some_is {A = A} x y e = ap (λ (o : Option A). or_this o) e
-  where
-    or_this : Option A → A
-    or_this None = x
-    or_this (Some z) = z
+some_is x y e = cc
 
 if_runs : {A : Type 0} (b : Bool) (x y : A) → b ≡ false → (if b then x else y) ≡ y
 if_runs true x y e = absurd (true≢false e)
@@ -139,8 +103,7 @@ acts_step w e before name (act.Hear number) l what is runs sent stopped may =
     let there : letter_at w.letters number ≡ Some h.letter = ap (λ (ls : List Letter). letter_at ls number) sent ∙ h.sent in
     let same : Some (does.Hear (spelling h.letter.packet)) ≡ Some what = sym (ap (what_of (act.Hear number)) h.is) ∙ is in
     ap (hears_letter w e name (hear (w.nodes name))) there ∙ hears_steps w e name h.letter what same runs h.its h.packet
-acts_step w e before name (act.Cut number keep) l what is runs sent stopped may = absurd (true≢false (sym may.race))
-acts_step w e before name act.Return l what is runs sent stopped may = absurd (true≢false (sym may.race))
+acts_step w e before name _ l what is runs sent stopped may = absurd (true≢false (sym may.race))
 
 -- ---- what comes next
 

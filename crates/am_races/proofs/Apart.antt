@@ -1,13 +1,6 @@
 -- What a record of another place and another caller leaves as it is.
-use Rattle.std.proofs.Common.{◌≡◌, ℕ, List, [], ◌∷◌, ◌++◌, Bool, true, false, cond, refl, ap, ◌∙◌, ne_eqb, append-nil}
-use Rattle.std.specs.Prelude.{filter, if◌then◌else◌, ◌==◌, ◌&&◌, ◌||◌}
-use Rattle.std.specs.List.{list_any}
-use Rattle.std.proofs.lemmas.List.Folds.{list_any-append}
-use Rattle.std.proofs.lemmas.List.Elements.{filter-append}
-use Rattle.am_base.specs.Names.{place_of}
-use Rattle.am_group.specs.declared.event.Record.{Record}
-use Rattle.am_races.specs.Tags.{is_either, up_to_last}
-use Rattle.am_races.specs.Laws.{OthersAreApart}
+use Rattle.am_races.proofs.Words.{◌≡◌, ℕ, List, [], ◌∷◌, ◌++◌, Bool, true, false, cond, refl, ap, ◌∙◌, ne_eqb, append-nil, filter, if◌then◌else◌, ◌==◌, ◌&&◌}
+use Rattle.am_races.proofs.Words.{◌||◌, list_any, list_any-append, filter-append, place_of, Record, is_either, up_to_last, OthersAreApart}
 
 -- a record that doesn't pass a test is left out
 left_out : (test : Record → Bool) (before : List Record) (r : Record) → test r ≡ false → filter test (before ++ r ∷ []) ≡ filter test before

@@ -1,59 +1,20 @@
 -- What an act of a box leaves: its record comes next, whatever others added, and the box stands behind it.
-use Rattle.std.proofs.Common.{◌≡◌, ◌≢◌, ℕ, zero, suc, ◌<◌, ◌≤◌, List, [], ◌∷◌, ◌++◌, length, drop, map, get_or, max, Bool}
-use Rattle.std.proofs.Common.{true, false, true≢false, Option, Some, None, cond, sym, refl, ap, ◌∙◌, subst, arith}
-use Rattle.std.proofs.Common.{append-nil, length-append, eq-eqb}
-use Rattle.std.specs.Prelude.{if◌then◌else◌, ◌==◌, ◌&&◌, ◌||◌, All}
-use Rattle.std.proofs.Math.Seq.{drop-append_seam}
-use Rattle.std.proofs.lemmas.List.Elements.{filter-append}
-use Rattle.std.proofs.lemmas.Option.{none-some}
-use Rattle.std.proofs.lemmas.Grind.{fold-append}
-use Rattle.am_base.specs.Most.{most_events}
-use Rattle.atomic_table.specs.Seated.{TableId}
-use Rattle.am_base.specs.declared.outcome.Outcome.{Outcome}
+use Rattle.am_races.proofs.Words.{◌≡◌, ◌≢◌, ℕ, zero, suc, ◌<◌, ◌≤◌, List, [], ◌∷◌, ◌++◌, length, drop, map, get_or, max, Bool, true, false, true≢false}
+use Rattle.am_races.proofs.Words.{Option, Some, None, cond, sym, refl, ap, ◌∙◌, subst, arith, append-nil, length-append, eq-eqb, if◌then◌else◌, ◌==◌, ◌&&◌}
+use Rattle.am_races.proofs.Words.{◌||◌, All, drop-append_seam, filter-append, none-some, fold-append, most_events, TableId, Outcome, NodeEvent, place_of}
+use Rattle.am_races.proofs.Words.{name_at, IsInOrder, Letter, Act, By, Event, Record, RacePlan, is_for, name_of, letters_of, letter_at, flat_map-append}
+use Rattle.am_races.proofs.Words.{heard_by, Node, HasNumbersLeft, World, is_stopped, with_record, acts_as, happens, current, no_caller, record_of, with_tag}
+use Rattle.am_races.proofs.Words.{IsEndOf, Key, Place, Caller, Terms, WireRefusal, is_of, of_key, times, same_key, Known, IsReady, Committed, Sees, Follows}
+use Rattle.am_races.proofs.Words.{GoesOn, is_stop, has_stopped, rest_of, times_cons, world_after, IsNext, of_place, is_turn, may_end, greatest}
+use Rattle.am_races.proofs.Words.{passed_number, cursor, last_heard, lost_by, unless_nought, or_nought, IsApart, plan_by, terms_of, IsLawful, what_of, Steps}
+use Rattle.am_races.proofs.Words.{MayAct, Boxed, Keeps, IsBox, IsShareOf, IsTimely, Acted, Looks, IsRefused, refusal_answer, Came, round_in}
+use Rattle.am_races.proofs.Nexts.{nodes_stay, stopped_in_more, none_stop, or_none, item_more, lives_of, all_cons}
+use Rattle.am_races.proofs.{Knows.knows, Knows.name_now, Knows.told_more, Knows.stopped_more, Legality.next_tells, Stays.turns_stay, Stays.ends_stay}
+use Rattle.am_races.proofs.{Acting.numbers_left, Acting.step_comes, Acting.Comes}
 use Rattle.am_base.specs.declared.outcome.Outcome.TheVariants as said
-use Rattle.am_base.specs.declared.event.NodeEvent.{NodeEvent}
-use Rattle.am_base.specs.Names.{place_of, name_at}
-use Rattle.am_state.specs.Cores.{IsInOrder}
-use Rattle.am_packet.specs.Boxes.{Letter}
-use Rattle.am_group.specs.declared.event.Act.{Act}
 use Rattle.am_group.specs.declared.event.Act.TheVariants as act
-use Rattle.am_group.specs.declared.event.By.{By}
-use Rattle.am_group.specs.declared.event.Event.{Event}
-use Rattle.am_group.specs.declared.event.Record.{Record}
-use Rattle.am_group.specs.declared.plan.RacePlan.{RacePlan}
-use Rattle.am_group.specs.Addressed.{is_for}
-use Rattle.am_group.specs.Deliveries.{name_of}
-use Rattle.am_group.specs.Journals.{letters_of, letter_at}
-use Rattle.std.proofs.lemmas.List.Concat.{flat_map-append}
-use Rattle.am_play.specs.Claims.{heard_by}
-use Rattle.am_model.specs.Node.{Node}
-use Rattle.am_model.specs.Nodes.{HasNumbersLeft}
-use Rattle.am_play.specs.World.{World, is_stopped, with_record, acts_as, happens, current, no_caller, record_of}
-use Rattle.am_play.specs.Group.{with_tag}
-use Rattle.am_model.specs.Ends.{IsEndOf}
-use Rattle.am_wire.specs.declared.rule.Key.{Key}
-use Rattle.am_wire.specs.declared.rule.Key.TheVariants.{Place, Caller}
-use Rattle.am_wire.specs.declared.rule.Terms.{Terms}
-use Rattle.am_wire.specs.declared.wire.WireRefusal.{WireRefusal}
 use Rattle.am_wire.specs.declared.wire.WireRefusal.TheVariants as refusals
-use Rattle.am_wire.specs.Keys.{is_of, of_key, times, same_key}
-use Rattle.am_wire.specs.Passes.{Known, IsReady, Committed, Sees}
-use Rattle.am_wire.specs.Seats.{Follows, GoesOn}
-use Rattle.am_wire.specs.Stops.{is_stop, has_stopped}
-use Rattle.am_wire.proofs.Views.{rest_of, times_cons}
-use Rattle.am_races.specs.Told.{world_after, IsNext}
-use Rattle.am_races.specs.Tags.{of_place}
-use Rattle.am_races.specs.Turns.{is_turn, may_end, greatest, passed_number, cursor, last_heard, lost_by, unless_nought, or_nought}
-use Rattle.am_races.specs.Laws.{IsApart}
-use Rattle.am_races.specs.Lawful.{plan_by, terms_of, IsLawful}
-use Rattle.am_races.specs.Boxes.{what_of, Steps, MayAct, Boxed, Keeps, IsBox, IsShareOf, IsTimely, Acted, Looks, IsRefused, refusal_answer}
-use Rattle.am_races.specs.declared.call.Came.{Came}
-use Rattle.am_races.specs.Ready.{round_in}
-use Rattle.am_races.proofs.Knows.{knows, name_now, told_more, stopped_more}
-use Rattle.am_races.proofs.Legality.{next_tells}
-use Rattle.am_races.proofs.Nexts.{nodes_stay, stopped_in_more, none_stop, or_true, or_none, item_more, lives_of, all_cons}
-use Rattle.am_races.proofs.Stays.{turns_stay, ends_stay}
-use Rattle.am_races.proofs.Acting.{numbers_left, step_comes, Comes}
+use Rattle.std.proofs.lemmas.Bool.{or_left}
 
 -- ---- records of a key
 
@@ -143,27 +104,18 @@ may_still terms seen more name a l low follows far may = record {
     its = h.its;
     packet = h.packet;
   };
-  given = λ other e. stopped_in_more seen more other ∙ or_true (has_stopped seen other) (has_stopped more other) (may.given other e);
+  given = λ other e. stopped_in_more seen more other ∙ or_left (has_stopped seen other) (has_stopped more other) (may.given other e);
 }
 
 -- ---- a stop
 
 -- where nothing is asked of the node, the act is its stop
 stops_then : (before : List Record) (name : ℕ) (a : Act) (l : Option Letter) → MayAct before name a l → what_of a l ≡ None → a ≡ act.Stop
-stops_then before name (act.Send body) l may e = absurd (none-some _ (sym e))
-stops_then before name (act.Done req) l may e = absurd (none-some _ (sym e))
-stops_then before name act.Take l may e = absurd (none-some _ (sym e))
-stops_then before name act.Join l may e = absurd (none-some _ (sym e))
-stops_then before name act.State l may e = absurd (none-some _ (sym e))
-stops_then before name act.Leave l may e = absurd (none-some _ (sym e))
-stops_then before name (act.Reset least resilience) l may e = absurd (none-some _ (sym e))
-stops_then before name (act.Ask round) l may e = absurd (none-some _ (sym e))
-stops_then before name (act.GiveUp other) l may e = absurd (none-some _ (sym e))
 stops_then before name act.Stop l may e = refl
-stops_then before name act.Tick l may e = absurd (none-some _ (sym e))
 stops_then before name (act.Hear number) l may e = let h = may.hears number refl in absurd (none-some _ (sym e ∙ ap (what_of (act.Hear number)) h.is))
 stops_then before name (act.Cut number keep) l may e = absurd (true≢false (sym may.race))
 stops_then before name act.Return l may e = absurd (true≢false (sym may.race))
+stops_then before name _ l may e = absurd (none-some _ (sym e))
 
 stop_now : (w : World) (e : Event) (name : ℕ) (b : Bool) → b ≡ false
     → (if b then with_record w e said.IsStopped else with_record (record w { stopped = w.stopped ++ name ∷ [] }) e said.Stopped)

@@ -1,8 +1,5 @@
 -- The cases, computed.
-use Rattle.std.proofs.Common.{refl}
-use Rattle.am_races.specs.Answers.{answer_of, own_answer}
-use Rattle.am_races.specs.Callers.{are_calls, is_receive, are_finished}
-use Rattle.am_races.specs.Cases.{ReceivesUseTheirTurns}
+use Rattle.am_races.proofs.Words.{refl, answer_of, own_answer, are_calls, is_receive, are_finished, ReceivesUseTheirTurns}
 
 pub receives_use_their_turns : ReceivesUseTheirTurns
 unfolding answer_of own_answer are_calls is_receive are_finished

@@ -1,15 +1,7 @@
 -- A journal has no more records than its callers' calls have room for.
-use Rattle.std.proofs.Common.{◌≡◌, ℕ, zero, suc, ◌+◌, ◌*◌, ◌<◌, ◌≤◌, List, [], ◌∷◌, length, Bool, true, false, cond, Option, Some, None, refl}
-use Rattle.std.proofs.Common.{ap, ◌∙◌, subst, arith, eq-eqb, ne_eqb, slice_get}
-use Rattle.std.specs.Prelude.{All, ◌==◌, sum_by}
-use Rattle.std.proofs.lemmas.List.Sums.{sum_by-cons}
-use Rattle.std.proofs.lemmas.Option.{none-some}
-use Rattle.std.proofs.Math.Nat.{add-mul}
-use mathlib.Core.Logic.{dite}
-use native.Mathlib.Decide.{ℕ_discrete}
-use Rattle.am_group.specs.declared.event.Record.{Record}
-use Rattle.am_group.specs.declared.plan.ThreadPlan.{ThreadPlan}
-use Rattle.am_races.specs.Tags.{of_caller}
+use Rattle.am_races.proofs.Words.{◌≡◌, ℕ, zero, suc, ◌+◌, ◌*◌, ◌<◌, ◌≤◌, List, [], ◌∷◌, length, Bool, true, false, cond, Option, Some, None, refl, ap, ◌∙◌}
+use Rattle.am_races.proofs.Words.{subst, arith, eq-eqb, ne_eqb, slice_get, All, ◌==◌, sum_by, sum_by-cons, none-some, add-mul, dite, ℕ_discrete, Record}
+use Rattle.am_races.proofs.Words.{ThreadPlan, of_caller}
 
 -- the records of so many callers, from one on
 counted : ℕ → List ThreadPlan → List Record → ℕ

@@ -1,55 +1,18 @@
 -- A turn that a box finds is one of its call.
-use Rattle.std.proofs.Common.{◌≡◌, ◌≢◌, inl, inr, ℕ, zero, suc, ◌<◌, List, [], ◌∷◌, ◌++◌, length, drop, get_or, Bool, true, false}
-use Rattle.std.proofs.Common.{true≢false, Option, Some, None, sym, refl, ap, ◌∙◌, subst, arith, append_assoc, append-nil, eq-eqb, map}
-use Rattle.std.specs.Prelude.{if◌then◌else◌, not, ◌==◌, ◌&&◌, ◌||◌, All, count_by, nat_lt, is_none}
-use Rattle.std.specs.List.{list_any}
-use Rattle.std.proofs.lemmas.List.Concat.{flat_map-append}
-use Rattle.std.proofs.lemmas.Option.{none-some}
-use Rattle.am_base.specs.Names.{place_of, name_at, name_lt, names_of}
-use Rattle.am_packet.specs.Boxes.{Letter}
-use Rattle.am_group.specs.declared.event.Act.{Act}
+use Rattle.am_races.proofs.Words.{◌≡◌, ◌≢◌, inl, inr, ℕ, zero, suc, ◌<◌, List, [], ◌∷◌, ◌++◌, length, drop, get_or, Bool, true, false, true≢false, Option}
+use Rattle.am_races.proofs.Words.{Some, None, sym, refl, ap, ◌∙◌, subst, arith, append_assoc, append-nil, eq-eqb, map, if◌then◌else◌, not, ◌==◌, ◌&&◌, ◌||◌}
+use Rattle.am_races.proofs.Words.{All, count_by, nat_lt, is_none, list_any, flat_map-append, none-some, place_of, name_at, name_lt, names_of, Letter, Act}
+use Rattle.am_races.proofs.Words.{By, Event, Turn, Record, RacePlan, next_for, letters_of, Node, World, current, waited_for, Choice, Luck, again, choice_of}
+use Rattle.am_races.proofs.Words.{act_of, Terms, Follows, has_stopped, world_after, of_place, of_call, own_of, is_turn_part, up_to_last, is_either, is_ready}
+use Rattle.am_races.proofs.Words.{cursor, last_heard, words_drawn, choice_after, follows, is_waited, is_least, waits_in_vain, is_choice, is_turn_of}
+use Rattle.am_races.proofs.Words.{turns_at, is_turn, greatest, passed_number, unless_nought, heard_by, IsApart, IsLeft, IsLawful, plan_by, terms_of}
+use Rattle.am_races.proofs.Words.{luck_after, node_by, lost_in, Gave, Found, event_at, turn_by, Boxed, IsBox, IsShareOf, Looks, TableId, Known, Sees, Key}
+use Rattle.am_races.proofs.Words.{WireRefusal, Place, Caller, of_key, GoesOn, rest_of, goes_through}
+use Rattle.am_races.proofs.{Apart.others_are_apart, Knows.knows, Knows.name_now, Nexts.nodes_stay, Nexts.stopped_in_more, Stays.next_stays}
+use Rattle.am_races.proofs.{Stays.first_apart, Boxing.Beyond, Boxing.beyond, Boxing.none_of, Boxing.own_key, Boxing.not_equal, Turning.ahead_is_sent}
 use Rattle.am_group.specs.declared.event.Act.TheVariants as act
-use Rattle.am_group.specs.declared.event.By.{By}
-use Rattle.am_group.specs.declared.event.Event.{Event}
-use Rattle.am_group.specs.declared.event.Part.TheVariants.{Turn}
-use Rattle.am_group.specs.declared.event.Record.{Record}
-use Rattle.am_group.specs.declared.plan.RacePlan.{RacePlan}
-use Rattle.am_group.specs.Addressed.{next_for}
-use Rattle.am_group.specs.Journals.{letters_of}
-use Rattle.am_model.specs.Node.{Node}
-use Rattle.am_play.specs.World.{World, current}
-use Rattle.am_model.specs.Info.{waited_for}
-use Rattle.am_chooser.specs.declared.chooser.Choice.{Choice}
 use Rattle.am_chooser.specs.declared.chooser.Choice.TheVariants as choice
-use Rattle.am_chooser.specs.Choices.{Luck, again, choice_of, act_of}
-use Rattle.am_wire.specs.declared.rule.Terms.{Terms}
-use Rattle.am_wire.specs.Seats.{Follows}
-use Rattle.am_wire.specs.Stops.{has_stopped}
-use Rattle.am_races.specs.Told.{world_after}
-use Rattle.am_races.specs.Tags.{of_place, of_call, own_of, is_turn_part, up_to_last, is_either}
-use Rattle.am_races.specs.Ready.{is_ready}
-use Rattle.am_races.specs.Turns.{cursor, last_heard, words_drawn, choice_after, follows, is_waited, is_least, waits_in_vain, is_choice, is_turn_of, turns_at}
-use Rattle.am_races.specs.Turns.{is_turn}
-use Rattle.am_races.specs.Turns.{greatest, passed_number, unless_nought}
-use Rattle.am_play.specs.Claims.{heard_by}
-use Rattle.am_races.specs.Laws.{IsApart, IsLeft}
-use Rattle.am_races.specs.Lawful.{IsLawful, plan_by, terms_of}
-use Rattle.am_races.specs.Callings.{luck_after}
-use Rattle.am_races.specs.Boxes.{node_by, lost_in, Gave, Found, event_at, turn_by, Boxed, IsBox, IsShareOf, Looks}
-use Rattle.atomic_table.specs.Seated.{TableId}
-use Rattle.am_wire.specs.Passes.{Known, Sees}
-use Rattle.am_wire.specs.declared.rule.Key.{Key}
-use Rattle.am_wire.specs.declared.wire.WireRefusal.{WireRefusal}
-use Rattle.am_wire.specs.declared.rule.Key.TheVariants.{Place, Caller}
-use Rattle.am_wire.specs.Keys.{of_key}
-use Rattle.am_wire.specs.Seats.{GoesOn}
-use Rattle.am_wire.proofs.Views.{rest_of, goes_through}
-use Rattle.am_races.proofs.Apart.{others_are_apart}
-use Rattle.am_races.proofs.Knows.{knows, name_now}
-use Rattle.am_races.proofs.Nexts.{nodes_stay, stopped_in_more, or_true}
-use Rattle.am_races.proofs.Stays.{next_stays, first_apart}
-use Rattle.am_races.proofs.Boxing.{Beyond, beyond, none_of, own_key, not_equal}
-use Rattle.am_races.proofs.Turning.{ahead_is_sent}
+use Rattle.std.proofs.lemmas.Bool.{and_parts, and_from, not-true, or_left}
 
 -- ---- what is known
 
@@ -93,29 +56,18 @@ fewer f g (x ∷ xs) sub none = let n = split (g x) (list_any g xs) none in
     no_more true b go e = absurd (true≢false (sym (go refl) ∙ e))
     no_more false b go e = refl
 
-two : (a b : Bool) → (a && b) ≡ true → (a ≡ true) × (b ≡ true)
-two true b e = (refl, e)
-two false b e = absurd (true≢false (sym e))
-
-both : (a b : Bool) → a ≡ true → b ≡ true → (a && b) ≡ true
-both a b p q = ap (λ (x : Bool). x && b) p ∙ q
-
 waited_more : (m : Node) (before more : List Record) (name : ℕ) → is_waited m before name ≡ true → is_waited m (before ++ more) name ≡ true
 waited_more m before more name is =
-    let t = two _ _ is in both _ _ t.0 (stopped_in_more before more name ∙ or_true (has_stopped before name) (has_stopped more name) t.1)
+    let t = and_parts _ _ is in and_from _ _ t.0 (stopped_in_more before more name ∙ or_left (has_stopped before name) (has_stopped more name) t.1)
 
 vain_fewer : (m : Node) (knew rest : List Record) → waits_in_vain m (knew ++ rest) ≡ false → waits_in_vain m knew ≡ false
 vain_fewer m knew rest none = fewer (is_waited m knew) (is_waited m (knew ++ rest)) (names_of (waited_for m.ballot)) (λ x is. waited_more m knew rest x is) none
-
-not_not : (b : Bool) → not b ≡ true → b ≡ false
-not_not true e = absurd (true≢false (sym e))
-not_not false e = refl
 
 least_fewer : (m : Node) (knew rest : List Record) (name : ℕ) → is_least m (knew ++ rest) name ≡ true → is_least m knew name ≡ true
 least_fewer m knew rest name is =
     ap not (fewer (λ other. name_lt other name && is_waited m knew other) (λ other. name_lt other name && is_waited m (knew ++ rest) other)
     (names_of (waited_for m.ballot))
-    (λ x e. let t = two _ _ e in both _ _ t.0 (waited_more m knew rest x t.1)) (not_not _ is))
+    (λ x e. let t = and_parts _ _ e in and_from _ _ t.0 (waited_more m knew rest x t.1)) (not-true _ is))
 
 letters_more : (before more : List Record) → letters_of (before ++ more) ≡ letters_of before ++ letters_of more
 letters_more before more = flat_map-append (λ (r : Record). r.packets) before more
@@ -160,8 +112,8 @@ never_ticks false false n last = refl
 follows_itself : (said : Choice) → follows said (act_of said) (lost_in said) ≡ true
 follows_itself choice.Tick = refl
 follows_itself (choice.Lose number) = eq-eqb number number refl
-follows_itself (choice.Hear number) = both _ _ (eq-eqb number number refl) refl
-follows_itself (choice.Repeat number) = both _ _ (eq-eqb number number refl) refl
+follows_itself (choice.Hear number) = and_from _ _ (eq-eqb number number refl) refl
+follows_itself (choice.Repeat number) = and_from _ _ (eq-eqb number number refl) refl
 
 -- ---- it is a turn
 
@@ -216,7 +168,7 @@ module _ (plan : RacePlan) (name caller call : ℕ) (seen one two three : List R
       let turn : is_turn_of (plan_by (terms_of plan)) three (up_to_last (place_of name) caller three) (w.nodes name) name caller a lost ≡ true =
       ap (λ (p : ℕ). is_turn_of (plan_by (terms_of plan)) three (up_to_last p caller three) (w.nodes name) name caller a lost) place_same ∙ is
       in
-      subst (λ (k : ℕ). turns_at (plan_by (terms_of plan)) three w k e by ≡ true) (sym here) (both _ _ ready turn)
+      subst (λ (k : ℕ). turns_at (plan_by (terms_of plan)) three w k e by ≡ true) (sym here) (and_from _ _ ready turn)
 
   pub given_turn : (a : Act) (lost : ℕ) → Gave plan name one a lost
       → is_turn (plan_by (terms_of plan)) three (record { node = name; act = a }) (record { caller = caller; call = call; part = Turn lost }) ≡ true
@@ -232,7 +184,7 @@ module _ (plan : RacePlan) (name caller call : ℕ) (seen one two three : List R
       in
       turn_at a lost (ap (λ (x : Act). is_turn_of (plan_by (terms_of plan)) three knew (node_by plan three name) name caller x lost) given.act_
       ∙ ap (λ (l : ℕ). is_turn_of (plan_by (terms_of plan)) three knew (node_by plan three name) name caller (act.GiveUp given.other) l) given.lost_
-      ∙ both _ _ waited least)
+      ∙ and_from _ _ waited least)
 
   same_cursor : cursor (place_of name) three ≡ cursor name seen
   same_cursor = ap (λ (p : ℕ). cursor p three) place_same ∙ ap (λ (rs : List Record). greatest (map passed_number rs)) left.place
@@ -285,9 +237,9 @@ module _ (plan : RacePlan) (name caller call : ℕ) (seen one two three : List R
           → is_turn_of (plan_by (terms_of plan)) three knew (node_by plan three name) name caller (act_of x) (lost_in x) ≡ true
       by_choice n e some choice.Tick is ticks = absurd (true≢false ticks)
       by_choice n e some (choice.Lose zero) is ticks = let z = lose_only _ _ n 0 (last_heard name seen) (sym is) in absurd (omega arith)
-      by_choice n e some (choice.Lose (suc k)) is ticks = both _ _ nobody (by_all n e (choice.Lose (suc k)) is)
-      by_choice n e some (choice.Hear k) is ticks = both _ _ nobody (by_all n e (choice.Hear k) is)
-      by_choice n e some (choice.Repeat k) is ticks = both _ _ nobody (by_all n e (choice.Repeat k) is)
+      by_choice n e some (choice.Lose (suc k)) is ticks = and_from _ _ nobody (by_all n e (choice.Lose (suc k)) is)
+      by_choice n e some (choice.Hear k) is ticks = and_from _ _ nobody (by_all n e (choice.Hear k) is)
+      by_choice n e some (choice.Repeat k) is ticks = and_from _ _ nobody (by_all n e (choice.Repeat k) is)
 
       by_ahead : (o : Option ℕ) → next_for (letters_of two) name (cursor name seen) ≡ o → (x : Choice)
           → x ≡ choice_of luck (next_for (letters_of two) name (cursor name seen)) (last_heard name seen)
@@ -300,7 +252,7 @@ module _ (plan : RacePlan) (name caller call : ℕ) (seen one two three : List R
           (ap (λ (rs : List Record). next_for (letters_of rs) name (cursor name seen)) (sym in_two) ∙ e))
           in
           subst (λ (y : Choice). is_turn_of (plan_by (terms_of plan)) three knew (node_by plan three name) name caller (act_of y) (lost_in y)
-          ≡ true) (sym tick) (both _ _ nobody none)
+          ≡ true) (sym tick) (and_from _ _ nobody none)
       by_ahead (Some n) e x is =
           let its : x ≡ choice_of luck (Some n) (last_heard name seen) = is ∙ ap (λ (p : Option ℕ). choice_of luck p (last_heard name seen)) e in
           let high = (ahead_is_sent two name (cursor name seen) n e).1 in

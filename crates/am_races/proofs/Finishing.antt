@@ -1,29 +1,12 @@
 -- What a race leaves at its end.
-use Rattle.std.proofs.Common.{◌≡◌, ℕ, zero, suc, ◌+◌, ◌<◌, ◌≤◌, List, [], ◌∷◌, length, Bool, true, false, true≢false, cond}
-use Rattle.std.proofs.Common.{sym, refl, ap, ◌∙◌, subst, arith, inl, inr, ⊎_elim, ne_eqb}
-use Rattle.std.specs.Prelude.{All, if◌then◌else◌, ◌&&◌, ◌==◌, ◌⊎◌}
-use Rattle.atomic_table.specs.Seated.{TableId}
-use Rattle.am_group.specs.declared.event.Act.{Act}
-use Rattle.am_group.specs.declared.event.Record.{Record}
-use Rattle.am_group.specs.declared.plan.RacePlan.{RacePlan}
-use Rattle.am_chooser.specs.Choices.{Luck, words_of}
-use Rattle.am_wire.specs.declared.rule.Key.TheVariants.{Caller}
-use Rattle.am_wire.specs.Passes.{Known, fresh}
-use Rattle.am_wire.specs.Seats.{Follows}
-use Rattle.am_races.specs.Tags.{of_caller}
-use Rattle.am_races.specs.Turns.{is_turn, may_end, later}
-use Rattle.am_races.specs.Answers.{is_take}
-use Rattle.am_races.specs.Callers.{is_callers, are_calls, is_receive}
-use Rattle.am_races.specs.Callings.{IsHand, HasMade, luck_after}
-use Rattle.am_races.specs.Lawful.{IsLawful, terms_of}
-use Rattle.am_races.specs.Legal.{IsLegalWithTags}
+use Rattle.am_races.proofs.Words.{◌≡◌, ℕ, zero, suc, ◌+◌, ◌<◌, ◌≤◌, List, [], ◌∷◌, length, Bool, true, false, cond, sym, refl, ap, ◌∙◌, subst}
+use Rattle.am_races.proofs.Words.{arith, inl, inr, ⊎_elim, ne_eqb, All, if◌then◌else◌, ◌==◌, ◌⊎◌, TableId, Act, Record, RacePlan, Luck, words_of}
+use Rattle.am_races.proofs.Words.{Caller, Known, fresh, Follows, of_caller, is_turn, may_end, later, is_take, is_callers, are_calls, is_receive, IsHand}
+use Rattle.am_races.proofs.Words.{HasMade, luck_after, IsLawful, terms_of, IsLegalWithTags}
 use Rattle.am_races.proofs.Legality.{each_is_next}
+use Rattle.std.proofs.lemmas.Bool.{and_from}
 
 -- ---- callers that have made no call
-
-both_hold : (a b : Bool) → a ≡ true → b ≡ true → (a && b) ≡ true
-both_hold true b p q = q
-both_hold false b p q = absurd (true≢false (sym p))
 
 either_way : (b : Bool) → (if b then true else true) ≡ true
 either_way true = refl
@@ -32,7 +15,7 @@ either_way false = refl
 pub none_called : (turns number : ℕ) (calls : List Act) → are_calls turns number calls [] ≡ true
 unfolding are_calls is_receive
 none_called turns number [] = refl
-none_called turns number (planned ∷ calls) = both_hold (if is_take planned then true else true) (are_calls turns (number + 1) calls [])
+none_called turns number (planned ∷ calls) = and_from (if is_take planned then true else true) (are_calls turns (number + 1) calls [])
     (either_way (is_take planned)) (none_called turns (number + 1) calls)
 
 pub fresh_luck : (plan : RacePlan) (number stream : ℕ) (luck : Luck) → stream ≡ number

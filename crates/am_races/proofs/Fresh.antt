@@ -1,16 +1,7 @@
 -- The passes and the shares of a wire, dealt in their order, and the callers made of them.
-use Rattle.std.proofs.Common.{◌≡◌, ℕ, ◌+◌, ◌<◌, List, [], ◌∷◌, ◌++◌, length, map, get_or, sym, refl, ap, ◌∙◌, arith}
-use Rattle.std.specs.List.{range_with_len}
-use Rattle.std.proofs.lemmas.List.{get_or-map, length-map}
-use Rattle.std.proofs.lemmas.List.FromFn.{get_or-map-range_with_len, length-map-range_with_len, map-range_with_len_more}
-use Rattle.atomic_table.specs.Seated.{TableId}
-use Rattle.am_wire.specs.declared.rule.Key.{Key}
-use Rattle.am_wire.specs.declared.rule.Key.TheVariants.{Place, Caller}
-use Rattle.am_wire.specs.declared.rule.Terms.{Terms}
-use Rattle.am_wire.specs.Keys.{place_keys, caller_keys}
-use Rattle.am_wire.specs.Passes.{Known, fresh}
-use Rattle.am_races.specs.Callings.{Calling}
-use Rattle.am_races.specs.Ran.{fresh_caller, fresh_callers, numbers_of}
+use Rattle.am_races.proofs.Words.{◌≡◌, ℕ, ◌+◌, ◌<◌, List, [], ◌∷◌, ◌++◌, length, map, get_or, sym, refl, ap, ◌∙◌, arith, range_with_len, get_or-map}
+use Rattle.am_races.proofs.Words.{length-map, get_or-map-range_with_len, length-map-range_with_len, map-range_with_len_more, TableId, Key, Place, Caller}
+use Rattle.am_races.proofs.Words.{Terms, place_keys, caller_keys, Known, fresh, Calling, fresh_caller, fresh_callers, numbers_of}
 
 -- ---- what is dealt
 

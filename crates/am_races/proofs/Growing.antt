@@ -1,32 +1,17 @@
 -- What a caller has seen grows by the records of one call.
-use Rattle.std.proofs.Common.{◌≡◌, ℕ, suc, ◌<◌, List, [], ◌∷◌, ◌++◌, filter, cond, Bool, true, false, true≢false, sym, refl, ap, ◌∙◌}
-use Rattle.std.proofs.Common.{arith, append_assoc, append-nil, eq-eqb, ne_eqb}
-use Rattle.std.specs.Prelude.{All, ◌==◌, ◌&&◌}
-use Rattle.std.specs.List.{list_all}
-use Rattle.std.proofs.lemmas.Bool.{and_parts}
-use Rattle.std.proofs.lemmas.List.Elements.{filter-append}
-use Rattle.std.proofs.lemmas.List.Folds.{list_all-append}
-use Rattle.am_base.specs.Names.{place_of}
-use Rattle.am_group.specs.declared.event.Record.{Record}
-use Rattle.am_wire.specs.declared.rule.Key.TheVariants.{Caller}
-use Rattle.am_wire.specs.Seats.{GoesOn}
-use Rattle.am_wire.proofs.Views.{starts_by, starts_through}
-use Rattle.am_races.specs.declared.call.Tag.{Tag}
-use Rattle.am_races.specs.Tags.{of_caller, of_call}
-use Rattle.am_races.specs.Going.{Grown, Grows}
+use Rattle.am_races.proofs.Words.{◌≡◌, ℕ, suc, ◌<◌, List, [], ◌∷◌, ◌++◌, filter, cond, Bool, true, false, sym, refl, ap, ◌∙◌, arith}
+use Rattle.am_races.proofs.Words.{append_assoc, append-nil, eq-eqb, ne_eqb, All, ◌==◌, ◌&&◌, list_all, and_parts, filter-append, list_all-append, place_of}
+use Rattle.am_races.proofs.Words.{Record, Caller, GoesOn, starts_by, starts_through, Tag, of_caller, of_call, Grown, Grows}
 use Rattle.am_races.proofs.Boxing.{own_key}
+use Rattle.std.proofs.lemmas.Bool.{and_from}
 
 -- ---- tests of lists
 
-pub both : (a b : Bool) → a ≡ true → b ≡ true → (a && b) ≡ true
-both true b p q = q
-both false b p q = absurd (true≢false (sym p))
-
 pub just_one : {A : Type 0} (p : A → Bool) (x : A) → p x ≡ true → list_all p (x ∷ []) ≡ true
-just_one p x is = both (p x) true is refl
+just_one p x is = and_from (p x) true is refl
 
 pub all_more : {A : Type 0} (p : A → Bool) (xs ys : List A) → list_all p xs ≡ true → list_all p ys ≡ true → list_all p (xs ++ ys) ≡ true
-all_more p xs ys a b = list_all-append p xs ys ∙ both (list_all p xs) (list_all p ys) a b
+all_more p xs ys a b = list_all-append p xs ys ∙ and_from (list_all p xs) (list_all p ys) a b
 
 all_kept : {A : Type 0} (p : A → Bool) (xs : List A) → list_all p xs ≡ true → filter p xs ≡ xs
 all_kept p [] is = refl

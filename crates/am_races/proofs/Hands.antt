@@ -1,54 +1,18 @@
 -- What a caller's hand is behind a record, when its call is ready, and which acts it may do.
-use Rattle.std.proofs.Common.{◌≡◌, ℕ, zero, suc, ◌+◌, ◌<◌, ◌≤◌, List, [], ◌∷◌, ◌++◌, cond, max, Bool, true, false, true≢false, Option, Some, None}
-use Rattle.std.proofs.Common.{sym, refl, ap, ◌∙◌, subst, arith, nat_lt, nat_le, count_by, sum_by}
-use Rattle.std.specs.Prelude.{◌==◌, ◌&&◌, ◌||◌, if◌then◌else◌, not}
-use Rattle.std.proofs.lemmas.Bool.{and_parts, lt-ltb, le-leb}
-use Rattle.std.proofs.lemmas.List.Sums.{sum_by-cons, sum_by-append}
-use Rattle.std.proofs.lemmas.Option.{none-some}
-use Rattle.atomic_table.specs.Seated.{TableId}
-use Rattle.am_base.specs.declared.outcome.Outcome.{Outcome}
-use Rattle.am_base.specs.declared.event.NodeEvent.{NodeEvent}
-use Rattle.am_base.specs.Names.{place_of, name_at}
-use Rattle.am_packet.specs.Boxes.{Letter}
-use Rattle.am_group.specs.declared.event.Act.{Act}
+use Rattle.am_races.proofs.Words.{◌≡◌, ℕ, zero, suc, ◌+◌, ◌<◌, ◌≤◌, List, [], ◌∷◌, ◌++◌, cond, max, Bool, true, false, true≢false, Option, Some, None, sym}
+use Rattle.am_races.proofs.Words.{refl, ap, ◌∙◌, subst, arith, nat_lt, nat_le, count_by, sum_by, ◌==◌, ◌&&◌, ◌||◌, if◌then◌else◌, not, and_parts, lt-ltb}
+use Rattle.am_races.proofs.Words.{le-leb, sum_by-cons, sum_by-append, none-some, TableId, Outcome, NodeEvent, place_of, name_at, Letter, Act, By, Part, Call}
+use Rattle.am_races.proofs.Words.{Turn, Check, Record, RacePlan, heard_by, Node, World, current, IsEndOf, Choice, Luck, again, draw, after_draw, choice_of}
+use Rattle.am_races.proofs.Words.{act_of, step_end, Caller, WireRefusal, Known, GoesOn, has_stopped, Tag, Came, world_after, of_caller, of_call, own_of}
+use Rattle.am_races.proofs.Words.{is_turn_part, up_to_last, is_take, is_end_of, passed_number, lost_by, words_drawn, later, is_waited, is_least, is_turn_of}
+use Rattle.am_races.proofs.Words.{is_turn, unless_nought, is_due, may_end, is_ready, is_ready_after, may_take, is_of_race, plan_by, terms_of, IsHand}
+use Rattle.am_races.proofs.Words.{luck_after, is_call, Steps, MayAct, Hears, Boxed, Keeps, IsBox, IsShareOf, IsTimely, node_by, lost_in, event_at, by_of}
+use Rattle.am_races.proofs.Words.{end_act, end_part, IsOwn, IsCame, luck_behind, is_asked, ToldBy, EndTells, Grown, Grows}
+use Rattle.am_races.proofs.{Acting.told_is_run, Acting.events_of, Boxing.same_closed, Knows.knows, Knows.name_now, Growing.one_grown, Growing.not_grown}
+use Rattle.am_races.proofs.{Requests.requests_once, Requests.Once, Telling.after_tells, Telling.take_tells}
 use Rattle.am_group.specs.declared.event.Act.TheVariants as act
-use Rattle.am_group.specs.declared.event.By.{By}
-use Rattle.am_group.specs.declared.event.Part.{Part}
-use Rattle.am_group.specs.declared.event.Part.TheVariants.{Call, Turn, Check}
-use Rattle.am_group.specs.declared.event.Record.{Record}
-use Rattle.am_group.specs.declared.plan.RacePlan.{RacePlan}
-use Rattle.am_play.specs.Claims.{heard_by}
-use Rattle.am_model.specs.Node.{Node}
-use Rattle.am_play.specs.World.{World, current}
-use Rattle.am_model.specs.Ends.{IsEndOf}
-use Rattle.am_chooser.specs.declared.chooser.Choice.{Choice}
 use Rattle.am_chooser.specs.declared.chooser.Choice.TheVariants as choice
-use Rattle.am_chooser.specs.Choices.{Luck, again, draw, after_draw, choice_of, act_of}
 use Rattle.am_chooser.specs.Choices as pump
-use Rattle.am_model.proofs.Steps.{step_end}
-use Rattle.am_wire.specs.declared.rule.Key.TheVariants.{Caller}
-use Rattle.am_wire.specs.declared.wire.WireRefusal.{WireRefusal}
-use Rattle.am_wire.specs.Passes.{Known}
-use Rattle.am_wire.specs.Seats.{GoesOn}
-use Rattle.am_wire.specs.Stops.{has_stopped}
-use Rattle.am_races.specs.declared.call.Tag.{Tag}
-use Rattle.am_races.specs.declared.call.Came.{Came}
-use Rattle.am_races.specs.Told.{world_after}
-use Rattle.am_races.specs.Tags.{of_caller, of_call, own_of, is_turn_part, up_to_last}
-use Rattle.am_races.specs.Answers.{is_take, is_end_of}
-use Rattle.am_races.specs.Turns.{passed_number, lost_by, words_drawn, later, is_waited, is_least, is_turn_of, is_turn, unless_nought, is_due, may_end}
-use Rattle.am_races.specs.Ready.{is_ready, is_ready_after, may_take}
-use Rattle.am_races.specs.Lawful.{is_of_race, plan_by, terms_of}
-use Rattle.am_races.specs.Callings.{IsHand, luck_after}
-use Rattle.am_races.specs.Plans.{is_call}
-use Rattle.am_races.specs.Boxes.{Steps, MayAct, Hears, Boxed, Keeps, IsBox, IsShareOf, IsTimely, node_by, lost_in, event_at}
-use Rattle.am_races.specs.Going.{by_of, end_act, end_part, IsOwn, IsCame, luck_behind, is_asked, ToldBy, EndTells, Grown, Grows}
-use Rattle.am_races.proofs.Acting.{told_is_run, events_of}
-use Rattle.am_races.proofs.Boxing.{same_closed}
-use Rattle.am_races.proofs.Knows.{knows, name_now}
-use Rattle.am_races.proofs.Growing.{one_grown, not_grown}
-use Rattle.am_races.proofs.Requests.{requests_once, Once}
-use Rattle.am_races.proofs.Telling.{after_tells, take_tells}
 
 -- ---- words
 
@@ -82,11 +46,7 @@ drawn_by luck luck' ahead last said a lost high low drew is did lost_is =
 
 pub last_high : (number k : ℕ) → unless_nought number ≡ Some k → 0 < k
 last_high zero k e = absurd (none-some k e)
-last_high (suc n) k e = let s : suc n ≡ k = ap or_this e in omega arith
-  where
-    or_this : Option ℕ → ℕ
-    or_this None = 0
-    or_this (Some x) = x
+last_high (suc n) k e = let s : suc n ≡ k = cc in omega arith
 
 counts_word : Record → Bool
 counts_word r = is_turn_part r.by.part && nat_lt 0 (passed_number r)
@@ -243,26 +203,14 @@ module _ (wire : TableId) (plan : RacePlan) (name : ℕ) (pass : Known) (m : Nod
 turn_may : (plan : RacePlan) (before : List Record) (name number : ℕ) (m : Node) (caller : ℕ) (a : Act) (lost : ℕ) (knew : List Record)
     → is_turn_of plan before knew m name caller a lost ≡ true
     → (is_of_race a ≡ true) × ((other : ℕ) → a ≡ act.GiveUp other → has_stopped before other ≡ true)
-turn_may plan before name number m caller (act.GiveUp gone) lost knew is = (refl, λ other e. ap (has_stopped before) (sym (ap gone_of e)) ∙ stopped_by is)
+turn_may plan before name number m caller (act.GiveUp gone) lost knew is = (refl, λ other e. cc (stopped_by is))
   where
-    gone_of : Act → ℕ
-    gone_of (act.GiveUp x) = x
-    gone_of _ = 0
-
     stopped_by : is_turn_of plan before knew m name caller (act.GiveUp gone) lost ≡ true → has_stopped before gone ≡ true
     stopped_by t =
         let waits = (and_parts (lost == 0) (is_waited m before gone && is_least m knew gone) t).1 in
         (and_parts _ (has_stopped before gone) (and_parts (is_waited m before gone) (is_least m knew gone) waits).0).1
-turn_may plan before name number m caller act.Tick lost knew is = (refl, λ other e. absurd (true≢false (ap is_tick_ e)))
-  where
-    is_tick_ : Act → Bool
-    is_tick_ act.Tick = true
-    is_tick_ _ = false
-turn_may plan before name number m caller (act.Hear heard) lost knew is = (refl, λ other e. absurd (true≢false (ap is_hear_ e)))
-  where
-    is_hear_ : Act → Bool
-    is_hear_ (act.Hear x) = true
-    is_hear_ _ = false
+turn_may plan before name number m caller act.Tick lost knew is = (refl, λ other e. absurd (cc))
+turn_may plan before name number m caller (act.Hear heard) lost knew is = (refl, λ other e. absurd (cc))
 turn_may plan before name number m caller _ lost knew is = absurd (true≢false (sym is))
 
 pub may_turn : (plan : RacePlan) (seen : List Record) (name : ℕ) (a : Act) (by : By) (heard : Option Letter) → has_stopped seen name ≡ false
@@ -331,10 +279,6 @@ used_due plan m mine used = either_way (is_ready m (own_of mine)) (le-leb plan.t
         → (b || nat_le plan.turns (count_by (λ r. is_turn_part r.by.part) mine)) ≡ true
     either_way true h = refl
     either_way false h = h
-
--- the own act of a call that is no receive is no end
-pub call_no_end : (a : Act) → is_take a ≡ false → is_end_of Call a ≡ false
-call_no_end a no_ = no_
 
 pub call_asks : (a : Act) → is_call a ≡ true → is_asked a ≡ true
 call_asks (act.Hear number) e = e

@@ -1,24 +1,9 @@
 -- The passes of places and callers, joined to one with all keys.
-use Rattle.std.proofs.Common.{◌≡◌, ℕ, zero, suc, ◌+◌, ◌<◌, ◌≤◌, List, [], ◌∷◌, ◌++◌, length, get_or, Bool, true, false, true≢false, cond, sym}
-use Rattle.std.proofs.Common.{refl, ap, ◌∙◌, subst, arith, inl, inr, ⊎_elim, Option, Some, None, slice_get}
-use Rattle.std.specs.Prelude.{All, ◌⊎◌}
-use Rattle.std.specs.List.{range_with_len}
-use Rattle.std.proofs.lemmas.Bool.{eqb-true, ltb-true}
-use Rattle.std.proofs.lemmas.List.{get_or-map, length-map}
-use Rattle.std.proofs.lemmas.List.FromFn.{get_or-range_with_len, length-range_with_len}
-use Rattle.std.proofs.lemmas.Option.{slice_get_cases}
-use Rattle.am_group.specs.declared.event.Record.{Record}
-use Rattle.am_group.specs.declared.plan.RacePlan.{RacePlan}
-use Rattle.am_wire.specs.declared.rule.Key.{Key}
-use Rattle.am_wire.specs.declared.rule.Key.TheVariants.{Place, Caller}
-use Rattle.am_wire.specs.Keys.{times, same_key}
-use Rattle.am_wire.specs.Passes.{Known, Joined, HasAll}
-use Rattle.am_wire.specs.Seats.{GoesOn}
-use Rattle.am_wire.proofs.Views.{times_append, times_cons, goes_through}
-use Rattle.am_races.specs.Tags.{of_caller}
-use Rattle.am_races.specs.Callers.{is_callers}
-use Rattle.am_races.specs.Callings.{Calling, HasMade}
-use Rattle.am_races.specs.Ran.{HasPlaces, IsIn, EndsFor, numbers_of, calls_made, calls_by}
+use Rattle.am_races.proofs.Words.{◌≡◌, ℕ, zero, suc, ◌+◌, ◌<◌, ◌≤◌, List, [], ◌∷◌, ◌++◌, length, get_or, Bool, true, false, true≢false, cond, sym, refl, ap}
+use Rattle.am_races.proofs.Words.{◌∙◌, subst, arith, inl, inr, ⊎_elim, Option, Some, None, slice_get, All, ◌⊎◌, range_with_len, eqb-true, ltb-true}
+use Rattle.am_races.proofs.Words.{get_or-map, length-map, get_or-range_with_len, length-range_with_len, slice_get_cases, Record, RacePlan, Key, Place}
+use Rattle.am_races.proofs.Words.{Caller, times, same_key, Known, Joined, HasAll, GoesOn, times_append, times_cons, goes_through, of_caller, is_callers}
+use Rattle.am_races.proofs.Words.{Calling, HasMade, HasPlaces, IsIn, EndsFor, numbers_of, calls_made, calls_by}
 use Rattle.am_races.proofs.Boxing.{own_key}
 
 -- ---- one key
@@ -26,8 +11,7 @@ use Rattle.am_races.proofs.Boxing.{own_key}
 same_is : (a b : Key) → same_key a b ≡ true → a ≡ b
 same_is (Place a) (Place b) e = ap Place (eqb-true a b e)
 same_is (Caller a) (Caller b) e = ap Caller (eqb-true a b e)
-same_is (Place a) (Caller b) e = absurd (true≢false (sym e))
-same_is (Caller a) (Place b) e = absurd (true≢false (sym e))
+same_is _ _ e = absurd (true≢false (sym e))
 
 none_if : (b : Bool) → b ≡ false → ◌≡◌ {A = ℕ} (cond b 1 0) 0
 none_if false e = refl

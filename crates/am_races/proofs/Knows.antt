@@ -1,35 +1,13 @@
 -- What is known of the world of which a lawful journal tells.
-use Rattle.std.proofs.Common.{◌≡◌, ℕ, List, [], ◌∷◌, ◌++◌, Bool, true, false, true≢false, Option, Some, None, sym, refl, ap}
-use Rattle.std.proofs.Common.{◌∙◌, subst, append_assoc, append-nil}
-use Rattle.std.specs.Prelude.{if◌then◌else◌, not, ◌==◌, ◌&&◌, ◌||◌}
-use Rattle.std.specs.List.{list_any}
-use Rattle.std.proofs.lemmas.List.Folds.{list_any-append}
-use Rattle.std.proofs.lemmas.Grind.{fold-append}
-use Rattle.std.proofs.lemmas.List.Concat.{flat_map-append}
-use Rattle.am_base.specs.declared.outcome.Outcome.{Outcome}
-use Rattle.am_base.specs.declared.outcome.Outcome.TheVariants as said
-use Rattle.am_base.specs.declared.event.NodeEvent.{NodeEvent}
-use Rattle.am_base.specs.declared.event.NodeEvent.TheVariants as does
-use Rattle.am_base.specs.Founding.{Rules}
-use Rattle.am_base.specs.Names.{place_of, name_at}
-use Rattle.am_packet.specs.declared.packet.Packet.{Packet}
-use Rattle.am_packet.specs.Boxes.{Letter}
-use Rattle.am_group.specs.declared.event.Act.{Act}
-use Rattle.am_group.specs.declared.event.Act.TheVariants as act
-use Rattle.am_group.specs.declared.event.Event.{Event}
-use Rattle.am_group.specs.declared.event.Record.{Record}
-use Rattle.am_group.specs.Addressed.{is_for}
-use Rattle.am_group.specs.Deliveries.{name_of}
-use Rattle.am_group.specs.Journals.{letters_of, letter_at}
-use Rattle.am_model.specs.Emit.{Step}
-use Rattle.am_model.specs.Step.{step, hear}
-use Rattle.am_play.specs.World.{World, start, is_stopped, with_record, with_step, does_event, gives_up, hears_letter, acts_as, happens, current}
-use Rattle.am_wire.specs.declared.rule.Terms.{Terms}
-use Rattle.am_wire.specs.Seats.{Follows}
-use Rattle.am_wire.specs.Stops.{is_stop, has_stopped}
-use Rattle.am_races.specs.Told.{tells, world_after}
-use Rattle.am_races.specs.Lawful.{is_of_race, IsLawful}
+use Rattle.am_races.proofs.Words.{◌≡◌, ℕ, List, [], ◌∷◌, ◌++◌, Bool, true, false, true≢false, Option, Some, None, sym, refl, ap, ◌∙◌, subst, append_assoc}
+use Rattle.am_races.proofs.Words.{append-nil, if◌then◌else◌, not, ◌==◌, ◌&&◌, ◌||◌, list_any, list_any-append, fold-append, flat_map-append, Outcome}
+use Rattle.am_races.proofs.Words.{NodeEvent, Rules, place_of, name_at, Packet, Letter, Act, Event, Record, is_for, name_of, letters_of, letter_at, Step}
+use Rattle.am_races.proofs.Words.{step, hear, World, start, is_stopped, with_record, with_step, does_event, gives_up, hears_letter, acts_as, happens}
+use Rattle.am_races.proofs.Words.{current, Terms, Follows, is_stop, has_stopped, tells, world_after, is_of_race, IsLawful}
 use Rattle.am_races.proofs.Apart.{or_false}
+use Rattle.am_base.specs.declared.outcome.Outcome.TheVariants as said
+use Rattle.am_base.specs.declared.event.NodeEvent.TheVariants as does
+use Rattle.am_group.specs.declared.event.Act.TheVariants as act
 
 -- ---- journals by record
 

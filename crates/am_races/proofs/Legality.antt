@@ -1,18 +1,9 @@
 -- A journal is legal where each of its records comes next.
-use Rattle.std.proofs.Common.{◌≡◌, ◌+◌, List, [], ◌∷◌, ◌++◌, map, Bool, true, false, true≢false, sym, refl, ap, ◌∙◌, subst}
-use Rattle.std.proofs.Common.{append-nil, append_assoc, drop, length}
-use Rattle.std.proofs.Math.Seq.{drop-append_seam}
-use Rattle.std.specs.Prelude.{fold}
+use Rattle.am_races.proofs.Words.{◌≡◌, ◌+◌, List, [], ◌∷◌, ◌++◌, map, Bool, true, false, true≢false, sym, refl, ap, ◌∙◌, subst, append-nil, append_assoc}
+use Rattle.am_races.proofs.Words.{drop, length, drop-append_seam, fold, Rules, Event, Record, World, start, with_record, with_step, happens, happen}
+use Rattle.am_races.proofs.Words.{record_of, no_caller, with_tag, Happens, idles, stops, returns, steps, events_have_effects, tells, world_after, IsNext}
+use Rattle.am_races.proofs.Words.{EachIsNext}
 use Rattle.am_base.specs.declared.outcome.Outcome.TheVariants as said
-use Rattle.am_base.specs.Founding.{Rules}
-use Rattle.am_group.specs.declared.event.Event.{Event}
-use Rattle.am_group.specs.declared.event.Record.{Record}
-use Rattle.am_play.specs.World.{World, start, with_record, with_step, happens, happen, record_of, no_caller}
-use Rattle.am_play.specs.Group.{with_tag}
-use Rattle.am_laws.specs.Events.{Happens, idles, stops, returns, steps}
-use Rattle.am_laws.proofs.Events.{events_have_effects}
-use Rattle.am_races.specs.Told.{tells, world_after, IsNext}
-use Rattle.am_races.specs.Laws.{EachIsNext}
 
 -- ---- what an event adds
 

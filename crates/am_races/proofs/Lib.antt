@@ -1,3 +1,4 @@
+mod Words
 pub mod Cases
 pub mod Legality
 pub mod Others

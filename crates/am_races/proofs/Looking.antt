@@ -1,40 +1,15 @@
 -- One look at a node: a turn, an own act or an end, and what the caller's hand is then.
-use Rattle.std.proofs.Common.{◌≡◌, ℕ, ◌≤◌, List, [], ◌∷◌, length, Bool, true, false, true≢false, Option, None, Result, Ok, Err, IfOk, IfErr, OnOk}
-use Rattle.std.proofs.Common.{sym, refl, ap, ◌∙◌, subst, append-nil, count_by}
-use Rattle.atomic_table.specs.Seated.{TableId}
-use Rattle.am_base.specs.Most.{most_events}
-use Rattle.am_base.specs.declared.outcome.Outcome.{Outcome}
-use Rattle.am_packet.specs.Boxes.{Letter}
-use Rattle.am_group.specs.declared.event.Act.{Act}
+use Rattle.am_races.proofs.Words.{◌≡◌, ℕ, ◌≤◌, List, [], ◌∷◌, length, Bool, true, false, true≢false, Option, None, Result, Ok, Err, IfOk, IfErr, OnOk, sym}
+use Rattle.am_races.proofs.Words.{refl, ap, ◌∙◌, subst, append-nil, count_by, TableId, most_events, Outcome, Letter, Act, By, Call, Turn, Record, RacePlan}
+use Rattle.am_races.proofs.Words.{Node, Luck, Key, Caller, WireRefusal, Known, Sees, GoesOn, has_stopped, goes_through, goes_same, Answer, Tag, Looked, Came}
+use Rattle.am_races.proofs.Words.{of_call, own_of, is_own, is_turn_part, is_turn, is_due, plan_by, terms_of, IsHand, what_of, MayAct, Hears, Boxed}
+use Rattle.am_races.proofs.Words.{IsShareOf, Acted, IsRefused, refusal_answer, Looks, node_by, event_at, by_of, end_act, end_part, IsCame, luck_behind}
+use Rattle.am_races.proofs.Words.{ToldBy, EndTells, Grown, Asked, Began, Turned, Ended, HasSpent, HasEnded, HasLooked, WasRefused, Meets}
+use Rattle.am_races.proofs.{Growing.not_grown, Growing.call_grows, Hands.hand_share, Hands.hand_sees, Hands.hand_asks, Hands.hand_turns, Hands.may_turn}
+use Rattle.am_races.proofs.{Hands.used_due}
 use Rattle.am_group.specs.declared.event.Act.TheVariants as act
-use Rattle.am_group.specs.declared.event.By.{By}
-use Rattle.am_group.specs.declared.event.Part.TheVariants.{Call, Turn}
-use Rattle.am_group.specs.declared.event.Record.{Record}
-use Rattle.am_group.specs.declared.plan.RacePlan.{RacePlan}
-use Rattle.am_model.specs.Node.{Node}
-use Rattle.am_chooser.specs.Choices.{Luck}
-use Rattle.am_wire.specs.declared.rule.Key.{Key}
-use Rattle.am_wire.specs.declared.rule.Key.TheVariants.{Caller}
-use Rattle.am_wire.specs.declared.wire.WireRefusal.{WireRefusal}
 use Rattle.am_wire.specs.declared.wire.WireRefusal.TheVariants as refusals
-use Rattle.am_wire.specs.Passes.{Known, Sees}
-use Rattle.am_wire.specs.Seats.{GoesOn}
-use Rattle.am_wire.specs.Stops.{has_stopped}
-use Rattle.am_wire.proofs.Views.{goes_through, goes_same}
-use Rattle.am_races.specs.declared.answer.Answer.{Answer}
-use Rattle.am_races.specs.declared.call.Tag.{Tag}
-use Rattle.am_races.specs.declared.call.Looked.{Looked}
 use Rattle.am_races.specs.declared.call.Looked.TheVariants as looked
-use Rattle.am_races.specs.declared.call.Came.{Came}
-use Rattle.am_races.specs.Tags.{of_call, own_of, is_own, is_turn_part}
-use Rattle.am_races.specs.Turns.{is_turn, is_due}
-use Rattle.am_races.specs.Lawful.{plan_by, terms_of}
-use Rattle.am_races.specs.Callings.{IsHand}
-use Rattle.am_races.specs.Boxes.{what_of, MayAct, Hears, Boxed, IsShareOf, Acted, IsRefused, refusal_answer, Looks, node_by, event_at}
-use Rattle.am_races.specs.Going.{by_of, end_act, end_part, IsCame, luck_behind, ToldBy, EndTells, Grown, Asked, Began, Turned, Ended, HasSpent}
-use Rattle.am_races.specs.Going.{HasEnded, HasLooked, WasRefused, Meets}
-use Rattle.am_races.proofs.Growing.{not_grown, call_grows}
-use Rattle.am_races.proofs.Hands.{hand_share, hand_sees, hand_asks, hand_turns, may_turn, used_due}
 
 -- ---- what an act leaves to its caller
 
@@ -47,14 +22,14 @@ acted_grown old new caller share share' a by came keys did = record {
   is = ap (λ (k : Known). k.seen) did.share_;
 }
 
-through : (caller : ℕ) (x y z : List Record) → GoesOn (Caller caller ∷ []) x y → GoesOn (Caller caller ∷ []) y z → GoesOn (Caller caller ∷ []) x z
-through caller x y z p q = goes_through (Caller caller ∷ []) (Caller caller ∷ []) x y z (λ key h. h) p q
+pub goes_since : (caller : ℕ) (x y z : List Record) → GoesOn (Caller caller ∷ []) x y → GoesOn (Caller caller ∷ []) y z → GoesOn (Caller caller ∷ []) x z
+goes_since caller x y z p q = goes_through (Caller caller ∷ []) (Caller caller ∷ []) x y z (λ key h. h) p q
 
 pub grown_since : (caller : ℕ) (old middle new : List Record) (item : Record) → GoesOn (Caller caller ∷ []) old middle → Grown caller middle new item
     → Grown caller old new item
 grown_since caller old middle new item goes grown = record {
   before = grown.before;
-  goes = through caller old middle grown.before goes grown.goes;
+  goes = goes_since caller old middle grown.before goes grown.goes;
   is =
       grown.is;
 }
@@ -80,9 +55,6 @@ refused_as name seen shown refusal its same full is =
 
 pub nothing_since : (caller : ℕ) (seen : List Record) → GoesOn (Caller caller ∷ []) seen seen
 nothing_since caller seen = goes_same (Caller caller ∷ []) seen
-
-pub goes_since : (caller : ℕ) (x y z : List Record) → GoesOn (Caller caller ∷ []) x y → GoesOn (Caller caller ∷ []) y z → GoesOn (Caller caller ∷ []) x z
-goes_since caller x y z p q = through caller x y z p q
 
 -- ---- turns
 
@@ -192,7 +164,7 @@ meets_refused name caller old new seen new_name (Err its) goes both named err =
 
 refused_since : (name caller : ℕ) (old middle new : List Record) (its : Answer) → GoesOn (Caller caller ∷ []) old middle → WasRefused name caller middle new its
     → WasRefused name caller old new its
-refused_since name caller old middle new its goes was = (through caller old middle new goes was.0, was.1)
+refused_since name caller old middle new its goes was = (goes_since caller old middle new goes was.0, was.1)
 
 pub all_refused_since : {A : Type 0} (name caller : ℕ) (old middle new : List Record) (r : Result A Answer) → GoesOn (Caller caller ∷ []) old middle
     → IfErr r (WasRefused name caller middle new)

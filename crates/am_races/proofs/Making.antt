@@ -1,42 +1,22 @@
 -- A call that is made: its turns so far, its end, and what its caller then has.
-use Rattle.std.proofs.Common.{◌≡◌, ℕ, zero, suc, ◌+◌, ◌-◌, ◌<◌, ◌≤◌, List, [], ◌∷◌, ◌++◌, length, get_or, take, drop, cond, Bool, true, false}
-use Rattle.std.proofs.Common.{true≢false, Option, Some, None, sym, refl, ap, ◌∙◌, subst, arith, append-nil, length-append}
-use Rattle.std.proofs.Common.{ne_eqb, nat_le, unwrap_or, slice_get, count_by, sum_by}
-use Rattle.std.specs.Prelude.{All, ◌==◌, ◌&&◌, if◌then◌else◌}
-use Rattle.std.specs.List.{list_all, prefix_len}
-use Rattle.std.proofs.lemmas.Bool.{and_parts, le-leb, eqb-true}
-use Rattle.std.proofs.lemmas.List.Elements.{All-append}
-use Rattle.std.proofs.lemmas.List.Sums.{sum_by-append}
-use Rattle.std.proofs.lemmas.Option.{none-some}
-use Rattle.am_base.specs.declared.outcome.Outcome.{Outcome}
+use Rattle.am_races.proofs.Words.{◌≡◌, ℕ, zero, suc, ◌+◌, ◌-◌, ◌<◌, ◌≤◌, List, [], ◌∷◌, ◌++◌, length, get_or, take, drop, cond, Bool, true, false}
+use Rattle.am_races.proofs.Words.{true≢false, Option, Some, None, sym, refl, ap, ◌∙◌, subst, arith, append-nil, length-append, ne_eqb, nat_le, unwrap_or}
+use Rattle.am_races.proofs.Words.{slice_get, count_by, All, ◌==◌, ◌&&◌, if◌then◌else◌, list_all, prefix_len, and_parts, le-leb, eqb-true, All-append}
+use Rattle.am_races.proofs.Words.{sum_by-append, none-some, Outcome, place_of, Act, By, Record, RacePlan, Caller, GoesOn, goes_same, Answer, Tag, Came}
+use Rattle.am_races.proofs.Words.{of_caller, of_call, own_of, is_turn_part, own_answer, or_else, late_after, late, is_take, answer_of, IsRefused, same_act}
+use Rattle.am_races.proofs.Words.{is_one_call, is_receive, at_one_place, first_call, behind, are_calls, is_callers, Calling, IsUnanswered, IsAnswer, HasMade}
+use Rattle.am_races.proofs.Words.{Called, is_call, has_check, told_at_end, request_in_call, IsCame, HasBegun, Began, Turned, Ended, WasRefused, Grows, Made}
+use Rattle.am_races.proofs.Growing.{all_more, just_one, none_of_call, call_grows, not_grown, one_grown, grows_through}
+use Rattle.am_races.proofs.Shapes.{AreTurns, IsEnd, ended_answer, same_call, turns_planned, end_planned, end_answers, own_answers, late_more, unanswered}
+use Rattle.am_races.proofs.Shapes.{turns_count, other_alone, other_call, is_plain, all_plain, plain_own, plain_at_end, plain_lates, own_first, no_own}
+use Rattle.am_races.proofs.Shapes.{head_turn, tail_turns}
+use Rattle.am_races.proofs.{Boxing.own_key, Finishing.none_called}
 use Rattle.am_base.specs.declared.outcome.Outcome.TheVariants as said
-use Rattle.am_base.specs.Names.{place_of}
-use Rattle.am_group.specs.declared.event.Act.{Act}
 use Rattle.am_group.specs.declared.event.Act.TheVariants as act
-use Rattle.am_group.specs.declared.event.By.{By}
-use Rattle.am_group.specs.declared.event.Record.{Record}
-use Rattle.am_group.specs.declared.plan.RacePlan.{RacePlan}
-use Rattle.am_wire.specs.declared.rule.Key.TheVariants.{Caller}
-use Rattle.am_wire.specs.Seats.{GoesOn}
-use Rattle.am_wire.proofs.Views.{goes_same}
-use Rattle.am_races.specs.declared.answer.Answer.{Answer}
 use Rattle.am_races.specs.declared.answer.Answer.TheVariants as answer
-use Rattle.am_races.specs.declared.call.Tag.{Tag}
-use Rattle.am_races.specs.declared.call.Came.{Came}
-use Rattle.am_races.specs.Tags.{of_caller, of_call, own_of, is_turn_part}
-use Rattle.am_races.specs.Answers.{own_answer, or_else, late_after, late, is_take, answer_of}
-use Rattle.am_races.specs.Boxes.{IsRefused}
-use Rattle.am_races.specs.Callers.{same_act, is_one_call, is_receive, at_one_place, first_call, behind, are_calls, is_callers}
-use Rattle.am_races.specs.Callings.{Calling, IsUnanswered, IsAnswer, HasMade, Called}
-use Rattle.am_races.specs.Plans.{is_call, has_check}
-use Rattle.am_races.specs.Going.{told_at_end, request_in_call, IsCame, HasBegun, Began, Turned, Ended}
-use Rattle.am_races.specs.Going.{WasRefused, Grows, Made}
-use Rattle.am_races.proofs.Boxing.{own_key}
-use Rattle.am_races.proofs.Finishing.{none_called}
-use Rattle.am_races.proofs.Growing.{both, all_more, just_one, none_of_call, call_grows, not_grown, one_grown, grows_through}
-use Rattle.am_races.proofs.Shapes.{AreTurns, IsEnd, ended_answer, same_call, turns_planned, end_planned, end_answers, own_answers, late_more, unanswered, turns_count}
-use Rattle.am_races.proofs.Shapes.{other_alone, other_call, is_plain, all_plain, plain_own, plain_at_end, plain_lates, own_first, no_own, head_turn}
-use Rattle.am_races.proofs.Shapes.{tail_turns}
+use Rattle.std.proofs.lemmas.Bool.{and_from}
+use Rattle.std.proofs.lemmas.List.{take-append-le}
+use Rattle.am_laws.proofs.Items.{get_last}
 
 -- ---- answers of records, and refusals
 
@@ -360,15 +340,10 @@ drop_front zero xs ys le = refl
 drop_front (suc k) [] ys le = absurd (omega arith)
 drop_front (suc k) (x ∷ xs) ys le = drop_front k xs ys (omega arith)
 
-take_front : (k : ℕ) (xs ys : List Record) → k ≤ length xs → take k (xs ++ ys) ≡ take k xs
-take_front zero xs ys le = refl
-take_front (suc k) [] ys le = absurd (omega arith)
-take_front (suc k) (x ∷ xs) ys le = ap (λ (l : List Record). x ∷ l) (take_front k xs ys (omega arith))
-
 first_apart : (n call : ℕ) (xs mine : List Record) → n < call → AreOf call mine → first_call n (xs ++ mine) ≡ first_call n xs
 first_apart n call xs mine low own =
     ap (λ (k : ℕ). take k (xs ++ mine)) (prefix_apart n call xs mine low own)
-    ∙ take_front (prefix_len (λ (r : Record). r.by.call == n) xs) xs mine (prefix_low (λ (r : Record). r.by.call == n) xs)
+    ∙ take-append-le (prefix_len (λ (r : Record). r.by.call == n) xs) xs mine (prefix_low (λ (r : Record). r.by.call == n) xs)
 
 first_short : (n : ℕ) (xs : List Record) → length (first_call n xs) ≤ length xs
 first_short n xs = take_short (prefix_len (λ (r : Record). r.by.call == n) xs) xs
@@ -384,9 +359,8 @@ behind_apart n call xs mine low own =
     ∙ drop_front (length (first_call n xs)) xs mine (first_short n xs)
 
 all_drop : (P : Record → Type 0) (k : ℕ) (xs : List Record) → All P xs → All P (drop k xs)
-all_drop P zero xs all = all
-all_drop P (suc k) [] all = all
 all_drop P (suc k) (x ∷ xs) all = all_drop P k xs (λ i d h. all (suc i) d (omega arith))
+all_drop P _ _ all = all
 
 -- the records of the next call come behind those of the calls before
 pub calls_more : (turns n call : ℕ) (calls : List Act) (a : Act) (done mine : List Record) → n ≤ call → slice_get calls (call - n) ≡ Some a
@@ -415,8 +389,8 @@ calls_more turns n call (b ∷ calls) a done mine le there is low own one at =
         let own_ : AreOf n mine = subst (λ (k : ℕ). AreOf k mine) (sym e) own in
         ap (λ (l : List Record). is_one_call turns b l && (at_one_place l && are_calls turns (n + 1) calls (behind n mine))) (first_whole n mine own_)
         ∙ ap (λ (l : List Record). is_one_call turns b mine && (at_one_place mine && are_calls turns (n + 1) calls l)) (behind_whole n mine own_)
-        ∙ both (is_one_call turns b mine) (at_one_place mine && are_calls turns (n + 1) calls []) (ap (λ (x : Act). is_one_call turns x mine) (sym same) ∙ one)
-        (both (at_one_place mine) (are_calls turns (n + 1) calls []) at (none_called turns (n + 1) calls))
+        ∙ and_from (is_one_call turns b mine) (at_one_place mine && are_calls turns (n + 1) calls []) (ap (λ (x : Act). is_one_call turns x mine) (sym same) ∙ one)
+        (and_from (at_one_place mine) (are_calls turns (n + 1) calls []) at (none_called turns (n + 1) calls))
     here e same (r ∷ rs) so below = absurd (stuck turns n (b ∷ calls) r rs (let l : r.by.call < call = below 0 r (omega arith) in omega arith) so)
 
     by_order : (k : ℕ) → call - n ≡ k → slice_get (b ∷ calls) k ≡ Some a
@@ -432,8 +406,8 @@ calls_more turns n call (b ∷ calls) a done mine le there is low own one at =
         (first_apart n call done mine further own)
         ∙ ap (λ (l : List Record). is_one_call turns b (first_call n done) && (at_one_place (first_call n done) && are_calls turns (n + 1) calls l))
         (behind_apart n call done mine further own)
-        ∙ both (is_one_call turns b (first_call n done)) (at_one_place (first_call n done) && are_calls turns (n + 1) calls (behind n done ++ mine)) p.0
-        (both (at_one_place (first_call n done)) (are_calls turns (n + 1) calls (behind n done ++ mine)) p.1
+        ∙ and_from (is_one_call turns b (first_call n done)) (at_one_place (first_call n done) && are_calls turns (n + 1) calls (behind n done ++ mine)) p.0
+        (and_from (at_one_place (first_call n done)) (are_calls turns (n + 1) calls (behind n done ++ mine)) p.1
         (deeper (omega arith) (ap (slice_get calls) next ∙ at_) p.2))
 
 -- ---- the caller behind a call
@@ -466,12 +440,8 @@ calls_longer turns n (a ∷ calls) more records is =
     let at : Bool = at_one_place (first_call n records) in
     let p = and_parts first (at && are_calls turns (n + 1) calls (behind n records)) is in
     let q = and_parts at (are_calls turns (n + 1) calls (behind n records)) p.1 in
-    both first (at && are_calls turns (n + 1) (calls ++ more) (behind n records)) p.0
-    (both at (are_calls turns (n + 1) (calls ++ more) (behind n records)) q.0 (calls_longer turns (n + 1) calls more (behind n records) q.1))
-
-last_there : (calls : List Act) (a : Act) → slice_get (calls ++ a ∷ []) (length calls) ≡ Some a
-last_there [] a = refl
-last_there (b ∷ calls) a = last_there calls a
+    and_from first (at && are_calls turns (n + 1) (calls ++ more) (behind n records)) p.0
+    (and_from at (are_calls turns (n + 1) (calls ++ more) (behind n records)) q.0 (calls_longer turns (n + 1) calls more (behind n records) q.1))
 
 -- one call more was made
 pub has_made_more : (plan : RacePlan) (node number : ℕ) (calls : List Act) (a : Act) (old new : List Record) (its : Answer) → HasMade plan number calls old
@@ -480,7 +450,7 @@ unfolding AreOf
 has_made_more plan node number calls a old new its has made = record {
   made = ap (is_callers plan.turns (calls ++ a ∷ [])) made.grows.all
       ∙ calls_more plan.turns 0 (length calls) (calls ++ a ∷ []) a (of_caller number old) made.mine (omega arith)
-      (ap (slice_get (calls ++ a ∷ [])) from_none ∙ last_there calls a)
+      (ap (slice_get (calls ++ a ∷ [])) from_none ∙ get_last calls a)
       (calls_longer plan.turns 0 calls (a ∷ []) (of_caller number old) has.made) has.earlier made.grows.call made.planned
       (one_place (place_of node) made.mine made.grows.place_);
   earlier = subst (λ (n : ℕ). All (λ r. r.by.call < n) (of_caller number new)) (sym (length-append calls (a ∷ [])))

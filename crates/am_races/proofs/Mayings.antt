@@ -1,6 +1,5 @@
 -- Whether all records of a plan's calls fit into one journal, from their number up to a limit.
-use Rattle.std.proofs.Common.{◌≡◌, ℕ, ◌+◌, ◌*◌, ◌<◌, ◌≤◌, min, arith}
-use Rattle.std.proofs.Math.Nat.{mul-le-mul_left}
+use Rattle.am_races.proofs.Words.{◌≡◌, ℕ, ◌+◌, ◌*◌, ◌<◌, ◌≤◌, min, arith, mul-le-mul_left}
 
 -- up to the limit it is the number
 within : (made most : ℕ) → made ≤ most → min made most ≡ made

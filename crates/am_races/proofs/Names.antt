@@ -1,20 +1,9 @@
 -- Names of a set, and who stopped.
-use Rattle.std.proofs.Common.{◌≡◌, ℕ, zero, suc, ◌<◌, List, [], ◌∷◌, ◌++◌, length, Bool, true, false, true≢false, sym, refl}
-use Rattle.std.proofs.Common.{ap, ◌∙◌, arith, eq-eqb, ne_eqb}
-use Rattle.std.specs.Prelude.{if◌then◌else◌, ◌==◌, ◌&&◌, ◌||◌, slice_index, slice_set, replicate, nat_lt, nat_le}
-use Rattle.std.proofs.lemmas.Bool.{eqb-true, or_right}
-use Rattle.std.proofs.lemmas.Grind.{fold-append}
-use mathlib.Core.Logic.{dite}
-use native.Mathlib.Decide.{ℕ_discrete}
-use Rattle.am_base.specs.Names.{place_of, life_of, name_at, has, nobody, with_name}
-use Rattle.am_group.specs.declared.event.Record.{Record}
-use Rattle.am_group.specs.Deliveries.{name_of}
-use Rattle.am_wire.specs.declared.rule.Terms.{Terms}
-use Rattle.am_wire.specs.Seats.{Follows}
-use Rattle.am_wire.specs.Stops.{is_stop, has_life, with_stop, stopped_names, has_stopped}
-use Rattle.am_races.specs.Lawful.{IsLawful}
-use Rattle.am_races.proofs.Apart.{or_false}
-use Rattle.am_races.proofs.Knows.{each_keeps, stopped_more}
+use Rattle.am_races.proofs.Words.{◌≡◌, ℕ, zero, suc, ◌<◌, List, [], ◌∷◌, ◌++◌, length, Bool, true, false, true≢false, sym, refl, ap, ◌∙◌, arith, eq-eqb}
+use Rattle.am_races.proofs.Words.{ne_eqb, if◌then◌else◌, ◌==◌, ◌&&◌, ◌||◌, slice_index, slice_set, replicate, nat_lt, nat_le, eqb-true, or_right}
+use Rattle.am_races.proofs.Words.{fold-append, dite, ℕ_discrete, place_of, life_of, name_at, has, nobody, with_name, Record, name_of, Terms, Follows}
+use Rattle.am_races.proofs.Words.{is_stop, has_life, with_stop, stopped_names, has_stopped, IsLawful}
+use Rattle.am_races.proofs.{Apart.or_false, Knows.each_keeps, Knows.stopped_more}
 
 -- ---- who stopped
 
@@ -24,16 +13,13 @@ set_here (x ∷ lives) zero life h = refl
 set_here (x ∷ lives) (suc place) life h = set_here lives place life (omega arith)
 
 set_there : (lives : List ℕ) (place other life : ℕ) → (place ≡ other → ⊥) → slice_index (slice_set lives place life) other ≡ slice_index lives other
-set_there [] place other life apart = refl
 set_there (x ∷ lives) zero zero life apart = absurd (apart refl)
-set_there (x ∷ lives) zero (suc other) life apart = refl
-set_there (x ∷ lives) (suc place) zero life apart = refl
 set_there (x ∷ lives) (suc place) (suc other) life apart = set_there lives place other life (λ e. apart (ap suc e))
+set_there _ _ _ life apart = refl
 
 set_many : (lives : List ℕ) (place life : ℕ) → length (slice_set lives place life) ≡ length lives
-set_many [] place life = refl
-set_many (x ∷ lives) zero life = refl
 set_many (x ∷ lives) (suc place) life = ap suc (set_many lives place life)
+set_many _ _ life = refl
 
 -- the set of those that stopped has just their names, which have their first lives
 pub record AreStopped (before : List Record) : Type 0 where

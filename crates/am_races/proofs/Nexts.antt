@@ -1,21 +1,9 @@
 -- What others' records leave of a name: its node, whether it stopped, and the letters that were sent.
-use Rattle.std.proofs.Common.{◌≡◌, ◌≢◌, ℕ, zero, suc, ◌<◌, List, [], ◌∷◌, ◌++◌, Bool, true, false}
-use Rattle.std.proofs.Common.{Some, sym, refl, ap, ◌∙◌, subst, arith, append_assoc, append-nil, ne_eqb}
-use Rattle.std.specs.Prelude.{◌==◌, ◌&&◌, ◌||◌, All, slice_get}
-use Rattle.std.proofs.lemmas.List.Folds.{list_any-append}
-use Rattle.std.proofs.lemmas.Option.{none-some}
-use Rattle.am_base.specs.Founding.{Rules}
-use Rattle.am_base.specs.Names.{place_of, name_at}
-use Rattle.am_group.specs.declared.event.Record.{Record}
-use Rattle.am_group.specs.Deliveries.{name_of}
-use Rattle.am_group.specs.Journals.{item_at}
-use Rattle.am_wire.specs.declared.rule.Terms.{Terms}
-use Rattle.am_wire.specs.Seats.{Follows}
-use Rattle.am_wire.specs.Stops.{is_stop, has_stopped}
-use Rattle.am_races.specs.Told.{world_after}
-use Rattle.am_races.specs.Lawful.{IsLawful}
-use Rattle.am_races.proofs.Others.{others_stay}
-use Rattle.am_races.proofs.Stays.{first_apart, same_place}
+use Rattle.am_races.proofs.Words.{◌≡◌, ◌≢◌, ℕ, zero, suc, ◌<◌, List, [], ◌∷◌, ◌++◌, Bool, true, false, Some, sym, refl, ap, ◌∙◌, subst, arith, append_assoc}
+use Rattle.am_races.proofs.Words.{append-nil, ne_eqb, ◌==◌, ◌&&◌, ◌||◌, All, list_any-append, none-some, Rules, place_of, name_at, Record}
+use Rattle.am_races.proofs.Words.{name_of, item_at, Terms, Follows, is_stop, has_stopped, world_after, IsLawful}
+use Rattle.am_races.proofs.{Others.others_stay, Stays.first_apart, Stays.same_place}
+use Rattle.am_laws.proofs.Items.{get_front}
 
 -- ---- others' records
 
@@ -46,21 +34,13 @@ none_stop (r ∷ rest) name apart lives few =
     and_no true c = refl
     and_no false c = refl
 
-pub or_true : (a b : Bool) → a ≡ true → (a || b) ≡ true
-or_true a b p = ap (λ (x : Bool). x || b) p
-
 pub or_none : (a b : Bool) → b ≡ false → (a || b) ≡ a
 or_none true b e = refl
 or_none false b e = e
 
-get_more : {A : Type 0} (items more : List A) (index : ℕ) (x : A) → slice_get items index ≡ Some x → slice_get (items ++ more) index ≡ Some x
-get_more [] more index x is = absurd (none-some x is)
-get_more (y ∷ items) more zero x is = is
-get_more (y ∷ items) more (suc index) x is = get_more items more index x is
-
 pub item_more : {A : Type 0} (items more : List A) (number : ℕ) (x : A) → item_at items number ≡ Some x → item_at (items ++ more) number ≡ Some x
 item_more items more zero x e = absurd (none-some x e)
-item_more items more (suc k) x e = get_more items more k x e
+item_more items more (suc k) x e = get_front items more k x e
 
 pub all_cons : (P : Record → Type 0) (r : Record) (rs : List Record) → P r → All P rs → All P (r ∷ rs)
 all_cons P r rs p all zero d h = p

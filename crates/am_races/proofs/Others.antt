@@ -1,28 +1,13 @@
 -- An event at another place leaves a name's node as it is.
-use Rattle.std.proofs.Common.{◌≡◌, ◌≢◌, ℕ, ◌+◌, ◌-◌, ◌*◌, ◌%◌, ◌<◌, [], ◌∷◌, ◌++◌, Bool, true, false, Option, Some, None, sym, refl, ap, ◌∙◌, subst}
-use Rattle.std.proofs.Common.{ne_eqb, arith}
-use Rattle.std.specs.Prelude.{fold, if◌then◌else◌, not, ◌==◌, ◌||◌}
+use Rattle.am_races.proofs.Words.{◌≡◌, ◌≢◌, ℕ, ◌+◌, ◌-◌, ◌*◌, ◌%◌, ◌<◌, [], ◌∷◌, ◌++◌, Bool, true, false, Option, Some, None, sym, refl, ap, ◌∙◌, subst}
+use Rattle.am_races.proofs.Words.{ne_eqb, arith, fold, if◌then◌else◌, not, ◌==◌, ◌||◌, mod-lt, Outcome, NodeEvent, place_of, Packet, Letter, Act, Event}
+use Rattle.am_races.proofs.Words.{is_for, letter_at, Step, step, hear, World, start, is_stopped, hear_cut, with_record, with_step, does_event, gives_up}
+use Rattle.am_races.proofs.Words.{hears_letter, lives_on, comes_back, has_departed, acts_as, happens, current, tells, world_after, OthersStay}
 use Rattle.std.proofs.lemmas.List.Sums.{fold-append}
-use Rattle.std.proofs.Math.Nat.{mod-lt}
-use Rattle.am_base.specs.declared.outcome.Outcome.{Outcome}
+use Rattle.am_play.specs.World.{stops}
 use Rattle.am_base.specs.declared.outcome.Outcome.TheVariants as said
-use Rattle.am_base.specs.declared.event.NodeEvent.{NodeEvent}
 use Rattle.am_base.specs.declared.event.NodeEvent.TheVariants as does
-use Rattle.am_base.specs.Names.{place_of}
-use Rattle.am_packet.specs.declared.packet.Packet.{Packet}
-use Rattle.am_packet.specs.Boxes.{Letter}
-use Rattle.am_group.specs.declared.event.Act.{Act}
 use Rattle.am_group.specs.declared.event.Act.TheVariants as act
-use Rattle.am_group.specs.declared.event.Event.{Event}
-use Rattle.am_group.specs.Addressed.{is_for}
-use Rattle.am_group.specs.Journals.{letter_at}
-use Rattle.am_model.specs.Emit.{Step}
-use Rattle.am_model.specs.Step.{step, hear}
-use Rattle.am_play.specs.World.{World, start, is_stopped, hear_cut, with_record, with_step, does_event, gives_up, stops, hears_letter, lives_on, comes_back}
-use Rattle.am_model.specs.Node.{has_departed}
-use Rattle.am_play.specs.World.{acts_as, happens, current}
-use Rattle.am_races.specs.Told.{tells, world_after}
-use Rattle.am_races.specs.Laws.{OthersStay}
 
 -- the names and lives of other places are as they were
 record Stays (place : ℕ) (w w' : World) : Type 0 where

@@ -1,33 +1,15 @@
 -- A thread's calls, one after the other, are finished as far as they go on.
-use Rattle.std.proofs.Common.{◌≡◌, ℕ, zero, suc, ◌+◌, ◌*◌, ◌<◌, ◌≤◌, List, [], ◌∷◌, ◌++◌, length, take, drop, get_or, Bool, true, false, true≢false}
-use Rattle.std.proofs.Common.{cond, Option, Some, None, sym, refl, ap, ◌∙◌, subst, arith, append_assoc, append-nil, length-append, ne_eqb, slice_get}
-use Rattle.std.specs.Prelude.{All, if◌then◌else◌, not, ◌&&◌, ◌==◌}
-use Rattle.std.specs.List.{list_all, list_any, prefix_len}
-use Rattle.std.proofs.Math.Seq.{take-append_seam, drop-append_seam}
-use Rattle.std.proofs.lemmas.Bool.{and_parts, eqb-true}
-use Rattle.std.proofs.Math.Nat.{add-mul}
-use Rattle.std.proofs.lemmas.Nat.{mul-le}
-use Rattle.std.proofs.lemmas.List.{drop_all}
-use Rattle.std.proofs.lemmas.List.Folds.{list_all-append}
-use Rattle.std.proofs.lemmas.List.Elements.{All-append}
-use Rattle.am_base.specs.Most.{most_events}
-use Rattle.am_base.specs.Names.{place_of}
-use Rattle.am_group.specs.declared.event.Act.{Act}
-use Rattle.am_group.specs.declared.event.Record.{Record}
-use Rattle.am_group.specs.declared.plan.RacePlan.{RacePlan}
-use Rattle.am_group.specs.declared.plan.ThreadPlan.{ThreadPlan}
-use Rattle.am_wire.specs.declared.wire.WireRefusal.{WireRefusal}
-use Rattle.am_wire.specs.declared.wire.WireRefusal.TheVariants as refusals
-use Rattle.am_wire.specs.Stops.{has_stopped}
-use Rattle.am_races.specs.declared.answer.Answer.{Answer}
-use Rattle.am_races.specs.declared.answer.Answer.TheVariants as answer
-use Rattle.am_races.specs.Tags.{of_caller, of_call}
-use Rattle.am_races.specs.Answers.{answer_of, is_end}
-use Rattle.am_races.specs.Callers.{is_empty, is_last, first_call, behind, goes_on, are_finished}
-use Rattle.am_races.specs.Callings.{Calling, Called, IsUnanswered, IsAnswer, of_next}
-use Rattle.am_races.specs.Plans.{calls_in}
-use Rattle.am_races.specs.Ran.{HasPlayed, HasRun, most_of, refusal_in, ends_thread, fresh_caller}
+use Rattle.am_races.proofs.Words.{◌≡◌, ℕ, zero, suc, ◌+◌, ◌*◌, ◌<◌, ◌≤◌, List, [], ◌∷◌, ◌++◌, length, take, drop, get_or, Bool, true, false, true≢false}
+use Rattle.am_races.proofs.Words.{cond, Option, Some, None, sym, refl, ap, ◌∙◌, subst, arith, append_assoc, append-nil, length-append, ne_eqb, slice_get}
+use Rattle.am_races.proofs.Words.{All, if◌then◌else◌, not, ◌&&◌, ◌==◌, list_all, list_any, prefix_len, take-append_seam, drop-append_seam, and_parts}
+use Rattle.am_races.proofs.Words.{eqb-true, add-mul, mul-le, drop_all, list_all-append, All-append, most_events, place_of, Act, Record, RacePlan, ThreadPlan}
+use Rattle.am_races.proofs.Words.{WireRefusal, has_stopped, Answer, of_caller, of_call, answer_of, is_end, is_empty, is_last, first_call, behind, goes_on}
+use Rattle.am_races.proofs.Words.{are_finished, Calling, Called, IsUnanswered, IsAnswer, of_next, calls_in, HasPlayed, HasRun, most_of, refusal_in}
+use Rattle.am_races.proofs.Words.{ends_thread, fresh_caller}
 use Rattle.am_races.proofs.Running.{next_call, calls_so_far}
+use Rattle.am_wire.specs.declared.wire.WireRefusal.TheVariants as refusals
+use Rattle.am_races.specs.declared.answer.Answer.TheVariants as answer
+use Rattle.std.proofs.lemmas.Bool.{and_from}
 
 -- ---- the records of one call
 
@@ -85,24 +67,12 @@ IsGoingOn turns mine its = (answer_of turns mine ≡ Some its) × (is_last its �
 going_on : (turns : ℕ) (mine seen : List Record) (node : ℕ) (its : Answer) → IsAnswer turns mine seen node its → ends_thread its ≡ false
     → IsGoingOn turns mine its
 unfolding IsGoingOn
-going_on turns mine seen node (answer.Sent req number) is goes = (is, refl)
-going_on turns mine seen node (answer.Took number entry) is goes = (is, refl)
-going_on turns mine seen node (answer.Joined number) is goes = (is, refl)
-going_on turns mine seen node answer.Left is goes = (is, refl)
-going_on turns mine seen node (answer.Decided number members) is goes = (is, refl)
-going_on turns mine seen node answer.StopDone is goes = (is, refl)
-going_on turns mine seen node (answer.Busy queued) is goes = (is, refl)
 going_on turns mine seen node answer.Stopped is goes = absurd (true≢false goes)
-going_on turns mine seen node answer.NotMember is goes = (is, refl)
-going_on turns mine seen node answer.Leaving is goes = (is, refl)
 going_on turns mine seen node (answer.PutOff req base top) is goes = absurd (true≢false goes)
-going_on turns mine seen node (answer.TooFew got least) is goes = (is, refl)
-going_on turns mine seen node (answer.Crowded base top) is goes = (is, refl)
-going_on turns mine seen node (answer.Overtaken by) is goes = (is, refl)
-going_on turns mine seen node (answer.NotIn best) is goes = (is, refl)
 going_on turns mine seen node (answer.Late count) is goes = absurd (true≢false goes)
 going_on turns mine seen node answer.Spent is goes = absurd (true≢false goes)
 going_on turns mine seen node answer.NoMemory is goes = absurd (true≢false goes)
+going_on turns mine seen node _ is goes = (is, refl)
 
 -- ---- calls one after the other
 
@@ -120,10 +90,6 @@ pub none_played : (plan : RacePlan) (thread : ThreadPlan) (c : Calling) → c �
 none_played plan thread c fresh =
     subst (λ (k : Calling). Plays plan thread c.number 0 k) (sym fresh)
     (record { number_ = refl; count = refl; planned = refl; most = omega arith; place = refl; goes = λ stopped more all h. h })
-
-pub two_hold : (a b : Bool) → a ≡ true → b ≡ true → (a && b) ≡ true
-two_hold true b p q = q
-two_hold false b p q = absurd (true≢false (sym p))
 
 room_for : (i each old mine whole : ℕ) → old ≤ i * each → mine ≤ each → whole ≡ old + mine → whole ≤ (i + 1) * each
 room_for i each old mine whole before this is = omega (arith, add-mul i 1 each)
@@ -164,7 +130,7 @@ grows plan thread number i a old new its plays called below there =
       few = called.most;
       place = ap (list_all (λ (r : Record). place_of r.event.node == place_of thread.node)) all
           ∙ list_all-append (λ (r : Record). place_of r.event.node == place_of thread.node) (of_caller number old.seen) mine
-          ∙ two_hold (list_all (λ (r : Record). place_of r.event.node == place_of thread.node) (of_caller number old.seen))
+          ∙ and_from (list_all (λ (r : Record). place_of r.event.node == place_of thread.node) (of_caller number old.seen))
           (list_all (λ (r : Record). place_of r.event.node == place_of thread.node) mine) plays.place called.place;
       goes = λ stopped more later h.
           ap (are_finished plan.turns stopped 0 thread.calls) (ap (λ (l : List Record). l ++ more) all ∙ append_assoc (of_caller number old.seen) mine more)
@@ -211,7 +177,7 @@ may_end : (turns : ℕ) (mine : List Record) (stopped others : Bool) → IsUnans
     → goes_on stopped (list_any is_end mine) (answer_of turns mine) others [] ≡ true
 may_end turns mine stopped others none by =
     ap (λ (o : Option Answer). goes_on stopped (list_any is_end mine) o others []) none.none
-    ∙ two_hold stopped (not (list_any is_end mine) && true) by (ap (λ (b : Bool). not b && true) none.unended)
+    ∙ and_from stopped (not (list_any is_end mine) && true) by (ap (λ (b : Bool). not b && true) none.unended)
 
 last_one : (turns : ℕ) (mine seen : List Record) (node : ℕ) (its : Answer) → IsAnswer turns mine seen node its → ends_thread its ≡ true → refusal_in its ≡ None
     → (stopped others : Bool) → (has_stopped seen (place_of node) ≡ true → stopped ≡ true)
@@ -223,46 +189,14 @@ last_one turns mine seen node (answer.PutOff req base top) is ends none stopped 
 last_one turns mine seen node answer.Stopped is ends none stopped others by = may_end turns mine stopped others is.1 (by is.0)
 last_one turns mine seen node answer.Spent is ends none stopped others by = absurd (refused_no refusals.Spent none)
 last_one turns mine seen node answer.NoMemory is ends none stopped others by = absurd (refused_no refusals.NoMemory none)
-last_one turns mine seen node (answer.Sent req number) is ends none stopped others by = absurd (true≢false (sym ends))
-last_one turns mine seen node (answer.Took number entry) is ends none stopped others by = absurd (true≢false (sym ends))
-last_one turns mine seen node (answer.Joined number) is ends none stopped others by = absurd (true≢false (sym ends))
-last_one turns mine seen node answer.Left is ends none stopped others by = absurd (true≢false (sym ends))
-last_one turns mine seen node (answer.Decided number members) is ends none stopped others by = absurd (true≢false (sym ends))
-last_one turns mine seen node answer.StopDone is ends none stopped others by = absurd (true≢false (sym ends))
-last_one turns mine seen node (answer.Busy queued) is ends none stopped others by = absurd (true≢false (sym ends))
-last_one turns mine seen node answer.NotMember is ends none stopped others by = absurd (true≢false (sym ends))
-last_one turns mine seen node answer.Leaving is ends none stopped others by = absurd (true≢false (sym ends))
-last_one turns mine seen node (answer.TooFew got least) is ends none stopped others by = absurd (true≢false (sym ends))
-last_one turns mine seen node (answer.Crowded base top) is ends none stopped others by = absurd (true≢false (sym ends))
-last_one turns mine seen node (answer.Overtaken other) is ends none stopped others by = absurd (true≢false (sym ends))
-last_one turns mine seen node (answer.NotIn best) is ends none stopped others by = absurd (true≢false (sym ends))
+last_one turns mine seen node _ is ends none stopped others by = absurd (true≢false (sym ends))
 
 -- where a call found the journal full
 spent_only : (turns : ℕ) (mine seen : List Record) (node : ℕ) (its : Answer) → IsAnswer turns mine seen node its → refusal_in its ≡ Some refusals.Spent
     → (its ≡ answer.Spent) × (length seen ≡ most_events)
 spent_only turns mine seen node answer.Spent is e = (refl, is.0)
-spent_only turns mine seen node answer.NoMemory is e = absurd (true≢false (ap is_memory e))
-  where
-    is_memory : Option WireRefusal → Bool
-    is_memory (Some refusals.NoMemory) = true
-    is_memory (Some refusals.Spent) = false
-    is_memory None = false
-spent_only turns mine seen node answer.Stopped is e = absurd (refused_no refusals.Spent (sym e))
-spent_only turns mine seen node (answer.Late count) is e = absurd (refused_no refusals.Spent (sym e))
-spent_only turns mine seen node (answer.PutOff req base top) is e = absurd (refused_no refusals.Spent (sym e))
-spent_only turns mine seen node (answer.Sent req number) is e = absurd (refused_no refusals.Spent (sym e))
-spent_only turns mine seen node (answer.Took number entry) is e = absurd (refused_no refusals.Spent (sym e))
-spent_only turns mine seen node (answer.Joined number) is e = absurd (refused_no refusals.Spent (sym e))
-spent_only turns mine seen node answer.Left is e = absurd (refused_no refusals.Spent (sym e))
-spent_only turns mine seen node (answer.Decided number members) is e = absurd (refused_no refusals.Spent (sym e))
-spent_only turns mine seen node answer.StopDone is e = absurd (refused_no refusals.Spent (sym e))
-spent_only turns mine seen node (answer.Busy queued) is e = absurd (refused_no refusals.Spent (sym e))
-spent_only turns mine seen node answer.NotMember is e = absurd (refused_no refusals.Spent (sym e))
-spent_only turns mine seen node answer.Leaving is e = absurd (refused_no refusals.Spent (sym e))
-spent_only turns mine seen node (answer.TooFew got least) is e = absurd (refused_no refusals.Spent (sym e))
-spent_only turns mine seen node (answer.Crowded base top) is e = absurd (refused_no refusals.Spent (sym e))
-spent_only turns mine seen node (answer.Overtaken other) is e = absurd (refused_no refusals.Spent (sym e))
-spent_only turns mine seen node (answer.NotIn best) is e = absurd (refused_no refusals.Spent (sym e))
+spent_only turns mine seen node answer.NoMemory is e = absurd (cc)
+spent_only turns mine seen node _ is e = absurd (refused_no refusals.Spent (sym e))
 
 -- what has run, by the number of its caller
 record HasRunBy (plan : RacePlan) (thread : ThreadPlan) (number : ℕ) (c : Calling) (refusal : Option WireRefusal) : Type 0 where

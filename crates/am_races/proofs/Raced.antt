@@ -1,47 +1,26 @@
 -- What the callers of a race leave in its journal.
-use Rattle.std.proofs.Common.{◌≡◌, ℕ, zero, suc, ◌+◌, ◌*◌, ◌<◌, ◌≤◌, List, [], ◌∷◌, ◌++◌, length, take, drop, map, get_or, Bool, true, false, true≢false, Option}
-use Rattle.std.proofs.Common.{Some, None, sym, refl, ap, ◌∙◌, subst, arith, length-append, slice_get, ⊎_elim}
-use Rattle.std.specs.Prelude.{All, ◌==◌}
-use Rattle.std.specs.List.{list_all, range_with_len}
-use Rattle.std.proofs.lemmas.List.{get_or-map, length-map, take-append-drop}
-use Rattle.std.proofs.lemmas.List.Elements.{All-map, All-weaker}
-use Rattle.std.proofs.lemmas.List.FromFn.{get_or-range_with_len, length-range_with_len}
-use Rattle.std.proofs.lemmas.Option.{none-some, slice_get_cases}
-use Rattle.am_base.specs.Names.{place_of}
-use Rattle.am_group.specs.declared.event.Act.{Act}
-use Rattle.am_group.specs.declared.event.Record.{Record}
-use Rattle.am_group.specs.declared.plan.RacePlan.{RacePlan}
-use Rattle.am_group.specs.declared.plan.ThreadPlan.{ThreadPlan}
-use Rattle.am_wire.specs.declared.wire.WireRefusal.{WireRefusal}
+use Rattle.am_races.proofs.Words.{◌≡◌, ℕ, suc, ◌+◌, ◌*◌, ◌<◌, ◌≤◌, List, [], ◌∷◌, ◌++◌, length, take, drop, map, get_or, Bool, true, false, true≢false}
+use Rattle.am_races.proofs.Words.{Option, Some, None, sym, refl, ap, ◌∙◌, subst, arith, length-append, slice_get, ⊎_elim, All, ◌==◌, list_all}
+use Rattle.am_races.proofs.Words.{range_with_len, get_or-map, length-map, take-append-drop, All-map, All-weaker, get_or-range_with_len}
+use Rattle.am_races.proofs.Words.{length-range_with_len, none-some, slice_get_cases, place_of, Act, Record, RacePlan, ThreadPlan, WireRefusal, StartsWith}
+use Rattle.am_races.proofs.Words.{has_stopped, rest_of, of_caller, are_finished, is_callers, Calling, IsLegalWithTags, is_played, MayRace, ArePlayed}
+use Rattle.am_races.proofs.Words.{calls_in, calls_of, HasPlayed, HasRun, IsPlanned, EndsFor, first_refusal, fresh_callers, numbers_of, calls_made, calls_by}
+use Rattle.am_races.proofs.{Nexts.stopped_in_more, Counting.one_lacks, Joined.caller_at, Making.calls_longer}
+use Rattle.am_races.proofs.{Fresh.fresh_numbers, Running.called_numbers}
 use Rattle.am_wire.specs.declared.wire.WireRefusal.TheVariants as refusals
-use Rattle.am_wire.specs.Seats.{StartsWith}
-use Rattle.am_wire.specs.Stops.{has_stopped}
-use Rattle.am_wire.proofs.Views.{rest_of}
-use Rattle.am_races.specs.Tags.{of_caller}
-use Rattle.am_races.specs.Callers.{are_finished, is_callers}
-use Rattle.am_races.specs.Callings.{Calling}
-use Rattle.am_races.specs.Legal.{IsLegalWithTags, is_played}
-use Rattle.am_races.specs.Plans.{MayRace, ArePlayed, calls_in, calls_of}
-use Rattle.am_races.specs.Ran.{HasPlayed, HasRun, IsPlanned, EndsFor, first_refusal, fresh_callers, numbers_of, calls_made, calls_by}
-use Rattle.am_races.proofs.Nexts.{stopped_in_more, or_true}
-use Rattle.am_races.proofs.Playing.{two_hold}
-use Rattle.am_races.proofs.Counting.{one_lacks}
-use Rattle.am_races.proofs.Joined.{caller_at}
-use Rattle.am_races.proofs.Making.{calls_longer}
-use Rattle.am_races.proofs.Fresh.{fresh_numbers}
-use Rattle.am_races.proofs.Running.{called_numbers}
+use Rattle.std.proofs.lemmas.Bool.{and_from, or_left}
 
 -- ---- one caller
 
 stopped_still : (journal seen : List Record) (name : ℕ) → StartsWith journal seen → has_stopped seen name ≡ true → has_stopped journal name ≡ true
 stopped_still journal seen name begins is =
     ap (λ (l : List Record). has_stopped l name) (rest_of journal seen begins) ∙ stopped_in_more seen (drop (length seen) journal) name
-    ∙ or_true (has_stopped seen name) (has_stopped (drop (length seen) journal) name) is
+    ∙ or_left (has_stopped seen name) (has_stopped (drop (length seen) journal) name) is
 
 played_in : (turns : ℕ) (thread : ThreadPlan) (journal : List Record) (c : Calling) → EndsFor journal c → HasPlayed turns thread c
     → is_played turns thread c.number journal ≡ true
 played_in turns thread journal c ends played =
-    two_hold (list_all (λ (r : Record). place_of r.event.node == place_of thread.node) (of_caller c.number journal))
+    and_from (list_all (λ (r : Record). place_of r.event.node == place_of thread.node) (of_caller c.number journal))
     (are_finished turns (has_stopped journal (place_of thread.node)) 0 thread.calls (of_caller c.number journal))
     (ap (list_all (λ (r : Record). place_of r.event.node == place_of thread.node)) ends.own ∙ played.place)
     (ap (are_finished turns (has_stopped journal (place_of thread.node)) 0 thread.calls) ends.own
@@ -109,10 +88,9 @@ all_did call refused plan journal [] numbers ran ends =
 all_did call refused plan journal (x ∷ xs) numbers ran ends = all_did_from call refused plan journal x (x ∷ xs) numbers ran ends
 
 none_at : (each : List (Option WireRefusal)) (i : ℕ) → first_refusal each ≡ None → get_or each i None ≡ None
-none_at [] i e = refl
-none_at (None ∷ each) zero e = refl
 none_at (None ∷ each) (suc i) e = none_at each i e
 none_at (Some r ∷ each) i e = absurd (none-some r (sym e))
+none_at _ _ e = refl
 
 pub are_played : (plan : RacePlan) (journal : List Record) (each : List (Option WireRefusal)) → AllDid plan journal each → first_refusal each ≡ None
     → ArePlayed plan journal
@@ -160,14 +138,10 @@ spent_never plan journal each i t may all did is below spent =
     let most = may.most in
     absurd (omega arith)
   where
-    is_there : Option ThreadPlan → Bool
-    is_there None = false
-    is_there (Some x) = true
-
     there : (j : ℕ) (u : ThreadPlan) → slice_get plan.threads j ≡ Some u → j < length plan.threads
     there j u at =
         ⊎_elim (λ (k : (x : ThreadPlan) × (j < length plan.threads) × (slice_get plan.threads j ≡ Some x) × (get_or plan.threads j x ≡ x)). k.1)
-        (λ (past : (length plan.threads ≤ j) × (slice_get plan.threads j ≡ None)). absurd (true≢false (ap is_there (sym at ∙ past.1))))
+        (λ (past : (length plan.threads ≤ j) × (slice_get plan.threads j ≡ None)). absurd (let none = past.1 in cc))
         (slice_get_cases plan.threads j).1
 
 pub only_memory : (plan : RacePlan) (journal : List Record) (each : List (Option WireRefusal)) (r : WireRefusal) → MayRace plan

@@ -1,30 +1,13 @@
 -- A node's own sends have different requests, so that what is settled is told.
-use Rattle.std.proofs.Common.{◌≡◌, ℕ, suc, ◌+◌, ◌<◌, ◌≤◌, ◌==◌, not, Bool, true, false, true≢false, List, [], ◌∷◌, ◌++◌, map, filter, find}
-use Rattle.std.proofs.Common.{Option, Some, None, is_some, refl, sym, ap, ◌∙◌, subst, arith, cond, ne_eqb}
-use Rattle.std.specs.Prelude.{All, ◌&&◌, ◌||◌}
-use Rattle.std.specs.List.{list_any}
-use Rattle.std.proofs.lemmas.Bool.{eqb-true}
-use Rattle.std.proofs.lemmas.List.Elements.{All-push, All-filter, All-map, All-weaker}
-use Rattle.am_base.specs.declared.outcome.Outcome.{Outcome}
-use Rattle.am_base.specs.declared.entry.Entry.TheVariants.{Leave}
-use Rattle.am_base.specs.Founding.{Rules}
-use Rattle.am_base.specs.Names.{has}
-use Rattle.am_state.specs.declared.sender.OwnSend.{OwnSend}
-use Rattle.am_state.specs.Sends as own
-use Rattle.am_state.specs.Sends.{Sends}
-use Rattle.am_group.specs.declared.event.Event.{Event}
-use Rattle.am_model.specs.Node.{Node, push_entry, waiting}
-use Rattle.am_model.specs.Ballots.{Verdict}
-use Rattle.am_model.specs.Refresh.{refresh, accepted_at, settle_at, settle_waiting, settle, refresh_at_end}
-use Rattle.am_play.specs.World.{World, start, with_record, with_step, run}
-use Rattle.am_base.proofs.Greatest.{split}
-use Rattle.am_laws.specs.Causes.{Cause}
+use Rattle.am_races.proofs.Words.{◌≡◌, ℕ, suc, ◌+◌, ◌<◌, ◌≤◌, ◌==◌, not, Bool, true, false, true≢false, List, [], ◌∷◌, ◌++◌, map, filter, find, Option, Some}
+use Rattle.am_races.proofs.Words.{None, is_some, refl, sym, ap, ◌∙◌, subst, arith, cond, ne_eqb, All, ◌&&◌, ◌||◌, list_any, eqb-true, All-push, All-filter}
+use Rattle.am_races.proofs.Words.{All-map, All-weaker, Outcome, Leave, Rules, has, OwnSend, Sends, Event, Node, push_entry, waiting, Verdict, refresh}
+use Rattle.am_races.proofs.Words.{accepted_at, settle_at, settle_waiting, settle, refresh_at_end, World, start, with_record, with_step, run, split, Cause}
+use Rattle.am_races.proofs.Words.{actor, steps, refresh_is, along, EachKeeps, runs_keep}
 use Rattle.am_laws.specs.Looks.{Looks, finds_itself_out, waits, fetches_from_best, finds_too_few, finds_no_room, decides}
-use Rattle.am_laws.specs.Changes.{Change, refreshes, settles, takes_report, admits, numbers, keeps_body, notes, stores, begins_list, departs, promises}
-use Rattle.am_laws.specs.Changes.{opens, looks, fetches, stores_view, queues, collects, takes, asks_to_join, asks_to_leave, closes}
-use Rattle.am_laws.specs.Events.{actor, idles, stops, returns, steps}
-use Rattle.am_laws.proofs.Rests.{refresh_is}
-use Rattle.am_laws.proofs.EffectRuns.{along, EachKeeps, runs_keep}
+use Rattle.am_laws.specs.Changes.{Change, refreshes, settles}
+use Rattle.am_laws.specs.Changes.{looks, queues, collects, closes}
+use Rattle.am_state.specs.Sends as own
 
 -- ---- sends with different requests
 
@@ -131,25 +114,11 @@ look_once m b v (decides may) h = h
 change_once : {c : Cause} {o : Outcome} → (m n : Node) → Change c o m n → NodeOnce m → NodeOnce n
 change_once m n refreshes h = once_refreshed m h
 change_once m n settles h = once_at_end m h
-change_once m n (takes_report s v report by may) h = h
-change_once m n (admits s v is leads fit) h = h
-change_once m n (numbers e leads room why) h = h
-change_once m n (keeps_body s v report req body is by) h = h
-change_once m n (notes s v base acc by from) h = h
-change_once m n (stores s v base acc number e by from plain may) h = h
-change_once m n (begins_list s v base join image is o may) h = h
-change_once m n (departs s v number is by leaves) h = h
-change_once m n (promises v low why) h = h
-change_once m n (opens least resilience by may) h = h
 change_once m n (looks b verdict over why look is) h = look_once m b verdict look h
-change_once m n (fetches s v base number e is by promise below from may) h = h
-change_once m n (stores_view s v base number names resilience is by own other promise below may) h = h
 change_once m n (queues body is o member stays few) h = once_submit body m.sends h
 change_once m n (collects req is) h = once_collect req m.sends h
-change_once m n (takes e is o member some there) h = h
-change_once m n (asks_to_join is was) h = h
-change_once m n (asks_to_leave is was stays done) h = h
 change_once m n (closes leads leaves alone room) h = once_refreshed_at_end (push_entry m (Leave m.core.who)) h
+change_once m n _ h = h
 
 -- ---- runs
 
@@ -158,11 +127,9 @@ AllOnce w = (name : ℕ) → NodeOnce (w.nodes name)
 
 each_once : EachKeeps AllOnce
 unfolding with_record with_step
-each_once w e v (idles o idle) h = h
-each_once w e v (stops runs) h = h
-each_once w e v (returns place is left more) h = h
 each_once w e v (steps c s runs cause effect) h =
     λ name. split (name == actor w e) (λ t. rw t (along NodeOnce change_once effect.changes (h (actor w e)))) (λ f. rw f (h name))
+each_once w e v _ h = h
 
 once_start : (rules : Rules) → AllOnce (start rules)
 once_start rules name = split (has rules.founders name) (λ t. rw t first) (λ f. rw f first)

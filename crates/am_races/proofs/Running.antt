@@ -1,13 +1,6 @@
 -- The threads of a plan: their calls, and what all of them give.
-use Rattle.std.proofs.Common.{◌≡◌, ℕ, suc, ◌+◌, ◌<◌, List, [], ◌∷◌, ◌++◌, length, map, take, drop, get_or, Option}
-use Rattle.std.proofs.Common.{Some, None, sym, refl, ap, ◌∙◌, arith}
-use Rattle.std.specs.Option.{option_or}
-use Rattle.std.proofs.Math.Seq.{drop-cons, take-suc}
-use Rattle.std.proofs.lemmas.List.{map-append}
-use Rattle.am_group.specs.declared.event.Act.{Act}
-use Rattle.am_wire.specs.declared.wire.WireRefusal.{WireRefusal}
-use Rattle.am_races.specs.Callings.{Calling}
-use Rattle.am_races.specs.Ran.{numbers_of, first_refusal}
+use Rattle.am_races.proofs.Words.{◌≡◌, ℕ, suc, ◌+◌, ◌<◌, List, [], ◌∷◌, ◌++◌, length, map, take, drop, get_or, Option, Some, None, sym, refl, ap, ◌∙◌, arith}
+use Rattle.am_races.proofs.Words.{option_or, drop-cons, take-suc, map-append, Act, WireRefusal, Calling, numbers_of, first_refusal}
 
 -- ---- the calls of a thread
 

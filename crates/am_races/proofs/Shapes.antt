@@ -1,32 +1,16 @@
 -- The records of one call: what may stand there, and what they answer.
-use Rattle.std.proofs.Common.{◌≡◌, ℕ, ◌-◌, ◌≤◌, List, [], ◌∷◌, ◌++◌, length, cond, Bool, true, false, true≢false, Option, Some, None}
-use Rattle.std.proofs.Common.{is_some, sym, refl, ap, ◌∙◌, subst, arith, eq-eqb, nat_lt, nat_le, unwrap_or, count_by, sum_by}
-use Rattle.std.specs.Prelude.{◌==◌, ◌&&◌, ◌||◌, if◌then◌else◌, fold}
-use Rattle.std.specs.List.{list_all, list_any}
-use Rattle.std.proofs.lemmas.Bool.{and_parts, lt-ltb}
-use Rattle.std.proofs.lemmas.List.Sums.{sum_by-cons, sum_by-append}
-use Rattle.std.proofs.lemmas.Grind.{fold-append}
-use Rattle.am_base.specs.declared.outcome.Outcome.{Outcome}
+use Rattle.am_races.proofs.Words.{◌≡◌, ℕ, ◌-◌, ◌≤◌, List, [], ◌∷◌, ◌++◌, length, cond, Bool, true, false, true≢false, Option, Some, None, is_some, sym, refl}
+use Rattle.am_races.proofs.Words.{ap, ◌∙◌, subst, arith, eq-eqb, nat_lt, nat_le, unwrap_or, count_by, sum_by, ◌==◌, ◌&&◌, ◌||◌, if◌then◌else◌, fold}
+use Rattle.am_races.proofs.Words.{list_all, list_any, and_parts, lt-ltb, sum_by-cons, sum_by-append, fold-append, Outcome, Act, Part, Call, Turn, Check}
+use Rattle.am_races.proofs.Words.{Record, Answer, Came, is_own, is_turn_part, is_check, own_of, ballot_answer, join_answer, leave_answer, left_answer}
+use Rattle.am_races.proofs.Words.{send_answer, take_answer, stop_answer, own_answer, end_answer, or_else, queued_request, request_in, request_of, request_by}
+use Rattle.am_races.proofs.Words.{put_off_in, late_after, late, answer_in, act_of_call, first_answer, is_take, is_end_of, is_end, answer_of, same_bytes}
+use Rattle.am_races.proofs.Words.{same_act, is_empty, asks, checks, is_followed, is_receive, is_other, is_one_call, IsUnanswered, round_in, is_call}
+use Rattle.am_races.proofs.Words.{has_check, end_act, end_part, told_at_end, request_in_call, IsOwn, HasBegun}
 use Rattle.am_base.specs.declared.outcome.Outcome.TheVariants as said
-use Rattle.am_group.specs.declared.event.Act.{Act}
 use Rattle.am_group.specs.declared.event.Act.TheVariants as act
-use Rattle.am_group.specs.declared.event.Part.{Part}
-use Rattle.am_group.specs.declared.event.Part.TheVariants.{Call, Turn, Check}
-use Rattle.am_group.specs.declared.event.Record.{Record}
-use Rattle.am_races.specs.declared.answer.Answer.{Answer}
 use Rattle.am_races.specs.declared.answer.Answer.TheVariants as answer
-use Rattle.am_races.specs.declared.call.Came.{Came}
-use Rattle.am_races.specs.Tags.{is_own, is_turn_part, is_check, own_of}
-use Rattle.am_races.specs.Answers.{ballot_answer, join_answer, leave_answer, left_answer, send_answer, take_answer, stop_answer, own_answer, end_answer}
-use Rattle.am_races.specs.Answers.{or_else, queued_request, request_in, request_of, request_by, put_off_in, late_after, late, answer_in, act_of_call}
-use Rattle.am_races.specs.Answers.{first_answer}
-use Rattle.am_races.specs.Answers.{is_take, is_end_of, is_end, answer_of}
-use Rattle.am_races.specs.Callers.{same_bytes, same_act, is_empty, asks, checks, is_followed, is_receive, is_other, is_one_call}
-use Rattle.am_races.specs.Callings.{IsUnanswered}
-use Rattle.am_races.specs.Ready.{round_in}
-use Rattle.am_races.specs.Plans.{is_call, has_check}
-use Rattle.am_races.specs.Going.{end_act, end_part, told_at_end, request_in_call, IsOwn, HasBegun}
-use Rattle.am_races.proofs.Growing.{both}
+use Rattle.std.proofs.lemmas.Bool.{and_from}
 
 -- ---- parts
 
@@ -35,18 +19,15 @@ AreTurns records = list_all (λ r. is_turn_part r.by.part) records ≡ true
 
 pub no_own : (p : Part) → is_turn_part p ≡ true → is_own p ≡ false
 no_own Call e = absurd (true≢false (sym e))
-no_own (Turn lost) e = refl
-no_own Check e = refl
+no_own _ e = refl
 
 no_check : (p : Part) → is_turn_part p ≡ true → is_check p ≡ false
-no_check Call e = absurd (true≢false (sym e))
 no_check (Turn lost) e = refl
-no_check Check e = absurd (true≢false (sym e))
+no_check _ e = absurd (true≢false (sym e))
 
 own_turns : (p : Part) → is_own p ≡ true → is_turn_part p ≡ false
-own_turns Call e = refl
 own_turns (Turn lost) e = absurd (true≢false (sym e))
-own_turns Check e = refl
+own_turns _ e = refl
 
 pub head_turn : (r : Record) (rs : List Record) → AreTurns (r ∷ rs) → is_turn_part r.by.part ≡ true
 head_turn r rs all = (and_parts (is_turn_part r.by.part) (list_all (λ q. is_turn_part q.by.part) rs) all).0
@@ -62,7 +43,7 @@ unfolding is_followed
 followed turns own [] more all few rest = rest turns
 followed turns own (t ∷ ts) more all few rest =
     ap (λ (b : Bool). if b then nat_lt 0 turns && is_followed (turns - 1) own (ts ++ more) else (checks own t && is_empty (ts ++ more))) (head_turn t ts all)
-    ∙ both (nat_lt 0 turns) (is_followed (turns - 1) own (ts ++ more)) (lt-ltb 0 turns (omega arith))
+    ∙ and_from (nat_lt 0 turns) (is_followed (turns - 1) own (ts ++ more)) (lt-ltb 0 turns (omega arith))
     (followed (turns - 1) own ts more (tail_turns t ts all) (omega arith) rest)
 
 received : (turns : ℕ) (ts more : List Record) → AreTurns ts → length ts ≤ turns → ((k : ℕ) → is_receive k more ≡ true) → is_receive turns (ts ++ more) ≡ true
@@ -71,12 +52,12 @@ received turns [] more all few rest = rest turns
 received turns (t ∷ ts) more all few rest =
     ap (λ (b : Bool). if b then nat_lt 0 turns && is_receive (turns - 1) (ts ++ more) else (is_own t.by.part && (is_take t.event.act && is_empty (ts ++ more))))
     (head_turn t ts all)
-    ∙ both (nat_lt 0 turns) (is_receive (turns - 1) (ts ++ more)) (lt-ltb 0 turns (omega arith))
+    ∙ and_from (nat_lt 0 turns) (is_receive (turns - 1) (ts ++ more)) (lt-ltb 0 turns (omega arith))
     (received (turns - 1) ts more (tail_turns t ts all) (omega arith) rest)
 
 same_body : (a : List ℕ) → same_bytes a a ≡ true
 same_body [] = refl
-same_body (x ∷ xs) = both (x == x) (same_bytes xs xs) (eq-eqb x x refl) (same_body xs)
+same_body (x ∷ xs) = and_from (x == x) (same_bytes xs xs) (eq-eqb x x refl) (same_body xs)
 
 -- a call is the same as itself
 pub same_call : (a : Act) → is_call a ≡ true → same_act a a ≡ true
@@ -84,7 +65,7 @@ same_call (act.Send body) e = same_body body
 same_call act.Take e = refl
 same_call act.Join e = refl
 same_call act.Leave e = refl
-same_call (act.Reset least resilience) e = both (least == least) (resilience == resilience) (eq-eqb least least refl) (eq-eqb resilience resilience refl)
+same_call (act.Reset least resilience) e = and_from (least == least) (resilience == resilience) (eq-eqb least least refl) (eq-eqb resilience resilience refl)
 same_call act.Stop e = refl
 same_call _ e = absurd (true≢false (sym e))
 
@@ -113,16 +94,16 @@ other_goes : (turns : ℕ) (a : Act) (own : Record) (rest : List Record) → is_
     → own_answer a own.outcome ≡ None
     → is_followed turns own rest ≡ true → is_other turns a (own ∷ rest) ≡ true
 other_goes turns a own rest part same none goes =
-    both (is_own own.by.part) (same_act a own.event.act && (if is_some (own_answer a own.outcome) then is_empty rest else is_followed turns own rest)) part
-    (both (same_act a own.event.act) (if is_some (own_answer a own.outcome) then is_empty rest else is_followed turns own rest) same
+    and_from (is_own own.by.part) (same_act a own.event.act && (if is_some (own_answer a own.outcome) then is_empty rest else is_followed turns own rest)) part
+    (and_from (same_act a own.event.act) (if is_some (own_answer a own.outcome) then is_empty rest else is_followed turns own rest) same
     (ap (λ (o : Option Answer). if is_some o then is_empty rest else is_followed turns own rest) none ∙ goes))
 
 -- alone
 pub other_alone : (turns : ℕ) (a : Act) (own : Record) → is_own own.by.part ≡ true → same_act a own.event.act ≡ true → is_other turns a (own ∷ []) ≡ true
 unfolding is_followed
 other_alone turns a own part same =
-    both (is_own own.by.part) (same_act a own.event.act && (if is_some (own_answer a own.outcome) then true else true)) part
-    (both (same_act a own.event.act) (if is_some (own_answer a own.outcome) then true else true) same (either_way (is_some (own_answer a own.outcome))))
+    and_from (is_own own.by.part) (same_act a own.event.act && (if is_some (own_answer a own.outcome) then true else true)) part
+    (and_from (same_act a own.event.act) (if is_some (own_answer a own.outcome) then true else true) same (either_way (is_some (own_answer a own.outcome))))
   where
     either_way : (b : Bool) → (if b then true else true) ≡ true
     either_way true = refl
@@ -136,7 +117,7 @@ ends_with : (own e : Record) (k : ℕ) → is_check e.by.part ≡ true → asks 
 unfolding is_followed
 ends_with own e k part is =
     ap (λ (b : Bool). if b then nat_lt 0 k && true else (checks own e && true)) (check_turns e.by.part part)
-    ∙ both (checks own e) true (both (is_check e.by.part) (asks own.event.act own.outcome own.packets e.event.act) part is) refl
+    ∙ and_from (checks own e) true (and_from (is_check e.by.part) (asks own.event.act own.outcome own.packets e.event.act) part is) refl
   where
     check_turns : (p : Part) → is_check p ≡ true → is_turn_part p ≡ false
     check_turns Call c = refl
@@ -147,7 +128,7 @@ takes_at_end : (e : Record) (k : ℕ) → is_own e.by.part ≡ true → is_take 
 unfolding is_receive
 takes_at_end e k part is =
     ap (λ (b : Bool). if b then nat_lt 0 k && true else (is_own e.by.part && (is_take e.event.act && true))) (own_turns e.by.part part)
-    ∙ both (is_own e.by.part) (is_take e.event.act && true) part (both (is_take e.event.act) true is refl)
+    ∙ and_from (is_own e.by.part) (is_take e.event.act && true) part (and_from (is_take e.event.act) true is refl)
 
 -- what a check asks
 asks_it : (a : Act) (came : Came) (own : Record) → has_check a ≡ true → own.event.act ≡ a → own.outcome ≡ came.outcome → round_in own.packets ≡ came.round
@@ -321,7 +302,7 @@ take_answers turns a ts e take all part is =
     ∙ sym (ap (λ (b : Bool). if b then own_answer a e.outcome else end_answer a e.outcome) take)
     in
     let ends : list_any is_end recs ≡ true = any_last ts e (or_true (is_check e.by.part) (is_own e.by.part && is_take e.event.act)
-    (both (is_own e.by.part) (is_take e.event.act) part (ap is_take is))) in
+    (and_from (is_own e.by.part) (is_take e.event.act) part (ap is_take is))) in
     let counted : count_by (λ r. is_turn_part r.by.part) recs ≡ length ts = with_end ts e all (own_turns e.by.part part) in
     let lates : late turns (request_by (own_of recs)) recs ≡ late_after None (late turns None ts) e.outcome =
     ap (λ (o : Option Record). late turns (request_by o) recs) own ∙ ap (λ (x : Act). late turns (request_of x e.outcome) recs) is ∙ late_more turns None ts e
@@ -523,13 +504,12 @@ plain_told a o = by_take (is_take a)
     by_take false = plain_end a o
 
 plain_put_off : (request : Option ℕ) (o : Outcome) → all_plain (put_off_in request o) ≡ true
-plain_put_off None o = refl
 plain_put_off (Some req) (said.PutOff its base top) = by_same (its == req)
   where
     by_same : (b : Bool) → all_plain (if b then Some (answer.PutOff req base top) else None) ≡ true
     by_same true = refl
     by_same false = refl
-plain_put_off (Some req) _ = refl
+plain_put_off _ _ = refl
 
 plain_or : (o : Option Answer) (a : Answer) → all_plain o ≡ true → is_plain a ≡ true → is_plain (unwrap_or o a) ≡ true
 plain_or None a p q = q

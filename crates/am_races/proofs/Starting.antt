@@ -1,23 +1,7 @@
 -- A box of a node to which nothing has happened.
-use Rattle.std.proofs.Common.{◌≡◌, ℕ, ◌<◌, List, [], ◌∷◌, ◌++◌, length, Bool, true, false, None, if◌then◌else◌}
-use Rattle.std.proofs.Common.{sym, refl, ap, subst, arith, length-append}
-use Rattle.std.proofs.lemmas.Option.{none-some}
-use Rattle.atomic_table.specs.Seated.{TableId}
-use Rattle.am_base.specs.Founding.{Rules}
-use Rattle.am_base.specs.Names.{has}
-use Rattle.am_state.specs.Cores.{IsInOrder}
-use Rattle.am_group.specs.declared.event.Record.{Record}
-use Rattle.am_group.specs.declared.plan.RacePlan.{RacePlan}
-use Rattle.am_model.specs.Node.{Node, founder, stranger}
-use Rattle.am_play.specs.World.{first_node}
-use Rattle.am_model.specs.Ends.{IsEndOf}
-use Rattle.am_model.proofs.Steps.{own_end}
-use Rattle.am_wire.specs.declared.rule.Key.TheVariants.{Place}
-use Rattle.am_wire.specs.Passes.{Known, fresh}
-use Rattle.am_wire.specs.Seats.{Follows}
-use Rattle.am_races.specs.Told.{world_after}
-use Rattle.am_races.specs.Lawful.{IsLawful, terms_of}
-use Rattle.am_races.specs.Boxes.{Keeps, IsBox}
+use Rattle.am_races.proofs.Words.{◌≡◌, ℕ, ◌<◌, List, [], ◌∷◌, ◌++◌, length, Bool, true, false, None, if◌then◌else◌, sym, refl, ap, subst, arith}
+use Rattle.am_races.proofs.Words.{length-append, none-some, TableId, Rules, has, IsInOrder, Record, RacePlan, Node, founder, stranger, first_node, IsEndOf}
+use Rattle.am_races.proofs.Words.{own_end, Place, Known, fresh, Follows, world_after, IsLawful, terms_of, Keeps, IsBox}
 
 -- a node that nothing has happened to is its own end
 record Begins (n : Node) : Type 0 where

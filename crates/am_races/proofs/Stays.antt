@@ -1,33 +1,14 @@
 -- A turn stays one, whatever records of other places and callers come between.
-use Rattle.std.proofs.Common.{◌≡◌, ℕ, zero, suc, ◌+◌, List, [], ◌∷◌, ◌++◌, drop, Bool, true, false, true≢false, Option, Some, None}
-use Rattle.std.proofs.Common.{sym, refl, ap, ◌∙◌, subst, arith, append_assoc, append-nil}
-use Rattle.std.specs.Prelude.{if◌then◌else◌, not, ◌&&◌, ◌||◌, All, map, count_by, nat_lt, is_none}
-use Rattle.std.proofs.lemmas.Bool.{eqb-true}
-use Rattle.std.proofs.lemmas.List.Folds.{list_any-append}
-use Rattle.std.proofs.lemmas.List.Concat.{flat_map-append}
-use Rattle.am_base.specs.Names.{place_of, name_at}
-use Rattle.am_packet.specs.Boxes.{Letter}
-use Rattle.am_group.specs.declared.event.Act.{Act}
+use Rattle.am_races.proofs.Words.{◌≡◌, ℕ, zero, suc, ◌+◌, List, [], ◌∷◌, ◌++◌, drop, Bool, true, false, true≢false, Option, Some, None, sym, refl, ap, ◌∙◌}
+use Rattle.am_races.proofs.Words.{subst, arith, append_assoc, append-nil, if◌then◌else◌, not, ◌&&◌, All, map, count_by, nat_lt, is_none, eqb-true}
+use Rattle.am_races.proofs.Words.{list_any-append, place_of, name_at, Letter, Act, By, Event, Record, RacePlan, is_for, first_for, next_for}
+use Rattle.am_races.proofs.Words.{letters_of, heard_by, Node, World, current, has_stopped, world_after, of_place, of_caller, of_call, own_of, is_turn_part}
+use Rattle.am_races.proofs.Words.{up_to_last, is_ready, cursor, last_heard, words_drawn, unless_nought, choice_after, follows, is_waited, is_choice}
+use Rattle.am_races.proofs.Words.{is_turn_of, turns_at, is_turn, lost_by, is_due, may_end, greatest, passed_number, IsApart, IsLeft}
+use Rattle.am_races.proofs.{Apart.others_are_apart, Others.others_stay}
 use Rattle.am_group.specs.declared.event.Act.TheVariants as act
-use Rattle.am_group.specs.declared.event.By.{By}
-use Rattle.am_group.specs.declared.event.Event.{Event}
-use Rattle.am_group.specs.declared.event.Record.{Record}
-use Rattle.am_group.specs.declared.plan.RacePlan.{RacePlan}
-use Rattle.am_group.specs.Addressed.{is_for, first_for, next_for}
-use Rattle.am_group.specs.Journals.{letters_of}
-use Rattle.am_play.specs.Claims.{heard_by}
-use Rattle.am_model.specs.Node.{Node}
-use Rattle.am_play.specs.World.{World, current}
-use Rattle.am_wire.specs.Stops.{has_stopped}
-use Rattle.am_races.specs.Told.{world_after}
-use Rattle.am_races.specs.Tags.{of_place, of_caller, of_call, own_of, is_turn_part, up_to_last}
-use Rattle.am_races.specs.Ready.{is_ready}
-use Rattle.am_races.specs.Turns.{cursor, last_heard, words_drawn, unless_nought, choice_after, follows, is_waited, is_choice, is_turn_of, turns_at, is_turn}
-use Rattle.am_races.specs.Turns.{lost_by, is_due, may_end}
-use Rattle.am_races.specs.Turns.{greatest, passed_number}
-use Rattle.am_races.specs.Laws.{IsApart, IsLeft}
-use Rattle.am_races.proofs.Apart.{others_are_apart}
-use Rattle.am_races.proofs.Others.{others_stay}
+use Rattle.std.proofs.lemmas.Bool.{and_parts, and_from, or_left}
+use Rattle.am_group.proofs.Places.{letters_more}
 
 -- ---- letters
 
@@ -61,9 +42,6 @@ next_stays letters more name after n e =
     let d = dropped letters more after in
     ap (λ (ls : List Letter). first_for ls (after + 1) name) d.1 ∙ first_stays (drop after letters) d.0 (after + 1) name n e
 
-letters_stay : (before : List Record) (r : Record) → letters_of (before ++ r ∷ []) ≡ letters_of before ++ r.packets
-letters_stay before r = flat_map-append (λ (q : Record). q.packets) before (r ∷ []) ∙ ap (λ (ls : List Letter). letters_of before ++ ls) (append-nil r.packets)
-
 -- ---- choices
 
 -- whatever is heard or lost
@@ -79,38 +57,16 @@ choice_stays plan caller count (Some n) later last does lost keeps is follow =
     subst (λ (o : Option ℕ). follows (choice_after plan caller count o last) does lost ≡ true) (sym (keeps n refl)) follow
 choice_stays plan caller count None later last (act.Hear number) lost keeps is follow = absurd (true≢false (sym follow))
 choice_stays plan caller count None later last act.Tick (suc lost) keeps is follow = let z = eqb-true (suc lost) 0 follow in absurd (omega arith)
-choice_stays plan caller count None later last act.Tick zero keeps is follow = absurd (true≢false (sym is))
-choice_stays plan caller count None later last (act.Send body) lost keeps is follow = absurd (true≢false (sym is))
-choice_stays plan caller count None later last (act.Done req) lost keeps is follow = absurd (true≢false (sym is))
-choice_stays plan caller count None later last act.Take lost keeps is follow = absurd (true≢false (sym is))
-choice_stays plan caller count None later last act.Join lost keeps is follow = absurd (true≢false (sym is))
-choice_stays plan caller count None later last act.State lost keeps is follow = absurd (true≢false (sym is))
-choice_stays plan caller count None later last act.Leave lost keeps is follow = absurd (true≢false (sym is))
-choice_stays plan caller count None later last (act.Reset least resilience) lost keeps is follow = absurd (true≢false (sym is))
-choice_stays plan caller count None later last (act.Ask round) lost keeps is follow = absurd (true≢false (sym is))
-choice_stays plan caller count None later last (act.GiveUp name) lost keeps is follow = absurd (true≢false (sym is))
-choice_stays plan caller count None later last act.Stop lost keeps is follow = absurd (true≢false (sym is))
-choice_stays plan caller count None later last (act.Cut packet keep) lost keeps is follow = absurd (true≢false (sym is))
-choice_stays plan caller count None later last act.Return lost keeps is follow = absurd (true≢false (sym is))
+choice_stays plan caller count None later last _ _ keeps is follow = absurd (true≢false (sym is))
 
 -- ---- one record more
-
-and_true : (a b : Bool) → (a && b) ≡ true → (a ≡ true) × (b ≡ true)
-and_true true b e = (refl, e)
-and_true false b e = absurd (true≢false (sym e))
-
-both_true : (a b : Bool) → a ≡ true → b ≡ true → (a && b) ≡ true
-both_true a b p q = ap (λ (x : Bool). x && b) p ∙ q
-
-or_left : (a b : Bool) → a ≡ true → (a || b) ≡ true
-or_left a b p = ap (λ (x : Bool). x || b) p
 
 stopped_stays : (before : List Record) (r : Record) (name : ℕ) → has_stopped before name ≡ true → has_stopped (before ++ r ∷ []) name ≡ true
 stopped_stays before r name is =
     list_any-append _ before (r ∷ []) ∙ or_left (has_stopped before name) (has_stopped (r ∷ []) name) is
 
 waited_stays : (m : Node) (before : List Record) (r : Record) (name : ℕ) → is_waited m before name ≡ true → is_waited m (before ++ r ∷ []) name ≡ true
-waited_stays m before r name is = let a = and_true _ _ is in both_true _ _ a.0 (stopped_stays before r name a.1)
+waited_stays m before r name is = let a = and_parts _ _ is in and_from _ _ a.0 (stopped_stays before r name a.1)
 
 turn_of_stays : (plan : RacePlan) (before knew : List Record) (r : Record) (m : Node) (name caller : ℕ) (does : Act) (lost : ℕ)
     → of_place (place_of name) (before ++ r ∷ []) ≡ of_place (place_of name) before → of_caller caller (before ++ r ∷ []) ≡ of_caller caller before
@@ -133,7 +89,7 @@ turn_of_stays plan before knew r m name caller does lost place its is = by_act d
         let ahead : Option ℕ = next_for (letters_of before) name (cursor (place_of name) before) in
         let later : Option ℕ = next_for (letters_of more) name (cursor (place_of name) before) in
         let go = choice_stays plan caller (words_drawn caller before) ahead later (last_heard (place_of name) before) a l
-        (λ n e. ap (λ (ls : List Letter). next_for ls name (cursor (place_of name) before)) (letters_stay before r)
+        (λ n e. ap (λ (ls : List Letter). next_for ls name (cursor (place_of name) before)) (letters_more before r)
         ∙ next_stays (letters_of before) r.packets name (cursor (place_of name) before) n e)
         heard choice in
         subst (λ (t : ℕ × ℕ × Option ℕ). follows (choice_after plan caller t.0 (next_for (letters_of more) name t.1) t.2) a l ≡ true)
@@ -141,12 +97,12 @@ turn_of_stays plan before knew r m name caller does lost place its is = by_act d
 
     by_act : (a : Act) (l : ℕ) → is_turn_of plan before knew m name caller a l ≡ true → is_turn_of plan more knew m name caller a l ≡ true
     by_act (act.GiveUp other) l e =
-        let a = and_true _ _ e in
-        let b = and_true _ _ a.1 in
-        both_true _ _ a.0 (both_true _ _ (waited_stays m before r other b.0) b.1)
-    by_act act.Tick zero e = let a = and_true _ _ e in both_true _ _ a.0 (ap (λ (k : ℕ). is_none (next_for (letters_of knew) name k)) same_cursor ∙ a.1)
-    by_act act.Tick (suc k) e = let a = and_true _ _ e in both_true _ _ a.0 (picks act.Tick (suc k) refl a.1)
-    by_act (act.Hear number) l e = let a = and_true _ _ e in both_true _ _ a.0 (picks (act.Hear number) l refl a.1)
+        let a = and_parts _ _ e in
+        let b = and_parts _ _ a.1 in
+        and_from _ _ a.0 (and_from _ _ (waited_stays m before r other b.0) b.1)
+    by_act act.Tick zero e = let a = and_parts _ _ e in and_from _ _ a.0 (ap (λ (k : ℕ). is_none (next_for (letters_of knew) name k)) same_cursor ∙ a.1)
+    by_act act.Tick (suc k) e = let a = and_parts _ _ e in and_from _ _ a.0 (picks act.Tick (suc k) refl a.1)
+    by_act (act.Hear number) l e = let a = and_parts _ _ e in and_from _ _ a.0 (picks (act.Hear number) l refl a.1)
     by_act _ l e = absurd (true≢false (sym e))
 
 pub same_place : (n : ℕ) → place_of (place_of n) ≡ place_of n
@@ -193,7 +149,7 @@ module _ (plan : RacePlan) (before : List Record) (r : Record) (e : Event) (by :
       ∙ ap (λ (k : ℕ). of_place k before) (sym its) in
       let knew : up_to_last (place_of name) by.caller more ≡ up_to_last (place_of name) by.caller before = ap (λ (k : ℕ). up_to_last k by.caller more) its
       ∙ left.known ∙ ap (λ (k : ℕ). up_to_last k by.caller before) (sym its) in
-      let both = and_true _ _ is in
+      let both = and_parts _ _ is in
       let ready : not (is_ready (new.nodes name) (own_of (of_call by.caller by.call more))) ≡ true =
       subst (λ (m : Node). not (is_ready m (own_of (of_call by.caller by.call more))) ≡ true) (sym node)
       (subst (λ (rs : List Record). not (is_ready (old.nodes name) (own_of rs)) ≡ true) (sym left.call) both.0)
@@ -204,7 +160,7 @@ module _ (plan : RacePlan) (before : List Record) (r : Record) (e : Event) (by :
       (turn_of_stays plan before (up_to_last (place_of name) by.caller before) r (old.nodes name) name by.caller e.act (lost_by by.part) its_place left.caller
       both.1))
       in
-      subst (λ (k : ℕ). turns_at plan more new k e by ≡ true) (sym here) (both_true _ _ ready turn)
+      subst (λ (k : ℕ). turns_at plan more new k e by ≡ true) (sym here) (and_from _ _ ready turn)
 
   -- an end stays one, too
   end_stays : may_end plan before e by ≡ true → may_end plan more e by ≡ true

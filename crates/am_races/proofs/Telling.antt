@@ -1,37 +1,17 @@
 -- Where a call is ready, its end tells its answer.
-use Rattle.std.proofs.Common.{◌≡◌, ℕ, ◌+◌, ◌-◌, ◌<◌, ◌==◌, Bool, true, false, true≢false, List, [], ◌∷◌, length, get_or, Option}
-use Rattle.std.proofs.Common.{Some, None, is_some, nat_lt, refl, sym, ap, ◌∙◌, subst, arith}
-use Rattle.std.specs.Prelude.{if◌then◌else◌}
-use Rattle.std.proofs.lemmas.Bool.{ltb-true, ne_eqb}
-use Rattle.std.proofs.lemmas.Option.{slice_get-get_or}
-use Rattle.am_base.specs.declared.entry.Entry.{Entry}
-use Rattle.am_base.specs.declared.outcome.Outcome.{Outcome}
-use Rattle.am_base.specs.declared.outcome.Outcome.TheVariants as said
-use Rattle.am_base.specs.declared.event.NodeEvent.{NodeEvent}
-use Rattle.am_base.specs.declared.event.NodeEvent.TheVariants as does
-use Rattle.am_base.specs.Lists.{entry_at}
-use Rattle.am_state.specs.Cores.{IsInOrder}
-use Rattle.am_state.proofs.Ends.{end-entry}
-use Rattle.am_laws.proofs.Ballots.{entry_is}
-use Rattle.am_state.specs.Sends.{Sends, collected_of, outcome_of, collect_outcome, is_settled}
-use Rattle.am_group.specs.declared.event.Act.{Act}
-use Rattle.am_group.specs.declared.event.Act.TheVariants as act
-use Rattle.am_model.specs.declared.status.Status.{Status}
-use Rattle.am_model.specs.declared.status.Status.TheVariants as status
-use Rattle.am_model.specs.Node.{Node, Ballot, is_member, has_log, has_departed}
-use Rattle.am_model.specs.Emit.{quiet, finish}
-use Rattle.am_model.specs.Refresh.{refresh_at_end}
+use Rattle.am_races.proofs.Words.{◌≡◌, ℕ, ◌+◌, ◌-◌, ◌<◌, ◌==◌, Bool, true, false, true≢false, List, [], ◌∷◌, length, get_or, Option, Some, None, is_some}
+use Rattle.am_races.proofs.Words.{nat_lt, refl, sym, ap, ◌∙◌, subst, arith, if◌then◌else◌, ltb-true, ne_eqb, slice_get-get_or, Entry, Outcome, NodeEvent}
+use Rattle.am_races.proofs.Words.{entry_at, IsInOrder, end-entry, entry_is, Sends, collected_of, outcome_of, collect_outcome, is_settled, Act, Status, Node}
+use Rattle.am_races.proofs.Words.{Ballot, is_member, has_log, has_departed, quiet, finish, refresh_at_end, row, step, IsEndOf, and_both, ballot_end, end_of}
+use Rattle.am_races.proofs.Words.{Going, Came, own_answer, end_answer, ballot_answer, request_in, is_take, is_sent, is_ended, is_ready_after, may_take}
+use Rattle.am_races.proofs.Words.{told_at_end, EndTells}
 use Rattle.am_model.specs.Calls.{done_row, take_row, give_out, state_by, state_row, ask_of, ask_row}
-use Rattle.am_model.specs.Step.{row, step}
-use Rattle.am_model.specs.Ends.{IsEndOf}
-use Rattle.am_base.proofs.Greatest.{and_both}
-use Rattle.am_model.specs.Info.{ballot_end, end_of}
-use Rattle.am_model.specs.declared.info.BallotEnd.TheVariants.{Going, Ended}
-use Rattle.am_races.specs.declared.call.Came.{Came}
-use Rattle.am_races.specs.Answers.{own_answer, end_answer, ballot_answer, request_in, is_take}
-use Rattle.am_races.specs.Ready.{is_sent, is_ended, is_ready_after, may_take}
-use Rattle.am_races.specs.Going.{told_at_end, EndTells}
+use Rattle.am_model.specs.{declared.info.BallotEnd.TheVariants.Ended}
 use Rattle.am_races.proofs.Requests.{Once, settled_send}
+use Rattle.am_base.specs.declared.outcome.Outcome.TheVariants as said
+use Rattle.am_base.specs.declared.event.NodeEvent.TheVariants as does
+use Rattle.am_group.specs.declared.event.Act.TheVariants as act
+use Rattle.am_model.specs.declared.status.Status.TheVariants as status
 
 -- what a step answers, where its row answers one thing
 answered : (all : Node) (what : NodeEvent) (o : Outcome) → ((n : Node) → (row all what).outcome n ≡ o) → (step all what).outcome ≡ o
@@ -132,17 +112,14 @@ if_left all n false = refl
 
 join_by_status : (all n : Node) (s : Status) → has_log s ≡ true → is_some (told_at_end act.Join ((state_by all s).outcome n)) ≡ true
 unfolding end_answer
-join_by_status all n status.Stranger e = absurd (true≢false (sym e))
-join_by_status all n status.Asking e = absurd (true≢false (sym e))
 join_by_status all n status.Member e = if_left all n all.leaving
 join_by_status all n status.Departed e = refl
+join_by_status all n _ e = absurd (true≢false (sym e))
 
 leave_by_status : (all n : Node) (s : Status) → has_departed s ≡ true → is_some (told_at_end act.Leave ((state_by all s).outcome n)) ≡ true
 unfolding end_answer
-leave_by_status all n status.Stranger e = absurd (true≢false (sym e))
-leave_by_status all n status.Asking e = absurd (true≢false (sym e))
-leave_by_status all n status.Member e = absurd (true≢false (sym e))
 leave_by_status all n status.Departed e = refl
+leave_by_status all n _ e = absurd (true≢false (sym e))
 
 -- what the step at a State answers
 state_step : (all : Node) → (step all does.State).outcome ≡ (state_by all all.status).outcome (refresh_at_end (row all does.State).node)

@@ -1,46 +1,17 @@
 -- What a turn finds: who is waited for in vain, and the letters for a name.
-use Rattle.std.proofs.Common.{◌≡◌, ◌≢◌, ◌⊎◌, inl, inr, ℕ, zero, suc, ◌+◌, ◌<◌, max, List, [], ◌∷◌, ◌++◌, length, drop, Bool, true}
-use Rattle.std.proofs.Common.{false, true≢false, Option, Some, None, cond, sym, refl, ap, ◌∙◌, subst, arith, append-nil, map}
-use Rattle.atomic_table.specs.Seated.{TableId}
-use Rattle.am_wire.specs.Passes.{Known}
-use Rattle.am_wire.specs.declared.wire.WireRefusal.{WireRefusal}
-use Rattle.std.specs.Prelude.{IfSome, IfNone, if◌then◌else◌, not, ◌==◌, ◌&&◌, ◌||◌, slice_index, slice_get}
-use Rattle.std.specs.List.{list_any}
-use Rattle.std.proofs.lemmas.Bool.{eqb-true, ltb-true}
-use Rattle.std.proofs.lemmas.Option.{none-some, same_Some}
-use Rattle.std.proofs.lemmas.List.Concat.{flat_map-append}
-use Rattle.am_base.specs.Names.{place_of, life_of, name_at, name_lt, rank_of, has, names_of, names_from}
-use Rattle.am_packet.specs.Boxes.{Letter}
-use Rattle.am_group.specs.declared.event.Act.{Act}
+use Rattle.am_races.proofs.Words.{◌≡◌, ◌≢◌, ◌⊎◌, inl, inr, ℕ, zero, suc, ◌+◌, ◌<◌, max, List, [], ◌∷◌, ◌++◌, length, drop, Bool, true, false, true≢false}
+use Rattle.am_races.proofs.Words.{Option, Some, None, cond, sym, refl, ap, ◌∙◌, subst, arith, append-nil, map, TableId, Known, WireRefusal, IfSome, IfNone}
+use Rattle.am_races.proofs.Words.{if◌then◌else◌, not, ◌==◌, ◌&&◌, ◌||◌, slice_index, slice_get, list_any, eqb-true, ltb-true, none-some, same_Some}
+use Rattle.am_races.proofs.Words.{flat_map-append, place_of, life_of, name_at, name_lt, rank_of, has, names_of, names_from, Letter, Act, Record, RacePlan}
+use Rattle.am_races.proofs.Words.{is_for, first_for, next_for, name_of, letters_of, letter_at, slice_get-drop, heard_by, IsEndOf, Node, waited_for, Terms}
+use Rattle.am_races.proofs.Words.{Follows, StartsWith, GoesOn, stopped_names, has_stopped, of_place, is_waited, is_least, waits_in_vain, greatest}
+use Rattle.am_races.proofs.Words.{last_heard, unless_nought, or_nought, IsLawful, IsSent, is_of_race, terms_of, InBoth, IsLeastOf, IsBox, Boxed, Looks}
+use Rattle.am_races.proofs.Words.{GivesUp, Hears, heard_in, node_by, Choice, Luck, again, choice_of, Place, IsPacket, rest_of, goes_through, filter-append}
+use Rattle.am_races.proofs.{Knows.each_keeps, Boxing.place_last, Names.are_stopped, Nexts.item_more}
 use Rattle.am_group.specs.declared.event.Act.TheVariants as act
-use Rattle.am_group.specs.declared.event.Record.{Record}
-use Rattle.am_group.specs.declared.plan.RacePlan.{RacePlan}
-use Rattle.am_group.specs.Addressed.{is_for, first_for, next_for}
-use Rattle.am_group.specs.Deliveries.{name_of}
-use Rattle.am_group.specs.Journals.{letters_of, letter_at}
-use Rattle.am_state.proofs.Folds.{slice_get-drop}
-use Rattle.am_play.specs.Claims.{heard_by}
-use Rattle.am_model.specs.Ends.{IsEndOf}
-use Rattle.am_model.specs.Node.{Node}
-use Rattle.am_model.specs.Info.{waited_for}
-use Rattle.am_wire.specs.declared.rule.Terms.{Terms}
-use Rattle.am_wire.specs.Seats.{Follows, StartsWith, GoesOn}
-use Rattle.am_wire.specs.Stops.{stopped_names, has_stopped}
-use Rattle.am_races.specs.Tags.{of_place}
-use Rattle.am_races.specs.Turns.{is_waited, is_least, waits_in_vain, greatest, last_heard, unless_nought, or_nought}
-use Rattle.am_races.specs.Lawful.{IsLawful, IsSent, is_of_race, terms_of}
-use Rattle.am_races.specs.Boxes.{InBoth, IsLeastOf, IsBox, Boxed, Looks, GivesUp, Hears, heard_in, node_by}
-use Rattle.am_chooser.specs.declared.chooser.Choice.{Choice}
 use Rattle.am_chooser.specs.declared.chooser.Choice.TheVariants as choice
-use Rattle.am_chooser.specs.Choices.{Luck, again, choice_of}
-use Rattle.am_wire.specs.declared.rule.Key.TheVariants.{Place}
-use Rattle.am_packet.specs.Limits.{IsPacket}
-use Rattle.am_wire.proofs.Views.{rest_of, goes_through}
-use Rattle.std.proofs.lemmas.List.Elements.{filter-append}
-use Rattle.am_races.proofs.Knows.{each_keeps}
-use Rattle.am_races.proofs.Boxing.{place_last}
-use Rattle.am_races.proofs.Names.{are_stopped}
-use Rattle.am_races.proofs.Nexts.{item_more}
+use Rattle.std.proofs.lemmas.Bool.{and_parts, and_from, false_from_ne_true}
+use Rattle.std.proofs.lemmas.Option.{IfSome_then}
 
 -- ---- names of a set
 
@@ -64,17 +35,6 @@ none_of_names : (set : List ℕ) (test : ℕ → Bool) → ((k : ℕ) → k < le
 none_of_names set test none =
     any_from set 0 test (λ k h some. ap (λ (p : ℕ). test (name_at p (slice_index set k))) (let e : 0 + k ≡ k = omega arith in e) ∙ none k h some)
 
-bool_no : (b : Bool) → (b ≡ true → ⊥) → b ≡ false
-bool_no true f = absurd (f refl)
-bool_no false f = refl
-
-two : (a b : Bool) → (a && b) ≡ true → (a ≡ true) × (b ≡ true)
-two true b e = (refl, e)
-two false b e = absurd (true≢false (sym e))
-
-both : (a b : Bool) → a ≡ true → b ≡ true → (a && b) ≡ true
-both a b p q = ap (λ (x : Bool). x && b) p ∙ q
-
 -- a name of both sets is of a place of both
 in_both : (waited stopped : List ℕ) (k : ℕ) → k < 16 → 0 < slice_index waited k → has stopped (name_at k (slice_index waited k)) ≡ true
     → InBoth waited stopped k
@@ -91,18 +51,18 @@ pub nobody_waits : (m : Node) (seen : List Record) (waited stopped : List ℕ) �
 nobody_waits m seen waited stopped is many known none =
     ap (λ (w : List ℕ). list_any (λ name. has w name && has_stopped seen name) (names_of w)) (sym is)
     ∙ none_of_names waited (λ name. has waited name && has_stopped seen name) (λ k h some.
-    bool_no (has waited (name_at k (slice_index waited k)) && has_stopped seen (name_at k (slice_index waited k)))
-    (λ e. none k (omega arith) (in_both waited stopped k (omega arith) some (known (name_at k (slice_index waited k)) ∙ (two _ _ e).1))))
+    false_from_ne_true (has waited (name_at k (slice_index waited k)) && has_stopped seen (name_at k (slice_index waited k)))
+    (λ e. none k (omega arith) (in_both waited stopped k (omega arith) some (known (name_at k (slice_index waited k)) ∙ (and_parts _ _ e).1))))
 
 pub least_waits : (m : Node) (seen : List Record) (waited stopped : List ℕ) (name : ℕ) → waited ≡ waited_for m.ballot → length waited ≡ 16
     → ((k : ℕ) → has stopped k ≡ has_stopped seen k)
     → IsLeastOf waited stopped name → (is_waited m seen name ≡ true) × (is_least m seen name ≡ true)
 least_waits m seen waited stopped name is many known least = (
-  both _ _ (ap (λ (w : List ℕ). has w name) (sym is) ∙ least.first) (sym (known name) ∙ least.second),
+  and_from _ _ (ap (λ (w : List ℕ). has w name) (sym is) ∙ least.first) (sym (known name) ∙ least.second),
   ap not (ap (λ (w : List ℕ). list_any (λ other. name_lt other name && (has w other && has_stopped seen other)) (names_of w)) (sym is)
       ∙ none_of_names waited (λ other. name_lt other name && (has waited other && has_stopped seen other)) (λ k h some.
-      bool_no _ (λ e.
-      let a = two _ _ e in
+      false_from_ne_true _ (λ e.
+      let a = and_parts _ _ e in
       let lower = ltb-true (rank_of (name_at k (slice_index waited k))) (rank_of name) a.0 in
       let here = eqb-true (slice_index waited (place_of name)) (life_of name) least.first in
       let low : k < 16 = omega arith in
@@ -110,7 +70,7 @@ least_waits m seen waited stopped name is many known least = (
       let same : slice_index waited k ≡ life_of name = ap (slice_index waited) s ∙ here in
       omega arith in
       least.below k (below_it k (slice_index waited k) name least.low low some lower apart)
-      (in_both waited stopped k low some (known (name_at k (slice_index waited k)) ∙ (two _ _ a.1).1))))),
+      (in_both waited stopped k low some (known (name_at k (slice_index waited k)) ∙ (and_parts _ _ a.1).1))))),
 )
   where
     below_it : (k life other : ℕ) → other < 256 → k < 16 → 0 < life → rank_of (name_at k life) < rank_of other → k ≢ place_of other → k < place_of other
@@ -154,10 +114,6 @@ sent_more before more name number s = record {
 
 -- ---- as a box finds them
 
-if_some : {A : Type 0} {P Q : A → Type 0} (o : Option A) → ((x : A) → P x → Q x) → IfSome o P → IfSome o Q
-if_some None f h = tt
-if_some (Some x) f h = f x h
-
 if_none : {A : Type 0} {P Q : Type 0} (o : Option A) → (P → Q) → IfNone o P → IfNone o Q
 if_none None f h = f h
 if_none (Some x) f h = tt
@@ -185,7 +141,7 @@ module _ (wire : TableId) (plan : RacePlan) (name : ℕ) (pass : Known) (m : Nod
   pub found_by : (found : Option ℕ) → gone ≡ stopped_names pass.seen → length waited ≡ 16 → IfSome found (λ other. IsLeastOf waited gone other)
       → IfNone found ((place : ℕ) → place < 16 → InBoth waited gone place → ⊥)
       → IfSome found (GivesUp plan pass.seen name) × IfNone found (waits_in_vain (node_by plan pass.seen name) pass.seen ≡ false)
-  found_by found known many some none = (if_some found (gives_up_by known many) some, if_none found (nobody_by known many) none)
+  found_by found known many some none = (IfSome_then found some (gives_up_by known many), if_none found (nobody_by known many) none)
 
 -- ---- what was heard last
 
@@ -299,9 +255,8 @@ hears_it seen name number found l is s got packet =
 either_heard : (b c : Bool) (n number : ℕ) (last : Option ℕ) → heard_in (if b then choice.Lose n else if c then again n last else choice.Hear n) ≡ Some number
     → (Some n ≡ Some number) ⊎ (last ≡ Some number)
 either_heard true c n number last e = absurd (none-some number e)
-either_heard false true n number None e = inl e
 either_heard false true n number (Some l) e = inr e
-either_heard false false n number last e = inl e
+either_heard false _ n number _ e = inl e
 
 pub choice_sent : (terms : Terms) (seen : List Record) (name far : ℕ) (luck : Luck) (ahead last : Option ℕ) → name < 16 → Follows (IsLawful terms) seen
     → ahead ≡ next_for (letters_of seen) name far → last ≡ last_heard name seen → (said : Choice) → said ≡ choice_of luck ahead last → (number : ℕ)

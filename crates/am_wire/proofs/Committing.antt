@@ -1,21 +1,9 @@
 -- What a commit leaves.
-use Rattle.std.proofs.Common.{◌≡◌, ℕ, ◌+◌, ◌<◌, Bool, true, false, List, [], ◌∷◌, ◌++◌, length, take, drop, Result, Ok, Err, IfOk, OnOk, OnErr, sym, refl}
-use Rattle.std.proofs.Common.{ap, ◌∙◌, subst, arith, eq-eqb}
-use Rattle.std.specs.Prelude.{if◌then◌else◌}
-use Rattle.am_base.specs.Most.{most_events}
-use Rattle.atomic_table.specs.Seated.{TableId}
-use Rattle.am_group.specs.declared.event.Record.{Record}
-use Rattle.am_wire.specs.declared.rule.Key.{Key}
-use Rattle.am_wire.specs.declared.rule.Key.TheVariants.{Place, Caller}
-use Rattle.am_wire.specs.declared.rule.Terms.{Terms}
-use Rattle.am_wire.specs.declared.rule.View.{View}
-use Rattle.am_wire.specs.declared.wire.WireRefusal.{WireRefusal}
-use Rattle.am_wire.specs.Keys.{same_key, times}
-use Rattle.am_wire.specs.Seats.{Sat, view, GoesOn, Follows, IsIdle, HasTurn, Takes, Unites, Parts, Adds}
-use Rattle.am_wire.specs.Passes.{Known, known_by, Sees, Committed}
-use Rattle.am_wire.proofs.Views.{times_append, times_cons, goes_through}
-use Rattle.am_wire.proofs.Keeps.{follows_more}
-use Rattle.am_wire.proofs.Passing.{Sits, goes_at, first_key, sees_by}
+use Rattle.am_wire.proofs.Words.{◌≡◌, ℕ, ◌+◌, ◌<◌, Bool, true, false, List, [], ◌∷◌, ◌++◌, length, take, drop, Result, Ok, Err, IfOk, OnOk, OnErr, sym, refl}
+use Rattle.am_wire.proofs.Words.{ap, ◌∙◌, subst, arith, eq-eqb, if◌then◌else◌, most_events, TableId, Record, Key, Place, Caller, Terms, View, WireRefusal}
+use Rattle.am_wire.proofs.Words.{same_key, times, Sat, view, GoesOn, Follows, IsIdle, HasTurn, Takes, Unites, Parts, Adds, Known, known_by, Sees, Committed}
+use Rattle.am_wire.proofs.{Views.times_append, Views.times_cons, Views.goes_through, Keeps.follows_more, Passing.Sits, Passing.goes_at, Passing.first_key}
+use Rattle.am_wire.proofs.{Passing.sees_by}
 
 -- a seat of two passes has taken the slot
 pub record Holds (next : Terms → List Record → Record → Type 0) (p q : Known) (t : Sat) : Type 0 where
@@ -54,29 +42,6 @@ holds_by next p q id other s r u t sits its agree one unites takes =
     }
 
 -- ---- what an addition wants
-
-one : Bool → ℕ
-one b = if b then 1 else 0
-
-once_alone : (key : Key) → same_key key key ≡ true → times key (key ∷ []) ≡ 1
-unfolding one
-once_alone key same =
-    let e = times_cons key key [] in
-    let f : one (same_key key key) ≡ one true = ap one same in
-    let z : times key [] ≡ 0 = refl in
-    let g : times key (key ∷ []) ≡ one (same_key key key) + times key [] = e in
-    omega arith
-
-once_among : (key : Key) (keys : List Key) → keys ≡ key ∷ [] → same_key key key ≡ true → times key keys ≡ 1
-once_among key keys is same = ap (times key) is ∙ once_alone key same
-
-pub has_place : (next : Terms → List Record → Record → Type 0) (p q : Known) (t : Sat) (place : ℕ) → Holds next p q t → p.keys ≡ Place place ∷ []
-    → 0 < times (Place place) t.0.keys
-has_place next p q t place holds is = omega (arith, holds.keys (Place place), once_among (Place place) p.keys is (eq-eqb place place refl))
-
-pub has_caller : (next : Terms → List Record → Record → Type 0) (p q : Known) (t : Sat) (caller : ℕ) → Holds next p q t → q.keys ≡ Caller caller ∷ []
-    → 0 < times (Caller caller) t.0.keys
-has_caller next p q t caller holds is = omega (arith, holds.keys (Caller caller), once_among (Caller caller) q.keys is (eq-eqb caller caller refl))
 
 -- by what others had added, the record comes next
 pub next_then : (next : Terms → List Record → Record → Type 0) (p q : Known) (t : Sat) (item : Record) → Holds next p q t

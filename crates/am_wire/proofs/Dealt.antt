@@ -1,21 +1,8 @@
 -- A wire has each of its keys once.
-use Rattle.std.proofs.Common.{◌≡◌, ℕ, zero, suc, ◌+◌, ◌<◌, ◌≤◌, Bool, false, nat_lt, eqb, List, [], ◌∷◌, ◌++◌, length, map, take, drop, sym, refl, ap, ◌∙◌}
-use Rattle.std.proofs.Common.{arith, eq-eqb, ne_eqb, length-append, length-drop}
-use Rattle.std.specs.Prelude.{if◌then◌else◌}
-use Rattle.std.specs.List.{range_with_len}
-use Rattle.std.proofs.lemmas.Bool.{lt-ltb, le-ltb}
-use Rattle.std.proofs.Math.Seq.{take-length}
-use Rattle.std.proofs.lemmas.List.{length-take}
-use Rattle.std.proofs.lemmas.List.FromFn.{length-map-range_with_len}
-use mathlib.Core.Logic.{dite}
-use native.Mathlib.Decide.{ℕ_discrete}
-use Rattle.atomic_table.specs.Seated.{TableId}
-use Rattle.am_wire.specs.declared.rule.Key.{Key}
-use Rattle.am_wire.specs.declared.rule.Key.TheVariants.{Place, Caller}
-use Rattle.am_wire.specs.declared.rule.Terms.{Terms}
-use Rattle.am_wire.specs.Keys.{same_key, times, is_key, place_keys, caller_keys, all_keys}
-use Rattle.am_wire.specs.Seats.{Sat, IsIdle, Parts}
-use Rattle.am_wire.specs.Passes.{Known, fresh}
+use Rattle.am_wire.proofs.Words.{◌≡◌, ℕ, zero, suc, ◌+◌, ◌<◌, ◌≤◌, Bool, false, nat_lt, eqb, List, [], ◌∷◌, ◌++◌, length, map, take, drop, sym, refl, ap}
+use Rattle.am_wire.proofs.Words.{◌∙◌, arith, eq-eqb, ne_eqb, length-append, length-drop, if◌then◌else◌, range_with_len, lt-ltb, le-ltb, take-length}
+use Rattle.am_wire.proofs.Words.{length-take, length-map-range_with_len, dite, ℕ_discrete, TableId, Key, Place, Caller, Terms, same_key, times, is_key}
+use Rattle.am_wire.proofs.Words.{place_keys, caller_keys, all_keys, Sat, IsIdle, Parts, Known, fresh}
 use Rattle.am_wire.proofs.Views.{times_append, times_cons}
 
 abbrev one : Bool → ℕ

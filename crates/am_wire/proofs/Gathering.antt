@@ -1,26 +1,8 @@
 -- Passes are joined one by one.
-use Rattle.std.proofs.Common.{◌≡◌, ℕ, zero, suc, ◌<◌, ◌≤◌, List, [], ◌∷◌, ◌++◌, length, get_or, refl, ap, ◌∙◌, arith, true}
-use Rattle.std.specs.Prelude.{All, sum_by, if◌then◌else◌, map}
-use Rattle.std.proofs.lemmas.List.Sums.{sum_by-append, sum_by-cons}
-use Rattle.std.proofs.lemmas.List.Elements.{All-append}
-use Rattle.atomic_table.specs.Seated.{TableId}
-use Rattle.am_wire.specs.declared.rule.Key.{Key}
-use Rattle.am_wire.specs.declared.rule.Terms.{Terms}
-use Rattle.am_wire.specs.Keys.{times, is_key, all_keys}
-use Rattle.am_wire.specs.Seats.{GoesOn}
-use Rattle.am_wire.specs.Passes.{Known, fresh, Joined, Gathered, HasAll}
-use Rattle.am_wire.proofs.Views.{times_append, times_cons, goes_through, goes_same}
-use Rattle.am_wire.proofs.Dealt.{each_once}
-
-pub gathered_one : (p : Known) → Gathered (p ∷ []) p
-gathered_one p = record {
-  keys = λ key. let e = sum_by-cons (λ (q : Known). times key q.keys) p [] in let z : sum_by (λ (q : Known). times key q.keys) [] ≡ 0 = refl in omega arith;
-  goes = λ k d h. first k d h;
-}
-  where
-    first : (k : ℕ) (d : Known) → k < 1 → GoesOn (get_or (p ∷ []) k d).keys (get_or (p ∷ []) k d).seen p.seen
-    first zero d h = goes_same p.keys p.seen
-    first (suc k) d h = absurd (omega arith)
+use Rattle.am_wire.proofs.Words.{◌≡◌, ℕ, zero, suc, ◌<◌, ◌≤◌, List, [], ◌∷◌, ◌++◌, length, get_or, refl, ap, ◌∙◌, arith, true, All, sum_by, if◌then◌else◌}
+use Rattle.am_wire.proofs.Words.{map, sum_by-append, sum_by-cons, All-append, TableId, Key, Terms, times, is_key, all_keys, GoesOn, Known, fresh, Joined}
+use Rattle.am_wire.proofs.Words.{Gathered, HasAll}
+use Rattle.am_wire.proofs.{Views.times_append, Views.times_cons, Views.goes_through, Views.goes_same, Dealt.each_once}
 
 -- a key of one of several is one of all
 some_of_sum : (made : List Known) (key : Key) (k : ℕ) (d : Known) → k < length made → times key (get_or made k d).keys ≤ sum_by (λ q. times key q.keys) made
@@ -47,33 +29,3 @@ gathered_more made p q p' g j = record {
     second : (k : ℕ) (d : Known) → k < 1 → GoesOn (get_or (q ∷ []) k d).keys (get_or (q ∷ []) k d).seen p'.seen
     second zero d h = j.second
     second (suc k) d h = absurd (omega arith)
-
--- where the passes had each key of a wire, the one has all
-pub gathered_all : (callers : ℕ) (made : List Known) (p : Known) → Gathered made p
-    → ((key : Key) → sum_by (λ q. times key q.keys) made ≡ times key (all_keys callers)) → HasAll callers p.keys
-gathered_all callers made p g each key is =
-    let a = g.keys key in
-    let b = each key in
-    let c = each_once callers key in
-    let one : (if is_key callers key then 1 else 0) ≡ (if true then 1 else 0) = ap (λ b. if b then 1 else 0) is in
-    let d : times key p.keys ≡ (if true then 1 else 0) = a ∙ b ∙ c ∙ one in
-    positive (times key p.keys) d
-  where
-    positive : (n : ℕ) → n ≡ 1 → 0 < n
-    positive n e = omega arith
-
--- passes with one key each have these keys
-pub fresh_times : (key : Key) (wire : TableId) (terms : Terms) (keys : List Key) → sum_by (λ q. times key q.keys) (map (fresh wire terms) keys) ≡ times key keys
-fresh_times key wire terms [] = refl
-fresh_times key wire terms (k ∷ keys) =
-    let a = sum_by-cons (λ (q : Known). times key q.keys) (fresh wire terms k) (map (fresh wire terms) keys) in
-    let b = times_cons key k keys in
-    let c = times_cons key k [] in
-    let z : times key [] ≡ 0 = refl in
-    let r = fresh_times key wire terms keys in
-    omega arith
-
-pub fresh_wires : (wire : TableId) (terms : Terms) (keys : List Key) → All (λ q. q.wire ≡ wire) (map (fresh wire terms) keys)
-fresh_wires wire terms [] k d h = absurd (omega arith)
-fresh_wires wire terms (key ∷ keys) zero d h = refl
-fresh_wires wire terms (key ∷ keys) (suc k) d h = fresh_wires wire terms keys k d (omega arith)

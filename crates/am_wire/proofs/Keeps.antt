@@ -1,27 +1,11 @@
 -- Taking the slot, giving it back and counting a record keep the rule of a wire.
-use Rattle.std.proofs.Common.{◌≡◌, ◌≢◌, ◌⊎◌, ℕ, zero, suc, ◌+◌, ◌%◌, ◌^◌, ◌<◌, ◌≤◌, Bool, cond, true, false, true≢false, eqb, List, [], ◌∷◌, ◌++◌}
-use Rattle.std.proofs.Common.{length, take, drop, set, sym, refl, ap, ◌∙◌, subst, inl, inr, arith, append-nil, append_assoc, length-append, ap₂}
-use Rattle.std.specs.Prelude.{slice_index, All, if◌then◌else◌}
-use Rattle.am_base.specs.Most.{most_events}
-use mathlib.Core.Option.{Option, none, some, some-injective, some-ne-none}
-use lib.ListN.{get_elem?}
-use prog.Atomic.{either}
-use Rattle.std.proofs.lemmas.Bool.{ltb-true, eqb-true}
-use Rattle.std.proofs.Math.Seq.{take-append_seam, drop-append_seam}
-use Rattle.std.proofs.lemmas.List.Elements.{All-append}
-use Rattle.atomic_table.specs.Table.{step, keeps, takes, gives, stepped, Allows, put_back, rest}
-use Rattle.atomic_table.proofs.Lists.{at_set, at_snoc, at_longer, set_again, set_else}
-use Rattle.am_base.specs.Names.{place_of}
-use Rattle.am_group.specs.declared.event.Record.{Record}
-use Rattle.am_wire.specs.declared.rule.Key.{Key}
-use Rattle.am_wire.specs.declared.rule.Key.TheVariants.{Place, Caller}
-use Rattle.am_wire.specs.declared.rule.Sight.{Sight}
-use Rattle.am_wire.specs.declared.rule.Terms.{Terms}
-use Rattle.am_wire.specs.declared.rule.View.{View}
-use Rattle.am_wire.specs.Keys.{is_of, of_key, times, is_key}
-use Rattle.am_wire.specs.Stops.{Page}
-use Rattle.am_wire.specs.Seats.{view, StartsWith, Follows, Shown, Sat, standing, Fits, IsFree, IsTaken, Stands, IsIdle, HasTurn, take_step}
-use Rattle.am_wire.specs.Seats.{page_records, count_step, give_step}
+use Rattle.am_wire.proofs.Words.{◌≡◌, ◌≢◌, ◌⊎◌, ℕ, zero, suc, ◌+◌, ◌%◌, ◌^◌, ◌<◌, ◌≤◌, Bool, cond, true, false, true≢false, eqb, List, [], ◌∷◌, ◌++◌, length}
+use Rattle.am_wire.proofs.Words.{take, drop, set, sym, refl, ap, ◌∙◌, subst, inl, inr, arith, append-nil, append_assoc, length-append, ap₂, slice_index, All}
+use Rattle.am_wire.proofs.Words.{if◌then◌else◌, most_events, Option, none, some, some-injective, some-ne-none, get_elem?, either, ltb-true, eqb-true}
+use Rattle.am_wire.proofs.Words.{take-append_seam, drop-append_seam, All-append, step, keeps, takes, gives, stepped, Allows, put_back, rest, at_set, at_snoc}
+use Rattle.am_wire.proofs.Words.{at_longer, set_again, set_else, place_of, Record, Key, Place, Caller, Sight, Terms, View, is_of, of_key, times, is_key}
+use Rattle.am_wire.proofs.Words.{Page, view, StartsWith, Follows, Shown, Sat, standing, Fits, IsFree, IsTaken, Stands, IsIdle, HasTurn, take_step}
+use Rattle.am_wire.proofs.Words.{page_records, count_step, give_step}
 use Rattle.am_wire.proofs.Views.{rest_of, starts_by, starts_through, key_append, goes_same, stand_set, stand_one, stand_two}
 
 abbrev pub page : Terms → List Record → Page

@@ -1,3 +1,4 @@
+mod Words
 pub mod Looks
 pub mod Views
 pub mod Dealt

@@ -1,16 +1,8 @@
 -- What was looked through for a place needn't be looked through again.
-use Rattle.std.proofs.Common.{◌≡◌, ℕ, ◌<◌, ◌≤◌, List, [], ◌∷◌, ◌++◌, length, None, replicate, slice_index_or, slice_set, sym, ◌∙◌, subst, arith}
-use Rattle.std.specs.List.{All}
-use Rattle.std.proofs.lemmas.List.{length-set, length-replicate}
-use Rattle.std.proofs.lemmas.List.Elements.{All-set, All-weaker, All-replicate}
-use Rattle.am_packet.specs.Boxes.{Letter}
-use Rattle.am_group.specs.declared.event.Record.{Record}
-use Rattle.am_group.specs.Addressed.{next_for, IsSeen}
-use Rattle.am_group.specs.Journals.{letters_of}
-use Rattle.am_group.proofs.Places.{letters_more}
+use Rattle.am_wire.proofs.Words.{◌≡◌, ℕ, ◌<◌, ◌≤◌, List, [], ◌∷◌, ◌++◌, length, None, replicate, slice_index_or, slice_set, sym, ◌∙◌, subst, arith, All}
+use Rattle.am_wire.proofs.Words.{length-set, length-replicate, All-set, All-weaker, All-replicate, Letter, Record, next_for, IsSeen, letters_of}
+use Rattle.am_wire.proofs.Words.{letters_more, Look, IsLook, AreLooks}
 use Rattle.am_group.proofs.Seen.{seen_next, seen_more, seen_to, seen_all}
-use Rattle.am_wire.specs.declared.sheet.Look.{Look}
-use Rattle.am_wire.specs.Looks.{IsLook, AreLooks}
 
 -- before the first letter
 pub first_looks : (letters : List Letter) (look : Look) → look.after ≡ 0 → look.seen ≡ 0 → AreLooks letters (replicate 16 look)

@@ -1,13 +1,7 @@
 -- What a pass tells of its seat.
-use Rattle.std.proofs.Common.{◌≡◌, ◌<◌, ◌≤◌, false, List, [], ◌∷◌, ◌++◌, length, take, drop, sym, refl, ap, ◌∙◌, subst, arith, length-append}
-use Rattle.am_base.specs.Most.{most_events}
-use Rattle.atomic_table.specs.Seated.{TableId}
-use Rattle.am_wire.specs.declared.rule.Terms.{Terms}
-use Rattle.am_wire.specs.declared.rule.View.{View}
-use Rattle.am_group.specs.declared.event.Record.{Record}
-use Rattle.am_wire.specs.declared.rule.Key.{Key}
-use Rattle.am_wire.specs.Seats.{Sat, view, longer, GoesOn, Follows, IsIdle, Takes, Unites, Parts}
-use Rattle.am_wire.specs.Passes.{Known, known_by, Rests, Sees, Joined}
+use Rattle.am_wire.proofs.Words.{◌≡◌, ◌<◌, ◌≤◌, false, List, [], ◌∷◌, ◌++◌, length, take, drop, sym, refl, ap, ◌∙◌, subst, arith, length-append, most_events}
+use Rattle.am_wire.proofs.Words.{TableId, Terms, View, Record, Key, Sat, view, longer, GoesOn, Follows, IsIdle, Takes, Unites, Parts, Known, known_by, Rests}
+use Rattle.am_wire.proofs.Words.{Sees, Joined}
 
 -- the seat of a pass between two calls
 pub record Sits (p : Known) (id : TableId) (m : Sat) : Type 0 where
@@ -54,28 +48,6 @@ pub goes_at : (keys keys' : List Key) (seen seen' log log' : List Record) → ke
 goes_at keys keys' seen seen' log log' k s l g = subst (λ (x : List Record). GoesOn keys' seen' x) l
     (subst (λ (x : List Record). GoesOn keys' x log) s (subst (λ (x : List Key). GoesOn x seen log) k g))
 
--- a seat that took the slot and gave it back
-pub record Visits (next : Terms → List Record → Record → Type 0) (p : Known) (t m : Sat) : Type 0 where
-  pub idle : IsIdle m
-  pub keyed : 0 < length m.0.keys
-  pub terms : m.0.terms ≡ p.terms
-  pub lawful : Follows (next p.terms) m.0.seen
-  pub keys : m.0.keys ≡ p.keys
-  pub seen : m.0.seen ≡ t.0.seen
-  pub goes : GoesOn p.keys p.seen m.0.seen
-
-pub visits : (next : Terms → List Record → Record → Type 0) (p : Known) (id : TableId) (s t m : Sat) → Sits p id s → Takes next s t
-    → m ≡ (view t.0.terms t.0.keys t.0.seen [] false, []) → Visits next p t m
-visits next p id s t m sits takes is = subst (Visits next p t) (sym is) (record {
-  idle = record { turn = refl; older = refl; empty = refl };
-  keyed = takes.turn.keyed;
-  terms = takes.terms ∙ sym sits.terms;
-  lawful = subst (λ (x : Terms). Follows (next x) t.0.seen) (takes.terms ∙ sym sits.terms) takes.lawful;
-  keys = takes.keys ∙ sym sits.keys;
-  seen = refl;
-  goes = goes_at s.0.keys p.keys s.0.seen p.seen t.0.seen t.0.seen (sym sits.keys) (sym sits.seen) refl takes.goes;
-})
-
 -- two that met
 pub first_key : (keys others : List Key) → length keys ≡ 1 → (take 1 (keys ++ others) ≡ keys) × (drop 1 (keys ++ others) ≡ others)
 first_key [] others e = absurd (omega arith)
@@ -115,19 +87,3 @@ meets next p q id other s r u m o sits its agree one unites parts =
       longer = parts.seen ∙ unites.seen ∙ ap (λ (l : List Record). longer l r.0.seen) (sym sits.seen) ∙ ap (longer p.seen) (sym its.seen);
       both = parts.other_seen ∙ sym parts.seen;
     }
-
--- one that got another's keys
-pub joins_by : (next : Terms → List Record → Record → Type 0) (p q : Known) (id other wire : TableId) (s r u : Sat) (views : List View) → Sits p id s
-    → Sits q other r → Unites next s.0 r.0 u → views ≡ u.0 ∷ [] → wire ≡ p.wire → Joined p q (known_by wire views)
-joins_by next p q id other wire s r u views sits its unites one same = subst (λ (vs : List View). Joined p q (known_by wire vs)) (sym one) (record {
-  wire = same;
-  terms = unites.terms ∙ sym sits.terms;
-  keys = unites.keys ∙ ap (λ (l : List Key). l ++ s.0.keys) (sym its.keys) ∙ ap (λ (l : List Key). q.keys ++ l) (sym sits.keys);
-  seen = unites.seen ∙ ap (λ (l : List Record). longer l r.0.seen) (sym sits.seen) ∙ ap (longer p.seen) (sym its.seen);
-  first = goes_at s.0.keys p.keys s.0.seen p.seen u.0.seen u.0.seen (sym sits.keys) (sym sits.seen) refl unites.mine;
-  second = goes_at r.0.keys q.keys r.0.seen q.seen u.0.seen u.0.seen (sym its.keys) (sym its.seen) refl unites.theirs;
-})
-
-pub united_keyed : (next : Terms → List Record → Record → Type 0) (s r u : Sat) → 0 < length s.0.keys → Unites next s.0 r.0 u → 0 < length u.0.keys
-united_keyed next s r u h unites = let e : length u.0.keys ≡ length (r.0.keys ++ s.0.keys) = ap length unites.keys in
-    omega (arith, length-append r.0.keys s.0.keys)

@@ -1,31 +1,14 @@
 -- Looking at the count, splitting and joining seats keep the rule of a wire; how it begins, and what its last seat finds.
-use Rattle.std.proofs.Common.{◌≡◌, ℕ, zero, suc, ◌+◌, ◌<◌, ◌≤◌, Bool, cond, true, false, true≢false, List, [], ◌∷◌, ◌++◌, length, take, drop}
-use Rattle.std.proofs.Common.{map, set, sym, refl, ap, ◌∙◌, subst, inl, inr, arith, append-nil, length-append, eq-eqb}
-use Rattle.std.specs.Prelude.{slice_index, All, if◌then◌else◌}
-use Rattle.am_base.specs.Most.{most_events}
-use mathlib.Core.Option.{none, some, some-injective, some-ne-none}
-use lib.ListN.{get_elem?}
-use Rattle.std.proofs.lemmas.Bool.{lt-ltb}
-use Rattle.std.proofs.lemmas.List.{take-append-drop, length-take}
-use Rattle.std.proofs.Math.Nat.{mod-lt}
-use Rattle.atomic_table.specs.Table.{step, opening, keeps, Allows, Splits, Joins, Final, Seen, rest}
-use Rattle.atomic_table.proofs.Lists.{at_set, at_snoc, set_else}
-use Rattle.am_base.specs.Names.{place_of}
-use Rattle.am_group.specs.declared.event.Record.{Record}
-use Rattle.am_wire.specs.declared.rule.Key.{Key}
-use Rattle.am_wire.specs.declared.rule.Key.TheVariants.{Place, Caller}
-use Rattle.am_wire.specs.declared.rule.Sight.{Sight}
-use Rattle.am_wire.specs.declared.rule.Terms.{Terms}
-use Rattle.am_wire.specs.declared.rule.View.{View}
-use Rattle.am_wire.specs.Keys.{is_of, of_key, same_key, times, all_keys}
-use Rattle.am_wire.specs.Stops.{Page}
-use Rattle.am_wire.specs.Seats.{view, sight_of, no_terms, longer, StartsWith, GoesOn, Follows, Shown, Sat, standing, Fits, Stands, Looks, look_step}
-use Rattle.am_wire.specs.Seats.{Unites}
-use Rattle.am_wire.specs.Passes.{HasAll}
-use Rattle.am_wire.proofs.Dealt.{each_once}
+use Rattle.am_wire.proofs.Words.{◌≡◌, ℕ, zero, suc, ◌+◌, ◌<◌, ◌≤◌, Bool, cond, true, false, true≢false, List, [], ◌∷◌, ◌++◌, length, take, drop, map, set}
+use Rattle.am_wire.proofs.Words.{sym, refl, ap, ◌∙◌, subst, inl, inr, arith, append-nil, length-append, eq-eqb, slice_index, All, if◌then◌else◌, most_events}
+use Rattle.am_wire.proofs.Words.{none, some, some-injective, some-ne-none, get_elem?, lt-ltb, take-append-drop, length-take, mod-lt, step, opening, keeps}
+use Rattle.am_wire.proofs.Words.{Allows, Splits, Joins, Final, Seen, rest, at_set, at_snoc, set_else, place_of, Record, Key, Place, Caller, Sight, Terms}
+use Rattle.am_wire.proofs.Words.{View, is_of, of_key, same_key, times, all_keys, Page, view, sight_of, no_terms, longer, StartsWith, GoesOn, Follows, Shown}
+use Rattle.am_wire.proofs.Words.{Sat, standing, Fits, Stands, Looks, look_step, Unites, HasAll}
 use Rattle.am_wire.proofs.Views.{rest_of, key_append, goes_same, times_append, times_cons, BothGo, both_go, stand_set, stand_last}
-use Rattle.am_wire.proofs.Keeps.{page, same_count, kept_keys, nothing_there, none_older, unturned, turns_set, turns_last, turns_through, with_views}
-use Rattle.am_wire.proofs.Keeps.{alone, key_of_wire, follows_first}
+use Rattle.am_wire.proofs.Keeps.{page, same_count, kept_keys, nothing_there, none_older, unturned, turns_set, turns_last, turns_through, with_views, alone}
+use Rattle.am_wire.proofs.Keeps.{key_of_wire, follows_first}
+use Rattle.am_wire.proofs.{Dealt.each_once}
 
 -- ---- looking
 

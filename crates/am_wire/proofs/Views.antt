@@ -1,18 +1,8 @@
 -- What starts with what, which records are of a key, and how often a key stands among views.
-use Rattle.std.proofs.Common.{◌≡◌, ◌≢◌, ◌⊎◌, ℕ, zero, suc, ◌+◌, ◌<◌, ◌≤◌, Bool, true, false, cond, nat_lt, List, [], ◌∷◌, ◌++◌, length, take, drop, set, sym}
-use Rattle.std.proofs.Common.{refl, ap, ◌∙◌, subst, inl, inr, arith, append-nil, append_assoc, length-append}
-use Rattle.std.proofs.lemmas.List.{take-append-le, take-append-drop}
-use Rattle.std.proofs.lemmas.Bool.{ltb-true, ltb-false}
-use Rattle.std.proofs.lemmas.List.Sums.{sum_by-append, sum_by-cons}
-use Rattle.std.proofs.lemmas.List.Elements.{filter-append}
-use Rattle.std.proofs.Math.Seq.{take-append_seam, take-length}
-use mathlib.Core.Option.{some, some-injective, some-ne-none}
-use lib.ListN.{get_elem?}
-use Rattle.am_group.specs.declared.event.Record.{Record}
-use Rattle.am_wire.specs.declared.rule.Key.{Key}
-use Rattle.am_wire.specs.declared.rule.View.{View}
-use Rattle.am_wire.specs.Keys.{is_of, of_key, same_key, times}
-use Rattle.am_wire.specs.Seats.{StartsWith, GoesOn, longer, standing}
+use Rattle.am_wire.proofs.Words.{◌≡◌, ◌≢◌, ◌⊎◌, ℕ, zero, suc, ◌+◌, ◌<◌, ◌≤◌, Bool, true, false, cond, nat_lt, List, [], ◌∷◌, ◌++◌, length, take, drop, set}
+use Rattle.am_wire.proofs.Words.{sym, refl, ap, ◌∙◌, subst, inl, inr, arith, append-nil, append_assoc, length-append, take-append-le, take-append-drop}
+use Rattle.am_wire.proofs.Words.{ltb-true, ltb-false, sum_by-append, sum_by-cons, filter-append, take-append_seam, take-length, some, some-injective}
+use Rattle.am_wire.proofs.Words.{some-ne-none, get_elem?, Record, Key, View, is_of, of_key, same_key, times, StartsWith, GoesOn, longer, standing}
 
 -- ---- beginnings
 

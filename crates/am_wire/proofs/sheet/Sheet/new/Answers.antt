@@ -1,5 +1,4 @@
-use Rattle.std.proofs.Common.{rules, refl}
-use Rattle.am_group.specs.Journals.{letters_of}
+use Rattle.am_wire.proofs.Words.{rules, refl, letters_of}
 use Rattle.am_wire.proofs.Looks.{first_looks}
 use Rattle.am_wire.proofs.sheet.Sheet.new.Goals as goal
 

@@ -1,9 +1,4 @@
-use Rattle.std.proofs.Common.{rules, ◌≡◌, ℕ, List, ◌<◌, [], ◌∷◌, ◌++◌, length, sym, ap, ◌∙◌, arith}
-use Rattle.am_base.specs.Most.{most_events}
-use Rattle.atomic_table.specs.Table.{rest}
-use Rattle.am_group.specs.declared.event.Record.{Record}
-use Rattle.am_wire.specs.Stops.{Page}
-use Rattle.am_wire.specs.Seats.{Sat, HasTurn}
+use Rattle.am_wire.proofs.Words.{rules, ◌≡◌, ℕ, List, ◌<◌, [], ◌∷◌, ◌++◌, length, sym, ap, ◌∙◌, arith, most_events, rest, Record, Page, Sat, HasTurn}
 use Rattle.am_wire.proofs.Keeps.{count_allows}
 use Rattle.am_wire.proofs.wire.Wire.add.Goals as goal
 

@@ -1,13 +1,5 @@
-use Rattle.std.proofs.Common.{◌≡◌, ◌<◌, sym, ap, ◌∙◌, subst}
-use Rattle.std.specs.Prelude.{All, List}
-use Rattle.am_group.specs.declared.event.Record.{Record}
-use Rattle.am_wire.specs.declared.rule.Terms.{Terms}
-use Rattle.am_wire.specs.Passes.{Line, HasAll}
-use Rattle.am_wire.specs.Seats.{Follows}
-use Rattle.am_wire.specs.Stops.{Page}
-use Rattle.am_wire.proofs.Sharing.{closes}
-use Rattle.am_wire.proofs.Passing.{sits}
-use Rattle.am_wire.proofs.wire.Wire.close.Given.{Over}
+use Rattle.am_wire.proofs.Words.{◌≡◌, ◌<◌, sym, ap, ◌∙◌, subst, All, List, Record, Terms, Line, HasAll, Follows, Page}
+use Rattle.am_wire.proofs.{Sharing.closes, Passing.sits, wire.Wire.close.Given.Over}
 use Rattle.am_wire.proofs.wire.Wire.close.Goals as goal
 
 -- what came of the slot

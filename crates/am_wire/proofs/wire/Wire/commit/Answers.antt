@@ -1,7 +1,6 @@
-use Rattle.std.proofs.Common.{rules, sym, ap, length}
-use Rattle.am_wire.proofs.Passing.{sits}
+use Rattle.am_wire.proofs.Words.{rules, sym, ap, length}
 use Rattle.am_wire.proofs.Committing.{Holds, holds_by, After, after_by, Leaves, leaves, Badges, committed, refused, next_then, lawful_then}
-use Rattle.am_wire.proofs.wire.Wire.commit.Given.{Over}
+use Rattle.am_wire.proofs.{Passing.sits, wire.Wire.commit.Given.Over}
 use Rattle.am_wire.proofs.wire.Wire.commit.Goals as goal
 
 -- what is known at the end

@@ -1,5 +1,4 @@
-use Rattle.std.proofs.Common.{[], ◌∷◌, ◌++◌, ap, ◌∙◌, arith, ◌<◌}
-use Rattle.am_wire.specs.Passes.{Known}
+use Rattle.am_wire.proofs.Words.{[], ◌∷◌, ◌++◌, ap, ◌∙◌, arith, ◌<◌, Known}
 use Rattle.am_wire.proofs.Dealt.{dealt_more}
 use Rattle.am_wire.proofs.wire.Wire.deal.Goals as goal
 

@@ -1,5 +1,4 @@
-use Rattle.std.proofs.Common.{◌≡◌, ◌∷◌}
-use Rattle.am_wire.specs.Passes.{Gathered}
+use Rattle.am_wire.proofs.Words.{◌≡◌, ◌∷◌, Gathered}
 use Rattle.am_wire.proofs.wire.Wire.gather.Given as goal
 
 abbrev pub invariant-loop-other : goal.invariant-loop-other

@@ -1,6 +1,5 @@
-use Rattle.std.proofs.Common.{rules, sym}
-use Rattle.am_wire.proofs.Passing.{sits, rests_by, sees_by, Meets, meets}
-use Rattle.am_wire.proofs.wire.Wire.meet.Given.{Over}
+use Rattle.am_wire.proofs.Words.{rules, sym}
+use Rattle.am_wire.proofs.{Passing.sits, Passing.rests_by, Passing.sees_by, Passing.Meets, Passing.meets, wire.Wire.meet.Given.Over}
 use Rattle.am_wire.proofs.wire.Wire.meet.Goals as goal
 
 they_met : (g : Over) (c : goal.After-drop-pass-inside g) → Meets g.L.Law.next c.args.pass.now c.args.share.now c.part.new.seat.me c.part.result.me

@@ -1,9 +1,4 @@
-use Rattle.std.proofs.Common.{◌≡◌, ◌≤◌, List, length, take, drop, map, sym, ap, ◌∙◌, subst, arith}
-use Rattle.am_wire.specs.declared.rule.Key.{Key}
-use Rattle.am_wire.specs.declared.rule.Terms.{Terms}
-use Rattle.am_wire.specs.Keys.{caller_keys}
-use Rattle.am_wire.specs.Seats.{Sat}
-use Rattle.am_wire.specs.Passes.{fresh}
+use Rattle.am_wire.proofs.Words.{◌≡◌, ◌≤◌, List, length, take, drop, map, sym, ap, ◌∙◌, subst, arith, Key, Terms, caller_keys, Sat, fresh}
 use Rattle.am_wire.proofs.Dealt.{sixteen, so_many, enough, take_callers}
 use Rattle.am_wire.proofs.wire.Wire.start.Goals as goal
 

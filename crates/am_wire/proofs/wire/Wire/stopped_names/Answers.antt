@@ -1,6 +1,4 @@
-use Rattle.std.proofs.Common.{rules, ℕ, List, ◌∷◌, sym, ap, ◌∙◌}
-use Rattle.atomic_table.specs.Table.{rest}
-use Rattle.am_wire.specs.Stops.{Page}
+use Rattle.am_wire.proofs.Words.{rules, ℕ, List, ◌∷◌, sym, ap, ◌∙◌, rest, Page}
 use Rattle.am_wire.proofs.wire.Wire.stopped_names.Goals as goal
 
 pub slot_mut-requires : goal.slot_mut-requires

@@ -1,5 +1,4 @@
-use Rattle.std.proofs.Common.{rules, sym, subst, ◌<◌, length}
-use Rattle.am_wire.specs.Seats.{Sat, IsIdle}
+use Rattle.am_wire.proofs.Words.{rules, sym, subst, ◌<◌, length, Sat, IsIdle}
 use Rattle.am_wire.proofs.Keeps.{take_allows}
 use Rattle.am_wire.proofs.wire.Wire.take.Goals as goal
 

@@ -1,5 +1,4 @@
-use Rattle.std.proofs.Common.{rules, ap, ◌∙◌}
-use Rattle.am_wire.specs.Seats.{Sat}
+use Rattle.am_wire.proofs.Words.{rules, ap, ◌∙◌, Sat}
 use Rattle.am_wire.proofs.Sharing.{joins, look_allows, unites_by}
 use Rattle.am_wire.proofs.wire.Wire.unite.Goals as goal
 
