@@ -1,6 +1,6 @@
 -- The rows of leaving, by what their tests say.
 use Rattle.am_acting.proofs.Words.{◌≡◌, ◌≢◌, ℕ, ◌+◌, ◌<◌, ◌≤◌, List, [], ◌∷◌, true, false, ◌||◌, nat_lt, if◌then◌else◌, Bool, None, find, refl, sym, ◌∙◌, ap, arith}
-use Rattle.am_acting.proofs.Words.{count_by, nat_tests, Leave, Outcome, size, split, sum_by-cons, OwnSend, Status, Node, top, others, only_name, lowest_or_first}
+use Rattle.am_acting.proofs.Words.{count_by, nat_tests, Leave, Outcome, size, split, sum_by-cons, OwnSend, Status, Node, top, others, lowest_or_first}
 use Rattle.am_acting.proofs.Words.{waiting, unsettled_count, has_room, is_member, is_sequencer, push_entry, Plan, quiet, telling, finish, go, is_unfinished}
 use Rattle.am_acting.proofs.Words.{leave_now, leave_row, leave_by, Replies, saying_of, same_step}
 use Rattle.am_base.specs.declared.outcome.Outcome.TheVariants as said

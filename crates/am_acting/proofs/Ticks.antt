@@ -1,7 +1,7 @@
 -- The rows of the tick, by what their tests say.
 use Rattle.am_acting.proofs.Words.{◌≡◌, ◌≢◌, ℕ, ◌+◌, ◌<◌, List, [], true, false, not, ◌&&◌, ◌==◌, nat_lt, if◌then◌else◌, Option, Some, None, refl, sym}
 use Rattle.am_acting.proofs.Words.{option_map, is_some, ◌∙◌, ap, subst, arith, nat_tests, Data, Leave, Outcome, size, split, OwnSend, Status}
-use Rattle.am_acting.proofs.Words.{Node, Ballot, top, view, others, only_name, lowest_or_first, acts, own_row, has_room, is_sequencer, waiting, push_entry}
+use Rattle.am_acting.proofs.Words.{Node, Ballot, top, view, others, only_name, acts, own_row, has_room, is_sequencer, waiting, push_entry}
 use Rattle.am_acting.proofs.Words.{Plan, quiet, telling, finish, would_emit, emit, go, tick_ballot, tick_promised, tick_member}
 use Rattle.am_acting.proofs.Words.{tick_sequencer, tick_acting, tick_with, tick_by, tick_row, put_off, end_self, Telling, Reply, Replies, Ends, saying_of}
 use Rattle.am_acting.proofs.Words.{replies_quiet, replies_telling, replies_as, says, same_step, refresh_at_end, and_poll, handing, hands_over, again_of, again_of_ballot, own_send}

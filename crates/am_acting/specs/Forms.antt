@@ -5,7 +5,7 @@ use Rattle.am_base.specs.declared.outcome.Outcome.TheVariants as said
 use Rattle.am_packet.specs.declared.packet.Packet.{Packet}
 use Rattle.am_state.specs.declared.sender.OwnSend.{OwnSend}
 use Rattle.am_model.specs.Node.{Node, Ballot, only_name, lowest_or_first}
-use Rattle.am_model.specs.Emit.{Plan, quiet, telling, and_telling, hand_over_of}
+use Rattle.am_model.specs.Emit.{Plan, telling, and_telling, hand_over_of}
 use Rattle.am_model.specs.Ticks.{and_result}
 use Rattle.am_handlers.specs.declared.reply.Note.TheVariants as note
 use Rattle.am_handlers.specs.declared.reply.Telling.{Telling}

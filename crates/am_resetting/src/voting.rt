@@ -1,5 +1,5 @@
 ghost use Rattle.std.specs.Prelude.{◌≡◌, ◌≢◌, ◌<◌, ◌+◌, Some, None, true, false, not, ◌&&◌, ◌||◌};
-ghost use Rattle.am_handlers.specs.Prelude.{most_number, IsStamp, top_of, has, stamp_lt, IsInOrder, has_log, is_member, members, others, Node, IsOwnBallot, node_of};
+ghost use Rattle.am_handlers.specs.Prelude.{image_of, most_number, IsStamp, top_of, has, stamp_lt, IsInOrder, has_log, is_member, members, others, Node, IsOwnBallot, node_of};
 ghost use Rattle.am_ballots.specs.Kept.{ballot_of};
 ghost use Rattle.am_model.specs.Emit as emit;
 ghost use Rattle.am_model.specs.Ballots.{keep_vote, give_up, begin, next_stamp};

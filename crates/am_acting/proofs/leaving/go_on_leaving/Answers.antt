@@ -19,7 +19,7 @@ returns-then-len-gt0 c =
     let some = some_others m c.len.ensures.value c.others-others.ensures c.if-len-gt0.true in
     replies_as (go_hands m c.args.answer (sym c.is_sequencer.ensures.value ∙ c.if-not-is_sequencer.false) some)
     (c.saying-then-len-gt0.ensures ∙ ap (saying_of c.args.answer) (c.handing_over.ensures ∙ ap hands_over c.others-others.ensures))
-    (replies_telling m m c.args.answer _ _ tt (end_self m))
+    (replies_telling m m c.args.answer (only_name (lowest_or_first (others m))) note.HandOver tt (end_self m))
 
 pub returns-then-not-has_room : goal.returns-then-not-has_room
 returns-then-not-has_room c =

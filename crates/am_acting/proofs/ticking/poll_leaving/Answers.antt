@@ -1,6 +1,5 @@
-use Rattle.am_acting.proofs.Words.{sym, ap, ◌∙◌, only_name, lowest_or_first, others, node_of, end_self, Reply, replies_as, true}
+use Rattle.am_acting.proofs.Words.{sym, ap, ◌∙◌, others, node_of, end_self, Reply, replies_as, true}
 use Rattle.am_handlers.specs.Replies.{polled_of}
-use Rattle.am_handlers.specs.declared.reply.Note.TheVariants as note
 use Rattle.am_handlers.specs.declared.reply.Telling.TheVariants as tell
 use Rattle.am_acting.specs.Forms.{hands_over}
 use Rattle.am_acting.proofs.{Leaves.some_others, Leaves.no_others}
