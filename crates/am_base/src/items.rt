@@ -4,7 +4,7 @@ use std::alloc::{AllocError, Global};
 use std::marker::Model;
 
 /// Items in order. Contracts see it as their list.
-#[derive(Drop, Debug)]
+#[derive(Debug)]
 pub struct Items<T>(Vec<T>);
 
 impl<T> Model for Items<T> {
@@ -16,6 +16,12 @@ impl<T> Model for Items<T> {
     ghost coded = { coded_list T.code };
 
     ghost view = { λ s. s.0.items };
+}
+
+impl<T: Drop> Drop for Items<T> {
+    fn drop(self) {
+        let Items(_) = self;
+    }
 }
 
 impl<T> Items<T> {
@@ -55,7 +61,8 @@ impl<T> Items<T> {
     pub fn into_vec(self) -> Vec<T>
         ensures { result.items ≡ self }
     {
-        self.0
+        let Items(items) = self;
+        items
     }
 
     /// The items.

@@ -10,7 +10,6 @@ use std::fmt;
 use std::marker::Model;
 
 /// What an entry is, with a body that stands apart.
-#[derive(Drop)]
 enum TakenParts {
     /// A send of a member: its request number, from 1, and its body.
     Data {
@@ -30,8 +29,25 @@ enum TakenParts {
     },
 }
 
+impl Drop for TakenParts {
+    fn drop(self) {
+        match self {
+            TakenParts::Data {
+                from: _,
+                req: _,
+                body: _,
+            } => {}
+            TakenParts::Join(_) | TakenParts::Leave(_) => {}
+            TakenParts::View {
+                stamp: _,
+                members: _,
+                resilience: _,
+            } => {}
+        }
+    }
+}
+
 /// An entry that was taken from a list, with as many bytes as its body has. Contracts see it as the entry.
-#[derive(Drop)]
 pub struct TakenEntry {
     parts: TakenParts,
 }
@@ -44,6 +60,12 @@ impl Model for TakenEntry {
     ghost use Rattle.am_base.specs.Entries.{taken_of};
 
     ghost view = { λ e. taken_of e.parts };
+}
+
+impl Drop for TakenEntry {
+    fn drop(self) {
+        let TakenEntry { parts: _ } = self;
+    }
 }
 
 impl fmt::Debug for TakenEntry {
@@ -79,7 +101,6 @@ impl TakenEntry {
 }
 
 /// Room for an entry whose body has at most so many bytes. Contracts see it as that number.
-#[derive(Drop)]
 pub struct EntryRoom(Vec<u8>);
 
 impl Model for EntryRoom {
@@ -90,6 +111,12 @@ impl Model for EntryRoom {
     ghost view = { λ r. vec_capacity r.0 };
 
     ghost invariant = { λ r. r.0.items ≡ [] };
+}
+
+impl Drop for EntryRoom {
+    fn drop(self) {
+        let EntryRoom(_) = self;
+    }
 }
 
 impl EntryRoom {
@@ -105,11 +132,12 @@ impl EntryRoom {
         requires { body_len entry.now ≤ self }
         ensures { result ≡ entry.now }
     {
+        let EntryRoom(room) = self;
         let parts = match entry.parts() {
             EntryParts::Data { from, req, body } => TakenParts::Data {
                 from: *from,
                 req: *req,
-                body: SentBody::in_room(self.0, body),
+                body: SentBody::in_room(room, body),
             },
             EntryParts::Join(name) => TakenParts::Join(*name),
             EntryParts::Leave(name) => TakenParts::Leave(*name),
