@@ -5,7 +5,7 @@ pub mod Settling
 pub mod Due
 pub mod Served
 pub mod Shown
-mod Serves
-mod LastView
+pub mod Serves
+pub mod LastView
 pub mod LastMember
 pub mod Replying

@@ -2,5 +2,4 @@ pub mod Keeps
 pub mod Parts
 pub mod Prelude
 pub mod Verdicts
-pub mod Going
 pub mod Replies

@@ -1,16 +1,11 @@
-//! What all handlers of a node stand on: its parts together, what a row asks of them, and what each step ends with.
+//! What all handlers of a node stand on: its parts together, what a row asks of them, and what it replies.
 #![tactic(auto)]
 
 pub mod asking;
 pub mod departing;
-pub mod ending;
-mod going;
-mod letters;
-mod notes;
 pub mod owning;
 pub mod packets;
 pub mod parts;
 pub mod reply;
 pub mod serving;
-mod viewing;
 pub mod votes;

@@ -1,18 +1,14 @@
 ghost use Rattle.std.specs.Prelude.{◌≡◌, true};
 ghost use Rattle.am_base.specs.Most.{most_number};
-ghost use Rattle.am_packet.specs.Boxes.{with_letter};
 ghost use Rattle.am_model.specs.Refresh.{is_data_of};
 ghost use Rattle.am_handlers.specs.Keeps.{node_with, NodeKeeps, IsSteady};
 
-use crate::packet_from;
 use am_ballots::ballot::Ballot;
 use am_base::entry::{Entry, EntryRef};
 use am_base::image::Report;
 use am_base::name::Name;
 use am_base::names::Names;
-use am_letter::out_box::OutBox;
 use am_model::status::Status;
-use am_packet::packet::Packet;
 use am_parts::bodies::Pool;
 use am_parts::fronts::Fronts;
 use am_parts::history::History;
@@ -57,16 +53,14 @@ impl Parts {
     ghost use Rattle.am_base.specs.Names.{life_of};
     ghost use Rattle.am_base.specs.Limits.{IsEntry};
     ghost use Rattle.am_base.specs.Lists.{entry_at, at_place, fits};
-    ghost use Rattle.am_packet.specs.Limits.{IsWithin};
     ghost use Rattle.am_state.specs.Kept.{IsKept};
     ghost use Rattle.am_state.specs.Cores.{IsInOrder};
     ghost use Rattle.am_model.specs.Node.{Node, acts, is_sequencer, others, push_entry, image_of, top, waiting, with_report};
     ghost use Rattle.am_model.specs.Sequencing.{take_report};
-    ghost use Rattle.am_model.specs.Emit.{accept_of};
     ghost use Rattle.am_model.specs.Refresh.{refresh, settle, refresh_at_end};
     ghost use Rattle.am_model.specs.Ends.{Tells, Changes, IsEndOf};
     ghost use Rattle.am_handlers.specs.Keeps.{IsDue};
-    ghost use Rattle.am_handlers.specs.Parts.{node_of, passes, accepted_number, with_told};
+    ghost use Rattle.am_handlers.specs.Parts.{node_of, passes, accepted_number};
 
     /// Up to where the node knows the list to be accepted.
     pub fn accept_front(&self) -> u32
@@ -230,30 +224,5 @@ impl Parts {
     {
         self.refresh();
         self.settle();
-    }
-
-    /// An Accept.
-    #[tactic(auto, unfolding(am_packet::specs::Limits::IsWithin))]
-    fn accept(&self, polls: bool) -> Packet<'_>
-        ensures value { Tells (λ n. accept_of n polls) (node_of self.now) result }
-        ensures within { IsWithin result }
-    {
-        packet_from!(self.core => Accept {
-            base: self.core.log.base(),
-            acc: self.core.acc,
-            top: self.core.log.top(),
-            poll: polls,
-        })
-    }
-
-    /// The sequencer tells the other members what is accepted: where it polls them, or where that rose above what was
-    /// accepted before the step and no entry that it numbered tells it. The out box must have room.
-    pub fn tell_accepted(&self, before: u32, polls: bool, numbers: bool, out: &mut OutBox)
-        requires room { length out.old < 24 }
-        ensures { Tells (with_told before polls numbers out.old) (node_of self.now) out.new }
-    {
-        if self.is_sequencer() && (polls || (before < self.core.acc && !numbers)) {
-            out.put(self.others(), &self.accept(polls));
-        }
     }
 }

@@ -12,7 +12,7 @@ use am_base::name::{Name, Stamp};
 use am_base::names::Names;
 use am_base::outcome::Outcome;
 use am_base::taken::EntryRoom;
-use am_handlers::ending::finish;
+use am_ending::ending::finish;
 use am_handlers::parts::Parts;
 use am_letter::out_box::OutBox;
 use am_model::info::{BallotEnd, Info};

@@ -1,0 +1,12 @@
+//! The end of a step: the node takes in what it knows by then, answers, and puts out what the row said.
+#![tactic(auto)]
+
+mod accepting;
+mod departing;
+pub mod ending;
+mod going;
+mod letters;
+mod notes;
+mod owning;
+mod serving;
+mod viewing;
