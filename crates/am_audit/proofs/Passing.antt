@@ -1,18 +1,19 @@
 -- One line more in a pass over lines.
 use Rattle.std.proofs.Common.{◌≡◌, ℕ, ◌+◌, ◌<◌, ◌≤◌, ◌==◌, List, [], ◌∷◌, length, drop, get_or, set, Option, Some}
-use Rattle.std.proofs.Common.{None, slice_get, Result, Ok, Err, IfOk, true, false, cond, sym, ap, ◌∙◌, arith, ⊎_elim}
+use Rattle.std.proofs.Common.{None, slice_get, Result, Ok, Err, IfOk, true, false, cond, sym, ap, ◌∙◌, refl, arith, ⊎_elim, length-set, replicate}
 use Rattle.std.specs.Option.{option_map}
 use Rattle.std.specs.Ordering.{nat_cmp}
 use Rattle.std.specs.Map.{lookup}
 use Rattle.std.specs.BTreeMap.{BTreeMap, IsEmpty, is_at, get}
 use Rattle.std.proofs.lemmas.Bool.{cases_eq, eq-eqb}
 use Rattle.std.proofs.lemmas.Bool.Decides.{nat_tests}
-use Rattle.std.proofs.lemmas.List.{get_or-set_same, get_or-set_other, drop_more, drop_all}
+use Rattle.std.proofs.lemmas.List.{get_or-set_same, get_or-set_other, get_or-replicate, length-replicate, drop_more, drop_all}
 use Rattle.std.proofs.lemmas.Option.{slice_get-map, slice_get-get_or}
 use Rattle.am_audit.specs.declared.line.TextLine.{TextLine}
+use Rattle.am_audit.specs.declared.verdict.Verdict.{Verdict}
 use Rattle.am_audit.specs.Lines.{Line}
 use Rattle.am_audit.specs.Verdicts.{or_else, last_of}
-use Rattle.am_audit.specs.Keeping.{IsLast}
+use Rattle.am_audit.specs.Keeping.{IsLast, IsPassing}
 use Rattle.am_audit.specs.Views.{line_of, lines_in}
 
 -- no line
@@ -73,3 +74,30 @@ last_more last before line n size named is kept = λ name low.
 
 pub at_last : (last : List (Option ℕ)) (before : List Line) (name n : ℕ) → name < 256 → n ≡ name → IsLast last before → get_or last n None ≡ last_of name before
 at_last last before name n named is kept = ap (λ (k : ℕ). get_or last k None) is ∙ kept name named
+
+-- a pass begins, and goes on by a line in which it finds nothing
+pub passing_first : (first : List Line → List Line → Option Verdict) (lines : List Line) → IsPassing first (replicate 256 None) lines lines
+passing_first first lines = record {
+  before = [];
+  size = length-replicate {A = Option ℕ} 256 None;
+  numbers = λ name low. get_or-replicate 256 name None None low;
+  finds = refl;
+}
+
+pub passing_more : (first : List Line → List Line → Option Verdict) (test : Option ℕ → Line → Option Verdict)
+    → ((before : List Line) (line : Line) (lines : List Line) → first before (line ∷ lines) ≡ or_else (test (last_of line.name before) line) (first (line ∷ before) lines))
+    → (logs : List TextLine) (at n m : ℕ) (last : List (Option ℕ)) → at < length logs → n ≡ (get_or logs at no_line).name → m ≡ (get_or logs at no_line).name
+    → (get_or logs at no_line).name < 256 → test (get_or last n None) (line_of (get_or logs at no_line)) ≡ None
+    → IsPassing first last (lines_in (drop at logs)) (lines_in logs)
+    → IsPassing first (set last m (Some (get_or logs at no_line).number)) (lines_in (drop (at + 1) logs)) (lines_in logs)
+passing_more first test steps logs at n m last within here there named none inv =
+    let line = line_of (get_or logs at no_line) in
+    let passed : test (last_of line.name inv.before) line ≡ None
+    = ap (λ o. test o line) (sym (at_last last inv.before line.name n named here inv.numbers)) ∙ none in
+    record {
+      before = line ∷ inv.before;
+      size = length-set last m (Some line.number) ∙ inv.size;
+      numbers = last_more last inv.before line m inv.size named there inv.numbers;
+      finds = sym (or_else_none _ _ passed) ∙ sym (steps inv.before line (lines_in (drop (at + 1) logs)))
+          ∙ ap (first inv.before) (sym (lines_from logs at no_line within)) ∙ inv.finds;
+    }

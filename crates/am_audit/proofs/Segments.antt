@@ -1,7 +1,8 @@
 -- Logs without a fault are pieces of the list.
 use Rattle.std.proofs.Common.{◌≡◌, ℕ, zero, suc, ◌+◌, ◌<◌, ◌≤◌, ◌==◌, ◌&&◌, nat_lt, List, [], ◌∷◌, length, Option, Some, None}
 use Rattle.std.proofs.Common.{slice_get, Bool, true, false, cond, get_or, set, length-set, refl, sym, subst, ap, ◌∙◌, arith}
-use Rattle.std.proofs.Common.{⊎_elim}
+use Rattle.std.proofs.Common.{⊎_elim, replicate}
+use Rattle.std.proofs.lemmas.List.{get_or-replicate, length-replicate}
 use Rattle.std.proofs.lemmas.Bool.{cases_eq, eq-eqb, eqb-true, lt-ltb, le-ltb}
 use Rattle.std.proofs.lemmas.Bool.Decides.{nat_tests}
 use Rattle.std.proofs.lemmas.Option.{slice_get_within}
@@ -198,6 +199,10 @@ next_is group logs k taken faultless listed =
 counted_by : (b : Bool) (x y z : ℕ) → (b ≡ true → x ≡ z) → y ≡ z → cond b (x + 1) y ≡ cond b (z + 1) z
 counted_by true x y z same other = ap (λ (n : ℕ). n + 1) (same refl)
 counted_by false x y z same other = other
+
+-- before any line
+pub none_counted : IsCount (replicate 256 0) []
+none_counted = record { size = length-replicate {A = ℕ} 256 0; counted = λ name low. get_or-replicate 256 name 0 0 low }
 
 count_more_at : (done : List ℕ) (before : List Line) (line : Line) → line.name < 256 → IsCount done before
     → IsCount (set done line.name (get_or done line.name 0 + 1)) (line ∷ before)

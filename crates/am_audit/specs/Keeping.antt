@@ -46,6 +46,13 @@ IsSent sent before = (key : ℕ) → get nat_cmp sent key ≡ first_by_key key b
 abbrev pub IsLast : List (Option ℕ) → List Line → Type 0
 IsLast last before = (name : ℕ) → name < 256 → slice_index_or last name None ≡ last_of name before
 
+-- a pass through lines kept the last number of each name, and what it finds in the rest is what it finds in all of them
+pub record IsPassing (first : List Line → List Line → Option Verdict) (last : List (Option ℕ)) (rest lines : List Line) : Type 0 where
+  pub before : List Line
+  pub size : length last ≡ 256
+  pub numbers : IsLast last before
+  pub finds : first before rest ≡ first [] lines
+
 -- the number of each name's last line, the index of the first with each number, and the number of the first with each send
 pub record IsKept (logs : List Line) (last : List (Option ℕ)) (first sent : BTreeMap ℕ ℕ) (before : List Line) : Type 0 where
   pub numbers : IsLast last before

@@ -1,3 +1,6 @@
+ghost use Rattle.std.specs.Prelude.{◌≡◌};
+ghost use Rattle.am_audit.specs.Verdicts.{is_right};
+
 use am_base::name::Name;
 
 /// What an audit of a text comes to (docs/AUDIT.md, "Verdicts").
@@ -65,9 +68,6 @@ pub enum Verdict {
 }
 
 impl Verdict {
-    ghost use Rattle.std.specs.Prelude.{◌≡◌};
-    ghost use Rattle.am_audit.specs.Verdicts.{is_right};
-
     /// Whether it is one that agrees: Agrees or ListsAgree.
     pub fn is_right(self) -> bool
         ensures { result ≡ is_right self }

@@ -3,6 +3,7 @@ ghost use Rattle.am_fields.specs.Fields.{parts_of};
 ghost use Rattle.am_words.specs.declared.form.Form.TheVariants as form;
 ghost use Rattle.am_words.specs.Forms.{form_of};
 ghost use Rattle.am_c.specs.Handles.{Opened};
+ghost use Rattle.am_c.specs.Numbers.{number_for};
 ghost use Rattle.am_c.specs.Sessions.{IsNode, words_of};
 
 use crate::numbers::{BAD_OPTIONS, NO_MEMORY};
@@ -21,9 +22,6 @@ pub(crate) enum OptionsFault {
 }
 
 impl OptionsFault {
-    ghost use Rattle.std.specs.Prelude.{◌≡◌};
-    ghost use Rattle.am_c.specs.Numbers.{number_for};
-
     /// Its number.
     pub(crate) fn number(self) -> i32
         ensures { result ≡ number_for self }

@@ -1,3 +1,6 @@
+ghost use Rattle.std.specs.Prelude.{◌≡◌};
+ghost use Rattle.am_lines.specs.Speaking.{end_by};
+
 /// How a node's speaking ended.
 #[derive(Clone, Copy, PartialEq, Eq, Debug)]
 pub enum SpokenEnd {
@@ -21,9 +24,6 @@ pub enum TalkFault {
 }
 
 impl TalkFault {
-    ghost use Rattle.std.specs.Prelude.{◌≡◌};
-    ghost use Rattle.am_lines.specs.Speaking.{end_by};
-
     /// How its speaking ended.
     pub fn end(self) -> SpokenEnd
         ensures { result ≡ end_by self }

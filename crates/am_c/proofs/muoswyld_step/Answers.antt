@@ -6,16 +6,14 @@ use Rattle.am_c.proofs.muoswyld_step.Goals as goal
 
 pub returns-clause-told : goal.returns-clause-told
 returns-clause-told c given =
-    let parts_is = ap (λ h. h.session) (sym c.replace.ensures.value) ∙ c.take.ensures ∙ ap (option_map (λ p. p.value)) c.in-Some.is in
-    let old_is = parts_is ∙ ap Some (sym (c.deref_mut.ensures.value ∙ c.into_box-session.ensures)) in
-    let new_is = c.of-2.ensures ∙ ap Some c.of.ensures in
+    let old_is = ap (λ h. h.session) (sym c.replace.ensures.value) ∙ c.take.ensures ∙ ap (option_map (λ p. p.value)) c.in-Some.is
+    ∙ ap Some (sym (c.deref_mut.ensures.value ∙ c.into_box-session.ensures)) in
     let number = sym c.number.ensures ∙ sym (to_z-of_z w32 c.number.result (record { sfits = c.number.type_inv })) ∙ given in
-    between _ _ _ _ _ old_is new_is (c.step-end.ensures.told (told_is c.step-end.result number))
+    between _ _ _ _ _ old_is (c.of-2.ensures ∙ ap Some c.of.ensures) (c.step-end.ensures.told (told_is c.step-end.result number))
 
 pub returns-clause-no_room : goal.returns-clause-no_room
 returns-clause-no_room c given =
-    let parts_is = ap (λ h. h.session) (sym c.replace.ensures.value) ∙ c.take.ensures ∙ ap (option_map (λ p. p.value)) c.in-Some.is in
-    let old_is = parts_is ∙ ap Some (sym (c.deref_mut.ensures.value ∙ c.into_box-session.ensures)) in
-    let new_is = c.of-2.ensures ∙ ap Some c.of.ensures in
     let number = sym c.number.ensures ∙ sym (to_z-of_z w32 c.number.result (record { sfits = c.number.type_inv })) ∙ given in
-    between _ _ _ _ _ old_is new_is (c.step-end.ensures.no_room (no_room_is c.step-end.result number))
+    let old_is = ap (λ h. h.session) (sym c.replace.ensures.value) ∙ c.take.ensures ∙ ap (option_map (λ p. p.value)) c.in-Some.is
+    ∙ ap Some (sym (c.deref_mut.ensures.value ∙ c.into_box-session.ensures)) in
+    between _ _ _ _ _ old_is (c.of-2.ensures ∙ ap Some c.of.ensures) (c.step-end.ensures.no_room (no_room_is c.step-end.result number))

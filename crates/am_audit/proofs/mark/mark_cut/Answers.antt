@@ -2,6 +2,10 @@ use Rattle.std.proofs.Common.{◌≡◌, ℕ, suc, ◌+◌, ◌-◌, length, tak
 use Rattle.am_audit.proofs.Marks.{mark_at, mark_none}
 use Rattle.am_audit.proofs.mark.mark_cut.Goals as goal
 
+pub returns-clause-first : goal.returns-clause-first
+returns-clause-first c =
+    ap (λ cut. cut.0) (sym (mark_none c.args.mark c.args.text.now (λ k h. c.loop-at.invariant k (omega (arith, h)))))
+
 pub returns-then-is_mark-clause-first : goal.returns-then-is_mark-clause-first
 returns-then-is_mark-clause-first c =
     ap (λ cut. cut.0) (sym (mark_at c.args.mark c.args.text.now c.loop-at.at c.loop-at.invariant c.loop-at-test.true (sym c.is_mark.ensures
@@ -15,10 +19,6 @@ returns-then-is_mark-clause-rest c =
     = take_all _ _ (omega (arith, length-drop (c.loop-at.at + 3) c.args.text.now)) in
     let three : c.loop-at.at + 3 ≡ suc (suc (suc c.loop-at.at)) = omega arith in
     ap Some whole ∙ ap (λ (n : ℕ). Some (drop n c.args.text.now)) three ∙ rest
-
-pub returns-clause-first : goal.returns-clause-first
-returns-clause-first c =
-    ap (λ cut. cut.0) (sym (mark_none c.args.mark c.args.text.now (λ k h. c.loop-at.invariant k (omega (arith, h)))))
 
 pub returns-clause-rest : goal.returns-clause-rest
 returns-clause-rest c =

@@ -1,19 +1,13 @@
 use Rattle.std.proofs.Common.{◌≡◌, ℕ, ◌<◌, [], ◌∷◌, get_or, Some, None, cond, sym, ap, ◌∙◌, refl, arith}
-use Rattle.std.proofs.lemmas.List.{get_or-replicate, length-replicate}
 use Rattle.am_audit.specs.declared.verdict.Verdict.TheVariants as verdicts
 use Rattle.am_audit.specs.Views.{line_of, lines_in, texts_in}
 use Rattle.am_audit.specs.Verdicts.{first_unlogged, unlogged_at}
 use Rattle.am_audit.proofs.Passing.{no_line, lines_from, or_else_none, or_else_some}
-use Rattle.am_audit.proofs.Segments.{taken_next, count_more}
+use Rattle.am_audit.proofs.Segments.{none_counted, taken_next, count_more}
 use Rattle.am_audit.proofs.takes.first_unlogged.Goals as goal
 
 pub loop-at-init : goal.loop-at-init
-loop-at-init c = record {
-  before = [];
-  so_many = refl;
-  done = record { size = length-replicate {A = ℕ} 256 0; counted = λ name low. get_or-replicate 256 name 0 0 low };
-  rest = refl;
-}
+loop-at-init c = record { before = []; so_many = refl; done = none_counted; rest = refl }
 
 pub loop-at-preserved : goal.loop-at-preserved
 loop-at-preserved c =
@@ -35,14 +29,13 @@ loop-at-preserved c =
 
 pub returns-then-not-is_next : goal.returns-then-not-is_next
 returns-then-not-is_next c =
-    let inv = c.loop-at.invariant in
     let line = line_of (get_or c.args.takes.now c.loop-at.at no_line) in
     let named : (get_or c.args.takes.now c.loop-at.at no_line).name < 256 = omega (arith, c.from-name.ensures) in
-    let right = taken_next (texts_in c.args.group.now) (lines_in c.args.logs.now) inv.before line c.firsts-firsts.result c.counts-lengths.result c.loop-at.done
+    let right = taken_next (texts_in c.args.group.now) (lines_in c.args.logs.now) c.loop-at.invariant.before line c.firsts-firsts.result c.counts-lengths.result c.loop-at.done
     c.from-name.result c.is_next.result c.requires.faultless c.requires.listed named c.from-name.ensures c.firsts-firsts.ensures
-    c.counts-lengths.ensures inv.done c.is_next.ensures in
-    let some : unlogged_at (lines_in c.args.logs.now) inv.before line ≡ Some (verdicts.Unlogged line.name line.number)
+    c.counts-lengths.ensures c.loop-at.invariant.done c.is_next.ensures in
+    let some : unlogged_at (lines_in c.args.logs.now) c.loop-at.invariant.before line ≡ Some (verdicts.Unlogged line.name line.number)
     = ap (λ b. cond b None (Some (verdicts.Unlogged line.name line.number))) (right ∙ c.if-not-is_next.true) in
     ap (λ (n : ℕ). Some (verdicts.Unlogged n line.number)) c.of_byte.ensures
-    ∙ sym (or_else_some _ _ _ some) ∙ ap (first_unlogged (lines_in c.args.logs.now) inv.before) (sym
-    (lines_from c.args.takes.now c.loop-at.at no_line c.loop-at-test.true)) ∙ inv.rest
+    ∙ sym (or_else_some _ _ _ some) ∙ ap (first_unlogged (lines_in c.args.logs.now) c.loop-at.invariant.before) (sym
+    (lines_from c.args.takes.now c.loop-at.at no_line c.loop-at-test.true)) ∙ c.loop-at.invariant.rest

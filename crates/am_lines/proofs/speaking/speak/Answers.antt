@@ -16,55 +16,39 @@ reads-init g c = record {
 
 pub returns-in-End-clause-spoke : goal.returns-in-End-clause-spoke
 returns-in-End-clause-spoke g c =
-    let rules = c.args.founding.now in
-    let name = c.args.name in
     let start = g.K.Sink.contents c.args.sink.now in
-    let held = g.K.Sink.contents c.end_line.new.sink in
     let before = g.S.Source.left c.args.source.now in
     let after = g.S.Source.left c.read.new.self in
+    let P : SpokenEnd → Type 0 = λ end. Spoke c.args.founding.now c.args.name end before after start (g.K.Sink.contents c.end_line.new.sink) in
     let given = c.reads.invariant.talks.0 in
-    let taken = c.reads.invariant.talks.1 in
-    let inv = c.reads.invariant.talks.2 in
-    let P : SpokenEnd → Type 0 = λ end. Spoke rules name end before after start held in
     elim c.match-end_line.branch [
       | in-Ok-end_line w ↦ subst P (sym w.result-is)
-          (spoke_all rules name before _ after start held given _ _ taken c.in-End.ensures.end (w.in-Ok-end_line.ensures.talks rules (first_node rules name) start given inv))
+          (spoke_all c.args.founding.now c.args.name before _ after start _ given _ _ c.reads.invariant.talks.1 c.in-End.ensures.end
+          (w.in-Ok-end_line.ensures.talks c.args.founding.now (first_node c.args.founding.now c.args.name) start given c.reads.invariant.talks.2))
       | in-Err w ↦ subst P (sym (w.result-is ∙ w.end.ensures))
-          (spoke_last rules name w.in-Err.fault before before after start held given (taken_to_end given before _ after taken c.in-End.ensures.end)
-          (w.in-Err.ensures.talks rules (first_node rules name) start given inv))
+          (spoke_last c.args.founding.now c.args.name w.in-Err.fault before before after start _ given
+          (taken_to_end given before _ after c.reads.invariant.talks.1 c.in-End.ensures.end)
+          (w.in-Err.ensures.talks c.args.founding.now (first_node c.args.founding.now c.args.name) start given c.reads.invariant.talks.2))
     ]
 
 pub returns-in-Err-take_all-clause-spoke : goal.returns-in-Err-take_all-clause-spoke
 returns-in-Err-take_all-clause-spoke g c =
-    let rules = c.args.founding.now in
-    let name = c.args.name in
     let start = g.K.Sink.contents c.args.sink.now in
-    let held = g.K.Sink.contents c.take_all.new.sink in
     let before = g.S.Source.left c.args.source.now in
     let after = g.S.Source.left c.read.new.self in
-    let given = c.reads.invariant.talks.0 in
-    let taken = c.reads.invariant.talks.1 in
-    let inv = c.reads.invariant.talks.2 in
-    let P : SpokenEnd → Type 0 = λ end. Spoke rules name end before after start held in
-    subst P (sym c.end-in-Err-take_all.ensures)
-    (spoke_part rules name c.in-Err-take_all.fault before after start held (given ++ take c.in-Took.n c.read.new.into) (takes_then before _ after given _ taken c.in-Took.ensures.took)
-    (c.in-Err-take_all.ensures.talks rules (first_node rules name) start given inv))
+    subst (λ end. Spoke c.args.founding.now c.args.name end before after start (g.K.Sink.contents c.take_all.new.sink)) (sym c.end-in-Err-take_all.ensures)
+    (spoke_part c.args.founding.now c.args.name c.in-Err-take_all.fault before after start _ (c.reads.invariant.talks.0 ++ take c.in-Took.n c.read.new.into)
+    (takes_then before _ after _ _ c.reads.invariant.talks.1 c.in-Took.ensures.took)
+    (c.in-Err-take_all.ensures.talks c.args.founding.now (first_node c.args.founding.now c.args.name) start _ c.reads.invariant.talks.2))
 
 pub reads-preserved : goal.reads-preserved
 reads-preserved g c =
-    let rules = c.args.founding.now in
-    let name = c.args.name in
-    let start = g.K.Sink.contents c.args.sink.now in
-    let before = g.S.Source.left c.args.source.now in
-    let after = g.S.Source.left c.read.new.self in
     let given = c.reads.invariant.talks.0 in
-    let taken = c.reads.invariant.talks.1 in
-    let inv = c.reads.invariant.talks.2 in
     record {
       talks = (
         given ++ take c.in-Took.n c.read.new.into,
-        takes_then before _ after given _ taken c.in-Took.ensures.took,
-        c.in_default-take_all.ensures.talks rules (first_node rules name) start given inv,
+        takes_then (g.S.Source.left c.args.source.now) _ (g.S.Source.left c.read.new.self) given _ c.reads.invariant.talks.1 c.in-Took.ensures.took,
+        c.in_default-take_all.ensures.talks c.args.founding.now (first_node c.args.founding.now c.args.name) (g.K.Sink.contents c.args.sink.now) given c.reads.invariant.talks.2,
       );
       reads = c.in-Took.ensures.counts ∙ c.reads.invariant.reads;
       writes = c.in_default-take_all.ensures.counts ∙ c.reads.invariant.writes;

@@ -21,11 +21,13 @@ pub returns-in_err-happen-clause-spent : goal.returns-in_err-happen-clause-spent
 returns-in_err-happen-clause-spent c =
     let d = drive c.loop-done._done (first_drive c.args.seed) in
     let p = err_from_is_err_and c.from_residual-in_err-happen.result c.from_residual-in_err-happen.ensures.1 in
-    rw (p.1, p.2) (λ is.
-    let many = so_many c.loop-done._done (first_drive c.args.seed) in
-    let same = ap (λ (q : Play). length q.events) (drawn_play d) in
-    let full = c.in_err-happen.ensures.spent (drawn_for d) (c.in_ok-event.ensures d c.loop-done.invariant.driven).driven is in
-    omega (arith, c.loop-done-test.true))
+    rw (p.1, p.2) (λ is. omega (
+      arith,
+      c.loop-done-test.true,
+      so_many c.loop-done._done (first_drive c.args.seed),
+      ap (λ (q : Play). length q.events) (drawn_play d),
+      c.in_err-happen.ensures.spent (drawn_for d) (c.in_ok-event.ensures d c.loop-done.invariant.driven).driven is,
+    ))
 
 pub loop-done-preserved : goal.loop-done-preserved
 loop-done-preserved c =

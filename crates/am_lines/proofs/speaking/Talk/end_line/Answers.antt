@@ -18,20 +18,14 @@ returns-in-Err-clause-talks g c = λ rules first start given t. talk_lacks rules
 
 pub returns-in-Ok-write_all-clause-talks : goal.returns-in-Ok-write_all-clause-talks
 returns-in-Ok-write_all-clause-talks g c =
-    let e = c.is_empty.ensures in
-    let f = c.if-is_empty.false in
-    let ok = c.args.self.now.line.ok in
-    let some : 0 < length c.args.self.now.line.items = grind (arith, nat_tests) in
+    let some : 0 < length c.args.self.now.line.items = grind (arith, nat_tests, c.is_empty.ensures, c.if-is_empty.false, c.args.self.now.line.ok) in
     λ rules first start given t.
     talk_said rules first start _ _ given _ (speaking c.say.new.self.speaker) _ _ _ some c.in-Ok.ensures.says c.say.ensures.same c.in-Ok.ensures.ready c.in-Ok.ensures.next
     (subst (λ (bs : List ℕ). Appends (g.K.Sink.contents c.args.sink.now) (g.K.Sink.contents c.write_all.new.sink) bs) c.as_bytes.ensures.value c.in-Ok-write_all.ensures.ok) t
 
 pub returns-in-Err-write_all-clause-talks : goal.returns-in-Err-write_all-clause-talks
 returns-in-Err-write_all-clause-talks g c =
-    let e = c.is_empty.ensures in
-    let f = c.if-is_empty.false in
-    let ok = c.args.self.now.line.ok in
-    let some : 0 < length c.args.self.now.line.items = grind (arith, nat_tests) in
+    let some : 0 < length c.args.self.now.line.items = grind (arith, nat_tests, c.is_empty.ensures, c.if-is_empty.false, c.args.self.now.line.ok) in
     λ rules first start given t.
     talk_cut rules first start _ _ given _ (speaking c.say.new.self.speaker) _ _ c.in-Err-write_all.field-0.written some c.in-Ok.ensures.says
     (subst (λ (bs : List ℕ). Appends (g.K.Sink.contents c.args.sink.now) (g.K.Sink.contents c.write_all.new.sink) (take c.in-Err-write_all.field-0.written bs))
