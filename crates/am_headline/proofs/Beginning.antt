@@ -1,12 +1,14 @@
 -- Where a group may be repaired and its lists agree, the world is calm; so the schedule repairs it.
 use Rattle.am_headline.proofs.RepairWords.{false_from_ne_true, inl, inr, ◌≡◌, ℕ, ◌<◌, true, false, length, refl, sym, ap, ◌∙◌, subst, arith, cases_lt, Image}
-use Rattle.am_headline.proofs.RepairWords.{Rules, place_of, life_of, has, members_of, members_at, image-top, Status, Node, top, image_of, view, members, acts}
-use Rattle.am_headline.proofs.RepairWords.{is_member, stranger, has_log, has_departed, World, current, is_stopped, run, MayRepair, AllOwned, run_owned}
+use Rattle.am_headline.proofs.RepairWords.{Rules, place_of, life_of, has, members_of, members_at, image-top, Node, top, image_of, view, members, acts}
+use Rattle.am_headline.proofs.RepairWords.{is_member, stranger, has_departed, World, current, is_stopped, run, MayRepair, AllOwned, run_owned}
 use Rattle.am_headline.proofs.RepairWords.{IsAtRest, Repair, Leads, ◌≤◌, split, Follows, IsApart, IsLeaver, is_past, Calm, Agree, RepairsWhereListsAgree}
 use Rattle.am_headline.specs.Claim.{IsOut}
 use Rattle.am_model.specs.declared.status.Status.TheVariants as status
 use Rattle.am_headline.proofs.{Nodes.acting, Nodes.leading, Nodes.no_open, Going.member_there, Schedules.letter_within, Fine.Fine, Fine.IsThere}
 use Rattle.am_headline.proofs.{Repaired.AllStored, Repaired.all_catch_up, OldLives.OldStopped, OldLives.old_lives, Leavers.Leaves, Leavers.run_leaves}
+use Rattle.am_stands.proofs.Statuses.{bare_status}
+use Rattle.am_stands.proofs.Sending.{member_of}
 
 -- ---- who is there
 
@@ -61,18 +63,6 @@ there_now rules w name laws old a runs =
     }
 
 -- ---- the beginning
-
--- who isn't a Member and hasn't departed has no list
-no_list : (s : Status) → is_member s ≡ false → has_departed s ≡ false → has_log s ≡ false
-no_list status.Stranger member gone = refl
-no_list status.Asking member gone = refl
-no_list status.Member member gone = absurd (cc)
-no_list status.Departed member gone = absurd (cc)
-
--- who has or had one, and hasn't departed, is a Member
-has_list : (s : Status) → has_log s ≡ true → has_departed s ≡ false → is_member s ≡ true
-has_list status.Member log gone = refl
-has_list _ log gone = absurd (cc)
 
 abbrev repair_of : World → ℕ → Repair
 repair_of w q = record {
@@ -154,7 +144,7 @@ apart_first rules w place name b none goes there stays =
     let no_member = false_from_ne_true (is_member m.status) (λ t. (let in_ = b.agree.alone name t goes stays in cc)) in
     elim (cases_lt name 256) [
       | inl low ↦ record {
-        no_ballot = (b.laws.blanks.base.each name low).balloted.none (no_list m.status no_member there);
+        no_ballot = (b.laws.blanks.base.each name low).balloted.none (bare_status m.status no_member there);
         stays = stays;
         promised = λ member. absurd (cc);
       }
@@ -169,7 +159,7 @@ leaver_first : (rules : Rules) (w : World) (place name : ℕ) → Begun rules w 
 leaver_first rules w place name b goes there leaves =
     let m = w.nodes name in
     let l = b.leaves name leaves in
-    let h = b.agree.left name (has_list m.status l.log there) goes leaves in
+    let h = b.agree.left name (member_of m.status l.log there) goes leaves in
     record { gone = h.past; leaves = leaves; log = l.log; no_ballot = l.no_ballot; tells = h.tells }
 
 calm_first : (rules : Rules) (w : World) (place : ℕ) → Begun rules w place → Calm (repair_of w (current w place)) w

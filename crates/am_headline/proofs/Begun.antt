@@ -75,12 +75,11 @@ start_follows rules may =
 -- ---- up to the lawful front
 
 split_last : (events : List Event) (n : ℕ) → length events ≡ suc n → (before : List Event) × (e : Event) × (events ≡ before ++ e ∷ []) × (length before ≡ n)
-split_last [] n h = absurd (omega arith)
 split_last (e ∷ []) n h = ([], e, refl, omega arith)
-split_last (e ∷ f ∷ es) zero h = absurd (omega arith)
 split_last (e ∷ f ∷ es) (suc n) h =
     let r = split_last (f ∷ es) n (omega arith) in
     (e ∷ r.0, r.1, ap (λ l. e ∷ l) r.2, omega arith)
+split_last _ _ h = absurd (omega arith)
 
 only_in : (first d : Decided) (k : ℕ) → k < 1 → slice_index_or (first ∷ []) k d ≡ d → first ≡ d
 only_in first d zero low is = is

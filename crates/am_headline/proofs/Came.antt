@@ -1,9 +1,9 @@
 -- How a name comes to act in a view: it did before, it decided it, or a letter of the view's own name told it, whose base it had taken.
 use Rattle.am_headline.proofs.RepairedWords.{numbers_plain, stamp_by, other_asks, other_heard, stamp_itself, same_stamp, ◌≡◌, ⊎_elim, ℕ, ◌<◌, ◌≤◌, ◌==◌, ◌&&◌, max}
-use Rattle.am_headline.proofs.RepairedWords.{true, false, List, [], refl, sym, ap, ◌∙◌, subst, arith, nat_tests, Entry, Data, Join, Leave, View, Image, Stamp}
+use Rattle.am_headline.proofs.RepairedWords.{true, false, List, [], refl, sym, ap, ◌∙◌, subst, arith, nat_tests, Entry, View, Image, Stamp}
 use Rattle.am_headline.proofs.RepairedWords.{Outcome, Rules, stamp_lt, stamp_eq, Log, blank, fold, told_by, Node, Ballot, view, image_of, acts, is_member, push_entry}
 use Rattle.am_headline.proofs.RepairedWords.{trim_up_to, has_log, Verdict, with_promise, next_stamp, trim_for, left_in, need_of, is_view, split, Cause, hears, Looks}
-use Rattle.am_headline.proofs.RepairedWords.{finds_itself_out, waits, fetches_from_best, finds_too_few, finds_no_room, decides, Fetches, without_ballot, for_ballot}
+use Rattle.am_headline.proofs.RepairedWords.{fetches_from_best, decides, Fetches, without_ballot, for_ballot}
 use Rattle.am_headline.proofs.RepairedWords.{Change, refreshes, settles, admits, numbers, keeps_body, notes, stores, begins_list, departs, promises, opens, looks}
 use Rattle.am_headline.proofs.RepairedWords.{fetches, stores_view, collects, takes, asks_to_join, asks_to_leave, closes, Changes, unchanged, changed, view_pushed}
 use Rattle.am_headline.proofs.RepairedWords.{Blanked, not_above_itself, not_above, equal_stamps, at_most, at_most_below, HasNames, HeardNames, SameView, Stood}
@@ -59,20 +59,17 @@ plain_stay x y who log promise status taken =
 
 came_look : (c : Cause) (m x : Node) (b : Ballot) (v : Verdict) → Looks x b v → b.stamp.by ≡ x.core.who → stamp_lt (view m) b.stamp ≡ true
     → (acts x ≡ true → Came c m x) → acts v.node ≡ true → Came c m v.node
-came_look c m x b v (finds_itself_out w) mine above h t = came_on c m x v.node (record { who = refl; view_ = refl; acts_ = λ a. a; taken = omega arith }) (h t)
-came_look c m x b v (waits w u) mine above h t = came_on c m x v.node (record { who = refl; view_ = refl; acts_ = λ a. a; taken = omega arith }) (h t)
 came_look c m x b v (fetches_from_best w u z) mine above h t = came_on c m x v.node (record {
   who = refl;
   view_ = refl;
   acts_ = λ a. a;
   taken = omega arith;
 }) (h t)
-came_look c m x b v (finds_too_few w u) mine above h t = came_on c m x v.node (record { who = refl; view_ = refl; acts_ = λ a. a; taken = omega arith }) (h t)
-came_look c m x b v (finds_no_room w) mine above h t = came_on c m x v.node (record { who = refl; view_ = refl; acts_ = λ a. a; taken = omega arith }) (h t)
 came_look c m x b v (decides may) mine above h t =
     let is : view v.node ≡ b.stamp = view_last (trim_for x b (left_in b (need_of x b))) b.stamp (left_in b (need_of x b))
     (max b.resilience (image_of x).resilience) in
     own (ap (λ (u : Stamp). u.by) is ∙ mine) (ap (stamp_lt (view m)) is ∙ above)
+came_look c m x b v _ mine above h t = came_on c m x v.node (record { who = refl; view_ = refl; acts_ = λ a. a; taken = omega arith }) (h t)
 
 -- a promise of the view that the node is in is no new one
 promised_acts : (x : Node) (v : Stamp) → HasNames x → v.by < 256 → Balloted x → stamp_lt v x.core.promise ≡ false → acts (with_promise x v) ≡ true → acts x
@@ -86,9 +83,6 @@ promised_acts x v names few k low t =
 -- what is fetched is no View, or that of the promise, from its own name
 fetched_view : (x : Node) (s : ℕ) (v : Stamp) (base : ℕ) (e : Entry) → Fetches x s v e → v ≡ x.core.promise → is_view e ≡ true
     → acts (push_entry (trim_up_to x base) e) ≡ true → (view (push_entry (trim_up_to x base) e) ≡ v) × (v.by ≡ s)
-fetched_view x s v base (Data from req body) why promise is t = absurd (cc)
-fetched_view x s v base (Join name) why promise is t = absurd (cc)
-fetched_view x s v base (Leave name) why promise is t = absurd (cc)
 fetched_view x s v base (View stamp names resilience) why promise is t =
     let last = view_last (trim_up_to x base) stamp names resilience in
     let at : stamp ≡ v = sym ((acting (push_entry (trim_up_to x base) (View stamp names resilience)) t).1 ∙ last) ∙ sym promise in
@@ -99,6 +93,7 @@ fetched_view x s v base (View stamp names resilience) why promise is t =
     by_name (for_ballot b open_ from past) at =
         let u : stamp_eq stamp v ≡ true = ap (stamp_eq stamp) (sym at) ∙ stamp_itself stamp in
         absurd (split (stamp_lt v stamp) (λ y. let p = rw y at past in cc) (λ y. let p = rw (y, u) at past in cc))
+fetched_view x s v base _ why promise is t = absurd (cc)
 
 came_change : (c : Cause) (o : Outcome) (m x y : Node) → HeardNames c → HasNames x → HasNames y → Balloted x → stamp_lt (view x) (view m) ≡ false
     → Change c o x y → (acts x ≡ true → Came c m x) → acts y ≡ true → Came c m y

@@ -6,14 +6,9 @@ use Rattle.am_base.specs.declared.outcome.Outcome.TheVariants as said
 use Rattle.am_base.specs.declared.event.NodeEvent.TheVariants as does
 use Rattle.am_packet.specs.{Kinds.table, Kinds.head_of, Spelling.sender_of, Spelling.stamp_of}
 use Rattle.am_model.specs.declared.status.Status.TheVariants as status
+use Rattle.std.proofs.lemmas.Bool.{and_left}
 use Rattle.am_stands.proofs.Silent.{none_pass}
-
-departed_status : (s : Status) → has_departed s ≡ true → s ≡ status.Departed
-departed_status status.Departed h = refl
-departed_status _ h = absurd (cc)
-
-no_first : (a b : Bool) → a ≡ false → (a && b) ≡ false
-no_first a b h = rw h refl
+use Rattle.am_headline.proofs.Words.{departed_is}
 
 -- ---- no gate is open
 
@@ -24,9 +19,9 @@ record HasGone (m : Node) : Type 0 where
 
 gone_node : (m : Node) → has_departed m.status ≡ true → HasGone m
 gone_node m h =
-    let is = departed_status m.status h in
+    let is = departed_is m.status h in
     let member : is_member m.status ≡ false = ap is_member is in
-    record { member = member; asking = ap is_asking is; leads = no_first _ _ (no_first _ _ member) }
+    record { member = member; asking = ap is_asking is; leads = and_left _ _ (and_left _ _ member) }
 
 hears_nothing : (m : Node) (p : Packet) → m.status ≡ status.Departed → hear_row m p ≡ quiet m said.Elsewhere
 unfolding hear_row
@@ -48,10 +43,10 @@ still m o f =
 
 pub departed_ticks : (m : Node) → has_departed m.status ≡ true → IsStill m (step m does.Tick)
 unfolding step row tick_row
-departed_ticks m h = subst (λ (p : Plan). IsStill m (finish m p)) (sym (ap (tick_by m) (departed_status m.status h)))
+departed_ticks m h = subst (λ (p : Plan). IsStill m (finish m p)) (sym (ap (tick_by m) (departed_is m.status h)))
     (still m said.Idle (gone_node m h).leads)
 
 pub departed_hears : (m : Node) (p : Packet) → has_departed m.status ≡ true → IsStill m (hear m p)
 unfolding hear
-departed_hears m p h = subst (λ (q : Plan). IsStill m (finish m q)) (sym (hears_nothing m p (departed_status m.status h)))
+departed_hears m p h = subst (λ (q : Plan). IsStill m (finish m q)) (sym (hears_nothing m p (departed_is m.status h)))
     (still m said.Elsewhere (gone_node m h).leads)

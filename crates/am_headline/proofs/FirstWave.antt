@@ -3,7 +3,7 @@ use Rattle.am_headline.proofs.RepairWords.{and_from, stamp_itself, has_in, ◌�
 use Rattle.am_headline.proofs.RepairWords.{ap, ◌∙◌, subst, arith, Contains, nat_tests, Stamp, Report, Rules, place_of, life_of, has, stamp_eq, at_place, Packet}
 use Rattle.am_headline.proofs.RepairWords.{Accept, Nack, Letter, letter_to, Event, is_for, letter_at, Node, top, image_of, view, members, only_name, report_of}
 use Rattle.am_headline.proofs.RepairWords.{report_fits, nack_of, hear, event_at, hearings, is_unknown, hears_sequencer, hears_as_sequencer, World, is_stopped}
-use Rattle.am_headline.proofs.RepairWords.{happens, happen, IsUsed, Cause, calls, hears, refuses, IsCause, told_used, IsReport, ack, nack, request, spread, Asks}
+use Rattle.am_headline.proofs.RepairWords.{happens, happen, IsUsed, Cause, hears, IsCause, told_used, IsReport, ack, nack, request, spread, Asks}
 use Rattle.am_headline.proofs.RepairWords.{HearsFront, Repair, Leads, Follows, ReportIs, IsCalm, Calm, IsSent, Polled, Reported, Asked, hears_}
 use Rattle.am_group.specs.declared.event.Act.TheVariants as act
 use Rattle.am_headline.proofs.{Sets.only_has, Nodes.acting, Nodes.leading, RepairLeading.is_member_now, Following.Skips, Members.fronts_are_heard}
@@ -74,10 +74,9 @@ letter_is w u (suc before) l h low high there =
 -- a hearing of one of them
 pub heard_cause : (w u : World) (high after k name : ℕ) → Stays w u → AllSkip high after w → after < k → k ≤ length w.letters → (c : Cause)
     → IsCause u name (act.Hear k) c → Skips high c
-heard_cause w u high after k name h skips late within (calls event) is = tt
 heard_cause w u high after k name h skips late within (hears p) is = subst (λ x. Skips high (hears x)) is.is
     (skips k is.letter late (letter_is w u k is.letter h (omega arith) within is.there))
-heard_cause w u high after k name h skips late within refuses is = tt
+heard_cause w u high after k name h skips late within _ is = tt
 
 -- ---- a member asks for what is missing
 

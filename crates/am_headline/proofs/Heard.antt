@@ -2,7 +2,7 @@
 use Rattle.am_headline.proofs.Words.{deeds_there, ◌≡◌, ℕ, ◌≤◌, ◌==◌, not, nat_le, nat_lt, Bool, true, false, if◌then◌else◌, List, Option, Some, None}
 use Rattle.am_headline.proofs.Words.{slice_get, refl, sym, ap, ◌∙◌, subst, arith, nat_tests, Outcome, Packet, Letter, Act, Event, is_for, letter_at, Node}
 use Rattle.am_headline.proofs.Words.{has_departed, Step, finish, packet_length, hear, hear_refusal, World, is_stopped, with_record, with_step, hears_letter}
-use Rattle.am_headline.proofs.Words.{hear_cut, acts_as, happens, Cause, Ending, at_end, let_go, closing, actor, WasSentTo, rests_at_end}
+use Rattle.am_headline.proofs.Words.{hear_cut, acts_as, happens, Cause, Ending, at_end, actor, WasSentTo, rests_at_end}
 use Rattle.am_base.specs.declared.outcome.Outcome.TheVariants as said
 use Rattle.am_group.specs.declared.event.Act.TheVariants as act
 
@@ -29,9 +29,8 @@ set_here : (nodes : ℕ → Node) (name : ℕ) (n : Node) → (if name == name t
 set_here nodes name n = let t : (name == name) ≡ true = grind (arith, nat_tests) in rw t refl
 
 gates : (b d : Bool) (u v s : World) → b ≡ true → d ≡ false → (if not b then u else if d then v else s) ≡ s
-gates true true u v s p q = absurd (cc)
 gates true false u v s p q = refl
-gates false d u v s p q = absurd (cc)
+gates _ _ u v s p q = absurd (cc)
 
 heard_node : (w : World) (e : Event) (name : ℕ) (hearing : Packet → Step) (o : Option Letter) (l : Letter) → o ≡ Some l → is_for l name ≡ true
     → is_stopped w name ≡ false → (hears_letter w e name hearing o).nodes name ≡ (hearing l.packet).node
@@ -67,5 +66,4 @@ heard_as w e step p h runs is =
 pub sender_stays : {c : Cause} {o : Outcome} (m n : Node) (letters : List Letter) (k : ℕ) (l : Letter) → Ending c o m letters n → slice_get letters k ≡ Some l
     → has_departed m.status ≡ false → has_departed n.status ≡ false
 sender_stays m n letters k l (at_end {x = x} deeds) at h = ap has_departed (rests_at_end x).rests.status ∙ deeds_there m x deeds h
-sender_stays m n letters k l (let_go s v number is heard_ leaves) at h = absurd (cc)
-sender_stays m n letters k l (closing ev is course leads leaves alone room same) at h = absurd (cc)
+sender_stays m n letters k l _ at h = absurd (cc)

@@ -6,7 +6,7 @@ use Rattle.am_headline.proofs.Words.{begins_both, begins_take, begins_trans, len
 use Rattle.am_headline.proofs.Words.{has_log, accepted_sends, Decided, World, happens, run, Watch, watch_run, watch_start, broken_at, lawful_front, BeginsAt}
 use Rattle.am_headline.proofs.Words.{Segment, line_of, BecameComplete, KeepsView, Holds, HeadlineHolds, split, runs_begin, front_is_lawful, actor, IsIdle}
 use Rattle.am_headline.proofs.Words.{events_have_effects, all_get, senders_in_order, send_stands_once, bounded_holds, sent_holds, front_begins, few_names}
-use Rattle.am_headline.proofs.Words.{run_owned, IsNoted, nil_of, StandsAt, NameStands, NotedStands, told_all, group_kept, steps_move, Following}
+use Rattle.am_headline.proofs.Words.{run_owned, IsNoted, nil_from_length, StandsAt, NameStands, NotedStands, told_all, group_kept, steps_move, Following}
 use Rattle.am_chain.specs.Kept as groups
 use Rattle.am_headline.specs.Lists.{LawfulListsFit}
 use Rattle.am_headline.proofs.{Lists.item_begins, Lists.item_back, Fold.Quiet, Fold.KeptBy, Fold.Became, Fold.Held, Begun.held, Greatest.unbroken, Told.Told}
@@ -133,7 +133,7 @@ module _ (rules : Rules) (may : MayFound rules) where
       let b0 = b.0 in
       let b1 = b.1 in
       let count = (h.given name).count in
-      absurd (some (nil_of (deliveries w.records name) (omega arith))))
+      absurd (some (nil_from_length (deliveries w.records name) (omega arith))))
 
   pub begins_there : (w : World) (name : ℕ) → Told rules w → has_log (w.nodes name).status ≡ true → BeginsAt rules w name (w.nodes name).core.start
   begins_there w name h log =

@@ -1,9 +1,10 @@
 -- Who left: whose Leave stands on the chain asked to leave, and who departed has its Leave accepted, unless nobody is left.
-use Rattle.am_headline.proofs.RepairedWords.{last_is, ◌≡◌, ◌⊎◌, ⊎_elim, inl, inr, ℕ, ◌+◌, ◌<◌, ◌≤◌, List, [], ◌∷◌, ◌++◌, length, true, false, refl, sym, ap, ◌∙◌}
-use Rattle.am_headline.proofs.RepairedWords.{subst, arith, Entry, Data, Join, Leave, View, Image, place_of, life_of, Begins, IsGood, mem, view_of, key, In, row_at}
-use Rattle.am_headline.proofs.RepairedWords.{begins_refl, begins_more, begins_trans, begins_both, begins_same, begins_length, begins_pushed, length_push, good_begins}
-use Rattle.am_headline.proofs.RepairedWords.{told_push, long_told, mem_in, in_mem, mem_between, leaver_in, leaver_out, Group, put, opening, Leads, chain_of, Move}
-use Rattle.am_headline.proofs.RepairedWords.{MayNumber, choice_of, longer, accepts, learns, begins, raises, shows, serves, gives_over, welcomes, asks, stops, Kept}
+use Rattle.am_headline.proofs.RepairedWords.{same_from_push, ◌≡◌, ◌⊎◌, ⊎_elim, inl, inr, ℕ, ◌+◌, ◌<◌, ◌≤◌, List, [], ◌∷◌, ◌++◌, length, true, false, refl, sym}
+use Rattle.am_headline.proofs.RepairedWords.{subst, arith, Entry, Leave, View, Image, place_of, life_of, Begins, IsGood, mem, view_of, key, In, row_at, ap, ◌∙◌}
+use Rattle.am_headline.proofs.RepairedWords.{begins_refl, begins_more, begins_trans, begins_both, begins_same, begins_length, begins_pushed, length_push}
+use Rattle.am_headline.proofs.RepairedWords.{good_begins}
+use Rattle.am_headline.proofs.RepairedWords.{told_push, long_told, mem_in, in_mem, mem_between, leaver_in, leaver_out, Group, put, opening, Leads, chain_of}
+use Rattle.am_headline.proofs.RepairedWords.{MayNumber, choice_of, longer, accepts, learns, begins, raises, gives_over, welcomes, asks, stops, Kept, Move}
 use Rattle.am_headline.proofs.RepairedWords.{Run, founded, more, first_stamp, put_same, put_at, run_keeps, moves_grow, Becomes, stayed, joins, founds, became}
 use Rattle.am_base.specs.Whole.{image_of}
 use Rattle.am_chain.specs.Moves.{numbers, stores, fetches, decides, departs, closes}
@@ -62,7 +63,7 @@ asked_more : (s t : Group) (e : Entry) → chain_of t.views ≡ chain_of s.views
     → ((j : ℕ) → e ≡ Leave j → (s.node j).leaving ≡ true) → LeavesAsked s → LeavesAsked t
 asked_more s t e chain leaving new h a j begins_ = leaving j (⊎_elim
     (λ (old : Begins (a ++ Leave j ∷ []) (chain_of s.views)). h a j old)
-    (λ (now : a ++ Leave j ∷ [] ≡ chain_of s.views ++ e ∷ []). new j (sym (last_is a (chain_of s.views) (Leave j) e now)))
+    (λ (now : a ++ Leave j ∷ [] ≡ chain_of s.views ++ e ∷ []). new j (sym (same_from_push a (chain_of s.views) (Leave j) e now).1))
     (begins_pushed e (subst (Begins (a ++ Leave j ∷ [])) chain begins_)))
 
 -- the chain of a sequencer's group, with an entry more
@@ -74,10 +75,9 @@ chain_more s i list k leads =
     ap (λ u. put s.views.line (key u) list (key s.views.current)) viewed ∙ put_same s.views.line (key s.views.current) list
 
 numbers_asked : (s : Group) (i : ℕ) (e : Entry) → MayNumber s.node i e → (j : ℕ) → e ≡ Leave j → (s.node j).leaving ≡ true
-numbers_asked s i (Data from req body) may j is = absurd (cc)
-numbers_asked s i (Join name) may j is = absurd (cc)
 numbers_asked s i (Leave name) may j is = let same : name ≡ j = same_leave name j is in ap (λ k. (s.node k).leaving) (sym same) ∙ may.0
 numbers_asked s i (View stamp members resilience) may j is = absurd may
+numbers_asked s i _ may j is = absurd (cc)
 
 asked_move : (s t : Group) → Move s t → Kept s → LeavesAsked s → LeavesAsked t
 asked_move s t (numbers i e leads fit may) k h =
@@ -95,7 +95,7 @@ asked_move s t (decides i members resilience may) k h = λ a j begins_.
     let is : chain_of t.views ≡ all = put_same s.views.line (key m.promise) all in
     put_leaving s i (record m { list = all; ballot = false }) (λ z. z) j (⊎_elim
     (λ (old : Begins (a ++ Leave j ∷ []) m.list). h a j (begins_trans old ((k.each i).list may.up)))
-    (λ (now : a ++ Leave j ∷ [] ≡ all). absurd (let e = last_is a m.list (Leave j) (View m.promise members resilience) now in cc))
+    (λ (now : a ++ Leave j ∷ [] ≡ all). absurd (let e = (same_from_push a m.list (Leave j) (View m.promise members resilience) now).1 in cc))
     (begins_pushed (View m.promise members resilience) (subst (Begins (a ++ Leave j ∷ [])) is begins_))))
 asked_move s t (stores i e up decided other stays next) k h = asked_same s t refl (put_leaving s i (longer (s.node i) e) (λ z. z)) h
 asked_move s t (learns i told_ acc up rises within before up_to given low) k h = asked_same s t refl (put_leaving s i _ (λ z. z)) h
@@ -148,7 +148,7 @@ gone_decided s t i members resilience k kt up member is group d gone (last befor
     let part : Begins (there.0 ++ Leave d ∷ []) m.list = ⊎_elim
     (λ (old : Begins (there.0 ++ Leave d ∷ []) m.list). old)
     (λ (now : there.0 ++ Leave d ∷ [] ≡ opening (choice_of m members resilience)).
-    absurd (let e = last_is there.0 m.list (Leave d) (View m.promise members resilience) now in cc))
+    absurd (let e = (same_from_push there.0 m.list (Leave d) (View m.promise members resilience) now).1 in cc))
     (begins_pushed (View m.promise members resilience) (subst (Begins (there.0 ++ Leave d ∷ [])) is there.1)) in
     let on = (k.each i).list up in
     let long_a = length_push there.0 (Leave d) in
@@ -196,14 +196,13 @@ gone_move s t (learns i told_ acc up rises within before up_to given low) k kt h
     (h d (not_now s i _ d refl gone))
 gone_move s t (begins i few up stays member) k kt h = λ d gone. gone_same s t refl (begins_refl s.group) d (h d (not_now s i _ d refl gone))
 gone_move s t (raises i stamp there above) k kt h = λ d gone. gone_same s t refl (begins_refl s.group) d (h d (not_now s i _ d refl gone))
-gone_move s t (shows i there small other begun unshown) k kt h = λ d gone. gone_same s t refl (begins_refl s.group) d (h d gone)
-gone_move s t (serves i list up shown others) k kt h = λ d gone. gone_same s t refl (begins_refl s.group) d (h d gone)
 gone_move s t (fetches i f list e up ballot served shown next) k kt h = λ d gone. gone_same s t refl (begins_refl s.group) d
     (h d (not_now s i (longer (s.node i) e) d refl gone))
 gone_move s t (gives_over i) k kt h = λ d gone. gone_same s t refl (begins_refl s.group) d (h d (not_now s i _ d refl gone))
 gone_move s t (welcomes j stamp base join may) k kt h = λ d gone. gone_same s t refl (begins_refl s.group) d (h d (not_now s j _ d refl gone))
 gone_move s t (asks i up unballoted) k kt h = λ d gone. gone_same s t refl (begins_refl s.group) d (h d (not_now s i _ d refl gone))
 gone_move s t (stops i) k kt h = λ d gone. gone_same s t refl (begins_refl s.group) d (h d (not_now s i _ d refl gone))
+gone_move s t _ k kt h = λ d gone. gone_same s t refl (begins_refl s.group) d (h d gone)
 
 -- ---- each run
 
@@ -214,7 +213,7 @@ pub record AllLeft (s : Group) : Type 0 where
 nil_none : (a : List Entry) (e x : Entry) → Begins (a ++ x ∷ []) (e ∷ []) → x ≡ e
 nil_none a e x h = ⊎_elim
     (λ (z : Begins (a ++ x ∷ []) []). absurd (let l = begins_length z in let k = length_push a x in omega arith))
-    (λ (z : a ++ x ∷ [] ≡ [] ++ e ∷ []). last_is a [] x e z)
+    (λ (z : a ++ x ∷ [] ≡ [] ++ e ∷ []). (same_from_push a [] x e z).1)
     (begins_pushed e h)
 
 pub runs_left : (founders : List ℕ) (first resilience : ℕ) (s : Group) → Run founders first resilience s → AllLeft s

@@ -13,8 +13,6 @@ use Rattle.am_headline.proofs.{Lists.find_view, Lists.line_part, Lists.same_open
 -- where none of them passes, each of them fails
 none_from : (p : ℕ → Bool) (from place : ℕ) (lives : List ℕ) → place < length lives → 0 < slice_index lives place
     → list_any p (names_from from lives) ≡ false → p (name_at (from + place) (slice_index lives place)) ≡ false
-none_from p from place [] low some h = absurd (omega arith)
-none_from p from zero (zero ∷ lives) low some h = absurd (omega arith)
 none_from p from (suc k) (zero ∷ lives) low some h =
     let at : from + 1 + k ≡ from + suc k = omega arith in
     subst (λ i. p (name_at i (slice_index lives k)) ≡ false) at (none_from p (from + 1) k lives (omega arith) some h)
@@ -26,6 +24,7 @@ none_from p from (suc k) (suc b ∷ lives) low some h =
     let at : from + 1 + k ≡ from + suc k = omega arith in
     let rest : list_any p (names_from (from + 1) lives) ≡ false = split (p (name_at from (suc b))) (λ t. absurd (let z = rw t at h in cc)) (λ f. rw f at h) in
     subst (λ i. p (name_at i (slice_index lives k)) ≡ false) at (none_from p (from + 1) k lives (omega arith) some rest)
+none_from p from _ _ low some h = absurd (omega arith)
 
 pub none_passes : (p : ℕ → Bool) (set : List ℕ) (name : ℕ) → IsSet set → has set name ≡ true → list_any p (names_of set) ≡ false → p name ≡ false
 none_passes p set name is there h =

@@ -1,9 +1,10 @@
 -- A member hasn't left by any beginning of the sequencer's list, and has its view's View as the last one.
 use Rattle.am_headline.proofs.RepairWords.{has_in, ◌≡◌, ◌≢◌, inr, ℕ, zero, suc, ◌+◌, ◌-◌, ◌<◌, ◌≤◌, ◌==◌, nat_lt, nat_le, true, false, List, [], ◌∷◌, length, take}
-use Rattle.am_headline.proofs.RepairWords.{Some, slice_get, refl, sym, ap, ◌∙◌, subst, arith, add-one, nat_tests, Entry, View, Image, place_of, life_of, has, Log}
+use Rattle.am_headline.proofs.RepairWords.{Some, slice_get, refl, sym, ap, ◌∙◌, subst, arith, add-one, nat_tests, Entry, Image, place_of, life_of, has, Log}
 use Rattle.am_headline.proofs.RepairWords.{top_of, told_by, entry_at, image_at, at_place, row_of, after, fits, fold, image-next, entry-get, IsUsed, used_fold, row_at}
 use Rattle.am_headline.proofs.RepairWords.{Past, past_after, not_both, mod16, Node, top, has_own_leave, is_view, split, after_same, Repair, Leads, Follows}
 use Rattle.am_headline.proofs.RepairLists.{entry_within}
+use Rattle.am_stands.proofs.Parts.{view_its}
 
 -- ---- entries of a list
 
@@ -77,17 +78,12 @@ stays_in r q m l used f there low = split (has_own_leave m)
 
 -- ---- the last View
 
-number_of_view : (image : Image) (n : ℕ) (e : Entry) → is_view e ≡ true → (after image n e).view_number ≡ n
-unfolding after
-number_of_view image n (View stamp names resilience) t = refl
-number_of_view image n _ t = absurd (cc)
-
 -- a View stands at or below the number of the last one
 number_up : (image : Image) (n : ℕ) (es : List Entry) → image.view_number ≤ n → image.view_number ≤ (fold image n es).view_number
 unfolding fold
 number_up image n [] low = omega arith
 number_up image n (e ∷ es) low = split (is_view e)
-    (λ t. let new = number_of_view image n e t in let more = number_up (after image n e) (n + 1) es (omega arith) in omega arith)
+    (λ t. let new = view_its image n e t in let more = number_up (after image n e) (n + 1) es (omega arith) in omega arith)
     (λ f. let same = (after_same image n e f).number in let more = number_up (after image n e) (n + 1) es (omega arith) in omega arith)
 
 view_stands : (image : Image) (n : ℕ) (es : List Entry) (k : ℕ) (e : Entry) → slice_get es k ≡ Some e → is_view e ≡ true
@@ -96,7 +92,7 @@ unfolding fold
 view_stands image n [] k e there is = absurd (cc)
 view_stands image n (x ∷ es) zero e there is =
     let same : x ≡ e = cc in
-    let new = number_of_view image n x (ap is_view same ∙ is) in
+    let new = view_its image n x (ap is_view same ∙ is) in
     let more = number_up (after image n x) (n + 1) es (omega arith) in
     omega arith
 view_stands image n (x ∷ es) (suc k) e there is = let rest = view_stands (after image n x) (n + 1) es k e there is in omega arith

@@ -1,7 +1,7 @@
 -- In each run a name whose place has a greater life has stopped.
 use Rattle.am_headline.proofs.RepairWords.{◌≡◌, ℕ, ◌+◌, ◌<◌, ◌==◌, true, false, List, [], ◌∷◌, ◌++◌, refl, sym, ap, ◌∙◌, subst, arith, list_any, nat_tests}
 use Rattle.am_headline.proofs.RepairWords.{list_any-append, Rules, place_of, life_of, Event, World, start, current, is_stopped, with_record, with_step, run}
-use Rattle.am_headline.proofs.RepairWords.{split, actor, idles, stops, returns, steps, EachKeeps, runs_keep}
+use Rattle.am_headline.proofs.RepairWords.{split, actor, stops, returns, EachKeeps, runs_keep}
 
 pub record OldStopped (w : World) : Type 0 where
   pub born : (place : ℕ) → 0 < w.lives place
@@ -21,9 +21,7 @@ old_life place lives name at low f = let differs : life_of name ≡ lives → �
 -- whoever acts at a place is a name of that place
 each_old : EachKeeps OldStopped
 unfolding with_record with_step
-each_old w e v (idles o idle) h = record { born = h.born; old = h.old }
 each_old w e v (stops runs) h = record { born = h.born; old = λ name low. with_more w.stopped (actor w e ∷ []) name (h.old name low) }
-each_old w e v (steps c s runs cause effect) h = record { born = h.born; old = h.old }
 each_old w e v (returns place is left more) h = record {
   born = λ p. split (p == place) (λ t. rw t (omega arith)) (λ f. rw f (h.born p));
   old = λ name low. split (place_of name == place)
@@ -45,6 +43,7 @@ each_old w e v (returns place is left more) h = record {
       let was = h.old name (rw f at low) in
       split (is_stopped w (current w place)) (λ s. rw s was) (λ s. rw s (with_more w.stopped (current w place ∷ []) name was)));
 }
+each_old w e v _ h = record { born = h.born; old = h.old }
 
 old_start : (rules : Rules) → OldStopped (start rules)
 old_start rules = record { born = λ place. omega arith; old = λ name low. absurd (omega arith) }

@@ -1,17 +1,18 @@
 -- What a change keeps of a node whose Views have no less resilience than the founding.
-use Rattle.am_laws.proofs.Words.{◌≡◌, inl, inr, ⊎_elim, ℕ, zero, suc, ◌+◌, ◌-◌, ◌<◌, ◌≤◌, ◌==◌, ◌&&◌, nat_lt, max, true, false, List, [], ◌∷◌, ◌++◌}
+use Rattle.am_laws.proofs.Words.{◌≡◌, inl, inr, ⊎_elim, ℕ, suc, ◌+◌, ◌-◌, ◌<◌, ◌≤◌, ◌==◌, ◌&&◌, nat_lt, max, true, false, List, [], ◌∷◌, ◌++◌}
 use Rattle.am_laws.proofs.Words.{length, take, Option, Some, None, refl, sym, ap, ◌∙◌, subst, arith, nat_tests, length-append, All, All-nil}
 use Rattle.am_laws.proofs.Words.{All-cons, All-head, All-tail, All-append, All-take, split, and_both, place_of, has, Stamp, stamp_lt, stamp_eq, Entry, Data}
 use Rattle.am_laws.proofs.Words.{Join, Leave, View, Image, Outcome, Rules, Log, blank, top_of, told_by, image_at, with_entry, members_of, after, fold}
 use Rattle.am_laws.proofs.Words.{Packet, Node, Ballot, top, image_of, view, members, acts, is_sequencer, is_member, has_log, push_entry, trim_up_to}
-use Rattle.am_laws.proofs.Words.{overtake, Verdict, need_of, left_in, trim_for, is_view, refresh, hears_member, hears_in_view}
-use Rattle.am_laws.proofs.Words.{hears_sequencer, Cause, hears, Balloting, with_more, without_one, as_it_is, Looks, decides, Change, refreshes}
+use Rattle.am_laws.proofs.Words.{overtake, Verdict, need_of, left_in, trim_for, is_view, refresh}
+use Rattle.am_laws.proofs.Words.{Cause, hears, Balloting, with_more, without_one, as_it_is, Looks, decides, Change, refreshes}
 use Rattle.am_laws.proofs.Words.{settles, numbers, stores, begins_list, departs, promises, opens, looks, fetches, stores_view, asks_to_join, closes, logged}
 use Rattle.am_laws.proofs.Words.{same_stamp, rests_refresh, rests_at_end, settle_is, has_in, blank_joined}
 use Rattle.am_packet.specs.declared.packet.Packet.TheVariants as packet
 use Rattle.am_laws.proofs.ViewSteps.{after_same, after_view}
 use Rattle.am_laws.proofs.ViewChanges.{numbers_plain, welcomed_none, leads_member, member_of}
 use Rattle.am_headline.specs.Resiliences.{IsRaised, BeginsRaised, FirstIsView, ListRaised, NodeRaised, PacketRaised}
+use Rattle.am_laws.proofs.Receiving.{heard_acts}
 
 -- ---- images
 
@@ -57,14 +58,12 @@ least_told rules log h some = ⊎_elim
     h.begins
 
 first_taken : (n : ℕ) (es : List Entry) → FirstIsView es → FirstIsView (take n es)
-first_taken zero es h = tt
-first_taken (suc n) [] h = tt
 first_taken (suc n) (e ∷ es) h = h
+first_taken _ _ h = tt
 
 some_taken : (n : ℕ) (es : List Entry) → 0 < n → 0 < length es → 0 < length (take n es)
-some_taken zero es some more = absurd (omega arith)
-some_taken (suc n) [] some more = absurd (omega arith)
 some_taken (suc n) (e ∷ es) some more = omega arith
+some_taken _ _ some more = absurd (omega arith)
 
 -- what it tells up to a number
 pub begins_at : (rules : Rules) (log : Log) (base : ℕ) → ListRaised rules log → 0 < top_of log → log.start ≤ base
@@ -154,12 +153,6 @@ acting_listed rules m t list promised =
 pub leads_acts : (m : Node) → is_sequencer m ≡ true → acts m ≡ true
 leads_acts m t = (and_both (acts m) ((view m).by == m.core.who) t).0
 
-hears_acts : (m : Node) (s : ℕ) (v : Stamp) → hears_sequencer m s v ≡ true → acts m ≡ true
-hears_acts m s v t =
-    let a = and_both (hears_in_view m s v) (v.by == s) t in
-    let b = and_both (hears_member m s) (acts m && stamp_eq v (view m)) a.0 in
-    (and_both (acts m) (stamp_eq v (view m)) b.1).0
-
 -- so an entry that is no View isn't its first
 acting_pushed : (rules : Rules) (m : Node) (e : Entry) → is_view e ≡ false → acts m ≡ true → NodeRaised rules m → NodeRaised rules (push_entry m e)
 acting_pushed rules m e plain t h =
@@ -220,7 +213,7 @@ change_raised rules heard m n refreshes h =
 change_raised rules heard m n settles h = subst (NodeRaised rules) (sym (settle_is m)) (same_raised rules m _ refl refl refl refl h)
 change_raised rules heard m n (numbers e leads room why) h = acting_pushed rules m e (numbers_plain _ m e why) (leads_acts m leads) h
 change_raised rules heard m n (stores s v base acc number e by from plain may) h =
-    same_raised rules (push_entry m e) n refl refl refl refl (acting_pushed rules m e plain (hears_acts m s v from) h)
+    same_raised rules (push_entry m e) n refl refl refl refl (acting_pushed rules m e plain (heard_acts m s v from) h)
 change_raised rules heard m n (begins_list s v base join image is o may) h =
     let told = heard (packet.Welcome s v base join image) is in
     record {

@@ -4,7 +4,7 @@ use Rattle.am_laws.proofs.Words.{◌∙◌, subst, arith, nat_tests, All, All-ni
 use Rattle.am_laws.proofs.Words.{Stamp, Rules, MayFound, Packet, Event, Node, Ballot, top, image_of, has_log, founder, stranger, founders_view}
 use Rattle.am_laws.proofs.Words.{is_view, Verdict, Step, World, start, run, happen, happens, with_record, with_step, heard_by, Cause, hears, Looks}
 use Rattle.am_laws.proofs.Words.{finds_itself_out, Change, refreshes, settles, begins_list, looks, closes, push_entry, Leave, Says, welcome, piece, result}
-use Rattle.am_laws.proofs.Words.{LetterSays, Effect, actor, IsCause, Happens, idles, stops, returns, steps, all_get, all_item, equals_itself, along, EachKeeps}
+use Rattle.am_laws.proofs.Words.{LetterSays, Effect, actor, IsCause, Happens, idles, steps, all_get, all_item, equals_itself, along, EachKeeps}
 use Rattle.am_laws.proofs.Words.{StepsKeep, SameParts, law_keeps, runs_keep, first_has, rests_refresh, rests_at_end, settle_is, events_have_effects, logged}
 use Rattle.am_base.specs.declared.outcome.Outcome.TheVariants as said
 use Rattle.am_packet.specs.declared.packet.Packet.TheVariants as packet
@@ -22,7 +22,8 @@ use Rattle.am_runs.proofs.Ballots.{ballots_are_own}
 use Rattle.am_headline.specs.Resiliences.{IsRaised, GivesRaised, GaveRaised, FirstIsView, ListRaised, NodeRaised, PacketRaised, LetterRaised}
 use Rattle.am_headline.specs.Resiliences.{ResiliencesHold}
 use Rattle.am_headline.proofs.Raised.{least_told, begins_at, blank_told, acting_listed, leads_acts, HeardRaised, change_raised}
-use Rattle.am_headline.proofs.Sound.{has_entry, of_ballot, by_last, one_more}
+use Rattle.am_headline.proofs.Sound.{has_entry, of_ballot, by_last}
+use Rattle.am_headline.proofs.OneStep.{run_push}
 
 -- ---- letters
 
@@ -177,16 +178,15 @@ given_by : (rules : Rules) (w : World) (e : Event) (v : World) → Happens w e v
     → All (GaveRaised rules) v.records
 unfolding with_record with_step
 given_by rules w e v (idles o idle) h ballots all = with_one rules w.records _ (idle_raised rules o idle) all
-given_by rules w e v (stops runs) h ballots all = with_one rules w.records _ tt all
-given_by rules w e v (returns place is gone more) h ballots all = with_one rules w.records _ tt all
 given_by rules w e v (steps c s runs cause effect) h ballots all =
     with_one rules w.records _ (answer_raised rules w (actor w e) c s.node s.outcome (h.each (actor w e)).list ballots effect.answer) all
+given_by rules w e v _ h ballots all = with_one rules w.records _ tt all
 
 given_more : (rules : Rules) → MayFound rules → (es : List Event) (e : Event) → All (GaveRaised rules) (run rules es).records
     → All (GaveRaised rules) (run rules (es ++ e ∷ [])).records
 given_more rules may es e h =
     let w = run rules es in
-    subst (λ (v : World). All (GaveRaised rules) v.records) (sym (one_more rules es e))
+    subst (λ (v : World). All (GaveRaised rules) v.records) (sym (run_push rules es e))
     (given_by rules w e (happens w e) (events_have_effects w e) (run_raised rules es may) (ballots_are_own rules es may) h)
 
 given_raised : (rules : Rules) (events : List Event) → MayFound rules → All (GaveRaised rules) (run rules events).records

@@ -22,6 +22,7 @@ pub use Rattle.am_headline.proofs.Words.{run_keeps, NameStands, NamesNamed, Move
 pub use Rattle.am_headline.proofs.Words.{PacketSays, WelcomeTo, has_begun, has_gone, has_left, is_leaving, may_begin, PieceSays, Becomes, stayed, joins}
 pub use Rattle.am_headline.proofs.Words.{founds, became, departed_silent, GroupOk, taken_more, steps_move, departed_quiet, departed_is}
 unfoldable pub use Rattle.am_headline.proofs.Words.{finish, hear, hear_refusal, hear_row, with_record, with_step, happens, view_of}
+pub use Rattle.std.proofs.lemmas.List.{same_from_push}
 pub use Rattle.am_stands.proofs.Words.{take-append-add, length-take, Report, at_place, counted_at, fold_append, view_grows, members, next_stamp}
 pub use Rattle.am_stands.proofs.Words.{begins_pushed, mem_push, was_begins, mem_between, leaver_in, leaver_out, Past, Was, Fetches, without_ballot, admits}
 pub use Rattle.am_stands.proofs.Words.{keeps_body, notes, promises, opens, takes_report, stamp_itself, finds_itself_out, waits, fetches_from_best}
@@ -40,7 +41,7 @@ pub use Rattle.am_laws.proofs.{Taken.stamp_by, Taken.other_asks, TakenRuns.taken
 pub use Rattle.am_laws.proofs.{Stamps.not_above_itself, Stamps.not_above, Stamps.at_most, Stamps.at_most_below, Stamps.below, ViewSteps.SameView}
 pub use Rattle.am_laws.proofs.{ViewSteps.Stood, ViewSteps.view_last, Named.names_hold}
 pub use Rattle.am_chain.specs.Group.{Leads, current_of}
-pub use Rattle.am_stands.proofs.{ChainNames.counts_names, Parts.stood, Parts.counted_whole, Entries.key_stamp, Sent.leading, Sent.Leading, LeftOut.last_is}
+pub use Rattle.am_stands.proofs.{ChainNames.counts_names, Parts.stood, Parts.counted_whole, Entries.key_stamp, Sent.leading, Sent.Leading}
 pub use Rattle.am_stands.proofs.{Growing.moves_grow}
 pub use Rattle.am_stands.proofs.{Any.GoesSo, Any.run_goes, Starting.item_get, Departed.rests_step, Departed.rests_course}
 pub use Rattle.am_headline.proofs.{Ways.Kind, Ways.kind_of, Begun.held, OneStep.parts, OneStep.plain, OneStep.OneStep, Fold.KeptBy, Fold.Quiet}

@@ -1,7 +1,7 @@
 -- In each run what anybody knows a name to have taken was taken, or is no more than its own base.
 use Rattle.am_headline.proofs.RepairWords.{eqb-true, equals_itself, MayFound, Rules, has, Outcome, Event, few_names, HeardUsed, HeardNames, heard_names, split, Node}
 use Rattle.am_headline.proofs.RepairWords.{Packet, ◌≡◌, ℕ, ◌<◌, ◌≤◌, ◌==◌, List, refl, sym, ap, ◌∙◌, subst, arith, All, All-nil, All-append, All-weaker, Letter}
-use Rattle.am_headline.proofs.RepairWords.{World, start, with_step, run, heard_by, Cause, calls, hears, refuses, LetterSays, Changes, no_change, changed, actor}
+use Rattle.am_headline.proofs.RepairWords.{World, start, with_step, run, heard_by, Cause, hears, LetterSays, Changes, no_change, changed, actor}
 use Rattle.am_headline.proofs.RepairWords.{WasSentTo, IsCause, all_item, EachKeeps, StepsKeep, SameParts, law_keeps, runs_keep, Along, along_changes, AllOwned}
 use Rattle.am_headline.proofs.RepairWords.{heard_used, each_along, each_owned, owned_start, KnownIsTaken}
 use Rattle.am_packet.specs.declared.packet.Packet.TheVariants as packet
@@ -48,8 +48,7 @@ pub cause_taken : (w : World) (e : Event) (c : Cause) → All (LetterTaken w.nod
 cause_taken w e (hears p) all cause =
     let was : WasSentTo w (actor w e) e.act p = cause in
     subst (ReportTaken w.nodes) was.is (all_item (LetterTaken w.nodes) w.letters (heard_by e.act) was.letter all was.there)
-cause_taken w e (calls x) all cause = tt
-cause_taken w e refuses all cause = tt
+cause_taken w e _ all cause = tt
 
 told_step : (rules : Rules) → StepsKeep (AllOwned rules) (AllTold rules)
 unfolding with_step

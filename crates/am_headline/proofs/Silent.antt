@@ -4,7 +4,7 @@ use Rattle.am_headline.proofs.RepairWords.{Ballot, with_report, has_departed, Ca
 use Rattle.am_headline.proofs.RepairWords.{asks_to_join, closes, Effect, rests_refresh, rests_at_end, settle_is}
 use Rattle.am_model.specs.declared.status.Status.TheVariants as status
 use Rattle.am_laws.specs.Looks.{finds_itself_out}
-use Rattle.am_laws.specs.Courses.{IsPlain, Course, nothing_yet, used_report, and_then, Deeds, plainly, looked, Ending, at_end, let_go, closing}
+use Rattle.am_laws.specs.Courses.{IsPlain, Course, nothing_yet, used_report, and_then, Deeds, plainly, looked, Ending, at_end}
 
 abbrev pub Here : Node → Type 0
 Here x = has_departed x.status ≡ false
@@ -34,8 +34,7 @@ here_deeds m x (looked {n = y} b verdict course over why look is) h = here_look 
 
 pub none_or_here : {c : Cause} {o : Outcome} (m : Node) (letters : List Letter) (n : Node) → Ending c o m letters n → Here m → (letters ≡ []) ⊎ Here n
 none_or_here m letters n (at_end {x = x} deeds) h = inr (ap has_departed (rests_at_end x).rests.status ∙ here_deeds m x deeds h)
-none_or_here m letters n (let_go s v number is heard leaves) h = inl refl
-none_or_here m letters n (closing {x = x} event call course leads leaves alone room same) h = inl refl
+none_or_here m letters n _ h = inl refl
 
 -- who is there after the step is who sent
 pub same_sender : (m : Node) (c : Cause) (step : Step) → (effect : Effect m c step) → Here step.node → effect.sender ≡ step.node

@@ -6,7 +6,7 @@ use Rattle.am_headline.proofs.RepairWords.{only_name, is_sequencer, has_room, wa
 use Rattle.am_headline.proofs.RepairWords.{request_of, spread_of, join_ask_of, accept_of, result_of, tells_accepted, with_accept, finish, step, row}
 use Rattle.am_headline.proofs.RepairWords.{is_unfinished, would_emit, emit, everywhere_else, tick_row, tick_by, tick_acting, and_result, put_off, behind_view}
 use Rattle.am_headline.proofs.RepairWords.{viewed_by, event_at, running, ticks, World, is_stopped, with_record, with_step, happens, happen, split, Cause}
-use Rattle.am_headline.proofs.RepairWords.{calls, hears, refuses, actor, IsCause, all_letter, all_get, inr, Repair, IsApart, IsLeaver, our_ticks}
+use Rattle.am_headline.proofs.RepairWords.{hears, actor, IsCause, all_letter, all_get, inr, Repair, IsApart, IsLeaver, our_ticks}
 use Rattle.am_model.specs.Emit.{leave_ask_of}
 use Rattle.am_base.specs.declared.event.NodeEvent.TheVariants as does
 use Rattle.am_base.specs.declared.outcome.Outcome.TheVariants as said
@@ -83,10 +83,9 @@ acting_skips high m stays far =
     (λ u. skips_telling high m said.Ticked (only_name (view m).by) ack_of (λ n. tt)))))
 
 row_skips : (high : ℕ) (m : Node) (s : Status) → is_unfinished m.ballot ≡ false → (is_sequencer m ≡ true → m.leaving ≡ false) → (is_sequencer m ≡ true → high < top m) → PlanSkips high (tick_by m s)
-row_skips high m status.Stranger none stays far = skips_quiet high m said.Idle
 row_skips high m status.Asking none stays far = skips_telling high m said.Ticked (everywhere_else m) join_ask_of (λ n. tt)
 row_skips high m status.Member none stays far = subst (PlanSkips high) (sym (without_ballot m m.ballot none)) (acting_skips high m stays far)
-row_skips high m status.Departed none stays far = skips_quiet high m said.Idle
+row_skips high m _ none stays far = skips_quiet high m said.Idle
 
 pub tick_skips : (high : ℕ) (m : Node) → is_unfinished m.ballot ≡ false → (is_sequencer m ≡ true → m.leaving ≡ false) → (is_sequencer m ≡ true → high < top m) → All (SkipsLetter high) (step m does.Tick).letters
 unfolding step row tick_row
@@ -137,9 +136,8 @@ pub record Waits (rules : Rules) (r : Repair) (i after high : ℕ) (u : World) :
   pub skips : AllSkip high after u
 
 tick_cause : (u : World) (name high : ℕ) (c : Cause) → IsCause u name act.Tick c → Skips high c
-tick_cause u name high (calls event) is = tt
 tick_cause u name high (hears p) is = absurd (let x = is.there in cc)
-tick_cause u name high refuses is = tt
+tick_cause u name high _ is = tt
 
 tick_waits : (rules : Rules) (r : Repair) (i after high : ℕ) (u : World) (place : ℕ) → has r.members i ≡ true → (i == r.by) ≡ false → high < r.high
     → Waits rules r i after high u → Waits rules r i after high (happens u (event_at place act.Tick))

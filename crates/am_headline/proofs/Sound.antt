@@ -2,7 +2,7 @@
 use Rattle.am_laws.proofs.Words.{◌≡◌, ℕ, zero, suc, ◌+◌, ◌-◌, ◌<◌, ◌≤◌, ◌==◌, nat_le, Bool, true, false, if◌then◌else◌, List, [], ◌∷◌, ◌++◌, length, ◌⊎◌}
 use Rattle.am_laws.proofs.Words.{inl, inr}
 use Rattle.am_laws.proofs.Words.{⊎_elim, Option, Some, None, slice_get, refl, sym, ap, ◌∙◌, subst, arith, nat_tests, All, All-nil, All-cons, All-head, All-tail}
-use Rattle.am_laws.proofs.Words.{All-append, range_with_len, length-append, most_number, most_body, split, Entry, Data, Join, Leave, View, Outcome, Log}
+use Rattle.am_laws.proofs.Words.{All-append, range_with_len, length-append, most_number, most_body, split, Entry, Data, Leave, View, Outcome, Log}
 use Rattle.am_laws.proofs.Words.{entry_at, top_of}
 use Rattle.am_laws.proofs.Words.{Rules, MayFound, Act, Event, Node, Ballot, push_entry, Verdict, Step, World, start, run, happen}
 use Rattle.am_laws.proofs.Words.{happens, with_record, with_step, Cause, calls, Looks, finds_itself_out, Change, Changes, no_change, changed, refreshes}
@@ -22,7 +22,6 @@ use Rattle.am_group.specs.declared.event.Act.TheVariants as act
 use Rattle.am_group.specs.declared.event.Record.{Record}
 use Rattle.am_group.specs.Deliveries.{name_of}
 use Rattle.am_play.specs.World.{record_of}
-use Rattle.am_play.proofs.Runs.{runs_go_on}
 use Rattle.am_laws.specs.Events as event
 use Rattle.am_laws.specs.Events.{IsIdle}
 use Rattle.am_laws.specs.Effects.{Answers, AnswersAsk, WasQueued, HasTaken, WasSettled}
@@ -42,6 +41,7 @@ use Rattle.am_headline.proofs.Names.{EntryNamed, run_said}
 use Rattle.am_headline.proofs.Limits.{Held, run_held}
 use Rattle.am_headline.proofs.RecordsSettled.{IsUpTo, SendsOk, sends_ok}
 use Rattle.am_headline.proofs.Lives.{tells}
+use Rattle.am_headline.proofs.OneStep.{run_push}
 
 -- ---- entries
 
@@ -56,12 +56,11 @@ sayable records b (Data from req body) small sound within named sent =
     let low = within.0 in
     let most = small.requests in
     (named, omega arith, asked.0, asked.1)
-sayable records b (Join name) small sound within named sent = named
-sayable records b (Leave name) small sound within named sent = named
 sayable records b (View stamp names resilience) small sound within named sent =
     let low = within.0 in
     let most = small.rounds in
     (named, omega arith, within.1, within.2)
+sayable records b _ small sound within named sent = named
 
 all_sayable : (records : List Record) (b : Bounds) (es : List Entry) → AreNumbers b → All IsSound records → All (EntryWithin b) es → All EntryNamed es
     → All (EntrySent records) es → All IsSayable es
@@ -221,10 +220,6 @@ pub by_last : (P : List Event → Type 0) → ((es : List Event) (e : Event) →
 by_last P more front [] h = subst P (sym (append-nil front)) h
 by_last P more front (e ∷ es) h = subst P (append_assoc front (e ∷ []) es) (by_last P more (front ++ e ∷ []) es (more front e h))
 
-pub one_more : (rules : Rules) (es : List Event) (e : Event) → run rules (es ++ e ∷ []) ≡ happens (run rules es) e
-unfolding happen
-one_more rules es e = runs_go_on (start rules) es (e ∷ [])
-
 all_front : (P : Event → Type 0) (xs ys : List Event) → All P (xs ++ ys) → All P xs
 all_front P [] ys h = All-nil P
 all_front P (x ∷ xs) ys h = All-cons P x xs (All-head P x (xs ++ ys) h) (all_front P xs ys (All-tail P x (xs ++ ys) h))
@@ -293,7 +288,7 @@ sound_more : (rules : Rules) (es : List Event) (e : Event) → SoundIf rules es 
 sound_more rules es e h short asks =
     let before = short_front rules es e short in
     let sound = h before (all_front (λ (x : Event). AsksBytes x.act) es (e ∷ []) asks) in
-    subst (λ (w : World). All IsSound w.records) (sym (one_more rules es e))
+    subst (λ (w : World). All IsSound w.records) (sym (run_push rules es e))
     (record_sound rules es e before (all_last (λ (x : Event). AsksBytes x.act) es e asks) sound)
 
 all_sound : (rules : Rules) (events : List Event) → SoundIf rules events
@@ -391,7 +386,7 @@ TurnsIf rules es = Turns (run rules es)
 
 turn_more : (rules : Rules) → MayFound rules → (es : List Event) (e : Event) → TurnsIf rules es → TurnsIf rules (es ++ e ∷ [])
 turn_more rules may es e h =
-    subst Turns (sym (one_more rules es e))
+    subst Turns (sym (run_push rules es e))
     (turned (run rules es) e (happens (run rules es) e) (ballots_are_own rules es may) (events_have_effects (run rules es) e) h)
 
 start_last : (rules : Rules) (name : ℕ) → ((start rules).nodes name).sends.last ≡ 0

@@ -10,7 +10,7 @@ use Rattle.am_headline.proofs.Words.{IsIdle, WasSentTo, all_get, IsBlank, Blanke
 use Rattle.am_headline.proofs.Words.{HeardNames, change_names, Balloted, change_does, heard_names, IsOfBallot, LastOk, ballots_are_own, lists_go_on, front}
 use Rattle.am_headline.proofs.Words.{Gave, nothing, took, began, at_least, At, BeginsOk, SendOk, IsSettled, sends_more, item_within, idle_takes}
 use Rattle.am_headline.proofs.Words.{idle_welcomes, idle_sends, deliveries_push, given_same, not_given, idle_gives, given_more, accepted_more, accepted_and}
-use Rattle.am_headline.proofs.Words.{welcome_in, welcomes_push, idle_welcome, other_welcome, record_up, taken_or, nil_of, given_push, record_step}
+use Rattle.am_headline.proofs.Words.{welcome_in, welcomes_push, idle_welcome, other_welcome, record_up, taken_or, nil_from_length, given_push, record_step}
 use Rattle.am_headline.proofs.Words.{welcomed_step, GivenOk, begins_at, RecordOk, StandsAt, group_kept, Following}
 use Rattle.am_play.specs.Claims.{welcomes}
 use Rattle.am_runs.proofs.UnballotedKept.{begins_more}
@@ -373,7 +373,7 @@ module _ (rules : Rules) (events : List Event) (e : Event) (c : Cause) (step : S
           let count = given_before.count in
           let b0 = b.0 in
           let b1 = b.1 in
-          let empty : given ≡ [] = nil_of given (omega arith) in
+          let empty : given ≡ [] = nil_from_length given (omega arith) in
           subst (λ g. GivenOk v.group (length v.group) n (g ++ taken_in step.outcome)) (sym empty)
           (subst (GivenOk v.group (length v.group) n) (ap taken_in (sym says)) (record { count = omega arith; each = λ k number x y. absurd (cc) }))
 

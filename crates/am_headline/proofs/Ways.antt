@@ -1,5 +1,5 @@
 -- The changes of a node by what they do to what its application was given, and to its own sends.
-use Rattle.am_headline.proofs.Words.{leader_member, ◌≡◌, ℕ, ◌+◌, ◌≤◌, ◌-◌, ◌==◌, ◌||◌, not, max, nat_lt, Bool, true, false, if◌then◌else◌, List, [], ◌∷◌}
+use Rattle.am_headline.proofs.Words.{leads_member, ◌≡◌, ℕ, ◌+◌, ◌≤◌, ◌-◌, ◌==◌, ◌||◌, not, max, nat_lt, Bool, true, false, if◌then◌else◌, List, [], ◌∷◌}
 use Rattle.am_headline.proofs.Words.{◌++◌, refl, sym, ◌∙◌, append-nil, arith, Entry, Leave, View, Image, Stamp, Outcome, has, size, Node, Ballot, top}
 use Rattle.am_headline.proofs.Words.{image_of, those, is_member, push_entry, unsettled_count, Verdict, decide, ends, restart_reports, trim_for, need_of}
 use Rattle.am_headline.proofs.Words.{left_in, best_of, is_waited_for, decide_view, with_queued, is_unfinished, begin_list, refresh, settle, refresh_at_end}
@@ -128,5 +128,5 @@ kind_of m n (collects req is) = collected req
 kind_of m n (takes e is o member some there) = took e o member some
 kind_of m n (asks_to_join is was) = asked_in was
 kind_of m n (asks_to_leave is was stays done) = asked_out was done
-kind_of m n (closes leads leaves alone room) = gone (leader_member m leads) leaves
+kind_of m n (closes leads leaves alone room) = gone (leads_member m leads) leaves
 kind_of m n _ = alike (same_log m n refl (omega arith) refl refl refl refl refl refl refl refl)

@@ -1,23 +1,23 @@
 -- The words of this crate's proofs, of the crates and definitions that they come from.
-pub use Rattle.am_runs.proofs.UnballotedWords.{◌≡◌, ℕ, zero, suc, ◌<◌, ◌≤◌, ◌==◌, true, List, [], ◌∷◌, ◌++◌, length, take, None, Some, refl, sym, ap, ◌∙◌, subst}
+pub use Rattle.am_runs.proofs.UnballotedWords.{◌≡◌, ℕ, zero, suc, ◌<◌, ◌≤◌, ◌==◌, true, List, [], ◌∷◌, ◌++◌, length, take, None, Some, refl, sym, ap, ◌∙◌}
 pub use Rattle.am_runs.proofs.UnballotedWords.{arith, ◌⊎◌, ⊎_elim, inl, inr, ◌+◌, ◌-◌, max, ◌&&◌, not, nat_lt, Bool, if◌then◌else◌, slice_index, length-append}
-pub use Rattle.am_runs.proofs.UnballotedWords.{false, slice_get, ◌||◌, Option, nat_le, ◌≢◌, append-nil, append_assoc, drop, min, find, nat_tests, take-append-le}
+pub use Rattle.am_runs.proofs.UnballotedWords.{false, slice_get, ◌||◌, Option, nat_le, ◌≢◌, append-nil, append_assoc, drop, min, find, nat_tests}
 pub use Rattle.am_runs.proofs.UnballotedWords.{take-append-drop, length-take-le, All-nil, All-cons, All-push, All-filter, All-map, All-weaker, All-append}
 pub use Rattle.am_runs.proofs.UnballotedWords.{slice_get-get_or, slice_get_within, list_any, flat_map, All, View, Leave, Data, Join, Rules, MayFound, has}
 pub use Rattle.am_runs.proofs.UnballotedWords.{place_of, life_of, split, and_both, Entry, Image, Row, Stamp, Outcome, Log, blank_row, image_at, top_of, after}
 pub use Rattle.am_runs.proofs.UnballotedWords.{told_by, blank, AllFit, fits, entry_at, stamp_eq, stamp_lt, Packet, Letter, goes_to_any, entry-get, CoreState}
 pub use Rattle.am_runs.proofs.UnballotedWords.{slice_get-drop, OwnSend, Event, item_at, letter_at, Record, Act, is_for, deliveries, name_of, taken_in, given_to}
-pub use Rattle.am_runs.proofs.UnballotedWords.{get_before, get_behind, founding_stamp, Node, Ballot, top, push_entry, view, is_member, acts, founder}
+pub use Rattle.am_runs.proofs.UnballotedWords.{get_before, get_behind, founding_stamp, Node, Ballot, top, push_entry, view, is_member, acts, founder, subst}
 pub use Rattle.am_runs.proofs.UnballotedWords.{founders_view, has_log, is_asking, is_sequencer, waiting, trim_up_to, stranger, first_founder, Verdict, Status}
 pub use Rattle.am_runs.proofs.UnballotedWords.{Step, hears_member, hears_in_view, hears_sequencer, begin_list, advance, settle_waiting, settle_at, accepted_at}
-pub use Rattle.am_runs.proofs.UnballotedWords.{is_view, body_of, Departed, World, start, run, record_of, group_after, heard_by, BeginsAt, accepted_sends, sent_in}
+pub use Rattle.am_runs.proofs.UnballotedWords.{is_view, body_of, Departed, World, start, run, record_of, group_after, heard_by, BeginsAt, accepted_sends}
 pub use Rattle.am_runs.proofs.UnballotedWords.{IsGood, Begins, mem, begins_push, begins_take, length_take, length_push, begins_same, good_begins, long_told}
 pub use Rattle.am_runs.proofs.UnballotedWords.{told_push, mem_in, in_mem, row_at, Cause, hears, Looks, Carries, whole_entry, by_number, Change, refreshes}
-pub use Rattle.am_runs.proofs.UnballotedWords.{settles, numbers, stores, begins_list, looks, fetches, stores_view, closes, Changes, unchanged, changed}
-pub use Rattle.am_runs.proofs.UnballotedWords.{MayBeWelcomed, queues, collects, takes, asks_to_join, asks_to_leave, rests_refresh, settle_is, Says, bcast, order}
+pub use Rattle.am_runs.proofs.UnballotedWords.{settles, numbers, stores, begins_list, looks, fetches, stores_view, closes, Changes, unchanged, changed, sent_in}
+pub use Rattle.am_runs.proofs.UnballotedWords.{MayBeWelcomed, queues, collects, takes, asks_to_join, asks_to_leave, rests_refresh, settle_is, Says, bcast}
 pub use Rattle.am_runs.proofs.UnballotedWords.{piece, result, LetterSays, IsCause, WasSentTo, actor, IsIdle, Happens, idles, returns, steps, all_get, get_front}
 pub use Rattle.am_runs.proofs.UnballotedWords.{get_last, logged, asking_log, events_have_effects, runs_keep, asking, Effect, Answers, HasTaken, AnswersAsk}
-pub use Rattle.am_runs.proofs.UnballotedWords.{WasSettled, bounded_holds, senders_in_order, send_stands_once, sent_holds}
+pub use Rattle.am_runs.proofs.UnballotedWords.{WasSettled, bounded_holds, senders_in_order, send_stands_once, sent_holds, take-append-le, order}
 unfoldable pub use Rattle.am_runs.proofs.UnballotedWords.{accept, pass_over, own_report, tell, go_on, lead, refresh, settle, refresh_at_end, with_step}
 unfoldable pub use Rattle.am_runs.proofs.UnballotedWords.{with_record}
 pub use Rattle.am_stands.proofs.Words.{count_by, eqb-true, not-true, length-map, list_any-append, size, IsSet, name_at, names_from, names_of, member_life}
@@ -35,8 +35,8 @@ pub use Rattle.am_stands.proofs.Words.{NotedStands, Stands, FrontsStand, LinesOp
 unfoldable pub use Rattle.am_stands.proofs.Words.{finish, hear_row, hear, hear_refusal, up_to_view, up_to_next, view_of, count}
 pub use Rattle.am_stands.proofs.StepWords.{image_of, packet_length, with_noted, hears_letter, hear_cut, acts_as, Ending, let_go, closing, HeardUsed, each_along}
 pub use Rattle.am_stands.proofs.StepWords.{heard_used, run_owned, HeardNames, change_names, HasNames, change_does, Balloted, numbers_hold, heard_names, IsNoted}
-pub use Rattle.am_stands.proofs.StepWords.{AllViews, each_views, views_start, few_names, nil_of, goes_on, grows_same, Following, StepsMove, member_stays}
-pub use Rattle.am_stands.proofs.StepWords.{departed_silent, letters_stay, others_keep, taken_more}
+pub use Rattle.am_stands.proofs.StepWords.{AllViews, each_views, views_start, few_names, nil_from_length, goes_on, grows_same, Following, StepsMove}
+pub use Rattle.am_stands.proofs.StepWords.{departed_silent, letters_stay, others_keep, taken_more, member_stays}
 unfoldable pub use Rattle.am_stands.proofs.StepWords.{happens}
 pub use Rattle.std.{proofs.lemmas.List.take_all, proofs.lemmas.List.get_or-map, proofs.lemmas.List.Sums.count_by-le-length}
 pub use Rattle.std.{proofs.lemmas.List.Sums.sum_by-cons, specs.Prelude.Contains, specs.Prelude.slice_index_or}
@@ -57,13 +57,13 @@ pub use Rattle.am_laws.proofs.Changes.{kept_change}
 pub use Rattle.am_laws.proofs.{Blank.change_blank, Blank.no_member, Blank.Blanked, Blank.blank_holds, Taken.change_owned, Trims.Fronts, Fronts.front_begins}
 pub use Rattle.am_laws.proofs.{CallCounts.fewer_wait}
 pub use Rattle.am_laws.specs.Blank.{IsBlank}
-pub use Rattle.am_laws.proofs.{Watched.watch_push, Lists.lists_go_on}
+pub use Rattle.am_laws.proofs.{Watched.watch_push, Lists.lists_go_on, ViewChanges.leads_member}
 pub use Rattle.am_chain.specs.Runs.{MayBegin, Completes, Run}
 pub use Rattle.am_runs.specs.Ballots.{IsOfBallot, LastOk}
 pub use Rattle.am_runs.proofs.Ballots.{ballots_are_own}
 pub use Rattle.am_runs.proofs.{Lists.item_get, Lists.item_within, Lists.item_more, Lists.get_item, Lists.item_taken, Steps.taken_or, Steps.given_push}
-pub use Rattle.am_runs.proofs.{Worlds.StandsAt, Worlds.GivenOk, Worlds.begins_at, Worlds.RecordOk, Goes.by_name, UnballotedKept.At, UnballotedKept.BeginsOk, UnballotedKept.SendOk}
-pub use Rattle.am_runs.proofs.{UnballotedKept.IsSettled, UnballotedKept.sends_more, Welcomes.record_step, Welcomes.welcomed_step, FirstChanges.leader_member}
+pub use Rattle.am_runs.proofs.{Worlds.StandsAt, Worlds.GivenOk, Worlds.begins_at, Worlds.RecordOk, Goes.by_name, UnballotedKept.At, UnballotedKept.BeginsOk}
+pub use Rattle.am_runs.proofs.{UnballotedKept.IsSettled, UnballotedKept.sends_more, Welcomes.record_step, Welcomes.welcomed_step, UnballotedKept.SendOk}
 pub use Rattle.am_runs.proofs.Chains.{gave_still, passed_front, front, Gave, nothing, took, began, at_least, gave_begun, still_log}
 pub use Rattle.am_runs.proofs.Records.{idle_takes, idle_welcomes, idle_sends, deliveries_push, given_same, not_given, idle_gives, given_more}
 pub use Rattle.am_runs.proofs.Records.{accepted_more, accepted_and, welcome_in, welcomes_push, idle_welcome, other_welcome, record_up}

@@ -1,27 +1,11 @@
 -- A gapless piece of a list, and the messages that end in both.
-use Rattle.std.proofs.Common.{◌≡◌, ℕ, zero, suc, ◌+◌, ◌-◌, ◌<◌, ◌≤◌, List, [], ◌∷◌, ◌++◌, length, take, drop, slice_get, Option, Some, None}
-use Rattle.std.proofs.Common.{refl, sym, ap, ◌∙◌, arith, append_assoc, length-append}
-use Rattle.std.specs.Prelude.{option_map}
-use Rattle.std.proofs.Math.Seq.{take-add}
-use Rattle.std.proofs.lemmas.List.{take-append-le, drop-append-le, drop_at}
-use Rattle.std.proofs.lemmas.List.Concat.{flat_map-append}
-use Rattle.std.proofs.lemmas.Option.{slice_get-map, slice_get_within}
-use Rattle.am_base.specs.Names.{place_of}
-use Rattle.am_base.specs.declared.entry.Entry.{Entry}
-use Rattle.am_group.specs.Journals.{item_at}
-use Rattle.am_group.proofs.Places.{get_before}
-use Rattle.am_play.specs.Claims.{IsSegment}
-use Rattle.am_seg.specs.Parts.{part_count}
-use Rattle.am_seg.specs.Messages.{entries_of, sent_from, from_place, parts_from, EndsAt}
-use Rattle.am_seg.proofs.Endings.{length-parts_from}
-use Rattle.am_seg.proofs.Spelled.{sized}
+use Rattle.am_replicated.proofs.Words.{◌≡◌, ℕ, zero, suc, ◌+◌, ◌-◌, ◌<◌, ◌≤◌, List, [], ◌∷◌, ◌++◌, length, take, drop, slice_get, Option, Some, None, refl}
+use Rattle.am_replicated.proofs.Words.{sym, ap, ◌∙◌, arith, append_assoc, length-append, option_map, take-add, take-append-le, drop-append-le, drop_at}
+use Rattle.am_replicated.proofs.Words.{flat_map-append, slice_get-map, slice_get_within, place_of, Entry, item_at, get_before, IsSegment, part_count}
+use Rattle.am_replicated.proofs.Words.{entries_of, sent_from, from_place, parts_from, EndsAt, length-parts_from, sized}
+use Rattle.am_laws.proofs.EffectWords.{slice_get-drop}
 
 -- ---- lists
-
-slice_get-drop : {A : Type 0} (n k : ℕ) (xs : List A) → slice_get (drop n xs) k ≡ slice_get xs (n + k)
-slice_get-drop zero k xs = let same : k ≡ zero + k = omega arith in ap (slice_get xs) same
-slice_get-drop (suc n) k [] = refl
-slice_get-drop (suc n) k (x ∷ xs) = let same : suc (n + k) ≡ suc n + k = omega arith in slice_get-drop n k xs ∙ ap (slice_get (x ∷ xs)) same
 
 mapped : {A B : Type 0} (f : A → B) (o : Option A) (y : B) → option_map f o ≡ Some y → (x : A) × (o ≡ Some x) × (f x ≡ y)
 mapped f None y h = absurd (cc)

@@ -1,27 +1,11 @@
 -- What replicas have in runs.
-use Rattle.std.proofs.Common.{◌≡◌, ◌≢◌, ℕ, zero, suc, ◌+◌, List, [], ◌∷◌, length, Option, Some, None, Bool, true, false, ◌==◌, slice_get, refl, sym}
-use Rattle.std.proofs.Common.{ap, ◌∙◌, subst, arith, add-zero}
-use Rattle.std.specs.Option.{option_map}
-use Rattle.std.proofs.lemmas.Bool.Decides.{nat_tests}
-use Rattle.am_base.specs.declared.entry.Entry.{Entry}
+use Rattle.am_replicated.proofs.Words.{◌≡◌, ◌≢◌, ℕ, zero, suc, ◌+◌, List, [], ◌∷◌, length, Option, Some, None, Bool, true, false, ◌==◌, slice_get, refl, sym}
+use Rattle.am_replicated.proofs.Words.{ap, ◌∙◌, subst, arith, add-zero, option_map, nat_tests, Entry, has, Rules, Event, deliveries, item_at, founders_view}
+use Rattle.am_replicated.proofs.Words.{World, start, happen, run, lawful_front, BeginsAt, IsSegment, Segment, runs_begin, headline_holds, Contents}
+use Rattle.am_replicated.proofs.Words.{with_entry, contents_from, contents_after, first_snapshot, replica_contents, last_number, contents_up_to}
+use Rattle.am_replicated.proofs.Words.{FoundersHold, JoinerHolds, JoinersHold, ReplicasHold}
+use Rattle.am_replicated.proofs.{Starts.names_begin, Pieces.goes_on, Pieces.last_is, Pieces.splits, Waiting.joiner_is, Waiting.waits_till, Waiting.waits_so}
 use Rattle.am_base.specs.declared.entry.Entry.TheVariants as entries
-use Rattle.am_base.specs.Names.{has}
-use Rattle.am_base.specs.Founding.{Rules}
-use Rattle.am_group.specs.declared.event.Event.{Event}
-use Rattle.am_group.specs.Deliveries.{deliveries}
-use Rattle.am_group.specs.Journals.{item_at}
-use Rattle.am_model.specs.Node.{founders_view}
-use Rattle.am_play.specs.World.{World, start, happen, run}
-use Rattle.am_play.specs.Lawful.{lawful_front}
-use Rattle.am_play.specs.Claims.{BeginsAt, IsSegment, Segment}
-use Rattle.am_play.proofs.Beginnings.{runs_begin}
-use Rattle.am_headline.proofs.Holds.{headline_holds}
-use Rattle.am_dir.specs.Contents.{Contents, with_entry, contents_from, contents_after}
-use Rattle.am_dir.specs.Replicas.{first_snapshot, replica_contents}
-use Rattle.am_replicated.specs.Claims.{last_number, contents_up_to, FoundersHold, JoinerHolds, JoinersHold, ReplicasHold}
-use Rattle.am_replicated.proofs.Starts.{names_begin}
-use Rattle.am_replicated.proofs.Pieces.{goes_on, last_is, splits}
-use Rattle.am_replicated.proofs.Waiting.{joiner_is, waits_till, waits_so}
 
 -- ---- founders
 

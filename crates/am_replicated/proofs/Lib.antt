@@ -1,3 +1,4 @@
+mod Words
 pub mod AssembledPieces
 pub mod Runs
 pub mod Sends

@@ -1,13 +1,7 @@
 -- The contents after a piece of a list, which goes on where other contents end.
-use Rattle.std.proofs.Common.{◌≡◌, ℕ, zero, suc, ◌+◌, List, [], ◌∷◌, ◌++◌, length, take, Some, slice_get, refl, sym, ap, ◌∙◌}
-use Rattle.std.proofs.Common.{subst, arith, add-zero}
-use Rattle.std.specs.List.{enumerate_from}
-use Rattle.am_base.specs.declared.entry.Entry.{Entry}
-use Rattle.am_group.specs.Journals.{item_at}
-use Rattle.am_play.specs.Claims.{IsSegment}
-use Rattle.am_dir.specs.Contents.{Contents, with_entry, contents_from, contents_after}
-use Rattle.am_dir.proofs.ReplicaLaws.{fold_push}
-use Rattle.am_replicated.specs.Claims.{last_number}
+use Rattle.am_replicated.proofs.Words.{◌≡◌, ℕ, zero, suc, ◌+◌, List, [], ◌∷◌, ◌++◌, length, take, Some, slice_get, refl, sym, ap, ◌∙◌, subst, arith}
+use Rattle.am_replicated.proofs.Words.{add-zero, enumerate_from, Entry, item_at, IsSegment, Contents, with_entry, contents_from, contents_after, fold_push}
+use Rattle.am_replicated.proofs.Words.{last_number}
 
 -- a list up to an item that it has
 pub record IsUpTo (list : List Entry) (n : ℕ) (e : Entry) : Type 0 where

@@ -1,30 +1,15 @@
 -- What holds of a run up to its lawful front: its list fits, requests are above nought, and each stands for one body.
-use Rattle.std.proofs.Common.{◌≡◌, ℕ, ◌+◌, ◌<◌, List, [], ◌∷◌, ◌++◌, length, take, Some, slice_get, sym, ap, ◌∙◌, subst, arith, ⊎_elim}
-use Rattle.am_base.specs.Founding.{Rules, MayFound}
+use Rattle.am_replicated.proofs.Words.{◌≡◌, ℕ, ◌+◌, ◌<◌, List, [], ◌∷◌, ◌++◌, length, take, Some, slice_get, sym, ap, ◌∙◌, subst, arith, ⊎_elim, Rules}
+use Rattle.am_replicated.proofs.Words.{MayFound, Event, Record, World, run, record_of, with_record, with_step, happens, IsSend, lawful_front}
+use Rattle.am_replicated.proofs.Words.{front_is_lawful, step, calls, Answers, WasQueued, AnswersAsk, get_front, get_last, events_have_effects}
+use Rattle.am_replicated.proofs.Words.{steps_have_effects, no_ask, step_once, idle_queues, Group, lowest_or_first, group_kept, steps_move, KeptBy, held}
+use Rattle.am_replicated.proofs.Words.{done_then, front_of}
+use Rattle.am_laws.specs.Events.{actor, Happens, idles, returns, steps}
+use Rattle.am_headline.proofs.Words.{IsGood, good_begins}
 use Rattle.am_base.specs.declared.outcome.Outcome.TheVariants as said
 use Rattle.am_base.specs.declared.event.NodeEvent.TheVariants as does
 use Rattle.am_group.specs.declared.event.Act.TheVariants as act
-use Rattle.am_group.specs.declared.event.Event.{Event}
-use Rattle.am_group.specs.declared.event.Record.{Record}
-use Rattle.am_play.specs.World.{World, run, record_of, with_record, with_step, happens}
-use Rattle.am_play.specs.Claims.{IsSend}
-use Rattle.am_play.specs.Lawful.{lawful_front}
-use Rattle.am_play.proofs.Runs.{front_is_lawful}
-use Rattle.am_model.specs.Step.{step}
-use Rattle.am_laws.specs.Causes.{calls}
-use Rattle.am_laws.specs.Effects.{Answers, WasQueued, AnswersAsk}
 use Rattle.am_laws.specs.Events as event
-use Rattle.am_laws.specs.Events.{actor, Happens, idles, returns, steps}
-use Rattle.am_laws.proofs.Items.{get_front, get_last}
-use Rattle.am_laws.proofs.Events.{events_have_effects}
-use Rattle.am_laws.proofs.Hearing.{steps_have_effects}
-use Rattle.am_stands.proofs.Once.{no_ask, step_once}
-use Rattle.am_stands.proofs.StepWords.{idle_queues}
-use Rattle.am_headline.proofs.Words.{IsGood, good_begins, Group, lowest_or_first, group_kept, steps_move}
-use Rattle.am_headline.proofs.Fold.{KeptBy}
-use Rattle.am_headline.proofs.Begun.{held}
-use Rattle.am_headline.proofs.Moments.{done_then}
-use Rattle.am_replicated.specs.AssembledClaims.{front_of}
 
 -- ---- the group list fits
 

@@ -1,31 +1,11 @@
 -- The claims of runs.
-use Rattle.std.proofs.Common.{◌≡◌, ◌≢◌, ℕ, zero, suc, ◌+◌, ◌-◌, ◌<◌, List, [], ◌∷◌, ◌++◌, length, take, Some, slice_get, ap, ◌∙◌, subst, arith}
-use Rattle.std.proofs.Math.Seq.{take-length}
-use Rattle.std.proofs.lemmas.List.{length-take-le}
-use Rattle.std.proofs.lemmas.Option.{slice_get_within}
-use Rattle.am_base.proofs.Greatest.{split}
-use Rattle.am_base.specs.Names.{has, place_of}
-use Rattle.am_base.specs.Founding.{Rules, MayFound}
-use Rattle.am_base.specs.declared.entry.Entry.TheVariants.{Data, Join}
-use Rattle.am_group.specs.declared.event.Event.{Event}
-use Rattle.am_group.specs.Journals.{item_at}
-use Rattle.am_group.specs.Deliveries.{deliveries}
-use Rattle.am_play.specs.World.{World, run}
-use Rattle.am_play.specs.Claims.{IsSegment, BeginsAt, IsSend}
-use Rattle.am_play.specs.Lawful.{lawful_front}
-use Rattle.am_base.specs.Whole.{IsGood}
-use Rattle.am_base.proofs.Prefixes.{begins_take}
-use Rattle.am_base.proofs.Members.{good_begins}
-use Rattle.am_laws.proofs.Items.{get_take}
-use Rattle.am_headline.proofs.Holds.{headline_holds}
-use Rattle.am_seg.specs.Parts.{part_count, part_of}
-use Rattle.am_seg.specs.Messages.{from_place, EndsAt}
-use Rattle.am_seg.proofs.Spelled.{sized}
-use Rattle.am_seg.proofs.Ends.{cut_at, slice_get-take}
-use Rattle.am_replicated.specs.AssembledClaims.{front_of, DeliveredMessagesEnd, WholeMessagesAreDelivered, SentInParts, SentMessagesEnd}
-use Rattle.am_replicated.proofs.AssembledPieces.{ends_in_list, ends_in_piece}
-use Rattle.am_replicated.proofs.Runs.{group_good, one_body, request_above}
-use Rattle.am_replicated.proofs.Tails.{SendsParts, tail_ends}
+use Rattle.am_replicated.proofs.Words.{◌≡◌, ◌≢◌, ℕ, zero, suc, ◌+◌, ◌-◌, ◌<◌, List, [], ◌∷◌, ◌++◌, length, take, Some, slice_get, ap, ◌∙◌, subst, arith}
+use Rattle.am_replicated.proofs.Words.{take-length, length-take-le, slice_get_within, split, has, place_of, Rules, MayFound, Data, Join, Event, item_at}
+use Rattle.am_replicated.proofs.Words.{deliveries, World, run, IsSegment, BeginsAt, IsSend, lawful_front, IsGood, begins_take, good_begins, get_take}
+use Rattle.am_replicated.proofs.Words.{headline_holds, part_count, part_of, from_place, EndsAt, sized, cut_at, slice_get-take, front_of}
+use Rattle.am_replicated.proofs.Words.{DeliveredMessagesEnd, WholeMessagesAreDelivered, SentInParts, SentMessagesEnd}
+use Rattle.am_replicated.proofs.{AssembledPieces.ends_in_list, AssembledPieces.ends_in_piece, Runs.group_good, Runs.one_body, Runs.request_above}
+use Rattle.am_replicated.proofs.{Tails.SendsParts, Tails.tail_ends}
 
 -- ---- what was given
 

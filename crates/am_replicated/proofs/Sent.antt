@@ -1,36 +1,18 @@
 -- A snapshot that was sent in parts makes its joiner's replica ready.
-use Rattle.std.proofs.Common.{◌≡◌, ◌≢◌, ℕ, zero, suc, ◌+◌, ◌-◌, ◌≤◌, ◌<◌, List, [], ◌∷◌, ◌++◌, length, take, Option, Some, None, ap, ◌∙◌, subst}
-use Rattle.std.proofs.Common.{arith, append_assoc}
-use Rattle.std.specs.List.{enumerate_from}
-use Rattle.std.proofs.lemmas.List.{length-take}
-use Rattle.am_base.specs.declared.entry.Entry.{Entry}
+use Rattle.am_replicated.proofs.Words.{◌≡◌, ◌≢◌, ℕ, zero, suc, ◌+◌, ◌-◌, ◌≤◌, ◌<◌, List, [], ◌∷◌, ◌++◌, length, take, Option, Some, None, ap, ◌∙◌, subst}
+use Rattle.am_replicated.proofs.Words.{arith, append_assoc, enumerate_from, length-take, Entry, most_number, IsNumber, deliveries, run, lawful_front}
+use Rattle.am_replicated.proofs.Words.{entries_of, EndsAt, message_at, messages_end, Whole, Contents, with_entry, contents_from, contents_after, IsContents}
+use Rattle.am_replicated.proofs.Words.{snapshot_of, or_else, for_join, snapshot_for, first_behind, first_snapshot, empty_is, snapshot_reads, stay_within}
+use Rattle.am_replicated.proofs.Words.{NoneBefore, SentSnapshotsRestore}
+use Rattle.am_replicated.proofs.{Sends.sent_end, Sends.whole_delivered, Waiting.no_contents, Waiting.for_join_is, Waiting.length_entries}
+use Rattle.am_replicated.proofs.{Holding.joiners_hold, Holding.same_start}
 use Rattle.am_base.specs.declared.entry.Entry.TheVariants as entries
-use Rattle.am_base.specs.Most.{most_number}
-use Rattle.am_base.specs.Limits.{IsNumber}
-use Rattle.am_group.specs.Deliveries.{deliveries}
-use Rattle.am_play.specs.World.{run}
-use Rattle.am_play.specs.Lawful.{lawful_front}
-use Rattle.am_seg.specs.Messages.{entries_of, EndsAt, message_at}
-use Rattle.am_seg.proofs.Ends.{messages_end}
-use Rattle.am_replicated.specs.AssembledClaims.{Whole}
-use Rattle.am_replicated.proofs.Sends.{sent_end, whole_delivered}
-use Rattle.am_dir.specs.Contents.{Contents, with_entry, contents_from, contents_after}
-use Rattle.am_dir.specs.Snapshots.{IsContents, snapshot_of}
-use Rattle.am_dir.specs.Replicas.{or_else, for_join, snapshot_for, first_behind, first_snapshot}
-use Rattle.am_dir.proofs.Keeping.{empty_is}
-use Rattle.am_dir.proofs.SnapshotLaws.{snapshot_reads}
-use Rattle.am_dir.proofs.WithinLaws.{stay_within}
-use Rattle.am_replicated.specs.Claims.{NoneBefore, SentSnapshotsRestore}
-use Rattle.am_replicated.proofs.Waiting.{no_contents, for_join_is, length_entries}
-use Rattle.am_replicated.proofs.Holding.{joiners_hold, same_start}
 
 -- ---- the contents of a list can be a snapshot's
 
 entry_within : (contents : Contents) (number : ℕ) (e : Entry) → IsContents contents → IsNumber number → IsContents (with_entry contents (number, e))
 entry_within contents number (entries.Data from req body) c n = stay_within contents number body c n
-entry_within contents number (entries.Join name) c n = c
-entry_within contents number (entries.Leave name) c n = c
-entry_within contents number (entries.View stamp members resilience) c n = c
+entry_within contents number _ c n = c
 
 list_within : (from : ℕ) (list : List Entry) (contents : Contents) → IsContents contents → from + length list ≤ most_number + 1
     → IsContents (contents_from contents (enumerate_from from list))

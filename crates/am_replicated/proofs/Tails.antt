@@ -1,29 +1,12 @@
 -- What the last Data of a member's place are, along a list that fits.
-use Rattle.std.proofs.Common.{◌≡◌, ℕ, ◌+◌, ◌-◌, ◌<◌, ◌≤◌, ◌==◌, true, List, [], ◌∷◌, ◌++◌, length, get_or, slice_get, Some, slice_index}
-use Rattle.std.proofs.Common.{refl, sym, ap, ◌∙◌, subst, arith, ⊎_elim, suc, append_assoc, append-nil, length-append}
-use Rattle.std.proofs.Math.Seq.{get_or-append_seam}
-use Rattle.std.proofs.lemmas.Bool.{eqb-true, eqb-false, cond-false}
-use Rattle.std.proofs.lemmas.List.Concat.{flat_map-append}
-use Rattle.std.proofs.lemmas.List.FromFn.{get_or-range_with_len}
-use Rattle.std.specs.List.{range_with_len}
-use Rattle.am_base.proofs.Greatest.{split}
-use Rattle.am_base.specs.Names.{place_of, life_of}
-use Rattle.am_base.specs.declared.entry.Entry.{Entry}
-use Rattle.am_base.specs.declared.entry.Entry.TheVariants.{Data, Join, Leave, View}
+use Rattle.am_replicated.proofs.Words.{◌≡◌, ℕ, ◌+◌, ◌-◌, ◌<◌, ◌≤◌, ◌==◌, true, List, [], ◌∷◌, ◌++◌, length, get_or, slice_get, Some, slice_index, refl, sym}
+use Rattle.am_replicated.proofs.Words.{ap, ◌∙◌, subst, arith, ⊎_elim, suc, append_assoc, append-nil, length-append, get_or-append_seam, eqb-true, eqb-false}
+use Rattle.am_replicated.proofs.Words.{cond-false, flat_map-append, get_or-range_with_len, range_with_len, split, place_of, life_of, Entry, Data, Join}
+use Rattle.am_replicated.proofs.Words.{Leave, View, Begins, IsGood, image_of, mem, begins_refl, begins_more, begins_trans, push_next, next_of, good_begins}
+use Rattle.am_replicated.proofs.Words.{last_fits, mem_between, own_request, and_left, same_name, low_or_above, requests_in_turn, part_count, part_of}
+use Rattle.am_replicated.proofs.Words.{sent_from, from_place, parts_from, from_place-more, sent_own, first_parts, first_parts-none, first_parts-of}
+use Rattle.am_replicated.proofs.Words.{all_first, sized, get_before, slice_get_within}
 use Rattle.am_base.specs.Lists.{members_of, fits, request_in, requests_of}
-use Rattle.am_base.specs.Whole.{Begins, IsGood, image_of, mem}
-use Rattle.am_base.proofs.Prefixes.{begins_refl, begins_more, begins_trans, push_next, next_of}
-use Rattle.am_base.proofs.Members.{good_begins, last_fits, mem_between}
-use Rattle.am_base.proofs.Requests.{own_request}
-use Rattle.am_base.proofs.Rows.{and_left, same_name, low_or_above}
-use Rattle.am_chain.proofs.Turns.{requests_in_turn}
-use Rattle.am_seg.specs.Parts.{part_count, part_of}
-use Rattle.am_seg.specs.Messages.{sent_from, from_place, parts_from}
-use Rattle.am_seg.proofs.Ends.{from_place-more, sent_own}
-use Rattle.am_seg.proofs.Endings.{first_parts, first_parts-none, first_parts-of, all_first}
-use Rattle.am_seg.proofs.Spelled.{sized}
-use Rattle.am_group.proofs.Places.{get_before}
-use Rattle.std.proofs.lemmas.Option.{slice_get_within}
 
 -- ---- one entry more
 

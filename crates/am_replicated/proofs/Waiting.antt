@@ -1,22 +1,14 @@
 -- A replica waits just as long as no snapshot for its start ended.
-use Rattle.std.proofs.Common.{◌≡◌, ℕ, zero, suc, ◌≤◌, ◌<◌, List, [], ◌∷◌, ◌++◌, length, take, Option, Some, None, Bool, true, false, cond}
-use Rattle.std.proofs.Common.{◌==◌, refl, sym, ap, ◌∙◌, arith, append_assoc}
-use Rattle.std.specs.Option.{option_map}
-use Rattle.std.proofs.lemmas.Bool.Decides.{nat_tests}
-use Rattle.am_base.specs.declared.entry.Entry.{Entry}
-use Rattle.am_seg.specs.Messages.{entries_of, message_at}
-use Rattle.am_dir.specs.Contents.{Contents, contents_from}
-use Rattle.am_dir.specs.Snapshots.{snapshot_in}
-use Rattle.am_dir.specs.Replicas.{or_else, for_join, snapshot_for, first_behind, first_snapshot, replica_contents}
-use Rattle.am_replicated.specs.Claims.{NoSnapshot}
+use Rattle.am_replicated.proofs.Words.{◌≡◌, ℕ, zero, suc, ◌≤◌, ◌<◌, List, [], ◌∷◌, ◌++◌, length, take, Option, Some, None, Bool, true, false, cond, ◌==◌}
+use Rattle.am_replicated.proofs.Words.{refl, sym, ap, ◌∙◌, arith, append_assoc, option_map, nat_tests, Entry, entries_of, message_at, Contents}
+use Rattle.am_replicated.proofs.Words.{contents_from, snapshot_in, or_else, for_join, snapshot_for, first_behind, first_snapshot, replica_contents}
+use Rattle.am_replicated.proofs.Words.{NoSnapshot}
+use Rattle.am_laws.proofs.Tests.{equals_itself}
 
 -- ---- one message
 
-eq_same : (n : ℕ) → (n == n) ≡ true
-eq_same n = grind (arith, nat_tests)
-
 pub for_join_is : (start : ℕ) (contents : Contents) → for_join start (Some (start, contents)) ≡ Some contents
-for_join_is start contents = ap (λ (b : Bool). cond b (Some contents) None) (eq_same start)
+for_join_is start contents = ap (λ (b : Bool). cond b (Some contents) None) (equals_itself start)
 
 -- what is no snapshot for the start
 pub no_snapshot : (start : ℕ) (message : List ℕ) (contents : Contents) → for_join start (snapshot_in message) ≡ None

@@ -2,7 +2,7 @@
 use Rattle.am_runs.proofs.UnballotedWords.{◌≡◌, ◌≢◌, ⊎_elim, ℕ, zero, suc, ◌-◌, ◌≤◌, ◌==◌, true, false, List, [], ◌∷◌, ◌++◌, length, take, drop, None, refl, sym}
 use Rattle.am_runs.proofs.UnballotedWords.{ap, ◌∙◌, subst, append_assoc, append-nil, arith, All, nat_tests, take-append-le, length-take-le, All-weaker, Stamp}
 use Rattle.am_runs.proofs.UnballotedWords.{Entry, View, Outcome, Rules, Log, CoreState, Letter, Act, Event, Record, Departed, Node, view, set_at, has_log, Step}
-use Rattle.am_runs.proofs.UnballotedWords.{World, record_of, group_after, with_step, heard_by, split, Cause, calls, hears, refuses, Change, refreshes, settles}
+use Rattle.am_runs.proofs.UnballotedWords.{World, record_of, group_after, with_step, heard_by, split, Cause, hears, Change, refreshes, settles}
 use Rattle.am_runs.proofs.UnballotedWords.{numbers, stores, begins_list, opens, looks, fetches, stores_view, closes, LetterSays, Answers, WasQueued, AnswersAsk}
 use Rattle.am_runs.proofs.UnballotedWords.{Effect, actor, IsCause, all_item, rests_refresh, rests_closed, settle_is, Keeps, CauseSent, change_sent, AllSent}
 use Rattle.am_runs.proofs.UnballotedWords.{all_sent_more, after_step, cause_sent, logged}
@@ -17,11 +17,10 @@ use Rattle.am_runs.proofs.{Worlds.unique, Worlds.asked_more, Worlds.Kept, Worlds
 
 cause_ok : (rules : Rules) (list : List Entry) (acc i : ℕ) (w : World) (a : Act) (c : Cause) → All (LetterOk rules list acc) w.letters → IsCause w i a c
     → CauseOk rules list acc i c
-cause_ok rules list acc i w a (calls ev) h is = tt
 cause_ok rules list acc i w a (hears p) h is =
     let l = all_item (LetterOk rules list acc) w.letters (heard_by a) is.letter h is.there in
     subst (PacketOk rules list acc i) is.is (l.heard i is.addressed)
-cause_ok rules list acc i w a refuses h is = tt
+cause_ok rules list acc i w a _ h is = tt
 
 asked_step : (w : World) (e : Event) (c : Cause) (s : Step) → AskedOk w.records w.nodes → Effect (w.nodes (actor w e)) c s → s.node.ballot ≡ None
     → AskedOk (after_step w e s) (set_at w.nodes (actor w e) s.node)

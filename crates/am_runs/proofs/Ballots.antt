@@ -2,7 +2,7 @@
 use Rattle.am_runs.proofs.PromisedWords.{◌≡◌, ℕ, ◌==◌, ◌&&◌, ◌||◌, not, true, false, List, [], ◌∷◌, ◌++◌, Option, Some, None, refl, sym, ap, ◌∙◌, subst, arith}
 use Rattle.am_runs.proofs.PromisedWords.{list_any, nat_tests, list_any-append, Stamp, Outcome, NodeEvent, stamp_lt, Rules, has, Act, Node, Ballot, is_member}
 use Rattle.am_runs.proofs.PromisedWords.{has_log, Verdict, overtake, World, start, current, is_stopped, with_record, with_step, split, and_both, Cause, calls}
-use Rattle.am_runs.proofs.PromisedWords.{hears, refuses, Looks, waits, fetches_from_best, HasOpen, Balloting, with_more, without_one, as_it_is, Change, refreshes}
+use Rattle.am_runs.proofs.PromisedWords.{Looks, waits, fetches_from_best, HasOpen, Balloting, with_more, without_one, as_it_is, Change, refreshes}
 use Rattle.am_runs.proofs.PromisedWords.{settles, begins_list, departs, promises, opens, looks, asks_to_join, closes, actor, IsCall, IsCause, idles, stops}
 use Rattle.am_runs.proofs.PromisedWords.{returns, steps, logged, asking_log, asking, rests_refresh, rests_closed, settle_is, along, EachKeeps, runs_keep, AtMost}
 use Rattle.am_runs.proofs.PromisedWords.{IsOfBallot, BallotOk, LastOk, BallotsAreOwn}
@@ -136,8 +136,7 @@ may_give w a ev _ = tt
 
 cause_gives : (w : World) (i : ℕ) (a : Act) (c : Cause) → IsCause w i a c → MayGive w c
 cause_gives w i a (calls ev) is = may_give w a ev is
-cause_gives w i a (hears p) is = tt
-cause_gives w i a refuses is = tt
+cause_gives w i a _ is = tt
 
 each_keeps : EachKeeps AllOk
 unfolding with_record with_step

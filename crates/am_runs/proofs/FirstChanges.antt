@@ -16,11 +16,11 @@ use Rattle.am_runs.proofs.{UnballotedKept.first_of, UnballotedKept.NodeOk, Unbal
 use Rattle.am_runs.proofs.{UnballotedChanges.collected_ok, Others.same_node, Others.looks_leave, Others.promised_first, Others.with_status, Others.with_promise}
 use Rattle.am_runs.proofs.{Others.taken_ok, Turns.Turn, Turns.waiting_is, Turns.one_more, Turns.waiting_settled, Turns.collected_turn, First.group_view}
 use Rattle.am_runs.proofs.{First.base_as, First.OwnOk, First.FirstBase, First.FirstOk, First.first_told, First.first_push}
+use Rattle.am_chain.proofs.Quiet.{leave_fits}
+use Rattle.am_laws.proofs.ViewChanges.{leads_member}
+use Rattle.am_laws.proofs.Counts.{over_acc}
 
 -- ---- what is accepted goes on
-
-passed_within : (taken acc start : ℕ) → taken ≤ acc → (if nat_lt taken (start - 1) then max taken (min acc (start - 1)) else taken) ≤ acc
-passed_within taken acc start low = split (nat_lt taken (start - 1)) (λ t. rw t (omega arith)) (λ f. rw f low)
 
 passed_over : (taken acc start : ℕ) → (if nat_lt taken (start - 1) then max taken (min acc (start - 1)) else taken) < start - 1
     → acc ≤ (if nat_lt taken (start - 1) then max taken (min acc (start - 1)) else taken)
@@ -58,7 +58,7 @@ first_rise rules m told base reports up h =
         fronts = record {
           accepted = omega arith;
           within = omega arith;
-          taken = passed_within m.core.taken to m.core.start (omega arith);
+          taken = over_acc m.core.taken to m.core.start (omega arith);
           base = omega arith;
           told = λ d. absurd (d refl);
           passed = passed_over m.core.taken to m.core.start;
@@ -155,10 +155,6 @@ fits_data list name req body member next =
     let t : (req == (row_of (image_of list) name).last + 1) ≡ true = grind (arith, nat_tests) in
     rw (member, t) refl
 
-fits_leave : (list : List Entry) (name : ℕ) → mem list name ≡ true → fits (image_of list) (Leave name) ≡ true
-unfolding fits mem
-fits_leave list name member = member
-
 -- of a member the last request is that of so many
 last_asked : (rules : Rules) (m : Node) → FirstBase rules m → mem m.core.log.entries (first_of rules) ≡ true
     → (row_of (image_of m.core.log.entries) (first_of rules)).last ≡ length (requests_of (first_of rules) m.core.log.entries)
@@ -202,7 +198,7 @@ numbered_fits rules c m e h member (asked_leave s v report is other known stays)
     let known_ : ((row_of (image_of list) s).joined == 0) ≡ false = ap (λ i. (row_of i s).joined == 0) (sym t) ∙ known in
     let stays_ : ((row_of (image_of list) s).left == 0) ≡ true = ap (λ i. (row_of i s).left == 0) (sym t) ∙ stays in
     let left : (row_of (image_of list) s).left ≡ 0 = grind (arith, nat_tests) in
-    (refl, fits_leave list s (known_member list s known_ left))
+    (refl, leave_fits list s (known_member list s known_ left))
 
 -- it spares itself
 numbered_spares : (rules : Rules) (c : Cause) (m : Node) (e : Entry) → m.core.who ≡ first_of rules → Numbers c m e → rows.Spares (first_of rules) e
@@ -269,13 +265,10 @@ member_refreshed rules m h t =
 member_settled : (rules : Rules) (m : Node) → FirstOk rules m → is_member (settle m).status ≡ true → mem (settle m).core.log.entries (first_of rules) ≡ true
 member_settled rules m h = subst (λ (n : Node). is_member n.status ≡ true → mem n.core.log.entries (first_of rules) ≡ true) (sym (settle_is m)) h.member
 
-pub leader_member : (m : Node) → is_sequencer m ≡ true → is_member m.status ≡ true
-leader_member m t = (and_both (is_member m.status) _ (and_both (acts m) _ t).0).0
-
 numbered : (rules : Rules) (c : Cause) (m : Node) (e : Entry) → is_sequencer m ≡ true → Numbers c m e → FirstOk rules m → FirstOk rules (push_entry m e)
 numbered rules c m e leads why h =
     let i = first_of rules in
-    let member = h.member (leader_member m leads) in
+    let member = h.member (leads_member m leads) in
     let f = numbered_fits rules c m e h.base member why in
     let base = first_push rules m e f.0 f.1 h.base in
     record { base = base; member = λ t. mem_push m.core.log.entries e i base.good (numbered_spares rules c m e h.base.node.who why) member }
@@ -285,8 +278,8 @@ closed : (rules : Rules) (m : Node) → is_sequencer m ≡ true → FirstOk rule
 closed rules m leads h =
     let i = first_of rules in
     let list = m.core.log.entries in
-    let member = h.member (leader_member m leads) in
-    let fit : fits (image_of list) (Leave m.core.who) ≡ true = fits_leave list m.core.who (ap (mem list) h.base.node.who ∙ member) in
+    let member = h.member (leads_member m leads) in
+    let fit : fits (image_of list) (Leave m.core.who) ≡ true = leave_fits list m.core.who (ap (mem list) h.base.node.who ∙ member) in
     let p = push_entry m (Leave m.core.who) in
     let n = refresh_at_end p in
     let base = first_at_end rules p (first_push rules m (Leave m.core.who) refl fit h.base) in

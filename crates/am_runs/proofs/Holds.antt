@@ -3,7 +3,8 @@ use Rattle.am_runs.proofs.UnballotedWords.{◌≡◌, ◌≢◌, ℕ, ◌+◌, t
 use Rattle.am_runs.proofs.UnballotedWords.{deliveries, World, run, accepted_sends, has_log, BeginsAt, UnballotedHolds, split, good_begins, begins_take}
 use Rattle.am_runs.proofs.UnballotedWords.{senders_in_order, send_stands_once, bounded_holds, sent_holds, all_get}
 use Rattle.am_runs.specs.Lists.{UnballotedListsFit}
-use Rattle.am_runs.proofs.{Lists.item_taken, UnballotedKept.first_of, UnballotedKept.At, Worlds.StandsAt, Worlds.Kept, Worlds.WorldOk, Steps.nil_of, UnballotedRuns.world_ok}
+use Rattle.am_runs.proofs.{Lists.item_taken, UnballotedKept.first_of, UnballotedKept.At, Worlds.StandsAt, Worlds.Kept, Worlds.WorldOk, UnballotedRuns.world_ok}
+use Rattle.std.proofs.lemmas.List.{nil_from_length}
 
 -- what is accepted stands in the group's list
 in_group : (rules : Rules) (list : List Entry) (acc : ℕ) (w : World) (number : ℕ) (e : Entry) → Kept rules list acc w → At list acc number e
@@ -17,7 +18,7 @@ given_log rules list acc w name h some = split (has_log (w.nodes name).status) (
     (λ f.
     let b = (h.each name).status.blank f in
     let count = (h.given name).count in
-    absurd (some (nil_of (deliveries w.records name) (omega arith))))
+    absurd (some (nil_from_length (deliveries w.records name) (omega arith))))
 
 begins_there : (rules : Rules) (list : List Entry) (acc : ℕ) (w : World) (name : ℕ) → Kept rules list acc w → has_log (w.nodes name).status ≡ true
     → BeginsAt rules w name (w.nodes name).core.start

@@ -3,10 +3,10 @@ use Rattle.am_runs.proofs.UnballotedWords.{◌≡◌, ◌≢◌, ℕ, ◌+◌, �
 use Rattle.am_runs.proofs.UnballotedWords.{Option, Some, None, slice_get, refl, sym, ap, ◌∙◌, subst, length-append, arith, All, nat_tests, Stamp, Image, Entry}
 use Rattle.am_runs.proofs.UnballotedWords.{Data, View, Outcome, Rules, has, CoreState, accept, pass_over, Record, item_at, Status, Node, Ballot, top, is_member}
 use Rattle.am_runs.proofs.UnballotedWords.{is_sequencer, push_entry, trim_up_to, founding_stamp, has_log, advance, refresh, Verdict, body_of, begin_list, split}
-use Rattle.am_runs.proofs.UnballotedWords.{and_both, Cause, BringsFronts, with_entry, with_number, alone, Looks, finds_itself_out, Carries, whole_entry}
+use Rattle.am_runs.proofs.UnballotedWords.{and_both, Cause, BringsFronts, alone, Looks, finds_itself_out, Carries, whole_entry}
 use Rattle.am_runs.proofs.UnballotedWords.{by_number, Promises, invited, overtaken, told_result, Change, refreshes, settles, takes_report, admits, numbers}
-use Rattle.am_runs.proofs.UnballotedWords.{keeps_body, notes, stores, begins_list, departs, promises, opens, looks, fetches, stores_view, queues, collects, takes}
-use Rattle.am_runs.proofs.UnballotedWords.{asks_to_join, asks_to_leave, closes, WasSent, EntrySent, Keeps, MaySend, body_of_sent, all_item, logged, asking_log}
+use Rattle.am_runs.proofs.UnballotedWords.{notes, stores, begins_list, departs, promises, opens, looks, fetches, stores_view, queues, collects, takes}
+use Rattle.am_runs.proofs.UnballotedWords.{asks_to_join, closes, WasSent, EntrySent, Keeps, MaySend, body_of_sent, all_item, logged, asking_log}
 use Rattle.am_runs.proofs.UnballotedWords.{asking}
 use Rattle.am_model.specs.declared.status.Status.TheVariants as status
 use Rattle.am_runs.proofs.UnballotedKept.{first_of, ListOk, FrontsOk, fronts_ok, BeginsOk, StatusOk, SendOk, NodeOk, WelcomeOk, CauseOk}
@@ -171,9 +171,8 @@ pub record Unique (all : List Record) : Type 0 where
 
 fronts_told : (rules : Rules) (list : List Entry) (acc i : ℕ) (c : Cause) (s : ℕ) (v : Stamp) (base a : ℕ) → BringsFronts c s v base a
     → CauseOk rules list acc i c → a ≤ acc
-fronts_told rules list acc i c s v base a (with_entry s1 v1 base1 acc1 number e) h = h.0
-fronts_told rules list acc i c s v base a (with_number s1 v1 base1 acc1 number from req) h = h.0
 fronts_told rules list acc i c s v base a (alone s1 v1 base1 acc1 high poll) h = h
+fronts_told rules list acc i c s v base a _ h = h.0
 
 found_is : (all : List Record) (from req : ℕ) (body other : List ℕ) (found : Option (List ℕ)) → found ≡ Some body → Unique all → MaySend all from req found
     → WasSent all from req other → body ≡ other
@@ -224,7 +223,6 @@ other_change rules list acc i all c o m n w d settles none k h = settle_ok rules
 other_change rules list acc i all c o m n w d (takes_report s v report by may) none k h = absurd (d (leads_first rules list acc i m h may.leads))
 other_change rules list acc i all c o m n w d (admits s v is leads fit) none k h = absurd (d (leads_first rules list acc i m h leads))
 other_change rules list acc i all c o m n w d (numbers e leads room why) none k h = absurd (d (leads_first rules list acc i m h leads))
-other_change rules list acc i all c o m n w d (keeps_body s v report req body is heard) none k h = same_node rules list acc i m n refl refl refl h
 other_change rules list acc i all c o m n w d (notes s v base a by heard) none k h =
     let low = fronts_told rules list acc i c s v base a by w.cause in
     let told = h.fronts.told in
@@ -254,5 +252,5 @@ other_change rules list acc i all c o m n w d (queues body is says member stays 
 other_change rules list acc i all c o m n w d (collects req is) none k h = collected_ok rules list acc i m req h
 other_change rules list acc i all c o m n w d (takes e is says member some there) none k h = taken_ok rules list acc i m member some h
 other_change rules list acc i all c o m n w d (asks_to_join is was) none k h = with_status rules list acc i m status.Asking (sym (ap has_log was)) h
-other_change rules list acc i all c o m n w d (asks_to_leave is was stays done) none k h = same_node rules list acc i m n refl refl refl h
 other_change rules list acc i all c o m n w d (closes leads leaves last room) none k h = absurd (d (leads_first rules list acc i m h leads))
+other_change rules list acc i all c o m n w d _ none k h = same_node rules list acc i m n refl refl refl h

@@ -1,7 +1,7 @@
 -- Each run keeps promises.
 use Rattle.am_runs.proofs.PromisedWords.{◌≡◌, ⊎_elim, inl, inr, ℕ, ◌==◌, true, refl, sym, ap, ◌∙◌, subst, arith, All, nat_tests, All-nil, All-append, All-weaker}
 use Rattle.am_runs.proofs.PromisedWords.{Stamp, no_stamp, Rules, MayFound, has, Letter, sender_of, stamp_of, Act, Node, set_at, founding_stamp, World, start}
-use Rattle.am_runs.proofs.PromisedWords.{with_record, with_step, run, heard_by, split, Cause, calls, hears, refuses, LetterSays, actor, IsCause, steps, all_get}
+use Rattle.am_runs.proofs.PromisedWords.{with_record, with_step, run, heard_by, split, Cause, hears, LetterSays, actor, IsCause, steps, all_get}
 use Rattle.am_runs.proofs.PromisedWords.{all_item, along, EachKeeps, runs_keep, first_founder, AtMost, IsBegun, StampOk, PromisesAreBegun}
 use Rattle.am_runs.proofs.{Stamps.most_same, Stamps.most_through, PromisedChanges.CauseBegun, PromisedChanges.Promised, PromisedChanges.promise_change, PromisedChanges.said_by}
 
@@ -28,10 +28,9 @@ stamp_up nodes i n l up h = record {
 }
 
 pub cause_begun : (w : World) (i : ℕ) (a : Act) (c : Cause) → All (StampOk w.nodes) w.letters → IsCause w i a c → CauseBegun w.nodes c
-cause_begun w i a (calls ev) h is = tt
 cause_begun w i a (hears p) h is = subst (λ x. IsBegun w.nodes (stamp_of x)) is.is
     (all_item (StampOk w.nodes) w.letters (heard_by a) is.letter h is.there).begun
-cause_begun w i a refuses h is = tt
+cause_begun w i a _ h is = tt
 
 own_begun : (nodes : ℕ → Node) (i : ℕ) (n : Node) → Promised nodes i n → IsBegun (set_at nodes i n) n.core.promise
 own_begun nodes i n p = ⊎_elim

@@ -10,8 +10,9 @@ use Rattle.am_runs.proofs.UnballotedWords.{entry_is}
 use Rattle.am_laws.specs.Letters.{accept}
 use Rattle.am_packet.specs.declared.packet.Packet.TheVariants as packet
 use Rattle.am_model.specs.Node as nodes
-use Rattle.am_runs.proofs.{FirstChanges.leader_member, Lists.get_item, Lists.within_get, UnballotedKept.first_of, UnballotedKept.ListOk, UnballotedKept.FrontsOk, UnballotedKept.PacketOk}
+use Rattle.am_runs.proofs.{Lists.get_item, Lists.within_get, UnballotedKept.first_of, UnballotedKept.ListOk, UnballotedKept.FrontsOk, UnballotedKept.PacketOk}
 use Rattle.am_runs.proofs.{UnballotedKept.WelcomeOk, UnballotedKept.LetterOk, UnballotedKept.CauseOk, First.IsGroup, First.group_view, Images.rows_ok}
+use Rattle.am_laws.proofs.ViewChanges.{leads_member}
 
 -- ---- names of letters
 
@@ -57,7 +58,7 @@ sequencer_first : (rules : Rules) (list : List Entry) (acc i : ℕ) (m n : Node)
 sequencer_first rules list acc i m n h t =
     let a = and_both (acts n) ((nodes.view n).by == n.core.who) t in
     let b = (and_both (is_member n.status) _ a.0).1 in
-    let p = h.promise (leader_member n t) in
+    let p = h.promise (leads_member n t) in
     let by : n.core.promise.by ≡ n.core.who = (let v = nodes.view n in let c = a.1 in grind (arith, nat_tests)) in
     sym h.who ∙ sym by ∙ ap (λ (s : Stamp). s.by) p
 
@@ -126,7 +127,7 @@ welcome_says rules list acc i m n s h f t (just_joined number next high low stan
     let item = stands_item rules list acc i m n number (Join s) h zero stands in
     let is : (row_of (nodes.image_of n) s).joined ≡ number = same ∙ row ∙ omega arith in
     record {
-      stamp = h.promise (leader_member n t);
+      stamp = h.promise (leads_member n t);
       low = omega arith;
       tells = λ b. first_image rules list acc i m n n.core.base h f;
       joined = λ z. ap (item_at list) is ∙ item;
@@ -147,7 +148,7 @@ welcome_says rules list acc i m n s h f t (asks_again same lives some stays low 
     let joined = ap (λ (r : Row). r.joined) is in
     let joined_q = ap (λ (r : Row). r.joined) is_q in
     record {
-      stamp = h.promise (leader_member n t);
+      stamp = h.promise (leads_member n t);
       low = omega arith;
       tells = λ b. first_image rules list acc i m n n.core.base h f;
       joined = λ z. ⊎_elim (λ (x : has rules.founders s ≡ true). absurd (cc))
@@ -161,7 +162,7 @@ result_says : (rules : Rules) (list : List Entry) (acc i : ℕ) (m n : Node) (nu
 result_says rules list acc i m n number names h f t high named =
     let told_ = first_told rules list acc i m n h f in
     let v = group_view rules list f.group in
-    let stamp = h.promise (leader_member n t) in
+    let stamp = h.promise (leads_member n t) in
     let one : number ≡ 1 = high ∙ ap (λ (x : Image). x.view_number) told_ ∙ v.number in
     let first : slice_get list 0 ≡ Some (founders_view rules) = ap (λ l. slice_get l 0) f.group.is in
     let there : entry_at n.core.log number ≡ Some (founders_view rules) = entry_is n.core.log number 0 (omega arith)

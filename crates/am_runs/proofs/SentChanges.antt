@@ -22,7 +22,7 @@ use Rattle.am_model.specs.Emit.{Step}
 use Rattle.am_base.proofs.Greatest.{split}
 use Rattle.am_laws.specs.Causes.{Cause, calls, hears, BringsSend, by_request, by_spread}
 use Rattle.am_laws.specs.Looks.{Looks, decides}
-use Rattle.am_laws.specs.Changes.{Numbers, asked_send, own_send, asked_join, asked_leave, Carries, whole_entry, by_number, Change, refreshes, settles}
+use Rattle.am_laws.specs.Changes.{Numbers, asked_send, own_send, Carries, whole_entry, by_number, Change, refreshes, settles}
 use Rattle.am_laws.specs.Changes.{numbers, keeps_body, stores, begins_list, looks, fetches}
 use Rattle.am_laws.specs.Changes.{stores_view, queues, collects, closes}
 use Rattle.am_laws.specs.Letters.{HasSend, Stands, Says, request, spread, bcast}
@@ -50,8 +50,7 @@ numbered_sent : (all : List Record) (who : ℕ) (o : Outcome) (c : Cause) (m : N
     → EntrySent all e
 numbered_sent all who o c m e (asked_send s v report req body by known stays next) sent h = brought_sent all who o c s v report req body by sent
 numbered_sent all who o c m e (own_send s is last) sent h = as_sent all who m s.req s.body h (waiting_sent all who m s h is)
-numbered_sent all who o c m e (asked_join s v is other fit) sent h = tt
-numbered_sent all who o c m e (asked_leave s v report is other known stays) sent h = tt
+numbered_sent all who o c m e _ sent h = tt
 
 -- ---- bodies
 

@@ -6,6 +6,7 @@ use Rattle.am_runs.proofs.UnballotedWords.{WasSettled, all_get, get_push}
 use Rattle.am_base.specs.declared.outcome.Outcome.TheVariants as said
 use Rattle.am_runs.proofs.{Lists.get_item, Lists.item_more, Lists.within_get, UnballotedKept.At, UnballotedKept.at_more, UnballotedKept.SendOk, UnballotedKept.IsSettled, UnballotedKept.NodeOk}
 use Rattle.am_runs.proofs.{Worlds.GivenOk, Worlds.StandsAt, Chains.front, Chains.at_least, Chains.Gave, Chains.nothing, Chains.took, Chains.began}
+use Rattle.std.proofs.lemmas.List.{nil_from_length}
 
 -- ---- answers
 
@@ -36,10 +37,6 @@ entry_item rules list acc i m number e h is =
     let at = entry-get m.core.log number e low is in
     let there = within_get list m.core.log.start m.core.log.entries (number - m.core.log.start) e h.log.within at in
     get_item list (number + 1) (m.core.log.start + (number - m.core.log.start)) e (omega arith) there
-
-pub nil_of : {A : Type 0} (xs : List A) → length xs ≡ 0 → xs ≡ []
-nil_of [] h = refl
-nil_of (x ∷ xs) h = absurd (omega arith)
 
 -- one entry more is given
 pub given_push : (list : List Entry) (acc : ℕ) (m n : Node) (given : List (ℕ × Entry)) (k : ℕ) (e : Entry) → GivenOk list acc m given
@@ -90,7 +87,7 @@ given_step rules list more acc to i m n c o given hm hn none answer h (took k e 
 given_step rules list more acc to i m n c o given hm hn none answer h (began s v base join image cause is lm ln start f up) =
     let b = hm.status.blank lm in
     let count = h.count in
-    let empty : given ≡ [] = nil_of given (omega arith) in
+    let empty : given ≡ [] = nil_from_length given (omega arith) in
     subst (λ g. GivenOk (list ++ more) to n (g ++ taken_in o)) (sym empty)
     (subst (GivenOk (list ++ more) to n) (ap taken_in (sym is)) (record { count = omega arith; each = λ k number e x. absurd (cc) }))
 

@@ -2,7 +2,7 @@
 use Rattle.am_runs.proofs.UnballotedWords.{◌≡◌, ◌≢◌, ℕ, ◌-◌, ◌<◌, ◌≤◌, true, false, List, ◌++◌, length, take, Option, Some, None, sym, ap, ◌∙◌, arith, All}
 use Rattle.am_runs.proofs.UnballotedWords.{take-append-le, All-weaker, Stamp, Image, Entry, Data, Join, View, Rules, has, Log, top_of, CoreState, Packet, Bcast}
 use Rattle.am_runs.proofs.UnballotedWords.{Order, Accept, Welcome, Invite, Vote, Piece, Result, Letter, is_for, item_at, OwnSend, Status, Node, founding_stamp}
-use Rattle.am_runs.proofs.UnballotedWords.{has_log, Cause, calls, hears, refuses, image_of}
+use Rattle.am_runs.proofs.UnballotedWords.{has_log, Cause, hears, image_of}
 use Rattle.am_runs.proofs.Lists.{item_more, Within, within_more}
 
 -- the founder whose view it is
@@ -87,9 +87,8 @@ pub record LetterOk (rules : Rules) (list : List Entry) (acc : ℕ) (letter : Le
   pub heard : (i : ℕ) → is_for letter i ≡ true → PacketOk rules list acc i letter.packet
 
 abbrev pub CauseOk : Rules → List Entry → ℕ → ℕ → Cause → Type 0
-CauseOk rules list acc i (calls event) = Unit {0}
 CauseOk rules list acc i (hears p) = PacketOk rules list acc i p
-CauseOk rules list acc i refuses = Unit {0}
+CauseOk rules list acc i _ = Unit {0}
 
 -- ---- the list goes on, and more of it is accepted
 

@@ -314,7 +314,6 @@ moves_branch s t (group.numbers i e leads fit may) voted k law kt b = one_name s
     (subst (Begins (chain_of s.views)) (sym (longer_chain s i (longer (s.node i) e) e k leads refl)) (begins_more (chain_of s.views) (e ∷ []))) leads.up) b
 moves_branch s t (group.stores i e up decided other stays next) voted k law kt b = one_name s t i (longer (s.node i) e) kt
     (longer_name s t i e refl refl (same_chain s) up) b
-moves_branch s t (group.accepts i n leads may) voted k law kt b = no_name s t kt refl refl refl b
 moves_branch s t (group.learns i told acc up rises within before up_to given low) voted k law kt b = one_name s t i
     (record (s.node i) { told = told; acc = acc }) kt (record {
       node = refl;
@@ -335,7 +334,6 @@ moves_branch s t (group.raises i stamp there above) voted k law kt b = one_name 
 }) b
 moves_branch s t (group.shows i there small other begun none) voted k law kt b = branches_of s t kt (λ j stays. inr (refl, stays))
     (still_on s t (same_chain s)) (shown_open s i) b
-moves_branch s t (group.serves i list up shown others) voted k law kt b = no_name s t kt refl refl refl b
 moves_branch s t (group.fetches i f list e up ballot served shown next) voted k law kt b = one_name s t i (longer (s.node i) e) kt
     (longer_name s t i e refl refl (same_chain s) up) b
 moves_branch s t (group.decides i members resilience may) voted k law kt b = choice_branches s k law i members resilience may voted.1 kt b
@@ -385,6 +383,7 @@ moves_branch s t (group.stops i) voted k law kt b = one_name s t i (record (s.no
   steady = λ z. inr (refl, z);
   opened = λ z ballot. absurd (let y = z.there.goes in cc);
 }) b
+moves_branch s t _ voted k law kt b = no_name s t kt refl refl refl b
 
 -- ---- what a decision finds
 

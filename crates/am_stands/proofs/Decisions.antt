@@ -1,6 +1,6 @@
 -- A decision, as a move of the group.
 use Rattle.am_stands.proofs.Words.{◌≡◌, ⊎_elim, ℕ, ◌+◌, ◌==◌, max, true, false, List, [], ◌∷◌, ◌++◌, length, take, Some, slice_get, refl, sym, ap, ◌∙◌, subst}
-use Rattle.am_stands.proofs.Words.{arith, list_any, nat_tests, append_assoc, length-append, Stamp, Image, Entry, View, stamp_eq, Log, key, Group, Views, put}
+use Rattle.am_stands.proofs.Words.{arith, list_any, nat_tests, append_assoc, Stamp, Image, Entry, View, stamp_eq, Log, key, Group, Views, put}
 use Rattle.am_stands.proofs.Words.{opening, with_choice, choice_of, put_same, Node, Ballot, view, members, push_entry, need_of, left_in, restart_reports}
 use Rattle.am_stands.proofs.Words.{with_end, Decided, World, last_view, whole, is_view_of, up_to_view, up_to_next, line_of, split, Cause, HasOpen, Balloting}
 use Rattle.am_stands.proofs.Words.{with_more, without_one, as_it_is, get_front, get_last, get_push, told_pushed, after_view, NameStands, NotedStands}
@@ -13,6 +13,7 @@ use Rattle.am_base.specs.declared.outcome.Outcome.TheVariants as said
 use Rattle.am_laws.specs.Looks as looks
 use Rattle.am_stands.proofs.{Names.Onto, Names.onto_move, Names.name_in, Names.each_within, Names.fronts_within, Changes.own_name, Changes.long_all}
 use Rattle.am_stands.proofs.{Lines.line_ends, Entries.noted_stands, Entries.line_here}
+use Rattle.std.proofs.lemmas.List.{same_from_push}
 
 -- ---- lists
 
@@ -24,16 +25,6 @@ line_opens v [] names resilience h = let t : stamp_eq v v ≡ true = grind (arit
 line_opens v (x ∷ es) names resilience h = split (is_view_of v x)
     (λ t. absurd (let z = rw t at h in cc))
     (λ f. rw f (ap (λ l. x ∷ l) (line_opens v es names resilience (rw f at h))))
-
-pub last_same : {A : Type 0} (a b : List A) (x y : A) → a ++ x ∷ [] ≡ b ++ y ∷ [] → x ≡ y
-last_same a b x y h =
-    let long = ap length h in
-    let m = length-append a (x ∷ []) in
-    let n = length-append b (y ∷ []) in
-    let same : length a ≡ length b = omega arith in
-    let at : slice_get (b ++ y ∷ []) (length b) ≡ Some x = ap (slice_get (b ++ y ∷ [])) (sym same) ∙ ap (λ l. slice_get l (length a)) (sym h) ∙ get_last a x in
-    let z : Some x ≡ Some y = sym at ∙ get_last b y in
-    cc
 
 -- ---- the ballot that is looked at
 
@@ -145,7 +136,7 @@ module _ (w : World) (name : ℕ) (x y : Node) (a : groups.Node) (views : Views)
         record { index = length w.views; view = last_view y; there = get_last w.views (last_view y); is = ap key (is_stamp ∙ sym promised) ∙ sym is }))
         (λ f. (let n = h.decided i (rw f at t) in
         record { index = n.index; view = n.view; there = get_front w.views (last_view y ∷ []) n.index n.view n.there; is = n.is }));
-    current = λ d last. promised ∙ sym is_stamp ∙ ap (λ (z : Decided). z.stamp) (last_same w.views last.before (last_view y) d last.is);
+    current = λ d last. promised ∙ sym is_stamp ∙ ap (λ (z : Decided). z.stamp) (same_from_push w.views last.before (last_view y) d last.is).1;
   }
 
 -- ---- the decision

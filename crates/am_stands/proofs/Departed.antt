@@ -1,9 +1,9 @@
 -- A step of who had departed before it changes nothing that the group looks at.
 use Rattle.am_stands.proofs.StepWords.{◌≡◌, ℕ, ◌≤◌, ◌==◌, ◌||◌, not, max, true, false, refl, sym, ap, ◌∙◌, subst, arith, Stamp, Outcome, Status, Node, is_member}
 use Rattle.am_stands.proofs.StepWords.{is_asking, is_sequencer, has_log, has_departed, is_unfinished, hears_member, hears_asking, hears_in_view, hears_sequencer}
-use Rattle.am_stands.proofs.StepWords.{refresh, settle, refresh_at_end, split, and_both, Cause, Promises, invited, overtaken, told_result, Change, refreshes}
-use Rattle.am_stands.proofs.StepWords.{settles, takes_report, admits, numbers, keeps_body, notes, stores, begins_list, departs, promises, opens, looks, fetches}
-use Rattle.am_stands.proofs.StepWords.{stores_view, queues, collects, takes, asks_to_join, asks_to_leave, closes, IsPlain, Course, nothing_yet, used_report}
+use Rattle.am_stands.proofs.StepWords.{refresh, settle, refresh_at_end, split, and_both, Cause, Promises, invited, overtaken, told_result, Change}
+use Rattle.am_stands.proofs.StepWords.{settles, takes_report, admits, numbers, keeps_body, notes, stores, begins_list, promises, opens, fetches}
+use Rattle.am_stands.proofs.StepWords.{stores_view, queues, collects, takes, asks_to_join, asks_to_leave, IsPlain, Course, nothing_yet, used_report}
 use Rattle.am_stands.proofs.StepWords.{and_then, Deeds, plainly, looked, rests_at_end, with_sends, settle_is, leads_member, Unmoved, looked_open, advanced}
 use Rattle.am_model.specs.declared.status.Status.TheVariants as status
 
@@ -74,7 +74,6 @@ module _ (x : Node) (gone : x.status ≡ status.Departed) where
   other_status t is f = (let z = sym (ap has_departed (sym is ∙ gone)) ∙ f in cc)
 
   pub rests_change : {c : Cause} {o : Outcome} (y : Node) (z : Change c o x y) → IsPlain z → Rests x y
-  rests_change y refreshes p = absurd p
   rests_change y settles p = subst (Rests x) (sym (settle_is x)) (record { same = settled; status = refl; ballot = refl; told = refl; acc = refl })
     where
       settled : Unmoved x (with_sends x (settle x))
@@ -86,10 +85,8 @@ module _ (x : Node) (gone : x.status ≡ status.Departed) where
   rests_change y (notes s v base acc by heard) p = absurd (no_follower s v heard)
   rests_change y (stores s v base acc number e by heard plain may) p = absurd (no_follower s v heard)
   rests_change y (begins_list s v base join image is says may) p = absurd (no_asker s may.asks)
-  rests_change y (departs s v number is heard leaves) p = absurd p
   rests_change y (promises v low why) p = absurd (no_promise _ v why)
   rests_change y (opens least resilience by may) p = absurd (no_member may.member)
-  rests_change y (looks b verdict over why look is) p = absurd p
   rests_change y (fetches s v base number e is heard promise below why may) p = absurd (no_hearer s heard)
   rests_change y (stores_view s v base number names resilience is heard own other promise below may) p = absurd (no_hearer s heard)
   rests_change y (queues body is says member stays few) p = absurd (no_member member)
@@ -103,7 +100,7 @@ module _ (x : Node) (gone : x.status ≡ status.Departed) where
   rests_change y (takes e is says member some there) p = absurd (no_member member)
   rests_change y (asks_to_join is was) p = absurd (other_status status.Stranger was refl)
   rests_change y (asks_to_leave is was stays done) p = absurd (other_status status.Member was refl)
-  rests_change y (closes leads leaves alone room) p = absurd p
+  rests_change y _ p = absurd p
 
 -- ---- a step
 

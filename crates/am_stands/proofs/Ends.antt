@@ -1,5 +1,5 @@
 -- At the end of a step the group accepts what its sequencer does, and the name learns how far that is.
-use Rattle.am_stands.proofs.Words.{equals_itself, ◌≡◌, ◌≢◌, ℕ, zero, suc, ◌<◌, ◌≤◌, ◌==◌, max, true, false, if◌then◌else◌, List, [], ◌∷◌, ◌++◌, length, take}
+use Rattle.am_stands.proofs.Words.{equals_itself, ◌≡◌, ◌≢◌, ℕ, ◌<◌, ◌≤◌, ◌==◌, max, true, false, if◌then◌else◌, List, [], ◌∷◌, ◌++◌, length, take}
 use Rattle.am_stands.proofs.Words.{Some, slice_get, refl, sym, ap, ◌∙◌, subst, arith, nat_tests, Entry, Stamp, Event, Begins, image_of, begins_length, Group}
 use Rattle.am_stands.proofs.Words.{put, with_node, Node, set_at, has_departed, Step, Decided, World, is_stopped, group_after, views_after, with_step}
 use Rattle.am_stands.proofs.Words.{up_to_next, line_of, split, NameStands, FrontsStand, ViewsStand, Stands, Moves, none, moves, Leads, Accepts, no_more}
@@ -8,16 +8,12 @@ use Rattle.am_stands.specs.Ends.{learns}
 use Rattle.am_chain.specs.Group as groups
 use Rattle.am_chain.specs.Moves as group
 use Rattle.am_stands.proofs.Names.{no_move, one_move, views_noted}
+use Rattle.std.proofs.lemmas.List.{take-append-le}
 
 -- ---- a longer group list
 
-pub take_front : {A : Type 0} (n : ℕ) (xs ys : List A) → n ≤ length xs → take n (xs ++ ys) ≡ take n xs
-take_front zero xs ys h = refl
-take_front (suc n) [] ys h = absurd (omega arith)
-take_front (suc n) (x ∷ xs) ys h = ap (λ l. x ∷ l) (take_front n xs ys (omega arith))
-
 pub taken_more : (n : ℕ) (old new : List Entry) → Begins old new → n ≤ length old → take n new ≡ take n old
-taken_more n old new h low = ap (take n) (sym h.same) ∙ take_front n old h.rest low
+taken_more n old new h low = ap (take n) (sym h.same) ∙ take-append-le n old h.rest low
 
 pub name_grows : (w v : World) (i : ℕ) (m : Node) (a : groups.Node) → Begins w.group v.group → is_stopped v i ≡ is_stopped w i → NameStands w i m a
     → NameStands v i m a

@@ -7,8 +7,8 @@ use Rattle.am_stands.proofs.Words.{Node, Ballot, view, acts, unsettled_count, is
 use Rattle.am_stands.proofs.Words.{Verdict, need_of, left_in, taken_by, is_unfinished, settle, World, is_stopped, split, and_both, Cause, hears, BringsSend}
 use Rattle.am_stands.proofs.Words.{by_request, by_spread, BringsReport, with_send, by_ack, by_nack, by_leave_ask, BringsFronts, with_entry, with_number}
 use Rattle.am_stands.proofs.Words.{alone, Balloting, Looks, finds_itself_out, waits, fetches_from_best, finds_too_few, finds_no_room, decides, HasLearned}
-use Rattle.am_stands.proofs.Words.{MayReport, Change, refreshes, settles, takes_report, admits, keeps_body, notes, begins_list, promises, opens, looks}
-use Rattle.am_stands.proofs.Words.{stores_view, queues, collects, takes, asks_to_join, asks_to_leave, logged, settle_is, told_pushed, Along, told_used}
+use Rattle.am_stands.proofs.Words.{MayReport, Change, refreshes, settles, takes_report, admits, notes, begins_list, promises, opens, looks}
+use Rattle.am_stands.proofs.Words.{stores_view, queues, collects, asks_to_join, asks_to_leave, logged, settle_is, told_pushed, Along, told_used}
 use Rattle.am_stands.proofs.Words.{NameStands, within, Trimmed, VoteTells, AllShown, Grows, FetchesStand, ReportsStand, ReportsFresh, OpensStand, IsNew}
 use Rattle.am_stands.proofs.Words.{IsConcerned, Reporting, BallotStands, Ballots, GroupFor, HeardSo, IsPlain, NodeKeeps, OwnTurn, Stepping}
 use Rattle.am_model.specs.Ballots.{overtake as overtaken_by}
@@ -67,7 +67,6 @@ ballots_open w s b o k votes shown = record {
 module _ (rules : Rules) (w : World) (name : ℕ) (c : Cause) (x : Node) (s : Group) (h : Stepping rules w name c x s) where
   -- a look
   looked : (b : Ballot) (v : Verdict) → Balloting c x b → Looks x b v → Ballots w s v.node.ballot
-  looked b v why (finds_itself_out y) = ballots_over w s b _ (looked_last rules w name c x s h b why)
   looked b v why (waits y z) = ballots_open w s b _ (looked_last rules w name c x s h b why) (known rules w name c x s h b why).votes
       (λ from want is. absurd (cc))
   looked b v why (fetches_from_best y z u) =
@@ -79,9 +78,7 @@ module _ (rules : Rules) (w : World) (name : ℕ) (c : Cause) (x : Node) (s : Gr
       fetched_from : Outcome → ℕ
       fetched_from (said.Fetching from want) = from
       fetched_from _ = 0
-  looked b v why (finds_too_few y z) = ballots_over w s b _ (looked_last rules w name c x s h b why)
-  looked b v why (finds_no_room y) = ballots_over w s b _ (looked_last rules w name c x s h b why)
-  looked b v why (decides may) = ballots_over w s b _ (looked_last rules w name c x s h b why)
+  looked b v why _ = ballots_over w s b _ (looked_last rules w name c x s h b why)
 
 -- ---- each part, at the group that the moves of a change lead to
 
@@ -360,8 +357,6 @@ keeps_by rules w v name c o x y s t (admits from u is leads_ fit) plain q later 
 keeps_by rules w v name c o x y s t (numbers e leads_ room why) plain q later =
     keep_pushed q e (sequencer_member rules w name c x s q.h leads_) refl (number_ok rules w name c x s q.h e leads_ why).fit refl
     (omega arith) refl refl refl refl refl (trimmed_same q refl)
-keeps_by rules w v name c o x y s t (keeps_body from u report req body is heard) plain q later =
-    keep_same q refl refl refl refl refl refl refl (turn_same q refl refl)
 keeps_by rules w v name c o x y s t (notes from u base acc by heard) plain q later =
     let trim = brings_trim w s name c from u base acc q.h.heard by in
     keep q (good_same q refl) (ballots_same q refl) (opens_same q refl refl refl) (reports_same q refl refl (omega arith))
@@ -421,8 +416,6 @@ keeps_by rules w v name c o x y s t (queues body is says_ member stays few) plai
 keeps_by rules w v name c o x y s t (collects req is) plain q later =
     keep_same q refl refl refl refl refl refl refl (turn_collected x.core.who req (t.node name).list x.sends
     (turn_grows x.core.who (s.node name).list (t.node name).list x.sends (q.g.each name).list q.h.keeps.turn))
-keeps_by rules w v name c o x y s t (takes e is says_ member some there) plain q later =
-    keep_same q refl refl refl refl refl refl refl (turn_same q refl refl)
 keeps_by rules w v name c o x y s t (asks_to_join is was) plain q later =
     keep q (good_same q refl) (ballots_same q refl) (λ u_. absurd (let k = (q.h.keeps.opens u_).0 in let z = ap is_member was in cc))
     (reports_same q refl refl (omega arith)) (fresh_same q refl refl (omega arith)) (trimmed_same q refl) (turn_same q refl refl)
@@ -433,6 +426,8 @@ keeps_by rules w v name c o x y s t (asks_to_leave is was stays done) plain q la
     (reports_same q refl refl (omega arith)) (fresh_same q refl refl (omega arith)) (trimmed_same q refl) (turn_same q refl refl)
     (λ u_. ap has_log was)
 keeps_by rules w v name c o x y s t (closes leads_ leaves alone_ room) plain q later = absurd plain
+keeps_by rules w v name c o x y s t _ plain q later =
+    keep_same q refl refl refl refl refl refl refl (turn_same q refl refl)
 
 pub keeps_next : (rules : Rules) (w v : World) (name : ℕ) (c : Cause) (o : Outcome) (x y : Node) (s t : Group) (z : Change c o x y) → IsPlain z
     → (h : Stepping rules w name c x s) (g : Grows s t) (gt : GroupFor rules t)

@@ -1,14 +1,15 @@
 -- In every lawful run of the group, whom a View on the chain left out has stopped.
-use Rattle.am_stands.proofs.Words.{split, ◌≡◌, ⊎_elim, ℕ, List, [], ◌∷◌, ◌++◌, length, true, false, Some, slice_get, refl, sym, ap, ◌∙◌, subst, arith, Entry}
+use Rattle.am_stands.proofs.Words.{split, ◌≡◌, ⊎_elim, ℕ, List, [], ◌∷◌, ◌++◌, length, true, false, refl, sym, ap, ◌∙◌, subst, arith, Entry}
 use Rattle.am_stands.proofs.Words.{Leave, View, Stamp, has, Begins, NotView, mem, view_of, key, begins_more, begins_trans, begins_length, begins_pushed}
 use Rattle.am_stands.proofs.Words.{length_push, good_begins, leaver_in, leaver_out, mem_between, mem_nil, Group, put, opening, chain_of, Move, MayDecide}
 use Rattle.am_stands.proofs.Words.{with_line, with_choice, choice_of, longer, numbers, stores, learns, begins, raises, fetches, gives_over, welcomes, asks}
 use Rattle.am_stands.proofs.Words.{departs, closes, stops, Kept, IsLawful, founded, more, start, first_stamp, put_same, put_at, list_chain, departed_in}
-use Rattle.am_stands.proofs.Words.{run_keeps, get_last, LeftOut, RunsLeaveOut}
+use Rattle.am_stands.proofs.Words.{run_keeps, LeftOut, RunsLeaveOut}
 use Rattle.am_chain.specs.Group.{Leads}
 use Rattle.am_chain.specs.Moves.{decides}
 use Rattle.am_chain.specs.Group as groups
 use Rattle.am_stands.proofs.Opens.{numbers_plain}
+use Rattle.std.proofs.lemmas.List.{same_from_push}
 
 -- ---- who stopped stays so
 
@@ -22,15 +23,6 @@ same_left s t stays chain h a v names resilience name part member out =
 
 -- ---- an entry more, that is no View
 
-pub last_is : (a b : List Entry) (x y : Entry) → a ++ x ∷ [] ≡ b ++ y ∷ [] → x ≡ y
-last_is a b x y same =
-    let one = length_push a x in
-    let two = length_push b y in
-    let long = ap length same in
-    let size : length a ≡ length b = omega arith in
-    let at : Some x ≡ Some y = sym (get_last a x) ∙ ap (λ l. slice_get l (length a)) same ∙ ap (slice_get (b ++ y ∷ [])) size ∙ get_last b y in
-    cc
-
 is_no_view : (e : Entry) (v : Stamp) (names : List ℕ) (resilience : ℕ) → NotView e → View v names resilience ≡ e → ⊥
 is_no_view (View stamp members strong) v names resilience plain same = plain
 is_no_view _ v names resilience plain same = cc
@@ -40,7 +32,7 @@ line_left : (s t : Group) (e : Entry) → ((j : ℕ) → (s.node j).stopped ≡ 
 line_left s t e stays plain chain h a v names resilience name part member out = ⊎_elim
     (λ (z : Begins (a ++ View v names resilience ∷ []) (chain_of s.views)). stays name (h a v names resilience name z member out))
     (λ (z : a ++ View v names resilience ∷ [] ≡ chain_of s.views ++ e ∷ []).
-    absurd (is_no_view e v names resilience plain (last_is a (chain_of s.views) (View v names resilience) e z)))
+    absurd (is_no_view e v names resilience plain (same_from_push a (chain_of s.views) (View v names resilience) e z).1))
     (begins_pushed e (subst (Begins (a ++ View v names resilience ∷ [])) chain part))
 
 -- the chain of who numbers
@@ -76,7 +68,7 @@ choice_left s k lawful c members resilience d h a v names strong name part membe
     (λ (z : Begins (a ++ View v names strong ∷ []) old).
     stays name (h a v names strong name (begins_trans z (list_chain s k lawful c members resilience d)) member out))
     (λ (z : a ++ View v names strong ∷ [] ≡ old ++ e ∷ []).
-    (let last = last_is a old (View v names strong) e z in
+    (let last = (same_from_push a old (View v names strong) e z).1 in
     let its : names ≡ members = ap (λ x. names_of_view x) last in
     let one = length_push a (View v names strong) in
     let two = length_push old e in

@@ -1,8 +1,8 @@
 -- Where a node's last ballot was decided and its promise is its own, it is that of the ballot, in every run.
 use Rattle.am_stands.proofs.StepWords.{Each, each_node_keeps, first_has, none_of_asking, ◌≡◌, inr, ⊎_elim, ℕ, ◌<◌, ◌==◌, ◌&&◌, ◌||◌, not, true, false, List}
 use Rattle.am_stands.proofs.StepWords.{Option, Some, None, sym, ap, ◌∙◌, subst, arith, nat_tests, Stamp, Outcome, Rules, MayFound, stamp_lt, no_stamp, Event, Node}
-use Rattle.am_stands.proofs.StepWords.{Ballot, is_member, is_asking, Verdict, overtake, World, start, run, split, and_both, Cause, Looks, finds_itself_out, waits}
-use Rattle.am_stands.proofs.StepWords.{fetches_from_best, finds_too_few, finds_no_room, decides, Promises, invited, overtaken_by, told_result, Change, refreshes}
+use Rattle.am_stands.proofs.StepWords.{Ballot, is_member, is_asking, Verdict, overtake, World, start, run, split, and_both, Cause, Looks, waits}
+use Rattle.am_stands.proofs.StepWords.{fetches_from_best, finds_too_few, decides, Promises, invited, overtaken_by, told_result, Change, refreshes}
 use Rattle.am_stands.proofs.StepWords.{settles, begins_list, promises, opens, looks, closes, actor, rests_refresh, rests_closed, settle_is, along, EachKeeps}
 use Rattle.am_stands.proofs.StepWords.{runs_keep, equal_stamps, HasNames, HeardNames, change_names, promised_named, Balloted, change_does, looked_at, AllViews}
 use Rattle.am_stands.proofs.StepWords.{each_views, heard_names, views_start, AtMost, IsBegun, most_same, most_through, CauseBegun, Promised, promise_change}
@@ -64,12 +64,11 @@ stamp_in None = no_stamp
 stamp_in (Some a) = a.stamp
 
 look_owns : (x : Node) (b : Ballot) (v : Verdict) → Looks x b v → x.core.promise ≡ b.stamp → OwnDecided v.node
-look_owns x b v (finds_itself_out y) promise = λ a number names is answer mine. absurd (let z = ap answer_in is ∙ answer in cc)
 look_owns x b v (waits y z) promise = λ a number names is answer mine. absurd (let u = ap answer_in is ∙ answer in cc)
 look_owns x b v (fetches_from_best y z u) promise = λ a number names is answer mine. absurd (let t = ap answer_in is ∙ answer in cc)
 look_owns x b v (finds_too_few y z) promise = λ a number names is answer mine. absurd (let u = ap answer_in is ∙ answer in cc)
-look_owns x b v (finds_no_room y) promise = λ a number names is answer mine. absurd (let z = ap answer_in is ∙ answer in cc)
 look_owns x b v (decides may) promise = λ a number names is answer mine. promise ∙ ap stamp_in is
+look_owns x b v _ promise = λ a number names is answer mine. absurd (let z = ap answer_in is ∙ answer in cc)
 
 change_owns : (nodes : ℕ → Node) (i : ℕ) (c : Cause) (o : Outcome) (x y : Node) → HeardNames c → CauseBegun nodes c → Change c o x y → Knows nodes i x
     → OwnDecided y

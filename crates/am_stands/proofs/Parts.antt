@@ -1,18 +1,16 @@
 -- What a node tells of its list by numbers is what the whole list tells.
 use Rattle.am_stands.proofs.Words.{◌≡◌, ℕ, zero, suc, ◌+◌, ◌-◌, ◌<◌, ◌≤◌, true, false, List, [], ◌∷◌, ◌++◌, length, take, drop, Option, Some, None, slice_get}
-use Rattle.am_stands.proofs.Words.{refl, sym, ap, ◌∙◌, subst, arith, take-append-add, drop-append_seam, length-take, take-append-drop, Entry, View, Image}
+use Rattle.am_stands.proofs.Words.{refl, sym, ap, ◌∙◌, subst, arith, take-append-add, length-take, take-append-drop, Entry, View, Image}
 use Rattle.am_stands.proofs.Words.{IsSet, has, size, blank, fold, after, members_of, entry_at, image_at, members_at, counted_of, counted_at, need_at}
-use Rattle.am_stands.proofs.Words.{slice_get-drop, view_grows, IsGood, image_of, mem, resilience_of, Begins, begins_take, begins_push, length_take}
+use Rattle.am_stands.proofs.Words.{view_grows, IsGood, image_of, mem, resilience_of, Begins, begins_take, begins_push, length_take}
 use Rattle.am_stands.proofs.Words.{length_push, take_begins, good_begins, told_push, viewed_mem, how_many, counted_in, Node, is_view, World, fold_append}
 use Rattle.am_stands.proofs.Words.{split, entry_is, after_same, NameStands, IsConcerned}
 use Rattle.am_chain.specs.Group.{need_of}
 use Rattle.am_chain.specs.Group as groups
 use Rattle.am_stands.proofs.Counting.{names_few}
+use Rattle.am_group.proofs.Places.{get_behind}
 
 -- ---- by numbers
-
-pub part_get : (front entries : List Entry) (i : ℕ) → slice_get (front ++ entries) (length front + i) ≡ slice_get entries i
-part_get front entries i = sym (slice_get-drop (length front) i (front ++ entries)) ∙ ap (λ l. slice_get l i) (drop-append_seam front entries)
 
 pub image_whole : (v : World) (i n : ℕ) (x : Node) (a : groups.Node) → NameStands v i x a → x.core.log.start ≤ n
     → image_at x.core.log n ≡ image_of (take n a.list)
@@ -36,7 +34,7 @@ entry_whole v i n x a h low =
     let index = n - 1 - start_ in
     let long : length front ≡ start_ = (let b = h.begins.within in let c = length-take start_ v.group in omega arith) in
     let at : length front + index ≡ n - 1 = omega arith in
-    entry_is x.core.log n index (omega arith) ∙ sym (part_get front x.core.log.entries index) ∙ ap (slice_get (front ++ x.core.log.entries)) at
+    entry_is x.core.log n index (omega arith) ∙ sym (get_behind front x.core.log.entries index) ∙ ap (slice_get (front ++ x.core.log.entries)) at
     ∙ ap (λ l. slice_get l (n - 1)) (sym h.list)
 
 -- who counts, and how many are needed

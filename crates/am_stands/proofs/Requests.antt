@@ -7,7 +7,8 @@ use Rattle.am_stands.proofs.Words.{NameStands, OwnTurn}
 use Rattle.am_chain.specs.Group as groups
 use Rattle.am_state.specs.Sends as own
 use Rattle.am_model.specs.Node as nodes
-use Rattle.am_stands.proofs.{Changes.told_all, Heard.OwnFits, Heard.fits_data, Parts.part_get, Welcoming.member_row}
+use Rattle.am_stands.proofs.{Changes.told_all, Heard.OwnFits, Heard.fits_data, Welcoming.member_row}
+use Rattle.am_group.proofs.Places.{get_behind}
 
 -- a longer list has no fewer
 pub turn_grows : (who : ℕ) (a b : List Entry) (sends : own.Sends) → Begins a b → OwnTurn who a sends → OwnTurn who b sends
@@ -41,7 +42,7 @@ settled_turn_at v i x a s (Some number) h good w is k =
     let front = take start_ v.group in
     let index = (x.core.base - start_) + number in
     let there : slice_get a.list (length front + index) ≡ Some (Data x.core.who s.req found.body) =
-    ap (λ l. slice_get l (length front + index)) h.list ∙ part_get front x.core.log.entries index ∙ found.there in
+    ap (λ l. slice_get l (length front + index)) h.list ∙ get_behind front x.core.log.entries index ∙ found.there in
     let within_ = request_within a.list x.core.who s.req found.body (length front + index) good.fit there in
     let turn = waiting_settled k.next k.next x.sends.last (x.core.base + 1 + number) x.sends.queue s (omega arith) w k.turn in
     record {

@@ -20,7 +20,7 @@ use Rattle.am_stands.proofs.{Sent.piece_said, Shown.PieceStands, Shown.vote_said
 
 -- ---- who acts
 
-member_of : (t : Status) → has_log t ≡ true → has_departed t ≡ false → is_member t ≡ true
+pub member_of : (t : Status) → has_log t ≡ true → has_departed t ≡ false → is_member t ≡ true
 member_of status.Member h d = refl
 member_of _ h d = absurd (cc)
 

@@ -8,7 +8,8 @@ use Rattle.am_play.specs.World.{start}
 use Rattle.am_chain.specs.Group as groups
 use Rattle.am_chain.specs.Moves as group
 use Rattle.am_chain.specs.Runs as begun
-use Rattle.am_stands.proofs.{Ends.then_moves, Decisions.last_same}
+use Rattle.am_stands.proofs.Ends.{then_moves}
+use Rattle.std.proofs.lemmas.List.{same_from_push}
 
 -- ---- each founder in turn
 
@@ -209,7 +210,7 @@ start_views rules may =
     record {
       noted = λ k d at. one_noted rules noted k d at;
       decided = λ y t. record { index = 0; view = founders_decided rules; there = refl; is = (let z : y ≡ x = grind (arith, nat_tests) in sym z) };
-      current = λ d last. ap (λ (v : Decided). v.stamp) (last_same [] last.before (founders_decided rules) d last.is);
+      current = λ d last. ap (λ (v : Decided). v.stamp) (same_from_push [] last.before (founders_decided rules) d last.is).1;
     }
   where
     one_noted : (rules : Rules) → NotedStands (start rules) (first_group rules).views (founders_decided rules) → (k : ℕ) (d : Decided)

@@ -4,10 +4,9 @@ use Rattle.am_model.specs.declared.status.Status.TheVariants as status
 
 -- who is no member, and hasn't departed, has no list
 pub bare_status : (t : Status) → is_member t ≡ false → has_departed t ≡ false → has_log t ≡ false
-bare_status status.Stranger m d = refl
-bare_status status.Asking m d = refl
 bare_status status.Member m d = absurd (cc)
 bare_status status.Departed m d = absurd (cc)
+bare_status _ m d = refl
 
 pub asking_stays : (t : Status) → (is_member t || is_asking t) ≡ true → has_departed t ≡ true → ⊥
 asking_stays status.Stranger a d = cc

@@ -2,7 +2,7 @@
 use Rattle.am_stands.proofs.StepWords.{◌≡◌, ℕ, ◌==◌, ◌||◌, nat_lt, nat_le, not, Bool, true, false, if◌then◌else◌, [], ◌++◌, length, Option, Some, None, refl, sym}
 use Rattle.am_stands.proofs.StepWords.{ap, ◌∙◌, arith, append-nil, length-append, NodeEvent, place_of, Packet, Letter, Act, Event, is_for, letter_at, Node}
 use Rattle.am_stands.proofs.StepWords.{has_departed, Step, step, hear, hear_refusal, packet_length, World, current, is_stopped, with_record, with_step, does_event}
-use Rattle.am_stands.proofs.StepWords.{gives_up, hears_letter, hear_cut, comes_back, acts_as, happens, actor, nil_of, SendsNothing}
+use Rattle.am_stands.proofs.StepWords.{gives_up, hears_letter, hear_cut, comes_back, acts_as, happens, actor, nil_from_length, SendsNothing}
 use Rattle.am_base.specs.declared.outcome.Outcome.TheVariants as said
 use Rattle.am_base.specs.declared.event.NodeEvent.TheVariants as does
 use Rattle.am_group.specs.declared.event.Act.TheVariants as act
@@ -77,4 +77,4 @@ departed_quiet w e s h is =
     let all : w.letters ++ s.letters ≡ w.letters = sym (ap (λ (v : World). v.letters) is) ∙ same in
     let long = length-append w.letters s.letters in
     let size = ap length all in
-    nil_of s.letters (omega arith)
+    nil_from_length s.letters (omega arith)

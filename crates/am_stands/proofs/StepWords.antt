@@ -26,7 +26,7 @@ pub use Rattle.am_laws.proofs.Words.{start, run, hears_letter, hear_cut, acts_as
 pub use Rattle.am_laws.proofs.Words.{calls, closes, Changes, numbers, stores, departs, fetches, all_item, Effect, Each, each_node_keeps, first_has}
 unfoldable pub use Rattle.am_laws.proofs.Words.{happens}
 pub use Rattle.std.{proofs.Common.append_assoc, proofs.Common.get_or-set_same, proofs.Math.Seq.take-add, proofs.lemmas.List.Elements.All-push}
-pub use Rattle.std.proofs.lemmas.List.{length-drop, drop-drop, drop-append-le, take-append-le}
+pub use Rattle.std.proofs.lemmas.List.{length-drop, drop-drop, drop-append-le, take-append-le, nil_from_length}
 pub use Rattle.am_base.specs.Names.{with_name}
 pub use Rattle.am_packet.specs.Kinds.{goes_to_any, kind_of}
 pub use Rattle.am_play.specs.World.{record_of, does_event, gives_up, comes_back}
@@ -46,7 +46,6 @@ pub use Rattle.am_runs.specs.PromisedClaim.{AtMost, IsBegun, StampOk}
 pub use Rattle.am_runs.proofs.{Stamps.most_same, Stamps.most_through, PromisedChanges.CauseBegun, PromisedChanges.Promised, PromisedChanges.promise_change, PromisedRuns.AllBegun}
 pub use Rattle.am_runs.proofs.{PromisedRuns.cause_begun, PromisedRuns.each_keeps, PromisedRuns.start_begun}
 pub use Rattle.am_runs.proofs.{Records.idle_queues, Worlds.AskedOk, Worlds.asked_more, Worlds.asked_other, Worlds.unique, Actors.same_group}
-pub use Rattle.am_runs.proofs.{Steps.nil_of}
 pub use Rattle.am_stands.proofs.{Parts.view_its, ChainNames.front_named, ChainNames.counts_names, ChainNames.rows_live, ChainNames.concerned_small}
 pub use Rattle.am_stands.proofs.{Closing.close_stands, Entries.name_longer, Entries.key_stamp, Entries.view_whole, Keeping.kept, Keeping.old}
 pub use Rattle.am_stands.proofs.{Keeping.may_move, Keeping.whole, Lasts.closing_accepts, Names.name_in, Names.views_in, Names.views_noted, Names.each_within}
