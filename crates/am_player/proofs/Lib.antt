@@ -2,5 +2,5 @@ mod Done
 mod Names
 pub mod Given
 pub mod Played
-mod Statuses
+pub mod Statuses
 pub mod Texts

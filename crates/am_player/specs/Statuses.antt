@@ -1,7 +1,7 @@
 -- The statuses that a call ends with: their numbers, and what holds of the source and the sink at each.
-use Rattle.std.specs.Prelude.{ℕ, List, take, Option, Bool, true, false}
+use Rattle.std.specs.Prelude.{◌≡◌, ℕ, List, take, Option, Bool, true, false}
 use Rattle.std.specs.Io.KnownBytes.{Appends}
-use Rattle.am_io.specs.Outside.{next}
+use Rattle.am_io.specs.Outside.{next, GaveMore, GaveAtMost}
 use Rattle.am_script.specs.declared.refusal.ScriptRefusal.{ScriptRefusal}
 use Rattle.am_player.specs.declared.status.Status.{Status}
 use Rattle.am_player.specs.declared.status.Status.TheVariants.{Done, Usage, BadScript, TooLong, ReadFault, WriteFault, NoMemory, Spent, BadText, Disagrees}
@@ -61,11 +61,34 @@ abbrev pub WroteUpTo : Bool → Option (List ℕ) → Option (List ℕ) → List
 WroteUpTo true before after text = Appends before after text
 WroteUpTo false before after text = WrotePart before after text
 
--- how a call counts the faults of its source and of its sink
+-- how a call counts the faults of its source
 abbrev pub reads_after : Status → ℕ → ℕ
 reads_after ReadFault before = next before
 reads_after _ before = before
 
+-- the statuses that come of a read
+abbrev pub IsOfRead : Status → Type 0
+IsOfRead TooLong = Unit {0}
+IsOfRead ReadFault = Unit {0}
+IsOfRead _ = ⊥
+
+-- what a call took of its source: at most so many bytes, or more at TooLong; and it counted a fault at ReadFault alone
+abbrev pub Took : {S : Type 0} → (S → Option (List ℕ)) → (S → ℕ) → ℕ → Status → S → S → Type 0
+Took left count limit TooLong before after = GaveMore limit (left before) (left after) × (count after ≡ count before)
+Took left count limit ReadFault before after = GaveAtMost limit (left before) (left after) × (count after ≡ next (count before))
+Took left count limit _ before after = GaveAtMost limit (left before) (left after) × (count after ≡ count before)
+
+-- how a call counts the faults of its sink
 abbrev pub writes_after : Status → ℕ → ℕ
 writes_after WriteFault before = next before
 writes_after _ before = before
+
+-- what a call wrote to its sink: a whole text that is such, where all was done; a beginning of one where a write failed, which is counted; else nothing
+abbrev pub Wrote : {K : Type 0} → (K → Option (List ℕ)) → (K → ℕ) → (List ℕ → Type 0) → Status → K → K → Type 0
+Wrote contents count Is Done before after =
+    (text : List ℕ) × Is text × Appends (contents before) (contents after) text × (count after ≡ count before)
+Wrote contents count Is Disagrees before after =
+    (text : List ℕ) × Is text × Appends (contents before) (contents after) text × (count after ≡ count before)
+Wrote contents count Is WriteFault before after =
+    (text : List ℕ) × Is text × WrotePart (contents before) (contents after) text × (count after ≡ next (count before))
+Wrote contents count Is _ before after = after ≡ before

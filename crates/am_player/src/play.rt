@@ -1,11 +1,11 @@
 ghost use Rattle.std.specs.Prelude.{◌≡◌, ◌≢◌, ℕ, List, Err, if◌then◌else◌, OnOk, OnErr, IfOk, IfErr};
-ghost use Rattle.std.specs.Io.KnownBytes.{Appends};
 ghost use Rattle.am_io.specs.Buffers.{Goes};
-ghost use Rattle.am_io.specs.Outside.{ReadToEnd, GaveMore, GaveAtMost, next};
+ghost use Rattle.am_io.specs.Outside.{ReadToEnd, next};
 ghost use Rattle.am_script.specs.Scripts.{reading};
 ghost use Rattle.am_player.specs.Plays.{PlayedBy, IsPlayedBy, IsSpent, IsText, IsUnrun, IsUnplayed, unplayed_for};
-ghost use Rattle.am_player.specs.Statuses.{most_input, OnDone, OnWriteFault, IfBadScript, IsOfAudit, Writes, WrotePart, WroteUpTo, reads_after, writes_after};
+ghost use Rattle.am_player.specs.Statuses.{most_input, IfBadScript, IsOfAudit, IsOfRead, Took, Wrote, WroteUpTo};
 
+use crate::read_input;
 use crate::run::{play_out, show_run};
 use crate::shows::Shows;
 use crate::status::Status;
@@ -17,6 +17,19 @@ use am_script::refusal::ScriptRefusal;
 use am_script::script::Script;
 use am_world::world::WorldRefusal;
 use std::alloc::Global;
+
+/// All that a source gives up to its end, at most so many bytes; else the call ends, by the status of what prevented it.
+#[macro_export]
+macro_rules! read_input {
+    ($alloc:expr, $source:expr, $most:expr) => {
+        match read_all($alloc, $source, $most) {
+            Ok(bytes) => bytes,
+            Err(ReadRefusal::Fault) => return Status::ReadFault,
+            Err(ReadRefusal::TooLong) => return Status::TooLong,
+            Err(ReadRefusal::NoMemory) => return Status::NoMemory,
+        }
+    };
+}
 
 /// The most bytes of an input that is no message.
 pub const INPUT_MOST: u32 = 16_777_216;
@@ -32,31 +45,16 @@ pub fn play<T: Shows, S: Source, K: Sink>(
 ) -> Status
     ensures not_usage { result ≢ Status.Usage }
     ensures not_of_audit { IsOfAudit result → ⊥ }
-    ensures reads { S.count source.new ≡ reads_after result (S.count source.old) }
-    ensures writes { K.count sink.new ≡ writes_after result (K.count sink.old) }
-    ensures too_long { result ≡ Status.TooLong
-        → GaveMore most_input (S.left source.old) (S.left source.new) }
-    ensures within { result ≢ Status.TooLong
-        → GaveAtMost most_input (S.left source.old) (S.left source.new) }
+    ensures took { Took S.left S.count most_input result source.old source.new }
     ensures bad_script { IfBadScript result (λ cause. (bytes : List ℕ)
         × ReadToEnd (S.left source.old) (S.left source.new) bytes
         × (reading bytes ≡ Err cause)) }
     ensures spent { result ≡ Status.Spent → (bytes : List ℕ)
         × ReadToEnd (S.left source.old) (S.left source.new) bytes × IsSpent bytes }
-    ensures part { OnWriteFault result ((text : List ℕ)
-        × IsPlayedBy (T.text shows.now) (S.left source.old) (S.left source.new) text
-        × WrotePart (K.contents sink.old) (K.contents sink.new) text) }
-    ensures done { OnDone result ((text : List ℕ)
-        × IsPlayedBy (T.text shows.now) (S.left source.old) (S.left source.new) text
-        × Appends (K.contents sink.old) (K.contents sink.new) text) }
-    ensures unwritten { (Writes result → ⊥) → sink.new ≡ sink.old }
+    ensures wrote { Wrote K.contents K.count (IsPlayedBy (T.text shows.now)
+        (S.left source.old) (S.left source.new)) result sink.old sink.new }
 {
-    let bytes = match read_all(alloc, source, INPUT_MOST) {
-        Ok(bytes) => bytes,
-        Err(ReadRefusal::Fault) => return Status::ReadFault,
-        Err(ReadRefusal::TooLong) => return Status::TooLong,
-        Err(ReadRefusal::NoMemory) => return Status::NoMemory,
-    };
+    let bytes = read_input!(alloc, source, INPUT_MOST);
     play_bytes(alloc, shows, bytes.as_slice(), sink)
 }
 
@@ -64,16 +62,11 @@ pub fn play<T: Shows, S: Source, K: Sink>(
 fn play_bytes<T: Shows, K: Sink>(alloc: Global, shows: &T, bytes: &[u8], sink: &mut K) -> Status
     ensures not_usage { result ≢ Status.Usage }
     ensures not_of_audit { IsOfAudit result → ⊥ }
-    ensures not_too_long { result ≢ Status.TooLong }
-    ensures reads { (n : ℕ) → reads_after result n ≡ n }
-    ensures writes { K.count sink.new ≡ writes_after result (K.count sink.old) }
+    ensures not_of_read { IsOfRead result → ⊥ }
     ensures bad_script { IfBadScript result (λ cause. reading bytes.now ≡ Err cause) }
     ensures spent { result ≡ Status.Spent → IsSpent bytes.now }
-    ensures part { OnWriteFault result ((text : List ℕ) × PlayedBy (T.text shows.now) bytes.now text
-        × WrotePart (K.contents sink.old) (K.contents sink.new) text) }
-    ensures done { OnDone result ((text : List ℕ) × PlayedBy (T.text shows.now) bytes.now text
-        × Appends (K.contents sink.old) (K.contents sink.new) text) }
-    ensures unwritten { (Writes result → ⊥) → sink.new ≡ sink.old }
+    ensures wrote { Wrote K.contents K.count (PlayedBy (T.text shows.now) bytes.now)
+        result sink.old sink.new }
 {
     match write_run(alloc, shows, bytes, sink) {
         Ok(true) => Status::Done,
@@ -133,10 +126,10 @@ fn show_script<T: Shows, K: Sink>(
     script: &Script,
     out: &mut Buffered<'_, K>,
 ) -> Result<(), Unplayed>
+    ensures unwritten { OnErr result (out.new ≡ out.old) }
     ensures shown { OnOk result ((text : List ℕ) × IsText (T.text shows.now) script.now text
         × Goes K.contents K.count out.old text out.new) }
     ensures unrun { IfErr result (λ e. IsUnrun script.now e) }
-    ensures unwritten { OnErr result (out.new ≡ out.old) }
 {
     let events = script.events.as_slice();
     let world = play_out(alloc, &script.founding, events, script.settle)?;

@@ -2,8 +2,7 @@ ghost use Rattle.std.specs.Prelude.{◌≡◌, ℕ, List, OnOk, OnErr};
 ghost use Rattle.std.specs.Fmt.{WritesInCalls};
 ghost use Rattle.am_base.specs.Founding.{Rules};
 ghost use Rattle.am_io.specs.Buffers.{Goes};
-ghost use Rattle.am_play.specs.Lawful.{Watch, watch_run};
-ghost use Rattle.am_play.specs.Play.{watched_text};
+ghost use Rattle.am_play.specs.{Lawful.Watch, Lawful.watch_run, Play.watched_text};
 ghost use Rattle.am_world.specs.Runs.{replay};
 ghost use Rattle.am_player.specs.Runs.{logged_in};
 

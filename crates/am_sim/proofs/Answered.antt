@@ -1,14 +1,14 @@
 -- What was answered, and what every run keeps.
-use Rattle.std.proofs.Common.{◌≡◌, ℕ, List, [], ◌++◌, length, Bool, Option, Some, None, subst, Ok, ◌∙◌, sym, ap, refl, arith}
+use Rattle.std.proofs.Common.{◌≡◌, ℕ, List, [], length, Bool, Option, Some, None, subst, Ok, ◌∙◌, sym, ap, refl, arith}
 use Rattle.am_io.specs.Outside.{GaveAtMost}
 use Rattle.am_base.specs.Founding.{Rules, MayFound}
 use Rattle.am_group.specs.declared.event.Event.{Event}
 use Rattle.am_group.specs.declared.plan.RacePlan.{RacePlan}
-use Rattle.am_play.specs.Play.{watched_text, text_of, summary_text_of}
+use Rattle.am_play.specs.Play.{watched_text, text_of}
 use Rattle.am_audited.specs.Claims.{ReadsAs, AgreesAs}
 use Rattle.am_words.specs.declared.form.Shown.TheVariants as shown
-use Rattle.am_play.specs.Text.{newline}
-use Rattle.am_texts.specs.Schedules.{script_text}
+use Rattle.am_words.specs.declared.form.Form.{Form}
+use Rattle.am_words.specs.declared.form.Form.TheVariants as forms
 use Rattle.am_words.specs.declared.form.Shown.{Shown}
 use Rattle.am_replicated.proofs.Sends.{delivered_end}
 use Rattle.am_replicated.proofs.Holding.{replicas_hold}
@@ -22,13 +22,13 @@ use Rattle.am_audit.specs.Verdicts.{verdict_of, verdict_line}
 use Rattle.am_audit.proofs.Wrongs.{agrees_means, lists_agree_means}
 use Rattle.am_player.specs.Plays.{KeepsRun, PlayedBy, IsPlayedBy}
 use Rattle.am_player.specs.Runs.{done_of, run_watch}
-use Rattle.am_player.specs.Statuses.{OnDone, OnWriteFault}
+use Rattle.am_player.specs.Statuses.{Took}
 use Rattle.am_player.specs.declared.status.Status.{Status}
-use Rattle.am_player.specs.declared.status.Status.TheVariants.{Done, Usage, BadScript, TooLong, ReadFault, WriteFault, NoMemory, Spent, BadText, Disagrees}
+use Rattle.am_player.specs.declared.status.Status.TheVariants.{Done, WriteFault, NoMemory}
 use Rattle.am_player.proofs.Played.{keeps_run, watch_is}
 use Rattle.am_sim.specs.Playing.{shown_text}
 use Rattle.am_sim.specs.Racing.{events_of, IsRaceText}
-use Rattle.am_sim.specs.Simulation.{Keeps, Played, IsPlayed, Generated, GeneratedScript, Raced, Audited}
+use Rattle.am_sim.specs.Simulation.{Keeps, Played, IsPlayed, GeneratedAs, Raced, Audited, EndsGen, IsAnswer, IsAnswerAlone}
 use Rattle.am_sim.proofs.Reread.{play_reads, play_agrees, race_again, race_reads, race_agrees}
 
 -- ---- what every run keeps
@@ -36,10 +36,7 @@ use Rattle.am_sim.proofs.Reread.{play_reads, play_agrees, race_again, race_reads
 -- beside what am_player says of it, its messages and its replicas
 keeps_more : (rules : Rules) (events : List Event) → MayFound rules → KeepsRun rules events → Keeps rules events
 keeps_more rules events may kept = record {
-  headline = kept.headline;
-  fits = kept.fits;
-  sent = kept.sent;
-  unballoted = kept.unballoted;
+  run = kept;
   messages = λ name some. delivered_end rules events name may some;
   replicas = λ name has. replicas_hold rules events name may has;
 }
@@ -75,65 +72,41 @@ played_by what bytes text p =
       agrees = λ is one. subst (AgreesAs p.founding done) (whole is) (play_agrees bytes p.founding p.events p.settles p.script p.within p.few one);
     }
 
-answer_of : (what : Shown) (before after : Option (List ℕ)) (Wrote : List ℕ → Type 0) → (text : List ℕ) × IsPlayedBy (shown_text what) before after text × Wrote text
-    → (text : List ℕ) × IsPlayed what before after text × Wrote text
-answer_of what before after Wrote x = (x.0, (x.1.0, x.1.1, played_by what x.1.0 x.0 x.1.2), x.2)
-
-pub done_played : (status : Status) (what : Shown) (before after : Option (List ℕ)) (Wrote : List ℕ → Type 0)
-    → OnDone status ((text : List ℕ) × IsPlayedBy (shown_text what) before after text × Wrote text)
-    → OnDone status ((text : List ℕ) × IsPlayed what before after text × Wrote text)
-done_played Done what before after Wrote x = answer_of what before after Wrote x
-done_played Disagrees what before after Wrote x = answer_of what before after Wrote x
-done_played Usage what before after Wrote x = tt
-done_played (BadScript cause) what before after Wrote x = tt
-done_played TooLong what before after Wrote x = tt
-done_played ReadFault what before after Wrote x = tt
-done_played WriteFault what before after Wrote x = tt
-done_played NoMemory what before after Wrote x = tt
-done_played Spent what before after Wrote x = tt
-done_played (BadText line) what before after Wrote x = tt
-
-pub part_played : (status : Status) (what : Shown) (before after : Option (List ℕ)) (Wrote : List ℕ → Type 0)
-    → OnWriteFault status ((text : List ℕ) × IsPlayedBy (shown_text what) before after text × Wrote text)
-    → OnWriteFault status ((text : List ℕ) × IsPlayed what before after text × Wrote text)
-part_played WriteFault what before after Wrote x = answer_of what before after Wrote x
-part_played Done what before after Wrote x = tt
-part_played Disagrees what before after Wrote x = tt
-part_played Usage what before after Wrote x = tt
-part_played (BadScript cause) what before after Wrote x = tt
-part_played TooLong what before after Wrote x = tt
-part_played ReadFault what before after Wrote x = tt
-part_played NoMemory what before after Wrote x = tt
-part_played Spent what before after Wrote x = tt
-part_played (BadText line) what before after Wrote x = tt
+pub is_played : (what : Shown) (before after : Option (List ℕ)) (text : List ℕ) → IsPlayedBy (shown_text what) before after text → IsPlayed what before after text
+is_played what before after text x = (x.0, x.1, played_by what x.0 text x.2)
 
 -- ---- a generated run
 
-pub generated_by : (numbers : Numbers) (text : List ℕ) → text ≡ summary_text_of generated_rules (events_of_seed numbers.seed numbers.count)
-    → length (events_of_seed numbers.seed numbers.count) ≡ numbers.count → Generated numbers text
-generated_by numbers text is many =
-    let done = events_of_seed numbers.seed numbers.count in
-    record {
-      written = is;
-      count = many;
-      keeps = keeps_all generated_rules done may_found;
-    }
-
-pub scripted_by : (numbers : Numbers) (text : List ℕ) → text ≡ script_text generated_rules (events_of_seed numbers.seed numbers.count) ++ newline
-    → length (events_of_seed numbers.seed numbers.count) ≡ numbers.count → GeneratedScript numbers text
-scripted_by numbers text is many =
-    let done = events_of_seed numbers.seed numbers.count in
-    record {
-      written = is;
-      count = many;
-      keeps = keeps_all generated_rules done may_found;
-    }
+pub generated_by : (what : Rules → List Event → List ℕ) (numbers : Numbers) (text : List ℕ) → text ≡ what generated_rules (events_of_seed numbers.seed numbers.count)
+    → length (events_of_seed numbers.seed numbers.count) ≡ numbers.count → GeneratedAs what numbers text
+generated_by what numbers text is many = record {
+  written = is;
+  count = many;
+  keeps = keeps_all generated_rules (events_of_seed numbers.seed numbers.count) may_found;
+}
 
 -- ---- what was given
 
-pub gave_none : (limit : ℕ) (left : Option (List ℕ)) → GaveAtMost limit left left
+gave_none : (limit : ℕ) (left : Option (List ℕ)) → GaveAtMost limit left left
 gave_none limit (Some left) = ([], refl, omega arith)
 gave_none limit None = ([], tt, omega arith)
+
+-- gen takes nothing
+pub took_none : {S : Type 0} (left : S → Option (List ℕ)) (count : S → ℕ) (limit : ℕ) (status : Status) (source : S) → EndsGen status
+    → Took left count limit status source source
+took_none left count limit Done source ends = (gave_none limit (left source), refl)
+took_none left count limit WriteFault source ends = (gave_none limit (left source), refl)
+took_none left count limit NoMemory source ends = (gave_none limit (left source), refl)
+took_none left count limit _ source ends = absurd ends
+
+-- what waits for nobody is answered as its form asks
+pub alone_is : (form : Option Form) (before after : Option (List ℕ)) (text : List ℕ) → IsAnswerAlone form before after text → IsAnswer form before after text
+alone_is (Some (forms.Play what)) before after text is = is
+alone_is (Some forms.Audit) before after text is = is
+alone_is (Some forms.Parts) before after text is = is
+alone_is (Some forms.Race) before after text is = absurd is
+alone_is (Some (forms.Node node)) before after text is = absurd is
+alone_is _ before after text is = is
 
 pub raced_by : (bytes text : List ℕ) (plan : RacePlan) → race_reading bytes ≡ Ok plan → RaceWithin plan → IsRaceText plan text → Raced bytes text
 raced_by bytes text plan is within (journal, raced, same, again) = record {

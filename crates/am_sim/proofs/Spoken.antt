@@ -30,34 +30,16 @@ writes_same ends.NoMemory n = refl
 -- ---- forms
 
 pub node_form : (f : Option Form) (node : NodeWords) → Some node ≡ node_in f → f ≡ Some (form.Node node)
-node_form None node is = cc
-node_form (Some (form.Play what)) node is = cc
-node_form (Some form.Race) node is = cc
-node_form (Some (form.Gen numbers)) node is = cc
-node_form (Some (form.Script numbers)) node is = cc
-node_form (Some form.Audit) node is = cc
-node_form (Some form.Parts) node is = cc
 node_form (Some (form.Node other)) node is = let same : node ≡ other = cc in ap (λ n. Some (form.Node n)) (sym same)
+node_form _ node is = cc
 
 pub no_node : (f : Option Form) (claim : NodeWords → Type 0) → None ≡ node_in f → IfNode f claim
-no_node None claim is = tt
-no_node (Some (form.Play what)) claim is = tt
-no_node (Some form.Race) claim is = tt
-no_node (Some (form.Gen numbers)) claim is = tt
-no_node (Some (form.Script numbers)) claim is = tt
-no_node (Some form.Audit) claim is = tt
-no_node (Some form.Parts) claim is = tt
 no_node (Some (form.Node node)) claim is = let e : None ≡ Some node = is in cc
+no_node _ claim is = tt
 
 pub is_no_node : (f : Option Form) → None ≡ node_in f → IsNode f → ⊥
-is_no_node None is h = h
-is_no_node (Some (form.Play what)) is h = h
-is_no_node (Some form.Race) is h = h
-is_no_node (Some (form.Gen numbers)) is h = h
-is_no_node (Some (form.Script numbers)) is h = h
-is_no_node (Some form.Audit) is h = h
-is_no_node (Some form.Parts) is h = h
 is_no_node (Some (form.Node node)) is h = let e : None ≡ Some node = is in cc
+is_no_node _ is h = h
 
 -- ---- statuses
 

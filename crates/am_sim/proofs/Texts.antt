@@ -1,11 +1,14 @@
 -- What is shown of a world, and its summary.
 use Rattle.std.proofs.Common.{◌≡◌, ℕ, List, length, Option, refl, sym, ap, ◌∙◌}
 use Rattle.am_base.specs.Founding.{Rules}
+use Rattle.am_base.specs.declared.entry.Entry.{Entry}
 use Rattle.am_group.specs.declared.event.Record.{Record}
 use Rattle.am_play.specs.World.{World}
-use Rattle.am_play.specs.Lawful.{watch_run, broken_at}
+use Rattle.am_play.specs.Group.{logs}
+use Rattle.am_play.specs.Lawful.{Watch, watch_run, broken_at}
 use Rattle.am_play.specs.Play.{watched_text, summary_of, summary_text_of}
 use Rattle.am_services.specs.Texts.{messages_text, directories_text, snapshots_text}
+use Rattle.am_words.specs.declared.form.Shown.{Shown}
 use Rattle.am_words.specs.declared.form.Shown.TheVariants as shown
 use Rattle.am_sim.specs.Playing.{shown_text}
 use Rattle.am_play.proofs.Runs.{watched_is_run, one_record_each}
@@ -31,21 +34,23 @@ unfolding shown_text
 world_messages p text records each broken recorded named mark is =
     told_of (λ rules records group logs broken. messages_text logs broken) p text p.rules records (replay p).group each broken refl recorded refl named mark is
 
-pub world_directories : (p : worlds.Play) (text : List ℕ) (founding : Rules) (records : List Record) (each : List ℕ) (broken : Option ℕ)
+-- a text of the founding, the logs and what broke, as a word asks for it
+pub world_logs : (what : Shown) (tell : Rules → List (ℕ × List (ℕ × Entry)) → Option ℕ → List ℕ)
+    → ((rules : Rules) (s : Watch) → tell rules (logs s.world) s.broken ≡ shown_text what rules s)
+    → (p : worlds.Play) (text : List ℕ) (founding : Rules) (records : List Record) (each : List ℕ) (broken : Option ℕ)
     → founding ≡ p.rules → records ≡ (replay p).records → each ≡ logged_in (replay p) → broken ≡ broken_at p.rules p.events
-    → text ≡ directories_text founding (logs_for records each) broken → text ≡ shown_text shown.Directories p.rules (watch_run p.rules p.events)
-unfolding shown_text
-world_directories p text founding records each broken rules recorded named mark is =
-    told_of (λ rules records group logs broken. directories_text rules logs broken) p text founding records (replay p).group each broken rules recorded refl
-    named mark is
+    → text ≡ tell founding (logs_for records each) broken → text ≡ shown_text what p.rules (watch_run p.rules p.events)
+world_logs what tell shows p text founding records each broken rules recorded named mark is =
+    told_of (λ rules records group logs broken. tell rules logs broken) p text founding records (replay p).group each broken rules recorded refl named mark is
+    ∙ shows p.rules (watch_run p.rules p.events)
 
-pub world_snapshots : (p : worlds.Play) (text : List ℕ) (founding : Rules) (records : List Record) (each : List ℕ) (broken : Option ℕ)
-    → founding ≡ p.rules → records ≡ (replay p).records → each ≡ logged_in (replay p) → broken ≡ broken_at p.rules p.events
-    → text ≡ snapshots_text founding (logs_for records each) broken → text ≡ shown_text shown.Snapshots p.rules (watch_run p.rules p.events)
+pub shows_directories : (rules : Rules) (s : Watch) → directories_text rules (logs s.world) s.broken ≡ shown_text shown.Directories rules s
 unfolding shown_text
-world_snapshots p text founding records each broken rules recorded named mark is =
-    told_of (λ rules records group logs broken. snapshots_text rules logs broken) p text founding records (replay p).group each broken rules recorded refl
-    named mark is
+shows_directories rules s = refl
+
+pub shows_snapshots : (rules : Rules) (s : Watch) → snapshots_text rules (logs s.world) s.broken ≡ shown_text shown.Snapshots rules s
+unfolding shown_text
+shows_snapshots rules s = refl
 
 -- ---- a summary
 

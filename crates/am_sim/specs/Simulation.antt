@@ -1,5 +1,5 @@
 -- What a call of the program did.
-use Rattle.std.specs.Prelude.{◌≡◌, ◌≢◌, ℕ, ◌≤◌, true, false, List, [], ◌++◌, length, map, take, Option, Some, Ok, Err, Bool}
+use Rattle.std.specs.Prelude.{◌≡◌, ◌≢◌, ℕ, ◌≤◌, true, false, List, [], ◌++◌, length, map, Option, Some, Ok, Err, Bool}
 use Rattle.std.specs.Borrow.{Bor}
 use Rattle.am_base.specs.Most.{most_events}
 use Rattle.am_base.specs.Founding.{Rules}
@@ -8,16 +8,13 @@ use Rattle.am_group.specs.declared.event.Record.{Record}
 use Rattle.am_group.specs.declared.plan.RacePlan.{RacePlan}
 use Rattle.am_group.specs.Deliveries.{deliveries}
 use Rattle.am_model.specs.Node.{has_log}
-use Rattle.am_play.specs.World.{run}
 use Rattle.am_play.specs.Play.{summary_text_of}
 use Rattle.am_play.specs.Text.{newline}
-use Rattle.am_play.specs.Claims.{Headline, FitsView, Sent, NoBallot, HoldsUnballoted}
-use Rattle.am_play.specs.Lawful.{lawful_front}
 use Rattle.am_script.specs.Scripts.{script_of, reading}
 use Rattle.am_script.specs.declared.refusal.ScriptRefusal.{ScriptRefusal}
 use Rattle.am_race_script.specs.Races.{race_reading}
 use Rattle.am_player.specs.Runs.{done_of, run_watch}
-use Rattle.am_player.specs.Plays.{Repaired}
+use Rattle.am_player.specs.Plays.{KeepsRun, Repaired}
 use Rattle.am_player.specs.Statuses.{most_input}
 use Rattle.am_sim.specs.Playing.{shown_text}
 use Rattle.am_sim.specs.Racing.{events_of, race_text, IsRaced}
@@ -54,15 +51,11 @@ most_of _ = most_input
 abbrev pub form_of_words : List (Bor (List ℕ)) → Option Form
 form_of_words words = form_of (map (λ word. word.now) words)
 
--- What is claimed of every run: the headline, which is up to its lawful front, and that no node ever kept more than it may; and that at each moment up
--- to there a View which leaves somebody out fits each node. Up to there, too, a message that ends in what a name was given ends in the group's list, and
--- each name's replica of a directory has the contents of that list, or waits for a snapshot, or got a wrong one. Besides, of the whole run, whoever stops: everything in the one group list was sent before it
--- stood there; and where nobody began a ballot, all but what the headline says of complete views.
+-- What is claimed of every run: what is claimed of the run of each script that is played; and, up to its lawful front, that a message that ends in what
+-- a name was given ends in the group's list, and that each name's replica of a directory has the contents of that list, or waits for a snapshot, or got a
+-- wrong one.
 pub record Keeps (rules : Rules) (events : List Event) : Type 0 where
-  pub headline : Headline rules events
-  pub fits : (moment name : ℕ) → FitsView rules ((run rules (take moment (lawful_front rules events))).nodes name)
-  pub sent : Sent rules events
-  pub unballoted : NoBallot (run rules events) → HoldsUnballoted rules events
+  pub run : KeepsRun rules events
   pub messages : (name : ℕ) → deliveries (front_of rules events).records name ≢ [] → (start : ℕ) × Delivered rules (front_of rules events) name start
   pub replicas : (name : ℕ) → has_log ((front_of rules events).nodes name).status ≡ true → ReplicaHolds rules (front_of rules events) name
 
@@ -81,17 +74,19 @@ pub record Played (what : Shown) (bytes text : List ℕ) : Type 0 where
   pub reads : what ≡ shown.Text → ReadsAs founding (done_of founding events settles) text
   pub agrees : what ≡ shown.Text → IsOfOneList founding (done_of founding events settles) → AgreesAs founding (done_of founding events settles) text
 
--- what was written is the summary of the run of two numbers, and that run keeps what is claimed
-pub record Generated (numbers : Numbers) (text : List ℕ) : Type 0 where
-  pub written : text ≡ summary_text_of generated_rules (events_of_seed numbers.seed numbers.count)
+-- what was written is this of the run of two numbers, and that run keeps what is claimed
+pub record GeneratedAs (what : Rules → List Event → List ℕ) (numbers : Numbers) (text : List ℕ) : Type 0 where
+  pub written : text ≡ what generated_rules (events_of_seed numbers.seed numbers.count)
   pub count : length (events_of_seed numbers.seed numbers.count) ≡ numbers.count
   pub keeps : Keeps generated_rules (events_of_seed numbers.seed numbers.count)
 
--- what was written is the script of the run of two numbers, in one line, and that run keeps what is claimed
-pub record GeneratedScript (numbers : Numbers) (text : List ℕ) : Type 0 where
-  pub written : text ≡ script_text generated_rules (events_of_seed numbers.seed numbers.count) ++ newline
-  pub count : length (events_of_seed numbers.seed numbers.count) ≡ numbers.count
-  pub keeps : Keeps generated_rules (events_of_seed numbers.seed numbers.count)
+-- the summary of that run
+abbrev pub Generated : Numbers → List ℕ → Type 0
+Generated numbers text = GeneratedAs summary_text_of numbers text
+
+-- the script of that run, in one line
+abbrev pub GeneratedScript : Numbers → List ℕ → Type 0
+GeneratedScript numbers text = GeneratedAs (λ rules events. script_text rules events ++ newline) numbers text
 
 -- a text is shown of the script that was read to the end of what was left
 abbrev pub IsPlayed : Shown → Option (List ℕ) → Option (List ℕ) → List ℕ → Type 0

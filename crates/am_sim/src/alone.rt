@@ -1,13 +1,11 @@
-ghost use Rattle.std.specs.Prelude.{◌≡◌, ◌≢◌, ◌↔◌, ℕ, List, None, Some, Err, IfOk, IfSome, string_bytes};
-ghost use Rattle.std.specs.Io.KnownBytes.{Appends};
-ghost use Rattle.am_io.specs.Outside.{ReadToEnd, GaveMore, GaveAtMost};
-ghost use Rattle.am_script.specs.Scripts.{reading};
+ghost use Rattle.std.specs.Prelude.{◌≡◌, ◌↔◌, ℕ, List, None, Some, Err, IfOk, IfSome, string_bytes};
+ghost use Rattle.am_io.specs.Outside.{ReadToEnd};
 ghost use Rattle.am_words.specs.Forms.{IsGen, Generates};
 ghost use Rattle.am_words.specs.declared.form.Form.TheVariants as form;
 ghost use Rattle.am_audit.specs.Lines.{read_text};
 ghost use Rattle.am_player.specs.Plays.{IsSpent};
-ghost use Rattle.am_player.specs.Statuses.{most_input, OnDone, OnWriteFault, IfBadScript, Writes, IsOfAudit, WrotePart, reads_after, writes_after};
-ghost use Rattle.am_sim.specs.Simulation.{form_of_words, most_of, Reads, Waits, IsRefused, EndsGen, IsAnswerAlone, IsPlayed, IsSummary, IfBadText, IfAudit, Judges};
+ghost use Rattle.am_player.specs.Statuses.{IfBadScript, IsOfAudit, Took, Wrote};
+ghost use Rattle.am_sim.specs.Simulation.{form_of_words, most_of, Reads, Waits, IsRefused, EndsGen, IsAnswerAlone, IsSummary, IfBadText, IfAudit, Judges};
 
 use crate::auditing::audit_text;
 use crate::generating::{generate_script, summary_of_run};
@@ -16,14 +14,15 @@ use crate::playing::ShownRun;
 use am_base::NoMemory;
 use am_io::outside::{Sink, Source};
 use am_io::whole::write_all;
+use am_player::play::play;
 use am_player::status::Status;
-use am_words::form::{Form, Shown, form_of};
+use am_words::form::{Form, form_of};
 use am_words::options::gen_numbers;
 use std::alloc::Global;
 
 /// Does what the words ask for, as `simulate` does, but for the one word `race` and for `node`, and waits for nobody. None exactly
 /// where the words are these; then nothing is read or written.
-#[tactic(auto, using(crate::proofs::Answered::gave_none))]
+#[tactic(auto, using(crate::proofs::Answered::took_none))]
 pub fn simulate_alone<S: Source, K: Sink>(
     alloc: Global,
     words: &[&str],
@@ -37,26 +36,16 @@ pub fn simulate_alone<S: Source, K: Sink>(
         ↔ (form_of_words words.now ≡ None)) }
     ensures unread { (Reads (form_of_words words.now) → ⊥) → source.new ≡ source.old }
     ensures generates { Generates (form_of_words words.now) → IfSome result EndsGen }
-    ensures reads { IfSome result (λ status. S.count source.new
-        ≡ reads_after status (S.count source.old)) }
-    ensures writes { IfSome result (λ status. K.count sink.new
-        ≡ writes_after status (K.count sink.old)) }
-    ensures too_long { IfSome result (λ status. status ≡ Status.TooLong
-        → GaveMore (most_of (form_of_words words.now)) (S.left source.old) (S.left source.new)) }
-    ensures within { IfSome result (λ status. status ≢ Status.TooLong
-        → GaveAtMost (most_of (form_of_words words.now)) (S.left source.old) (S.left source.new)) }
+    ensures took { IfSome result (λ status. Took S.left S.count
+        (most_of (form_of_words words.now)) status source.old source.new) }
     ensures bad_script { IfSome result (λ status. IfBadScript status (λ cause. (bytes : List ℕ)
         × ReadToEnd (S.left source.old) (S.left source.new) bytes
         × IsRefused (form_of_words words.now) bytes cause)) }
     ensures spent { IfSome result (λ status. status ≡ Status.Spent → (bytes : List ℕ)
         × ReadToEnd (S.left source.old) (S.left source.new) bytes × IsSpent bytes) }
-    ensures part { IfSome result (λ status. OnWriteFault status ((text : List ℕ)
-        × IsAnswerAlone (form_of_words words.now) (S.left source.old) (S.left source.new) text
-        × WrotePart (K.contents sink.old) (K.contents sink.new) text)) }
-    ensures done { IfSome result (λ status. OnDone status ((text : List ℕ)
-        × IsAnswerAlone (form_of_words words.now) (S.left source.old) (S.left source.new) text
-        × Appends (K.contents sink.old) (K.contents sink.new) text)) }
-    ensures unwritten { IfSome result (λ status. (Writes status → ⊥) → sink.new ≡ sink.old) }
+    ensures wrote { IfSome result (λ status. Wrote K.contents K.count
+        (IsAnswerAlone (form_of_words words.now) (S.left source.old) (S.left source.new))
+        status sink.old sink.new) }
     ensures bad_text { IfSome result (λ status. IfBadText status (λ line. (bytes : List ℕ)
         × ReadToEnd (S.left source.old) (S.left source.new) bytes × (read_text bytes ≡ Err line))) }
     ensures judges { IfSome result (λ status. IfAudit (form_of_words words.now)
@@ -65,7 +54,7 @@ pub fn simulate_alone<S: Source, K: Sink>(
         → form_of_words words.now ≡ Some form.Audit) }
 {
     match form_of(words) {
-        Some(Form::Play(shown)) => Some(play(alloc, shown, source, sink)),
+        Some(Form::Play(shown)) => Some(play(alloc, &ShownRun { shown }, source, sink)),
         Some(Form::Gen(_)) => Some(generate_run(alloc, words, sink)),
         Some(Form::Script(numbers)) => Some(generate_script(alloc, numbers, sink)),
         Some(Form::Audit) => Some(audit_text(alloc, source, sink)),
@@ -80,12 +69,8 @@ pub fn simulate_alone<S: Source, K: Sink>(
 fn generate_run<K: Sink>(alloc: Global, words: &[&str], sink: &mut K) -> Status
     requires { IsGen (form_of_words words.now) }
     ensures generates { EndsGen result }
-    ensures writes { K.count sink.new ≡ writes_after result (K.count sink.old) }
-    ensures part { OnWriteFault result ((text : List ℕ) × IsSummary (form_of_words words.now) text
-        × WrotePart (K.contents sink.old) (K.contents sink.new) text) }
-    ensures done { OnDone result ((text : List ℕ) × IsSummary (form_of_words words.now) text
-        × Appends (K.contents sink.old) (K.contents sink.new) text) }
-    ensures unwritten { (Writes result → ⊥) → sink.new ≡ sink.old }
+    ensures wrote { Wrote K.contents K.count (IsSummary (form_of_words words.now))
+        result sink.old sink.new }
 {
     let Ok(text) = summary_of(alloc, words) else {
         return Status::NoMemory;
@@ -103,30 +88,4 @@ fn summary_of(alloc: Global, words: &[&str]) -> Result<String, NoMemory>
 {
     let numbers = gen_numbers(alloc, words)?;
     summary_of_run(alloc, numbers)
-}
-
-/// Reads a script to its end, runs it, and writes this of its run.
-fn play<S: Source, K: Sink>(alloc: Global, shown: Shown, source: &mut S, sink: &mut K) -> Status
-    ensures not_usage { result ≢ Status.Usage }
-    ensures not_of_audit { IsOfAudit result → ⊥ }
-    ensures reads { S.count source.new ≡ reads_after result (S.count source.old) }
-    ensures writes { K.count sink.new ≡ writes_after result (K.count sink.old) }
-    ensures too_long { result ≡ Status.TooLong
-        → GaveMore most_input (S.left source.old) (S.left source.new) }
-    ensures within { result ≢ Status.TooLong
-        → GaveAtMost most_input (S.left source.old) (S.left source.new) }
-    ensures bad_script { IfBadScript result (λ cause. (bytes : List ℕ)
-        × ReadToEnd (S.left source.old) (S.left source.new) bytes
-        × (reading bytes ≡ Err cause)) }
-    ensures spent { result ≡ Status.Spent → (bytes : List ℕ)
-        × ReadToEnd (S.left source.old) (S.left source.new) bytes × IsSpent bytes }
-    ensures part { OnWriteFault result ((text : List ℕ)
-        × IsPlayed shown (S.left source.old) (S.left source.new) text
-        × WrotePart (K.contents sink.old) (K.contents sink.new) text) }
-    ensures done { OnDone result ((text : List ℕ)
-        × IsPlayed shown (S.left source.old) (S.left source.new) text
-        × Appends (K.contents sink.old) (K.contents sink.new) text) }
-    ensures unwritten { (Writes result → ⊥) → sink.new ≡ sink.old }
-{
-    am_player::play::play(alloc, &ShownRun { shown }, source, sink)
 }

@@ -1,8 +1,7 @@
 ghost use Rattle.std.specs.Prelude.{◌≡◌, ◌≢◌, ◌≤◌, length, List, ℕ, IfOk, IfErr, Err, string_bytes};
-ghost use Rattle.std.specs.Io.KnownBytes.{Appends};
-ghost use Rattle.am_io.specs.Outside.{ReadToEnd, GaveMore, GaveAtMost};
+ghost use Rattle.am_io.specs.Outside.{ReadToEnd};
 ghost use Rattle.am_audit.specs.Lines.{read_text};
-ghost use Rattle.am_player.specs.Statuses.{most_input, OnDone, OnWriteFault, IfBadScript, Writes, WrotePart, reads_after, writes_after};
+ghost use Rattle.am_player.specs.Statuses.{most_input, IfBadScript, Took, Wrote};
 ghost use Rattle.am_sim.specs.Simulation.{IsAudited, Audited, HasVerdict, Judges, IfBadText, IsUnaudited};
 
 use am_audit::audit::audit;
@@ -11,6 +10,7 @@ use am_audit::telling::push_audit;
 use am_io::outside::{Sink, Source};
 use am_io::whole::{ReadRefusal, read_all, write_all};
 use am_player::play::INPUT_MOST;
+use am_player::read_input;
 use am_player::status::Status;
 use std::alloc::Global;
 
@@ -34,30 +34,15 @@ fn verdict_line(alloc: Global, bytes: &[u8]) -> Result<(String, bool), TextRefus
 pub fn audit_text<S: Source, K: Sink>(alloc: Global, source: &mut S, sink: &mut K) -> Status
     ensures not_usage { result ≢ Status.Usage }
     ensures not_spent { result ≢ Status.Spent }
-    ensures reads { S.count source.new ≡ reads_after result (S.count source.old) }
-    ensures writes { K.count sink.new ≡ writes_after result (K.count sink.old) }
-    ensures too_long { result ≡ Status.TooLong
-        → GaveMore most_input (S.left source.old) (S.left source.new) }
-    ensures within { result ≢ Status.TooLong
-        → GaveAtMost most_input (S.left source.old) (S.left source.new) }
+    ensures took { Took S.left S.count most_input result source.old source.new }
     ensures no_script { IfBadScript result (λ cause. ⊥) }
     ensures bad_text { IfBadText result (λ line. (bytes : List ℕ)
         × ReadToEnd (S.left source.old) (S.left source.new) bytes × (read_text bytes ≡ Err line)) }
     ensures judges { Judges result (S.left source.old) (S.left source.new) }
-    ensures part { OnWriteFault result ((text : List ℕ)
-        × IsAudited (S.left source.old) (S.left source.new) text
-        × WrotePart (K.contents sink.old) (K.contents sink.new) text) }
-    ensures done { OnDone result ((text : List ℕ)
-        × IsAudited (S.left source.old) (S.left source.new) text
-        × Appends (K.contents sink.old) (K.contents sink.new) text) }
-    ensures unwritten { (Writes result → ⊥) → sink.new ≡ sink.old }
+    ensures wrote { Wrote K.contents K.count (IsAudited (S.left source.old) (S.left source.new))
+        result sink.old sink.new }
 {
-    let bytes = match read_all(alloc, source, INPUT_MOST) {
-        Ok(bytes) => bytes,
-        Err(ReadRefusal::Fault) => return Status::ReadFault,
-        Err(ReadRefusal::TooLong) => return Status::TooLong,
-        Err(ReadRefusal::NoMemory) => return Status::NoMemory,
-    };
+    let bytes = read_input!(alloc, source, INPUT_MOST);
     let (line, right) = match verdict_line(alloc, bytes.as_slice()) {
         Ok(found) => found,
         Err(TextRefusal::NoMemory) => return Status::NoMemory,

@@ -1,12 +1,11 @@
-ghost use Rattle.std.specs.Prelude.{◌≡◌, ◌<◌, ◌≤◌, ℕ, List, Ok, IfOk, IfErr, string_bytes};
-ghost use Rattle.std.specs.Io.KnownBytes.{Appends};
+ghost use Rattle.std.specs.Prelude.{◌≡◌, ◌<◌, ◌≤◌, Ok, IfOk, IfErr, string_bytes};
 ghost use Rattle.am_base.specs.Most.{most_events};
 ghost use Rattle.am_play.specs.Play.{summary_text_of};
 ghost use Rattle.am_texts.specs.Summaries.{summary_for};
 ghost use Rattle.am_pump.specs.Courses.{IsCourse};
 ghost use Rattle.am_world.specs.Runs.{Play};
 ghost use Rattle.am_world.specs.declared.world.WorldRefusal.TheVariants as refusals;
-ghost use Rattle.am_player.specs.Statuses.{OnDone, OnWriteFault, Writes, WrotePart, writes_after};
+ghost use Rattle.am_player.specs.Statuses.{Wrote};
 ghost use Rattle.am_sim.specs.Simulation.{Generated, GeneratedScript, EndsGen};
 
 use am_base::NoMemory;
@@ -79,12 +78,7 @@ pub fn script_of_run(alloc: Global, numbers: Numbers) -> Result<String, NoMemory
 pub fn generate_script<K: Sink>(alloc: Global, numbers: Numbers, sink: &mut K) -> Status
     requires { numbers.count ≤ most_events }
     ensures generates { EndsGen result }
-    ensures writes { K.count sink.new ≡ writes_after result (K.count sink.old) }
-    ensures part { OnWriteFault result ((text : List ℕ) × GeneratedScript numbers text
-        × WrotePart (K.contents sink.old) (K.contents sink.new) text) }
-    ensures done { OnDone result ((text : List ℕ) × GeneratedScript numbers text
-        × Appends (K.contents sink.old) (K.contents sink.new) text) }
-    ensures unwritten { (Writes result → ⊥) → sink.new ≡ sink.old }
+    ensures wrote { Wrote K.contents K.count (GeneratedScript numbers) result sink.old sink.new }
 {
     let Ok(text) = script_of_run(alloc, numbers) else {
         return Status::NoMemory;

@@ -8,7 +8,7 @@ ghost use Rattle.am_words.specs.Forms.{Generates};
 ghost use Rattle.am_sim.specs.Speaking.{Spoken, IfNode, IsNode};
 ghost use Rattle.am_audit.specs.Lines.{read_text};
 ghost use Rattle.am_player.specs.Plays.{IsSpent};
-ghost use Rattle.am_player.specs.Statuses.{most_input, OnDone, OnWriteFault, IfBadScript, Writes, IsOfAudit, WrotePart, reads_after, writes_after};
+ghost use Rattle.am_player.specs.Statuses.{most_input, OnDone, OnWriteFault, IfBadScript, Writes, IsOfAudit, Took, Wrote, WrotePart, reads_after, writes_after};
 ghost use Rattle.am_sim.specs.Simulation.{form_of_words, most_of, Reads, IsRefused, EndsGen, IsAnswer, IsRacedText, IfBadText, IfAudit, Judges, Raced};
 
 use crate::alone::simulate_alone;
@@ -19,6 +19,7 @@ use am_io::buffered::Buffered;
 use am_io::outside::{Sink, Source};
 use am_io::whole::{ReadRefusal, read_all};
 use am_player::play::INPUT_MOST;
+use am_player::read_input;
 use am_player::status::Status;
 use am_race_script::read::read_race;
 use am_script::refusal::ScriptRefusal;
@@ -110,32 +111,17 @@ fn race_script<R: Threads + Wait + Sync, S: Source, K: Sink, G: Gate + Sync>(
     source: &mut S,
     sink: &mut K,
 ) -> Status
+    ensures not_of_audit { IsOfAudit result → ⊥ }
     ensures not_usage { result ≢ Status.Usage }
     ensures not_spent { result ≢ Status.Spent }
-    ensures not_of_audit { IsOfAudit result → ⊥ }
-    ensures reads { S.count source.new ≡ reads_after result (S.count source.old) }
-    ensures writes { K.count sink.new ≡ writes_after result (K.count sink.old) }
-    ensures too_long { result ≡ Status.TooLong
-        → GaveMore most_input (S.left source.old) (S.left source.new) }
-    ensures within { result ≢ Status.TooLong
-        → GaveAtMost most_input (S.left source.old) (S.left source.new) }
+    ensures took { Took S.left S.count most_input result source.old source.new }
     ensures bad_script { IfBadScript result (λ cause. (bytes : List ℕ)
         × ReadToEnd (S.left source.old) (S.left source.new) bytes
         × (race_reading bytes ≡ Err cause)) }
-    ensures part { OnWriteFault result ((text : List ℕ)
-        × IsRacedText (S.left source.old) (S.left source.new) text
-        × WrotePart (K.contents sink.old) (K.contents sink.new) text) }
-    ensures done { OnDone result ((text : List ℕ)
-        × IsRacedText (S.left source.old) (S.left source.new) text
-        × Appends (K.contents sink.old) (K.contents sink.new) text) }
-    ensures unwritten { (Writes result → ⊥) → sink.new ≡ sink.old }
+    ensures wrote { Wrote K.contents K.count (IsRacedText (S.left source.old) (S.left source.new))
+        result sink.old sink.new }
 {
-    let bytes = match read_all(alloc, source, INPUT_MOST) {
-        Ok(bytes) => bytes,
-        Err(ReadRefusal::Fault) => return Status::ReadFault,
-        Err(ReadRefusal::TooLong) => return Status::TooLong,
-        Err(ReadRefusal::NoMemory) => return Status::NoMemory,
-    };
+    let bytes = read_input!(alloc, source, INPUT_MOST);
     let mut out = Buffered::new(sink);
     match race_answer(rt, alloc, gate, bytes.as_slice(), &mut out) {
         Ok(()) => {}

@@ -25,10 +25,9 @@ push-requires-clause-keeps c =
 pub returns : goal.returns
 returns c =
     let old = node_of c.args.parts.now in
-    let s = c.args.from in
     let number = c.next_number-number.result in
     replies_as refl
-    (c.and.ensures ∙ ap (λ (r : Reply). let x : Reply = record r { second = tell.Gone s } in x) (c.numbered.ensures
+    (c.and.ensures ∙ ap (λ (r : Reply). let x : Reply = record r { second = tell.Gone c.args.from } in x) (c.numbered.ensures
     ∙ (λ k. numbered_of number (c.others-others.ensures k) (c.leave-2.ensures k))))
-    (leave_reply old (node_of c.push.new.self) s number (c.push.ensures.node ∙ ap (push_entry old) c.leave.ensures)
+    (leave_reply old (node_of c.push.new.self) c.args.from number (c.push.ensures.node ∙ ap (push_entry old) c.leave.ensures)
     c.next_number-number.ensures.value c.next_number-number.ensures.within tt)

@@ -1,34 +1,29 @@
-use Rattle.std.proofs.Common.{rules, ◌≡◌, ℕ, List, Option, Some, Err, subst}
-use Rattle.std.specs.Io.KnownBytes.{Appends}
-use Rattle.am_io.specs.Outside.{ReadToEnd, GaveAtMost}
+use Rattle.std.proofs.Common.{rules, ◌≡◌, ℕ, List, Option, Some, subst}
+use Rattle.am_io.specs.Outside.{ReadToEnd}
 use Rattle.am_words.specs.declared.form.Form.{Form}
 use Rattle.am_words.specs.declared.form.Form.TheVariants as form
-use Rattle.am_player.specs.Statuses.{IfBadScript, OnDone, OnWriteFault, WrotePart}
+use Rattle.am_player.specs.Statuses.{IfBadScript, Took, Wrote}
+use Rattle.am_player.proofs.Statuses.{wrote_more}
 use Rattle.am_sim.specs.Simulation.{form_of_words, most_of, IsRefused, IsAnswerAlone}
+use Rattle.am_sim.proofs.Answered.{is_played}
+use Rattle.am_sim.proofs.alone.simulate_alone.Given.{Over}
 use Rattle.am_sim.proofs.alone.simulate_alone.Goals as goal
+
+same : (g : Over) (c : goal.After-play g) → Some (form.Play c.in-Some-Play.shown) ≡ form_of_words c.args.words.now
+same g c = search (rules, c.form_of.ensures.value, c.in-Some-Play.is, c.in-Some-Play.field-0-is, c.in-Some-Play.shown-is)
 
 pub returns-in-Some-Play-clause-bad_script : goal.returns-in-Some-Play-clause-bad_script
 returns-in-Some-Play-clause-bad_script g c =
-    let same : Some (form.Play c.in-Some-Play.shown) ≡ form_of_words c.args.words.now = search (rules, c.form_of.ensures.value, c.in-Some-Play.is, c.in-Some-Play.field-0-is, c.in-Some-Play.shown-is) in
     subst (λ (a : Option Form). IfBadScript c.play.result (λ cause. (x : List ℕ)
     × ReadToEnd (g.S.Source.left c.args.source.now) (g.S.Source.left c.play.new.source) x
-    × IsRefused a x cause)) same c.play.ensures.bad_script
+    × IsRefused a x cause)) (same g c) c.play.ensures.bad_script
 
-pub returns-in-Some-Play-clause-part : goal.returns-in-Some-Play-clause-part
-returns-in-Some-Play-clause-part g c =
-    let same : Some (form.Play c.in-Some-Play.shown) ≡ form_of_words c.args.words.now = search (rules, c.form_of.ensures.value, c.in-Some-Play.is, c.in-Some-Play.field-0-is, c.in-Some-Play.shown-is) in
-    subst (λ (a : Option Form). OnWriteFault c.play.result ((x : List ℕ)
-    × IsAnswerAlone a (g.S.Source.left c.args.source.now) (g.S.Source.left c.play.new.source) x
-    × WrotePart (g.K.Sink.contents c.args.sink.now) (g.K.Sink.contents c.play.new.sink) x)) same c.play.ensures.part
+pub returns-in-Some-Play-clause-took : goal.returns-in-Some-Play-clause-took
+returns-in-Some-Play-clause-took g c =
+    subst (λ (a : Option Form). Took g.S.Source.left g.S.Source.count (most_of a) c.play.result c.args.source.now c.play.new.source) (same g c) c.play.ensures.took
 
-pub returns-in-Some-Play-clause-done : goal.returns-in-Some-Play-clause-done
-returns-in-Some-Play-clause-done g c =
-    let same : Some (form.Play c.in-Some-Play.shown) ≡ form_of_words c.args.words.now = search (rules, c.form_of.ensures.value, c.in-Some-Play.is, c.in-Some-Play.field-0-is, c.in-Some-Play.shown-is) in
-    subst (λ (a : Option Form). OnDone c.play.result ((x : List ℕ) × IsAnswerAlone a (g.S.Source.left c.args.source.now) (g.S.Source.left c.play.new.source) x
-    × Appends (g.K.Sink.contents c.args.sink.now) (g.K.Sink.contents c.play.new.sink) x)) same c.play.ensures.done
-
-pub returns-in-Some-Play-clause-within : goal.returns-in-Some-Play-clause-within
-returns-in-Some-Play-clause-within g c = λ other.
-    let same : Some (form.Play c.in-Some-Play.shown) ≡ form_of_words c.args.words.now = search (rules, c.form_of.ensures.value, c.in-Some-Play.is, c.in-Some-Play.field-0-is, c.in-Some-Play.shown-is) in
-    subst (λ (a : Option Form). GaveAtMost (most_of a) (g.S.Source.left c.args.source.now) (g.S.Source.left c.play.new.source)) same
-    (c.play.ensures.within other)
+pub returns-in-Some-Play-clause-wrote : goal.returns-in-Some-Play-clause-wrote
+returns-in-Some-Play-clause-wrote g c =
+    subst (λ (a : Option Form). Wrote g.K.Sink.contents g.K.Sink.count (IsAnswerAlone a (g.S.Source.left c.args.source.now) (g.S.Source.left c.play.new.source))
+    c.play.result c.args.sink.now c.play.new.sink) (same g c)
+    (wrote_more g.K.Sink.contents g.K.Sink.count _ _ c.play.result _ _ (is_played c.in-Some-Play.shown _ _) c.play.ensures.wrote)

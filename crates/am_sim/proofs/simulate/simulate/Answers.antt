@@ -1,11 +1,12 @@
-use Rattle.std.proofs.Common.{◌≡◌, ℕ, List, Option, Err, Some, subst, sym}
+use Rattle.std.proofs.Common.{◌≡◌, ℕ, List, Option, Some, subst, sym}
 use Rattle.std.specs.Io.KnownBytes.{Appends}
-use Rattle.am_io.specs.Outside.{ReadToEnd, GaveAtMost}
+use Rattle.am_io.specs.Outside.{ReadToEnd, GaveMore, GaveAtMost}
 use Rattle.am_words.specs.declared.form.Form.{Form}
 use Rattle.am_words.specs.declared.form.Form.TheVariants as form
 use Rattle.am_words.specs.Forms.{Generates}
 use Rattle.am_player.specs.Statuses.{IfBadScript, OnDone, OnWriteFault, WrotePart}
 use Rattle.am_sim.specs.Simulation.{form_of_words, most_of, Reads, IsRefused, IsAnswer}
+use Rattle.am_player.proofs.Statuses.{took_counts, took_more, took_few, wrote_counts, wrote_part, wrote_whole, wrote_none}
 use Rattle.am_sim.proofs.simulate.simulate.Given.{Over}
 use Rattle.am_sim.proofs.simulate.simulate.Goals as goal
 
@@ -33,15 +34,32 @@ pub returns-then-is_race-clause-part : goal.returns-then-is_race-clause-part
 returns-then-is_race-clause-part g c = λ not_node.
     subst (λ (a : Option Form). OnWriteFault c.race_script.result ((x : List ℕ)
     × IsAnswer a (g.S.Source.left c.args.source.now) (g.S.Source.left c.race_script.new.source) x
-    × WrotePart (g.K.Sink.contents c.args.sink.now) (g.K.Sink.contents c.race_script.new.sink) x)) (sym (is_asked g c)) c.race_script.ensures.part
+    × WrotePart (g.K.Sink.contents c.args.sink.now) (g.K.Sink.contents c.race_script.new.sink) x)) (sym (is_asked g c))
+    (wrote_part g.K.Sink.contents g.K.Sink.count _ c.race_script.result _ _ c.race_script.ensures.wrote)
 
 pub returns-then-is_race-clause-done : goal.returns-then-is_race-clause-done
 returns-then-is_race-clause-done g c =
     subst (λ (a : Option Form). OnDone c.race_script.result ((x : List ℕ)
     × IsAnswer a (g.S.Source.left c.args.source.now) (g.S.Source.left c.race_script.new.source) x
-    × Appends (g.K.Sink.contents c.args.sink.now) (g.K.Sink.contents c.race_script.new.sink) x)) (sym (is_asked g c)) c.race_script.ensures.done
+    × Appends (g.K.Sink.contents c.args.sink.now) (g.K.Sink.contents c.race_script.new.sink) x)) (sym (is_asked g c))
+    (wrote_whole g.K.Sink.contents g.K.Sink.count _ c.race_script.result _ _ c.race_script.ensures.wrote)
 
 pub returns-then-is_race-clause-within : goal.returns-then-is_race-clause-within
 returns-then-is_race-clause-within g c = λ not_node other.
     subst (λ (a : Option Form). GaveAtMost (most_of a) (g.S.Source.left c.args.source.now) (g.S.Source.left c.race_script.new.source)) (sym (is_asked g c))
-    (c.race_script.ensures.within other)
+    (took_few g.S.Source.left g.S.Source.count _ c.race_script.result _ _ other c.race_script.ensures.took)
+
+pub returns-then-is_race-clause-too_long : goal.returns-then-is_race-clause-too_long
+returns-then-is_race-clause-too_long g c = λ is.
+    subst (λ (a : Option Form). GaveMore (most_of a) (g.S.Source.left c.args.source.now) (g.S.Source.left c.race_script.new.source)) (sym (is_asked g c))
+    (took_more g.S.Source.left g.S.Source.count _ c.race_script.result _ _ is c.race_script.ensures.took)
+
+pub returns-then-is_race-clause-reads : goal.returns-then-is_race-clause-reads
+returns-then-is_race-clause-reads g c = took_counts g.S.Source.left g.S.Source.count _ c.race_script.result _ _ c.race_script.ensures.took
+
+pub returns-then-is_race-clause-writes : goal.returns-then-is_race-clause-writes
+returns-then-is_race-clause-writes g c = wrote_counts g.K.Sink.contents g.K.Sink.count _ c.race_script.result _ _ c.race_script.ensures.wrote
+
+pub returns-then-is_race-clause-unwritten : goal.returns-then-is_race-clause-unwritten
+returns-then-is_race-clause-unwritten g c = λ not_node none.
+    wrote_none g.K.Sink.contents g.K.Sink.count _ c.race_script.result _ _ none c.race_script.ensures.wrote
