@@ -33,8 +33,8 @@ unfoldable pub opened : ℕ
 unfolding by_place after fits fold greatest best_from those accept pass_over unions least_of own_report tell go_on let_go lead refresh settle
     refresh_at_end put_all finish best_of decide begin keep_vote give_up everywhere_else send_row done_row take_row join_row state_row leave_row
     reset_row ask_row give_up_row tick_row request_row ack_row nack_row spread_row bcast_row order_row accept_row hold_row join_ask_row welcome_row
-    leave_ask_row gone_row invite_row vote_row fetch_row piece_row result_row hear_row row step hear hear_refusal with_record with_step
-    happens happen is_complete is_lawful greatest_complete watch watch_all running hearings_from waves rounds settle_events name_text stamp_text
-    names_text body_text resilience_text entry_text outcome_word outcome_parts outcome_text act_word act_parts event_text kind_word addressees_text
-    letter_text record_line records_text group_line group_text log_line empty_log_line log_text logs_text mark_line play_text digits set_of
+    leave_ask_row gone_row invite_row vote_row fetch_row piece_row result_row hear_row row step hear hear_refusal with_record with_step happens happen
+    is_complete is_lawful greatest_complete watch watch_all running hearings_from waves rounds settle_events name_text stamp_text names_text body_text
+    resilience_text entry_text outcome_word outcome_parts outcome_text act_word act_parts event_text kind_word addressees_text letter_text record_line
+    records_text group_line group_text log_line empty_log_line log_text logs_text mark_line play_text digits set_of
 opened = 0
