@@ -1,50 +1,18 @@
 -- The text of a run whose list fits agrees.
-use Rattle.std.proofs.Common.{◌≡◌, ℕ, suc, ◌≤◌, ◌==◌, true, false, if◌then◌else◌, List, [], ◌∷◌, length, take, unwrap_or}
-use Rattle.std.proofs.Common.{refl, sym, ap, ◌∙◌, arith, subst, Option, None}
-use Rattle.std.proofs.Common.{⊎_elim}
-use Rattle.std.specs.Prelude.{All}
-use Rattle.std.specs.List.{range_with_len}
-use Rattle.std.proofs.lemmas.List.{take_all}
-use Rattle.std.proofs.lemmas.List.Elements.{All-nil, All-cons, All-head, All-tail}
-use Rattle.am_base.specs.Names.{place_of}
-use Rattle.am_base.specs.Founding.{Rules, MayFound}
-use Rattle.am_base.specs.Lists.{blank, AllFit}
-use Rattle.am_base.specs.declared.entry.Entry.{Entry}
-use Rattle.am_group.specs.declared.event.Act.{Act}
+use Rattle.am_audited.proofs.Words.{◌≡◌, ℕ, suc, ◌≤◌, ◌==◌, true, false, if◌then◌else◌, List, [], ◌∷◌, length, take, unwrap_or, refl, sym, ap, ◌∙◌, arith}
+use Rattle.am_audited.proofs.Words.{subst, Option, None, ⊎_elim, All, range_with_len, take_all, All-nil, All-cons, All-head, All-tail, place_of, Rules}
+use Rattle.am_audited.proofs.Words.{MayFound, blank, AllFit, Entry, Act, Event, item_at, deliveries, Node, founders_view, has_log, World, run, logs, text_of}
+use Rattle.am_audited.proofs.Words.{NoBallot, Segment, Once, Sent, broken_at, watch_run, lawful_front, before_break, watched_is_run, one_record_each}
+use Rattle.am_audited.proofs.Words.{IsOfBytes, AreOfBytes, IsShort, BodyWithin, run_named, numbers_hold, ListFits, unballoted_holds, unballoted_lists_fit}
+use Rattle.am_audited.proofs.Words.{headline_holds, lists_fit, Reading, or_else, first_fault, first_astray, first_lost, first_early, first_misfit}
+use Rattle.am_audited.proofs.Words.{first_skipped, first_unsent, first_unlogged, first_untaken, lines_of, wrong_lists, wrong_events, verdict_of, IsSayable}
+use Rattle.am_audited.proofs.Words.{AsksBytes, IsRaised, records_are_sound, requests_in_turn, resiliences_hold, sends_of, answers_of, takes_of, texts_of}
+use Rattle.am_audited.proofs.Words.{logs_in, reading_of, right_verdict, AgreesAs, RunsHaveTheirTexts, LawfulTextsAgree}
+use Rattle.am_audited.proofs.{Runs.group_begins, Runs.run_read, Fitting.no_misfit, Logs.IsRight, Logs.no_fault, Logs.no_astray, Logs.no_early, Logs.run_goes}
+use Rattle.am_audited.proofs.{Sends.none_lost, Sends.answers_once, Sends.none_skipped, Sends.requests_are, Asked.InTurn, Asked.none_unsent}
+use Rattle.am_audited.proofs.{Asked.asked_there, Asked.all_asked, Takes.IsListed, Takes.none_unlogged, Takes.none_untaken, Takes.takes_are, Takes.logs_are}
 use Rattle.am_group.specs.declared.event.Act.TheVariants as acts
-use Rattle.am_group.specs.declared.event.Event.{Event}
-use Rattle.am_group.specs.Journals.{item_at}
-use Rattle.am_group.specs.Deliveries.{deliveries}
-use Rattle.am_model.specs.Node.{Node, founders_view, has_log}
-use Rattle.am_play.specs.World.{World, run}
-use Rattle.am_play.specs.Group.{logs}
-use Rattle.am_play.specs.Play.{text_of}
-use Rattle.am_play.specs.Claims.{NoBallot, Segment, Once, Sent}
-use Rattle.am_play.specs.Lawful.{broken_at, watch_run, lawful_front, before_break}
-use Rattle.am_play.proofs.Runs.{watched_is_run, one_record_each}
-use Rattle.am_texts.specs.Schedules.{IsOfBytes, AreOfBytes}
-use Rattle.am_laws.specs.Bytes.{IsShort, BodyWithin}
-use Rattle.am_laws.proofs.Named.{run_named}
-use Rattle.am_laws.proofs.RunCounts.{numbers_hold}
-use Rattle.am_runs.specs.Lists.{ListFits}
-use Rattle.am_runs.proofs.Holds.{unballoted_holds, unballoted_lists_fit}
-use Rattle.am_headline.proofs.Holds.{headline_holds, lists_fit}
 use Rattle.am_audit.specs.declared.verdict.Verdict.TheVariants as verdicts
-use Rattle.am_audit.specs.Lines.{Reading}
-use Rattle.am_audit.specs.Verdicts.{or_else, first_fault, first_astray, first_lost, first_early, first_misfit, first_skipped, first_unsent, first_unlogged}
-use Rattle.am_audit.specs.Verdicts.{first_untaken, lines_of, wrong_lists, wrong_events, verdict_of}
-use Rattle.am_headline.specs.Records.{IsSayable, AsksBytes}
-use Rattle.am_headline.specs.Resiliences.{IsRaised}
-use Rattle.am_headline.proofs.Sound.{records_are_sound, requests_in_turn}
-use Rattle.am_headline.proofs.RaisedRuns.{resiliences_hold}
-use Rattle.am_audited.specs.Texts.{sends_of, answers_of, takes_of, texts_of, logs_in, reading_of}
-use Rattle.am_audited.specs.Claims.{right_verdict, AgreesAs, RunsHaveTheirTexts, LawfulTextsAgree}
-use Rattle.am_audited.proofs.Runs.{group_begins, run_read}
-use Rattle.am_audited.proofs.Fitting.{no_misfit}
-use Rattle.am_audited.proofs.Logs.{IsRight, no_fault, no_astray, no_early, run_goes}
-use Rattle.am_audited.proofs.Sends.{none_lost, answers_once, none_skipped, requests_are}
-use Rattle.am_audited.proofs.Asked.{InTurn, none_unsent, asked_there, all_asked}
-use Rattle.am_audited.proofs.Takes.{IsListed, none_unlogged, none_untaken, takes_are, logs_are}
 
 -- ---- bodies
 

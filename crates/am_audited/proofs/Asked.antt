@@ -1,31 +1,14 @@
 -- Each send of the list was asked for, as it is read.
-use Rattle.std.proofs.Common.{◌≡◌, ℕ, zero, suc, ◌+◌, ◌==◌, ◌&&◌, Bool, true, false, if◌then◌else◌, List, [], ◌∷◌, ◌++◌, length}
-use Rattle.std.proofs.Common.{refl, sym, ap, ◌∙◌, arith, subst, Some, None, slice_get}
-use Rattle.std.specs.Prelude.{All}
-use Rattle.std.specs.Option.{option_map}
-use Rattle.std.specs.List.{range_with_len}
-use Rattle.std.proofs.lemmas.Option.{slice_get-map}
-use Rattle.std.proofs.lemmas.Bool.{and_parts, and_from}
-use Rattle.std.proofs.lemmas.Bool.Decides.{nat_tests}
-use Rattle.std.proofs.lemmas.List.Elements.{All-head, All-tail}
-use Rattle.am_base.specs.Founding.{Rules}
-use Rattle.am_base.specs.declared.entry.Entry.{Entry}
+use Rattle.am_audited.proofs.Words.{◌≡◌, ℕ, zero, suc, ◌+◌, ◌==◌, ◌&&◌, Bool, true, false, if◌then◌else◌, List, [], ◌∷◌, ◌++◌, length, refl, sym, ap, ◌∙◌}
+use Rattle.am_audited.proofs.Words.{arith, subst, Some, None, slice_get, All, option_map, range_with_len, slice_get-map, and_parts, and_from, nat_tests}
+use Rattle.am_audited.proofs.Words.{All-head, All-tail, Rules, Entry, split, Record, name_of, body_text, IsSend, Line, or_else, first_asked, body_at}
+use Rattle.am_audited.proofs.Words.{is_text, unsent_at, first_unsent, lines_of, IsSayable, send_in, sends_of, texts_of}
+use Rattle.am_audited.proofs.{Outcomes.same_self, Entries.data_as, Entries.data_in_is, Sends.numbers_of}
 use Rattle.am_base.specs.declared.entry.Entry.TheVariants as entries
 use Rattle.am_base.specs.declared.outcome.Outcome.TheVariants as said
-use Rattle.am_base.proofs.Greatest.{split}
 use Rattle.am_group.specs.declared.event.Act.TheVariants as acts
-use Rattle.am_group.specs.declared.event.Record.{Record}
-use Rattle.am_group.specs.Deliveries.{name_of}
-use Rattle.am_play.specs.Text.{body_text}
-use Rattle.am_play.specs.Claims.{IsSend}
 use Rattle.am_audit.specs.declared.verdict.Verdict.TheVariants as verdicts
-use Rattle.am_audit.specs.Lines.{Line}
-use Rattle.am_audit.specs.Verdicts.{or_else, first_asked, body_at, is_text, unsent_at, first_unsent, lines_of}
-use Rattle.am_headline.specs.Records.{IsSayable}
-use Rattle.am_audited.specs.Texts.{send_in, sends_of, texts_of}
-use Rattle.am_audited.proofs.Outcomes.{same_self}
-use Rattle.am_audited.proofs.Entries.{data_as, data_in_is}
-use Rattle.am_audited.proofs.Sends.{numbers_of, get_behind}
+use Rattle.am_group.proofs.Places.{get_behind}
 
 -- a line is this send
 pub record IsLineOf (line : Line) (from req : ℕ) : Type 0 where
@@ -153,9 +136,7 @@ asked_none sends (entries.Data from req body) turn asked =
     ap (body_at sends) (found.first ∙ ap (λ (n : ℕ). Some n) at) ∙ ap (option_map (λ (l : Line). l.text)) found.there
     ∙ ap (λ (l : Line). Some l.text) same_line ∙ ap (λ t. Some t) asked.text in
     ap (λ b. if b then None else Some (verdicts.Unsent from req)) (ap (λ o. is_text o (body_text body)) text ∙ same_self (body_text body))
-asked_none sends (entries.Join name) turn asked = refl
-asked_none sends (entries.Leave name) turn asked = refl
-asked_none sends (entries.View stamp members resilience) turn asked = refl
+asked_none sends _ turn asked = refl
 
 abbrev pub AllAsked : List Line → List Entry → Type 0
 AllAsked sends [] = Unit {0}

@@ -1,31 +1,16 @@
 -- What is printed of events and entries has no newline and no mark in it.
-use Rattle.std.proofs.Common.{◌≡◌, ℕ, ◌+◌, ◌==◌, ◌&&◌, ◌||◌, not, Bool, true, false, cond, List, [], ◌∷◌, ◌++◌, refl, ap, ◌∙◌, Option, Some, None}
-use Rattle.std.specs.Prelude.{codes, decimal, slice_index, drop}
-use Rattle.std.specs.List.{list_all}
-use Rattle.std.proofs.lemmas.List.{append-nil}
-use Rattle.am_base.specs.Founding.{Rules}
-use Rattle.am_base.specs.Names.{place_of}
-use Rattle.am_base.specs.declared.name.Stamp.{Stamp}
-use Rattle.am_base.specs.declared.entry.Entry.{Entry}
+use Rattle.am_audited.proofs.Words.{◌≡◌, ℕ, ◌+◌, ◌==◌, ◌&&◌, ◌||◌, not, Bool, true, false, cond, List, [], ◌∷◌, ◌++◌, refl, ap, ◌∙◌, Option, Some, None}
+use Rattle.am_audited.proofs.Words.{codes, decimal, slice_index, drop, list_all, append-nil, Rules, place_of, Stamp, Entry, Outcome, IsBytes, Letter, Packet}
+use Rattle.am_audited.proofs.Words.{Act, Event, onto_cut, name_text, stamp_text, names_text, body_text, resilience_text, entry_text, outcome_word}
+use Rattle.am_audited.proofs.Words.{numbers_text, outcome_numbers, outcome_parts, outcome_text, act_word, act_parts, event_text, kind_word}
+use Rattle.am_audited.proofs.Words.{is_everybody_else, addressees_text, letter_text, letters_text, IsOfBytes, begins_mark, mark_cut, IsLine, is_plain_byte}
+use Rattle.am_audited.proofs.Words.{IsWord, IsPlain, both, all_append, all_weaker, word_plain, plains, decimal_word, name_word, stamp_word, names_word}
+use Rattle.am_audited.proofs.Words.{body_word}
 use Rattle.am_base.specs.declared.entry.Entry.TheVariants as entries
-use Rattle.am_base.specs.declared.outcome.Outcome.{Outcome}
 use Rattle.am_base.specs.declared.outcome.Outcome.TheVariants as said
-use Rattle.am_packet.specs.Laws.{IsBytes}
-use Rattle.am_packet.specs.Boxes.{Letter}
-use Rattle.am_packet.specs.declared.packet.Packet.{Packet}
 use Rattle.am_packet.specs.declared.packet.Packet.TheVariants as packets
-use Rattle.am_group.specs.declared.event.Act.{Act}
 use Rattle.am_group.specs.declared.event.Act.TheVariants as acts
-use Rattle.am_group.specs.declared.event.Event.{Event}
-use Rattle.am_fields.specs.Fields.{onto_cut}
-use Rattle.am_play.specs.Text.{name_text, stamp_text, names_text, body_text, resilience_text, entry_text, outcome_word, numbers_text, outcome_numbers}
-use Rattle.am_play.specs.Text.{outcome_parts, outcome_text, act_word, act_parts, event_text, kind_word, is_everybody_else, addressees_text, letter_text}
-use Rattle.am_play.specs.Text.{letters_text}
-use Rattle.am_texts.specs.Schedules.{IsOfBytes}
-use Rattle.am_audit.specs.Lines.{begins_mark, mark_cut}
-use Rattle.am_audit.specs.Agreement.{IsLine}
-use Rattle.am_printed.proofs.Words.{is_plain_byte, IsWord, IsPlain, both, all_append, all_weaker, word_plain, plains, decimal_word, name_word}
-use Rattle.am_printed.proofs.Words.{stamp_word, names_word, body_word}
+use Rattle.std.proofs.lemmas.Bool.{not-true}
 
 -- ---- entries
 
@@ -188,10 +173,6 @@ not_begun mark x y more other =
 abbrev pub Lacks : ℕ → List ℕ → Type 0
 Lacks mark text = list_all (λ c. not (c == mark)) text ≡ true
 
-not_false : (b : Bool) → not b ≡ true → b ≡ false
-not_false true h = cc
-not_false false h = refl
-
 go_on : (mark x : ℕ) (more : List ℕ) (cut : List ℕ × Option (List ℕ)) → begins_mark mark (x ∷ more) ≡ false → mark_cut mark more ≡ cut
     → mark_cut mark (x ∷ more) ≡ onto_cut x cut
 go_on mark x more cut is rest =
@@ -210,7 +191,7 @@ mark_ends mark (x ∷ y ∷ ys) rest is other none =
     let first = both (not (x == mark)) (list_all (λ c. not (c == mark)) (y ∷ ys)) none in
     let second = both (not (y == mark)) (list_all (λ c. not (c == mark)) ys) first.1 in
     go_on mark x (y ∷ ys ++ 32 ∷ mark ∷ 32 ∷ rest) (y ∷ ys, Some rest)
-    (not_begun mark x y (ys ++ 32 ∷ mark ∷ 32 ∷ rest) (not_false (y == mark) second.0))
+    (not_begun mark x y (ys ++ 32 ∷ mark ∷ 32 ∷ rest) (not-true (y == mark) second.0))
     (mark_ends mark (y ∷ ys) rest is other first.1)
 
 -- or is the whole
@@ -221,7 +202,7 @@ mark_none mark (x ∷ []) nought none =
 mark_none mark (x ∷ y ∷ ys) nought none =
     let first = both (not (x == mark)) (list_all (λ c. not (c == mark)) (y ∷ ys)) none in
     let second = both (not (y == mark)) (list_all (λ c. not (c == mark)) ys) first.1 in
-    go_on mark x (y ∷ ys) (y ∷ ys, None) (not_begun mark x y ys (not_false (y == mark) second.0)) (mark_none mark (y ∷ ys) nought first.1)
+    go_on mark x (y ∷ ys) (y ∷ ys, None) (not_begun mark x y ys (not-true (y == mark) second.0)) (mark_none mark (y ∷ ys) nought first.1)
 
 lacks_colon : (c : ℕ) → is_plain_byte c ≡ true → not (c == 58) ≡ true
 lacks_colon c is = (both (not (c == 58)) (not (c == 124)) ((both (not (c == 10)) (not (c == 58) && not (c == 124)) is).1)).0

@@ -1,28 +1,13 @@
 -- An entry that is printed is read.
-use Rattle.std.proofs.Common.{◌≡◌, ℕ, ◌<◌, ◌≤◌, ◌==◌, ◌&&◌, zero, suc, Bool, true, false, List, [], ◌∷◌, ◌++◌, length, lit<, refl, ap, ◌∙◌, arith}
-use Rattle.std.proofs.Common.{Result, Ok, Err, Option, Some, None, if◌then◌else◌}
-use Rattle.std.specs.Prelude.{codes, decimal}
-use Rattle.std.proofs.lemmas.List.{append-nil}
-use Rattle.std.proofs.lemmas.Bool.Decides.{nat_tests}
-use Rattle.am_base.specs.Most.{most_number, most_body}
-use Rattle.am_base.specs.Names.{IsSet}
-use Rattle.am_base.specs.Founding.{Rules}
-use Rattle.am_base.specs.declared.name.Stamp.{Stamp}
-use Rattle.am_base.specs.declared.entry.Entry.{Entry}
+use Rattle.am_audited.proofs.Words.{◌≡◌, ℕ, ◌<◌, ◌≤◌, ◌==◌, ◌&&◌, zero, suc, Bool, true, false, List, [], ◌∷◌, ◌++◌, length, lit<, refl, ap, ◌∙◌, arith}
+use Rattle.am_audited.proofs.Words.{Result, Ok, Err, Option, Some, None, if◌then◌else◌, codes, decimal, append-nil, nat_tests, most_number, most_body, IsSet}
+use Rattle.am_audited.proofs.Words.{Rules, Stamp, Entry, FieldFault, Form, cut_of, name_text, stamp_text, names_text, body_text, resilience_text, entry_text}
+use Rattle.am_audited.proofs.Words.{Outline, data_parts, data_of, resilience_of, resilience_in, view_of, outline_of, data_in, number_again, name_again}
+use Rattle.am_audited.proofs.Words.{names_again, decimal_word, name_word, stamp_word, names_word, word_cut, word_whole, stamp_again, body_again, IsSayable}
+use Rattle.am_audited.proofs.Words.{IsRaised}
+use Rattle.am_audited.proofs.{Chars.HasBytes, Outcomes.two_words, Outcomes.IsReadAs}
 use Rattle.am_base.specs.declared.entry.Entry.TheVariants as entries
-use Rattle.am_fields.specs.declared.fault.FieldFault.{FieldFault}
-use Rattle.am_fields.specs.declared.fault.FieldFault.TheVariants.{Form}
-use Rattle.am_fields.specs.Fields.{cut_of}
-use Rattle.am_play.specs.Text.{name_text, stamp_text, names_text, body_text, resilience_text, entry_text}
-use Rattle.am_audit.specs.declared.outline.Outline.{Outline}
 use Rattle.am_audit.specs.declared.outline.Outline.TheVariants as outlines
-use Rattle.am_audit.specs.Fields.{data_parts, data_of, resilience_of, resilience_in, view_of, outline_of, data_in}
-use Rattle.am_printed.proofs.Printed.{number_again, name_again, names_again}
-use Rattle.am_printed.proofs.Words.{decimal_word, name_word, stamp_word, names_word, word_cut, word_whole, stamp_again, body_again}
-use Rattle.am_headline.specs.Records.{IsSayable}
-use Rattle.am_headline.specs.Resiliences.{IsRaised}
-use Rattle.am_audited.proofs.Chars.{HasBytes}
-use Rattle.am_audited.proofs.Outcomes.{two_words, IsReadAs}
 
 -- a resilience as it is read, where the founding's is read as 0
 abbrev pub resilience_as : Rules → ℕ → ℕ
@@ -120,6 +105,4 @@ data_as _ = Err Form
 pub data_in_is : (rules : Rules) (entry : Entry) → IsSayable entry → data_in (entry_text rules entry) ≡ data_as entry
 unfolding data_in entry_text
 data_in_is rules (entries.Data from req body) say = data_read from req body say.0 say.1
-data_in_is rules (entries.Join name) say = refl
-data_in_is rules (entries.Leave name) say = refl
-data_in_is rules (entries.View stamp members resilience) say = refl
+data_in_is rules _ say = refl

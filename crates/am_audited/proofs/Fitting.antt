@@ -1,32 +1,14 @@
 -- A list that fits is read as one that fits, where the founding's resilience is read as 0.
-use Rattle.std.proofs.Common.{◌≡◌, ℕ, zero, suc, ◌+◌, ◌<◌, ◌≤◌, ◌==◌, ◌&&◌, ◌||◌, nat_le, Bool, true, false, if◌then◌else◌, List, [], ◌∷◌, length, map}
-use Rattle.std.proofs.Common.{refl, sym, ap, ◌∙◌, arith, Option, Some, None, Result, Ok, get_or, unwrap_or}
-use Rattle.std.specs.Prelude.{All, slice_index, slice_index_or}
-use Rattle.std.specs.List.{list_all, range_with_len}
-use Rattle.std.proofs.lemmas.Bool.{and_parts, and_from}
-use Rattle.std.proofs.lemmas.Bool.Decides.{nat_tests}
-use Rattle.std.proofs.lemmas.List.Elements.{All-head, All-tail}
-use Rattle.am_base.specs.Most.{most_number}
-use Rattle.am_base.specs.Founding.{Rules, MayFound}
-use Rattle.am_base.specs.Names.{has, life_of, is_within, lowest_of, by_place}
-use Rattle.am_base.specs.Stamps.{stamp_lt, stamp_eq, no_stamp}
-use Rattle.am_base.specs.Lists.{blank, is_blank, is_blank_row, at_place, members_of, after, fits, AllFit, row_after_view, blank_row}
-use Rattle.am_base.specs.declared.image.Image.{Image}
-use Rattle.am_base.specs.declared.entry.Entry.{Entry}
-use Rattle.am_base.specs.declared.entry.Entry.TheVariants as entries
-use Rattle.am_base.proofs.Greatest.{split}
-use Rattle.am_model.specs.Node.{lowest_or_first, founders_view}
-use Rattle.am_model.proofs.Founders.{first_founder}
-use Rattle.am_play.specs.Text.{entry_text}
-use Rattle.am_audit.specs.declared.outline.Outline.{Outline}
-use Rattle.am_audit.specs.declared.verdict.Verdict.{Verdict}
-use Rattle.am_audit.specs.declared.verdict.Verdict.TheVariants as verdicts
-use Rattle.am_audit.specs.Fields.{outline_of}
-use Rattle.am_audit.specs.Verdicts.{or_else, bare_entry, is_lowest, founds, fits_at, image_after, first_misfit}
-use Rattle.am_headline.specs.Records.{IsSayable}
-use Rattle.am_headline.specs.Resiliences.{IsRaised}
-use Rattle.am_audited.specs.Texts.{texts_of}
+use Rattle.am_audited.proofs.Words.{◌≡◌, ℕ, zero, suc, ◌+◌, ◌<◌, ◌≤◌, ◌==◌, ◌&&◌, ◌||◌, nat_le, Bool, true, false, if◌then◌else◌, List, [], ◌∷◌, length, map}
+use Rattle.am_audited.proofs.Words.{refl, sym, ap, ◌∙◌, arith, Option, Some, None, Result, Ok, get_or, unwrap_or, All, slice_index, slice_index_or, list_all}
+use Rattle.am_audited.proofs.Words.{range_with_len, and_parts, and_from, nat_tests, All-head, All-tail, most_number, Rules, MayFound, has, life_of}
+use Rattle.am_audited.proofs.Words.{is_within, lowest_of, by_place, stamp_lt, stamp_eq, no_stamp, blank, is_blank, is_blank_row, at_place, members_of, after}
+use Rattle.am_audited.proofs.Words.{fits, AllFit, row_after_view, blank_row, Image, Entry, split, lowest_or_first, founders_view, first_founder, entry_text}
+use Rattle.am_audited.proofs.Words.{Outline, Verdict, outline_of, or_else, bare_entry, is_lowest, founds, fits_at, image_after, first_misfit, IsSayable}
+use Rattle.am_audited.proofs.Words.{IsRaised, texts_of}
 use Rattle.am_audited.proofs.Entries.{resilience_as, outline_as, entry_read}
+use Rattle.am_base.specs.declared.entry.Entry.TheVariants as entries
+use Rattle.am_audit.specs.declared.verdict.Verdict.TheVariants as verdicts
 
 -- ---- images
 
@@ -78,9 +60,6 @@ low_rises rules a b least up = split (a == rules.resilience)
 fits_low : (rules : Rules) (image : Image) (e : Entry) → IsAbove rules image → fits image e ≡ true
     → fits (lowered rules image) (bare_entry (outline_as rules e)) ≡ true
 unfolding fits
-fits_low rules image (entries.Data from req body) h fit = fit
-fits_low rules image (entries.Join name) h fit = fit
-fits_low rules image (entries.Leave name) h fit = fit
 fits_low rules image (entries.View stamp members resilience) h fit =
     let a = and_parts (stamp_lt image.view stamp) _ fit in
     let b = and_parts (is_blank image || is_within members (members_of image)) _ a.1 in
@@ -92,6 +71,7 @@ fits_low rules image (entries.View stamp members resilience) h fit =
     (and_from (is_blank (lowered rules image) || is_within members (members_of image)) _
     (ap (λ x. x || is_within members (members_of image)) other ∙ within)
     (and_from (has members stamp.by) _ c.0 (low_rises rules image.resilience resilience h.least up)))
+fits_low rules image _ h fit = fit
 
 -- and what it tells is read as what it tells
 after_low : (rules : Rules) (image : Image) (number : ℕ) (e : Entry) → 0 < image.view_number

@@ -1,3 +1,4 @@
+mod Words
 pub mod Chars
 pub mod Outcomes
 pub mod Reading

@@ -1,41 +1,14 @@
 -- The logs of a run whose list fits are pieces of it, as they are read.
-use Rattle.std.proofs.Common.{◌≡◌, ◌≢◌, ℕ, zero, suc, ◌+◌, ◌*◌, ◌/◌, ◌%◌, ◌<◌, ◌≤◌, ◌==◌, ◌&&◌, Bool, true, false, if◌then◌else◌, List, [], ◌∷◌, ◌++◌, map}
-use Rattle.std.proofs.Common.{refl, sym, ap, ◌∙◌, arith, subst, Option, Some, None, Ok, ◌⊎◌, ⊎_elim, inl, inr}
-use Rattle.std.specs.Prelude.{All}
-use Rattle.std.specs.Option.{option_map}
-use Rattle.std.specs.List.{flat_map, range_with_len}
-use Rattle.std.proofs.lemmas.Grind.{flat_map-append}
-use Rattle.std.proofs.lemmas.List.{append-nil}
-use Rattle.std.proofs.lemmas.Option.{slice_get-map}
-use Rattle.std.proofs.lemmas.Bool.{and_parts}
-use Rattle.std.proofs.lemmas.Bool.Decides.{nat_tests}
-use Rattle.am_base.specs.Founding.{Rules}
-use Rattle.am_base.specs.Lists.{blank, AllFit}
-use Rattle.am_base.specs.Names.{has}
-use Rattle.am_base.specs.declared.entry.Entry.{Entry}
+use Rattle.am_audited.proofs.Words.{◌≡◌, ◌≢◌, ℕ, zero, suc, ◌+◌, ◌*◌, ◌/◌, ◌%◌, ◌<◌, ◌≤◌, ◌==◌, ◌&&◌, Bool, true, false, if◌then◌else◌, List, [], ◌∷◌, ◌++◌}
+use Rattle.am_audited.proofs.Words.{map, refl, sym, ap, ◌∙◌, arith, subst, Option, Some, None, Ok, ◌⊎◌, ⊎_elim, inl, inr, All, option_map, flat_map}
+use Rattle.am_audited.proofs.Words.{range_with_len, flat_map-append, append-nil, slice_get-map, and_parts, nat_tests, Rules, blank, AllFit, has, Entry}
+use Rattle.am_audited.proofs.Words.{split, item_at, deliveries, same, founders_view, has_log, entry_text, World, logs, BeginsAt, IsSegment, Segment}
+use Rattle.am_audited.proofs.Words.{all_item, no_send_twice, Verdict, outline_of, data_in, is_send, Line, or_else, last_of, first_with, first_sent, gap_at}
+use Rattle.am_audited.proofs.Words.{differs_at, twice_by, twice_at, fault_at, first_fault, is_text, first_astray, may_begin, early_at, first_early}
+use Rattle.am_audited.proofs.Words.{IsSayable, IsRaised, texts_of, log_in, logs_in}
+use Rattle.am_audited.proofs.{Outcomes.same_self, Entries.outline_as, Entries.entry_read, Entries.is_of, Entries.data_as, Entries.data_in_is}
 use Rattle.am_base.specs.declared.entry.Entry.TheVariants as entries
-use Rattle.am_base.proofs.Greatest.{split}
-use Rattle.am_group.specs.Journals.{item_at}
-use Rattle.am_group.specs.Deliveries.{deliveries}
-use Rattle.am_fields.specs.Fields.{same}
-use Rattle.am_model.specs.Node.{founders_view, has_log}
-use Rattle.am_play.specs.Text.{entry_text}
-use Rattle.am_play.specs.World.{World}
-use Rattle.am_play.specs.Group.{logs}
-use Rattle.am_play.specs.Claims.{BeginsAt, IsSegment, Segment}
-use Rattle.am_laws.proofs.Items.{all_item}
-use Rattle.am_chain.proofs.Turns.{no_send_twice}
-use Rattle.am_audit.specs.declared.verdict.Verdict.{Verdict}
 use Rattle.am_audit.specs.declared.verdict.Verdict.TheVariants as verdicts
-use Rattle.am_audit.specs.Fields.{outline_of, data_in, is_send}
-use Rattle.am_audit.specs.Lines.{Line}
-use Rattle.am_audit.specs.Verdicts.{or_else, last_of, first_with, first_sent, gap_at, differs_at, twice_by, twice_at, fault_at, first_fault, is_text}
-use Rattle.am_audit.specs.Verdicts.{first_astray, may_begin, early_at, first_early}
-use Rattle.am_headline.specs.Records.{IsSayable}
-use Rattle.am_headline.specs.Resiliences.{IsRaised}
-use Rattle.am_audited.specs.Texts.{texts_of, log_in, logs_in}
-use Rattle.am_audited.proofs.Outcomes.{same_self}
-use Rattle.am_audited.proofs.Entries.{outline_as, entry_read, is_of, data_as, data_in_is}
 
 -- ---- a list that fits
 
@@ -126,9 +99,7 @@ is_data from req (entries.Data f r body) is =
     let sender : f ≡ from = grind (arith, nat_tests) in
     let request : r ≡ req = grind (arith, nat_tests) in
     (body, ap (λ (n : ℕ). entries.Data n r body) sender ∙ ap (λ (n : ℕ). entries.Data from n body) request)
-is_data from req (entries.Join name) is = absurd (cc)
-is_data from req (entries.Leave name) is = absurd (cc)
-is_data from req (entries.View stamp members resilience) is = absurd (cc)
+is_data from req _ is = absurd (cc)
 
 sent_by : (o : Option ℕ) (b : Bool) (number n : ℕ) → or_else o (if b then Some number else None) ≡ Some n → (o ≡ Some n) ⊎ ((b ≡ true) × (number ≡ n))
 sent_by (Some x) b number n is = inl is
@@ -161,9 +132,7 @@ not_twice rules group before number (entries.Data from req body) right placed th
     twice_none (first_sent from req before) from req number (λ n is.
     let other = sent_placed rules group from req before n right.say placed is in
     no_send_twice group right.fits from req n number other.0 body other.1 there)
-not_twice rules group before number (entries.Join name) right placed there = refl
-not_twice rules group before number (entries.Leave name) right placed there = refl
-not_twice rules group before number (entries.View stamp members resilience) right placed there = refl
+not_twice rules group before number _ right placed there = refl
 
 three_none : (a b c : Option Verdict) → a ≡ None → b ≡ None → c ≡ None → or_else a (or_else b c) ≡ None
 three_none a b c x y z = ap (λ o. or_else o (or_else b c)) x ∙ ap (λ o. or_else o c) y ∙ z

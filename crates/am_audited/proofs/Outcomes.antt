@@ -1,30 +1,14 @@
 -- What the events that count are read as, by their acts and outcomes.
-use Rattle.std.proofs.Common.{◌≡◌, ℕ, ◌<◌, ◌≤◌, ◌==◌, ◌&&◌, true, false, cond, List, [], ◌∷◌, ◌++◌, length, lit<, refl, sym, ap, ◌∙◌, arith, subst}
-use Rattle.std.proofs.Common.{◌⊎◌, ⊎_elim, inl, inr, Result, Ok, Err, IsErr, Option}
-use Rattle.std.specs.Prelude.{codes, decimal, slice_index}
-use Rattle.std.proofs.lemmas.List.{append-nil}
-use Rattle.std.proofs.lemmas.Bool.Decides.{nat_tests}
-use Rattle.am_base.specs.Most.{most_number, most_body}
-use Rattle.am_base.specs.Names.{name_at}
-use Rattle.am_base.specs.Founding.{Rules}
-use Rattle.am_base.specs.declared.entry.Entry.{Entry}
-use Rattle.am_base.specs.declared.outcome.Outcome.{Outcome}
-use Rattle.am_base.specs.declared.outcome.Outcome.TheVariants as said
-use Rattle.am_packet.specs.Laws.{IsBytes}
-use Rattle.am_group.specs.declared.event.Act.{Act}
-use Rattle.am_group.specs.declared.event.Act.TheVariants as acts
-use Rattle.am_fields.specs.declared.fault.FieldFault.{FieldFault}
-use Rattle.am_fields.specs.declared.fault.FieldFault.TheVariants.{Form}
-use Rattle.am_fields.specs.Fields.{same, and_then, number_up_to, number_of}
-use Rattle.am_play.specs.Text.{body_text, entry_text, outcome_word, numbers_text, outcome_numbers, outcome_parts, outcome_text, act_word, act_parts}
-use Rattle.am_audit.specs.declared.outline.Outline.{Outline}
-use Rattle.am_audit.specs.Fields.{with_rest, two_of, expect, is_body, outline_of, told_number, send_of, answer_of, take_of, return_of}
-use Rattle.am_audit.specs.Lines.{Reading, with_send, with_answer, with_take, with_return, counted}
-use Rattle.am_printed.proofs.Printed.{number_again}
-use Rattle.am_printed.proofs.Words.{IsWord, decimal_word, word_cut, word_whole, body_again}
-use Rattle.am_audited.specs.Texts.{queued_as, send_in, sent_as, answer_in, took_as, take_in}
-use Rattle.am_headline.specs.Records.{returned_as, names_after, HasLife}
+use Rattle.am_audited.proofs.Words.{◌≡◌, ℕ, ◌<◌, ◌≤◌, ◌==◌, ◌&&◌, true, false, cond, List, [], ◌∷◌, ◌++◌, length, lit<, refl, sym, ap, ◌∙◌, arith, subst}
+use Rattle.am_audited.proofs.Words.{◌⊎◌, ⊎_elim, inl, inr, Result, Ok, Err, IsErr, Option, codes, decimal, slice_index, append-nil, nat_tests, most_number}
+use Rattle.am_audited.proofs.Words.{most_body, name_at, Rules, Entry, Outcome, IsBytes, Act, FieldFault, Form, same, and_then, number_up_to, number_of}
+use Rattle.am_audited.proofs.Words.{body_text, entry_text, outcome_word, numbers_text, outcome_numbers, outcome_parts, outcome_text, act_word, act_parts}
+use Rattle.am_audited.proofs.Words.{Outline, with_rest, two_of, expect, is_body, outline_of, told_number, send_of, answer_of, take_of, return_of, Reading}
+use Rattle.am_audited.proofs.Words.{with_send, with_answer, with_take, with_return, counted, number_again, IsWord, decimal_word, word_cut, word_whole}
+use Rattle.am_audited.proofs.Words.{body_again, queued_as, send_in, sent_as, answer_in, took_as, take_in, returned_as, names_after, HasLife}
 use Rattle.am_audited.proofs.Chars.{outcome_is_word}
+use Rattle.am_base.specs.declared.outcome.Outcome.TheVariants as said
+use Rattle.am_group.specs.declared.event.Act.TheVariants as acts
 
 -- ---- words and what stands behind them
 

@@ -1,37 +1,16 @@
 -- The text of records, a list and logs is read line by line.
-use Rattle.std.proofs.Common.{◌≡◌, ℕ, ◌+◌, ◌<◌, ◌≤◌, ◌==◌, ◌&&◌, Bool, true, false, cond, List, [], ◌∷◌, ◌++◌, length, lit<, refl, sym, ap, ◌∙◌, arith}
-use Rattle.std.proofs.Common.{Result, Ok, Err, Option, Some, None, append_assoc, length-append}
-use Rattle.std.specs.Prelude.{codes, decimal}
-use Rattle.std.specs.List.{flat_map}
-use Rattle.std.specs.Cmp.Lexicographic.{same_text}
-use Rattle.std.proofs.lemmas.List.{append-nil}
-use Rattle.std.proofs.lemmas.Bool.Decides.{nat_tests}
-use Rattle.am_base.specs.Most.{most_number}
-use Rattle.am_base.specs.Names.{place_of}
-use Rattle.am_base.specs.Founding.{Rules}
-use Rattle.am_base.specs.declared.entry.Entry.{Entry}
-use Rattle.am_base.proofs.Greatest.{split}
-use Rattle.am_group.specs.declared.event.Record.{Record}
-use Rattle.am_fields.specs.declared.fault.FieldFault.{FieldFault}
-use Rattle.am_fields.specs.declared.fault.FieldFault.TheVariants.{Form}
-use Rattle.am_fields.specs.Fields.{same, and_then, number_up_to, number_of, parts_of}
-use Rattle.am_play.specs.Text.{name_text, entry_text, outcome_text, act_word, act_parts, event_text, letters_text, record_line, lines_from}
-use Rattle.am_play.specs.Text.{group_line, group_from, log_line, empty_log_line, log_text, logs_text, mark_line}
-use Rattle.am_texts.specs.Schedules.{IsOfBytes}
-use Rattle.am_audit.specs.declared.line.Stage.{Stage}
-use Rattle.am_audit.specs.declared.line.Stage.TheVariants as stages
-use Rattle.am_audit.specs.Fields.{two_of}
-use Rattle.am_audit.specs.Lines.{Line, Reading, may_event, may_list, may_log, counted, mark_cut, with_event, add_event, add_entry, logged, add_log}
-use Rattle.am_audit.specs.Lines.{add_void, add_line, read_lines}
-use Rattle.am_audit.specs.Agreement.{IsLine}
-use Rattle.am_audit.proofs.Texts.{line_taken}
-use Rattle.am_audit.proofs.Beginnings.{line_cut}
-use Rattle.am_printed.proofs.Printed.{number_again, name_again}
-use Rattle.am_printed.proofs.Words.{decimal_word, name_word, word_plain}
-use Rattle.am_audited.specs.Texts.{log_in}
+use Rattle.am_audited.proofs.Words.{◌≡◌, ℕ, ◌+◌, ◌<◌, ◌≤◌, ◌==◌, ◌&&◌, Bool, true, false, cond, List, [], ◌∷◌, ◌++◌, length, lit<, refl, sym, ap, ◌∙◌, arith}
+use Rattle.am_audited.proofs.Words.{Ok, Err, Option, Some, None, append_assoc, length-append, codes, decimal, flat_map, same_text, append-nil}
+use Rattle.am_audited.proofs.Words.{nat_tests, most_number, place_of, Rules, Entry, split, Record, Form, same, and_then, number_up_to, number_of}
+use Rattle.am_audited.proofs.Words.{parts_of, name_text, entry_text, outcome_text, act_word, act_parts, event_text, letters_text, record_line, lines_from}
+use Rattle.am_audited.proofs.Words.{group_line, group_from, log_line, empty_log_line, log_text, logs_text, mark_line, IsOfBytes, Stage, two_of, Line}
+use Rattle.am_audited.proofs.Words.{Reading, may_event, may_list, may_log, counted, mark_cut, with_event, add_event, add_entry, logged, add_log, add_void}
+use Rattle.am_audited.proofs.Words.{add_line, read_lines, IsLine, line_taken, line_cut, number_again, name_again, decimal_word, name_word, word_plain}
+use Rattle.am_audited.proofs.Words.{log_in}
 use Rattle.am_audited.proofs.Chars.{HasBytes, entry_plain, GivesBytes, outcome_plain, act_is_word, event_plain, plain_line, lines, letters_line}
 use Rattle.am_audited.proofs.Chars.{letters_behind, colon_ends, bar_ends}
-use Rattle.am_audited.proofs.Outcomes.{two_words, IsReadAs, after_event, IsCounted, event_counts}
+use Rattle.am_audited.proofs.{Outcomes.two_words, Outcomes.IsReadAs, Outcomes.after_event, Outcomes.IsCounted, Outcomes.event_counts}
+use Rattle.am_audit.specs.declared.line.Stage.TheVariants as stages
 
 -- ---- one line
 
@@ -175,9 +154,6 @@ with_entry s text = record s { stage = stages.List; group = s.group ++ text ∷ 
 abbrev entry_line : Rules → ℕ → Entry → List ℕ
 entry_line rules number entry = codes "group " ++ (decimal number ++ (codes " " ++ entry_text rules entry))
 
-entry_by : (s : Reading) (text : List ℕ) (b : Bool) → b ≡ true → cond b (Ok (with_entry s text)) (Err Form) ≡ Ok (with_entry s text)
-entry_by s text b is = ap (λ c. cond c (Ok (with_entry s text)) (Err Form)) is
-
 entry_added : (rules : Rules) (s : Reading) (number : ℕ) (entry : Entry) → IsListed rules entry → may_list s.stage ≡ true → number ≡ length s.group + 1
     → number ≤ most_number → add_line s (entry_line rules number entry) ≡ Ok (with_entry s (entry_text rules entry))
 unfolding add_line add_entry
@@ -231,9 +207,6 @@ line_for rules name given = record { name = name; number = given.0; text = entry
 
 abbrev given_line : Rules → ℕ → ℕ × Entry → List ℕ
 given_line rules name given = codes "log " ++ (name_text name ++ (codes " " ++ (decimal given.0 ++ (codes " " ++ entry_text rules given.1))))
-
-logged_by : (s : Reading) (r : Result Reading FieldFault) (b : Bool) → b ≡ true → cond b r (Err Form) ≡ r
-logged_by s r b is = ap (λ c. cond c r (Err Form)) is
 
 given_added : (rules : Rules) (s : Reading) (name : ℕ) (given : ℕ × Entry) → name < 256 → IsGiven rules given → may_log s.stage ≡ true
     → add_line s (given_line rules name given) ≡ Ok (with_log s (line_for rules name given ∷ []))

@@ -1,44 +1,16 @@
 -- The text of a run is read as its records, its list and its logs.
-use Rattle.std.proofs.Common.{◌≡◌, ℕ, zero, suc, ◌+◌, ◌*◌, ◌/◌, ◌%◌, ◌≤◌, ◌==◌, if◌then◌else◌, List, [], ◌∷◌, ◌++◌, length, map, refl, sym, ap, ◌∙◌, arith}
-use Rattle.std.proofs.Common.{subst}
-use Rattle.std.proofs.Common.{Ok, Option, Some, None}
-use Rattle.std.specs.Prelude.{All}
-use Rattle.std.specs.List.{flat_map, range_with_len}
-use Rattle.std.proofs.lemmas.List.Elements.{All-head, All-tail}
-use Rattle.am_base.specs.Most.{most_number}
-use Rattle.am_base.specs.Founding.{Rules}
-use Rattle.am_base.specs.declared.entry.Entry.{Entry}
-use Rattle.am_base.specs.declared.outcome.Outcome.{Outcome}
-use Rattle.am_base.specs.declared.outcome.Outcome.TheVariants as said
-use Rattle.am_base.proofs.Greatest.{split}
-use Rattle.am_group.specs.declared.event.Act.{Act}
-use Rattle.am_group.specs.declared.event.Act.TheVariants as acts
-use Rattle.am_group.specs.declared.event.Event.{Event}
-use Rattle.am_group.specs.declared.event.Record.{Record}
-use Rattle.am_group.specs.Deliveries.{name_of, taken_in, given_to, deliveries}
-use Rattle.am_model.specs.Node.{founders_view, has_log}
-use Rattle.am_play.specs.World.{Decided, World, happens, happen, run}
-use Rattle.am_play.specs.Group.{logs}
-use Rattle.am_play.specs.Lawful.{Watch, watch_start, watch, watch_all, watch_run, greatest_complete, is_lawful, broken_now}
-use Rattle.am_play.specs.Play.{text_of}
-use Rattle.am_play.specs.Text.{play_text}
-use Rattle.am_play.proofs.Runs.{watched_is_run, one_record_each}
-use Rattle.am_play.proofs.Beginnings.{runs_begin}
-use Rattle.am_texts.specs.Schedules.{IsOfBytes}
-use Rattle.am_audit.specs.Lines.{Reading, read_text}
-use Rattle.am_laws.specs.Bytes.{IsShort}
-use Rattle.am_laws.proofs.RunCounts.{numbers_hold}
-use Rattle.am_headline.specs.Records.{IsSayable, AsksBytes, IsAnswer, IsBack, IsSound, LivesTold}
-use Rattle.am_headline.proofs.Lives.{lives_are_told}
-use Rattle.am_headline.proofs.Sound.{records_are_sound}
-use Rattle.am_headline.specs.Resiliences.{IsRaised, GivesRaised, GaveRaised}
-use Rattle.am_headline.proofs.RaisedRuns.{resiliences_hold}
-use Rattle.am_audited.specs.Texts.{reading_of}
-use Rattle.am_audited.proofs.Chars.{GivesBytes}
-use Rattle.am_audited.proofs.Outcomes.{IsQueued, IsAnswered, IsTaken, IsCounted}
+use Rattle.am_audited.proofs.Words.{◌≡◌, ℕ, zero, suc, ◌+◌, ◌*◌, ◌/◌, ◌%◌, ◌≤◌, ◌==◌, if◌then◌else◌, List, [], ◌∷◌, ◌++◌, length, map, refl, sym, ap, ◌∙◌}
+use Rattle.am_audited.proofs.Words.{arith, subst, Ok, Option, Some, None, All, flat_map, range_with_len, All-head, All-tail, most_number, Rules, Entry}
+use Rattle.am_audited.proofs.Words.{Outcome, split, Act, Event, Record, name_of, taken_in, given_to, deliveries, founders_view, has_log, Decided, World}
+use Rattle.am_audited.proofs.Words.{happens, happen, run, logs, Watch, watch_start, watch, watch_all, watch_run, greatest_complete, is_lawful, broken_now}
+use Rattle.am_audited.proofs.Words.{text_of, play_text, watched_is_run, one_record_each, runs_begin, IsOfBytes, Reading, read_text, IsShort, numbers_hold}
+use Rattle.am_audited.proofs.Words.{IsSayable, AsksBytes, IsAnswer, IsBack, IsSound, LivesTold, lives_are_told, records_are_sound, IsRaised, GivesRaised}
+use Rattle.am_audited.proofs.Words.{GaveRaised, resiliences_hold, reading_of}
 use Rattle.am_audited.proofs.Reading.{IsShown, AreShown, IsListed, AreListed, AreGiven, AreLogs, IsMark}
-use Rattle.am_audited.proofs.Whole.{IsPrinted, read_as, text_read}
-use Rattle.am_audited.proofs.Entries.{has_bytes, is_read}
+use Rattle.am_audited.proofs.{Chars.GivesBytes, Outcomes.IsQueued, Outcomes.IsAnswered, Outcomes.IsTaken, Outcomes.IsCounted, Whole.IsPrinted, Whole.read_as}
+use Rattle.am_audited.proofs.{Whole.text_read, Entries.has_bytes, Entries.is_read}
+use Rattle.am_base.specs.declared.outcome.Outcome.TheVariants as said
+use Rattle.am_group.specs.declared.event.Act.TheVariants as acts
 
 -- ---- records
 
@@ -139,11 +111,6 @@ all_logs rules w given = logs_from rules w 0 256 (omega arith) given
 MarkUpTo : ℕ → Option ℕ → Type 0
 MarkUpTo most None = Unit {0}
 MarkUpTo most (Some number) = number ≤ most
-
-mark_more : (most : ℕ) (broken : Option ℕ) → MarkUpTo most broken → MarkUpTo (most + 1) broken
-unfolding MarkUpTo
-mark_more most None h = tt
-mark_more most (Some number) h = omega arith
 
 marked_now : (w : World) (v : Decided) (count : ℕ) (broken : Option ℕ) → MarkUpTo count broken → MarkUpTo (count + 1) (broken_now w v (count + 1) broken)
 unfolding MarkUpTo

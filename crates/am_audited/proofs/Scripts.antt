@@ -1,35 +1,13 @@
 -- A line that begins with a brace before a run's text is passed over, as what was done in a race is as a script.
-use Rattle.std.proofs.Common.{◌≡◌, ℕ, ◌+◌, ◌==◌, ◌&&◌, Bool, true, false, cond, List, [], ◌∷◌, ◌++◌, length, refl, sym, ap, ◌∙◌, Result, Ok, Err, Option}
-use Rattle.std.specs.Prelude.{codes, decimal, slice_index}
-use Rattle.std.specs.List.{flat_map}
-use Rattle.std.proofs.lemmas.List.Elements.{All-head, All-tail}
-use Rattle.am_base.specs.Founding.{Rules}
-use Rattle.am_base.specs.Names.{place_of, life_of}
-use Rattle.am_group.specs.declared.event.Act.{Act}
+use Rattle.am_audited.proofs.Words.{◌≡◌, ℕ, ◌+◌, ◌==◌, ◌&&◌, Bool, true, false, cond, List, [], ◌∷◌, ◌++◌, length, refl, sym, ap, ◌∙◌, Result, Ok, Err}
+use Rattle.am_audited.proofs.Words.{Option, codes, decimal, slice_index, flat_map, All-head, All-tail, Rules, place_of, life_of, Act, Event, FieldFault}
+use Rattle.am_audited.proofs.Words.{cut_of, parts_of, newline, hex_byte, act_word, names_text, life_json, resilience_json, body_json, keys_before}
+use Rattle.am_audited.proofs.Words.{keys_behind, word_json, event_json, others_json, list_json, events_json, founders_json, numbers_json, script_text}
+use Rattle.am_audited.proofs.Words.{IsOfBytes, AreOfBytes, Reading, nothing_read, is_end, add_line, read_on, read_lines, read_behind, read_text, IsLine}
+use Rattle.am_audited.proofs.Words.{line_cut, decimal_word, names_word, word_plain, hex_word, Entry, founders_view, World, logs, Watch, watch_run}
+use Rattle.am_audited.proofs.Words.{watched_text, text_of, play_text, watched_is_run, reading_of, ScriptsArePassedOver}
+use Rattle.am_audited.proofs.{Chars.plain_line, Chars.lines, Chars.act_is_word, Runs.group_begins, Whole.no_brace}
 use Rattle.am_group.specs.declared.event.Act.TheVariants as acts
-use Rattle.am_group.specs.declared.event.Event.{Event}
-use Rattle.am_fields.specs.declared.fault.FieldFault.{FieldFault}
-use Rattle.am_fields.specs.Fields.{cut_of, parts_of}
-use Rattle.am_play.specs.Text.{newline, hex_byte, act_word, names_text}
-use Rattle.am_texts.specs.Schedules.{life_json, resilience_json, body_json, keys_before, keys_behind, word_json, event_json, others_json, list_json, events_json}
-use Rattle.am_texts.specs.Schedules.{founders_json, numbers_json, script_text, IsOfBytes, AreOfBytes}
-use Rattle.am_audit.specs.Lines.{Reading, nothing_read, is_end, add_line, read_on, read_lines, read_behind, read_text}
-use Rattle.am_audit.specs.Agreement.{IsLine}
-use Rattle.am_audit.proofs.Beginnings.{line_cut}
-use Rattle.am_printed.proofs.Words.{decimal_word, names_word, word_plain, hex_word}
-use Rattle.am_base.specs.declared.entry.Entry.{Entry}
-use Rattle.am_model.specs.Node.{founders_view}
-use Rattle.am_play.specs.World.{World}
-use Rattle.am_play.specs.Group.{logs}
-use Rattle.am_play.specs.Lawful.{Watch, watch_run}
-use Rattle.am_play.specs.Play.{watched_text, text_of}
-use Rattle.am_play.specs.Text.{play_text}
-use Rattle.am_play.proofs.Runs.{watched_is_run}
-use Rattle.am_audited.specs.Texts.{reading_of}
-use Rattle.am_audited.specs.Claims.{ScriptsArePassedOver}
-use Rattle.am_audited.proofs.Chars.{plain_line, lines, act_is_word}
-use Rattle.am_audited.proofs.Runs.{group_begins}
-use Rattle.am_audited.proofs.Whole.{no_brace}
 
 -- ---- what a script is written of
 

@@ -1,35 +1,15 @@
 -- The sends of a run are as the list has them, and its answers, as they are read.
-use Rattle.std.proofs.Common.{◌≡◌, ℕ, zero, suc, ◌+◌, ◌==◌, Bool, true, false, if◌then◌else◌, List, [], ◌∷◌, ◌++◌, length, map, unwrap_or}
-use Rattle.std.proofs.Common.{refl, sym, ap, ◌∙◌, arith, Option, Some, None, slice_get}
-use Rattle.std.proofs.lemmas.List.{map-append}
-use Rattle.std.specs.Prelude.{All}
-use Rattle.std.specs.List.{range_with_len}
-use Rattle.std.proofs.lemmas.Bool.{and_from}
-use Rattle.std.proofs.lemmas.Bool.Decides.{nat_tests}
-use Rattle.std.proofs.lemmas.List.Elements.{All-head, All-tail}
-use Rattle.am_base.specs.Founding.{Rules}
-use Rattle.am_base.specs.declared.entry.Entry.{Entry}
+use Rattle.am_audited.proofs.Words.{◌≡◌, ℕ, zero, suc, ◌+◌, ◌==◌, Bool, true, false, if◌then◌else◌, List, [], ◌∷◌, ◌++◌, length, map, unwrap_or, refl, sym}
+use Rattle.am_audited.proofs.Words.{ap, ◌∙◌, arith, Option, Some, None, slice_get, map-append, All, range_with_len, and_from, nat_tests, All-head, All-tail}
+use Rattle.am_audited.proofs.Words.{Rules, Entry, Outcome, split, Act, Record, name_of, entry_text, Accepted, sent_in, accepted_sends, StandsOnce, Answer}
+use Rattle.am_audited.proofs.Words.{data_in, is_send, Line, or_else, last_of, once_more, stands, is_at, first_lost, first_skipped, lines_of, count_of}
+use Rattle.am_audited.proofs.Words.{IsSayable, IsAnswer, IsSound, queued_in, queued_by, requests_given, send_in, sends_of, answer_in, answers_of, texts_of}
+use Rattle.am_audited.proofs.{Entries.is_of, Logs.send_test, Logs.is_data}
 use Rattle.am_base.specs.declared.entry.Entry.TheVariants as entries
-use Rattle.am_base.specs.declared.outcome.Outcome.{Outcome}
 use Rattle.am_base.specs.declared.outcome.Outcome.TheVariants as said
-use Rattle.am_base.proofs.Greatest.{split}
-use Rattle.am_group.specs.declared.event.Act.{Act}
 use Rattle.am_group.specs.declared.event.Act.TheVariants as acts
-use Rattle.am_group.specs.declared.event.Record.{Record}
-use Rattle.am_group.specs.Deliveries.{name_of}
-use Rattle.am_play.specs.Text.{entry_text}
-use Rattle.am_play.specs.Group.{Accepted, sent_in, accepted_sends}
-use Rattle.am_play.specs.Claims.{StandsOnce}
-use Rattle.am_audit.specs.declared.line.Answer.{Answer}
 use Rattle.am_audit.specs.declared.verdict.Verdict.TheVariants as verdicts
-use Rattle.am_audit.specs.Fields.{data_in, is_send}
-use Rattle.am_audit.specs.Lines.{Line}
-use Rattle.am_audit.specs.Verdicts.{or_else, last_of, once_more, stands, is_at, first_lost, first_skipped}
-use Rattle.am_audit.specs.Verdicts.{lines_of, count_of}
-use Rattle.am_headline.specs.Records.{IsSayable, IsAnswer, IsSound, queued_in, queued_by, requests_given}
-use Rattle.am_audited.specs.Texts.{send_in, sends_of, answer_in, answers_of, texts_of}
-use Rattle.am_audited.proofs.Entries.{is_of}
-use Rattle.am_audited.proofs.Logs.{send_test, is_data}
+use Rattle.am_group.proofs.Places.{get_behind}
 
 -- ---- where a send stands
 
@@ -112,12 +92,7 @@ AcceptedOnce group accepted = (k : ℕ) (s : Accepted) → slice_get accepted k 
 answered_once : (group : List Entry) (name : ℕ) (act : Act) (outcome : Outcome) (rest : List Accepted) → AcceptedOnce group (sent_in name outcome ++ rest)
     → AllOnce group (answer_in name act outcome)
 answered_once group name (acts.Done asked) (said.Sent req number) rest once = (once 0 (record { name = name; req = req; number = number }) refl, tt)
-answered_once group name (acts.Done asked) _ rest once = tt
-answered_once group name _ outcome rest once = tt
-
-pub get_behind : {A : Type 0} (xs ys : List A) (k : ℕ) → slice_get (xs ++ ys) (length xs + k) ≡ slice_get ys k
-get_behind [] ys k = ap (slice_get ys) (omega arith)
-get_behind (x ∷ xs) ys k = let same : length (x ∷ xs) + k ≡ suc (length xs + k) = omega arith in ap (slice_get (x ∷ xs ++ ys)) same ∙ get_behind xs ys k
+answered_once group name _ _ rest once = tt
 
 pub answers_once : (group : List Entry) (records : List Record) → AcceptedOnce group (accepted_sends records) → AllOnce group (answers_of records)
 answers_once group [] once = tt

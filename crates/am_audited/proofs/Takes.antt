@@ -1,35 +1,14 @@
 -- Each name's log is what it took, as they are read.
-use Rattle.std.proofs.Common.{◌≡◌, ℕ, zero, suc, ◌+◌, ◌*◌, ◌/◌, ◌%◌, ◌<◌, ◌≤◌, ◌==◌, nat_lt, Bool, true, false, if◌then◌else◌, List, [], ◌∷◌, ◌++◌, length}
-use Rattle.std.proofs.Common.{refl, sym, ap, ap₂, ◌∙◌, arith, subst, Some, None, slice_get, append-nil, append_assoc, length-append}
-use Rattle.std.specs.Prelude.{All}
-use Rattle.std.proofs.lemmas.Grind.{flat_map-append}
-use Rattle.std.proofs.lemmas.List.{map-append}
-use Rattle.std.proofs.lemmas.Bool.{and_from}
-use Rattle.std.proofs.lemmas.Bool.Decides.{nat_tests}
-use Rattle.std.proofs.lemmas.List.Elements.{All-head, All-tail}
-use Rattle.am_base.specs.Founding.{Rules}
-use Rattle.am_base.specs.declared.entry.Entry.{Entry}
-use Rattle.am_base.specs.declared.outcome.Outcome.{Outcome}
+use Rattle.am_audited.proofs.Words.{◌≡◌, ℕ, zero, suc, ◌+◌, ◌*◌, ◌/◌, ◌%◌, ◌<◌, ◌≤◌, ◌==◌, nat_lt, Bool, true, false, if◌then◌else◌, List, [], ◌∷◌, ◌++◌}
+use Rattle.am_audited.proofs.Words.{length, refl, sym, ap, ap₂, ◌∙◌, arith, subst, Some, None, slice_get, append-nil, append_assoc, length-append, All}
+use Rattle.am_audited.proofs.Words.{flat_map-append, map-append, and_from, nat_tests, All-head, All-tail, Rules, Entry, Outcome, split, Act, Record, name_of}
+use Rattle.am_audited.proofs.Words.{taken_in, given_to, deliveries, same, has_log, entry_text, World, logs, Line, or_else, lines_of, count_of, is_line}
+use Rattle.am_audited.proofs.Words.{first_unlogged, first_untaken, count_is_length, IsAnswer, IsSound, take_in, takes_of, log_in, logs_in}
+use Rattle.am_audited.proofs.{Outcomes.same_self, Sends.filter_more, Logs.by_rank, Logs.log_of, Logs.logs_of}
 use Rattle.am_base.specs.declared.outcome.Outcome.TheVariants as said
-use Rattle.am_base.proofs.Greatest.{split}
-use Rattle.am_group.specs.declared.event.Act.{Act}
 use Rattle.am_group.specs.declared.event.Act.TheVariants as acts
-use Rattle.am_group.specs.declared.event.Record.{Record}
-use Rattle.am_group.specs.Deliveries.{name_of, taken_in, given_to, deliveries}
-use Rattle.am_fields.specs.Fields.{same}
-use Rattle.am_model.specs.Node.{has_log}
-use Rattle.am_play.specs.Text.{entry_text}
-use Rattle.am_play.specs.World.{World}
-use Rattle.am_play.specs.Group.{logs}
 use Rattle.am_audit.specs.declared.verdict.Verdict.TheVariants as verdicts
-use Rattle.am_audit.specs.Lines.{Line}
-use Rattle.am_audit.specs.Verdicts.{or_else, lines_of, count_of, is_line, first_unlogged, first_untaken}
-use Rattle.am_audit.proofs.Segments.{count_is_length}
-use Rattle.am_headline.specs.Records.{IsAnswer, IsSound}
-use Rattle.am_audited.specs.Texts.{take_in, takes_of, log_in, logs_in}
-use Rattle.am_audited.proofs.Outcomes.{same_self}
-use Rattle.am_audited.proofs.Sends.{filter_more, get_behind}
-use Rattle.am_audited.proofs.Logs.{by_rank, log_of, logs_of}
+use Rattle.am_group.proofs.Places.{get_behind}
 
 -- ---- as many lines
 

@@ -1,22 +1,12 @@
 -- The text of records, a list and logs is read as these.
-use Rattle.std.proofs.Common.{◌≡◌, ℕ, ◌+◌, ◌≤◌, ◌==◌, true, false, cond, List, [], ◌∷◌, ◌++◌, length, refl, sym, ap, ◌∙◌, arith, Ok}
-use Rattle.std.proofs.Common.{Option, append_assoc, zero-add}
-use Rattle.std.specs.Prelude.{slice_index}
-use Rattle.std.specs.Fmt.{digits}
-use Rattle.std.proofs.lemmas.List.{append-nil}
-use Rattle.am_base.specs.Most.{most_number}
-use Rattle.am_base.specs.Names.{place_of}
-use Rattle.am_base.specs.Founding.{Rules}
-use Rattle.am_base.specs.declared.entry.Entry.{Entry}
-use Rattle.am_group.specs.declared.event.Record.{Record}
-use Rattle.am_fields.specs.Fields.{cut_of, parts_of}
-use Rattle.am_play.specs.Text.{entry_text, record_line, records_text, group_line, group_from, group_text, logs_text, mark_line, play_text}
+use Rattle.am_audited.proofs.Words.{◌≡◌, ℕ, ◌+◌, ◌≤◌, ◌==◌, true, false, cond, List, [], ◌∷◌, ◌++◌, length, refl, sym, ap, ◌∙◌, arith, Ok, Option}
+use Rattle.am_audited.proofs.Words.{append_assoc, zero-add, slice_index, digits, append-nil, most_number, place_of, Rules, Entry, Record, cut_of, parts_of}
+use Rattle.am_audited.proofs.Words.{entry_text, record_line, records_text, group_line, group_from, group_text, logs_text, mark_line, play_text, Reading}
+use Rattle.am_audited.proofs.Words.{nothing_read, may_log, read_lines, read_behind, read_text, send_in, answer_in, take_in, sends_of, answers_of, takes_of}
+use Rattle.am_audited.proofs.Words.{texts_of, log_in, logs_in, names_told, AreTold, first_names}
+use Rattle.am_audited.proofs.Reading.{after_record, after_records, AreShown, records_read, AreListed, with_entries, group_read, with_given, after_logs}
+use Rattle.am_audited.proofs.Reading.{AreLogs, all_read, ended, IsMark, end_read}
 use Rattle.am_audit.specs.declared.line.Stage.TheVariants as stages
-use Rattle.am_audit.specs.Lines.{Reading, nothing_read, may_log, read_lines, read_behind, read_text}
-use Rattle.am_audited.specs.Texts.{send_in, answer_in, take_in, sends_of, answers_of, takes_of, texts_of, log_in, logs_in}
-use Rattle.am_headline.specs.Records.{names_told, AreTold, first_names}
-use Rattle.am_audited.proofs.Reading.{after_record, after_records, AreShown, records_read, AreListed, with_entries, group_read, with_given}
-use Rattle.am_audited.proofs.Reading.{after_logs, AreLogs, all_read, ended, IsMark, end_read}
 
 -- ---- events
 
