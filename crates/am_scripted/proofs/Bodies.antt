@@ -1,38 +1,19 @@
 -- The bodies of scripts are of bytes.
-use Rattle.std.proofs.Common.{◌≡◌, ℕ, ◌+◌, ◌/◌, List, [], ◌∷◌, length, Result, Ok, Err, Bool, true, false, is_some, ◌&&◌, nat_le, subst, All, Option, Some, None}
-use Rattle.std.specs.Option.{ok_or, option_map_or}
-use Rattle.std.proofs.lemmas.List.Elements.{All-nil, All-cons}
-use Rattle.am_base.specs.Most.{most_number, most_events, most_body, most_packet}
-use Rattle.am_base.specs.Founding.{Rules}
-use Rattle.hex.specs.Hex.{IsBytes, decode_of}
-use Rattle.hex.proofs.HexLemmas.{decode_of-ok}
+use Rattle.am_scripted.proofs.Words.{◌≡◌, ℕ, ◌+◌, ◌/◌, List, [], ◌∷◌, length, Result, Ok, Err, false, is_some, ◌&&◌, nat_le, subst, All, Option}
+use Rattle.am_scripted.proofs.Words.{Some, None, ok_or, option_map_or, All-nil, All-cons, most_number, most_events, most_body, most_packet, IsBytes}
+use Rattle.am_scripted.proofs.Words.{decode_of, decode_of-ok, items_len, as_array, as_object, Act, Event, RacePlan, ThreadPlan, Kind, Script, BadValue}
+use Rattle.am_scripted.proofs.Words.{has_only, Read, ◌>>=◌, founding_in, name_at, IsOfBytes, AreOfBytes, PlaysAreOfBytes, ThreadOfBytes, RacesAreOfBytes}
 use Rattle.serde_json.specs.Data.{Data, Items, no_items, item}
-use Rattle.serde_json.specs.Events.{items_len}
-use Rattle.serde_json.specs.Find.{as_array, as_object}
-use Rattle.am_group.specs.declared.event.Act.{Act}
-use Rattle.am_group.specs.declared.event.Act.TheVariants as act
-use Rattle.am_group.specs.declared.event.Event.{Event}
-use Rattle.am_group.specs.declared.plan.RacePlan.{RacePlan}
-use Rattle.am_group.specs.declared.plan.ThreadPlan.{ThreadPlan}
-use Rattle.am_script.specs.declared.key.Key.{Key}
-use Rattle.am_script.specs.declared.key.Key.TheVariants as key
-use Rattle.am_script.specs.declared.kind.Kind.{Kind}
 use Rattle.am_script.specs.declared.kind.Kind.TheVariants.{Send, Done, Take, Join, State, Leave, Reset, Ask, GiveUp, Stop, Tick, Hear, Cut, Return}
-use Rattle.am_script.specs.declared.script.Script.{Script}
-use Rattle.am_script.specs.declared.refusal.ScriptRefusal.TheVariants.{BadValue}
-use Rattle.am_script.specs.Keys.{has_only}
-use Rattle.am_script.specs.Refusals.{Read, ◌>>=◌}
-use Rattle.am_script.specs.Values.{value_in, text_in, number_from, number_in, number_or, flag_or, are_pairs, bytes_in, body_from}
+use Rattle.am_script.specs.Values.{value_in, text_in, number_in, number_or, flag_or, are_pairs, bytes_in, body_from}
 use Rattle.am_script.specs.Events.{keys_of, kind_in, send_in, reset_in, give_up_in, cut_in, act_in, event_as, event_from, events_from}
-use Rattle.am_script.specs.Founders.{founding_in}
-use Rattle.am_race_script.specs.Races.{is_call, call_keys_of, call_kind_in, call_as, call_from, calls_from, thread_keys, parts_of_thread, thread_from, each_thread}
-use Rattle.am_race_script.specs.Races.{threads_from, of_right_size, most_lost, most_repeated, most_turns, most_calls, calls_of, records_of, race_keys, parts_of_race}
-use Rattle.am_race_script.specs.Races.{race_from, race_document_from, race_reading}
 use Rattle.am_script.specs.Scripts.{script_of, play_keys, parts_of_play, play_from, behind, document_from, document_in, reading}
+use Rattle.am_race_script.specs.Races.{call_keys_of, call_kind_in, call_as, call_from, calls_from, thread_keys, parts_of_thread, thread_from}
+use Rattle.am_race_script.specs.Races.{each_thread, threads_from, of_right_size, most_lost, most_repeated, most_turns, most_calls, calls_of, records_of}
+use Rattle.am_race_script.specs.Races.{race_keys, parts_of_race, race_from, race_document_from, race_reading}
 use Rattle.am_script.proofs.Steps.{same_ok, ok_then, if_ok, object_ok, each_from_within}
-use Rattle.am_base.specs.Names.{name_at}
-use Rattle.am_texts.specs.Schedules.{IsOfBytes, AreOfBytes}
-use Rattle.am_scripted.specs.Bodies.{PlaysAreOfBytes, ThreadOfBytes, RacesAreOfBytes}
+use Rattle.am_group.specs.declared.event.Act.TheVariants as act
+use Rattle.am_script.specs.declared.key.Key.TheVariants as key
 
 -- ---- acts
 

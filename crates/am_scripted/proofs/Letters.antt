@@ -1,39 +1,12 @@
 -- How many letters a race sends: nine at most for each record.
-use Rattle.std.proofs.Common.{◌≡◌, ℕ, ◌+◌, ◌*◌, ◌≤◌, not, Bool, true, false, true≢false, if◌then◌else◌, List, [], ◌∷◌, ◌++◌, length, Option, Some, None}
-use Rattle.std.proofs.Common.{refl, sym, ap, ◌∙◌, subst, arith, append-nil}
-use Rattle.std.specs.Prelude.{All}
-use Rattle.std.proofs.lemmas.List.{length-append, length-map}
-use Rattle.std.proofs.lemmas.List.Concat.{flat_map-append}
-use Rattle.std.proofs.lemmas.List.Elements.{All-map}
-use Rattle.am_base.specs.Most.{most_events}
-use Rattle.am_base.specs.Founding.{MayFound}
-use Rattle.am_base.specs.Names.{place_of}
-use Rattle.am_base.specs.declared.event.NodeEvent.{NodeEvent}
+use Rattle.am_scripted.proofs.Words.{◌≡◌, ℕ, ◌+◌, ◌*◌, ◌≤◌, not, Bool, true, false, true≢false, if◌then◌else◌, List, [], ◌∷◌, ◌++◌, length, Option, Some}
+use Rattle.am_scripted.proofs.Words.{None, refl, sym, ap, ◌∙◌, subst, arith, append-nil, All, length-append, length-map, flat_map-append, All-map}
+use Rattle.am_scripted.proofs.Words.{most_events, MayFound, place_of, NodeEvent, Outcome, Letter, IsPacket, spelling, is_for, letters_of, letter_at, Act}
+use Rattle.am_scripted.proofs.Words.{Event, Record, RacePlan, Step, step, hear, few_letters, World, current, is_stopped, with_record, with_step, does_event}
+use Rattle.am_scripted.proofs.Words.{gives_up, hears_letter, stops, acts_as, happens, spelling_is_heard, BodyWithin, IsShort, letters_are_packets, Follows}
+use Rattle.am_scripted.proofs.Words.{is_of_race, IsLawful, terms_of, world_after, events_of, told_is_run, each_keeps, next_tells}
 use Rattle.am_base.specs.declared.event.NodeEvent.TheVariants as does
-use Rattle.am_base.specs.declared.outcome.Outcome.{Outcome}
-use Rattle.am_packet.specs.Boxes.{Letter}
-use Rattle.am_packet.specs.Limits.{IsPacket}
-use Rattle.am_packet.specs.Spelling.{spelling}
-use Rattle.am_group.specs.Addressed.{is_for}
-use Rattle.am_group.specs.Journals.{letters_of, letter_at}
-use Rattle.am_group.specs.declared.event.Act.{Act}
 use Rattle.am_group.specs.declared.event.Act.TheVariants as act
-use Rattle.am_group.specs.declared.event.Event.{Event}
-use Rattle.am_group.specs.declared.event.Record.{Record}
-use Rattle.am_group.specs.declared.plan.RacePlan.{RacePlan}
-use Rattle.am_model.specs.Emit.{Step}
-use Rattle.am_model.specs.Step.{step, hear}
-use Rattle.am_model.proofs.LettersHeard.{few_letters}
-use Rattle.am_play.specs.World.{World, current, is_stopped, with_record, with_step, does_event, gives_up, hears_letter, stops, acts_as, happens}
-use Rattle.am_meaning.proofs.Bytes.{spelling_is_heard}
-use Rattle.am_laws.specs.Bytes.{BodyWithin, IsShort}
-use Rattle.am_laws.proofs.RunLimits.{letters_are_packets}
-use Rattle.am_wire.specs.Seats.{Follows}
-use Rattle.am_races.specs.Lawful.{is_of_race, IsLawful, terms_of}
-use Rattle.am_races.specs.Told.{world_after}
-use Rattle.am_races.proofs.Acting.{events_of, told_is_run}
-use Rattle.am_races.proofs.Knows.{each_keeps}
-use Rattle.am_races.proofs.Legality.{next_tells}
 
 -- ---- an event
 

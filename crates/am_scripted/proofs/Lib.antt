@@ -1,3 +1,4 @@
+mod Words
 pub mod Bodies
 mod Own
 pub mod Planned

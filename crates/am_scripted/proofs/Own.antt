@@ -1,30 +1,17 @@
 -- What comes of the own act of a call that goes on: a send is queued, and a reset asks others for their votes.
-use Rattle.std.proofs.Common.{◌≡◌, ℕ, zero, suc, ◌+◌, ◌-◌, ◌==◌, ◌&&◌, not, min, max, nat_lt, nat_le, Bool, true, false, if◌then◌else◌, List, [], ◌∷◌, ◌++◌, length}
-use Rattle.std.proofs.Common.{take, drop, slice_index, slice_set, Option, Some, None, is_some, refl, sym, ap, ◌∙◌, subst, arith, get_or-set_other, true≢false}
-use Rattle.std.proofs.lemmas.Bool.Decides.{nat_tests}
-use Rattle.am_base.proofs.Greatest.{split}
-use Rattle.am_base.specs.declared.image.Vote.{Vote}
-use Rattle.am_base.specs.declared.name.Stamp.{Stamp}
-use Rattle.am_base.specs.declared.entry.Entry.TheVariants.{View}
-use Rattle.am_base.specs.declared.outcome.Outcome.{Outcome}
+use Rattle.am_scripted.proofs.Words.{◌≡◌, ℕ, zero, suc, ◌+◌, ◌-◌, ◌==◌, ◌&&◌, not, min, max, nat_lt, nat_le, Bool, true, false, if◌then◌else◌, List, [], ◌∷◌}
+use Rattle.am_scripted.proofs.Words.{◌++◌, length, take, drop, slice_index, slice_set, Option, Some, None, is_some, refl, sym, ap, ◌∙◌, subst, arith}
+use Rattle.am_scripted.proofs.Words.{get_or-set_other, true≢false, nat_tests, split, Vote, Stamp, View, Outcome, place_of, life_of, name_at, has, size}
+use Rattle.am_scripted.proofs.Words.{by_place, without_name, Letter, place_for, with_letter, letter_to, kind_of, OwnSend, Node, Ballot, top, image_of}
+use Rattle.am_scripted.proofs.Words.{members, others, name_where, those, push_entry, is_member, is_sequencer, has_room, waiting, Plan, quiet, invite_of}
+use Rattle.am_scripted.proofs.Words.{accept_of, tells_accepted, with_accept, finish, refresh_at_end, row, step, those_none, rests_at_end, send_answer}
+use Rattle.am_scripted.proofs.Words.{ballot_answer, request_in, invite_round, or_else_round, round_in}
+use Rattle.am_base.specs.Votes.{Shown, best_from, best_vote, all_names}
+use Rattle.am_model.specs.Ballots.{with_promise, next_stamp, new_ballot, own_vote, best_of, need_of, left_in, is_waited_for, Verdict, goes_on, ends}
+use Rattle.am_model.specs.Ballots.{trim_for, restart_reports, decide, verdict_plan, begin}
+use Rattle.am_model.specs.{Calls.would_emit, Calls.emit, Calls.with_queued, Calls.queue, Calls.send_row, Calls.reset_row}
 use Rattle.am_base.specs.declared.outcome.Outcome.TheVariants as said
 use Rattle.am_base.specs.declared.event.NodeEvent.TheVariants as does
-use Rattle.am_base.specs.Names.{place_of, life_of, name_at, has, size, by_place, without_name}
-use Rattle.am_base.specs.Votes.{Shown, best_from, best_vote, all_names}
-use Rattle.am_packet.specs.Boxes.{Letter, place_for, with_letter, letter_to}
-use Rattle.am_packet.specs.Kinds.{kind_of}
-use Rattle.am_state.specs.declared.sender.OwnSend.{OwnSend}
-use Rattle.am_model.specs.Node.{Node, Ballot, top, image_of, members, others, name_where, those, push_entry, is_member, is_sequencer, has_room, waiting}
-use Rattle.am_model.specs.Emit.{Plan, quiet, invite_of, accept_of, tells_accepted, with_accept, finish}
-use Rattle.am_model.specs.Refresh.{refresh_at_end}
-use Rattle.am_model.specs.Ballots.{with_promise, next_stamp, new_ballot, own_vote, best_of, need_of, left_in, is_waited_for, Verdict, goes_on, ends, trim_for}
-use Rattle.am_model.specs.Ballots.{restart_reports, decide, verdict_plan, begin}
-use Rattle.am_model.specs.Calls.{would_emit, emit, with_queued, queue, send_row, reset_row}
-use Rattle.am_model.specs.Step.{row, step}
-use Rattle.am_laws.proofs.Alone.{those_none}
-use Rattle.am_laws.proofs.Rests.{rests_at_end}
-use Rattle.am_races.specs.Answers.{send_answer, ballot_answer, request_in}
-use Rattle.am_races.specs.Ready.{invite_round, or_else_round, round_in}
 
 -- ---- a send
 

@@ -1,36 +1,23 @@
 -- What holds of the acts of a call where it holds of the planned one, and of a whole journal where it holds of its turns, too.
-use Rattle.std.proofs.Common.{◌≡◌, ℕ, zero, suc, ◌+◌, ◌-◌, ◌==◌, ◌&&◌, nat_lt, Bool, true, false, is_some, List, [], ◌∷◌, ◌++◌, length, take, drop}
-use Rattle.std.proofs.Common.{filter, Option, Some, None, slice_get, refl, sym, ap, ap₂, ◌∙◌, subst, arith, ◌⊎◌, inl, inr, append_assoc, true≢false}
-use Rattle.std.specs.Prelude.{All}
-use Rattle.std.proofs.lemmas.Bool.{and_parts}
-use Rattle.std.proofs.lemmas.Bool.Decides.{nat_tests}
-use Rattle.std.proofs.lemmas.List.Elements.{All-nil, All-cons, All-append, All-head, All-tail, All-filter}
-use Rattle.am_base.proofs.Greatest.{split}
-use Rattle.am_base.specs.declared.outcome.Outcome.{Outcome}
-use Rattle.am_group.specs.declared.event.Act.{Act}
+use Rattle.am_scripted.proofs.Words.{◌≡◌, ℕ, zero, suc, ◌+◌, ◌-◌, ◌==◌, ◌&&◌, nat_lt, Bool, true, false, is_some, List, [], ◌∷◌, ◌++◌, length, take, drop}
+use Rattle.am_scripted.proofs.Words.{filter, Option, Some, None, slice_get, refl, sym, ap, ap₂, ◌∙◌, subst, arith, ◌⊎◌, inl, inr, append_assoc, true≢false}
+use Rattle.am_scripted.proofs.Words.{All, and_parts, nat_tests, All-nil, All-cons, All-append, All-head, All-tail, All-filter, split, Outcome, Act, Record}
+use Rattle.am_scripted.proofs.Words.{RacePlan, ThreadPlan, all_get, own_answer, is_take, same_bytes, same_act, is_empty, asks, checks, is_followed}
+use Rattle.am_scripted.proofs.Words.{is_receive, is_other, is_one_call, at_one_place, first_call, are_calls, IsLegalWithTags, calls_in, calls_of, of_caller}
+use Rattle.am_scripted.proofs.Words.{is_own, is_turn_part, is_check}
+use Rattle.am_races.specs.Callers.{behind}
 use Rattle.am_group.specs.declared.event.Act.TheVariants as act
-use Rattle.am_group.specs.declared.event.Record.{Record}
-use Rattle.am_group.specs.declared.plan.RacePlan.{RacePlan}
-use Rattle.am_group.specs.declared.plan.ThreadPlan.{ThreadPlan}
-use Rattle.am_laws.proofs.Items.{all_get}
-use Rattle.am_races.specs.Answers.{own_answer, is_take}
-use Rattle.am_races.specs.Callers.{same_bytes, same_act, is_empty, asks, checks, is_followed, is_receive, is_other, is_one_call, at_one_place, first_call, behind}
-use Rattle.am_races.specs.Callers.{are_calls}
-use Rattle.am_races.specs.Legal.{IsLegalWithTags}
-use Rattle.am_races.specs.Plans.{calls_in, calls_of}
-use Rattle.am_races.specs.Tags.{of_caller, is_own, is_turn_part, is_check}
 
 -- ---- planned acts
 
 pub same_list : (xs ys : List ℕ) → same_bytes xs ys ≡ true → xs ≡ ys
 same_list [] [] h = refl
-same_list [] (y ∷ ys) h = cc
-same_list (x ∷ xs) [] h = cc
 same_list (x ∷ xs) (y ∷ ys) h =
     let parts = and_parts (x == y) (same_bytes xs ys) h in
     let first = parts.0 in
     let same : x ≡ y = grind (arith, nat_tests) in
     ap₂ (λ (z : ℕ) (zs : List ℕ). z ∷ zs) same (same_list xs ys parts.1)
+same_list _ _ h = cc
 
 -- an act like a planned one has the same answers
 same_answers : (a b : Act) (o : Outcome) → same_act a b ≡ true → own_answer a o ≡ own_answer b o
@@ -131,9 +118,8 @@ module _ (P : Act → Type 0) (Good : Record → Type 0) (kept : IsKept P Good) 
   -- ---- a caller
 
   first_and_rest : {A : Type 0} (n : ℕ) (xs : List A) → take n xs ++ drop (length (take n xs)) xs ≡ xs
-  first_and_rest zero xs = refl
-  first_and_rest (suc n) [] = refl
   first_and_rest (suc n) (x ∷ xs) = ap (λ l. x ∷ l) (first_and_rest n xs)
+  first_and_rest _ _ = refl
 
   calls_fine : (turns number : ℕ) (calls : List Act) (rs : List Record) → All P calls → All Good rs → are_calls turns number calls rs ≡ true → All IsFine rs
   unfolding are_calls

@@ -1,27 +1,9 @@
 -- The sends of a race have planned bodies.
-use Rattle.std.proofs.Common.{◌≡◌, ℕ, not, true, List, [], ◌∷◌, ◌++◌, refl, subst, ap, ⊎_elim}
-use Rattle.std.specs.Prelude.{All}
-use Rattle.std.proofs.lemmas.Bool.{and_parts}
-use Rattle.am_base.specs.declared.outcome.Outcome.{Outcome}
-use Rattle.am_base.specs.Names.{place_of}
-use Rattle.am_packet.specs.Boxes.{Letter}
-use Rattle.am_group.specs.declared.event.Act.{Act}
-use Rattle.am_group.specs.declared.event.Act.TheVariants as act
-use Rattle.am_group.specs.declared.event.By.{By}
-use Rattle.am_group.specs.declared.event.Event.{Event}
-use Rattle.am_group.specs.declared.event.Record.{Record}
-use Rattle.am_group.specs.declared.plan.RacePlan.{RacePlan}
-use Rattle.am_model.specs.Node.{Node}
-use Rattle.am_play.specs.World.{current}
-use Rattle.am_races.specs.Callers.{same_act, asks}
-use Rattle.am_races.specs.Legal.{IsLegalWithTags}
-use Rattle.am_races.specs.Plans.{calls_of}
-use Rattle.am_races.specs.Ready.{is_ready}
-use Rattle.am_races.specs.Tags.{of_call, own_of, up_to_last}
-use Rattle.am_races.specs.Told.{world_after}
-use Rattle.am_races.specs.Turns.{lost_by, is_turn_of, is_turn}
-use Rattle.am_scripted.specs.RacedBodies.{HasBody, ThreadHasBodies, RacesHavePlannedBodies}
+use Rattle.am_scripted.proofs.Words.{◌≡◌, ℕ, not, true, List, [], ◌∷◌, ◌++◌, refl, subst, ap, ⊎_elim, All, and_parts, Outcome, place_of, Letter, Act, By}
+use Rattle.am_scripted.proofs.Words.{Event, Record, RacePlan, Node, current, same_act, asks, IsLegalWithTags, calls_of, is_ready, of_call, own_of}
+use Rattle.am_scripted.proofs.Words.{up_to_last, world_after, lost_by, is_turn_of, is_turn, HasBody, ThreadHasBodies, RacesHavePlannedBodies}
 use Rattle.am_scripted.proofs.Planned.{same_list, each_is, IsKept, record_fine}
+use Rattle.am_group.specs.declared.event.Act.TheVariants as act
 
 -- a turn's act is a tick, a hearing, or gives up a name
 turn_act : (plan : RacePlan) (before knew : List Record) (m : Node) (name caller : ℕ) (a : Act) (lost : ℕ)

@@ -1,50 +1,18 @@
 -- The events of a race are within the limits of scripts.
-use Rattle.std.proofs.Common.{◌≡◌, ℕ, zero, suc, ◌+◌, ◌<◌, ◌≤◌, ◌==◌, not, true, false, true≢false, is_some, List, [], ◌∷◌, ◌++◌, length}
-use Rattle.std.proofs.Common.{Some, refl, sym, ap, ◌∙◌, subst, arith, ⊎_elim}
-use Rattle.std.specs.Prelude.{All}
-use Rattle.std.proofs.lemmas.Bool.{and_parts}
-use Rattle.std.proofs.lemmas.Bool.Decides.{nat_tests}
-use Rattle.std.proofs.lemmas.List.{length-map, length-append}
-use Rattle.std.proofs.lemmas.List.Elements.{All-map, All-weaker}
-use Rattle.std.proofs.lemmas.Option.{none-some, slice_get_within}
-use Rattle.am_base.specs.Most.{most_events, most_body}
-use Rattle.am_base.specs.Names.{place_of}
-use Rattle.am_base.specs.declared.outcome.Outcome.{Outcome}
+use Rattle.am_scripted.proofs.Words.{◌≡◌, ℕ, zero, suc, ◌+◌, ◌<◌, ◌≤◌, ◌==◌, not, true, false, true≢false, is_some, List, [], ◌∷◌, ◌++◌, length, Some, refl}
+use Rattle.am_scripted.proofs.Words.{sym, ap, ◌∙◌, subst, arith, ⊎_elim, All, and_parts, nat_tests, length-map, length-append, All-map, All-weaker}
+use Rattle.am_scripted.proofs.Words.{none-some, slice_get_within, most_events, most_body, place_of, Outcome, Letter, letters_of, letter_at, Act, Record}
+use Rattle.am_scripted.proofs.Words.{RacePlan, ThreadPlan, Node, World, current, acts_as, run, BodyWithin, NodeNumbers, numbers_hold, IsCount, ActWithin}
+use Rattle.am_scripted.proofs.Words.{EventWithin, CallWithin, ThreadWithin, RaceWithin, Follows, has_stopped, own_answer, send_answer, ballot_answer}
+use Rattle.am_scripted.proofs.Words.{request_in, same_act, asks, IsLawful, terms_of, IsLegalWithTags, calls_of, is_ready, round_in, is_turn_part, of_call}
+use Rattle.am_scripted.proofs.Words.{own_of, up_to_last, world_after, lost_by, is_waited, is_least, is_turn_of, is_turn, events_of, told_is_run, are_stopped}
+use Rattle.am_scripted.proofs.Words.{HasBody, ThreadHasBodies, RacesHaveScripts}
+use Rattle.am_races.specs.Plans.{is_call}
+use Rattle.am_scripted.proofs.{RacedBodies.races_have_planned_bodies, Letters.few_packets, Letters.few_sent, Own.send_asks, Own.reset_asks}
+use Rattle.am_scripted.proofs.{Planned.same_list, Planned.each_is, Planned.all_first, Planned.IsKept, Planned.record_fine, Told.lawful, Told.follows_before}
+use Rattle.am_scripted.proofs.{Told.acting, Told.tells_step}
 use Rattle.am_base.specs.declared.event.NodeEvent.TheVariants as does
-use Rattle.am_packet.specs.Boxes.{Letter}
-use Rattle.am_group.specs.Journals.{letters_of, letter_at}
-use Rattle.am_group.specs.declared.event.Act.{Act}
 use Rattle.am_group.specs.declared.event.Act.TheVariants as act
-use Rattle.am_group.specs.declared.event.Record.{Record}
-use Rattle.am_group.specs.declared.plan.RacePlan.{RacePlan}
-use Rattle.am_group.specs.declared.plan.ThreadPlan.{ThreadPlan}
-use Rattle.am_model.specs.Node.{Node}
-use Rattle.am_play.specs.World.{World, current, acts_as, run}
-use Rattle.am_laws.specs.Bytes.{BodyWithin}
-use Rattle.am_laws.specs.Numbers.{NodeNumbers}
-use Rattle.am_laws.proofs.RunCounts.{numbers_hold}
-use Rattle.am_script.specs.Limits.{IsCount, ActWithin, EventWithin}
-use Rattle.am_race_script.specs.Limits.{CallWithin, ThreadWithin, RaceWithin}
-use Rattle.am_wire.specs.Seats.{Follows}
-use Rattle.am_wire.specs.Stops.{has_stopped}
-use Rattle.am_races.specs.Answers.{own_answer, send_answer, ballot_answer, request_in}
-use Rattle.am_races.specs.Callers.{same_act, asks}
-use Rattle.am_races.specs.Lawful.{IsLawful, terms_of}
-use Rattle.am_races.specs.Legal.{IsLegalWithTags}
-use Rattle.am_races.specs.Plans.{is_call, calls_of}
-use Rattle.am_races.specs.Ready.{is_ready, round_in}
-use Rattle.am_races.specs.Tags.{is_turn_part, of_call, own_of, up_to_last}
-use Rattle.am_races.specs.Told.{world_after}
-use Rattle.am_races.specs.Turns.{lost_by, is_waited, is_least, is_turn_of, is_turn}
-use Rattle.am_races.proofs.Acting.{events_of, told_is_run}
-use Rattle.am_races.proofs.Names.{are_stopped}
-use Rattle.am_scripted.specs.RacedBodies.{HasBody, ThreadHasBodies}
-use Rattle.am_scripted.specs.Scripts.{RacesHaveScripts}
-use Rattle.am_scripted.proofs.RacedBodies.{races_have_planned_bodies}
-use Rattle.am_scripted.proofs.Letters.{few_packets, few_sent}
-use Rattle.am_scripted.proofs.Own.{send_asks, reset_asks}
-use Rattle.am_scripted.proofs.Planned.{same_list, each_is, all_first, IsKept, record_fine}
-use Rattle.am_scripted.proofs.Told.{lawful, follows_before, acting, tells_step}
 
 -- ---- what a call asks
 
@@ -63,14 +31,10 @@ count_is a b is h = let same : a ≡ b = grind (arith, nat_tests) in subst IsCou
 
 asks_within : (a : Act) (o : Outcome) (letters : List Letter) (b : Act) → AsksCount a o letters → asks a o letters b ≡ true → ActWithin b
 asks_within (act.Send body) o letters (act.Done req) count h = count_is req (request_in o) h count
-asks_within (act.Send body) o letters _ count h = absurd (true≢false (sym h))
 asks_within (act.Reset least resilience) o letters (act.Ask round) count h = count_is round (round_in letters) h count
-asks_within (act.Reset least resilience) o letters _ count h = absurd (true≢false (sym h))
 asks_within act.Join o letters act.State count h = tt
-asks_within act.Join o letters _ count h = absurd (true≢false (sym h))
 asks_within act.Leave o letters act.State count h = tt
-asks_within act.Leave o letters _ count h = absurd (true≢false (sym h))
-asks_within _ o letters b count h = absurd (true≢false (sym h))
+asks_within _ o letters _ count h = absurd (true≢false (sym h))
 
 -- ---- planned acts
 

@@ -1,27 +1,9 @@
 -- What a record of a race tells: the step of its name in the world of which the records before it tell.
-use Rattle.std.proofs.Common.{◌≡◌, ℕ, Bool, true, false, true≢false, if◌then◌else◌, List, [], ◌∷◌, ◌++◌, length, drop, refl, sym, ap, ◌∙◌}
-use Rattle.std.proofs.Common.{append_assoc}
-use Rattle.std.proofs.Math.Seq.{drop-append_seam}
-use Rattle.am_base.specs.Founding.{Rules}
+use Rattle.am_scripted.proofs.Words.{◌≡◌, ℕ, Bool, true, false, true≢false, if◌then◌else◌, List, [], ◌∷◌, ◌++◌, length, drop, refl, sym, ap, ◌∙◌}
+use Rattle.am_scripted.proofs.Words.{append_assoc, drop-append_seam, Rules, NodeEvent, place_of, name_at, Act, Record, RacePlan, name_of, Step, step, World}
+use Rattle.am_scripted.proofs.Words.{current, is_stopped, with_record, with_step, does_event, acts_as, happens, record_of, no_caller, with_tag, Follows}
+use Rattle.am_scripted.proofs.Words.{has_stopped, IsLawful, terms_of, IsLegalWithTags, world_after, is_turn, may_end, knows, name_now, each_is_next}
 use Rattle.am_base.specs.declared.outcome.Outcome.TheVariants as said
-use Rattle.am_base.specs.declared.event.NodeEvent.{NodeEvent}
-use Rattle.am_base.specs.Names.{place_of, name_at}
-use Rattle.am_group.specs.declared.event.Act.{Act}
-use Rattle.am_group.specs.declared.event.Record.{Record}
-use Rattle.am_group.specs.declared.plan.RacePlan.{RacePlan}
-use Rattle.am_group.specs.Deliveries.{name_of}
-use Rattle.am_model.specs.Emit.{Step}
-use Rattle.am_model.specs.Step.{step}
-use Rattle.am_play.specs.World.{World, current, is_stopped, with_record, with_step, does_event, acts_as, happens, record_of, no_caller}
-use Rattle.am_play.specs.Group.{with_tag}
-use Rattle.am_wire.specs.Seats.{Follows}
-use Rattle.am_wire.specs.Stops.{has_stopped}
-use Rattle.am_races.specs.Lawful.{IsLawful, terms_of}
-use Rattle.am_races.specs.Legal.{IsLegalWithTags}
-use Rattle.am_races.specs.Told.{world_after}
-use Rattle.am_races.specs.Turns.{is_turn, may_end}
-use Rattle.am_races.proofs.Knows.{knows, name_now}
-use Rattle.am_races.proofs.Legality.{each_is_next}
 
 -- ---- a legal journal is a lawful one
 
