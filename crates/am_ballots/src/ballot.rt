@@ -82,6 +82,7 @@ impl Best {
 
 /// A node's last ballot (docs/PROTOCOL.md, "A ballot"): its stamp, the least size and the resilience asked for, what each
 /// of the 256 names voted, who was given up, and what was last decided on it, or how it ended.
+#[derive(Drop)]
 pub struct Ballot {
     stamp: Stamp,
     least: u8,
@@ -110,20 +111,6 @@ impl Model for Ballot {
     } };
 
     ghost invariant = { λ b. is_took b.answer ≡ false };
-}
-
-impl Drop for Ballot {
-    fn drop(self) {
-        let Ballot {
-            stamp: _,
-            least: _,
-            resilience: _,
-            votes: _,
-            given_up: _,
-            answer: _,
-            is_over: _,
-        } = self;
-    }
 }
 
 impl Ballot {

@@ -120,7 +120,7 @@ impl<'a> BodyRef<'a> {
 }
 
 /// A body that stands apart from what holds it: as many bytes as there are, at most 1,024. Contracts see it as its bytes.
-#[derive(Clone, Debug)]
+#[derive(Drop, Clone, Debug)]
 pub struct SentBody(Vec<u8>);
 
 impl Model for SentBody {
@@ -132,13 +132,6 @@ impl Model for SentBody {
     ghost view = { λ b. b.0.items };
 
     ghost invariant = { λ b. length b.0.items ≤ most_body };
-}
-
-// Written out here and wherever what is let go has memory: who lets it go calls this, and proves nothing of what is in it.
-impl Drop for SentBody {
-    fn drop(self) {
-        let SentBody(_) = self;
-    }
 }
 
 impl SentBody {
@@ -186,6 +179,7 @@ impl SentBody {
 }
 
 /// The bytes of a packet: at most 1,152, and room for as many. Contracts see it as its bytes.
+#[derive(Drop)]
 pub struct PacketBytes(Vec<u8>);
 
 impl Model for PacketBytes {
@@ -197,12 +191,6 @@ impl Model for PacketBytes {
     ghost view = { λ b. b.0.items };
 
     ghost invariant = { λ b. (length b.0.items ≤ most_packet) × (most_packet ≤ vec_capacity b.0) };
-}
-
-impl Drop for PacketBytes {
-    fn drop(self) {
-        let PacketBytes(_) = self;
-    }
 }
 
 impl PacketBytes {
@@ -240,7 +228,7 @@ impl PacketBytes {
     pub fn into_bytes(self) -> Vec<u8>
         ensures { result.items ≡ self }
     {
-        let PacketBytes(mut bytes) = self;
+        let mut bytes = self.0;
         bytes.shrink_to_fit();
         bytes
     }

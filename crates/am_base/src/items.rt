@@ -4,7 +4,7 @@ use std::alloc::{AllocError, Global};
 use std::marker::Model;
 
 /// Items in order. Contracts see it as their list.
-#[derive(Debug)]
+#[derive(Drop, Debug)]
 pub struct Items<T>(Vec<T>);
 
 impl<T> Model for Items<T> {
@@ -16,12 +16,6 @@ impl<T> Model for Items<T> {
     ghost coded = { coded_list T.code };
 
     ghost view = { λ s. s.0.items };
-}
-
-impl<T: Drop> Drop for Items<T> {
-    fn drop(self) {
-        let Items(_) = self;
-    }
 }
 
 impl<T> Items<T> {
@@ -61,8 +55,7 @@ impl<T> Items<T> {
     pub fn into_vec(self) -> Vec<T>
         ensures { result.items ≡ self }
     {
-        let Items(items) = self;
-        items
+        self.0
     }
 
     /// The items.

@@ -5,6 +5,7 @@ use crate::names::Names;
 use crate::taken::TakenEntry;
 
 /// What came of a call, a tick, a hearing, or of an event of the world (docs/PROTOCOL.md, "Outcomes").
+#[derive(Drop)]
 pub enum Outcome {
     /// The send has this request number.
     Queued { req: u32 },
@@ -116,78 +117,6 @@ pub enum Outcome {
     NoLife,
     /// The place's new life.
     Returned { life: u8 },
-}
-
-impl Drop for Outcome {
-    fn drop(self) {
-        match self {
-            Outcome::Took {
-                number: _,
-                entry: _,
-            } => {}
-            Outcome::Queued { req: _ }
-            | Outcome::Busy { queued: _ }
-            | Outcome::Pending { req: _ }
-            | Outcome::Sent { req: _, number: _ }
-            | Outcome::Unknown
-            | Outcome::Empty
-            | Outcome::Asked
-            | Outcome::Joined { number: _ }
-            | Outcome::Leaving
-            | Outcome::Departed
-            | Outcome::Stranger
-            | Outcome::NotMember
-            | Outcome::Ticked
-            | Outcome::Idle
-            | Outcome::PutOff {
-                req: _,
-                base: _,
-                top: _,
-            }
-            | Outcome::Numbered { number: _ }
-            | Outcome::Again
-            | Outcome::Early { last: _ }
-            | Outcome::Held { base: _, top: _ }
-            | Outcome::Kept
-            | Outcome::Known
-            | Outcome::Stored { number: _ }
-            | Outcome::Gap { want: _ }
-            | Outcome::NoBody { from: _, req: _ }
-            | Outcome::Behind
-            | Outcome::Unfit
-            | Outcome::Advanced { acc: _ }
-            | Outcome::Noted
-            | Outcome::Accepted { acc: _ }
-            | Outcome::Served { count: _ }
-            | Outcome::Welcomed { number: _ }
-            | Outcome::LetGo { number: _ }
-            | Outcome::Elsewhere
-            | Outcome::Refused { cause: _ }
-            | Outcome::Voted
-            | Outcome::Newer { promise: _ }
-            | Outcome::Catching { want: _ }
-            | Outcome::Waiting { names: _ }
-            | Outcome::Fetching { from: _, want: _ }
-            | Outcome::TooFew { got: _, least: _ }
-            | Outcome::Crowded { base: _, top: _ }
-            | Outcome::Overtaken { by: _ }
-            | Outcome::NotIn { best: _ }
-            | Outcome::Decided {
-                number: _,
-                members: _,
-            }
-            | Outcome::NotCoordinator
-            | Outcome::Stopped
-            | Outcome::NoPacket
-            | Outcome::NotAddressed
-            | Outcome::IsStopped
-            | Outcome::NotStopped
-            | Outcome::Occupied { name: _ }
-            | Outcome::Running { life: _ }
-            | Outcome::NoLife
-            | Outcome::Returned { life: _ } => {}
-        }
-    }
 }
 
 impl Outcome {

@@ -10,6 +10,7 @@ use std::fmt;
 use std::marker::Model;
 
 /// What an entry is, with a body that stands apart.
+#[derive(Drop)]
 enum TakenParts {
     /// A send of a member: its request number, from 1, and its body.
     Data {
@@ -29,25 +30,8 @@ enum TakenParts {
     },
 }
 
-impl Drop for TakenParts {
-    fn drop(self) {
-        match self {
-            TakenParts::Data {
-                from: _,
-                req: _,
-                body: _,
-            } => {}
-            TakenParts::Join(_) | TakenParts::Leave(_) => {}
-            TakenParts::View {
-                stamp: _,
-                members: _,
-                resilience: _,
-            } => {}
-        }
-    }
-}
-
 /// An entry that was taken from a list, with as many bytes as its body has. Contracts see it as the entry.
+#[derive(Drop)]
 pub struct TakenEntry {
     parts: TakenParts,
 }
@@ -60,12 +44,6 @@ impl Model for TakenEntry {
     ghost use Rattle.am_base.specs.Entries.{taken_of};
 
     ghost view = { λ e. taken_of e.parts };
-}
-
-impl Drop for TakenEntry {
-    fn drop(self) {
-        let TakenEntry { parts: _ } = self;
-    }
 }
 
 impl fmt::Debug for TakenEntry {
@@ -101,6 +79,7 @@ impl TakenEntry {
 }
 
 /// Room for an entry whose body has at most so many bytes. Contracts see it as that number.
+#[derive(Drop)]
 pub struct EntryRoom(Vec<u8>);
 
 impl Model for EntryRoom {
@@ -111,12 +90,6 @@ impl Model for EntryRoom {
     ghost view = { λ r. vec_capacity r.0 };
 
     ghost invariant = { λ r. r.0.items ≡ [] };
-}
-
-impl Drop for EntryRoom {
-    fn drop(self) {
-        let EntryRoom(_) = self;
-    }
 }
 
 impl EntryRoom {
@@ -132,12 +105,11 @@ impl EntryRoom {
         requires { body_len entry.now ≤ self }
         ensures { result ≡ entry.now }
     {
-        let EntryRoom(room) = self;
         let parts = match entry.parts() {
             EntryParts::Data { from, req, body } => TakenParts::Data {
                 from: *from,
                 req: *req,
-                body: SentBody::in_room(room, body),
+                body: SentBody::in_room(self.0, body),
             },
             EntryParts::Join(name) => TakenParts::Join(*name),
             EntryParts::Leave(name) => TakenParts::Leave(*name),

@@ -82,8 +82,8 @@ impl Whole {
     /// What a caller waits for behind its own act.
     fn wanted(&self) -> Wanted {
         match self.world.journal().records().last() {
-            Some(record) => match &record.outcome {
-                Outcome::Queued { req } => Wanted::Settled(*req),
+            Some(record) => match record.outcome {
+                Outcome::Queued { req } => Wanted::Settled(req),
                 _ => Wanted::Call,
             },
             None => Wanted::Call,

@@ -72,7 +72,7 @@ pub fn heard_by(act: &Act) -> Option<Heard>
 pub fn keep_room(room: &mut Vec<u8>, what: NodeEvent)
     ensures heard { (bytes : List ℕ) → what ≡ does.Hear bytes → room.new.items ≡ bytes }
 {
-    if let Some(bytes) = what.into_heard() {
+    if let NodeEvent::Hear(bytes) = what {
         *room = bytes.into_vec();
     }
 }

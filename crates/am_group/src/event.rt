@@ -117,6 +117,7 @@ impl By {
 }
 
 /// One event of a run with all that came of it.
+#[derive(Drop)]
 pub struct Record {
     pub event: Event,
     /// The life of the place that acted, 1 to 16.
@@ -125,16 +126,4 @@ pub struct Record {
     pub outcome: Outcome,
     /// The letters that went out, in their order.
     pub packets: Items<Letter>,
-}
-
-impl Drop for Record {
-    fn drop(self) {
-        let Record {
-            event: _,
-            life: _,
-            by: _,
-            outcome: _,
-            packets: _,
-        } = self;
-    }
 }

@@ -18,31 +18,17 @@ use std::mem;
 const MOST_LETTERS: usize = 24;
 
 /// What an out box keeps: its letters, room for one that is alone, and rooms for the bytes of those to come.
+#[derive(Drop)]
 struct Kept {
     letters: Vec<Letter>,
     single: Vec<Letter>,
     rooms: Vec<PacketBytes>,
 }
 
-impl Drop for Kept {
-    fn drop(self) {
-        let Kept {
-            letters: _,
-            single: _,
-            rooms: _,
-        } = self;
-    }
-}
-
 /// Rooms for the letters of a step to come: as many as an earlier one left.
+#[derive(Drop)]
 pub struct Rooms {
     kept: Option<Box<Kept>>,
-}
-
-impl Drop for Rooms {
-    fn drop(self) {
-        let Rooms { kept: _ } = self;
-    }
 }
 
 impl Rooms {
@@ -53,8 +39,7 @@ impl Rooms {
 
     /// What they keep, in a place apart, which is made where there was none.
     fn into_kept(self, alloc: Global) -> Result<Box<Kept>, NoMemory> {
-        let Rooms { kept } = self;
-        match kept {
+        match self.kept {
             Some(kept) => Ok(kept),
             None => Ok(Box::new(
                 alloc,
@@ -91,6 +76,7 @@ fn has_nobody(set: Names) -> bool
 
 /// The letters of one step, at most 24. It has room for all of them from the beginning, and apart for one that is alone, as
 /// it mostly is: the large room then stays. Contracts see it as their list.
+#[derive(Drop)]
 pub struct OutBox {
     alloc: Global,
     kept: Box<Kept>,
@@ -107,12 +93,6 @@ impl Model for OutBox {
     ghost invariant = { λ b. (length b.kept.value.letters.items ≤ 24) × (24 ≤ vec_capacity b.kept.value.letters)
         × (24 ≤ length b.kept.value.letters.items + vec_len b.kept.value.rooms)
         × (b.kept.value.single.items ≡ []) × (vec_len b.kept.value.single < vec_capacity b.kept.value.single) };
-}
-
-impl Drop for OutBox {
-    fn drop(self) {
-        let OutBox { alloc: _, kept: _ } = self;
-    }
 }
 
 impl OutBox {
@@ -150,7 +130,7 @@ impl OutBox {
     pub fn into_letters(self, alloc: Global) -> (Items<Letter>, Rooms)
         ensures { result.0 ≡ self }
     {
-        let OutBox { alloc: _, mut kept } = self;
+        let mut kept = self.kept;
         let mut letters = Vec::new(alloc);
         if kept.letters.len() > 1 {
             letters = mem::replace(&mut kept.letters, letters);
@@ -170,7 +150,7 @@ impl OutBox {
         ensures items { letters.new.items ≡ letters.old.items ++ self }
         ensures capacity { vec_capacity letters.old ≤ vec_capacity letters.new }
     {
-        let OutBox { alloc: _, mut kept } = self;
+        let mut kept = self.kept;
         match letters.append(&mut kept.letters) {
             Ok(()) => {}
             Err(_) => unreachable!(),

@@ -41,17 +41,10 @@ pub struct Info {
 }
 
 /// How a ballot stands.
+#[derive(Drop)]
 pub enum BallotEnd {
     /// It isn't over; this was last decided on it.
     Going(Outcome),
     /// It ended with this.
     Ended(Outcome),
-}
-
-impl Drop for BallotEnd {
-    fn drop(self) {
-        match self {
-            BallotEnd::Going(_) | BallotEnd::Ended(_) => {}
-        }
-    }
 }

@@ -22,14 +22,9 @@ use std::alloc::{AllocError, Global};
 
 /// One node of a group. Its state is that of the protocol's node, but that it keeps only the end of its list, from the
 /// base on (docs/PROTOCOL.md, "A node").
+#[derive(Drop)]
 pub struct Node {
     parts: Parts,
-}
-
-impl Drop for Node {
-    fn drop(self) {
-        let Node { parts: _ } = self;
-    }
 }
 
 impl Node {

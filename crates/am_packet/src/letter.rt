@@ -24,7 +24,7 @@ const MOST_WITHIN: usize = 32;
 
 /// The bytes of a packet with its addressees: the names in a set, or every life of their places. Contracts see it as the
 /// packet that its bytes spell, with these addressees (docs/PROTOCOL.md, "Letters").
-#[derive(Debug)]
+#[derive(Drop, Debug)]
 pub struct Letter {
     to: Names,
     any: bool,
@@ -42,17 +42,6 @@ impl Model for Letter {
     ghost view = { λ l. record { to = l.to; any = l.any; packet = packet_in (bytes_in l.within.items (option_map (λ v. v.items) l.apart)) } };
 
     ghost invariant = { λ l. IsSpelled (bytes_in l.within.items (option_map (λ v. v.items) l.apart)) };
-}
-
-impl Drop for Letter {
-    fn drop(self) {
-        let Letter {
-            to: _,
-            any: _,
-            within: _,
-            apart: _,
-        } = self;
-    }
 }
 
 /// The bytes that stand within a letter, or apart from it.
@@ -162,6 +151,7 @@ impl Letter {
 }
 
 /// A letter in a place of fixed size, for which no memory is taken. Contracts see it as the letter.
+#[derive(Drop)]
 pub struct LetterCopy {
     to: Names,
     any: bool,
@@ -177,16 +167,6 @@ impl Model for LetterCopy {
     ghost view = { λ l. record { to = l.to; any = l.any; packet = packet_in l.bytes.items } };
 
     ghost invariant = { λ l. IsSpelled l.bytes.items };
-}
-
-impl Drop for LetterCopy {
-    fn drop(self) {
-        let LetterCopy {
-            to: _,
-            any: _,
-            bytes: _,
-        } = self;
-    }
 }
 
 impl LetterCopy {

@@ -9,6 +9,7 @@ use arrayvec::ArrayVec;
 use std::marker::Model;
 
 /// At most sixteen kept bodies, the oldest first. Contracts see it as their list.
+#[derive(Drop)]
 pub struct Pool {
     bodies: ArrayVec<KeptBody, 16>,
 }
@@ -22,12 +23,6 @@ impl Model for Pool {
     ghost view = { λ p. p.bodies.items };
 
     ghost invariant = { λ p. length p.bodies.items ≤ 16 };
-}
-
-impl Drop for Pool {
-    fn drop(self) {
-        let Pool { bodies: _ } = self;
-    }
 }
 
 impl Pool {

@@ -28,6 +28,7 @@ pub type Ring = HeapCircularBuffer<Slot, Global>;
 
 /// The end of a list, with what is told up to its base and to its top. Contracts see it as the list from the base on
 /// and the capacity (docs/PROTOCOL.md, "The list").
+#[derive(Drop)]
 pub struct History {
     base: u32,
     below: Table,
@@ -43,17 +44,6 @@ impl Model for History {
     ghost view = { λ h. record { list = list_of h.base h.below h.ring.items; capacity = h.ring.capacity } };
 
     ghost invariant = { λ h. IsRing h.base h.below h.above h.ring.items h.ring.capacity };
-}
-
-impl Drop for History {
-    fn drop(self) {
-        let History {
-            base: _,
-            below: _,
-            above: _,
-            ring: _,
-        } = self;
-    }
 }
 
 impl History {

@@ -27,6 +27,7 @@ pub struct Busy {
 }
 
 /// A node's sends that aren't collected, at most four, and the last request number that it gave out.
+#[derive(Drop)]
 pub struct Sender {
     last: u32,
     queue: ArrayVec<OwnSend, 4>,
@@ -40,12 +41,6 @@ impl Model for Sender {
     ghost view = { λ s. record { last = s.last; queue = s.queue.items } };
 
     ghost invariant = { λ s. AreKept s.last s.queue.items };
-}
-
-impl Drop for Sender {
-    fn drop(self) {
-        let Sender { last: _, queue: _ } = self;
-    }
 }
 
 /// Gives the sends of this request a number.

@@ -3,18 +3,9 @@ use am_base::items::Items;
 use am_group::event::Event;
 
 /// What the script of a play says: how a group begins, any number of events, and whether it is settled behind them.
+#[derive(Drop)]
 pub struct Script {
     pub founding: Founding,
     pub events: Items<Event>,
     pub settle: bool,
-}
-
-impl Drop for Script {
-    fn drop(self) {
-        let Script {
-            founding: _,
-            events: _,
-            settle: _,
-        } = self;
-    }
 }

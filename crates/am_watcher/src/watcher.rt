@@ -19,6 +19,7 @@ use std::alloc::Global;
 /// Watches a run: it is told each event, and says whether the run is lawful (docs/PROTOCOL.md, "Complete views and lawful
 /// runs"). It keeps the views above the greatest complete one, and looks at them only where a list's last View, who departed
 /// or who stopped changed.
+#[derive(Drop)]
 pub struct Watcher {
     names: [Standing; 256],
     stopped: Vec<Name>,
@@ -27,20 +28,6 @@ pub struct Watcher {
     complete: DecidedView,
     count: u32,
     broken: Option<u32>,
-}
-
-impl Drop for Watcher {
-    fn drop(self) {
-        let Watcher {
-            names: _,
-            stopped: _,
-            pending: _,
-            is_due: _,
-            complete: _,
-            count: _,
-            broken: _,
-        } = self;
-    }
 }
 
 /// A number that may be there is at most another.

@@ -89,6 +89,7 @@ fn has_departed(status: Status) -> bool
 /// A run of a group: sixteen places with the node of each one's current life, all packets that were sent, and the one
 /// group list. Contracts see it as its founding and the events that were done: all else is that of their run
 /// (docs/PROTOCOL.md, "Runs").
+#[derive(Drop)]
 pub struct Run {
     alloc: Global,
     nodes: Vec<Node>,
@@ -107,20 +108,6 @@ impl Model for Run {
     ghost view = { λ w. play_of w.journal.founding w.journal.records };
 
     ghost invariant = { λ w. IsRun (play_of w.journal.founding w.journal.records) w.nodes.items w.lives w.stopped w.journal.records w.group.items };
-}
-
-impl Drop for Run {
-    fn drop(self) {
-        let Run {
-            alloc: _,
-            nodes: _,
-            lives: _,
-            stopped: _,
-            journal: _,
-            group: _,
-            rooms: _,
-        } = self;
-    }
 }
 
 impl Run {
@@ -174,16 +161,7 @@ impl Run {
         ensures founding { result.founding ≡ self.rules }
         ensures records { result.records ≡ (replay self).records }
     {
-        let Run {
-            alloc: _,
-            nodes: _,
-            lives: _,
-            stopped: _,
-            journal,
-            group: _,
-            rooms: _,
-        } = self;
-        journal
+        self.journal
     }
 
     /// The group list.
@@ -280,10 +258,10 @@ impl Run {
         ensures one { OnOk result (IsOneMore self.old event.now) }
         ensures err { OnErr result (self.new ≡ self.old) }
     {
-        match &outcome {
+        match outcome {
             Outcome::Stopped => self.stop(event, name),
-            Outcome::Returned { life } => self.come_back(event, name, *life),
-            _ => self.pass(event, name, outcome),
+            Outcome::Returned { life } => self.come_back(event, name, life),
+            other => self.pass(event, name, other),
         }
     }
 
