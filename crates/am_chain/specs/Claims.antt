@@ -16,9 +16,9 @@ ChoicesKeep = (founders : List ℕ) (first resilience : ℕ) (s : Group) → Run
     → MayDecide s i members strong → Begins s.group (choice_of (s.node i) members strong).before
 
 -- what was accepted stays, and a complete view stands in each later line with all that it chose
-pub record Stands (s t : Group) : Type 0 where
+pub record DecisionsStand (s t : Group) : Type 0 where
   pub group : Begins s.group t.group
   pub views : (x : ℕ) → s.views.complete x ≡ true → Begins (opening (s.views.chosen x)) (chain_of t.views)
 
 abbrev pub CompleteViewsStand : Type 0
-CompleteViewsStand = (founders : List ℕ) (first resilience : ℕ) (s t : Group) → Run founders first resilience s → Onward s t → Stands s t
+CompleteViewsStand = (founders : List ℕ) (first resilience : ℕ) (s t : Group) → Run founders first resilience s → Onward s t → DecisionsStand s t

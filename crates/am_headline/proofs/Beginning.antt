@@ -2,7 +2,7 @@
 use Rattle.am_headline.proofs.RepairWords.{false_from_ne_true, inl, inr, ◌≡◌, ℕ, ◌<◌, true, false, length, refl, sym, ap, ◌∙◌, subst, arith, cases_lt, Image}
 use Rattle.am_headline.proofs.RepairWords.{Rules, place_of, life_of, has, members_of, members_at, image-top, Node, top, image_of, view, members, acts}
 use Rattle.am_headline.proofs.RepairWords.{is_member, stranger, has_departed, World, current, is_stopped, run, MayRepair, AllOwned, run_owned}
-use Rattle.am_headline.proofs.RepairWords.{IsAtRest, Repair, Leads, ◌≤◌, split, Follows, IsApart, IsLeaver, is_past, Calm, Agree, RepairsWhereListsAgree}
+use Rattle.am_headline.proofs.RepairWords.{IsAtRest, Repair, Leads, ◌≤◌, split, FollowsView, IsApart, IsLeaver, is_past, Calm, Agree, RepairsWhereListsAgree}
 use Rattle.am_headline.specs.Claim.{IsOut}
 use Rattle.am_model.specs.declared.status.Status.TheVariants as status
 use Rattle.am_headline.proofs.{Nodes.acting, Nodes.leading, Nodes.no_open, Going.member_there, Schedules.letter_within, Fine.Fine, Fine.IsThere}
@@ -125,7 +125,7 @@ leads_first rules w place b =
     }
 
 follows_first : (rules : Rules) (w : World) (place name : ℕ) → Begun rules w place
-    → (let q = current w place in has (members (w.nodes q)) name ≡ true → Follows (repair_of w q) (w.nodes q) (w.nodes name))
+    → (let q = current w place in has (members (w.nodes q)) name ≡ true → FollowsView (repair_of w q) (w.nodes q) (w.nodes name))
 follows_first rules w place name b there =
     let act = b.may.all_act name there in
     let g = b.agree.each name there in

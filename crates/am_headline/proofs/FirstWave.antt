@@ -4,7 +4,7 @@ use Rattle.am_headline.proofs.RepairWords.{ap, ◌∙◌, subst, arith, Contains
 use Rattle.am_headline.proofs.RepairWords.{Accept, Nack, Letter, letter_to, Event, is_for, letter_at, Node, top, image_of, view, members, only_name, report_of}
 use Rattle.am_headline.proofs.RepairWords.{report_fits, nack_of, hear, event_at, hearings, is_unknown, hears_sequencer, hears_as_sequencer, World, is_stopped}
 use Rattle.am_headline.proofs.RepairWords.{happens, happen, IsUsed, Cause, hears, IsCause, told_used, IsReport, ack, nack, request, spread, Asks}
-use Rattle.am_headline.proofs.RepairWords.{HearsFront, Repair, Leads, Follows, ReportIs, IsCalm, Calm, IsSent, Polled, Reported, Asked, hears_}
+use Rattle.am_headline.proofs.RepairWords.{HearsFront, Repair, Leads, FollowsView, ReportIs, IsCalm, Calm, IsSent, Polled, Reported, Asked, hears_}
 use Rattle.am_group.specs.declared.event.Act.TheVariants as act
 use Rattle.am_headline.proofs.{Sets.only_has, Nodes.acting, Nodes.leading, RepairLeading.is_member_now, Following.Skips, Members.fronts_are_heard}
 use Rattle.am_headline.proofs.{Members.gaps_are_asked, Sequencers.reports_are_taken, Steps.ours_skip, Memberships.get_some, Memberships.stays_in}
@@ -20,7 +20,7 @@ other_test a b f = let g : (b == a) ≡ false = grind (arith, nat_tests) in rw g
 
 -- ---- who is heard
 
-pub hears_own : (r : Repair) (q m : Node) (i : ℕ) → r.view.by ≡ r.by → Follows r q m → m.core.who ≡ i → (i == r.by) ≡ false
+pub hears_own : (r : Repair) (q m : Node) (i : ℕ) → r.view.by ≡ r.by → FollowsView r q m → m.core.who ≡ i → (i == r.by) ≡ false
     → hears_sequencer m r.by r.view ≡ true
 hears_own r q m i own f who other =
     let t : not (r.by == m.core.who) ≡ true = other_test m.core.who r.by (ap (λ k. k == r.by) who ∙ other) in

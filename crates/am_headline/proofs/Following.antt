@@ -5,7 +5,7 @@ use Rattle.am_headline.proofs.RepairWords.{after, image-next, Node, Ballot, top,
 use Rattle.am_headline.proofs.RepairWords.{is_view, bodies_after, World, Cause, hears, Promises, invited, overtaken_by, told_result, Carries, whole_entry}
 use Rattle.am_headline.proofs.RepairWords.{by_number, Change, refreshes, settles, takes_report, admits, numbers, stores, begins_list, departs, promises}
 use Rattle.am_headline.proofs.RepairWords.{opens, looks, fetches, stores_view, queues, collects, takes, asks_to_join, asks_to_leave, closes, told_pushed}
-use Rattle.am_headline.proofs.RepairWords.{view_pushed, acts_pushed, Repair, Follows, Stands}
+use Rattle.am_headline.proofs.RepairWords.{view_pushed, acts_pushed, Repair, FollowsView, SequencerHas}
 use Rattle.am_packet.specs.declared.packet.Packet.TheVariants as packet
 use Rattle.am_headline.proofs.Nodes.{CalmCause, acting, leads_not, not_open, Alike, alike_here, alike_refresh, alike_settle, view_alike, acts_alike, rest_alike}
 use Rattle.am_headline.proofs.{RepairLists.entry_within, RepairLists.same_after, RepairLeading.no_ballot_begun, RepairLeading.looked_open, RepairLeading.not_behind}
@@ -19,7 +19,7 @@ Skips high _ = Unit {0}
 -- a member that was another node before, in a step of this cause
 pub record FollowsOn (r : Repair) (c : Cause) (q m x : Node) : Type 0 where
   pub who : x.core.who ≡ m.core.who
-  pub follows : Follows r q x
+  pub follows : FollowsView r q x
   pub stored : top m ≤ top x
   pub taken : m.core.taken ≤ x.core.taken
   pub acc : m.core.acc ≤ x.core.acc
@@ -93,7 +93,7 @@ carried_skips high c x s v base acc number e (by_number from req body is there) 
 -- what is carried stands in the sequencer's list
 carried : (r : Repair) (w : World) (c : Cause) (x : Node) (s : ℕ) (v : Stamp) (base acc number : ℕ) (e : Entry) → CalmCause r w c
     → Carries c x s v base acc number e
-    → (there : Entry) × Stands r w number there × ((image : Image) → after image number e ≡ after image number there)
+    → (there : Entry) × SequencerHas r w number there × ((image : Image) → after image number e ≡ after image number there)
 carried r w c x s v base acc number e calm (whole_entry e_ is) = (e, subst (CalmCause r w) is calm, λ image. refl)
 carried r w c x s v base acc number e calm (by_number from req body is there) =
     let k = subst (CalmCause r w) is calm in (Data from req k.0, k.1, λ image. same_after image number from req body k.0)
@@ -103,7 +103,7 @@ pub overtaken_same : (v : Stamp) (o : Option Ballot) → is_unfinished o ≡ fal
 overtaken_same v None h = refl
 overtaken_same v (Some b) h = let over = not-false b.is_over h in rw over refl
 
-promised_same : (r : Repair) (w : World) (c : Cause) (q x : Node) (v : Stamp) → CalmCause r w c → Follows r q x → Promises c x v → Alike x (with_promise x v)
+promised_same : (r : Repair) (w : World) (c : Cause) (q x : Node) (v : Stamp) → CalmCause r w c → FollowsView r q x → Promises c x v → Alike x (with_promise x v)
 promised_same r w c q x v calm f (invited s v_ is heard own) = absurd (subst (CalmCause r w) is calm)
 promised_same r w c q x v calm f (overtaken_by s v_ vote is heard above) = absurd (subst (CalmCause r w) is calm)
 promised_same r w c q x v calm f (told_result s v_ base number names resilience is heard own other) =
@@ -125,7 +125,7 @@ follow_change r w c o m x y by other calm (stores s v base acc number e carries 
     let k = carried r w c x s v base acc number e calm carries in
     let next = may.next in
     follows_pushed r c _ m x e k.0 (λ skips same. carried_skips (top m) c x s v base acc number e carries skips (next ∙ same)) plain
-    (subst (λ n. Stands r w n k.0) next k.1) (subst (λ n. (image : Image) → after image n e ≡ after image n k.0) next k.2) h
+    (subst (λ n. SequencerHas r w n k.0) next k.1) (subst (λ n. (image : Image) → after image n e ≡ after image n k.0) next k.2) h
 follow_change r w c o m x y by other calm (begins_list s v base join image is says may) h = absurd
     (let a = (acting x h.follows.acts_).0 in let b = may.no_member in cc)
 follow_change r w c o m x y by other calm (departs s v number is heard leaves) h = absurd (let a = h.follows.rest.stays in cc)

@@ -2,7 +2,7 @@
 use Rattle.am_headline.proofs.RepairWords.{has_in, ◌≡◌, ◌≢◌, inr, ℕ, zero, suc, ◌+◌, ◌-◌, ◌<◌, ◌≤◌, ◌==◌, nat_lt, nat_le, true, false, List, [], ◌∷◌, length, take}
 use Rattle.am_headline.proofs.RepairWords.{Some, slice_get, refl, sym, ap, ◌∙◌, subst, arith, add-one, nat_tests, Entry, Image, place_of, life_of, has, Log}
 use Rattle.am_headline.proofs.RepairWords.{top_of, told_by, entry_at, image_at, at_place, row_of, after, fits, fold, image-next, entry-get, IsUsed, used_fold, row_at}
-use Rattle.am_headline.proofs.RepairWords.{Past, past_after, not_both, mod16, Node, top, has_own_leave, is_view, split, after_same, Repair, Leads, Follows}
+use Rattle.am_headline.proofs.RepairWords.{Past, past_after, not_both, mod16, Node, top, has_own_leave, is_view, split, after_same, Repair, Leads, FollowsView}
 use Rattle.am_headline.proofs.RepairLists.{entry_within}
 use Rattle.am_stands.proofs.Parts.{view_its}
 
@@ -56,7 +56,7 @@ left_row image name used left = split ((at_place image name).life == life_of nam
     record { joined = omega arith; gone = inr (life, (grind (arith, nat_tests))) })
     (λ f. absurd (let none = rw f at left in cc))
 
-pub stays_in : (r : Repair) (q m : Node) → Leads r q → IsUsed q.core.log.image → Follows r q m → has r.members m.core.who ≡ true → top m < r.high
+pub stays_in : (r : Repair) (q m : Node) → Leads r q → IsUsed q.core.log.image → FollowsView r q m → has r.members m.core.who ≡ true → top m < r.high
     → has_own_leave m ≡ false
 stays_in r q m l used f there low = split (has_own_leave m)
     (λ t. absurd (

@@ -64,7 +64,7 @@ pub use Rattle.am_laws.proofs.{Stamps.not_above_itself, ViewChanges.Balloted, Vi
 pub use Rattle.am_laws.proofs.{Named.few_names, Views.heard_names, Blank.Blanked}
 pub use Rattle.am_laws.proofs.TakenRuns.{AllOwned, run_owned, each_owned, Along, along_changes, heard_used, each_along, owned_start}
 pub use Rattle.am_laws.proofs.Taken.{HeardUsed, fetch_follows, stamp_by, other_asks, promise_is, not_above_view, not_own}
-pub use Rattle.am_headline.specs.{Calm.Repair, Calm.Leads, Calm.IsApart, Calm.IsLeaver, Calm.IsElsewhere, Calm.is_past, Calm.Follows, Calm.Calm, Calm.ReportIs, Calm.IsCalm, Calm.Stands, Rounds.IsOurs}
+pub use Rattle.am_headline.specs.{Calm.Repair, Calm.Leads, Calm.IsApart, Calm.IsLeaver, Calm.IsElsewhere, Calm.is_past, Calm.FollowsView, Calm.Calm, Calm.ReportIs, Calm.IsCalm, Calm.SequencerHas, Rounds.IsOurs}
 pub use Rattle.am_headline.specs.{Rounds.ticks as our_ticks, Rounds.CalmStays, Rounds.RoundsStore, Rounds.hears as hears_, Waves.IsSent, Waves.Polled}
 pub use Rattle.am_headline.specs.{Waves.Reported, Waves.Asked, Waves.IsServed, Waves.Served, Known.TrimsKnown, Known.SequencersTrimKnown, Known.KnownIsTaken}
 pub use Rattle.am_headline.specs.Rows.{IsAtRest, HasReported, HasReports, FrontsRise, IsReport, ack, nack, request, spread, Asks, HearsFront, FrontsAreHeard}

@@ -2,7 +2,7 @@
 use Rattle.am_headline.proofs.RepairWords.{◌≡◌, ℕ, suc, ◌+◌, ◌-◌, ◌≤◌, nat_le, true, false, List, Some, slice_get, sym, ap, ◌∙◌, subst, arith, nat_tests}
 use Rattle.am_headline.proofs.RepairWords.{Report, Entry, Data, has, Log, entry_at, Packet, Node, Ballot, top, is_sequencer, report_of, is_unfinished}
 use Rattle.am_headline.proofs.RepairWords.{next_stamp, World, Cause, MayInvite, has_begun, goes_on, MayTell, Says, bcast, order, welcome, leave_ask, invite}
-use Rattle.am_headline.proofs.RepairWords.{vote, result, Repair, ReportIs, Stands, IsCalm}
+use Rattle.am_headline.proofs.RepairWords.{vote, result, Repair, ReportIs, SequencerHas, IsCalm}
 use Rattle.am_laws.specs.Letters.{request, spread, ack, nack, hand_over}
 use Rattle.am_packet.specs.declared.packet.Packet.TheVariants as packet
 use Rattle.am_laws.specs.Letters as letters
@@ -25,7 +25,7 @@ report_stays r w v s report g h = record {
   taken = λ there. (let a = h.taken there in let b = g.taken s there in omega arith);
 }
 
-stands_stays : (r : Repair) (w v : World) (number : ℕ) (e : Entry) → Grow r w v → Stands r w number e → Stands r v number e
+stands_stays : (r : Repair) (w v : World) (number : ℕ) (e : Entry) → Grow r w v → SequencerHas r w number e → SequencerHas r v number e
 stands_stays r w v number e g h = entry_stays (w.nodes r.by).core.log (v.nodes r.by).core.log number e g.log h
 
 pub calm_stays : (r : Repair) (w v : World) (p : Packet) → Grow r w v → IsCalm r w p → IsCalm r v p
@@ -63,7 +63,7 @@ entry_of log index number e there is =
     ap (entry_at log) at ∙ rw low (ap (slice_get log.entries) skip ∙ there)
 
 numbered_stands : (r : Repair) (v : World) (m n : Node) (number : ℕ) (e : Entry) → Sends r v m n → is_sequencer n ≡ true
-    → letters.Stands n.core.log m.core.base number e → Stands r v number e
+    → letters.EntryStands n.core.log m.core.base number e → SequencerHas r v number e
 numbered_stands r v m n number e h t s =
     let node = ap (λ k. v.nodes k) (sym (h.own t)) ∙ h.node in
     ap (λ (x : Node). entry_at x.core.log number) node ∙ entry_of n.core.log s.index number e s.there (s.at (h.base t))

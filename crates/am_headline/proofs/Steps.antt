@@ -3,7 +3,7 @@ use Rattle.am_headline.proofs.RepairWords.{eq-eqb, eqb-true, ◌≡◌, ◌⊎�
 use Rattle.am_headline.proofs.RepairWords.{slice_get, refl, sym, ap, ◌∙◌, subst, arith, All, nat_tests, Stamp, Outcome, Rules, has, Letter, Event, letter_at}
 use Rattle.am_headline.proofs.RepairWords.{Node, top, is_sequencer, has_departed, is_unfinished, next_stamp, Step, World, with_record, with_step, happens}
 use Rattle.am_headline.proofs.RepairWords.{split, Cause, LetterSays, Effect, actor, IsCause, all_get, few_names, heard_names, Along, AllOwned, heard_used}
-use Rattle.am_headline.proofs.RepairWords.{each_along, Repair, Leads, Follows, IsApart, IsLeaver, IsElsewhere, IsCalm, Calm, IsOurs, is_stopped, None}
+use Rattle.am_headline.proofs.RepairWords.{each_along, Repair, Leads, FollowsView, IsApart, IsLeaver, IsElsewhere, IsCalm, Calm, IsOurs, is_stopped, None}
 use Rattle.am_headline.proofs.RepairWords.{MayTell, leads, decided, Ballot}
 use Rattle.am_headline.proofs.Going.{OurStep, Ours, idles, steps, ours, lead_changes, follow_changes, apart_changes, left_changes, sender_is, member_there}
 use Rattle.am_headline.proofs.{Nodes.CalmCause, Nodes.acting, Nodes.leading, Nodes.leads_not, RepairLeading.Goes, RepairLeading.told_taken, RepairLeading.Trusts}
@@ -56,7 +56,7 @@ calm_unchanged r w e o h = record {
 record StepKeeps (r : Repair) (w v : World) (name : ℕ) (s : Step) : Type 0 where
   who : s.node.core.who ≡ name
   leads : Leads r (v.nodes r.by)
-  follows : (other : ℕ) → has r.members other ≡ true → (other == r.by) ≡ false → Follows r (v.nodes r.by) (v.nodes other)
+  follows : (other : ℕ) → has r.members other ≡ true → (other == r.by) ≡ false → FollowsView r (v.nodes r.by) (v.nodes other)
   apart : (other : ℕ) → has r.members other ≡ false → is_stopped w other ≡ false → has_departed (v.nodes other).status ≡ false → IsElsewhere r (v.nodes other)
   grow : Grow r w v
   letters : (k : ℕ) (l : Letter) → slice_get s.letters k ≡ Some l → IsCalm r v l.packet
@@ -156,7 +156,7 @@ goes_first r w h =
 
 -- members follow a sequencer that goes on
 follows_on : (r : Repair) (w : World) (n : Node) (name : ℕ) → Calm r w → has r.members name ≡ true → (name == r.by) ≡ false
-    → Goes r (λ k. (w.nodes k).core.taken) (w.nodes r.by) n → Follows r n (w.nodes name)
+    → Goes r (λ k. (w.nodes k).core.taken) (w.nodes r.by) n → FollowsView r n (w.nodes name)
 follows_on r w n name h there other g =
     let f = h.follows name there other in
     let low = f.low in let within = f.within in
@@ -213,8 +213,8 @@ leader_step rules r w e s laws h k same =
     record {
       who = g.own ∙ sym same;
       leads = subst (Leads r) (sym node) g.leads;
-      follows = λ other there f. subst (λ (x : Node). Follows r x (v.nodes other)) (sym node)
-          (subst (Follows r n) (sym (ch.others other (not_own other f))) (follows_on r w n other h there f g));
+      follows = λ other there f. subst (λ (x : Node). FollowsView r x (v.nodes other)) (sym node)
+          (subst (FollowsView r n) (sym (ch.others other (not_own other f))) (follows_on r w n other h there f g));
       apart = λ other none goes there. apart_others r w v name other n ch h (not_own other (differs r.members r.by other h.listed none)) none goes there;
       grow = grow_changed r w v name n ch (subst (λ (x : Node). LogGrows q.core.log x.core.log) (sym node) g.grows) kept_on (λ there. up);
       letters = sent_calm r w v q n c s.letters k.calm sends (subst (λ (x : Node). All (LetterSays q c x) s.letters) sender effect.letters);
@@ -270,13 +270,13 @@ member_step r w e s h k other there =
     let old : m.core.promise ≡ r.view = before.1 ∙ f.view_ in
     let no_leader : is_sequencer n ≡ true → ⊥ = λ t. leads_not n r.by (ap (λ (x : Stamp). x.by) g.follows.view_ ∙ h.own)
     (ap (λ i. i == r.by) g.who ∙ own) t in
-    let follows_new : (i : ℕ) → has r.members i ≡ true → (i == r.by) ≡ false → Follows r q (v.nodes i) = λ i here d. split (i == name)
-    (λ t. subst (λ j. Follows r q (v.nodes j)) (sym (eqb-true i name t)) (subst (Follows r q) (sym ch.here) g.follows))
-    (λ t. subst (Follows r q) (sym (ch.others i t)) (h.follows i here d)) in
+    let follows_new : (i : ℕ) → has r.members i ≡ true → (i == r.by) ≡ false → FollowsView r q (v.nodes i) = λ i here d. split (i == name)
+    (λ t. subst (λ j. FollowsView r q (v.nodes j)) (sym (eqb-true i name t)) (subst (FollowsView r q) (sym ch.here) g.follows))
+    (λ t. subst (FollowsView r q) (sym (ch.others i t)) (h.follows i here d)) in
     record {
       who = g.who ∙ h.who name;
       leads = subst (Leads r) (sym node) h.leads;
-      follows = λ i here d. subst (λ (x : Node). Follows r x (v.nodes i)) (sym node) (follows_new i here d);
+      follows = λ i here d. subst (λ (x : Node). FollowsView r x (v.nodes i)) (sym node) (follows_new i here d);
       apart = λ i none goes here. apart_others r w v name i n ch h (differs r.members name i there none) none goes here;
       grow = grow_changed r w v name n ch (subst (λ (x : Node). LogGrows q.core.log x.core.log) (sym node) (grows_same q.core.log))
           (same_reports r w v q refl node) (λ here. (g.stored, g.taken, g.acc));
@@ -307,8 +307,8 @@ elsewhere_step r w e s h other none who apart letters =
     record {
       who = who;
       leads = subst (Leads r) (sym node) h.leads;
-      follows = λ i here d. subst (λ (x : Node). Follows r x (v.nodes i)) (sym node)
-          (subst (Follows r q) (sym (ch.others i (is_other name i (differs r.members i name here none)))) (h.follows i here d));
+      follows = λ i here d. subst (λ (x : Node). FollowsView r x (v.nodes i)) (sym node)
+          (subst (FollowsView r q) (sym (ch.others i (is_other name i (differs r.members i name here none)))) (h.follows i here d));
       apart = λ i gone goes here. split (i == name)
           (λ t. let e = eqb-true i name t in
           let same : v.nodes i ≡ n = ap (λ j. v.nodes j) e ∙ ch.here in

@@ -2,7 +2,7 @@
 use Rattle.am_headline.proofs.RepairWords.{◌≡◌, ℕ, ◌+◌, ◌≤◌, ◌==◌, true, false, length, sym, ap, ◌∙◌, subst, arith, Contains, Stamp, Image, Rules, place_of, has}
 use Rattle.am_headline.proofs.RepairWords.{members_of, members_at, Accept, Letter, letter_to, Event, is_for, letter_at, Node, top, view, members, others}
 use Rattle.am_headline.proofs.RepairWords.{is_sequencer, report_of, Step, accept_of, step, event_at, running, ticks, World, is_stopped, with_step, happens, happen}
-use Rattle.am_headline.proofs.RepairWords.{split, IsReport, Repair, Leads, Follows, IsSent, Polled, Reported, IsOurs, our_ticks}
+use Rattle.am_headline.proofs.RepairWords.{split, IsReport, Repair, Leads, FollowsView, IsSent, Polled, Reported, IsOurs, our_ticks}
 use Rattle.am_base.specs.declared.event.NodeEvent.TheVariants as does
 use Rattle.am_group.specs.declared.event.Act.TheVariants as act
 use Rattle.am_headline.proofs.Fine.{Fine, few_members, fine_goes, grow_goes, letter_goes, letters_more, IsThere, member_there, tick_is, sent_at, contained_at}
@@ -114,7 +114,7 @@ ticks_poll rules r X i accepted w b h x there other =
 -- ---- reports
 
 -- the sequencer is a member by a member's own list, once that goes as far as the sequencer's did
-lists_leader : (r : Repair) (q m : Node) → Leads r q → has r.members r.by ≡ true → Follows r q m → r.high ≤ top m → r.view.by ≡ r.by
+lists_leader : (r : Repair) (q m : Node) → Leads r q → has r.members r.by ≡ true → FollowsView r q m → r.high ≤ top m → r.view.by ≡ r.by
     → has (members m) (view m).by ≡ true
 lists_leader r q m l listed f far own =
     let by : (view m).by ≡ r.by = ap (λ (v : Stamp). v.by) f.view_ ∙ own in

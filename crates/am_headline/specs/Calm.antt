@@ -62,7 +62,7 @@ pub record AgreesFrom (at : ℕ) (q m : Node) : Type 0 where
   pub reported : (q.reports m.core.who).taken ≤ m.core.taken
 
 -- a member, whose list has the view's View
-pub record Follows (r : Repair) (q m : Node) : Type 0 where
+pub record FollowsView (r : Repair) (q m : Node) : Type 0 where
   pub acts_ : acts m ≡ true
   pub view_ : view m ≡ r.view
   pub rest : IsAtRest m
@@ -94,14 +94,14 @@ pub record ReportIs (r : Repair) (w : World) (s : ℕ) (report : Report) : Type 
   pub stored : has r.members s ≡ true → report.stored ≤ top (w.nodes s)
   pub taken : has r.members s ≡ true → report.taken ≤ (w.nodes s).core.taken
 
-abbrev pub Stands : Repair → World → ℕ → Entry → Type 0
-Stands r w number e = entry_at (w.nodes r.by).core.log number ≡ Some e
+abbrev pub SequencerHas : Repair → World → ℕ → Entry → Type 0
+SequencerHas r w number e = entry_at (w.nodes r.by).core.log number ≡ Some e
 
 abbrev pub IsCalm : Repair → World → Packet → Type 0
 IsCalm r w (Request s v report req body) = ReportIs r w s report
 IsCalm r w (Spread s v report req body) = ReportIs r w s report
-IsCalm r w (Bcast s v base acc number e) = Stands r w number e
-IsCalm r w (Order s v base acc number from req) = (body : List ℕ) × Stands r w number (Data from req body)
+IsCalm r w (Bcast s v base acc number e) = SequencerHas r w number e
+IsCalm r w (Order s v base acc number from req) = (body : List ℕ) × SequencerHas r w number (Data from req body)
 IsCalm r w (Accept s v base acc high poll) = Unit {0}
 IsCalm r w (Ack s v report) = ReportIs r w s report
 IsCalm r w (Nack s v report) = ReportIs r w s report
@@ -124,7 +124,7 @@ pub record CalmNodes (r : Repair) (nodes : ℕ → Node) : Type 0 where
   pub listed : has r.members r.by ≡ true
   pub who : (name : ℕ) → (nodes name).core.who ≡ name
   pub leads : Leads r (nodes r.by)
-  pub follows : (name : ℕ) → has r.members name ≡ true → (name == r.by) ≡ false → Follows r (nodes r.by) (nodes name)
+  pub follows : (name : ℕ) → has r.members name ≡ true → (name == r.by) ≡ false → FollowsView r (nodes r.by) (nodes name)
 
 pub record Calm (r : Repair) (w : World) : Type 0 where
   pub nodes : CalmNodes r w.nodes

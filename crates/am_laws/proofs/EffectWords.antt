@@ -65,7 +65,7 @@ pub use Rattle.am_laws.specs.Changes.{MayBeWelcomed, keeps_body, notes, stores, 
 pub use Rattle.am_laws.specs.Changes.{fetches, stores_view, unchanged as no_change, MayReport, admits, asked_send, asked_join, asked_leave}
 pub use Rattle.am_laws.specs.Courses.{nothing_yet, and_then, looked, Course, used_report, Deeds, plainly, at_end, let_go, closing}
 pub use Rattle.am_laws.specs.Letters.{invite, fetch, result, has_begun, for_ballot, decided, HasSend, join_ask, leave_ask, Says, accept}
-pub use Rattle.am_laws.specs.Letters.{LetterSays, of_promise, vote, piece, ack, Stands, request, spread, bcast, nack, order, hold, welcome, gone}
+pub use Rattle.am_laws.specs.Letters.{LetterSays, of_promise, vote, piece, ack, EntryStands, request, spread, bcast, nack, order, hold, welcome, gone}
 pub use Rattle.am_laws.specs.Letters.{just_joined, asks_again, goes_on, leads}
 pub use Rattle.am_laws.specs.Effects.{Answers, Effect, StepsHaveEffects, HearingHasEffects, RefusingHasEffects}
 pub use Rattle.am_laws.specs.Events.{actor, WasSentTo, IsCall, send, done, take, join, state, leave, reset, ask, tick, IsCause, Happens, idles, stops}

@@ -3,7 +3,7 @@ use Rattle.am_laws.proofs.EffectWords.{◌≡◌, ℕ, ◌+◌, ◌-◌, ◌≤�
 use Rattle.am_laws.proofs.EffectWords.{slice_get, option_map, refl, sym, ap, ◌∙◌, subst, arith, length-append, slice_get-map, append-nil, Entry, Leave, Image}
 use Rattle.am_laws.proofs.EffectWords.{stamp_eq, Log, at_place, after, fold, told_by, life_of, pass_over, base_after, own_report, tell, go_on, OwnSend, Node}
 use Rattle.am_laws.proofs.EffectWords.{image_of, view, is_member, acts, is_sequencer, push_entry, waiting, advance, lead, refresh, accepted_at, settle_at}
-use Rattle.am_laws.proofs.EffectWords.{settle_waiting, settle, refresh_at_end, fold_append, split, HasSend, Stands}
+use Rattle.am_laws.proofs.EffectWords.{settle_waiting, settle, refresh_at_end, fold_append, split, HasSend, EntryStands}
 use Rattle.am_state.specs.Cores.{accept}
 use Rattle.am_state.specs.Refresh.{let_go}
 use Rattle.am_state.specs.Sends as own
@@ -200,7 +200,7 @@ acts_rests {p} {n} h = λ i. is_member (h.status i) && stamp_eq (h.promise i) (h
 pub leads_rests : {p n : Node} → Rests p n → is_sequencer n ≡ is_sequencer p
 leads_rests {p} {n} h = λ i. acts_rests h i && ((h.view i).by == h.who i)
 
-pub stands_rests : {p n : Node} (base number : ℕ) (e : Entry) → Rests p n → Stands p.core.log base number e → Stands n.core.log base number e
+pub stands_rests : {p n : Node} (base number : ℕ) (e : Entry) → Rests p n → EntryStands p.core.log base number e → EntryStands n.core.log base number e
 stands_rests {p} {n} base number e h s = record {
   index = s.index;
   there = ap (λ l. slice_get l s.index) h.entries ∙ get_front p.core.log.entries h.more s.index e s.there;

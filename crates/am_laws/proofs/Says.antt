@@ -3,7 +3,7 @@ use Rattle.am_laws.proofs.EffectWords.{◌≡◌, ℕ, ◌+◌, ◌==◌, ◌&&�
 use Rattle.am_laws.proofs.EffectWords.{◌∙◌, arith, length-append, slice_get_within, Stamp, Image, Entry, Data, Join, Leave, View, stamp_eq, life_of, at_place}
 use Rattle.am_laws.proofs.EffectWords.{after, fold, Packet, Letter, with_letter, slice_get-drop, OwnSend, Node, top, image_of, view, acts, is_member}
 use Rattle.am_laws.proofs.EffectWords.{is_sequencer, push_entry, waiting, entries_to_serve, put_all, request_of, spread_of, bcast_of, ack_of, nack_of, is_view}
-use Rattle.am_laws.proofs.EffectWords.{fold_append, split, Cause, HasSend, Stands, Says, request, spread, bcast, ack, nack}
+use Rattle.am_laws.proofs.EffectWords.{fold_append, split, Cause, HasSend, EntryStands, Says, request, spread, bcast, ack, nack}
 use Rattle.am_state.specs.Sends as own
 use Rattle.am_laws.proofs.{Items.find_get, Items.get_last, Items.get_take, Rests.Rests, Rests.RestsWhole, Rests.acts_rests, Rests.leads_rests}
 use Rattle.am_laws.proofs.{Rests.stands_rests, Plans.AllSay, Plans.none_says, Plans.and_says, Plans.Tells}
@@ -38,7 +38,7 @@ acts_pushed m e f = ap (λ (v : Stamp). is_member m.status && stamp_eq m.core.pr
 pub leads_pushed : (m : Node) (e : Entry) → is_view e ≡ false → is_sequencer (push_entry m e) ≡ is_sequencer m
 leads_pushed m e f = λ i. acts_pushed m e f i && ((view_pushed m e f i).by == m.core.who)
 
-pub stands_pushed : (m : Node) (base : ℕ) (e : Entry) → Stands (push_entry m e).core.log base (top m + 1) e
+pub stands_pushed : (m : Node) (base : ℕ) (e : Entry) → EntryStands (push_entry m e).core.log base (top m + 1) e
 stands_pushed m base e = record {
   index = length m.core.log.entries;
   there = get_last m.core.log.entries e;
@@ -81,7 +81,7 @@ says_each m c n packet to number (e ∷ es) letters f h =
 
 -- a letter for each entry that stands above a number
 pub says_served : (m : Node) (c : Cause) (p n : Node) (packet : ℕ → Entry → Packet) (to : List ℕ) (low : ℕ) → m.core.base ≤ low → Rests p n
-    → ((k : ℕ) (e : Entry) → Stands n.core.log m.core.base k e → Says m c n to (packet k e))
+    → ((k : ℕ) (e : Entry) → EntryStands n.core.log m.core.base k e → Says m c n to (packet k e))
     → AllSay m c n (put_all packet to (low + 1) (entries_to_serve p low) [])
 says_served m c p n packet to low above r f =
     let skip = low - p.core.log.start in

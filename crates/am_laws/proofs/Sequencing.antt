@@ -6,7 +6,7 @@ use Rattle.am_laws.proofs.EffectWords.{with_report, push_entry, Plan, quiet, pol
 use Rattle.am_laws.proofs.EffectWords.{take_report, answer_request, request_row, if_risen, ack_row, serve_again, nack_row, with_admitted, number_join}
 use Rattle.am_laws.proofs.EffectWords.{join_ask_row, may_go, and_gone, counts_report, leave_ask_row, split, and_both, Cause, hears, BringsSend, BringsReport}
 use Rattle.am_laws.proofs.EffectWords.{with_send, by_ack, by_nack, by_leave_ask, MayReport, takes_report, admits, numbers, asked_send, asked_join, asked_leave}
-use Rattle.am_laws.proofs.EffectWords.{Course, nothing_yet, used_report, and_then, Stands, bcast, order, hold, welcome, gone, just_joined, asks_again, Answers}
+use Rattle.am_laws.proofs.EffectWords.{Course, nothing_yet, used_report, and_then, EntryStands, bcast, order, hold, welcome, gone, just_joined, asks_again, Answers}
 use Rattle.am_model.specs.Joining.{asks_to_join, let_go, asks_to_leave}
 use Rattle.am_base.specs.declared.outcome.Outcome.TheVariants as said
 use Rattle.am_packet.specs.declared.packet.Packet.TheVariants as packet
@@ -126,7 +126,7 @@ does_number_join m s v leads other fit room =
     let h : Course c o m (push_entry p e) = and_then (and_then nothing_yet (admits {m = m} s v refl leads fit) tt)
     (numbers {m = p} e leads room (asked_join s v refl other fit)) tt in
     let lead : (n : Node) → RestsWhole (push_entry p e) n → is_sequencer n ≡ true = λ n r. leads_rests r.rests ∙ leads_pushed p e refl ∙ leads in
-    let stands : (n : Node) → RestsWhole (push_entry p e) n → Stands n.core.log m.core.base (top m + 1) e =
+    let stands : (n : Node) → RestsWhole (push_entry p e) n → EntryStands n.core.log m.core.base (top m + 1) e =
     λ n r. stands_rests m.core.base (top m + 1) e r.rests (stands_pushed p m.core.base e) in
     let long = length-append m.core.log.entries (e ∷ []) in
     let high : (n : Node) → RestsWhole (push_entry p e) n → top n ≡ top m + 1 = λ n r. ap (λ (l : Log). top_of l) r.log ∙ omega arith in

@@ -33,7 +33,7 @@ pub record HasSend (n : Node) (req : ℕ) (body : List ℕ) : Type 0 where
   pub body_ : send.body ≡ body
 
 -- an entry stands in a list at this number, where the list's start isn't above this base
-pub record Stands (log : Log) (base number : ℕ) (e : Entry) : Type 0 where
+pub record EntryStands (log : Log) (base number : ℕ) (e : Entry) : Type 0 where
   pub index : ℕ
   pub there : slice_get log.entries index ≡ Some e
   pub at : log.start ≤ base → number ≡ log.start + index + 1
@@ -41,7 +41,7 @@ pub record Stands (log : Log) (base number : ℕ) (e : Entry) : Type 0 where
 
 -- a joiner is welcomed where its Join is accepted: once it was numbered, or where it asks again, is a member, and hasn't stored it
 pub data MayWelcome (m : Node) (n : Node) (s : ℕ) : Type 0 where
-  just_joined : (number : ℕ) → number ≡ top m + 1 → top n ≡ number → number ≤ n.core.acc → Stands n.core.log m.core.base number (Join s) → MayWelcome m n s
+  just_joined : (number : ℕ) → number ≡ top m + 1 → top n ≡ number → number ≤ n.core.acc → EntryStands n.core.log m.core.base number (Join s) → MayWelcome m n s
   asks_again : n.core.log ≡ m.core.log → ((at_place (image_of m) s).life ≢ 0 → (at_place (image_of m) s).life ≡ life_of s)
       → 0 < (at_place (image_of m) s).joined
       → (at_place (image_of m) s).left ≡ 0 → (at_place (image_of m) s).joined ≤ m.core.acc → (m.reports s).stored < (at_place (image_of m) s).joined
@@ -67,9 +67,9 @@ pub data MayTell (n : Node) : Type 0 where
 pub data Says (m : Node) (c : Cause) (n : Node) : List ℕ → Packet → Type 0 where
   request : (to : List ℕ) (req : ℕ) (body : List ℕ) → acts n ≡ true → is_sequencer n ≡ false → HasSend n req body → Says m c n to (emits.request_of n req body)
   spread : (to : List ℕ) (req : ℕ) (body : List ℕ) → acts n ≡ true → is_sequencer n ≡ false → HasSend n req body → Says m c n to (emits.spread_of n req body)
-  bcast : (to : List ℕ) (number : ℕ) (e : Entry) → is_sequencer n ≡ true → Stands n.core.log m.core.base number e → Says m c n to (emits.bcast_of n number e)
+  bcast : (to : List ℕ) (number : ℕ) (e : Entry) → is_sequencer n ≡ true → EntryStands n.core.log m.core.base number e → Says m c n to (emits.bcast_of n number e)
   order : (to : List ℕ) (number from req : ℕ) (v : Stamp) (report : Report) (body : List ℕ) → c ≡ hears (packet.Spread from v report req body)
-      → is_sequencer n ≡ true → Stands n.core.log m.core.base number (Data from req body) → Says m c n to (emits.order_of n number from req)
+      → is_sequencer n ≡ true → EntryStands n.core.log m.core.base number (Data from req body) → Says m c n to (emits.order_of n number from req)
   accept : (to : List ℕ) (poll : Bool) → is_sequencer n ≡ true → Says m c n to (emits.accept_of n poll)
   ack : (to : List ℕ) → acts n ≡ true → Says m c n to (emits.ack_of n)
   nack : (to : List ℕ) → acts n ≡ true → Says m c n to (emits.nack_of n)
@@ -83,7 +83,7 @@ pub data Says (m : Node) (c : Cause) (n : Node) : List ℕ → Packet → Type 0
   vote : (s : ℕ) (v : Stamp) → c ≡ hears (packet.Invite s v) → Says m c n (only_name s) (vote_of n)
   fetch : (to : List ℕ) → MayFetch m n to → Says m c n to (emits.fetch_of n)
   piece : (s : ℕ) (v : Stamp) (stored number : ℕ) (e : Entry) → c ≡ hears (packet.Fetch s v stored) → may_fetch n s v ≡ true
-      → Stands n.core.log m.core.base number e → Says m c n (only_name s) (emits.piece_of n number e)
+      → EntryStands n.core.log m.core.base number e → Says m c n (only_name s) (emits.piece_of n number e)
   result : (to : List ℕ) (number : ℕ) (names : List ℕ) → number ≡ (image_of n).view_number → viewed_by (entry_at n.core.log number) ≡ names → MayTell n
       → Says m c n to (emits.result_of n number names (image_of n).resilience)
   hand_over : (to : List ℕ) → is_sequencer n ≡ true → n.leaving ≡ true → Says m c n to (emits.hand_over_of n)

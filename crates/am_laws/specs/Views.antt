@@ -11,14 +11,14 @@ abbrev pub NotedOnce : World → Type 0
 NotedOnce w = (i j : ℕ) (u v : Decided) → slice_get w.views i ≡ Some u → slice_get w.views j ≡ Some v → u.stamp ≡ v.stamp → i ≡ j
 
 -- the View of a noted view stands at its number in its coordinator's list
-pub record Stands (w : World) (v : Decided) : Type 0 where
+pub record ViewStands (w : World) (v : Decided) : Type 0 where
   pub names : List ℕ
   pub there : entry_at (w.nodes v.stamp.by).core.log v.number ≡ Some (View v.stamp names v.resilience)
 
 pub record ViewsNoted (w : World) : Type 0 where
   pub once : NotedOnce w
   -- from when it was noted on
-  pub stand : (i : ℕ) (v : Decided) → slice_get w.views i ≡ Some v → Stands w v
+  pub stand : (i : ℕ) (v : Decided) → slice_get w.views i ≡ Some v → ViewStands w v
 
 abbrev pub ViewsHold : Type 0
 ViewsHold = (rules : Rules) (events : List Event) → MayFound rules → ViewsNoted (run rules events)

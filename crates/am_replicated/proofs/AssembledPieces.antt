@@ -38,11 +38,11 @@ from_place-none place = refl
 -- ---- a piece
 
 -- what was given stands in the list behind the first entries
-record Stands (entries list : List Entry) (before : ℕ) : Type 0 where
+record StandsBehind (entries list : List Entry) (before : ℕ) : Type 0 where
   rest : List Entry
   is : entries ++ rest ≡ drop before list
 
-stands : (given : List (ℕ × Entry)) (start : ℕ) (list : List Entry) → 0 < start → IsSegment given start list → Stands (entries_of given) list (start - 1)
+stands : (given : List (ℕ × Entry)) (start : ℕ) (list : List Entry) → 0 < start → IsSegment given start list → StandsBehind (entries_of given) list (start - 1)
 stands given start list some segment = record {
   rest = drop (length (entries_of given)) (drop (start - 1) list);
   is = front_is (entries_of given) (drop (start - 1) list) (λ k e at.
@@ -54,7 +54,7 @@ stands given start list some segment = record {
 }
 
 -- an entry of the piece, and the list's beginning up to there
-module _ (entries list : List Entry) (before k : ℕ) (s : Stands entries list before) where
+module _ (entries list : List Entry) (before k : ℕ) (s : StandsBehind entries list before) where
   entry_there : slice_get (entries ++ s.rest) (k - 1) ≡ slice_get list (before + (k - 1))
   entry_there = ap (λ xs. slice_get xs (k - 1)) s.is ∙ slice_get-drop before (k - 1) list
 

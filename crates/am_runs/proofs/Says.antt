@@ -4,7 +4,7 @@ use Rattle.am_runs.proofs.UnballotedWords.{slice_index, refl, sym, ap, ◌∙◌
 use Rattle.am_runs.proofs.UnballotedWords.{Row, Image, Entry, Data, Join, View, Rules, has, place_of, life_of, nobody, with_row, blank, fold, after, at_place}
 use Rattle.am_runs.proofs.UnballotedWords.{row_of, image_at, entry_at, told_by, Packet, Letter, goes_to_any, item_at, Node, only_name, is_member, is_sequencer}
 use Rattle.am_runs.proofs.UnballotedWords.{acts, founding_stamp, founders_view, viewed_by, split, and_both, image_of, row_at, row_set, told_push, long_told}
-use Rattle.am_runs.proofs.UnballotedWords.{begins_take, begins_push, begins_same, length_take, length_push, Cause, hears, Stands, MayWelcome, just_joined}
+use Rattle.am_runs.proofs.UnballotedWords.{begins_take, begins_push, begins_same, length_take, length_push, Cause, hears, EntryStands, MayWelcome, just_joined}
 use Rattle.am_runs.proofs.UnballotedWords.{asks_again, has_begun, goes_on, leads, decided, Says, bcast, order, welcome, invite, vote, piece, result, LetterSays}
 use Rattle.am_runs.proofs.UnballotedWords.{entry_is}
 use Rattle.am_laws.specs.Letters.{accept}
@@ -63,7 +63,7 @@ sequencer_first rules list acc i m n h t =
     sym h.who ∙ sym by ∙ ap (λ (s : Stamp). s.by) p
 
 stands_item : (rules : Rules) (list : List Entry) (acc i : ℕ) (m n : Node) (number : ℕ) (e : Entry) → Sends rules list acc i m n
-    → n.core.log.start ≤ m.core.base → Stands n.core.log m.core.base number e → item_at list number ≡ Some e
+    → n.core.log.start ≤ m.core.base → EntryStands n.core.log m.core.base number e → item_at list number ≡ Some e
 stands_item rules list acc i m n number e h low s =
     get_item list number (n.core.log.start + s.index) e (s.at low) (within_get list n.core.log.start n.core.log.entries s.index e h.log.within s.there)
 

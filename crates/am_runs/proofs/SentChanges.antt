@@ -25,7 +25,7 @@ use Rattle.am_laws.specs.Looks.{Looks, decides}
 use Rattle.am_laws.specs.Changes.{Numbers, asked_send, own_send, Carries, whole_entry, by_number, Change, refreshes, settles}
 use Rattle.am_laws.specs.Changes.{numbers, keeps_body, stores, begins_list, looks, fetches}
 use Rattle.am_laws.specs.Changes.{stores_view, queues, collects, closes}
-use Rattle.am_laws.specs.Letters.{HasSend, Stands, Says, request, spread, bcast}
+use Rattle.am_laws.specs.Letters.{HasSend, EntryStands, Says, request, spread, bcast}
 use Rattle.am_laws.specs.Letters.{piece, LetterSays}
 use Rattle.am_laws.specs.Effects.{Effect}
 use Rattle.am_laws.proofs.Items.{all_get, all_find}
@@ -135,7 +135,7 @@ change_sent all who c o m n sent _ h = h
 
 -- ---- letters
 
-stands_sent : (all : List Record) (who : ℕ) (n : Node) (base number : ℕ) (e : Entry) → Stands n.core.log base number e → Keeps all who n → EntrySent all e
+stands_sent : (all : List Record) (who : ℕ) (n : Node) (base number : ℕ) (e : Entry) → EntryStands n.core.log base number e → Keeps all who n → EntrySent all e
 stands_sent all who n base number e s h = all_get (EntrySent all) n.core.log.entries s.index e h.entries s.there
 
 own_sent : (all : List Record) (who : ℕ) (n : Node) (req : ℕ) (body : List ℕ) → HasSend n req body → Keeps all who n → WasSent all n.core.who req body

@@ -12,7 +12,7 @@ pub use Rattle.am_laws.proofs.EffectWords.{Cause, calls, hears, refuses, BringsF
 pub use Rattle.am_laws.proofs.EffectWords.{stores, begins_list, opens, looks, fetches, stores_view, closes, MayBeWelcomed, departs, promises, queues, collects}
 pub use Rattle.am_laws.proofs.EffectWords.{takes, asks_to_join, Changes, unchanged, changed, asked_send, own_send, asked_join, asked_leave, notes, Carries}
 pub use Rattle.am_laws.proofs.EffectWords.{whole_entry, by_number, invited, overtaken, told_result, takes_report, admits, keeps_body, asks_to_leave, LetterSays}
-pub use Rattle.am_laws.proofs.EffectWords.{Stands, just_joined, asks_again, has_begun, goes_on, leads, decided, Says, bcast, order, welcome, invite, vote, piece}
+pub use Rattle.am_laws.proofs.EffectWords.{EntryStands, just_joined, asks_again, has_begun, goes_on, leads, decided, Says, bcast, order, welcome, invite, vote, piece}
 pub use Rattle.am_laws.proofs.EffectWords.{result, Answers, Effect, actor, IsCause, Happens, idles, stops, returns, steps, IsCall, WasSentTo, Looks}
 pub use Rattle.am_laws.proofs.EffectWords.{finds_itself_out}
 unfoldable pub use Rattle.am_laws.proofs.EffectWords.{fold, after, fits, pass_over, own_report, tell, go_on, lead, refresh, settle, refresh_at_end, with_step}

@@ -2,7 +2,7 @@
 use Rattle.am_stands.proofs.StepWords.{◌≡◌, ℕ, suc, ◌<◌, ◌==◌, true, false, List, [], ◌∷◌, ◌++◌, slice_get, Some, refl, sym, ◌∙◌, subst, arith, All, nat_tests}
 use Rattle.am_stands.proofs.StepWords.{All-nil, All-cons, All-append, Rules, Event, Begins, begins_refl, Group, set_at, lowest_or_first, has_departed, Step}
 use Rattle.am_stands.proofs.StepWords.{is_unfinished, World, group_after, views_after, with_step, split, Cause, all_get, after_step, NameStands, FrontsStand}
-use Rattle.am_stands.proofs.StepWords.{ViewsStand, StandsBut, Stands, within, Grows, Moves, GroupFor, NodeKeeps, Stepping, Following, Follows, ShowsMore}
+use Rattle.am_stands.proofs.StepWords.{ViewsStand, StandsBut, Stands, within, Grows, Moves, GroupFor, NodeKeeps, Stepping, Following, LeadsOn, ShowsMore}
 use Rattle.am_stands.proofs.StepWords.{LetterSays, then_moves, letters_stay, name_in, views_in, goes_on, grows_trans, keeps_in, others_keep}
 use Rattle.am_chain.specs.Group as groups
 use Rattle.am_stands.proofs.{Starting.recorded, Deeds.further, StepLetters.Told}
@@ -95,7 +95,7 @@ same_stands v s t same h = record {
 
 -- a group in which its letters are so follows
 pub landed_told : (rules : Rules) (w : World) (e : Event) (name : ℕ) (step : Step) (s t : Group) → Following rules w s
-    → Landed rules (with_step w e name step) s t → Told rules (with_step w e name step) step.letters t → Follows rules (with_step w e name step) s
+    → Landed rules (with_step w e name step) s t → Told rules (with_step w e name step) step.letters t → LeadsOn rules (with_step w e name step) s
 unfolding with_step
 landed_told rules w e name step s t h land told =
     let v = with_step w e name step in

@@ -6,7 +6,7 @@ use Rattle.am_stands.proofs.Changes.{long_all}
 
 -- what a step of who doesn't lead does to its fronts: it is told of no more than before, or than its sequencer says, and accepts what it
 -- is told of and has
-pub record Follows (s : Group) (name : ℕ) (n : Node) (heard : ℕ) : Type 0 where
+pub record Learns (s : Group) (name : ℕ) (n : Node) (heard : ℕ) : Type 0 where
   pub told : n.core.told ≤ max (s.node name).told heard
   pub up_to : (s.node name).acc ≤ n.core.acc
   pub given : n.core.acc ≤ max (s.node name).told n.core.told
@@ -22,7 +22,7 @@ word_before s name heard x (nothing z) d above = omega arith
 word_before s name heard x (of_sequencer from v low says) d above = says.before x d (omega arith)
 
 pub follower_learns : (v : World) (name heard : ℕ) (n : Node) (s : Group) (group : List Entry) → Kept s → NameStands v name n (s.node name)
-    → IsUp (s.node name) → Begins s.group group → Word s name heard → Follows s name n heard → MayLearn s name n group
+    → IsUp (s.node name) → Begins s.group group → Word s name heard → Learns s name n heard → MayLearn s name n group
 follower_learns v name heard n s group k old up grows word f =
     let ok = k.each name in
     let fronts = ok.fronts in

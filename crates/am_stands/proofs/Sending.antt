@@ -97,7 +97,7 @@ module _ (v : World) (i : ℕ) (c : Cause) (m n : Node) (s : Group) (h : Sender 
       by_start (as_before low) = low
       by_start (just_begun follows asked) = absurd (asked from stored u is)
 
-  numbered : (number : ℕ) (e : Entry) → is_sequencer n ≡ true → letters.Stands n.core.log m.core.base number e
+  numbered : (number : ℕ) (e : Entry) → is_sequencer n ≡ true → letters.EntryStands n.core.log m.core.base number e
       → says.EntrySays s i n.core.promise n.core.acc number e
   numbered number e t at = entry_said v i n s m.core.base number e (speaks_leading t) t h.fronts (start_leading t) at
 
@@ -130,7 +130,7 @@ module _ (v : World) (i : ℕ) (c : Cause) (m n : Node) (s : Group) (h : Sender 
       tells_log (decided b number names there answer at) = h.ballots.blank b there
 
   -- what is sent of its list
-  piece_log : (number : ℕ) (e : Entry) → letters.Stands n.core.log m.core.base number e → is_member n.status ≡ true
+  piece_log : (number : ℕ) (e : Entry) → letters.EntryStands n.core.log m.core.base number e → is_member n.status ≡ true
   piece_log number e at = logged_member (split (has_log n.status) (λ t. t) (λ f. absurd (
       let none = ap length ((h.group.kept.each i).blank (h.stands.log_ ∙ f)) in
       let long = long_all v i n (s.node i) h.stands in
@@ -138,7 +138,7 @@ module _ (v : World) (i : ℕ) (c : Cause) (m n : Node) (s : Group) (h : Sender 
       omega arith)))
 
   pieced : (from : ℕ) (u : Stamp) (stored number : ℕ) (e : Entry) → c ≡ hears (packet.Fetch from u stored) → may_fetch n from u ≡ true
-      → letters.Stands n.core.log m.core.base number e → Leads (PieceStands i number n e s) s
+      → letters.EntryStands n.core.log m.core.base number e → Leads (PieceStands i number n e s) s
   pieced from u stored number e is may at =
       let member = piece_log number e at in
       let both = and_both (stamp_eq u n.core.promise) ((u.by == from) || ((u.by == n.core.who) && stamp_eq (view n) u)) may in

@@ -125,7 +125,7 @@ whole_item (x ∷ front) entries index e h = let z : length (x ∷ front) + inde
     ap (slice_get ((x ∷ front) ++ entries)) z ∙ whole_item front entries index e h
 
 pub list_item : (v : World) (i : ℕ) (n : Node) (a : groups.Node) (base number : ℕ) (e : Entry) → NameStands v i n a → n.core.log.start ≤ base
-    → letters.Stands n.core.log base number e → item_at a.list number ≡ Some e
+    → letters.EntryStands n.core.log base number e → item_at a.list number ≡ Some e
 list_item v i n a base number e h low at =
     let start_ = n.core.log.start in
     let front = take start_ v.group in
@@ -135,7 +135,7 @@ list_item v i n a base number e h low at =
     ap (item_at a.list) is ∙ ap (λ l. slice_get l (length front + at.index)) h.list ∙ whole_item front n.core.log.entries at.index e at.there
 
 pub entry_said : (v : World) (i : ℕ) (n : Node) (s : Group) (base number : ℕ) (e : Entry) → Speaks v i n s → is_sequencer n ≡ true
-    → FrontsStand n (s.node i) → n.core.log.start ≤ base → letters.Stands n.core.log base number e → EntrySays s i n.core.promise n.core.acc number e
+    → FrontsStand n (s.node i) → n.core.log.start ≤ base → letters.EntryStands n.core.log base number e → EntrySays s i n.core.promise n.core.acc number e
 entry_said v i n s base number e h t f low at =
     let l = leading v i n s h t in
     record {
@@ -145,7 +145,7 @@ entry_said v i n s base number e h t f low at =
 
 -- a Piece of its own view
 pub piece_said : (v : World) (i : ℕ) (n : Node) (s : Group) (base number : ℕ) (e : Entry) → Speaks v i n s → is_sequencer n ≡ true
-    → n.core.log.start ≤ base → letters.Stands n.core.log base number e → PieceSays s i n.core.promise number e
+    → n.core.log.start ≤ base → letters.EntryStands n.core.log base number e → PieceSays s i n.core.promise number e
 piece_said v i n s base number e h t low at =
     let l = leading v i n s h t in
     of_line (ap (λ (u : Stamp). u.by) (sym l.viewed) ∙ l.leads.by) l.decided

@@ -137,7 +137,7 @@ pub record PieceStands (i number : ℕ) (n : Node) (e : Entry) (s t : Group) : T
 -- a Piece that the name of its promise fetches: where that isn't decided, of the list that was shown, which is served from then on
 pub shown_said : (v : World) (i from base number : ℕ) (n : Node) (e : Entry) (s : Group) (to : List ℕ) → Speaks v i n s → n.core.promise.by ≡ from
     → from ≢ i → has to i ≡ true → FetchSays s from n.core.promise to
-    → n.core.log.start ≤ base → letters.Stands n.core.log base number e → Leads (PieceStands i number n e s) s
+    → n.core.log.start ≤ base → letters.EntryStands n.core.log base number e → Leads (PieceStands i number n e s) s
 shown_said v i from base number n e s to h by other asked (of_promise not_by of_all) low at = absurd (not_by by)
 shown_said v i from base number n e s to h by other asked (for_ballot own_by all) low at = split (s.views.decided (key n.core.promise))
     (λ d. record {

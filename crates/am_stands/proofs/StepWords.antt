@@ -55,5 +55,5 @@ pub use Rattle.am_stands.proofs.{Onward.grows_trans, Onward.grows_same, Onward.g
 pub use Rattle.am_stands.proofs.{Letters.trimmed_stays, Letters.all_stay, Letters.sequencer_stays, Others.keeps_in, Others.others_keep}
 pub use Rattle.am_stands.proofs.{Refreshing.refreshes_keep, Sent.Speaks, Sent.leading, Welcomes.not_above_key, Silent.departed_silent}
 pub use Rattle.am_stands.proofs.Changes.{member_stays, is_up, looked_open, Unmoved, own_name, unmoved_refresh, others_same, others_fronts, same_name}
-pub use Rattle.am_stands.specs.{Steps.FrontsAfter, Letters.LetterSays, Running.Following, Running.Follows, Running.StepsMove}
+pub use Rattle.am_stands.specs.{Steps.FrontsAfter, Letters.LetterSays, Running.Following, Running.LeadsOn, Running.StepsMove}
 pub use Rattle.am_stands.specs.Sending.{LeaderStands, NumbersStand, BallotStands, SendsStand, SendsNothing, as_before as began_before}

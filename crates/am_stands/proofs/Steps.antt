@@ -7,7 +7,7 @@ use Rattle.am_stands.proofs.StepWords.{World, is_stopped, group_after, views_aft
 use Rattle.am_stands.proofs.StepWords.{nothing_yet, used_report, and_then, Deeds, plainly, looked, Ending, ends_so, let_go, closing, Effect, actor, IsCause, steps}
 use Rattle.am_stands.proofs.StepWords.{all_get, rests_refresh, rests_at_end, few_names, numbers_hold, not_above_itself, run_owned, Balloted, OpenBallot}
 use Rattle.am_stands.proofs.StepWords.{leads_member, changes_do, IsNoted, CauseSent, after_step, cause_sent, NameStands, StandsBut, within, nothing, none}
-use Rattle.am_stands.proofs.StepWords.{OwnDecided, Sender, ListBegins, began_before, just_begun, Stepping, Following, Follows, StepsMove, then_moves}
+use Rattle.am_stands.proofs.StepWords.{OwnDecided, Sender, ListBegins, began_before, just_begun, Stepping, Following, LeadsOn, StepsMove, then_moves}
 use Rattle.am_stands.proofs.StepWords.{departed_silent}
 use Rattle.am_packet.specs.declared.packet.Packet.TheVariants as packet
 use Rattle.am_laws.specs.Letters as letters
@@ -155,7 +155,7 @@ module _ (rules : Rules) (events : List Event) (e : Event) (c : Cause) (s : Grou
   gone_follows : (o : Outcome) (sent : List Letter) (x : Node) → Deeds c o m x → has_departed m.status ≡ true
       → Effect m c (record { node = refresh_at_end x; outcome = o; letters = sent })
       → happens w e ≡ after_ (record { node = refresh_at_end x; outcome = o; letters = sent })
-      → Follows rules (after_ (record { node = refresh_at_end x; outcome = o; letters = sent })) s
+      → LeadsOn rules (after_ (record { node = refresh_at_end x; outcome = o; letters = sent })) s
   gone_follows o sent x deeds left effect is =
       let step : Step = record { node = refresh_at_end x; outcome = o; letters = sent } in
       let n = refresh_at_end x in
@@ -191,7 +191,7 @@ module _ (rules : Rules) (events : List Event) (e : Event) (c : Cause) (s : Grou
 
     -- a step that goes on to its end
     plain_follows : (o : Outcome) (sent : List Letter) (x : Node) → Deeds c o m x → Effect m c (record { node = refresh_at_end x; outcome = o; letters = sent })
-        → Follows rules (after_ (record { node = refresh_at_end x; outcome = o; letters = sent })) s
+        → LeadsOn rules (after_ (record { node = refresh_at_end x; outcome = o; letters = sent })) s
     plain_follows o sent x deeds effect =
         let step : Step = record { node = refresh_at_end x; outcome = o; letters = sent } in
         let n = refresh_at_end x in
@@ -223,7 +223,7 @@ module _ (rules : Rules) (events : List Event) (e : Event) (c : Cause) (s : Grou
     -- a leaver that is let go
     let_go_follows : (o : Outcome) (from : ℕ) (u : Stamp) (number : ℕ) → c ≡ hears (packet.Gone from u number) → hears_member m from ≡ true → m.leaving ≡ true
         → Effect m c (record { node = refresh_at_end (record m { status = Departed }); outcome = o; letters = [] })
-        → Follows rules (after_ (record { node = refresh_at_end (record m { status = Departed }); outcome = o; letters = [] })) s
+        → LeadsOn rules (after_ (record { node = refresh_at_end (record m { status = Departed }); outcome = o; letters = [] })) s
     let_go_follows o from u number is heard leaves effect =
         let x = record m { status = Departed } in
         let step : Step = record { node = refresh_at_end x; outcome = o; letters = [] } in
@@ -255,7 +255,7 @@ module _ (rules : Rules) (events : List Event) (e : Event) (c : Cause) (s : Grou
     closing_follows : (o : Outcome) (x : Node) (event : NodeEvent) → c ≡ calls event → Course c o m x → is_sequencer x ≡ true → x.leaving ≡ true
         → nat_lt 0 (size (others x)) ≡ false → view x ≡ view m
         → Effect m c (record { node = record (refresh_at_end (push_entry x (Leave x.core.who))) { status = Departed }; outcome = o; letters = [] })
-        → Follows rules (after_ (record { node = record (refresh_at_end (push_entry x (Leave x.core.who))) { status = Departed }; outcome = o; letters = [] }))
+        → LeadsOn rules (after_ (record { node = record (refresh_at_end (push_entry x (Leave x.core.who))) { status = Departed }; outcome = o; letters = [] }))
         s
     closing_follows o x event called course leads leaves alone viewed effect =
         let n = record (refresh_at_end (push_entry x (Leave x.core.who))) { status = Departed } in
@@ -275,10 +275,10 @@ module _ (rules : Rules) (events : List Event) (e : Event) (c : Cause) (s : Grou
   -- ---- each step
 
   follows : (o : Outcome) (sent : List Letter) (n : Node) → Ending c o m sent n → Effect m c (record { node = n; outcome = o; letters = sent })
-      → happens w e ≡ after_ (record { node = n; outcome = o; letters = sent }) → Follows rules (after_ (record { node = n; outcome = o; letters = sent })) s
+      → happens w e ≡ after_ (record { node = n; outcome = o; letters = sent }) → LeadsOn rules (after_ (record { node = n; outcome = o; letters = sent })) s
   follows o sent n ending = by_ending
       (λ l k. Effect m c (record { node = k; outcome = o; letters = l }) → happens w e ≡ after_ (record { node = k; outcome = o; letters = l })
-      → Follows rules (after_ (record { node = k; outcome = o; letters = l })) s)
+      → LeadsOn rules (after_ (record { node = k; outcome = o; letters = l })) s)
       (λ l x deeds effect is. split (has_departed m.status) (λ left. gone_follows o l x deeds left effect is) (λ here. plain_follows here o l x deeds effect))
       (λ from u number is heard leaves effect same. let_go_follows (member_stays m.status (and_both (not (from == m.core.who)) (is_member m.status) heard).1)
       o from u number is heard leaves effect)

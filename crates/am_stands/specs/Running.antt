@@ -27,7 +27,7 @@ pub record Following (rules : Rules) (w : World) (s : Group) : Type 0 where
   pub letters : (k : ℕ) (letter : Letter) → slice_get w.letters k ≡ Some letter → LetterSays w s letter
 
 -- some moves, none of which is a stop, lead to a group that follows
-pub record Follows (rules : Rules) (v : World) (s : Group) : Type 0 where
+pub record LeadsOn (rules : Rules) (v : World) (s : Group) : Type 0 where
   pub to : Group
   pub path : Moves s to
   pub grows : Grows s to
@@ -41,4 +41,4 @@ StepsMove = (rules : Rules) (events : List Event) (e : Event) (c : Cause) (step 
     → Effect ((run rules events).nodes (actor (run rules events) e)) c step
     → happens (run rules events) e ≡ with_step (run rules events) e (actor (run rules events) e) step
     → Following rules (run rules events) s
-    → Follows rules (with_step (run rules events) e (actor (run rules events) e) step) s
+    → LeadsOn rules (with_step (run rules events) e (actor (run rules events) e) step) s
