@@ -5,7 +5,7 @@ pub use Rattle.std.proofs.Common.{nat_le, map, get_or, ◌≢◌, ◌*◌, ◌/�
 pub use Rattle.std.proofs.{lemmas.Bool.and_parts, lemmas.Bool.and_from, lemmas.Bool.Decides.nat_tests, lemmas.Grind.flat_map-append, lemmas.List.take_all}
 pub use Rattle.std.proofs.{lemmas.List.append-nil, lemmas.List.map-append, lemmas.List.Elements.All-nil, lemmas.List.Elements.All-cons}
 pub use Rattle.std.proofs.{lemmas.List.Elements.All-head, lemmas.List.Elements.All-tail, lemmas.Option.slice_get-map}
-pub use Rattle.std.specs.{Cmp.Lexicographic.same_text, Fmt.digits, List.range_with_len, List.list_all, List.flat_map, Option.option_map, Prelude.All}
+pub use Rattle.std.specs.{Cmp.Lexicographic.same_text, List.range_with_len, List.list_all, List.flat_map, Option.option_map, Prelude.All}
 pub use Rattle.std.specs.{Prelude.codes, Prelude.decimal, Prelude.slice_index, Prelude.drop, Prelude.slice_index_or}
 pub use Rattle.am_base.proofs.Greatest.{split}
 pub use Rattle.am_base.specs.Lists.{blank, is_blank, is_blank_row, at_place, members_of, row_after_view, blank_row}
@@ -52,6 +52,7 @@ pub use Rattle.am_audit.specs.{declared.line.Answer.Answer, declared.line.Stage.
 pub use Rattle.am_audited.specs.Claims.{right_verdict, AgreesAs, RunsHaveTheirTexts, LawfulTextsAgree, ScriptsArePassedOver}
 pub use Rattle.am_audited.specs.Texts.{sends_of, answers_of, takes_of, texts_of, logs_in, reading_of, send_in, log_in, queued_as, sent_as, answer_in}
 pub use Rattle.am_audited.specs.Texts.{took_as, take_in}
+unfoldable pub use Rattle.std.specs.Fmt.{digits}
 unfoldable pub use Rattle.am_base.specs.{Lists.AllFit, Lists.after, Lists.fits, Names.by_place}
 unfoldable pub use Rattle.am_fields.specs.Fields.{number_up_to}
 unfoldable pub use Rattle.am_play.specs.Text.{resilience_text, entry_text, outcome_word, outcome_parts, outcome_text, act_word, act_parts, event_text}
