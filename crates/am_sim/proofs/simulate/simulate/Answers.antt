@@ -63,3 +63,7 @@ returns-then-is_race-clause-writes g c = wrote_counts g.K.Sink.contents g.K.Sink
 pub returns-then-is_race-clause-unwritten : goal.returns-then-is_race-clause-unwritten
 returns-then-is_race-clause-unwritten g c = λ not_node none.
     wrote_none g.K.Sink.contents g.K.Sink.count _ c.race_script.result _ _ none c.race_script.ensures.wrote
+
+pub returns-clause-within : goal.returns-clause-within
+returns-clause-within g c = λ not_node other.
+    took_few g.S.Source.left g.S.Source.count _ c.in-Some-simulate_alone.status _ _ other c.in-Some-simulate_alone.ensures.took
