@@ -75,9 +75,9 @@ begins_by line (Err fault) h = cc
 begins_by line (Ok (outlines.Data from req)) h = cc
 begins_by line (Ok (outlines.Join name)) h = (outlines.Join name, refl, eqb-true name line.name h)
 begins_by line (Ok (outlines.Leave name)) h = cc
-begins_by line (Ok (outlines.View stamp members resilience)) h =
-    let both = and_both (line.number == 1) (has members line.name) h in
-    (outlines.View stamp members resilience, refl, (eqb-true line.number 1 both.0, both.1))
+begins_by line (Ok (outlines.View v)) h =
+    let both = and_both (line.number == 1) (has v.members line.name) h in
+    (outlines.View v, refl, (eqb-true line.number 1 both.0, both.1))
 
 -- each line of a name's log has its name
 named_by : (name : ℕ) (b : Bool) (line : Line) (lines : List Line) (k : ℕ) (x : Line) → (b ≡ true → line.name ≡ name)

@@ -21,7 +21,7 @@ abbrev pub Begins : ℕ → ℕ → Outline → Type 0
 Begins start name (outlines.Data from req) = ⊥
 Begins start name (outlines.Join joiner) = joiner ≡ name
 Begins start name (outlines.Leave leaver) = ⊥
-Begins start name (outlines.View stamp members resilience) = (start ≡ 1) × (has members name ≡ true)
+Begins start name (outlines.View v) = (start ≡ 1) × (has v.members name ≡ true)
 
 abbrev pub BeginsAt : List (List ℕ) → ℕ → ℕ → Type 0
 BeginsAt group name start = (text : List ℕ) × (outline : Outline) × (item_at group start ≡ Some text) × (outline_of text ≡ Ok outline)

@@ -54,7 +54,7 @@ resilience_in (Some word) = resilience_of word
 unfoldable pub view_of : List ℕ → Result Outline FieldFault
 view_of text = and_then (two_of text) (λ first. and_then (stamp_of first.0) (λ stamp.
     and_then (names_of (cut_of 32 first.1).0) (λ members. and_then (resilience_in (cut_of 32 first.1).1) (λ resilience.
-    Ok (outlines.View stamp members resilience)))))
+    Ok (outlines.View (record { stamp = stamp; members = members; resilience = resilience }))))))
 
 -- an entry without its body
 unfoldable pub outline_of : List ℕ → Result Outline FieldFault

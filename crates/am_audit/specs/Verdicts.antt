@@ -110,7 +110,7 @@ may_begin line (Err fault) = false
 may_begin line (Ok (outlines.Data from req)) = false
 may_begin line (Ok (outlines.Join name)) = name == line.name
 may_begin line (Ok (outlines.Leave name)) = false
-may_begin line (Ok (outlines.View stamp members resilience)) = (line.number == 1) && has members line.name
+may_begin line (Ok (outlines.View v)) = (line.number == 1) && has v.members line.name
 
 abbrev pub early_at : Option ℕ → Line → Option Verdict
 early_at (Some last) line = None
@@ -125,7 +125,7 @@ abbrev pub bare_entry : Outline → Entry
 bare_entry (outlines.Data from req) = entries.Data from req []
 bare_entry (outlines.Join name) = entries.Join name
 bare_entry (outlines.Leave name) = entries.Leave name
-bare_entry (outlines.View stamp members resilience) = entries.View stamp members resilience
+bare_entry (outlines.View v) = entries.View v
 
 abbrev pub is_lowest : Option ℕ → ℕ → Bool
 is_lowest None name = false
@@ -133,8 +133,8 @@ is_lowest (Some lowest) name = lowest == name
 
 -- a founders' view: round 1, the lowest of its names, each of life 1, no resilience
 abbrev pub founds : Outline → Bool
-founds (outlines.View stamp members resilience) = ((stamp.round == 1) && is_lowest (lowest_of members) stamp.by)
-    && (list_all (λ life. nat_le life 1) members && (resilience == 0))
+founds (outlines.View v) = ((v.stamp.round == 1) && is_lowest (lowest_of v.members) v.stamp.by)
+    && (list_all (λ life. nat_le life 1) v.members && (v.resilience == 0))
 founds _ = false
 
 abbrev pub fits_at : ℕ → Image → Result Outline FieldFault → Bool

@@ -194,4 +194,4 @@ all_asked sends (e ∷ es) each = (one e (λ from req body is. each 0 from req b
     one (entries.Data from req body) h = h from req body refl
     one (entries.Join name) h = tt
     one (entries.Leave name) h = tt
-    one (entries.View stamp members resilience) h = tt
+    one (entries.View v) h = tt

@@ -46,9 +46,9 @@ entry_plain rules (entries.Data from req body) bytes =
     (plains (decimal req) (codes " " ++ body_text body) (number_plain req) (word_plain (body_text body) (body_word body bytes)))
 entry_plain rules (entries.Join name) bytes = name_plain name
 entry_plain rules (entries.Leave name) bytes = name_plain name
-entry_plain rules (entries.View stamp members resilience) bytes =
-    plains (stamp_text stamp) (codes " " ++ (names_text members ++ resilience_text rules resilience)) (stamp_plain stamp)
-    (plains (names_text members) (resilience_text rules resilience) (set_plain members) (resilience_plain rules resilience))
+entry_plain rules (entries.View v) bytes =
+    plains (stamp_text v.stamp) (codes " " ++ (names_text v.members ++ resilience_text rules v.resilience)) (stamp_plain v.stamp)
+    (plains (names_text v.members) (resilience_text rules v.resilience) (set_plain v.members) (resilience_plain rules v.resilience))
 
 -- ---- outcomes
 

@@ -1,7 +1,7 @@
 -- An entry that is printed is read.
 use Rattle.am_audited.proofs.Words.{◌≡◌, ℕ, ◌<◌, ◌≤◌, ◌==◌, ◌&&◌, zero, suc, Bool, true, false, List, [], ◌∷◌, ◌++◌, length, lit<, refl, ap, ◌∙◌, arith}
 use Rattle.am_audited.proofs.Words.{Result, Ok, Err, Option, Some, None, if◌then◌else◌, codes, decimal, append-nil, nat_tests, most_number, most_body, IsSet}
-use Rattle.am_audited.proofs.Words.{Rules, Stamp, Entry, FieldFault, Form, cut_of, name_text, stamp_text, names_text, body_text, resilience_text, entry_text}
+use Rattle.am_audited.proofs.Words.{Rules, GroupView, Stamp, Entry, FieldFault, Form, cut_of, name_text, stamp_text, names_text, body_text, resilience_text, entry_text}
 use Rattle.am_audited.proofs.Words.{Outline, data_parts, data_of, resilience_of, resilience_in, view_of, outline_of, data_in, number_again, name_again}
 use Rattle.am_audited.proofs.Words.{names_again, decimal_word, name_word, stamp_word, names_word, word_cut, word_whole, stamp_again, body_again, IsSayable}
 use Rattle.am_audited.proofs.Words.{IsRaised}
@@ -18,7 +18,7 @@ abbrev pub outline_as : Rules → Entry → Outline
 outline_as rules (entries.Data from req body) = outlines.Data from req
 outline_as rules (entries.Join name) = outlines.Join name
 outline_as rules (entries.Leave name) = outlines.Leave name
-outline_as rules (entries.View stamp members resilience) = outlines.View stamp members (resilience_as rules resilience)
+outline_as rules (entries.View v) = outlines.View v.stamp v.members (resilience_as rules v.resilience)
 
 pub has_bytes : (entry : Entry) → IsSayable entry → HasBytes entry
 has_bytes (entries.Data from req body) say = say.2
@@ -49,17 +49,17 @@ resilience_read false resilience low some =
     let filled : (length (114 ∷ decimal resilience) == 0) ≡ false = grind (arith, nat_tests) in
     rw (number_again 15 resilience low (lit< tt), other, filled) refl
 
-view_read : (b : Bool) (stamp : Stamp) (members : List ℕ) (resilience : ℕ) → stamp.round ≤ most_number → stamp.by < 256 → IsSet members → resilience ≤ 15
-    → (b ≡ false → 0 < resilience) → view_of (stamp_text stamp ++ 32 ∷ (names_text members ++ text_by b resilience))
-    ≡ Ok (outlines.View stamp members (if b then 0 else resilience))
+view_read : (b : Bool) (v : GroupView) → v.stamp.round ≤ most_number → v.stamp.by < 256 → IsSet v.members → v.resilience ≤ 15
+    → (b ≡ false → 0 < v.resilience) → view_of (stamp_text v.stamp ++ 32 ∷ (names_text v.members ++ text_by b v.resilience))
+    ≡ Ok (outlines.View v.stamp v.members (if b then 0 else v.resilience))
 unfolding view_of
-view_read b stamp members resilience round by set low some =
+view_read b v round by set low some =
     rw (
-      two_words (stamp_text stamp) (names_text members ++ text_by b resilience) (stamp_word stamp),
-      stamp_again stamp round by,
-      cut_by b members resilience,
-      names_again members set,
-      resilience_read b resilience low some,
+      two_words (stamp_text v.stamp) (names_text v.members ++ text_by b v.resilience) (stamp_word v.stamp),
+      stamp_again v.stamp round by,
+      cut_by b v.members v.resilience,
+      names_again v.members set,
+      resilience_read b v.resilience low some,
     ) refl
 
 -- ---- entries
@@ -81,10 +81,10 @@ entry_read rules (entries.Data from req body) say raised =
     rw (data_read from req body say.0 say.1, body_again most_body body say.2 say.3) refl
 entry_read rules (entries.Join name) say raised = rw (name_again name say) refl
 entry_read rules (entries.Leave name) say raised = rw (name_again name say) refl
-entry_read rules (entries.View stamp members resilience) say raised =
-    view_read (resilience == rules.resilience) stamp members resilience say.1 say.0 say.2 say.3 (λ other. above (rules.resilience) resilience other raised)
+entry_read rules (entries.View v) say raised =
+    view_read (v.resilience == rules.resilience) v say.1 say.0 say.2 say.3 (λ other. above (rules.resilience) v.resilience other raised)
   where
-    above : (least resilience : ℕ) → (resilience == least) ≡ false → least ≤ resilience → 0 < resilience
+    above : (least v.resilience : ℕ) → (v.resilience == least) ≡ false → least ≤ v.resilience → 0 < v.resilience
     above least zero other raised = absurd (grind (arith, nat_tests))
     above least (suc before) other raised = omega arith
 

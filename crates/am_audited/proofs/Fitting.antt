@@ -40,10 +40,10 @@ after_above rules image number (entries.Join name) some fit h = record { viewed 
 after_above rules image number (entries.Leave name) some fit h = split ((at_place image name).life == life_of name)
     (λ t. rw t (record { viewed = h.viewed; least = h.least }))
     (λ f. rw f h)
-after_above rules image number (entries.View stamp members resilience) some fit h =
-    let a = (and_parts (stamp_lt image.view stamp) _ fit).1 in
-    let b = (and_parts (is_blank image || is_within members (members_of image)) _ a).1 in
-    let c = (and_parts (has members stamp.by) (nat_le image.resilience resilience) b).1 in
+after_above rules image number (entries.View v) some fit h =
+    let a = (and_parts (stamp_lt image.view v.stamp) _ fit).1 in
+    let b = (and_parts (is_blank image || is_within v.members (members_of image)) _ a).1 in
+    let c = (and_parts (has v.members v.stamp.by) (nat_le image.resilience v.resilience) b).1 in
     let least = h.least in
     let up : image.resilience ≤ resilience = grind (arith, nat_tests) in
     record { viewed = some; least = omega arith }
@@ -60,17 +60,17 @@ low_rises rules a b least up = split (a == rules.resilience)
 fits_low : (rules : Rules) (image : Image) (e : Entry) → IsAbove rules image → fits image e ≡ true
     → fits (lowered rules image) (bare_entry (outline_as rules e)) ≡ true
 unfolding fits
-fits_low rules image (entries.View stamp members resilience) h fit =
-    let a = and_parts (stamp_lt image.view stamp) _ fit in
-    let b = and_parts (is_blank image || is_within members (members_of image)) _ a.1 in
-    let c = and_parts (has members stamp.by) (nat_le image.resilience resilience) b.1 in
+fits_low rules image (entries.View v) h fit =
+    let a = and_parts (stamp_lt image.view v.stamp) _ fit in
+    let b = and_parts (is_blank image || is_within v.members (members_of image)) _ a.1 in
+    let c = and_parts (has v.members v.stamp.by) (nat_le image.resilience v.resilience) b.1 in
     let up : image.resilience ≤ resilience = let d = c.1 in grind (arith, nat_tests) in
-    let within : is_within members (members_of image) ≡ true = ap (λ x. x || is_within members (members_of image)) (sym (not_blank image h.viewed)) ∙ b.0 in
+    let within : is_within v.members (members_of image) ≡ true = ap (λ x. x || is_within v.members (members_of image)) (sym (not_blank image h.viewed)) ∙ b.0 in
     let other = not_blank (lowered rules image) h.viewed in
-    and_from (stamp_lt image.view stamp) _ a.0
-    (and_from (is_blank (lowered rules image) || is_within members (members_of image)) _
-    (ap (λ x. x || is_within members (members_of image)) other ∙ within)
-    (and_from (has members stamp.by) _ c.0 (low_rises rules image.resilience resilience h.least up)))
+    and_from (stamp_lt image.view v.stamp) _ a.0
+    (and_from (is_blank (lowered rules image) || is_within v.members (members_of image)) _
+    (ap (λ x. x || is_within v.members (members_of image)) other ∙ within)
+    (and_from (has v.members v.stamp.by) _ c.0 (low_rises rules image.resilience v.resilience h.least up)))
 fits_low rules image _ h fit = fit
 
 -- and what it tells is read as what it tells
@@ -80,13 +80,13 @@ unfolding after by_place
 after_low rules image number (entries.Data from req body) viewed = split ((at_place image from).life == life_of from) (λ t. rw t refl) (λ f. rw f refl)
 after_low rules image number (entries.Join name) viewed = refl
 after_low rules image number (entries.Leave name) viewed = split ((at_place image name).life == life_of name) (λ t. rw t refl) (λ f. rw f refl)
-after_low rules image number (entries.View stamp members resilience) viewed =
+after_low rules image number (entries.View v) viewed =
     let same : is_blank (lowered rules image) ≡ is_blank image = not_blank (lowered rules image) viewed ∙ sym (not_blank image viewed) in
     ap (λ b. record {
-      view = stamp;
+      view = v.stamp;
       view_number = number;
-      resilience = resilience_as rules resilience;
-      rows = map (λ place. row_after_view b number (slice_index members place) (slice_index_or image.rows place blank_row)) (range_with_len 0 16);
+      resilience = resilience_as rules v.resilience;
+      rows = map (λ place. row_after_view b number (slice_index v.members place) (slice_index_or image.rows place blank_row)) (range_with_len 0 16);
     }) same
 
 -- ---- the list

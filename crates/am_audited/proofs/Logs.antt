@@ -86,7 +86,7 @@ test_of : (from req : ℕ) (e : Entry) → is_send from req (data_as e) ≡ is_o
 test_of from req (entries.Data f r body) = refl
 test_of from req (entries.Join name) = refl
 test_of from req (entries.Leave name) = refl
-test_of from req (entries.View stamp members resilience) = refl
+test_of from req (entries.View v) = refl
 
 pub send_test : (rules : Rules) (from req : ℕ) (e : Entry) → IsSayable e → is_send from req (data_in (entry_text rules e)) ≡ is_of from req e
 send_test rules from req e say = ap (is_send from req) (data_in_is rules e say) ∙ test_of from req e

@@ -10,7 +10,7 @@ pub use Rattle.std.specs.{Prelude.codes, Prelude.decimal, Prelude.slice_index, P
 pub use Rattle.am_base.proofs.Greatest.{split}
 pub use Rattle.am_base.specs.Lists.{blank, is_blank, is_blank_row, at_place, members_of, row_after_view, blank_row}
 pub use Rattle.am_base.specs.{Founding.Rules, Founding.MayFound, Most.most_number, Most.most_body, Names.place_of, Names.IsSet, Names.has, Names.life_of}
-pub use Rattle.am_base.specs.{Names.is_within, Names.lowest_of, Names.name_at, Stamps.stamp_lt, Stamps.stamp_eq, Stamps.no_stamp, declared.entry.Entry.Entry}
+pub use Rattle.am_base.specs.{Names.is_within, Names.lowest_of, Names.name_at, Stamps.stamp_lt, Stamps.stamp_eq, Stamps.no_stamp, declared.entry.Entry.Entry, declared.entry.GroupView.GroupView}
 pub use Rattle.am_base.specs.{declared.image.Image.Image, declared.name.Stamp.Stamp, declared.outcome.Outcome.Outcome}
 pub use Rattle.am_packet.specs.{Boxes.Letter, Laws.IsBytes, declared.packet.Packet.Packet}
 pub use Rattle.am_fields.specs.{Fields.onto_cut, Fields.cut_of, Fields.same, Fields.and_then, Fields.number_of, Fields.parts_of}

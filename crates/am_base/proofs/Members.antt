@@ -1,6 +1,6 @@
 -- What a list tells, along its beginnings.
 use Rattle.am_base.proofs.ChainWords.{split, ◌≡◌, ⊎_elim, inl, ℕ, ◌+◌, ◌<◌, ◌==◌, ◌&&◌, nat_lt, true, false, List, [], ◌∷◌, ◌++◌, length, slice_index, refl}
-use Rattle.am_base.proofs.ChainWords.{sym, ap, ◌∙◌, subst, arith, append-nil, nat_tests, get_or-map, Stamp, Image, Row, Entry, Leave, View, has, place_of}
+use Rattle.am_base.proofs.ChainWords.{sym, ap, ◌∙◌, subst, arith, append-nil, nat_tests, get_or-map, GroupView, Image, Row, Entry, Leave, View, has, place_of}
 use Rattle.am_base.proofs.ChainWords.{life_of, blank_row, blank, after, fits, fold, AllFit, members_of, member_life, Begins, IsGood, AllSmall, SmallName}
 use Rattle.am_base.proofs.ChainWords.{image_of, mem}
 use Rattle.am_base.proofs.Rows.{row_at, In, Past, Was, Spares, Lasting, was_lasting, past_lasting, mod16, long_after, lasts_after, not_both}
@@ -149,25 +149,25 @@ mem_push a e name g s h =
     (in_after (image_of a) (1 + length a) e name (long_told a) (last_fits a e g) s (mem_in a name h)))
 
 -- a View's members, after it
-pub mem_viewed : (a : List Entry) (stamp : Stamp) (members : List ℕ) (resilience name : ℕ) → mem (a ++ View stamp members resilience ∷ []) name ≡ true
-    → has members name ≡ true
-mem_viewed a stamp members resilience name h =
-    let i = subst (λ x. In (row_at x (place_of name)) (life_of name)) (told_push a (View stamp members resilience))
-    (mem_in (a ++ View stamp members resilience ∷ []) name h) in
+pub mem_viewed : (a : List Entry) (v : GroupView) (name : ℕ) → mem (a ++ View v ∷ []) name ≡ true
+    → has v.members name ≡ true
+mem_viewed a v name h =
+    let i = subst (λ x. In (row_at x (place_of name)) (life_of name)) (told_push a (View v))
+    (mem_in (a ++ View v ∷ []) name h) in
     let up : 0 < 1 + length a = omega arith in
     let pos : 0 < life_of name = omega arith in
-    let e = in_viewed (image_of a) (1 + length a) stamp members resilience (place_of name) (life_of name) (mod16 name) up pos i in
+    let e = in_viewed (image_of a) (1 + length a) v (place_of name) (life_of name) (mod16 name) up pos i in
     grind (arith, nat_tests)
 
 -- and its members are members after it
-pub viewed_mem : (a : List Entry) (stamp : Stamp) (members : List ℕ) (resilience name : ℕ) → IsGood (a ++ View stamp members resilience ∷ [])
-    → has members name ≡ true → mem (a ++ View stamp members resilience ∷ []) name ≡ true
+pub viewed_mem : (a : List Entry) (v : GroupView) (name : ℕ) → IsGood (a ++ View v ∷ [])
+    → has v.members name ≡ true → mem (a ++ View v ∷ []) name ≡ true
 unfolding mem
-viewed_mem a stamp members resilience name g h =
+viewed_mem a v name g h =
     let up : 0 < 1 + length a = omega arith in
-    in_mem (a ++ View stamp members resilience ∷ []) name (subst (λ x. In (row_at x (place_of name)) (life_of name))
-    (sym (told_push a (View stamp members resilience)))
-    (viewed_member (image_of a) (1 + length a) stamp members resilience name (long_told a) up (last_fits a (View stamp members resilience) g) h
+    in_mem (a ++ View v ∷ []) name (subst (λ x. In (row_at x (place_of name)) (life_of name))
+    (sym (told_push a (View v)))
+    (viewed_member (image_of a) (1 + length a) v name (long_told a) up (last_fits a (View v) g) h
     (λ w. mem_in a name w)))
 
 -- who leaves was a member, and is none after it

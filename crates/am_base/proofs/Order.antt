@@ -1,6 +1,6 @@
 -- Views and resilience rise along a list.
 use Rattle.am_base.proofs.ChainWords.{split, ◌≡◌, ℕ, ◌+◌, ◌<◌, ◌≤◌, ◌==◌, nat_lt, true, List, [], ◌∷◌, ◌++◌, length, refl, sym, ap, ◌∙◌, subst, arith}
-use Rattle.am_base.proofs.ChainWords.{nat_tests, Stamp, Image, Entry, Data, Join, Leave, View, has, life_of, rank_of, is_within, stamp_lt, blank, after}
+use Rattle.am_base.proofs.ChainWords.{nat_tests, Stamp, GroupView, Image, Entry, Data, Join, Leave, View, has, life_of, rank_of, is_within, stamp_lt, blank, after}
 use Rattle.am_base.proofs.ChainWords.{fits, fold, AllFit, members_of, at_place, Begins, IsGood, AllSmall, SmallName, NotView, image_of, view_of}
 use Rattle.am_base.proofs.ChainWords.{resilience_of, key}
 use Rattle.am_base.proofs.Members.{fold_append, fit_back, small_back, told_push, last_fits, last_small, good_begins}
@@ -53,9 +53,9 @@ rises_after image n (Join name) l f s = record { view = omega arith; resilience 
 rises_after image n (Leave name) l f s = split ((at_place image name).life == life_of name)
     (λ t. rw t (record { view = omega arith; resilience = omega arith; small = l }))
     (λ t. rw t (record { view = omega arith; resilience = omega arith; small = l }))
-rises_after image n (View stamp members resilience) l f s =
-    let v = view_parts image stamp members resilience f in
-    let up = key_lt image.view stamp l s v.above in
+rises_after image n (View w) l f s =
+    let v = view_parts image w f in
+    let up = key_lt image.view w.stamp l s v.above in
     record { view = omega arith; resilience = v.strong; small = s }
 
 rises_fold : (image : Image) (n : ℕ) (es : List Entry) → image.view.by < 256 → AllFit image n es → AllSmall es → Rises image (fold image n es)
@@ -88,26 +88,26 @@ unfolding view_of
 view_small a g = let low : 0 < 256 = omega arith in (rises_fold blank 1 a low g.fit g.small).small
 
 -- a View's stamp and resilience are the list's after it
-pub view_viewed : (a : List Entry) (stamp : Stamp) (members : List ℕ) (resilience : ℕ) → view_of (a ++ View stamp members resilience ∷ []) ≡ stamp
+pub view_viewed : (a : List Entry) (v : GroupView) → view_of (a ++ View v ∷ []) ≡ v.stamp
 unfolding view_of after
-view_viewed a stamp members resilience = ap (λ (i : Image). i.view) (told_push a (View stamp members resilience))
+view_viewed a v = ap (λ (i : Image). i.view) (told_push a (View v))
 
-pub resilience_viewed : (a : List Entry) (stamp : Stamp) (members : List ℕ) (resilience : ℕ)
-    → resilience_of (a ++ View stamp members resilience ∷ []) ≡ resilience
+pub resilience_viewed : (a : List Entry) (v : GroupView)
+    → resilience_of (a ++ View v ∷ []) ≡ v.resilience
 unfolding resilience_of after
-resilience_viewed a stamp members resilience = ap (λ (i : Image). i.resilience) (told_push a (View stamp members resilience))
+resilience_viewed a v = ap (λ (i : Image). i.resilience) (told_push a (View v))
 
 -- and above the views before it
-pub view_below : (a : List Entry) (stamp : Stamp) (members : List ℕ) (resilience : ℕ) → IsGood (a ++ View stamp members resilience ∷ [])
-    → key (view_of a) < key stamp
+pub view_below : (a : List Entry) (v : GroupView) → IsGood (a ++ View v ∷ [])
+    → key (view_of a) < key v.stamp
 unfolding fits view_of
-view_below a stamp members resilience g =
-    let f = last_fits a (View stamp members resilience) g in
-    let lt = (view_parts (image_of a) stamp members resilience f).above in
-    key_lt (image_of a).view stamp (small_before a g) (last_small a (View stamp members resilience) g) lt
+view_below a v g =
+    let f = last_fits a (View v) g in
+    let lt = (view_parts (image_of a) v f).above in
+    key_lt (image_of a).view v.stamp (small_before a g) (last_small a (View v) g) lt
   where
-    small_before : (a : List Entry) → IsGood (a ++ View stamp members resilience ∷ []) → (image_of a).view.by < 256
-    small_before a g = let h : Begins a (a ++ View stamp members resilience ∷ []) = record { rest = View stamp members resilience ∷ []; same = refl } in
+    small_before : (a : List Entry) → IsGood (a ++ View v ∷ []) → (image_of a).view.by < 256
+    small_before a g = let h : Begins a (a ++ View v ∷ []) = record { rest = View v ∷ []; same = refl } in
         let ga = good_begins h g in let low : 0 < 256 = omega arith in (rises_fold blank 1 a low ga.fit ga.small).small
 
 view_same : (image : Image) (n : ℕ) (e : Entry) → NotView e → (after image n e).view ≡ image.view
@@ -115,7 +115,7 @@ unfolding after
 view_same image n (Data from req body) h = split ((at_place image from).life == life_of from) (λ t. rw t refl) (λ t. rw t refl)
 view_same image n (Join name) h = refl
 view_same image n (Leave name) h = split ((at_place image name).life == life_of name) (λ t. rw t refl) (λ t. rw t refl)
-view_same image n (View stamp members resilience) h = absurd h
+view_same image n (View v) h = absurd h
 
 -- an entry that is no View leaves the view
 pub view_push : (a : List Entry) (e : Entry) → NotView e → view_of (a ++ e ∷ []) ≡ view_of a
@@ -123,11 +123,11 @@ unfolding view_of
 view_push a e h = ap (λ (i : Image). i.view) (told_push a e) ∙ view_same (image_of a) (1 + length a) e h
 
 -- a View of some of the members, by one of them, with a greater stamp and no less resilience fits
-pub view_fits : (a : List Entry) (stamp : Stamp) (members : List ℕ) (resilience : ℕ) → IsGood a → stamp.by < 256 → key (view_of a) < key stamp
-    → is_within members (members_of (image_of a)) ≡ true → has members stamp.by ≡ true → resilience_of a ≤ resilience
-    → fits (image_of a) (View stamp members resilience) ≡ true
+pub view_fits : (a : List Entry) (v : GroupView) → IsGood a → v.stamp.by < 256 → key (view_of a) < key v.stamp
+    → is_within v.members (members_of (image_of a)) ≡ true → has v.members v.stamp.by ≡ true → resilience_of a ≤ v.resilience
+    → fits (image_of a) (View v) ≡ true
 unfolding fits view_of resilience_of
-view_fits a stamp members resilience g s up w h r =
+view_fits a v g s up w h r =
     let low : 0 < 256 = omega arith in
-    let lt = lt_key (image_of a).view stamp (rises_fold blank 1 a low g.fit g.small).small s up in
+    let lt = lt_key (image_of a).view v.stamp (rises_fold blank 1 a low g.fit g.small).small s up in
     grind (arith, nat_tests)

@@ -1,6 +1,6 @@
 -- Which request of a name comes next, by the row of its place.
 use Rattle.am_base.proofs.ChainWords.{split, ◌≡◌, ◌≢◌, ◌⊎◌, ⊎_elim, inl, inr, ℕ, ◌+◌, ◌<◌, ◌==◌, ◌&&◌, nat_lt, true, false, not, List, [], ◌∷◌, length}
-use Rattle.am_base.proofs.ChainWords.{slice_index, refl, sym, ap, ◌∙◌, subst, arith, nat_tests, get_or-map, Stamp, Image, Row, Entry, Data, Join, Leave}
+use Rattle.am_base.proofs.ChainWords.{slice_index, refl, sym, ap, ◌∙◌, subst, arith, nat_tests, get_or-map, GroupView, Image, Row, Entry, Data, Join, Leave}
 use Rattle.am_base.proofs.ChainWords.{View, has, place_of, life_of, blank_row, blank, is_blank, row_of, member_life, members_of, with_row, row_after_view}
 use Rattle.am_base.proofs.ChainWords.{after, fits, request_in}
 use Rattle.am_base.proofs.{Rows.same_name, Rows.row_at, Rows.In, Rows.and_left, Rows.and_right, Rows.mod16, Rows.row_set, Rows.row_view}
@@ -147,19 +147,19 @@ leave_goes_on image n leaver name next long h = split ((row_at image (place_of l
     (row_set image leaver (place_of name) (record (row_at image (place_of leaver)) { left = n }) long)))
     (λ f. rw f h)
 
-view_goes_on : (image : Image) (n : ℕ) (stamp : Stamp) (members : List ℕ) (resilience name next : ℕ) → IsNext (row_at image (place_of name)) (life_of name) next
-    → IsNext (row_at (after image n (View stamp members resilience)) (place_of name)) (life_of name) next
-view_goes_on image n stamp members resilience name next h = rw (row_view image n stamp members resilience (place_of name) (mod16 name))
+view_goes_on : (image : Image) (n : ℕ) (v : GroupView) (name next : ℕ) → IsNext (row_at image (place_of name)) (life_of name) next
+    → IsNext (row_at (after image n (View v)) (place_of name)) (life_of name) next
+view_goes_on image n v name next h = rw (row_view image n v (place_of name) (mod16 name))
     (split (is_blank image)
-    (λ t. rw t (next_first (row_at image (place_of name)) n (slice_index members (place_of name)) (life_of name) next (blank_joined image (place_of name) t) h))
-    (λ f. rw f (next_viewed (row_at image (place_of name)) n (slice_index members (place_of name)) (life_of name) next h)))
+    (λ t. rw t (next_first (row_at image (place_of name)) n (slice_index v.members (place_of name)) (life_of name) next (blank_joined image (place_of name) t) h))
+    (λ f. rw f (next_viewed (row_at image (place_of name)) n (slice_index v.members (place_of name)) (life_of name) next h)))
 
 pub entry_goes_on : (image : Image) (n : ℕ) (e : Entry) (name next : ℕ) → length image.rows ≡ 16 → 0 < n → fits image e ≡ true
     → IsNext (row_at image (place_of name)) (life_of name) next → GoesOn image n e name next
 entry_goes_on image n (Data from req body) name next long up f h = send_goes_on image n from req body name next long (send_parts image from req body long f) h
 entry_goes_on image n (Join joiner) name next long up f h = inl (refl, join_goes_on image n joiner name next long up f h)
 entry_goes_on image n (Leave leaver) name next long up f h = inl (refl, leave_goes_on image n leaver name next long h)
-entry_goes_on image n (View stamp members resilience) name next long up f h = inl (refl, view_goes_on image n stamp members resilience name next h)
+entry_goes_on image n (View v) name next long up f h = inl (refl, view_goes_on image n v name next h)
 
 -- before the first entry
 pub next_at_first : (name : ℕ) → IsNext (row_at blank (place_of name)) (life_of name) 1

@@ -1,7 +1,7 @@
 -- One place's row, along a list.
 use Rattle.am_base.proofs.ChainWords.{split, ◌≡◌, ◌≢◌, ◌⊎◌, ⊎_elim, inl, inr, ℕ, zero, suc, ◌+◌, ◌%◌, ◌<◌, ◌≤◌, ◌==◌, ◌&&◌, ◌||◌, nat_lt, nat_le, Bool}
 use Rattle.am_base.proofs.ChainWords.{true, false, not, List, [], ◌∷◌, length, get_or, slice_index, refl, sym, ◌∙◌, subst, arith, get_or-set_same}
-use Rattle.am_base.proofs.ChainWords.{get_or-set_other, nat_tests, list_all, range_with_len, Stamp, Image, Row, Entry, Data, Join, Leave, View, has}
+use Rattle.am_base.proofs.ChainWords.{get_or-set_other, nat_tests, list_all, range_with_len, GroupView, Image, Row, Entry, Data, Join, Leave, View, has}
 use Rattle.am_base.proofs.ChainWords.{place_of, life_of, is_within, stamp_lt, blank_row, is_blank_row, is_blank, after, fits, members_of, member_life}
 use Rattle.am_base.proofs.ChainWords.{at_place, with_row, row_after_view, get_or-by_place, length-by_place}
 use Rattle.std.proofs.Math.ListN as listn
@@ -37,24 +37,24 @@ or_else true b h k = absurd (cc)
 or_else false b h k = h
 
 -- what a View that fits is
-pub record ViewFits (image : Image) (stamp : Stamp) (members : List ℕ) (resilience : ℕ) : Type 0 where
-  pub above : stamp_lt image.view stamp ≡ true
-  pub within : is_blank image ≡ false → is_within members (members_of image) ≡ true
-  pub by : has members stamp.by ≡ true
-  pub strong : image.resilience ≤ resilience
+pub record ViewFits (image : Image) (v : GroupView) : Type 0 where
+  pub above : stamp_lt image.view v.stamp ≡ true
+  pub within : is_blank image ≡ false → is_within v.members (members_of image) ≡ true
+  pub by : has v.members v.stamp.by ≡ true
+  pub strong : image.resilience ≤ v.resilience
 
-pub view_parts : (image : Image) (stamp : Stamp) (members : List ℕ) (resilience : ℕ) → fits image (View stamp members resilience) ≡ true
-    → ViewFits image stamp members resilience
+pub view_parts : (image : Image) (v : GroupView) → fits image (View v) ≡ true
+    → ViewFits image v
 unfolding fits
-view_parts image stamp members resilience f =
-    let a = stamp_lt image.view stamp in
+view_parts image v f =
+    let a = stamp_lt image.view v.stamp in
     let b = is_blank image in
-    let w = is_within members (members_of image) in
-    let h = has members stamp.by in
-    let r = nat_le image.resilience resilience in
+    let w = is_within v.members (members_of image) in
+    let h = has v.members v.stamp.by in
+    let r = nat_le image.resilience v.resilience in
     let rest : ((b || w) && (h && r)) ≡ true = and_right a ((b || w) && (h && r)) f in
     let last : (h && r) ≡ true = and_right (b || w) (h && r) rest in
-    let le : nat_le image.resilience resilience ≡ true = and_right h r last in
+    let le : nat_le image.resilience v.resilience ≡ true = and_right h r last in
     record {
       above = and_left a ((b || w) && (h && r)) f;
       within = λ z. or_else b w (and_left (b || w) (h && r) rest) z;
@@ -89,7 +89,7 @@ long_after image n (Join name) long = long_set image name (record { life = life_
 long_after image n (Leave name) long = split ((at_place image name).life == life_of name)
     (λ t. rw t (long_set image name (record (at_place image name) { left = n }) long))
     (λ f. rw f long)
-long_after image n (View stamp members resilience) long = length-by_place _
+long_after image n (View v) long = length-by_place _
 
 -- a member or a past one stays one of the two
 abbrev pub Was : Row → ℕ → Type 0
@@ -136,11 +136,11 @@ blank_joined image place h =
 not_blank : (image : Image) (place : ℕ) → 0 < (row_at image place).joined → is_blank image ≡ false
 not_blank image place up = split (is_blank image) (λ t. let z = blank_joined image place t in absurd (omega arith)) (λ f. f)
 
-pub row_view : (image : Image) (n : ℕ) (stamp : Stamp) (members : List ℕ) (resilience place : ℕ) → place < 16
-    → row_at (after image n (View stamp members resilience)) place ≡ row_after_view (is_blank image) n (slice_index members place) (row_at image place)
+pub row_view : (image : Image) (n : ℕ) (v : GroupView) (place : ℕ) → place < 16
+    → row_at (after image n (View v)) place ≡ row_after_view (is_blank image) n (slice_index v.members place) (row_at image place)
 unfolding after
-row_view image n stamp members resilience place h = get_or-by_place
-    (λ p. row_after_view (is_blank image) n (slice_index members p) (get_or image.rows p blank_row)) place blank_row h
+row_view image n v place h = get_or-by_place
+    (λ p. row_after_view (is_blank image) n (slice_index v.members p) (get_or image.rows p blank_row)) place blank_row h
 
 -- what every entry's change of a row keeps for this life of the place
 pub record Lasting (life : ℕ) (P : Row → Type 0) : Type 0 where
@@ -194,10 +194,10 @@ lasts_after P image n (Join name) place life k long low up f h =
 lasts_after P image n (Leave name) place life k long low up f h = split ((at_place image name).life == life_of name)
     (λ t. rw t (set_keeps P image name place (record (at_place image name) { left = n }) long (λ is x. k.left (at_place image name) n up x) h))
     (λ f. rw f h)
-lasts_after P image n (View stamp members resilience) place life k long low up f h =
+lasts_after P image n (View v) place life k long low up f h =
     let joined = was_joined (row_at image place) life (k.was (row_at image place) h) in
-    rw (row_view image n stamp members resilience place low, not_blank image place joined)
-    (viewed_keeps P (row_at image place) n life (slice_index members place) k up h)
+    rw (row_view image n v place low, not_blank image place joined)
+    (viewed_keeps P (row_at image place) n life (slice_index v.members place) k up h)
 
 -- a past one stays past
 pub past_after : (image : Image) (n : ℕ) (e : Entry) (place life : ℕ) → length image.rows ≡ 16 → place < 16 → 0 < n → fits image e ≡ true
@@ -213,7 +213,7 @@ abbrev pub Spares : ℕ → Entry → Type 0
 Spares name (Data from req body) = Unit {0}
 Spares name (Join who) = Unit {0}
 Spares name (Leave who) = who ≢ name
-Spares name (View stamp members resilience) = ⊥
+Spares name (View v) = ⊥
 
 pub same_name : (a b : ℕ) → place_of a ≡ place_of b → life_of a ≡ life_of b → a ≡ b
 same_name a b p l = omega arith
@@ -240,7 +240,7 @@ in_after image n (Leave who) name long f s h =
     let l : (at_place image who).life ≡ life_of who = grind (arith, nat_tests) in
     absurd (s (same_name who name (sym is) (sym l ∙ x.is)))) h))
     (λ f. rw f h)
-in_after image n (View stamp members resilience) name long f s h = absurd s
+in_after image n (View v) name long f s h = absurd s
 
 -- a View's members are the members after it
 viewed_in : (first : Bool) (n life given : ℕ) (r : Row) → 0 < n → 0 < life → (first ≡ true → r.joined ≡ 0) → In (row_after_view first n given r) life → given
@@ -252,11 +252,11 @@ viewed_in false n life given r up pos free h = split (nat_lt 0 (member_life r) &
     (λ t. let g : In (record r { left = n }) life = rw t at h in let l = g.left in absurd (omega arith))
     (λ f. let g : In r life = rw f at h in let j = g.joined in let l = g.left in let i = g.is in grind (arith, nat_tests))
 
-pub in_viewed : (image : Image) (n : ℕ) (stamp : Stamp) (members : List ℕ) (resilience place life : ℕ) → place < 16 → 0 < n → 0 < life
-    → In (row_at (after image n (View stamp members resilience)) place) life → slice_index members place ≡ life
-in_viewed image n stamp members resilience place life low up pos h =
-    viewed_in (is_blank image) n life (slice_index members place) (row_at image place) up pos (λ t. blank_joined image place t)
-    (rw (row_view image n stamp members resilience place low) at h)
+pub in_viewed : (image : Image) (n : ℕ) (v : GroupView) (place life : ℕ) → place < 16 → 0 < n → 0 < life
+    → In (row_at (after image n (View v)) place) life → slice_index v.members place ≡ life
+in_viewed image n v place life low up pos h =
+    viewed_in (is_blank image) n life (slice_index v.members place) (row_at image place) up pos (λ t. blank_joined image place t)
+    (rw (row_view image n v place low) at h)
 
 within_at : (a b : List ℕ) (from n place : ℕ) → list_all (λ p. (slice_index a p == 0) || (slice_index a p == slice_index b p)) (range_with_len from n) ≡ true
     → from ≤ place → place < from + n → 0 < slice_index a place → slice_index b place ≡ slice_index a place
@@ -278,20 +278,20 @@ kept_member n given life r e h = split (nat_lt 0 (member_life r) && not (member_
     (λ t. let j = h.joined in let l = h.left in let i = h.is in absurd (let z : ⊥ = grind (arith, nat_tests) in z))
     (λ f. rw f h)
 
-pub viewed_member : (image : Image) (n : ℕ) (stamp : Stamp) (members : List ℕ) (resilience name : ℕ) → length image.rows ≡ 16 → 0 < n
-    → fits image (View stamp members resilience) ≡ true → has members name ≡ true
+pub viewed_member : (image : Image) (n : ℕ) (v : GroupView) (name : ℕ) → length image.rows ≡ 16 → 0 < n
+    → fits image (View v) ≡ true → has v.members name ≡ true
     → (has (members_of image) name ≡ true → In (row_at image (place_of name)) (life_of name))
-    → In (row_at (after image n (View stamp members resilience)) (place_of name)) (life_of name)
+    → In (row_at (after image n (View v)) (place_of name)) (life_of name)
 unfolding fits
-viewed_member image n stamp members resilience name long up f h old =
-    let given : slice_index members (place_of name) ≡ life_of name = grind (arith, nat_tests) in
+viewed_member image n v name long up f h old =
+    let given : slice_index v.members (place_of name) ≡ life_of name = grind (arith, nat_tests) in
     let pos : 0 < life_of name = omega arith in
-    rw (row_view image n stamp members resilience (place_of name) (mod16 name)) (split (is_blank image)
-    (λ t. rw t (first_member n (slice_index members (place_of name)) (life_of name) (row_at image (place_of name)) pos given))
-    (λ b. let w = (view_parts image stamp members resilience f).within b in
+    rw (row_view image n v (place_of name) (mod16 name)) (split (is_blank image)
+    (λ t. rw t (first_member n (slice_index v.members (place_of name)) (life_of name) (row_at image (place_of name)) pos given))
+    (λ b. let w = (view_parts image v f).within b in
     let low = mod16 name in
-    let e = within_at members (members_of image) 0 16 (place_of name) w (omega arith) (omega arith) (omega arith) in
-    rw b (kept_member n (slice_index members (place_of name)) (life_of name) (row_at image (place_of name)) given
+    let e = within_at v.members (members_of image) 0 16 (place_of name) w (omega arith) (omega arith) (omega arith) in
+    rw b (kept_member n (slice_index v.members (place_of name)) (life_of name) (row_at image (place_of name)) given
     (old (let q : has (members_of image) name ≡ true = grind (arith, nat_tests) in q)))))
 
 -- its Leave ends a membership

@@ -11,20 +11,20 @@ abbrev pub entry_of : EntryParts → Entry
 entry_of (Data from req body) = entries.Data from req body
 entry_of (Join name) = entries.Join name
 entry_of (Leave name) = entries.Leave name
-entry_of (View stamp members resilience) = entries.View stamp members resilience
+entry_of (View v) = entries.View v
 
 abbrev pub taken_of : TakenParts → Entry
 taken_of (taken.Data from req body) = entries.Data from req body
 taken_of (taken.Join name) = entries.Join name
 taken_of (taken.Leave name) = entries.Leave name
-taken_of (taken.View stamp members resilience) = entries.View stamp members resilience
+taken_of (taken.View v) = entries.View v
 
 -- how many bytes its body has: none, where it has no body
 abbrev pub body_len : Entry → ℕ
 body_len (entries.Data from req body) = length body
 body_len (entries.Join name) = 0
 body_len (entries.Leave name) = 0
-body_len (entries.View stamp members resilience) = 0
+body_len (entries.View v) = 0
 
 -- the same of an entry that may be there
 abbrev pub len_of : Option Entry → ℕ

@@ -13,7 +13,7 @@ counted_of None before = before
 counted_of (Some (Data from req body)) before = before
 counted_of (Some (Join name)) before = before
 counted_of (Some (Leave name)) before = before
-counted_of (Some (View stamp members resilience)) before = members
+counted_of (Some (View v)) before = v.members
 
 abbrev pub counted_at : Log → ℕ → List ℕ
 counted_at log number = counted_of (entry_at log number) (members_at log (number - 1))

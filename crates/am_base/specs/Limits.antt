@@ -47,4 +47,4 @@ abbrev pub IsEntry : Entry → Type 0
 IsEntry (Data from req body) = IsNumber req
 IsEntry (Join name) = Unit {0}
 IsEntry (Leave name) = Unit {0}
-IsEntry (View stamp members resilience) = IsStamp stamp × (resilience ≤ 15)
+IsEntry (View v) = IsStamp v.stamp × (v.resilience ≤ 15)

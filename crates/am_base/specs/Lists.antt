@@ -56,11 +56,11 @@ after image number (Data from req body) = if (at_place image from).life
 after image number (Join name) = with_row image name (record { life = life_of name; joined = number; left = 0; last = 0 })
 after image number (Leave name) = if (at_place image name).life
     == life_of name then with_row image name (record (at_place image name) { left = number }) else image
-after image number (View stamp members resilience) = record {
-  view = stamp;
+after image number (View v) = record {
+  view = v.stamp;
   view_number = number;
-  resilience = resilience;
-  rows = by_place (λ place. row_after_view (is_blank image) number (slice_index members place) (slice_index_or image.rows place blank_row));
+  resilience = v.resilience;
+  rows = by_place (λ place. row_after_view (is_blank image) number (slice_index v.members place) (slice_index_or image.rows place blank_row));
 }
 
 -- what may come next: a member's next send; a name whose place is free; a member's going; a greater view of some of the
@@ -69,8 +69,8 @@ unfoldable pub fits : Image → Entry → Bool
 fits image (Data from req body) = has (members_of image) from && (req == (row_of image from).last + 1)
 fits image (Join name) = ((at_place image name).joined == 0) || (nat_lt 0 (at_place image name).left && nat_lt (at_place image name).life (life_of name))
 fits image (Leave name) = has (members_of image) name
-fits image (View stamp members resilience) = stamp_lt image.view stamp
-    && ((is_blank image || is_within members (members_of image)) && (has members stamp.by && nat_le image.resilience resilience))
+fits image (View v) = stamp_lt image.view v.stamp
+    && ((is_blank image || is_within v.members (members_of image)) && (has v.members v.stamp.by && nat_le image.resilience v.resilience))
 
 -- what a list tells after all these entries, the first of which has this number
 unfoldable pub fold : Image → ℕ → List Entry → Image
@@ -118,7 +118,7 @@ abbrev pub request_in : ℕ → Entry → List ℕ
 request_in name (Data from req body) = if from == name then req ∷ [] else []
 request_in name (Join joiner) = []
 request_in name (Leave leaver) = []
-request_in name (View stamp names resilience) = []
+request_in name (View v) = []
 
 abbrev pub requests_of : ℕ → List Entry → List ℕ
 requests_of name list = flat_map (request_in name) list

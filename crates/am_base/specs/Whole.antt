@@ -41,7 +41,7 @@ abbrev pub SmallName : Entry → Type 0
 SmallName (Data from req body) = Unit {0}
 SmallName (Join name) = Unit {0}
 SmallName (Leave name) = Unit {0}
-SmallName (View stamp members resilience) = stamp.by < 256
+SmallName (View v) = v.stamp.by < 256
 
 unfoldable pub AllSmall : List Entry → Type 0
 AllSmall [] = Unit {0}
@@ -56,4 +56,4 @@ abbrev pub NotView : Entry → Type 0
 NotView (Data from req body) = Unit {0}
 NotView (Join name) = Unit {0}
 NotView (Leave name) = Unit {0}
-NotView (View stamp members resilience) = ⊥
+NotView (View v) = ⊥

@@ -8,6 +8,17 @@ use crate::name::{Name, Stamp};
 use crate::names::Names;
 use std::marker::Model;
 
+/// What a View says (docs/PROTOCOL.md, "The list").
+#[derive(Clone, Copy, Debug)]
+pub struct GroupView {
+    /// Its stamp.
+    pub stamp: Stamp,
+    /// Its members.
+    pub members: Names,
+    /// How many stops an accepted entry is to survive, 0 to 15.
+    pub resilience: u8,
+}
+
 /// An entry of a group's list (docs/PROTOCOL.md, "The list").
 #[derive(Drop, Debug)]
 pub enum Entry {
@@ -21,12 +32,8 @@ pub enum Entry {
     Join(Name),
     /// A member goes.
     Leave(Name),
-    /// A view begins: its stamp, its members, and how many stops an accepted entry is to survive, 0 to 15.
-    View {
-        stamp: Stamp,
-        members: Names,
-        resilience: u8,
-    },
+    /// A view begins.
+    View(GroupView),
 }
 
 impl Default for Entry {
@@ -52,15 +59,7 @@ impl Entry {
             },
             Entry::Join(name) => EntryParts::Join(*name),
             Entry::Leave(name) => EntryParts::Leave(*name),
-            Entry::View {
-                stamp,
-                members,
-                resilience,
-            } => EntryParts::View {
-                stamp: *stamp,
-                members: *members,
-                resilience: *resilience,
-            },
+            Entry::View(view) => EntryParts::View(*view),
         })
     }
 
@@ -94,11 +93,7 @@ pub enum EntryParts<'a> {
     /// A member goes.
     Leave(Name),
     /// A view begins.
-    View {
-        stamp: Stamp,
-        members: Names,
-        resilience: u8,
-    },
+    View(GroupView),
 }
 
 /// An entry where it stands: among a packet's bytes, or in a list. Contracts see it as the entry.
@@ -153,7 +148,7 @@ impl<'a> EntryRef<'a> {
     {
         match &self.parts {
             EntryParts::Data { body, .. } => body.bytes().len(),
-            EntryParts::Join(_) | EntryParts::Leave(_) | EntryParts::View { .. } => 0,
+            EntryParts::Join(_) | EntryParts::Leave(_) | EntryParts::View(_) => 0,
         }
     }
 
@@ -169,15 +164,7 @@ impl<'a> EntryRef<'a> {
             },
             EntryParts::Join(name) => EntryParts::Join(*name),
             EntryParts::Leave(name) => EntryParts::Leave(*name),
-            EntryParts::View {
-                stamp,
-                members,
-                resilience,
-            } => EntryParts::View {
-                stamp: *stamp,
-                members: *members,
-                resilience: *resilience,
-            },
+            EntryParts::View(view) => EntryParts::View(*view),
         })
     }
 
@@ -193,15 +180,7 @@ impl<'a> EntryRef<'a> {
             },
             EntryParts::Join(name) => Entry::Join(*name),
             EntryParts::Leave(name) => Entry::Leave(*name),
-            EntryParts::View {
-                stamp,
-                members,
-                resilience,
-            } => Entry::View {
-                stamp: *stamp,
-                members: *members,
-                resilience: *resilience,
-            },
+            EntryParts::View(view) => Entry::View(*view),
         }
     }
 }

@@ -2,9 +2,8 @@ ghost use Rattle.std.specs.Prelude.{◌≡◌, ◌≤◌, IfOk};
 ghost use Rattle.am_base.specs.Entries.{body_len};
 
 use crate::body::SentBody;
-use crate::entry::{EntryParts, EntryRef};
-use crate::name::{Name, Stamp};
-use crate::names::Names;
+use crate::entry::{EntryParts, EntryRef, GroupView};
+use crate::name::Name;
 use std::alloc::{AllocError, Global};
 use std::fmt;
 use std::marker::Model;
@@ -23,11 +22,7 @@ enum TakenParts {
     /// A member goes.
     Leave(Name),
     /// A view begins.
-    View {
-        stamp: Stamp,
-        members: Names,
-        resilience: u8,
-    },
+    View(GroupView),
 }
 
 /// An entry that was taken from a list, with as many bytes as its body has. Contracts see it as the entry.
@@ -65,15 +60,7 @@ impl TakenEntry {
             }),
             TakenParts::Join(name) => EntryRef::of(EntryParts::Join(*name)),
             TakenParts::Leave(name) => EntryRef::of(EntryParts::Leave(*name)),
-            TakenParts::View {
-                stamp,
-                members,
-                resilience,
-            } => EntryRef::of(EntryParts::View {
-                stamp: *stamp,
-                members: *members,
-                resilience: *resilience,
-            }),
+            TakenParts::View(view) => EntryRef::of(EntryParts::View(*view)),
         }
     }
 }
@@ -113,15 +100,7 @@ impl EntryRoom {
             },
             EntryParts::Join(name) => TakenParts::Join(*name),
             EntryParts::Leave(name) => TakenParts::Leave(*name),
-            EntryParts::View {
-                stamp,
-                members,
-                resilience,
-            } => TakenParts::View {
-                stamp: *stamp,
-                members: *members,
-                resilience: *resilience,
-            },
+            EntryParts::View(view) => TakenParts::View(*view),
         };
         TakenEntry { parts }
     }

@@ -44,16 +44,16 @@ counted_go list n None good low high h = absurd (none_past list (n - 1) (omega a
     none_past [] k w h = let z : ⊥ = omega arith in z
     none_past (e ∷ l) zero w h = cc
     none_past (e ∷ l) (suc k) w h = none_past l k (omega arith) h
-counted_go list n (Some (View stamp members resilience)) good low high h =
-    let step = take_step list n (View stamp members resilience) low h in
+counted_go list n (Some (View v)) good low high h =
+    let step = take_step list n (View v) low h in
     let fine = subst IsGood step (good_begins (begins_take n list) good) in
     record {
       at = take n list;
-      above = before_entry list n (View stamp members resilience) low h;
+      above = before_entry list n (View v) low h;
       below = begins_refl (take n list);
-      members = λ x y. let z : has members x ≡ true = rw h at y in
-          subst (λ l. mem l x ≡ true) (sym step) (viewed_mem (take (n - 1) list) stamp members resilience x fine z);
-      back = λ x y. rw h (mem_viewed (take (n - 1) list) stamp members resilience x (subst (λ l. mem l x ≡ true) step y));
+      members = λ x y. let z : has v.members x ≡ true = rw h at y in
+          subst (λ l. mem l x ≡ true) (sym step) (viewed_mem (take (n - 1) list) v x fine z);
+      back = λ x y. rw h (mem_viewed (take (n - 1) list) v x (subst (λ l. mem l x ≡ true) step y));
     }
 counted_go list n (Some e) good low high h = record {
   at = take (n - 1) list;

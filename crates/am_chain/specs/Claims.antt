@@ -1,5 +1,6 @@
 -- What is claimed of every run.
 use Rattle.std.specs.Prelude.{◌≡◌, ℕ, true, List}
+use Rattle.am_base.specs.declared.entry.GroupView.{GroupView}
 use Rattle.am_base.specs.Whole.{Begins}
 use Rattle.am_chain.specs.Group.{opening, Group, chain_of}
 use Rattle.am_chain.specs.Moves.{MayDecide, choice_of}
@@ -12,8 +13,8 @@ RunsKeep = (founders : List ℕ) (first resilience : ℕ) (s : Group) → Run fo
 
 -- in a lawful run what a ballot may choose begins with all that was accepted
 abbrev pub ChoicesKeep : Type 0
-ChoicesKeep = (founders : List ℕ) (first resilience : ℕ) (s : Group) → Run founders first resilience s → (i : ℕ) (members : List ℕ) (strong : ℕ)
-    → MayDecide s i members strong → Begins s.group (choice_of (s.node i) members strong).before
+ChoicesKeep = (founders : List ℕ) (first resilience : ℕ) (s : Group) → Run founders first resilience s → (i : ℕ) (v : GroupView)
+    → MayDecide s i v → Begins s.group (choice_of (s.node i) v).before
 
 -- what was accepted stays, and a complete view stands in each later line with all that it chose
 pub record DecisionsStand (s t : Group) : Type 0 where

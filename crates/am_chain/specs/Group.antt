@@ -1,6 +1,7 @@
 -- A group as whole lists: what each name has, and what was shown, served, decided and accepted. There are no packets here.
 use Rattle.std.specs.Prelude.{◌≡◌, ◌⊎◌, ℕ, zero, suc, ◌+◌, ◌-◌, ◌<◌, ◌≤◌, ◌==◌, ◌&&◌, min, Bool, true, false, if◌then◌else◌, List, [], ◌∷◌, ◌++◌, length, take}
 use Rattle.std.specs.Prelude.{Option, slice_get}
+use Rattle.am_base.specs.declared.entry.GroupView.{GroupView}
 use Rattle.am_base.specs.declared.name.Stamp.{Stamp}
 use Rattle.am_base.specs.declared.entry.Entry.{Entry}
 use Rattle.am_base.specs.declared.entry.Entry.TheVariants.{View}
@@ -45,12 +46,11 @@ pub record Node : Type 0 where
 -- what a decided ballot chose: its coordinator's list, and the View that was put after it
 pub record Chosen : Type 0 where
   pub before : List Entry
-  pub stamp : Stamp
-  pub members : List ℕ
-  pub resilience : ℕ
+  pub view : GroupView
+  pub open view use *
 
 abbrev pub opening : Chosen → List Entry
-opening c = c.before ++ View c.stamp c.members c.resilience ∷ []
+opening c = c.before ++ View c.view ∷ []
 
 -- the ballots that were decided, by the keys of their stamps
 pub record Views : Type 0 where

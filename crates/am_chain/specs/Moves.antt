@@ -1,5 +1,6 @@
 -- The moves of a group.
 use Rattle.std.specs.Prelude.{◌≡◌, ◌≢◌, ◌⊎◌, ℕ, ◌+◌, ◌<◌, ◌≤◌, true, false, List, [], ◌∷◌, ◌++◌, length, take, Some, None, slice_get}
+use Rattle.am_base.specs.declared.entry.GroupView.{GroupView}
 use Rattle.am_base.specs.declared.name.Stamp.{Stamp}
 use Rattle.am_base.specs.declared.entry.Entry.{Entry}
 use Rattle.am_base.specs.declared.entry.Entry.TheVariants.{Data, Join, Leave, View}
@@ -13,7 +14,7 @@ abbrev pub MayNumber : (ℕ → Node) → ℕ → Entry → Type 0
 MayNumber node i (Data from req body) = Unit {0}
 MayNumber node i (Join name) = Unit {0}
 MayNumber node i (Leave name) = ((node name).leaving ≡ true) × (name ≢ i)
-MayNumber node i (View stamp members resilience) = ⊥
+MayNumber node i (View v) = ⊥
 
 -- a greater stamp of another name, which has begun it
 pub record IsAbove (node : ℕ → Node) (i : ℕ) (stamp : Stamp) : Type 0 where
@@ -30,15 +31,15 @@ pub record Voted (s : Group) (stamp : ℕ) (name : ℕ) (list : List Entry) : Ty
 
 -- A ballot may be decided: the coordinator is in its own need set, which are the members of its list; each other name there has
 -- voted for no better list, or was given up and isn't there; and the View has the names that weren't given up.
-pub record MayDecide (s : Group) (i : ℕ) (members : List ℕ) (resilience : ℕ) : Type 0 where
+pub record MayDecide (s : Group) (i : ℕ) (v : GroupView) : Type 0 where
   pub small : i < 256
   pub up : IsUp (s.node i)
   pub ballot : (s.node i).ballot ≡ true
   pub needed : mem (s.node i).list i ≡ true
   pub votes : (j : ℕ) → mem (s.node i).list j ≡ true → IsThere (s.node j) → (j ≡ i) ⊎ Voted s (key (s.node i).promise) j (s.node i).list
-  pub within : is_within members (members_of (image_of (s.node i).list)) ≡ true
-  pub all : (j : ℕ) → mem (s.node i).list j ≡ true → IsThere (s.node j) → has members j ≡ true
-  pub strong : resilience_of (s.node i).list ≤ resilience
+  pub within : is_within v.members (members_of (image_of (s.node i).list)) ≡ true
+  pub all : (j : ℕ) → mem (s.node i).list j ≡ true → IsThere (s.node j) → has v.members j ≡ true
+  pub strong : resilience_of (s.node i).list ≤ v.resilience
 
 -- A name may be welcomed to a decided view: its Join was accepted at this number, above the base, and before each later view.
 pub record MayWelcome (s : Group) (j : ℕ) (stamp : Stamp) (base join : ℕ) : Type 0 where
@@ -78,18 +79,18 @@ longer m e = record m { list = m.list ++ e ∷ [] }
 abbrev pub own_stamp : ℕ → Node → Stamp
 own_stamp i m = record { round = m.promise.round + 1; by = i }
 
--- what is chosen by a coordinator as its list stands
-abbrev pub choice_of : Node → List ℕ → ℕ → Chosen
-choice_of m members resilience = record { before = m.list; stamp = m.promise; members = members; resilience = resilience }
+-- what is chosen by a coordinator as its list stands: this view, under the stamp that it promised
+abbrev pub choice_of : Node → GroupView → Chosen
+choice_of m v = record { before = m.list; view = record v { stamp = m.promise } }
 
 -- with a ballot decided by name i: its View is put on its list, and is the current view's
-abbrev pub with_choice : Group → ℕ → List ℕ → ℕ → Group
-with_choice s i members resilience = record s {
-  node = put s.node i (record (s.node i) { list = opening (choice_of (s.node i) members resilience); ballot = false });
+abbrev pub with_choice : Group → ℕ → GroupView → Group
+with_choice s i v = record s {
+  node = put s.node i (record (s.node i) { list = opening (choice_of (s.node i) v); ballot = false });
   views = record s.views {
     decided = put s.views.decided (key (s.node i).promise) true;
-    chosen = put s.views.chosen (key (s.node i).promise) (choice_of (s.node i) members resilience);
-    line = put s.views.line (key (s.node i).promise) (opening (choice_of (s.node i) members resilience));
+    chosen = put s.views.chosen (key (s.node i).promise) (choice_of (s.node i) v);
+    line = put s.views.line (key (s.node i).promise) (opening (choice_of (s.node i) v));
     current = (s.node i).promise;
   };
 }
@@ -128,7 +129,7 @@ pub data Move : Group → Group → Type 0 where
   fetches : {s : Group} (i h : ℕ) (list : List Entry) (e : Entry) → IsUp (s.node i) → (s.node i).ballot ≡ true → s.served (key (s.node i).promise) h ≡ true
       → s.shown (key (s.node i).promise) h ≡ Some list → slice_get list (length (s.node i).list) ≡ Some e → Move s (with_node s i (longer (s.node i) e))
   -- a coordinator decides its ballot: Reset, Vote, GiveUp, Piece
-  decides : {s : Group} (i : ℕ) (members : List ℕ) (resilience : ℕ) → MayDecide s i members resilience → Move s (with_choice s i members resilience)
+  decides : {s : Group} (i : ℕ) (v : GroupView) → MayDecide s i v → Move s (with_choice s i v)
   -- a ballot ends without a decision
   gives_over : {s : Group} (i : ℕ) → Move s (with_node s i (record (s.node i) { ballot = false }))
   -- an accepted name gets the list up to some base below its Join: Welcome

@@ -45,7 +45,10 @@ abbrev pub first_stamp : ℕ → Stamp
 first_stamp first = record { round = 1; by = first }
 
 abbrev pub first_choice : List ℕ → ℕ → ℕ → Chosen
-first_choice founders first resilience = record { before = []; stamp = first_stamp first; members = founders; resilience = resilience }
+first_choice founders first resilience = record {
+  before = [];
+  view = record { stamp = first_stamp first; members = founders; resilience = resilience };
+}
 
 abbrev pub first_node : List ℕ → ℕ → ℕ → ℕ → Node
 first_node founders first resilience name = record {
@@ -88,7 +91,7 @@ pub data Onward : Group → Group → Type 0 where
 
 -- a move that is no decision
 abbrev pub IsNoDecision : {s t : Group} → Move s t → Type 0
-IsNoDecision (decides i members resilience a) = ⊥
+IsNoDecision (decides i v a) = ⊥
 IsNoDecision _ = Unit {0}
 
 -- what a run in which no ballot is decided comes to, whoever stops

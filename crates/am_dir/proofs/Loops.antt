@@ -227,7 +227,7 @@ pub held_entry : (contents : Contents) (held : List (ℕ × List ℕ)) (number :
 held_entry contents held number (entries.Data from req body) = held_body contents held number body (command_of body) refl
 held_entry contents held number (entries.Join name) = refl
 held_entry contents held number (entries.Leave name) = refl
-held_entry contents held number (entries.View stamp members resilience) = refl
+held_entry contents held number (entries.View v) = refl
 
 pub is_empty_by_length : (xs : List ℕ) → (length xs == 0) ≡ is_empty xs
 is_empty_by_length [] = refl

@@ -82,7 +82,7 @@ abbrev pub with_entry : Contents → ℕ × Entry → Contents
 with_entry contents (number, entries.Data from req body) = applied contents number body
 with_entry contents (number, entries.Join name) = contents
 with_entry contents (number, entries.Leave name) = contents
-with_entry contents (number, entries.View stamp members resilience) = contents
+with_entry contents (number, entries.View v) = contents
 
 abbrev pub contents_from : Contents → List (ℕ × Entry) → Contents
 contents_from contents pairs = fold with_entry contents pairs

@@ -75,7 +75,7 @@ abbrev pub held_with : List (ℕ × List ℕ) → ℕ → Entry → List (ℕ ×
 held_with held number (entries.Data from req body) = if is_some (command_of body) then held ++ (number, body) ∷ [] else held
 held_with held number (entries.Join name) = held
 held_with held number (entries.Leave name) = held
-held_with held number (entries.View stamp members resilience) = held
+held_with held number (entries.View v) = held
 
 -- all of these applied
 abbrev pub apply_held : Contents → List (ℕ × List ℕ) → Contents
@@ -106,13 +106,13 @@ abbrev pub step_ready : Contents → Entry → Step
 step_ready contents (entries.Data from req body) = steps.Applied (answer_of contents body)
 step_ready contents (entries.Join name) = steps.Noted
 step_ready contents (entries.Leave name) = steps.Noted
-step_ready contents (entries.View stamp members resilience) = steps.Noted
+step_ready contents (entries.View v) = steps.Noted
 
 abbrev pub step_held : Entry → Step
 step_held (entries.Data from req body) = if is_some (command_of body) then steps.Held else steps.Noted
 step_held (entries.Join name) = steps.Noted
 step_held (entries.Leave name) = steps.Noted
-step_held (entries.View stamp members resilience) = steps.Noted
+step_held (entries.View v) = steps.Noted
 
 abbrev pub step_arrived : Entry → Option Contents → Step
 step_arrived entry None = step_held entry

@@ -59,7 +59,7 @@ stamp_for None = record { round = 1; by = 0 }
 stamp_for (Some name) = record { round = 1; by = name }
 
 abbrev pub founders_view : Rules → Entry
-founders_view rules = View (stamp_for (lowest_of rules.founders)) rules.founders rules.resilience
+founders_view rules = View (record { stamp = stamp_for (lowest_of rules.founders); members = rules.founders; resilience = rules.resilience })
 
 -- each founder is admitted at 1
 unfoldable pub founders_fronts : List ℕ → List (Option ℕ)

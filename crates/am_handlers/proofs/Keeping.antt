@@ -151,7 +151,7 @@ unfolding after
 view_after image number (Data from req body) h = split ((at_place image from).life == life_of from) (λ t. rw t refl) (λ f. rw f refl)
 view_after image number (Join name) h = refl
 view_after image number (Leave name) h = split ((at_place image name).life == life_of name) (λ t. rw t refl) (λ f. rw f refl)
-view_after image number (View stamp names resilience) h = absurd (cc)
+view_after image number (View v) h = absurd (cc)
 
 pub view_pushed : (m : Node) (e : Entry) → is_view e ≡ false → view (push_entry m e) ≡ view m
 view_pushed m e h = ap (λ (i : Image). i.view) (told-push m.core.log e) ∙ view_after (image_of m) (top m + 1) e h

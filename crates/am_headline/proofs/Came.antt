@@ -1,4 +1,5 @@
 -- How a name comes to act in a view: it did before, it decided it, or a letter of the view's own name told it, whose base it had taken.
+use Rattle.am_base.specs.declared.entry.GroupView.{GroupView}
 use Rattle.am_headline.proofs.RepairedWords.{numbers_plain, stamp_by, other_asks, other_heard, stamp_itself, same_stamp, ◌≡◌, ⊎_elim, ℕ, ◌<◌, ◌≤◌, ◌==◌, ◌&&◌, max}
 use Rattle.am_headline.proofs.RepairedWords.{true, false, List, [], refl, sym, ap, ◌∙◌, subst, arith, nat_tests, Entry, View, Image, Stamp}
 use Rattle.am_headline.proofs.RepairedWords.{Outcome, Rules, stamp_lt, stamp_eq, Log, blank, fold, told_by, Node, Ballot, view, image_of, acts, is_member, push_entry}
@@ -18,7 +19,7 @@ use Rattle.am_packet.specs.declared.packet.Packet.TheVariants as packet
 -- the letter that brings it, with its base
 pub data Tells : Cause → ℕ → Stamp → ℕ → Type 0 where
   by_piece : (s : ℕ) (v : Stamp) (base number : ℕ) (e : Entry) → Tells (hears (packet.Piece s v base number e)) s v base
-  by_result : (s : ℕ) (v : Stamp) (base number : ℕ) (names : List ℕ) (resilience : ℕ) → Tells (hears (packet.Result s v base number names resilience)) s v base
+  by_result : (s : ℕ) (base number : ℕ) (v : GroupView) → Tells (hears (packet.Result s base number v)) s v.stamp base
   by_welcome : (s : ℕ) (v : Stamp) (base join : ℕ) (image : Image) → Tells (hears (packet.Welcome s v base join image)) s v base
 
 pub data Came (c : Cause) (m y : Node) : Type 0 where
@@ -83,16 +84,16 @@ promised_acts x v names few k low t =
 -- what is fetched is no View, or that of the promise, from its own name
 fetched_view : (x : Node) (s : ℕ) (v : Stamp) (base : ℕ) (e : Entry) → Fetches x s v e → v ≡ x.core.promise → is_view e ≡ true
     → acts (push_entry (trim_up_to x base) e) ≡ true → (view (push_entry (trim_up_to x base) e) ≡ v) × (v.by ≡ s)
-fetched_view x s v base (View stamp names resilience) why promise is t =
-    let last = view_last (trim_up_to x base) stamp names resilience in
-    let at : stamp ≡ v = sym ((acting (push_entry (trim_up_to x base) (View stamp names resilience)) t).1 ∙ last) ∙ sym promise in
+fetched_view x s v base (View w) why promise is t =
+    let last = view_last (trim_up_to x base) w in
+    let at : w.stamp ≡ v = sym ((acting (push_entry (trim_up_to x base) (View w)) t).1 ∙ last) ∙ sym promise in
     (last ∙ at, by_name why at)
   where
-    by_name : Fetches x s v (View stamp names resilience) → stamp ≡ v → v.by ≡ s
+    by_name : Fetches x s v (View w) → w.stamp ≡ v → v.by ≡ s
     by_name (without_ballot none from past) at = stamp_by v s from
     by_name (for_ballot b open_ from past) at =
-        let u : stamp_eq stamp v ≡ true = ap (stamp_eq stamp) (sym at) ∙ stamp_itself stamp in
-        absurd (split (stamp_lt v stamp) (λ y. let p = rw y at past in cc) (λ y. let p = rw (y, u) at past in cc))
+        let u : stamp_eq w.stamp v ≡ true = ap (stamp_eq w.stamp) (sym at) ∙ stamp_itself w.stamp in
+        absurd (split (stamp_lt v w.stamp) (λ y. let p = rw y at past in cc) (λ y. let p = rw (y, u) at past in cc))
 fetched_view x s v base _ why promise is t = absurd (cc)
 
 came_change : (c : Cause) (o : Outcome) (m x y : Node) → HeardNames c → HasNames x → HasNames y → Balloted x → stamp_lt (view x) (view m) ≡ false

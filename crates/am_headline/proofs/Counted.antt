@@ -35,11 +35,11 @@ leaves_last list before name (Leave leaver) good within view_ is none = split (l
 
     other : (a b : ℕ) → (a == b) ≡ false → a ≢ b
     other a b f = λ u. grind (arith, nat_tests)
-leaves_last list before name (View stamp names resilience) good within view_ is none = absurd (
-    let a = before ++ View stamp names resilience ∷ [] in
-    let long = length_push before (View stamp names resilience) in
-    let its = after_view (image_of before) (1 + length before) stamp names resilience in
-    let here : (image_of a).view_number ≡ 1 + length before = ap (λ (g : Image). g.view_number) (told_push before (View stamp names resilience)) ∙ its.1 in
+leaves_last list before name (View v) good within view_ is none = absurd (
+    let a = before ++ View v ∷ [] in
+    let long = length_push before (View v) in
+    let its = after_view (image_of before) (1 + length before) v in
+    let here : (image_of a).view_number ≡ 1 + length before = ap (λ (g : Image). g.view_number) (told_push before (View v)) ∙ its.1 in
     let all : image_of list ≡ fold (image_of a) (1 + length a) within.rest = ap image_of (sym within.same) ∙ fold_append blank 1 a within.rest in
     let number = ap (λ (g : Image). g.view_number) all in
     let more = view_grows (image_of a) (1 + length a) within.rest (omega arith) in

@@ -1,7 +1,7 @@
 -- How far above its base a name's entries lie, by the members at each: within a step.
 use Rattle.am_headline.proofs.Words.{◌≡◌, ◌⊎◌, ⊎_elim, inl, inr, ℕ, suc, ◌+◌, ◌-◌, ◌<◌, ◌≤◌, max, ◌==◌, ◌&&◌, not, nat_lt, Bool, true, if◌then◌else◌, List}
 use Rattle.am_headline.proofs.Words.{[], ◌∷◌, length, slice_index, refl, sym, ap, ◌∙◌, subst, length-append, arith, nat_tests, length-map, get_or-map}
-use Rattle.am_headline.proofs.Words.{count_by-le-length, Entry, Leave, View, Image, Row, Stamp, Outcome, Rules, size, Log, blank_row, member_life, members_of}
+use Rattle.am_headline.proofs.Words.{count_by-le-length, Entry, Leave, View, Image, Row, GroupView, Stamp, Outcome, Rules, size, Log, blank_row, member_life, members_of}
 use Rattle.am_headline.proofs.Words.{members_at, image_at, top_of, with_entry, after, image-push, image-top, count_cons, In, row_at, long_after, in_viewed}
 use Rattle.am_headline.proofs.Words.{Node, Ballot, top, image_of, has_room, push_entry, Verdict, need_of, left_in, trim_for, split, Cause, hears, Looks}
 use Rattle.am_headline.proofs.Words.{decides, Carries, whole_entry, by_number, Change, refreshes, settles, numbers, stores, begins_list, looks, fetches}
@@ -40,18 +40,18 @@ in_life r h = split (nat_lt 0 r.joined && (r.left == 0))
     (λ f. absurd (let z : 0 < 0 = rw f at h in omega arith))
 
 -- after a View there are no more members than it names
-viewed_few : (image : Image) (n : ℕ) (stamp : Stamp) (names : List ℕ) (resilience : ℕ) → length image.rows ≡ 16 → 0 < n → length names ≡ 16
-    → size (members_of (after image n (View stamp names resilience))) ≤ size names
-viewed_few image n stamp names resilience long some sixteen =
-    let next = after image n (View stamp names resilience) in
-    let rows = long_after image n (View stamp names resilience) long in
+viewed_few : (image : Image) (n : ℕ) (v : GroupView) → length image.rows ≡ 16 → 0 < n → length v.members ≡ 16
+    → size (members_of (after image n (View v))) ≤ size v.members
+viewed_few image n v long some sixteen =
+    let next = after image n (View v) in
+    let rows = long_after image n (View v) long in
     let count = length-map next.rows member_life in
-    size_within (members_of next) names (omega arith) (λ p low above.
+    size_within (members_of next) v.members (omega arith) (λ p low above.
     (let place : p < 16 = omega arith in
     let within : p < length next.rows = omega arith in
     let at : slice_index (members_of next) p ≡ member_life (row_at next p) = get_or-map member_life next.rows p blank_row 0 within in
     let life : 0 < member_life (row_at next p) = omega arith in
-    let is = in_viewed image n stamp names resilience p (member_life (row_at next p)) place some life (in_life (row_at next p) life) in
+    let is = in_viewed image n v p (member_life (row_at next p)) place some life (in_life (row_at next p) life) in
     omega arith))
 
 -- ---- a number that fits, or that a packet tells
@@ -61,7 +61,7 @@ pub data BringsEntry (c : Cause) (number : ℕ) : Type 0 where
   by_bcast : (s : ℕ) (v : Stamp) (base acc : ℕ) (e : Entry) → c ≡ hears (packet.Bcast s v base acc number e) → BringsEntry c number
   by_order : (s : ℕ) (v : Stamp) (base acc from req : ℕ) → c ≡ hears (packet.Order s v base acc number from req) → BringsEntry c number
   by_piece : (s : ℕ) (v : Stamp) (base : ℕ) (e : Entry) → c ≡ hears (packet.Piece s v base number e) → BringsEntry c number
-  by_result : (s : ℕ) (v : Stamp) (base : ℕ) (names : List ℕ) (resilience : ℕ) → c ≡ hears (packet.Result s v base number names resilience)
+  by_result : (s : ℕ) (v.stamp : Stamp) (base : ℕ) (v.members : List ℕ) (v.resilience : ℕ) → c ≡ hears (packet.Result s base number v)
       → BringsEntry c number
 
 abbrev pub FitsAt : Rules → Node → ℕ → Type 0
@@ -168,8 +168,8 @@ fitting_change rules c o x y same fronts (begins_list s v base join image is say
 fitting_change rules c o x y same fronts (looks b verdict over why look is) h = look_fits rules c x b verdict same fronts look h
 fitting_change rules c o x y same fronts (fetches s v base number e is heard promise below from may) h =
     push_fits rules c x y e refl (omega arith) (told_entry rules c x y number may.next (by_piece s v base e is)) h
-fitting_change rules c o x y same fronts (stores_view s v base number names resilience is heard own other promise below may) h =
-    push_fits rules c x y (View v names resilience) refl (omega arith) (told_entry rules c x y number may.next (by_result s v base names resilience is)) h
+fitting_change rules c o x y same fronts (stores_view s base number v is heard own other promise below may) h =
+    push_fits rules c x y (View v) refl (omega arith) (told_entry rules c x y number may.next (by_result s v.stamp base v.members v.resilience is)) h
 fitting_change rules c o x y same fronts (closes leads leaves alone room) h =
     let p = push_entry x (Leave x.core.who) in
     let r = rests_at_end p in

@@ -76,7 +76,7 @@ chain_more s i list k leads =
 
 numbers_asked : (s : Group) (i : ℕ) (e : Entry) → MayNumber s.node i e → (j : ℕ) → e ≡ Leave j → (s.node j).leaving ≡ true
 numbers_asked s i (Leave name) may j is = let same : name ≡ j = same_leave name j is in ap (λ k. (s.node k).leaving) (sym same) ∙ may.0
-numbers_asked s i (View stamp members resilience) may j is = absurd may
+numbers_asked s i (View v) may j is = absurd may
 numbers_asked s i _ may j is = absurd (cc)
 
 asked_move : (s t : Group) → Move s t → Kept s → LeavesAsked s → LeavesAsked t

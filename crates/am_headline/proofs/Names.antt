@@ -23,7 +23,7 @@ abbrev pub EntryNamed : Entry → Type 0
 EntryNamed (Data from req body) = from < 256
 EntryNamed (Join name) = name < 256
 EntryNamed (Leave name) = name < 256
-EntryNamed (View stamp names resilience) = stamp.by < 256
+EntryNamed (View v) = v.stamp.by < 256
 
 abbrev pub PacketNamed : Packet → Type 0
 PacketNamed (packet.Bcast s v base acc number e) = EntryNamed e
@@ -113,10 +113,10 @@ change_keeps from m n (looks b verdict over why look is) h = look_named m b verd
 change_keeps from m n (fetches s v base number e is by promise other which may) h =
     let p = pushed_named m e (from.heard (packet.Piece s v base number e) is) h in
     record { who = p.who; entries = p.entries; ballot = p.ballot }
-change_keeps from m n (stores_view s v base number names resilience is by own other promise below may) h =
-    let sender = from.senders (packet.Result s v base number names resilience) is in
-    let same : v.by ≡ s = grind (arith, nat_tests) in
-    let p = pushed_named m (View v names resilience) (omega (arith, sender, same)) h in
+change_keeps from m n (stores_view s base number v is by own other promise below may) h =
+    let sender = from.senders (packet.Result s base number v) is in
+    let same : v.stamp.by ≡ s = grind (arith, nat_tests) in
+    let p = pushed_named m (View v) (omega (arith, sender, same)) h in
     record { who = p.who; entries = p.entries; ballot = p.ballot }
 change_keeps from m n (closes leads leaves alone room) h =
     let p = at_end_named (push_entry m (Leave m.core.who)) (pushed_named m (Leave m.core.who) h.who h) in

@@ -98,12 +98,12 @@ Unviewed image n es = ((fold image n es).view ≡ image.view) × ((fold image n 
 view_at : (image : Image) (n : ℕ) (e : Entry) (es : List Entry) → Unviewed (after image n e) (n + 1) es
     → ViewIn image n (e ∷ es) ⊎ Unviewed image n (e ∷ es)
 unfolding fold after Unviewed
-view_at image n (View stamp names resilience) es h = inl (record {
+view_at image n (View w) es h = inl (record {
   index = 0;
-  names = names;
-  resilience = resilience;
+  names = w.members;
+  resilience = w.resilience;
   number = (let at = h.1 in omega arith);
-  there = ap (λ v. Some (View v names resilience)) (sym h.0);
+  there = ap (λ v. Some (View v w.members w.resilience)) (sym h.0);
 })
 view_at image n (Data from req body) es h = inr (
   h.0 ∙ (after_same image n (Data from req body) refl).view,

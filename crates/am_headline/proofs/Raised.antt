@@ -21,7 +21,7 @@ least_after : (rules : Rules) (image : Image) (number : ℕ) (e : Entry) → rul
 least_after rules image number (Data from req body) h raised = let same = (after_same image number (Data from req body) refl).resilience in omega arith
 least_after rules image number (Join name) h raised = let same = (after_same image number (Join name) refl).resilience in omega arith
 least_after rules image number (Leave name) h raised = let same = (after_same image number (Leave name) refl).resilience in omega arith
-least_after rules image number (View stamp names resilience) h raised = let is = (after_view image number stamp names resilience).2 in omega arith
+least_after rules image number (View v) h raised = let is = (after_view image number v).2 in omega arith
 
 least_fold : (rules : Rules) (image : Image) (number : ℕ) (es : List Entry) → rules.resilience ≤ image.resilience → All (IsRaised rules) es
     → rules.resilience ≤ (fold image number es).resilience
@@ -34,7 +34,7 @@ least_fold rules image number (e ∷ es) h all =
 -- a View tells its own resilience, whatever was told before
 least_viewed : (rules : Rules) (image : Image) (number : ℕ) (e : Entry) → is_view e ≡ true → IsRaised rules e
     → rules.resilience ≤ (after image number e).resilience
-least_viewed rules image number (View stamp names resilience) is raised = let same = (after_view image number stamp names resilience).2 in omega arith
+least_viewed rules image number (View v) is raised = let same = (after_view image number v).2 in omega arith
 least_viewed rules image number _ is raised = absurd (cc)
 
 least_first : (rules : Rules) (image : Image) (number : ℕ) (es : List Entry) → 0 < length es → FirstIsView es → All (IsRaised rules) es
@@ -135,7 +135,7 @@ pushed rules m e raised is h = record {
 }
 
 plain_raised : (rules : Rules) (e : Entry) → is_view e ≡ false → IsRaised rules e
-plain_raised rules (View stamp names resilience) plain = absurd (cc)
+plain_raised rules (View v) plain = absurd (cc)
 plain_raised rules _ plain = tt
 
 -- whoever acts has entries: an empty list tells the view of round 0, which nobody has promised that has a list
@@ -237,9 +237,9 @@ change_raised rules heard m n (fetches s v base number e is by promise below fro
     let told = heard (packet.Piece s v base number e) is in
     let next = may.next in
     pushed rules (trim_up_to m base) e told.0 (λ none. told.1 (omega arith)) (same_raised rules m (trim_up_to m base) refl refl refl refl h)
-change_raised rules heard m n (stores_view s v base number names resilience is by own other promise below may) h =
+change_raised rules heard m n (stores_view s base number v is by own other promise below may) h =
     let next = may.next in
-    pushed rules (trim_up_to m base) (View v names resilience) (heard (packet.Result s v base number names resilience) is (omega arith)) (λ none. refl)
+    pushed rules (trim_up_to m base) (View v) (heard (packet.Result s base number v) is (omega arith)) (λ none. refl)
     (same_raised rules m (trim_up_to m base) refl refl refl refl h)
 change_raised rules heard m n (asks_to_join is was) h = same_raised rules m n refl refl refl (sym (ap has_log was)) h
 change_raised rules heard m n (closes leads leaves alone room) h =

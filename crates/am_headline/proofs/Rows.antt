@@ -1,6 +1,6 @@
 -- What the rows of packets with entries store: the next entry, above a base that was noted.
 use Rattle.am_headline.proofs.Words.{◌≡◌, ℕ, ◌+◌, ◌≤◌, ◌==◌, ◌&&◌, ◌||◌, not, nat_lt, nat_le, Bool, true, false, if◌then◌else◌, List, [], ◌∷◌, ◌++◌, Option}
-use Rattle.am_headline.proofs.Words.{Some, None, refl, sym, ap, ◌∙◌, append-nil, arith, nat_tests, Entry, Data, View, Stamp, Outcome, stamp_lt, stamp_eq, Log}
+use Rattle.am_headline.proofs.Words.{Some, None, refl, sym, ap, ◌∙◌, append-nil, arith, nat_tests, Entry, Data, View, GroupView, Stamp, Outcome, stamp_lt, stamp_eq, Log}
 use Rattle.am_headline.proofs.Words.{top_of, fits, CoreState, Packet, Departed, Node, Ballot, top, image_of, view, has_own_leave, is_within_bound, push_entry}
 use Rattle.am_headline.proofs.Words.{trim_up_to, Plan, quiet, finish, with_promise, decide, is_unfinished, hears_member, hears_sequencer, hear_row, is_view}
 use Rattle.am_headline.proofs.Words.{with_noted, store, receive_entry, data_of, body_of, bcast_row, order_row, refresh_at_end, push_fetched, catch_up}
@@ -204,18 +204,18 @@ pub record Viewing (m : Node) (s : ℕ) (v : Stamp) : Type 0 where
   pub member : hears_member m s ≡ true
   pub by : (v.by == s) ≡ true
 
-pub result_does : (m : Node) (s : ℕ) (v : Stamp) (base number : ℕ) (names : List ℕ) (resilience : ℕ)
-    → Does m (hear_row m (packet.Result s v base number names resilience)).node base number (View v names resilience) (Viewing m s v)
+pub result_does : (m : Node) (s : ℕ) (base number : ℕ) (v : GroupView)
+    → Does m (hear_row m (packet.Result s base number v)).node base number (View v) (Viewing m s v.stamp)
 unfolding hear_row result_row
-result_does m s v base number names resilience =
-    let e = View v names resilience in
-    let p = with_promise m v in
-    either m base number e _ (hears_member m s && (v.by == s)) _ (quiet m said.Elsewhere)
-    (λ t. either m base number e _ ((v.by == m.core.who) || stamp_lt v m.core.promise) (quiet m said.Elsewhere) _ (λ u. nothing refl (omega arith))
+result_does m s base number v =
+    let e = View v in
+    let p = with_promise m v.stamp in
+    either m base number e _ (hears_member m s && (v.stamp.by == s)) _ (quiet m said.Elsewhere)
+    (λ t. either m base number e _ ((v.stamp.by == m.core.who) || stamp_lt v.stamp m.core.promise) (quiet m said.Elsewhere) _ (λ u. nothing refl (omega arith))
     (λ f.
     let why : Viewing m s v = (let b = and_both _ _ t in record { member = b.0; by = b.1 }) in
-    from_same m p _ base number e (Viewing m s v) refl (omega arith)
-    (either p base number e _ (stamp_eq (view p) v) _ _ (λ u. nothing refl (omega arith))
+    from_same m p _ base number e (Viewing m s v.stamp) refl (omega arith)
+    (either p base number e _ (stamp_eq (view p) v.stamp) _ _ (λ u. nothing refl (omega arith))
     (λ other. either p base number e _ (nat_le number (top p)) (quiet p said.Unfit) _ (λ u. nothing refl (omega arith))
     (λ new. either p base number e _ (has_own_leave p) (quiet p said.Behind) _ (λ u. nothing refl (omega arith))
     (λ stays. either p base number e _ (nat_lt (top p + 1) number) _ _ (λ u. nothing refl (omega arith))

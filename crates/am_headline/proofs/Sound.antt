@@ -56,7 +56,7 @@ sayable records b (Data from req body) small sound within named sent =
     let low = within.0 in
     let most = small.requests in
     (named, omega arith, asked.0, asked.1)
-sayable records b (View stamp names resilience) small sound within named sent =
+sayable records b (View v) small sound within named sent =
     let low = within.0 in
     let most = small.rounds in
     (named, omega arith, within.1, within.2)

@@ -72,7 +72,7 @@ abbrev pub PacketFits : Rules → Group → Packet → Type 0
 PacketFits rules s (packet.Bcast i v base acc number e) = LineFits rules s v base number
 PacketFits rules s (packet.Order i v base acc number from req) = LineFits rules s v base number
 PacketFits rules s (packet.Piece i v base number e) = PieceFits rules s i v base number e
-PacketFits rules s (packet.Result i v base number names resilience) = v.by ≡ i → LineFits rules s v base number
+PacketFits rules s (packet.Result i base number v) = v.stamp.by ≡ i → LineFits rules s v.stamp base number
 PacketFits rules s _ = Unit {0}
 
 line_on : (rules : Rules) (s t : Group) (v : Stamp) (base number : ℕ) → Grows s t → LineFits rules s v base number → LineFits rules t v base number
@@ -91,7 +91,7 @@ pub packet_on : (rules : Rules) (s t : Group) (p : Packet) → Grows s t → Pac
 packet_on rules s t (packet.Bcast i v base acc number e) g h = line_on rules s t v base number g h
 packet_on rules s t (packet.Order i v base acc number from req) g h = line_on rules s t v base number g h
 packet_on rules s t (packet.Piece i v base number e) g h = piece_on rules s t i v base number e g h
-packet_on rules s t (packet.Result i v base number names resilience) g h = λ by. line_on rules s t v base number g (h by)
+packet_on rules s t (packet.Result i base number v) g h = λ by. line_on rules s t v.stamp base number g (h by)
 packet_on rules s t _ g h = tt
 
 -- ---- lists on lines

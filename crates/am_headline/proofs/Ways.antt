@@ -121,8 +121,8 @@ kind_of m n (begins_list s v base join image is o may) = began s v base join ima
 kind_of m n (departs s v number is heard leaves) = left (and_both _ (is_member m.status) heard).1 leaves
 kind_of m n (looks b verdict over why look is) = alike (look_alike m b verdict look)
 kind_of m n (fetches s v base number e is heard promise below from may) = alike (pushes m n (e ∷ []) refl (omega arith) refl refl refl refl refl refl refl refl)
-kind_of m n (stores_view s v base number names resilience is heard own_ other promise below may) =
-    alike (pushes m n (View v names resilience ∷ []) refl (omega arith) refl refl refl refl refl refl refl refl)
+kind_of m n (stores_view s base number v is heard own_ other promise below may) =
+    alike (pushes m n (View v ∷ []) refl (omega arith) refl refl refl refl refl refl refl refl)
 kind_of m n (queues body is o member stays few) = sent body stays
 kind_of m n (collects req is) = collected req
 kind_of m n (takes e is o member some there) = took e o member some

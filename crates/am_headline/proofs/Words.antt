@@ -40,6 +40,7 @@ pub use Rattle.am_stands.proofs.StepWords.{departed_silent, letters_stay, others
 unfoldable pub use Rattle.am_stands.proofs.StepWords.{happens}
 pub use Rattle.std.{proofs.lemmas.List.take_all, proofs.lemmas.List.get_or-map, proofs.lemmas.List.Sums.count_by-le-length}
 pub use Rattle.std.{proofs.lemmas.List.Sums.sum_by-cons, specs.Prelude.Contains, specs.Prelude.slice_index_or}
+pub use Rattle.am_base.specs.declared.entry.GroupView.{GroupView}
 pub use Rattle.am_base.specs.Lists.{with_entry}
 pub use Rattle.am_state.proofs.Ends.{image-push, image-top}
 pub use Rattle.am_model.specs.{Node.has_room, Node.is_within_bound, Ballots.ends, Ballots.decide_view, Calls.with_queued, Receiving.store}

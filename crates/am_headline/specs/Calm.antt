@@ -112,7 +112,7 @@ IsCalm r w (LeaveAsk s v report) = (r.gone s ≡ true) × ReportIs r w s report
 IsCalm r w (Gone s v number) = Unit {0}
 IsCalm r w (Fetch s v stored) = Unit {0}
 IsCalm r w (Piece s v base number e) = Unit {0}
-IsCalm r w (Result s v base number names resilience) = v.by ≡ s → v ≡ r.view
+IsCalm r w (Result s base number v) = v.stamp.by ≡ s → v.stamp ≡ r.view
 -- and none of a ballot
 IsCalm r w _ = ⊥
 

@@ -61,7 +61,7 @@ abbrev pub IsSayable : Entry → Type 0
 IsSayable (entries.Data from req body) = (from < 256) × IsNumber req × IsBytes body × (length body ≤ most_body)
 IsSayable (entries.Join name) = name < 256
 IsSayable (entries.Leave name) = name < 256
-IsSayable (entries.View stamp members resilience) = (stamp.by < 256) × IsNumber stamp.round × IsSet members × (resilience ≤ 15)
+IsSayable (entries.View v) = (v.stamp.by < 256) × IsNumber v.stamp.round × IsSet v.members × (v.resilience ≤ 15)
 
 -- a body that is sent is of bytes
 abbrev pub AsksBytes : Act → Type 0

@@ -19,7 +19,7 @@ use Rattle.am_play.specs.World.{World, run}
 -- ---- entries
 
 abbrev pub IsRaised : Rules → Entry → Type 0
-IsRaised rules (entries.View stamp members resilience) = rules.resilience ≤ resilience
+IsRaised rules (entries.View v) = rules.resilience ≤ v.resilience
 IsRaised rules _ = Unit {0}
 
 -- nor has one that is given out
@@ -58,7 +58,7 @@ pub record NodeRaised (rules : Rules) (m : Node) : Type 0 where
 abbrev pub PacketRaised : Rules → Packet → Type 0
 PacketRaised rules (packet.Welcome s v base join image) = (0 < v.round) × BeginsRaised rules base image
 PacketRaised rules (packet.Piece s v base number e) = IsRaised rules e × (number ≡ 1 → is_view e ≡ true)
-PacketRaised rules (packet.Result s v base number names resilience) = 0 < number → rules.resilience ≤ resilience
+PacketRaised rules (packet.Result s base number v) = 0 < number → rules.resilience ≤ v.resilience
 PacketRaised rules _ = Unit {0}
 
 abbrev pub LetterRaised : Rules → Letter → Type 0

@@ -1,4 +1,5 @@
 -- The effects of ballots.
+use Rattle.am_base.specs.declared.entry.GroupView.{GroupView}
 use Rattle.am_laws.proofs.EffectWords.{not-true, not-false, ◌≡◌, ℕ, zero, suc, ◌+◌, ◌-◌, ◌==◌, ◌&&◌, min, max, nat_lt, nat_le, not, Bool, true, false}
 use Rattle.am_laws.proofs.EffectWords.{if◌then◌else◌, List, [], length, Option, Some, None, slice_get, refl, sym, ap, subst, ◌∙◌, arith, nat_tests, Vote, Image}
 use Rattle.am_laws.proofs.EffectWords.{Stamp, View, has, size, without_name, Log, entry_at, after, Letter, with_letter, Node, Ballot, top, image_of, view}
@@ -59,10 +60,10 @@ entry_is log (suc before) index e =
     let k : before - log.start ≡ index = omega arith in
     rw t (ap (slice_get log.entries) k)
 
-pub viewed : (image : Image) (number : ℕ) (stamp : Stamp) (names : List ℕ) (resilience : ℕ)
-    → ((after image number (View stamp names resilience)).view_number ≡ number) × ((after image number (View stamp names resilience)).view ≡ stamp)
+pub viewed : (image : Image) (number : ℕ) (v : GroupView)
+    → ((after image number (View v)).view_number ≡ number) × ((after image number (View v)).view ≡ v.stamp)
 unfolding after
-viewed image number stamp names resilience = (refl, refl)
+viewed image number v = (refl, refl)
 
 says_result : (m : Node) (c : Cause) (n p : Node) (b : Ballot) (v : Verdict) (letters : List Letter) → Looks p b v → RestsWhole v.node n → AllSay m c n letters
     → AllSay m c n (with_result v.outcome n letters)

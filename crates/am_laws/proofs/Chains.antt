@@ -60,8 +60,8 @@ change_longer m x y (begins_list s v base join image is o may) k h =
 change_longer m x y (departs s v number is by leaves) k h = record { bare = λ f. absurd (cc); more = h.more; is = h.is }
 change_longer m x y (looks b verdict over why look is) k h = look_longer m x b verdict look (looked_log x b why k) h
 change_longer m x y (fetches s v base number e is by promise below from may) k h = longer_pushed m x y e (hears_log x s by) refl h
-change_longer m x y (stores_view s v base number names resilience is by own other promise below may) k h =
-    longer_pushed m x y (View v names resilience) (hears_log x s by) refl h
+change_longer m x y (stores_view s base number v is by own other promise below may) k h =
+    longer_pushed m x y (View v) (hears_log x s by) refl h
 change_longer m x y (asks_to_join is was) k h = record { bare = λ f. h.bare (ap has_log was); more = h.more; is = h.is }
 change_longer m x y (closes leads leaves alone room) k h =
     let p = push_entry x (Leave x.core.who) in

@@ -82,7 +82,7 @@ kept_change rules m n (promises v low why) h = kept_promised rules m v h
 kept_change rules m n (opens least resilience by may) h = record { founding = h.founding; few = h.few; itself = refl }
 kept_change rules m n (looks b verdict over why look is) h = kept_look rules m b verdict look (itself _ m b why h.itself) h
 kept_change rules m n (fetches s v base number e is heard promise below from may) h = kept_fetched rules m base number e may h
-kept_change rules m n (stores_view s v base number names resilience is heard own other promise below may) h =
-    kept_fetched rules m base number (View v names resilience) may h
+kept_change rules m n (stores_view s base number v is heard own other promise below may) h =
+    kept_fetched rules m base number (View v) may h
 kept_change rules m n (closes leads leaves alone room) h = kept_at_end rules (push_entry m (Leave m.core.who)) (kept_pushed rules m (Leave m.core.who) room h)
 kept_change rules m n _ h = h

@@ -59,8 +59,8 @@ row_hear m (packet.Invite s v) = where_it_is_heard m _ _ _ (λ t. let both = and
 row_hear m (packet.Vote s v show) = where_it_is_heard m _ _ _ (λ t. row_vote m s v show t)
 row_hear m (packet.Fetch s v low) = where_it_is_heard m _ _ _ (λ t. row_fetch m s v low)
 row_hear m (packet.Piece s v base number e) = where_it_is_heard m _ _ _ (λ t. row_piece m s v base number e t)
-row_hear m (packet.Result s v base number names resilience) =
-    where_it_is_heard m _ _ _ (λ t. let both = and_both (hears_member m s) (v.by == s) t in row_result m s v base number names resilience both.0 both.1)
+row_hear m (packet.Result s base number v) =
+    where_it_is_heard m _ _ _ (λ t. let both = and_both (hears_member m s) (v.stamp.by == s) t in row_result m s base number v both.0 both.1)
 row_hear m (packet.HandOver s v) = where_it_is_heard m _ _ _ (λ t. row_reset m _ 1 (image_of m).resilience (by_hand_over s v t))
 
 -- ---- steps

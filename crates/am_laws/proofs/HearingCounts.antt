@@ -1,6 +1,6 @@
 -- What hearing adds to the numbers that grow, and a whole step.
 use Rattle.am_laws.proofs.Words.{◌≡◌, inl, inr, ⊎_elim, ℕ, ◌≤◌, ◌==◌, ◌||◌, not, max, if◌then◌else◌, Bool, true, false, nat_le, List, [], ◌∷◌, Option, Some}
-use Rattle.am_laws.proofs.Words.{None, refl, arith, All, nat_tests, All-head, All-tail, Stamp, Report, Row, Image, Vote, Entry, Data, Join, Leave, View}
+use Rattle.am_laws.proofs.Words.{None, refl, arith, All, nat_tests, All-head, All-tail, GroupView, Stamp, Report, Row, Image, Vote, Entry, Data, Join, Leave, View}
 use Rattle.am_laws.proofs.Words.{Outcome, NodeEvent, at_place, fits, Packet, OwnSend, Node, Ballot, top, image_of, is_within_bound, push_entry, trim_up_to}
 use Rattle.am_laws.proofs.Words.{with_report, waiting, Plan, take_report, number_data, answer_request, request_row, ack_row, serve_again, nack_row}
 use Rattle.am_laws.proofs.Words.{spread_row, is_view, store_fitting, store, with_noted, receive_entry, bcast_row, data_of, body_of, order_row, accept_row}
@@ -231,19 +231,19 @@ ends_piece most g m s v base number e low from k h =
     let l = ends_piece_for most g m s v base number e m.ballot low from h.votes k h in
     search (ends, l)
 
-ends_hears_result : (most : Bounds) (g : ℕ) (m : Node) (s : ℕ) (v : Stamp) (base number : ℕ) (names : List ℕ) (resilience : ℕ) → base ≤ g → Behind g m
-    → Low most g m → Ends most g (hears_result m s v base number names resilience)
-ends_hears_result most g m s v base number names resilience from k h =
-    let l : Low (up most) g (push_entry (trim_up_to m base) (View v names resilience)) =
-    low_any most g (trim_up_to m base) (View v names resilience) (record { told = k.told; acc = k.acc }) (low_trimmed most g m base from h) in
+ends_hears_result : (most : Bounds) (g : ℕ) (m : Node) (s : ℕ) (base number : ℕ) (v : GroupView) → base ≤ g → Behind g m
+    → Low most g m → Ends most g (hears_result m s base number v)
+ends_hears_result most g m s base number v from k h =
+    let l : Low (up most) g (push_entry (trim_up_to m base) (View v)) =
+    low_any most g (trim_up_to m base) (View v) (record { told = k.told; acc = k.acc }) (low_trimmed most g m base from h) in
     search (ends_if, ends_at, ends_next, h, l) depth 8
 
-ends_result : (most : Bounds) (g : ℕ) (m : Node) (s : ℕ) (v : Stamp) (base number : ℕ) (names : List ℕ) (resilience : ℕ) → v.round ≤ most.rounds → base ≤ g
-    → Behind g m → Low most g m → Ends most g (result_row m s v base number names resilience)
+ends_result : (most : Bounds) (g : ℕ) (m : Node) (s : ℕ) (base number : ℕ) (v : GroupView) → v.stamp.round ≤ most.rounds → base ≤ g
+    → Behind g m → Low most g m → Ends most g (result_row m s base number v)
 unfolding result_row
-ends_result most g m s v base number names resilience round from k h =
-    let l = ends_hears_result most g (with_promise m v) s v base number names resilience from (record { told = k.told; acc = k.acc })
-    (low_promised most g m v round h) in
+ends_result most g m s base number v round from k h =
+    let l = ends_hears_result most g (with_promise m v.stamp) s base number v from (record { told = k.told; acc = k.acc })
+    (low_promised most g m v.stamp round h) in
     search (ends, l)
 
 -- ---- a step
@@ -277,8 +277,8 @@ ends_hear most g m (packet.Vote s v vote) u k h = let l = ends_vote most g m s v
 ends_hear most g m (packet.Piece s v base number e) u k h =
     let l = ends_piece most g m s v base number e (second_low most.lists base number [] u.numbers) (first_low g base [] u.accepted) k h in
     search (ends, l)
-ends_hear most g m (packet.Result s v base number names resilience) u k h =
-    let l = ends_result most g m s v base number names resilience u.round (first_low g base [] u.accepted) k h in
+ends_hear most g m (packet.Result s base number v) u k h =
+    let l = ends_result most g m s base number v u.round (first_low g base [] u.accepted) k h in
     search (ends, l)
 ends_hear most g m _ u k h = search (ends, rows)
 

@@ -69,12 +69,12 @@ after_up n image (Leave name) h =
           (record { joined = old.joined; left = omega arith }) more.rows;
     }))
     (λ f. rw f more)
-after_up n image (View stamp members resilience) h =
-    let f : ℕ → Row = λ place. row_after_view (is_blank image) (n + 1) (slice_index members place) (slice_index_or image.rows place blank_row) in
+after_up n image (View v) h =
+    let f : ℕ → Row = λ place. row_after_view (is_blank image) (n + 1) (slice_index v.members place) (slice_index_or image.rows place blank_row) in
     record {
       view = omega arith;
       rows = All-map (RowUp (n + 1)) f (range_with_len 0 16)
-          (all_places (RowUp (n + 1)) f (range_with_len 0 16) (λ place. viewed_up n (is_blank image) (slice_index members place) _
+          (all_places (RowUp (n + 1)) f (range_with_len 0 16) (λ place. viewed_up n (is_blank image) (slice_index v.members place) _
           (up_at n image.rows place h.rows)));
     }
 

@@ -1,7 +1,7 @@
 -- The rows of a list in which each Join fits what stands before it: the lives of a place never fall, and who leads stays among those
 -- whose reports count.
 use Rattle.am_laws.proofs.Words.{has_in, ◌≡◌, ℕ, zero, suc, ◌+◌, ◌-◌, ◌<◌, ◌≤◌, ◌==◌, ◌&&◌, not, nat_lt, Bool, true, false, List, [], ◌∷◌, ◌++◌, length, take}
-use Rattle.am_laws.proofs.Words.{Some, slice_index, refl, sym, ap, ◌∙◌, subst, arith, nat_tests, get_or-replicate, Entry, Data, View, Stamp, Report, Row}
+use Rattle.am_laws.proofs.Words.{Some, slice_index, refl, sym, ap, ◌∙◌, subst, arith, nat_tests, get_or-replicate, Entry, Data, View, GroupView, Stamp, Report, Row}
 use Rattle.am_laws.proofs.Words.{Image, place_of, life_of, has, blank_row, blank, is_blank, at_place, member_life, members_of, members_at, row_after_view}
 use Rattle.am_laws.proofs.Words.{after, fold, top_of, image_at, told_by, CoreState, since_accepted, JoinFits, JoinsFit, IsUsed, row_at, used_after, used_fold}
 use Rattle.am_laws.proofs.Words.{life_fold, member_at, unions_most, unions_least, unions_long, In, mod16, long_after, set_keeps, row_view, least_taken}
@@ -58,24 +58,24 @@ viewed_keeps false n given life r some is h =
     let f : (nat_lt 0 (member_life r) && not (member_life r == given)) ≡ false = grind (arith, nat_tests) in
     rw f h
 
-pub view_member : (image : Image) (n : ℕ) (stamp : Stamp) (names : List ℕ) (resilience name : ℕ) → length image.rows ≡ 16
-    → length (after image n (View stamp names resilience)).rows ≡ 16 → has (members_of image) name ≡ true
-    → slice_index names (place_of name) ≡ life_of name → has (members_of (after image n (View stamp names resilience))) name ≡ true
-view_member image n stamp names resilience name long longer h given =
+pub view_member : (image : Image) (n : ℕ) (v : GroupView) (name : ℕ) → length image.rows ≡ 16
+    → length (after image n (View v)).rows ≡ 16 → has (members_of image) name ≡ true
+    → slice_index v.members (place_of name) ≡ life_of name → has (members_of (after image n (View v))) name ≡ true
+view_member image n v name long longer h given =
     let some : 0 < life_of name = omega arith in
-    let is = row_view image n stamp names resilience (place_of name) (mod16 name) in
-    in_is (after image n (View stamp names resilience)) name longer
-    (subst (λ (r : Row). In r (life_of name)) (sym is) (viewed_keeps (is_blank image) n (slice_index names (place_of name)) (life_of name) _ some given
+    let is = row_view image n v (place_of name) (mod16 name) in
+    in_is (after image n (View v)) name longer
+    (subst (λ (r : Row). In r (life_of name)) (sym is) (viewed_keeps (is_blank image) n (slice_index v.members (place_of name)) (life_of name) _ some given
     (has_in image name long h)))
 
 -- and the first View has who is in it
-pub first_member : (stamp : Stamp) (names : List ℕ) (resilience name : ℕ) → slice_index names (place_of name) ≡ life_of name
-    → has (members_of (after blank 1 (View stamp names resilience))) name ≡ true
-first_member stamp names resilience name given =
-    let e = View stamp names resilience in
-    let some : (slice_index names (place_of name) == 0) ≡ false = grind (arith, nat_tests) in
-    let is = row_view blank 1 stamp names resilience (place_of name) (mod16 name) in
-    let first : In (row_after_view true 1 (slice_index names (place_of name)) (row_at blank (place_of name))) (life_of name) =
+pub first_member : (v : GroupView) (name : ℕ) → slice_index v.members (place_of name) ≡ life_of name
+    → has (members_of (after blank 1 (View v))) name ≡ true
+first_member v name given =
+    let e = View v in
+    let some : (slice_index v.members (place_of name) == 0) ≡ false = grind (arith, nat_tests) in
+    let is = row_view blank 1 v (place_of name) (mod16 name) in
+    let first : In (row_after_view true 1 (slice_index v.members (place_of name)) (row_at blank (place_of name))) (life_of name) =
     rw some (record { joined = omega arith; left = refl; is = given }) in
     in_is (after blank 1 e) name (long_after blank 1 e refl) (subst (λ (r : Row). In r (life_of name)) (sym is) first)
 

@@ -17,7 +17,7 @@ own_send_within b n req body s h =
     record { req = subst (λ r. r ≤ b.requests) s.request k.req; body = subst (λ (x : List ℕ). length x ≤ most_body) s.body_ k.body }
 
 viewed_by_set : (b : Bounds) (o : Option Entry) → ((e : Entry) → o ≡ Some e → EntryWithin b e) → IsSet (viewed_by o)
-viewed_by_set b (Some (View stamp names resilience)) h = (h (View stamp names resilience) refl).1
+viewed_by_set b (Some (View v)) h = (h (View v) refl).1
 viewed_by_set b _ h = is_nobody
 
 at_within : (b : Bounds) (log : Log) (number : ℕ) (e : Entry) → All (EntryWithin b) log.entries → entry_at log number ≡ Some e → EntryWithin b e
@@ -123,8 +123,8 @@ is_packet b g (packet.Piece s v base number e) n h =
     let round = is_round b g (packet.Piece s v base number e) n h.up_to in
     let k = two_of b base number n h.up_to.numbers in let x = is_entry b e n h.within in
     record { within = (round, (k.0, k.1, x.0)); parts = x.1 }
-is_packet b g (packet.Result s v base number names resilience) n h =
-    let round = is_round b g (packet.Result s v base number names resilience) n h.up_to in
+is_packet b g (packet.Result s base number v) n h =
+    let round = is_round b g (packet.Result s base number v) n h.up_to in
     let w = h.within in
     record { within = (round, (first_of b base [] n h.up_to.numbers, omega arith, w.2)); parts = w.1 }
 is_packet b g p n h = record { within = (is_round b g p n h.up_to, tt); parts = tt }

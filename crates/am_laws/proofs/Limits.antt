@@ -55,7 +55,7 @@ abbrev pub EntryWithin : Bounds → Entry → Type 0
 EntryWithin b (Data from req body) = (req ≤ b.requests) × (length body ≤ most_body)
 EntryWithin b (Join name) = name < 256
 EntryWithin b (Leave name) = Unit {0}
-EntryWithin b (View stamp names resilience) = (stamp.round ≤ b.rounds) × IsSet names × (resilience ≤ 15)
+EntryWithin b (View v) = (v.stamp.round ≤ b.rounds) × IsSet v.members × (v.resilience ≤ 15)
 
 row_more : (b : Bounds) (r : Row) → RowWithin b r → RowWithin (up b) r
 row_more b r h = let l = h.last in record { life = h.life; unused = h.unused; used = h.used; last = omega arith }
@@ -72,7 +72,7 @@ pub entry_more : (b : Bounds) (e : Entry) → EntryWithin b e → EntryWithin (u
 entry_more b (Data from req body) h = let r = h.0 in (omega arith, h.1)
 entry_more b (Join name) h = h
 entry_more b (Leave name) h = h
-entry_more b (View stamp names resilience) h = let r = h.0 in (omega arith, h.1, h.2)
+entry_more b (View v) h = let r = h.0 in (omega arith, h.1, h.2)
 
 blank_within : (b : Bounds) → RowWithin b blank_row
 blank_within b = record { life = omega arith; unused = λ e. refl; used = λ e. refl; last = omega arith }
@@ -127,13 +127,13 @@ after_within b image number (Leave name) e h =
     split ((at_place image name).life == life_of name)
     (λ t. rw t (record { places = k.1; rows = k.0; round = h.round; resilience = h.resilience }))
     (λ f. rw f h)
-after_within b image number (View stamp names resilience) e h =
-    let f : ℕ → Row = λ place. row_after_view (is_blank image) (number + 1) (slice_index names place) (slice_index_or image.rows place blank_row) in
-    let low = lives_within names e.1 in
+after_within b image number (View v) e h =
+    let f : ℕ → Row = λ place. row_after_view (is_blank image) (number + 1) (slice_index v.members place) (slice_index_or image.rows place blank_row) in
+    let low = lives_within v.members e.1 in
     record {
       places = refl;
       rows = All-map (RowWithin b) f (range_with_len 0 16) (all_places (RowWithin b) f (range_with_len 0 16)
-          (λ place. viewed_within b (is_blank image) (number + 1) (slice_index names place) _ (life_at names place low)
+          (λ place. viewed_within b (is_blank image) (number + 1) (slice_index v.members place) _ (life_at v.members place low)
           (row_at_within b image.rows place h.rows)));
       round = e.0;
       resilience = e.2;
@@ -165,7 +165,7 @@ pub is_entry : (b : Bounds) (e : Entry) → AreNumbers b → EntryWithin b e →
 is_entry b (Data from req body) n h = let r = n.requests in let q = h.0 in (omega arith, h.1)
 is_entry b (Join name) n h = (tt, tt)
 is_entry b (Leave name) n h = (tt, tt)
-is_entry b (View stamp names resilience) n h = let r = n.rounds in let q = h.0 in ((omega arith, h.2), h.1)
+is_entry b (View v) n h = let r = n.rounds in let q = h.0 in ((omega arith, h.2), h.1)
 
 pub is_image : (b : Bounds) (number : ℕ) (image : Image) → AreNumbers b → number ≤ b.lists → ImageUp number image → ImageWithin b image → IsImage image
 is_image b number image n low k h =

@@ -1,4 +1,5 @@
 -- A view is noted with the members that its View names: in the step that decides it nothing changes them any more.
+use Rattle.am_base.specs.declared.entry.GroupView.{GroupView}
 use Rattle.am_laws.proofs.WatchedWords.{welcomed_none, numbers_plain, or_second, stamp_itself, same_stamp, ◌≡◌, ◌⊎◌, inl, inr, ⊎_elim, ℕ, ◌+◌, ◌<◌, ◌==◌, ◌&&◌}
 use Rattle.am_laws.proofs.WatchedWords.{not, max, nat_lt, Bool, true, false, List, length, slice_index, Option, Some, None, refl, sym, ap, ◌∙◌, subst, arith}
 use Rattle.am_laws.proofs.WatchedWords.{nat_tests, Entry, Data, Join, Leave, View, Vote, Image, Stamp, Outcome, stamp_lt, stamp_eq, Log, members_of, fits}
@@ -30,7 +31,7 @@ Alters (hears (packet.JoinAsk s v)) = Unit {0}
 Alters (hears (packet.LeaveAsk s v report)) = Unit {0}
 Alters (hears (packet.Bcast s v base acc number e)) = Unit {0}
 Alters (hears (packet.Order s v base acc number from req)) = Unit {0}
-Alters (hears (packet.Result s v base number names resilience)) = Unit {0}
+Alters (hears (packet.Result s base number v)) = Unit {0}
 Alters _ = ⊥
 
 never_both : (c : Cause) (v : Stamp) → LooksBy c v → Alters c → ⊥
@@ -114,11 +115,11 @@ whole_sent x from req body long h =
     ap (entry_at (push_entry x e).core.log) number ∙ entry_stays x.core.log e _ (image_of x).view_number h ∙ (λ i. Some (View (sym v i) (sym m i) (sym r i)))
 
 -- the View that is decided
-whole_decided : (x : Node) (stamp : Stamp) (names : List ℕ) (resilience : ℕ) → members (push_entry x (View stamp names resilience)) ≡ names
-    → Whole (push_entry x (View stamp names resilience)).core.log
-whole_decided x stamp names resilience same =
-    let n = push_entry x (View stamp names resilience) in
-    view_there x stamp names resilience ∙ (λ i. Some (View (view n) (sym same i) (image_of n).resilience))
+whole_decided : (x : Node) (v : GroupView) → members (push_entry x (View v)) ≡ v.members
+    → Whole (push_entry x (View v)).core.log
+whole_decided x v same =
+    let n = push_entry x (View v) in
+    view_there x v ∙ (λ i. Some (View (view n) (sym same i) (image_of n).resilience))
 
 -- ---- who has an unfinished ballot doesn't leave
 
@@ -205,15 +206,15 @@ fetch_viewed c old nodes name m s v base number (Join joiner) is below who known
 fetch_viewed c old nodes name m s v base number (Leave leaver) is below who known up fit h =
     viewed_plain c old m (push_entry (trim_up_to m base) (Leave leaver)) (Leave leaver) refl refl refl
     (λ k. absurd (fetched_for c (view m) k.by s v base number _ is below)) h
-fetch_viewed c old nodes name m s v base number (View stamp names resilience) is below who known up fit h =
-    let e = View stamp names resilience in
-    let above = (and_both (stamp_lt (view m) stamp) _ fit).0 in
-    let last = view_last (trim_up_to m base) stamp names resilience in
-    split (stamp.by == m.core.who)
+fetch_viewed c old nodes name m s v base number (View w) is below who known up fit h =
+    let e = View w in
+    let above = (and_both (stamp_lt (view m) w.stamp) _ fit).0 in
+    let last = view_last (trim_up_to m base) w in
+    split (w.stamp.by == m.core.who)
     (λ t.
-    let mine : stamp.by ≡ name = (let x : stamp.by ≡ m.core.who = grind (arith, nat_tests) in x ∙ who) in
-    let low : stamp_lt (view (nodes name)) stamp ≡ false = subst (λ k. stamp_lt (view (nodes k)) stamp ≡ false) mine known.low in
-    let higher = at_most_below (view (nodes name)) (view m) stamp up above in
+    let mine : w.stamp.by ≡ name = (let x : w.stamp.by ≡ m.core.who = grind (arith, nat_tests) in x ∙ who) in
+    let low : stamp_lt (view (nodes name)) w.stamp ≡ false = subst (λ k. stamp_lt (view (nodes k)) w.stamp ≡ false) mine known.low in
+    let higher = at_most_below (view (nodes name)) (view m) w.stamp up above in
     absurd (cc))
     (λ f. of_other (ap (λ (x : Stamp). x.by == m.core.who) last ∙ f))
 

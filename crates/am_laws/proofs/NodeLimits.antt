@@ -50,7 +50,7 @@ PacketWithin b (packet.Hold s v base high req) = req ≤ b.requests
 PacketWithin b (packet.Welcome s v base join image) = ImageWithin b image
 PacketWithin b (packet.Vote s v vote) = IsSet vote.members × (vote.view.round ≤ b.rounds)
 PacketWithin b (packet.Piece s v base number e) = EntryWithin b e
-PacketWithin b (packet.Result s v base number names resilience) = (number ≤ b.lists) × IsSet names × (resilience ≤ 15)
+PacketWithin b (packet.Result s base number v) = (number ≤ b.lists) × IsSet v.members × (v.resilience ≤ 15)
 PacketWithin b _ = Unit {0}
 
 -- what makes a node do a step
@@ -86,7 +86,7 @@ packet_more b (packet.Hold s v base high req) h = omega arith
 packet_more b (packet.Welcome s v base join image) h = image_more b image h
 packet_more b (packet.Vote s v vote) h = let r = h.1 in (h.0, omega arith)
 packet_more b (packet.Piece s v base number e) h = entry_more b e h
-packet_more b (packet.Result s v base number names resilience) h = let r = h.0 in (omega arith, h.1, h.2)
+packet_more b (packet.Result s base number v) h = let r = h.0 in (omega arith, h.1, h.2)
 packet_more b _ h = tt
 
 -- ---- entries
@@ -349,10 +349,10 @@ change_within b m n from round last (looks x verdict over why look is) h = look_
 change_within b m n from round last (fetches s v base number e is by promise below who may) h =
     let k = pushed_within b m e (from.heard (packet.Piece s v base number e) is) h in
     record { image = k.image; entries = k.entries; sends = k.sends; bodies = k.bodies; ballot = k.ballot }
-change_within b m n from round last (stores_view s v base number names resilience is by own other promise below may) h =
-    let heard = from.heard (packet.Result s v base number names resilience) is in
-    let low : v.round ≤ b.rounds = subst (λ (u : Stamp). u.round ≤ b.rounds) promise round in
-    let k = pushed_within b m (View v names resilience) (low, heard.1, heard.2) h in
+change_within b m n from round last (stores_view s base number v is by own other promise below may) h =
+    let heard = from.heard (packet.Result s base number v) is in
+    let low : v.stamp.round ≤ b.rounds = subst (λ (u : Stamp). u.round ≤ b.rounds) promise round in
+    let k = pushed_within b m (View v) (low, heard.1, heard.2) h in
     record { image = k.image; entries = k.entries; sends = k.sends; bodies = k.bodies; ballot = k.ballot }
 change_within b m n from round last (queues body is o member stays few) h =
     record {

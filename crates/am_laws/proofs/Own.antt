@@ -1,5 +1,6 @@
 -- Views of a name come from that name alone: along the changes of a step, its promise never falls, what it tells is what it decided, and
 -- each View in its list is of another name's list or is not above its own view.
+use Rattle.am_base.specs.declared.entry.GroupView.{GroupView}
 use Rattle.am_laws.proofs.WatchedWords.{eqb-false, not_both, view_rises, of_open, next_above, welcomed_none, eqb-true, ◌≡◌, ◌⊎◌, inl, inr, ⊎_elim, ℕ, ◌==◌}
 use Rattle.am_laws.proofs.WatchedWords.{◌||◌, not, true, false, List, [], ◌∷◌, ◌++◌, Option, Some, refl, sym, ap, ◌∙◌, subst, arith, All, nat_tests, All-nil}
 use Rattle.am_laws.proofs.WatchedWords.{All-cons, All-append, All-weaker, Outcome, Stamp, Entry, Leave, View, stamp_lt, Log, Packet, Node, Ballot, view}
@@ -24,15 +25,15 @@ pub record IsKnown (nodes : ℕ → Node) (v : Stamp) : Type 0 where
   pub has_list : has_log (nodes v.by).status ≡ true
 
 abbrev pub Known : (ℕ → Node) → Entry → Type 0
-Known nodes (View stamp names resilience) = IsKnown nodes stamp
+Known nodes (View v) = IsKnown nodes v.stamp
 Known nodes _ = Unit {0}
 
 -- what is heard was known
 pub record HeardOwn (nodes : ℕ → Node) (c : Cause) : Type 0 where
   pub stamp : (p : Packet) → c ≡ hears p → Below nodes (stamp_of p)
   pub piece : (s : ℕ) (v : Stamp) (base number : ℕ) (e : Entry) → c ≡ hears (packet.Piece s v base number e) → Known nodes e
-  pub result : (s : ℕ) (v : Stamp) (base number : ℕ) (names : List ℕ) (resilience : ℕ) → c ≡ hears (packet.Result s v base number names resilience)
-      → (v.by == s) ≡ true → IsKnown nodes v
+  pub result : (s : ℕ) (base number : ℕ) (v : GroupView) → c ≡ hears (packet.Result s base number v)
+      → (v.stamp.by == s) ≡ true → IsKnown nodes v.stamp
 
 -- ---- what is so along a step
 
@@ -46,7 +47,7 @@ pub record IsOwn (name : ℕ) (x : Node) (v : Stamp) : Type 0 where
   pub has_list : has_log x.status ≡ true
 
 abbrev pub Chained : (ℕ → Node) → ℕ → Node → Entry → Type 0
-Chained nodes name x (View stamp names resilience) = IsKnown nodes stamp ⊎ IsOwn name x stamp
+Chained nodes name x (View v) = IsKnown nodes v.stamp ⊎ IsOwn name x v.stamp
 Chained nodes name x _ = Unit {0}
 
 pub record Along (nodes : ℕ → Node) (name : ℕ) (x : Node) : Type 0 where
@@ -57,22 +58,22 @@ pub record Along (nodes : ℕ → Node) (name : ℕ) (x : Node) : Type 0 where
   pub entries : All (Chained nodes name x) x.core.log.entries
 
 chained_up : (nodes : ℕ → Node) (name : ℕ) (x y : Node) → Does x y → (e : Entry) → Chained nodes name x e → Chained nodes name y e
-chained_up nodes name x y d (View stamp names resilience) h = ⊎_elim
-    (λ (k : IsKnown nodes stamp). inl k)
-    (λ (o : IsOwn name x stamp). inr (record {
+chained_up nodes name x y d (View v) h = ⊎_elim
+    (λ (k : IsKnown nodes v.stamp). inl k)
+    (λ (o : IsOwn name x v.stamp). inr (record {
       by = o.by;
-      low = at_most stamp (view x) (view y) o.low (view_rises x y (d.goes o.has_list));
+      low = at_most v.stamp (view x) (view y) o.low (view_rises x y (d.goes o.has_list));
       has_list = d.log_ o.has_list;
     }))
     h
 chained_up nodes name x y d _ h = tt
 
 pub known_chained : (nodes : ℕ → Node) (name : ℕ) (x : Node) (e : Entry) → Known nodes e → Chained nodes name x e
-known_chained nodes name x (View stamp names resilience) h = inl h
+known_chained nodes name x (View v) h = inl h
 known_chained nodes name x _ h = tt
 
 plain_chained : (nodes : ℕ → Node) (name : ℕ) (x : Node) (e : Entry) → is_view e ≡ false → Chained nodes name x e
-plain_chained nodes name x (View stamp names resilience) h = absurd (cc)
+plain_chained nodes name x (View v) h = absurd (cc)
 plain_chained nodes name x _ h = tt
 
 -- ---- the kinds of changes
@@ -118,7 +119,7 @@ not_own nodes name c x v heard (told_result s _ base number names resilience is 
 heard_promise : (nodes : ℕ → Node) (c : Cause) (x : Node) (v : Stamp) → HeardOwn nodes c → Promises c x v → Below nodes v
 heard_promise nodes c x v heard (invited s _ is by own) = heard.stamp (packet.Invite s v) is
 heard_promise nodes c x v heard (overtaken_by s _ shown is by above) = heard.stamp (packet.Vote s v shown) is
-heard_promise nodes c x v heard (told_result s _ base number names resilience is by own other) = heard.stamp (packet.Result s v base number names resilience) is
+heard_promise nodes c x v.stamp heard (told_result s _ base number v.members v.resilience is by own other) = heard.stamp (packet.Result s base number v) is
 
 -- ---- looks
 
@@ -197,8 +198,8 @@ change_along nodes name heard x y (looks b verdict over why look is) d k h =
     look_along nodes name x b verdict look d (looked_open x b why k) (looked_log x b why k) h
 change_along nodes name heard x y (fetches s v base number e is by promise below from may) d k h =
     along_pushed nodes name x y e refl refl refl refl (known_chained nodes name y e (heard.piece s v base number e is)) d h
-change_along nodes name heard x y (stores_view s v base number names resilience is by own other promise below may) d k h =
-    along_pushed nodes name x y (View v names resilience) refl refl refl refl (inl (heard.result s v base number names resilience is own)) d h
+change_along nodes name heard x y (stores_view s base number v is by own other promise below may) d k h =
+    along_pushed nodes name x y (View v) refl refl refl refl (inl (heard.result s base number v is own)) d h
 change_along nodes name heard x y (closes leads leaves alone room) d k h =
     let r = rests_at_end (push_entry x (Leave x.core.who)) in
     along_pushed nodes name x y (Leave x.core.who) r.rests.who r.rests.promise (ap (λ (l : Log). l.entries) r.log) r.rests.ballot tt d h

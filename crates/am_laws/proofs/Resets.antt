@@ -1,4 +1,5 @@
 -- The effects of what belongs to ballots.
+use Rattle.am_base.specs.declared.entry.GroupView.{GroupView}
 use Rattle.am_laws.proofs.EffectWords.{not-true, not-false, ◌≡◌, ℕ, ◌+◌, ◌≤◌, max, ◌==◌, ◌&&◌, ◌||◌, nat_lt, nat_le, not, Bool, true, false, List, [], Option}
 use Rattle.am_laws.proofs.EffectWords.{Some, None, refl, sym, ap, ◌∙◌, arith, nat_tests, Vote, Image, Stamp, Entry, View, Outcome, stamp_lt, stamp_eq, fits}
 use Rattle.am_laws.proofs.EffectWords.{Node, Ballot, top, image_of, view, only_name, is_member, has_own_leave, is_within_bound, push_entry, trim_up_to, Plan}
@@ -159,27 +160,27 @@ row_piece m s v base number e heard =
 
 -- ---- a decided view
 
-row_hears_result : (m : Node) (s : ℕ) (v : Stamp) (base number : ℕ) (names : List ℕ) (resilience : ℕ) → hears_member m s ≡ true → (v.by == s) ≡ true
-    → (v.by == m.core.who) ≡ false → stamp_lt v m.core.promise ≡ false
-    → HasEffect m (hears (packet.Result s v base number names resilience)) (hears_result (with_promise m v) s v base number names resilience)
-row_hears_result m s v base number names resilience heard own other low =
-    let c = hears (packet.Result s v base number names resilience) in
-    let p = with_promise m v in
-    let e = View v names resilience in
+row_hears_result : (m : Node) (s : ℕ) (base number : ℕ) (v : GroupView) → hears_member m s ≡ true → (v.stamp.by == s) ≡ true
+    → (v.stamp.by == m.core.who) ≡ false → stamp_lt v.stamp m.core.promise ≡ false
+    → HasEffect m (hears (packet.Result s base number v)) (hears_result (with_promise m v.stamp) s base number v)
+row_hears_result m s base number v heard own other low =
+    let c = hears (packet.Result s base number v) in
+    let p = with_promise m v.stamp in
+    let e = View v in
     let member = member_heard m s heard in
-    let comes : Comes m c p = λ o. and_then nothing_yet (promises {m = m} v low (told_result s v base number names resilience refl heard own other)) tt in
+    let comes : Comes m c p = λ o. and_then nothing_yet (promises {m = m} v.stamp low (told_result s base number v refl heard own other)) tt in
     let quietly : (o : Outcome) → Allows m c o → HasEffect m c (quiet p o) = λ o b. effect_of m c _ (does_quiet RestsWhole m c p o (comes o) (λ n r. b n)) in
     let within = is_within_bound p (max p.core.base base) number in
-    effect_if m c (stamp_eq (view p) v) _ _
+    effect_if m c (stamp_eq (view p) v.stamp) _ _
     (λ t.
-    let back = stamp_turned (view p) v t in
+    let back = stamp_turned (view p) v.stamp t in
     effect_of m c _ (does_telling RestsWhole m c p said.Known (only_name s) ack_of (comes _) (λ n r. tt)
     (tells_ack m c p (only_name s) (rw (member, back) refl))))
     (λ below. effect_if m c (nat_le number (top p)) _ _ (λ t. quietly said.Unfit (λ n. tt))
     (λ new. effect_if m c (has_own_leave p) _ _ (λ t. quietly said.Behind (λ n. tt))
     (λ stays. effect_if m c (nat_lt (top p + 1) number) _ _
     (λ t.
-    let by : v.by ≡ s = grind (arith, nat_tests) in
+    let by : v.stamp.by ≡ s = grind (arith, nat_tests) in
     effect_of m c _ (does_telling RestsWhole m c p (said.Catching (top p + 1)) (only_name s) fetch_of (comes _) (λ n r. tt)
     (λ n r. fetch (only_name s) (of_promise ((λ i. (r.rests.promise i).by == r.rests.who i) ∙ other) (ap only_name (sym by)
     ∙ ap (λ (x : Stamp). only_name x.by) (sym r.rests.promise))))))
@@ -191,17 +192,17 @@ row_hears_result m s v base number names resilience heard own other low =
     let n = push_entry (trim_up_to p base) e in
     let may : MayStore p (max p.core.base base) base number e = may_store p (max p.core.base base) base number e next taken stays
     (or_first (not (fits (image_of p) e)) (not within) f) (or_second (not (fits (image_of p) e)) (not within) f) in
-    let stamp : view n ≡ v = ap (λ (i : Image). i.view) (told_pushed (trim_up_to p base) e) ∙ (viewed (image_of p) (top p + 1) v names resilience).1 in
-    let same : stamp_eq v (view n) ≡ true = ap (stamp_eq v) stamp ∙ stamp_itself v in
+    let stamp : view n ≡ v = ap (λ (i : Image). i.view) (told_pushed (trim_up_to p base) e) ∙ (viewed (image_of p) (top p + 1) v).1 in
+    let same : stamp_eq v.stamp (view n) ≡ true = ap (stamp_eq v.stamp) stamp ∙ stamp_itself v.stamp in
     effect_of m c _ (does_telling RestsWhole m c n (said.Stored number)
-    (only_name s) ack_of (and_then (comes _) (stores_view {m = p} s v base number names resilience refl heard own other refl below may) tt) (λ k r. tt)
+    (only_name s) ack_of (and_then (comes _) (stores_view {m = p} s base number v refl heard own other refl below may) tt) (λ k r. tt)
     (tells_ack m c n (only_name s) (rw (member, same) refl)))))))))
 
-pub row_result : (m : Node) (s : ℕ) (v : Stamp) (base number : ℕ) (names : List ℕ) (resilience : ℕ) → hears_member m s ≡ true → (v.by == s) ≡ true
-    → HasEffect m (hears (packet.Result s v base number names resilience)) (result_row m s v base number names resilience)
+pub row_result : (m : Node) (s : ℕ) (base number : ℕ) (v : GroupView) → hears_member m s ≡ true → (v.stamp.by == s) ≡ true
+    → HasEffect m (hears (packet.Result s base number v)) (result_row m s base number v)
 unfolding result_row
-row_result m s v base number names resilience heard own =
-    let c = hears (packet.Result s v base number names resilience) in
-    effect_if m c ((v.by == m.core.who) || stamp_lt v m.core.promise) _ _ (λ t. search rows)
-    (λ f. row_hears_result m s v base number names resilience heard own (or_first (v.by == m.core.who) (stamp_lt v m.core.promise) f)
-    (or_second (v.by == m.core.who) (stamp_lt v m.core.promise) f))
+row_result m s base number v heard own =
+    let c = hears (packet.Result s base number v) in
+    effect_if m c ((v.stamp.by == m.core.who) || stamp_lt v.stamp m.core.promise) _ _ (λ t. search rows)
+    (λ f. row_hears_result m s base number v heard own (or_first (v.stamp.by == m.core.who) (stamp_lt v.stamp m.core.promise) f)
+    (or_second (v.stamp.by == m.core.who) (stamp_lt v.stamp m.core.promise) f))

@@ -20,7 +20,7 @@ unfolding after
 view_after image number (Data from req body) f = split ((at_place image from).life == life_of from) (λ t. rw t refl) (λ g. rw g refl)
 view_after image number (Join name) f = refl
 view_after image number (Leave name) f = split ((at_place image name).life == life_of name) (λ t. rw t refl) (λ g. rw g refl)
-view_after image number (View stamp names resilience) f = absurd (cc)
+view_after image number (View v) f = absurd (cc)
 
 -- what the list tells with an entry more
 pub told_pushed : (m : Node) (e : Entry) → image_of (push_entry m e) ≡ after (image_of m) (top m + 1) e

@@ -1,6 +1,6 @@
 -- Which Views a Piece and a Result add to a node's list.
 use Rattle.am_laws.proofs.Words.{same_stamp, ◌≡◌, ℕ, ◌+◌, ◌-◌, max, ◌==◌, ◌&&◌, ◌||◌, not, nat_lt, nat_le, if◌then◌else◌, Bool, true, false, List, [], ◌∷◌}
-use Rattle.am_laws.proofs.Words.{Option, Some, None, refl, sym, ap, ◌∙◌, subst, list_any, Outcome, Stamp, Image, Entry, View, has, size, stamp_lt, stamp_eq}
+use Rattle.am_laws.proofs.Words.{Option, Some, None, refl, sym, ap, ◌∙◌, subst, list_any, Outcome, GroupView, Stamp, Image, Entry, View, has, size, stamp_lt, stamp_eq}
 use Rattle.am_laws.proofs.Words.{Log, fits, Status, has_log, Ballot, top, image_of, view, those, is_member, is_within_bound, push_entry, trim_up_to, Plan}
 use Rattle.am_laws.proofs.Words.{Step, quiet, finish, Verdict, with_promise, need_of, best_of, left_in, trim_for, decide, decide_view, restart_reports}
 use Rattle.am_laws.proofs.Words.{refresh_at_end, push_fetched, catch_up, decide_anew, piece_promised, piece_for, piece_row, hears_result, result_row}
@@ -85,10 +85,10 @@ comes_to p b =
 
 -- ---- an entry that comes
 
-fits_above : (image : Image) (stamp : Stamp) (names : List ℕ) (resilience : ℕ) → fits image (View stamp names resilience) ≡ true
-    → stamp_lt image.view stamp ≡ true
+fits_above : (image : Image) (v : GroupView) → fits image (View v) ≡ true
+    → stamp_lt image.view v.stamp ≡ true
 unfolding fits
-fits_above image stamp names resilience h = (and_both (stamp_lt image.view stamp) _ h).0
+fits_above image v h = (and_both (stamp_lt image.view v.stamp) _ h).0
 
 twice : (b : Bool) → ((b || false) || b) ≡ b
 twice true = refl
@@ -102,33 +102,33 @@ differs a b h = split (stamp_eq a b)
 -- it stands alone
 came : (name : ℕ) (m : Node) (base : ℕ) (e : Entry) (s : Status) → is_member m.status ≡ true → fits (image_of m) e ≡ true
     → Adds name (e ∷ []) m s (push_entry (trim_up_to m base) e).core.log
-came name m base (View stamp names resilience) s member fit =
-    let e = View stamp names resilience in
-    let same : view_in (push_entry m e).core.log ≡ stamp = view_last m stamp names resilience in
+came name m base (View w) s member fit =
+    let e = View w in
+    let same : view_in (push_entry m e).core.log ≡ stamp = view_last m w in
     let one : (v : Stamp) → (any_of (e ∷ []) v || stamp_eq (view_in (push_entry m e).core.log) v) ≡ stamp_eq (view_in (push_entry m e).core.log) v =
-    λ v. ap (λ (u : Stamp). (stamp_eq stamp v || false) || stamp_eq u v) same ∙ twice (stamp_eq stamp v) ∙ ap (λ (u : Stamp). stamp_eq u v) (sym same) in
+    λ v. ap (λ (u : Stamp). (stamp_eq w.stamp v || false) || stamp_eq u v) same ∙ twice (stamp_eq w.stamp v) ∙ ap (λ (u : Stamp). stamp_eq u v) (sym same) in
     last
     (λ v. has_view_more m e v ∙ ap (λ (u : Stamp). has_view m.core.log v || stamp_eq u v) (sym same) ∙ ap (λ b. has_view m.core.log v || b) (sym (one v)))
-    (ap (λ (u : Stamp). stamp_lt (view m) u) same ∙ fits_above (image_of m) stamp names resilience fit)
+    (ap (λ (u : Stamp). stamp_lt (view m) u) same ∙ fits_above (image_of m) w fit)
     (λ t. member)
     (λ f. one)
 came name m base _ s member fit = none (λ v. has_view_plain m _ v refl) (view_pushed m _ refl)
 
 -- and then a decided View
-came_decided : (name : ℕ) (m : Node) (base : ℕ) (e : Entry) (s : Status) (stamp : Stamp) (names : List ℕ) (resilience : ℕ) → is_member m.status ≡ true
-    → stamp_lt (view m) stamp ≡ true → stamp.by ≡ name
-    → Adds name (e ∷ []) m s (push_entry (push_entry (trim_up_to m base) e) (View stamp names resilience)).core.log
-came_decided name m base e s stamp names resilience member above own =
+came_decided : (name : ℕ) (m : Node) (base : ℕ) (e : Entry) (s : Status) (v : GroupView) → is_member m.status ≡ true
+    → stamp_lt (view m) v.stamp ≡ true → v.stamp.by ≡ name
+    → Adds name (e ∷ []) m s (push_entry (push_entry (trim_up_to m base) e) (View v)).core.log
+came_decided name m base e s w member above own =
     let p = push_entry m e in
-    let d = View stamp names resilience in
-    let same : view_in (push_entry p d).core.log ≡ stamp = view_last p stamp names resilience in
+    let d = View w in
+    let same : view_in (push_entry p d).core.log ≡ stamp = view_last p w in
     let by : ((view_in (push_entry p d).core.log).by == name) ≡ true = let q : (view_in (push_entry p d).core.log).by ≡ name = ap (λ (u : Stamp). u.by) same
     ∙ own in
     eq-eqb _ name q in
     let up : stamp_lt (view m) (view_in (push_entry p d).core.log) ≡ true = ap (λ (u : Stamp). stamp_lt (view m) u) same ∙ above in
     let new = differs (view m) (view_in (push_entry p d).core.log) up in
     last
-    (λ v. has_view_more p d v ∙ ap (λ b. b || stamp_eq stamp v) (has_view_more m e v) ∙ or_swaps (has_view m.core.log v) (is_view_of v e) (stamp_eq stamp v)
+    (λ v. has_view_more p d v ∙ ap (λ b. b || stamp_eq w.stamp v) (has_view_more m e v) ∙ or_swaps (has_view m.core.log v) (is_view_of v e) (stamp_eq w.stamp v)
     ∙ (λ i. has_view m.core.log v || (sym (or-false (is_view_of v e)) i || stamp_eq (sym same i) v)))
     up
     (λ t. member)
@@ -188,39 +188,39 @@ piece_adds name m s v base number e who kept =
 
 -- ---- a Result
 
-viewed_adds : (name : ℕ) (m : Node) (stamp : Stamp) (names : List ℕ) (resilience : ℕ) → is_member m.status ≡ true
-    → fits (image_of m) (View stamp names resilience) ≡ true → Adds name [] m m.status (push_entry m (View stamp names resilience)).core.log
-viewed_adds name m stamp names resilience member fit =
-    let e = View stamp names resilience in
-    let same : view_in (push_entry m e).core.log ≡ stamp = view_last m stamp names resilience in
+viewed_adds : (name : ℕ) (m : Node) (v : GroupView) → is_member m.status ≡ true
+    → fits (image_of m) (View v) ≡ true → Adds name [] m m.status (push_entry m (View v)).core.log
+viewed_adds name m w member fit =
+    let e = View w in
+    let same : view_in (push_entry m e).core.log ≡ stamp = view_last m w in
     last
     (λ v. has_view_more m e v ∙ ap (λ (u : Stamp). has_view m.core.log v || stamp_eq u v) (sym same))
-    (ap (λ (u : Stamp). stamp_lt (view m) u) same ∙ fits_above (image_of m) stamp names resilience fit)
+    (ap (λ (u : Stamp). stamp_lt (view m) u) same ∙ fits_above (image_of m) w fit)
     (λ t. member)
     (λ f v. refl)
 
-promised_result : (name : ℕ) (m : Node) (s : ℕ) (v : Stamp) (base number : ℕ) (names : List ℕ) (resilience : ℕ) → is_member m.status ≡ true
-    → PlanAdds name [] m (hears_result (with_promise m v) s v base number names resilience)
-promised_result name m s v base number names resilience member =
+promised_result : (name : ℕ) (m : Node) (s : ℕ) (base number : ℕ) (v : GroupView) → is_member m.status ≡ true
+    → PlanAdds name [] m (hears_result (with_promise m v.stamp) s base number v)
+promised_result name m s base number v member =
     let P : Plan → Type 0 = PlanAdds name [] m in
-    let p = with_promise m v in
-    let e = View v names resilience in
-    if_else P (stamp_eq (view p) v) _ _ (λ t. record { stays = refl; adds = none (λ u. refl) refl })
+    let p = with_promise m v.stamp in
+    let e = View v in
+    if_else P (stamp_eq (view p) v.stamp) _ _ (λ t. record { stays = refl; adds = none (λ u. refl) refl })
     (λ f. if_else P (nat_le number (top p)) _ _ (λ t. record { stays = refl; adds = none (λ u. refl) refl })
     (λ g. if_else P (has_own_leave p) _ _ (λ t. record { stays = refl; adds = none (λ u. refl) refl })
     (λ k. if_else P (nat_lt (top p + 1) number) _ _ (λ t. record { stays = refl; adds = none (λ u. refl) refl })
     (λ l. if_else P (nat_lt p.core.taken base) _ _ (λ t. record { stays = refl; adds = none (λ u. refl) refl })
     (λ q. if_else P (not (fits (image_of p) e) || not (is_within_bound p (max p.core.base base) number)) _ _
     (λ t. record { stays = refl; adds = none (λ u. refl) refl })
-    (λ u. record { stays = refl; adds = viewed_adds name m v names resilience member (not-false _ (or_first (not (fits (image_of p) e)) _ u)) }))))))
+    (λ u. record { stays = refl; adds = viewed_adds name m v member (not-false _ (or_first (not (fits (image_of p) e)) _ u)) }))))))
 
-pub result_adds : (name : ℕ) (m : Node) (s : ℕ) (v : Stamp) (base number : ℕ) (names : List ℕ) (resilience : ℕ)
-    → PlanAdds name [] m (hear_row m (packet.Result s v base number names resilience))
+pub result_adds : (name : ℕ) (m : Node) (s : ℕ) (base number : ℕ) (v : GroupView)
+    → PlanAdds name [] m (hear_row m (packet.Result s base number v))
 unfolding hear_row result_row
-result_adds name m s v base number names resilience =
+result_adds name m s base number v =
     let P : Plan → Type 0 = PlanAdds name [] m in
-    if_else P (hears_member m s && (v.by == s)) _ _
-    (λ t. if_else P ((v.by == m.core.who) || stamp_lt v m.core.promise) _ _ (λ u. quietly name [] m said.Elsewhere)
-    (λ f. promised_result name m s v base number names resilience
-    (and_both (not (s == m.core.who)) (is_member m.status) (and_both (hears_member m s) (v.by == s) t).0).1))
+    if_else P (hears_member m s && (v.stamp.by == s)) _ _
+    (λ t. if_else P ((v.stamp.by == m.core.who) || stamp_lt v.stamp m.core.promise) _ _ (λ u. quietly name [] m said.Elsewhere)
+    (λ f. promised_result name m s base number v
+    (and_both (not (s == m.core.who)) (is_member m.status) (and_both (hears_member m s) (v.stamp.by == s) t).0).1))
     (λ f. quietly name [] m said.Elsewhere)

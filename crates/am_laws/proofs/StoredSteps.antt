@@ -25,7 +25,7 @@ walk_adds name m n bare (new h) = began h.views (λ v. ap (list_any (is_view_of 
 -- what may bring a View: a Piece and a Result
 abbrev may_bring : Cause → Bool
 may_bring (hears (Piece s v base number e)) = true
-may_bring (hears (Result s v base number names resilience)) = true
+may_bring (hears (Result s base number v)) = true
 may_bring _ = false
 
 brings_none : (c : Cause) → may_bring c ≡ false → BringsNone c
@@ -47,8 +47,8 @@ hear_adds : (name : ℕ) (m : Node) (p : Packet) → m.core.who ≡ name → Bal
 unfolding hear
 hear_adds name m (Piece s v base number e) who kept bare = finish_adds name (e ∷ []) m (hear_row m (Piece s v base number e))
     (piece_adds name m s v base number e who kept)
-hear_adds name m (Result s v base number names resilience) who kept bare =
-    finish_adds name [] m (hear_row m (Result s v base number names resilience)) (result_adds name m s v base number names resilience)
+hear_adds name m (Result s base number v) who kept bare =
+    finish_adds name [] m (hear_row m (Result s base number v)) (result_adds name m s base number v)
 hear_adds name m _ who kept bare = packet_adds name m _ refl kept bare
 
 read_adds : (name : ℕ) (m : Node) (r : Read Packet) → m.core.who ≡ name → Balloted m → IsBare m

@@ -1,6 +1,6 @@
 -- Which Views the changes of a step add to a node's list.
 use Rattle.am_laws.proofs.Words.{same_stamp, ◌≡◌, ℕ, ◌+◌, ◌≤◌, ◌==◌, ◌&&◌, ◌||◌, not, Bool, true, false, List, [], ◌∷◌, length, Option, Some, None, refl, sym}
-use Rattle.am_laws.proofs.Words.{ap, ◌∙◌, subst, arith, length-append, list_any, nat_tests, list_any-append, Outcome, Stamp, Image, Entry, Leave, stamp_lt}
+use Rattle.am_laws.proofs.Words.{ap, ◌∙◌, subst, arith, length-append, list_any, nat_tests, list_any-append, Outcome, GroupView, Stamp, Image, Entry, Leave, stamp_lt}
 use Rattle.am_laws.proofs.Words.{stamp_eq, Log, told_by, Ballot, top, view, acts, is_sequencer, is_member, push_entry, has_log, Verdict, overtake, need_of}
 use Rattle.am_laws.proofs.Words.{left_in, trim_for, next_stamp, refresh, settle, refresh_at_end, is_view, begin_list, split, and_both, Cause, hears, HasOpen}
 use Rattle.am_laws.proofs.Words.{Balloting, with_more, without_one, as_it_is, Looks, finds_itself_out, waits, fetches_from_best, finds_too_few, finds_no_room}
@@ -82,7 +82,7 @@ pub data Walked (c : Cause) (o : Outcome) (m x : Node) : Type 0 where
 -- what brings no View
 pub record BringsNone (c : Cause) : Type 0 where
   pub pieces : (s : ℕ) (v : Stamp) (base number : ℕ) (e : Entry) → c ≡ hears (packet.Piece s v base number e) → ⊥
-  pub results : (s : ℕ) (v : Stamp) (base number : ℕ) (names : List ℕ) (resilience : ℕ) → c ≡ hears (packet.Result s v base number names resilience) → ⊥
+  pub results : (s : ℕ) (base number : ℕ) (v : GroupView) → c ≡ hears (packet.Result s base number v) → ⊥
 
 -- ---- no View more
 

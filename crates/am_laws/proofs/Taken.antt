@@ -1,7 +1,7 @@
 -- A node trims no more than its own application has taken: who leads is a member of its own list, so its own report counts.
 use Rattle.am_laws.proofs.Words.{other_heard, stamp_itself, same_stamp, has_in, ◌≡◌, ◌≢◌, ℕ, ◌+◌, ◌≤◌, ◌==◌, ◌&&◌, ◌||◌, not, max, nat_lt, nat_le, Bool, true}
 use Rattle.am_laws.proofs.Words.{false, if◌then◌else◌, List, [], ◌∷◌, length, Option, Some, None, slice_index, unwrap_or, refl, sym, ap, ◌∙◌, subst, arith}
-use Rattle.am_laws.proofs.Words.{nat_tests, Entry, Data, Join, Leave, View, Vote, Image, Stamp, Outcome, place_of, life_of, name_at, has, names_of, stamp_lt}
+use Rattle.am_laws.proofs.Words.{nat_tests, Entry, Data, Join, Leave, View, Vote, Image, GroupView, Stamp, Outcome, place_of, life_of, name_at, has, names_of, stamp_lt}
 use Rattle.am_laws.proofs.Words.{stamp_eq, Shown, vote_lt, all_names, better_of, best_from, top_of, told_by, members_of, at_place, after, fits}
 use Rattle.am_laws.proofs.Words.{slice_index-by_place, length-by_place, Packet, least_of, least_in, Spares, mod16, long_after, in_after, Node, Ballot, top}
 use Rattle.am_laws.proofs.Words.{image_of, view, members, name_where, those, is_member, is_asking, acts, is_sequencer, push_entry, trim_up_to, refresh}
@@ -231,13 +231,13 @@ pub stamp_by : (v : Stamp) (s : ℕ) → (v.by == s) ≡ true → v.by ≡ s
 stamp_by v s h = grind (arith, nat_tests)
 
 -- a fetched View is of another name
-fetched_view : (m : Node) (s : ℕ) (v : Stamp) (stamp : Stamp) (names : List ℕ) (resilience : ℕ) → Fetches m s v (View stamp names resilience)
-    → (s == m.core.who) ≡ false → stamp ≡ v → (stamp.by == m.core.who) ≡ false
-fetched_view m s v stamp names resilience (without_ballot none own past) other same = let a = stamp_by v s own in let b = ap (λ (x : Stamp). x.by) same in
+fetched_view : (m : Node) (s : ℕ) (v : Stamp) (w : GroupView) → Fetches m s v (View w)
+    → (s == m.core.who) ≡ false → w.stamp ≡ v → (w.stamp.by == m.core.who) ≡ false
+fetched_view m s v w (without_ballot none own past) other same = let a = stamp_by v s own in let b = ap (λ (x : Stamp). x.by) same in
     grind (arith, nat_tests)
-fetched_view m s v stamp names resilience (for_ballot b open_ from past) other same = absurd (
-    let t : stamp_eq stamp v ≡ true = subst (λ x. stamp_eq stamp x ≡ true) same (stamp_itself stamp) in
-    split (stamp_lt v stamp) (λ u. let p = rw u at past in cc) (λ u. let p = rw (u, t) at past in cc))
+fetched_view m s v w (for_ballot b open_ from past) other same = absurd (
+    let t : stamp_eq w.stamp v ≡ true = subst (λ x. stamp_eq w.stamp x ≡ true) same (stamp_itself w.stamp) in
+    split (stamp_lt v w.stamp) (λ u. let p = rw u at past in cc) (λ u. let p = rw (u, t) at past in cc))
 
 -- and no fetched entry makes a sequencer
 pub fetch_follows : (m : Node) (s : ℕ) (v : Stamp) (base : ℕ) (e : Entry) → Fetches m s v e → (s == m.core.who) ≡ false → stamp_eq v m.core.promise ≡ true
@@ -257,11 +257,11 @@ fetch_follows m s v base (Leave name) why other same below t =
     let z : stamp_eq (view m) v ≡ true = subst (λ x. stamp_eq x v
     ≡ true) p (subst (λ x. stamp_eq m.core.promise x ≡ true) (sym (same_stamp v m.core.promise same)) (stamp_itself m.core.promise)) in
     cc
-fetch_follows m s v base (View stamp names resilience) why other same below t =
-    let n = push_entry (trim_up_to m base) (View stamp names resilience) in
-    let last = view_last (trim_up_to m base) stamp names resilience in
-    let is : stamp ≡ v = sym (promise_is n t ∙ last) ∙ sym (same_stamp v m.core.promise same) in
-    not_own n stamp.by (ap (λ (x : Stamp). x.by) last) (fetched_view m s v stamp names resilience why other is) t
+fetch_follows m s v base (View w) why other same below t =
+    let n = push_entry (trim_up_to m base) (View w) in
+    let last = view_last (trim_up_to m base) w in
+    let is : w.stamp ≡ v = sym (promise_is n t ∙ last) ∙ sym (same_stamp v m.core.promise same) in
+    not_own n w.stamp.by (ap (λ (x : Stamp). x.by) last) (fetched_view m s v w why other is) t
 
 -- a promise that isn't below the view, by whom it is made
 promised_follows : (c : Cause) (m : Node) (v : Stamp) → Promises c m v → stamp_lt v m.core.promise ≡ false → Balloted m → is_sequencer (with_promise m v) ≡ true
@@ -354,12 +354,12 @@ change_owned c o m n heard own k blanked (fetches s v base number e is by promis
       leads = λ t. absurd (fetch_follows m s v base e why (other_heard m s by) promise below t);
       vote = h.vote;
     }
-change_owned c o m n heard own k blanked (stores_view s v base number names resilience is by whose other promise below may) h =
+change_owned c o m n heard own k blanked (stores_view s base number v is by whose other promise below may) h =
     let f = trimmed_fronts m base may.taken h.fronts in
-    let e = View v names resilience in
+    let e = View v in
     record {
       fronts = pushed_fronts (trim_up_to m base) e tt f;
-      leads = λ t. absurd (not_own n v.by (ap (λ (x : Stamp). x.by) (view_last (trim_up_to m base) v names resilience)) other t);
+      leads = λ t. absurd (not_own n v.stamp.by (ap (λ (x : Stamp). x.by) (view_last (trim_up_to m base) v)) other t);
       vote = h.vote;
     }
 change_owned c o m n heard own k blanked (takes e is says member some there) h =

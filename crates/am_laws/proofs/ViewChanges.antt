@@ -176,8 +176,8 @@ unfinished_none who promise v w None f = tt
 unfinished_none who promise v w (Some b) f = λ over. absurd (let g = rw over at f in cc)
 
 -- a View up to the promise, below an open ballot
-fetched_high : (m : Node) (s : ℕ) (v stamp : Stamp) (names : List ℕ) (resilience : ℕ) → m.core.promise ≡ v → stamp.by < 256 → HasNames m
-    → Fetches m s v (View stamp names resilience) → Balloted m → (stamp_lt m.core.promise stamp ≡ false) × OpenBallot m.core.who m.core.promise stamp m.ballot
+fetched_high : (m : Node) (s : ℕ) (v w.stamp : Stamp) (w.members : List ℕ) (w.resilience : ℕ) → m.core.promise ≡ v → w.stamp.by < 256 → HasNames m
+    → Fetches m s v (View w) → Balloted m → (stamp_lt m.core.promise w.stamp ≡ false) × OpenBallot m.core.who m.core.promise w.stamp m.ballot
 fetched_high m s v stamp names resilience is few named (without_ballot none own past) h =
     let low : stamp_lt v stamp ≡ false = or_first (stamp_lt v stamp) _ past in
     (subst (λ (p : Stamp). stamp_lt p stamp ≡ false) (sym is) low, unfinished_none m.core.who m.core.promise stamp stamp m.ballot none)
@@ -195,11 +195,11 @@ fetched_high m s v stamp names resilience is few named (for_ballot b open_ from 
 
 does_fetch : (m : Node) (s : ℕ) (v : Stamp) (base : ℕ) (e : Entry) → m.core.promise ≡ v → ViewNamed e → HasNames m → has_log m.status ≡ true → Fetches m s v e
     → fits (image_of m) e ≡ true → Balloted m → Does m (push_entry (trim_up_to m base) e)
-does_fetch m s v base (View stamp names resilience) is few named log from fit h =
-    let k = fetched_high m s v stamp names resilience is few named from h in
-    let same : view (push_entry (trim_up_to m base) (View stamp names resilience)) ≡ stamp = view_last (trim_up_to m base) stamp names resilience in
+does_fetch m s v base (View w) is few named log from fit h =
+    let k = fetched_high m s v w is few named from h in
+    let same : view (push_entry (trim_up_to m base) (View w)) ≡ stamp = view_last (trim_up_to m base) w in
     record {
-      goes = λ t. goes_fit (trim_up_to m base) (View stamp names resilience) fit;
+      goes = λ t. goes_fit (trim_up_to m base) (View w) fit;
       log_ = λ t. t;
       balloted = record {
         high = subst (λ (x : Stamp). stamp_lt m.core.promise x ≡ false) (sym same) k.0;
@@ -227,18 +227,18 @@ other_open who promise w v (Some b) is other h = λ over. absurd (
     let t : (v.by == who) ≡ true = grind (arith, nat_tests) in
     cc)
 
-does_result : (m : Node) (v : Stamp) (base : ℕ) (names : List ℕ) (resilience : ℕ) → m.core.promise ≡ v → (v.by == m.core.who) ≡ false
-    → fits (image_of m) (View v names resilience) ≡ true → Balloted m → Does m (push_entry (trim_up_to m base) (View v names resilience))
-does_result m v base names resilience is other fit h =
-    let same : view (push_entry (trim_up_to m base) (View v names resilience)) ≡ v = view_last (trim_up_to m base) v names resilience in
+does_result : (m : Node) (v.stamp : Stamp) (base : ℕ) (v.members : List ℕ) (v.resilience : ℕ) → m.core.promise ≡ v.stamp → (v.stamp.by == m.core.who) ≡ false
+    → fits (image_of m) (View v) ≡ true → Balloted m → Does m (push_entry (trim_up_to m base) (View v))
+does_result m v.stamp base v.members v.resilience is other fit h =
+    let same : view (push_entry (trim_up_to m base) (View v)) ≡ v = view_last (trim_up_to m base) v in
     record {
-      goes = λ t. goes_fit (trim_up_to m base) (View v names resilience) fit;
+      goes = λ t. goes_fit (trim_up_to m base) (View v) fit;
       log_ = λ t. t;
       balloted = record {
-        high = subst (λ (x : Stamp). stamp_lt m.core.promise x ≡ false) (sym same) (subst (λ (p : Stamp). stamp_lt p v ≡ false) (sym is) (not_above_itself v));
+        high = subst (λ (x : Stamp). stamp_lt m.core.promise x ≡ false) (sym same) (subst (λ (p : Stamp). stamp_lt p v.stamp ≡ false) (sym is) (not_above_itself v.stamp));
         none = h.none;
         opened = subst (λ (x : Stamp). OpenBallot m.core.who m.core.promise x m.ballot) (sym same)
-            (other_open m.core.who m.core.promise (view m) v m.ballot is other h.opened);
+            (other_open m.core.who m.core.promise (view m) v.stamp m.ballot is other h.opened);
       };
     }
 

@@ -1,7 +1,7 @@
 -- The members after a send, and after a View of some of them.
 use Rattle.am_laws.proofs.Words.{index_members, ◌≡◌, ◌⊎◌, inl, inr, ⊎_elim, ℕ, ◌<◌, ◌==◌, ◌&&◌, not, nat_lt, Bool, true, false, List, length, set, get_or}
 use Rattle.am_laws.proofs.Words.{slice_index, refl, sym, ap, ◌∙◌, arith, nat_tests, map-set, set-get_or, ext_get_or, length-map, Data, View, Row, Image}
-use Rattle.am_laws.proofs.Words.{Stamp, place_of, life_of, name_at, is_blank, at_place, member_life, members_of, row_after_view, after, slice_index-by_place}
+use Rattle.am_laws.proofs.Words.{GroupView, Stamp, place_of, life_of, name_at, is_blank, at_place, member_life, members_of, row_after_view, after, slice_index-by_place}
 use Rattle.am_laws.proofs.Words.{length-by_place, row_at, mod16, row_view, long_after, blank_joined, name_where, those, split}
 
 -- ---- members, place by place
@@ -41,20 +41,20 @@ any_life : (first : Bool) (n given : ℕ) (r : Row) → 0 < n → (first ≡ tru
 any_life true n given r up free why = first_life n given r (free refl) why
 any_life false n given r up free why = view_life n given r up why
 
-pub viewed_members : (image : Image) (n : ℕ) (stamp : Stamp) (names : List ℕ) (resilience : ℕ) → length image.rows ≡ 16 → 0 < n → length names ≡ 16
-    → ((place : ℕ) → place < 16 → (slice_index names place ≡ 0) ⊎ (slice_index names place ≡ slice_index (members_of image) place))
-    → members_of (after image n (View stamp names resilience)) ≡ names
-viewed_members image n stamp names resilience long up sixteen some =
-    let next = after image n (View stamp names resilience) in
-    let longer = long_after image n (View stamp names resilience) long in
+pub viewed_members : (image : Image) (n : ℕ) (v : GroupView) → length image.rows ≡ 16 → 0 < n → length v.members ≡ 16
+    → ((place : ℕ) → place < 16 → (slice_index v.members place ≡ 0) ⊎ (slice_index v.members place ≡ slice_index (members_of image) place))
+    → members_of (after image n (View v)) ≡ v.members
+viewed_members image n v long up sixteen some =
+    let next = after image n (View v) in
+    let longer = long_after image n (View v) long in
     let many : length (members_of next) ≡ 16 = length-map next.rows member_life ∙ longer in
-    ext_get_or 0 (members_of next) names (many ∙ sym sixteen) (λ place low.
+    ext_get_or 0 (members_of next) v.members (many ∙ sym sixteen) (λ place low.
     (let few : place < 16 = omega arith in
-    let is = row_view image n stamp names resilience place few in
-    let why : (slice_index names place ≡ 0) ⊎ (slice_index names place ≡ member_life (row_at image place)) =
-    ⊎_elim (λ (z : slice_index names place ≡ 0). inl z) (λ (z : slice_index names place ≡ slice_index (members_of image) place). inr (z
+    let is = row_view image n v place few in
+    let why : (slice_index v.members place ≡ 0) ⊎ (slice_index v.members place ≡ member_life (row_at image place)) =
+    ⊎_elim (λ (z : slice_index v.members place ≡ 0). inl z) (λ (z : slice_index v.members place ≡ slice_index (members_of image) place). inr (z
     ∙ index_members image place long few)) (some place few) in
-    index_members next place longer few ∙ ap member_life is ∙ any_life (is_blank image) n (slice_index names place) (row_at image place) up
+    index_members next place longer few ∙ ap member_life is ∙ any_life (is_blank image) n (slice_index v.members place) (row_at image place) up
     (λ t. blank_joined image place t) why))
 
 -- those that pass are some of the set

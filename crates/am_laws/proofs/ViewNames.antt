@@ -9,7 +9,7 @@ use Rattle.am_packet.specs.declared.packet.Packet.TheVariants as packet
 
 -- a View's stamp is of one of the 256 names
 abbrev pub ViewNamed : Entry → Type 0
-ViewNamed (View stamp names resilience) = stamp.by < 256
+ViewNamed (View v) = v.stamp.by < 256
 ViewNamed _ = Unit {0}
 
 abbrev BallotNamed : Option Ballot → Type 0
@@ -36,7 +36,7 @@ pub record HeardNames (c : Cause) : Type 0 where
   pub stamps : (p : Packet) → c ≡ hears p → (stamp_of p).by < 256
 
 no_view : (e : Entry) → is_view e ≡ false → ViewNamed e
-no_view (View stamp names resilience) h = absurd (cc)
+no_view (View v) h = absurd (cc)
 no_view _ h = tt
 
 numbers_no_view : (c : Cause) (m : Node) (e : Entry) → Numbers c m e → ViewNamed e
@@ -79,7 +79,7 @@ same_names m n a p b c h = record {
 pub promised_named : (c : Cause) (m : Node) (v : Stamp) → Promises c m v → HeardNames c → v.by < 256
 promised_named c m v (invited s _ is by own) heard = heard.stamps (packet.Invite s v) is
 promised_named c m v (overtaken_by s _ shown is by above) heard = heard.stamps (packet.Vote s v shown) is
-promised_named c m v (told_result s _ base number names resilience is by own other) heard = heard.stamps (packet.Result s v base number names resilience) is
+promised_named c m v.stamp (told_result s _ base number v.members v.resilience is by own other) heard = heard.stamps (packet.Result s base number v) is
 
 pub change_names : {c : Cause} {o : Outcome} → HeardNames c → (m n : Node) → Change c o m n → HasNames m → HasNames n
 change_names heard m n refreshes h = let r = rests_refresh m in same_names m (refresh m) r.rests.who r.rests.promise r.log r.rests.ballot h
@@ -99,11 +99,11 @@ change_names heard m n (opens least resilience by may) h = record { who_ = h.who
 change_names heard m n (looks b verdict over why look is) h = look_names m b verdict look (looked_named m b why h) h
 change_names heard m n (fetches s v base number e is by promise below from may) h =
     record { who_ = h.who_; promise_ = h.promise_; entries_ = one_more m e (heard.pieces (packet.Piece s v base number e) is) h.entries_; ballot_ = h.ballot_ }
-change_names heard m n (stores_view s v base number names resilience is by own other promise below may) h =
-    let few = heard.senders (packet.Result s v base number names resilience) is in
-    let same : v.by ≡ s = grind (arith, nat_tests) in
-    let low : v.by < 256 = omega arith in
-    record { who_ = h.who_; promise_ = h.promise_; entries_ = one_more m (View v names resilience) low h.entries_; ballot_ = h.ballot_ }
+change_names heard m n (stores_view s base number v is by own other promise below may) h =
+    let few = heard.senders (packet.Result s base number v) is in
+    let same : v.stamp.by ≡ s = grind (arith, nat_tests) in
+    let low : v.stamp.by < 256 = omega arith in
+    record { who_ = h.who_; promise_ = h.promise_; entries_ = one_more m (View v) low h.entries_; ballot_ = h.ballot_ }
 change_names heard m n (closes leads leaves alone room) h =
     let p = push_entry m (Leave m.core.who) in
     let r = rests_at_end p in

@@ -1,6 +1,6 @@
 -- What one change of a node does to its view and to the entries of its list.
 use Rattle.am_laws.proofs.Words.{◌≡◌, ◌⊎◌, inl, inr, ⊎_elim, ℕ, zero, suc, ◌+◌, ◌-◌, ◌==◌, nat_le, true, false, List, [], ◌∷◌, length, Some, refl, sym, ap}
-use Rattle.am_laws.proofs.Words.{◌∙◌, subst, arith, Stamp, Image, Entry, Data, Join, Leave, View, life_of, stamp_lt, Log, at_place, after, fits, entry_at}
+use Rattle.am_laws.proofs.Words.{◌∙◌, subst, arith, GroupView, Stamp, Image, Entry, Data, Join, Leave, View, life_of, stamp_lt, Log, at_place, after, fits, entry_at}
 use Rattle.am_laws.proofs.Words.{told_by, with_entry, Node, top, image_of, view, push_entry, is_view, split, get_front, get_last, told_pushed, entry_is}
 use Rattle.am_laws.proofs.Stamps.{below, not_above}
 
@@ -33,13 +33,13 @@ after_same image number (Join name) f = record { view = refl; number = refl; res
 after_same image number (Leave name) f = split ((at_place image name).life == life_of name)
     (λ t. rw t (record { view = refl; number = refl; resilience = refl }))
     (λ g. rw g (record { view = refl; number = refl; resilience = refl }))
-after_same image number (View stamp names resilience) f = absurd (cc)
+after_same image number (View v) f = absurd (cc)
 
-pub after_view : (image : Image) (number : ℕ) (stamp : Stamp) (names : List ℕ) (resilience : ℕ)
-    → ((after image number (View stamp names resilience)).view ≡ stamp) × ((after image number (View stamp names resilience)).view_number ≡ number)
-    × ((after image number (View stamp names resilience)).resilience ≡ resilience)
+pub after_view : (image : Image) (number : ℕ) (v : GroupView)
+    → ((after image number (View v)).view ≡ v.stamp) × ((after image number (View v)).view_number ≡ number)
+    × ((after image number (View v)).resilience ≡ v.resilience)
 unfolding after
-after_view image number stamp names resilience = (refl, refl, refl)
+after_view image number v = (refl, refl, refl)
 
 -- the last View stands at its number
 pub record Stood (log : Log) : Type 0 where
@@ -102,30 +102,30 @@ goes_other m e plain =
     }
 
 -- the view that a View makes
-pub view_last : (m : Node) (stamp : Stamp) (names : List ℕ) (resilience : ℕ) → view (push_entry m (View stamp names resilience)) ≡ stamp
-view_last m stamp names resilience = ap (λ (i : Image). i.view) (told_pushed m (View stamp names resilience))
-    ∙ (after_view (image_of m) (top m + 1) stamp names resilience).0
+pub view_last : (m : Node) (v : GroupView) → view (push_entry m (View v)) ≡ v.stamp
+view_last m v = ap (λ (i : Image). i.view) (told_pushed m (View v))
+    ∙ (after_view (image_of m) (top m + 1) v).0
 
 -- and stands where it is told
-pub view_there : (m : Node) (stamp : Stamp) (names : List ℕ) (resilience : ℕ)
-    → entry_at (push_entry m (View stamp names resilience)).core.log (image_of (push_entry m (View stamp names resilience))).view_number
-    ≡ Some (View (view (push_entry m (View stamp names resilience))) names (image_of (push_entry m (View stamp names resilience))).resilience)
-view_there m stamp names resilience =
-    let e = View stamp names resilience in
+pub view_there : (m : Node) (v : GroupView)
+    → entry_at (push_entry m (View v)).core.log (image_of (push_entry m (View v))).view_number
+    ≡ Some (View (view (push_entry m (View v))) v.members (image_of (push_entry m (View v))).resilience)
+view_there m w =
+    let e = View w in
     let is = told_pushed m e in
-    let new = after_view (image_of m) (top m + 1) stamp names resilience in
+    let new = after_view (image_of m) (top m + 1) w in
     let v : view (push_entry m e) ≡ stamp = ap (λ (i : Image). i.view) is ∙ new.0 in
     let n : (image_of (push_entry m e)).view_number ≡ top m + 1 = ap (λ (i : Image). i.view_number) is ∙ new.1 in
     let r : (image_of (push_entry m e)).resilience ≡ resilience = ap (λ (i : Image). i.resilience) is ∙ new.2 in
-    ap (entry_at (push_entry m e).core.log) n ∙ entry_last m e ∙ (λ i. Some (View (sym v i) names (sym r i)))
+    ap (entry_at (push_entry m e).core.log) n ∙ entry_last m e ∙ (λ i. Some (View (sym v i) w.members (sym r i)))
 
-pub goes_view : (m : Node) (stamp : Stamp) (names : List ℕ) (resilience : ℕ) → stamp_lt (view m) stamp ≡ true
-    → Goes m.core.log (push_entry m (View stamp names resilience)).core.log
-goes_view m stamp names resilience above = record {
-  stays = λ number x h. entry_stays m.core.log (View stamp names resilience) x number h;
+pub goes_view : (m : Node) (v : GroupView) → stamp_lt (view m) v.stamp ≡ true
+    → Goes m.core.log (push_entry m (View v)).core.log
+goes_view m v above = record {
+  stays = λ number x h. entry_stays m.core.log (View v) x number h;
   view = inr (
-    subst (λ (s : Stamp). stamp_lt (view m) s ≡ true) (sym (view_last m stamp names resilience)) above,
-    record { names = names; there = view_there m stamp names resilience },
+    subst (λ (s : Stamp). stamp_lt (view m) s ≡ true) (sym (view_last m v)) above,
+    record { names = v.members; there = view_there m v },
   );
 }
 
@@ -135,8 +135,8 @@ unfolding fits
 goes_fit m (Data from req body) fit = goes_other m (Data from req body) refl
 goes_fit m (Join name) fit = goes_other m (Join name) refl
 goes_fit m (Leave name) fit = goes_other m (Leave name) refl
-goes_fit m (View stamp names resilience) fit = goes_view m stamp names resilience
-    (split (stamp_lt (view m) stamp) (λ t. t) (λ f. absurd (let g = rw f at fit in cc)))
+goes_fit m (View v) fit = goes_view m v
+    (split (stamp_lt (view m) v.stamp) (λ t. t) (λ f. absurd (let g = rw f at fit in cc)))
 
 pub goes_plain : (m : Node) (e : Entry) → is_view e ≡ false → Goes m.core.log (push_entry m e).core.log
 goes_plain m e plain = goes_other m e plain

@@ -34,6 +34,7 @@ pub use Rattle.std.{specs.List.count_by, specs.List.range_with_len}
 pub use Rattle.std.proofs.Common.{unwrap_or, filter, ⊎_elim, take, slice_index_or, map, set, length-drop, get_or}
 pub use Rattle.std.proofs.lemmas.List.{length-take, get_or-replicate, length-map, set-get_or, ext_get_or}
 pub use Rattle.std.proofs.lemmas.List.Elements.{All-map, All-set, All-weaker, All-replicate, All-get_or, All-from_get_or, All-filter}
+pub use Rattle.am_base.specs.declared.entry.GroupView.{GroupView}
 pub use Rattle.am_base.specs.{Names.names_of, Names.IsSet, Names.nobody, Names.name_at, Names.rank_of, Names.names_from, Founding.MayFound}
 pub use Rattle.am_base.specs.{Fronts.accept_front, Most.most_body, Most.most_number, Limits.IsNumber, Limits.IsReport, Limits.IsImage, Limits.IsEntry}
 pub use Rattle.am_base.specs.{Votes.Shown, Votes.vote_lt, Votes.all_names, Votes.better_of}

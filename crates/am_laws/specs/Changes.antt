@@ -1,5 +1,6 @@
 -- The changes of a node, by name: what it was before, what makes it change, and what stands then. A step is some of them in turn.
 use Rattle.std.specs.Prelude.{◌≡◌, ℕ, ◌+◌, ◌<◌, ◌≤◌, max, min, List, length, Some, true, false, ◌||◌, ◌==◌, nat_lt, nat_le}
+use Rattle.am_base.specs.declared.entry.GroupView.{GroupView}
 use Rattle.am_base.specs.declared.image.Report.{Report}
 use Rattle.am_base.specs.declared.image.Image.{Image}
 use Rattle.am_base.specs.declared.image.Vote.{Vote}
@@ -88,8 +89,8 @@ pub data Fetches (m : Node) (s : ℕ) (v : Stamp) (e : Entry) : Type 0 where
 pub data Promises (c : Cause) (m : Node) : Stamp → Type 0 where
   invited : (s : ℕ) (v : Stamp) → c ≡ hears (packet.Invite s v) → hears_asking m s ≡ true → (v.by == s) ≡ true → Promises c m v
   overtaken : (s : ℕ) (v : Stamp) (vote : Vote) → c ≡ hears (packet.Vote s v vote) → hears_member m s ≡ true → stamp_lt m.core.promise v ≡ true → Promises c m v
-  told_result : (s : ℕ) (v : Stamp) (base number : ℕ) (names : List ℕ) (resilience : ℕ) → c ≡ hears (packet.Result s v base number names resilience)
-      → hears_member m s ≡ true → (v.by == s) ≡ true → (v.by == m.core.who) ≡ false → Promises c m v
+  told_result : (s : ℕ) (base number : ℕ) (v : GroupView) → c ≡ hears (packet.Result s base number v)
+      → hears_member m s ≡ true → (v.stamp.by == s) ≡ true → (v.stamp.by == m.core.who) ≡ false → Promises c m v.stamp
 
 -- ---- the changes
 
@@ -129,9 +130,9 @@ pub data Change (c : Cause) (o : Outcome) : Node → Node → Type 0 where
       → stamp_eq v m.core.promise ≡ true → stamp_eq (view m) v ≡ false → Fetches m s v e → MayStore m (max m.core.base base) base number e
       → Change c o m (push_entry (trim_up_to m base) e)
   -- the View of the ballot that it promised is stored
-  stores_view : {m : Node} (s : ℕ) (v : Stamp) (base number : ℕ) (names : List ℕ) (resilience : ℕ) → c ≡ hears (packet.Result s v base number names resilience)
-      → hears_member m s ≡ true → (v.by == s) ≡ true → (v.by == m.core.who) ≡ false → m.core.promise ≡ v → stamp_eq (view m) v ≡ false
-      → MayStore m (max m.core.base base) base number (View v names resilience) → Change c o m (push_entry (trim_up_to m base) (View v names resilience))
+  stores_view : {m : Node} (s : ℕ) (base number : ℕ) (v : GroupView) → c ≡ hears (packet.Result s base number v)
+      → hears_member m s ≡ true → (v.stamp.by == s) ≡ true → (v.stamp.by == m.core.who) ≡ false → m.core.promise ≡ v.stamp → stamp_eq (view m) v.stamp ≡ false
+      → MayStore m (max m.core.base base) base number (View v) → Change c o m (push_entry (trim_up_to m base) (View v))
   -- the application sends, collects what came of a send, takes the next entry, asks to join, and asks to leave
   queues : {m : Node} (body : List ℕ) → c ≡ calls (does.Send body) → o ≡ said.Queued (m.sends.last + 1) → is_member m.status ≡ true → m.leaving ≡ false
       → nat_le 4 (length m.sends.queue) ≡ false → Change c o m (with_queued m body)

@@ -10,7 +10,7 @@ use Rattle.am_base.specs.Names.{has, size}
 use Rattle.am_base.specs.Stamps.{stamp_lt, stamp_eq}
 use Rattle.am_packet.specs.declared.packet.Packet.TheVariants as packet
 use Rattle.am_model.specs.Node.{Node, Ballot, top, image_of, members, those, is_member, push_entry}
-use Rattle.am_model.specs.Ballots.{Verdict, need_of, best_of, is_waited_for, left_in, goes_on, ends, restart_reports, trim_for, with_vote, without_voter}
+use Rattle.am_model.specs.Ballots.{Verdict, need_of, best_of, is_waited_for, left_in, goes_on, ends, decided_view, restart_reports, trim_for, with_vote, without_voter}
 use Rattle.am_model.specs.Hearing.{hears_member, hears_sequencer}
 use Rattle.am_laws.specs.Causes.{Cause, calls, hears}
 
@@ -18,7 +18,7 @@ use Rattle.am_laws.specs.Causes.{Cause, calls, hears}
 
 -- the View that a ballot decides has the needed names that weren't given up, and no less resilience
 abbrev pub view_of : Node → Ballot → Node
-view_of m b = push_entry (trim_for m b (left_in b (need_of m b))) (View b.stamp (left_in b (need_of m b)) (max b.resilience (image_of m).resilience))
+view_of m b = push_entry (trim_for m b (left_in b (need_of m b))) (View (decided_view m b (left_in b (need_of m b))))
 
 -- the coordinator is among those it needs, nobody is waited for, and nobody has shown more than it has
 pub record HasLearned (m : Node) (b : Ballot) : Type 0 where

@@ -8,7 +8,7 @@ use Rattle.am_play.specs.World.{Decided, World, run}
 
 -- the View of a noted view, with its members, stands at its number in its coordinator's list
 abbrev pub StandsWhole : World → Decided → Type 0
-StandsWhole w v = entry_at (w.nodes v.stamp.by).core.log v.number ≡ Some (View v.stamp v.members v.resilience)
+StandsWhole w v = entry_at (w.nodes v.stamp.by).core.log v.number ≡ Some (View v.view)
 
 -- from when it was noted on
 abbrev pub MembersHold : Type 0

@@ -21,7 +21,7 @@ numbers_of (Gone s v number) = number ∷ []
 numbers_of (Vote s v vote) = vote.top ∷ vote.taken ∷ []
 numbers_of (Fetch s v stored) = stored ∷ []
 numbers_of (Piece s v base number e) = base ∷ number ∷ []
-numbers_of (Result s v base number names resilience) = base ∷ []
+numbers_of (Result s base number v) = base ∷ []
 numbers_of _ = []
 
 -- those of its numbers that tell what is accepted, or was taken
@@ -37,7 +37,7 @@ accepted_of (Welcome s v base join image) = base ∷ join ∷ []
 accepted_of (LeaveAsk s v report) = report.taken ∷ []
 accepted_of (Vote s v vote) = vote.taken ∷ []
 accepted_of (Piece s v base number e) = base ∷ []
-accepted_of (Result s v base number names resilience) = base ∷ []
+accepted_of (Result s base number v) = base ∷ []
 accepted_of _ = []
 
 -- how many entries lists have at most, how high rounds are, and how many sends a node queues

@@ -13,7 +13,7 @@ NotedOnce w = (i j : ℕ) (u v : Decided) → slice_get w.views i ≡ Some u →
 -- the View of a noted view stands at its number in its coordinator's list
 pub record ViewStands (w : World) (v : Decided) : Type 0 where
   pub names : List ℕ
-  pub there : entry_at (w.nodes v.stamp.by).core.log v.number ≡ Some (View v.stamp names v.resilience)
+  pub there : entry_at (w.nodes v.stamp.by).core.log v.number ≡ Some (View (record v.view { members = names }))
 
 pub record ViewsNoted (w : World) : Type 0 where
   pub once : NotedOnce w

@@ -1,4 +1,5 @@
 -- What becomes of a row.
+use Rattle.am_base.specs.declared.entry.GroupView.{GroupView}
 use Rattle.std.proofs.lemmas.Bool.{eqb-false}
 use Rattle.std.proofs.lemmas.Bool.{eq-eqb}
 use Rattle.std.proofs.lemmas.Bool.{ltb-true}
@@ -180,14 +181,14 @@ not_blank image name j =
     last_false (stamp_eq image.view no_stamp) (image.view_number == 0) (image.resilience == 0) (list_all is_blank_row image.rows)
     (list_all_at is_blank_row image.rows (place_of name) blank_row (in_range image name j) row)
 
-view_row : (image : Image) (number : ℕ) (v : Stamp) (names : List ℕ) (resilience name : ℕ) → 0 < (at_place image name).joined
-    → RowStep number (at_place image name) (at_place (after image number (View v names resilience)) name)
+view_row : (image : Image) (number : ℕ) (v : GroupView) (name : ℕ) → 0 < (at_place image name).joined
+    → RowStep number (at_place image name) (at_place (after image number (View v)) name)
 unfolding after
-view_row image number v names resilience name j =
-    let f = λ (place : ℕ). row_after_view (is_blank image) number (slice_index names place) (slice_index_or image.rows place blank_row) in
+view_row image number v name j =
+    let f = λ (place : ℕ). row_after_view (is_blank image) number (slice_index v.members place) (slice_index_or image.rows place blank_row) in
     let e = get_or-by_place f (place_of name) blank_row (omega arith) in
-    let b = ap (λ t. row_after_view t number (slice_index names (place_of name)) (at_place image name)) (not_blank image name j) in
-    subst (λ (r : Row). RowStep number (at_place image name) r) (sym (e ∙ b)) (viewed_row number (slice_index names (place_of name)) (at_place image name))
+    let b = ap (λ t. row_after_view t number (slice_index v.members (place_of name)) (at_place image name)) (not_blank image name j) in
+    subst (λ (r : Row). RowStep number (at_place image name) r) (sym (e ∙ b)) (viewed_row number (slice_index v.members (place_of name)) (at_place image name))
 
 -- ---- any entry, and a list of them
 
@@ -195,7 +196,7 @@ pub rows_go_on : RowsGoOn
 rows_go_on image number (Data from req body) name h j = data_row image number from req body name h
 rows_go_on image number (Join joiner) name h j = join_row image number joiner name h j
 rows_go_on image number (Leave leaver) name h j = leave_row image number leaver name h
-rows_go_on image number (View v names resilience) name h j = view_row image number v names resilience name j
+rows_go_on image number (View v) name h j = view_row image number v name j
 
 still_joined : (number : ℕ) (r s : Row) → 0 < number → 0 < r.joined → RowStep number r s → 0 < s.joined
 still_joined number r s n j (inl (inl e)) = subst (λ (x : Row). 0 < x.joined) (sym e) j

@@ -1,4 +1,5 @@
 -- What a member does with packets, and a whole step, on the kept end of a list as on all of it.
+use Rattle.am_base.specs.declared.entry.GroupView.{GroupView}
 use Rattle.am_model.proofs.EndWords.{◌≡◌, ℕ, ◌+◌, ◌≤◌, max, Bool, true, false, not, ◌&&◌, ◌||◌, ◌==◌, nat_lt, nat_le, List, [], length, take, Option, Some, None}
 use Rattle.am_model.proofs.EndWords.{refl, sym, ap, subst, arith, Ok, Err, list_any, nat_tests, Vote, Stamp, Entry, View, Outcome, NodeEvent, without_name}
 use Rattle.am_model.proofs.EndWords.{names_of, stamp_lt, stamp_eq, Log, fits, row_of, members_of, with_entry, end-self, Packet, Read, reading, OwnSend, is_of}
@@ -183,11 +184,11 @@ alike_piece all m s v base number e h =
 
 -- ---- a decided view
 
-pub alike_hears_result : (all : Log) (m : Node) (s : ℕ) (v : Stamp) (base number : ℕ) (names : List ℕ) (resilience : ℕ) → Keeps all m
-    → Alike (hears_result (with_log m all) s v base number names resilience) (hears_result m s v base number names resilience)
-alike_hears_result all m s v base number names resilience h =
-    let e = View v names resilience in
-    alike_if _ _ _ _ _ _ (reads all m (λ i t. stamp_eq i.view v) h)
+pub alike_hears_result : (all : Log) (m : Node) (s : ℕ) (base number : ℕ) (v : GroupView) → Keeps all m
+    → Alike (hears_result (with_log m all) s base number v) (hears_result m s base number v)
+alike_hears_result all m s base number v h =
+    let e = View v in
+    alike_if _ _ _ _ _ _ (reads all m (λ i t. stamp_eq i.view v.stamp) h)
     (λ t. alike_telling all m _ _ (only_name s) (only_name s) ack_of ack_of h refl refl says_ack)
     (λ f. alike_if _ _ _ _ _ _ (reads all m (λ i t. nat_le number t) h) (λ t. alike_quiet all m _ _ h refl)
     (λ g. alike_if _ _ _ _ _ _ (same_leave all m h) (λ t. alike_quiet all m _ _ h refl)
@@ -199,12 +200,12 @@ alike_hears_result all m s v base number names resilience h =
     (λ y. alike_telling (with_entry all e) (push_entry (trim_up_to m base) e) _ _ (only_name s) (only_name s) ack_of ack_of
     (keeps_fetched all m base e h) refl refl says_ack))))))
 
-pub alike_result_row : (all : Log) (m : Node) (s : ℕ) (v : Stamp) (base number : ℕ) (names : List ℕ) (resilience : ℕ) → Keeps all m
-    → Alike (result_row (with_log m all) s v base number names resilience) (result_row m s v base number names resilience)
+pub alike_result_row : (all : Log) (m : Node) (s : ℕ) (base number : ℕ) (v : GroupView) → Keeps all m
+    → Alike (result_row (with_log m all) s base number v) (result_row m s base number v)
 unfolding result_row
-alike_result_row all m s v base number names resilience h =
-    alike_case ((v.by == m.core.who) || stamp_lt v m.core.promise) _ _ _ _ (λ t. alike_quiet all m _ _ h refl)
-    (λ f. alike_hears_result all (with_promise m v) s v base number names resilience (keeps_promised all m v h))
+alike_result_row all m s base number v h =
+    alike_case ((v.stamp.by == m.core.who) || stamp_lt v.stamp m.core.promise) _ _ _ _ (λ t. alike_quiet all m _ _ h refl)
+    (λ f. alike_hears_result all (with_promise m v.stamp) s base number v (keeps_promised all m v.stamp h))
 
 -- a reset with the list's resilience
 alike_reset_so : (all : Log) (m : Node) (least : ℕ) → Keeps all m

@@ -1,4 +1,5 @@
 -- How many letters a hearing sends, and a whole step.
+use Rattle.am_base.specs.declared.entry.GroupView.{GroupView}
 use Rattle.std.proofs.Common.{ℕ, ◌+◌, ◌≤◌, Bool, true, false, nat_le, List, [], length, Option, Some, None, Ok, Err, arith}
 use Rattle.std.proofs.lemmas.List.{length-take}
 use Rattle.am_base.specs.declared.name.Stamp.{Stamp}
@@ -202,12 +203,12 @@ few_piece : (m : Node) (s : ℕ) (v : Stamp) (base number : ℕ) (e : Entry) →
 unfolding piece_row
 few_piece m s v base number e = let h = few_piece_for m s v base number e m.ballot in search (few, h)
 
-few_hears_result : (m : Node) (s : ℕ) (v : Stamp) (base number : ℕ) (names : List ℕ) (resilience : ℕ) → Few 8 (hears_result m s v base number names resilience)
-few_hears_result m s v base number names resilience = search few
+few_hears_result : (m : Node) (s : ℕ) (base number : ℕ) (v : GroupView) → Few 8 (hears_result m s base number v)
+few_hears_result m s base number v = search few
 
-few_result_row : (m : Node) (s : ℕ) (v : Stamp) (base number : ℕ) (names : List ℕ) (resilience : ℕ) → Few 8 (result_row m s v base number names resilience)
+few_result_row : (m : Node) (s : ℕ) (base number : ℕ) (v : GroupView) → Few 8 (result_row m s base number v)
 unfolding result_row
-few_result_row m s v base number names resilience = search (few, few_hears_result)
+few_result_row m s base number v = search (few, few_hears_result)
 
 -- ---- a step
 

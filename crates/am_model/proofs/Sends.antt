@@ -13,4 +13,4 @@ own_data who req (Data from r body) is =
     (body, λ k. Data (a k) (b k) body)
 own_data who req (Join name) is = absurd (cc)
 own_data who req (Leave name) is = absurd (cc)
-own_data who req (View stamp members resilience) is = absurd (cc)
+own_data who req (View v) is = absurd (cc)

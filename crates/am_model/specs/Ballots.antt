@@ -1,6 +1,7 @@
 -- Ballots: a coordinator asks for votes, fetches what the best vote has, and decides a view.
 use Rattle.std.specs.Prelude.{ℕ, ◌+◌, ◌-◌, max, min, List, [], Option, Some, None, Bool, true, false, not, ◌&&◌, ◌||◌, ◌==◌, nat_lt, if◌then◌else◌, unwrap_or}
 use Rattle.std.specs.Prelude.{option_map, is_some}
+use Rattle.am_base.specs.declared.entry.GroupView.{GroupView}
 use Rattle.am_base.specs.declared.image.Vote.{Vote}
 use Rattle.am_base.specs.declared.name.Stamp.{Stamp}
 use Rattle.am_base.specs.declared.entry.Entry.TheVariants.{View}
@@ -84,11 +85,15 @@ ends m b outcome = record { node = record m { ballot = Some (with_end b outcome)
 abbrev pub restart_reports : Node → Node
 restart_reports m = record m { reports = reports.reports_from m.core.base }
 
+-- the view that a ballot comes to, of these names
+abbrev pub decided_view : Node → Ballot → List ℕ → GroupView
+decided_view m b names = record { stamp = b.stamp; members = names; resilience = max b.resilience (image_of m).resilience }
+
 -- the view is pushed, where there is room for so many members
 abbrev pub decide_view : Node → Ballot → List ℕ → Verdict
 decide_view m b names =
     if nat_lt (m.core.rules.window + 16 - size names) (top m + 1 - m.core.base) then ends m b (said.Crowded m.core.base (top m))
-    else ends (restart_reports (push_entry m (View b.stamp names (max b.resilience (image_of m).resilience)))) b (said.Decided (top m + 1) names)
+    else ends (restart_reports (push_entry m (View (decided_view m b names)))) b (said.Decided (top m + 1) names)
 
 -- trimmed to what all of these have taken
 abbrev pub trim_for : Node → Ballot → List ℕ → Node

@@ -76,7 +76,8 @@ abbrev pub piece_of : Node → ℕ → Entry → Packet
 piece_of n number e = packet.Piece n.core.who n.core.promise n.core.base number e
 
 abbrev pub result_of : Node → ℕ → List ℕ → ℕ → Packet
-result_of n number names resilience = packet.Result n.core.who n.core.promise n.core.base number names resilience
+result_of n number names resilience = packet.Result n.core.who n.core.base number
+    (record { stamp = n.core.promise; members = names; resilience = resilience })
 
 abbrev pub hand_over_of : Node → Packet
 hand_over_of n = packet.HandOver n.core.who n.core.promise

@@ -75,7 +75,7 @@ heard_row m (Invite s v) = invite_row m s v
 heard_row m (Vote s v vote) = vote_row m s v vote
 heard_row m (Fetch s v stored) = fetch_row m s v stored
 heard_row m (Piece s v base number e) = piece_row m s v base number e
-heard_row m (Result s v base number names resilience) = result_row m s v base number names resilience
+heard_row m (Result s base number v) = result_row m s base number v
 heard_row m (HandOver s v) = reset_row m 1 (image_of m).resilience
 
 -- the row, where the packet may be heard

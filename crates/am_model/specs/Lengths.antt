@@ -9,7 +9,7 @@ abbrev pub entry_length : Entry → ℕ
 entry_length (Data from req body) = 6 + length body
 entry_length (Join name) = 2
 entry_length (Leave name) = 2
-entry_length (View stamp names resilience) = 17
+entry_length (View v) = 17
 
 abbrev pub packet_length : Packet → ℕ
 packet_length (packet.Request s v report req body) = 24 + length body
@@ -26,5 +26,5 @@ packet_length (packet.Gone s v number) = 16
 packet_length (packet.Vote s v vote) = 35
 packet_length (packet.Fetch s v stored) = 16
 packet_length (packet.Piece s v base number e) = 20 + entry_length e
-packet_length (packet.Result s v base number names resilience) = 31
+packet_length (packet.Result s base number v) = 31
 packet_length _ = 12

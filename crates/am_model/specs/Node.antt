@@ -1,6 +1,7 @@
 -- A node of the protocol. Its list is never cut: the base is only a number.
 use Rattle.std.specs.Prelude.{ℕ, ◌+◌, ◌-◌, max, List, [], ◌∷◌, ◌++◌, drop, Option, None, Bool, true, false, ◌&&◌, ◌==◌, nat_lt, nat_le, if◌then◌else◌}
 use Rattle.std.specs.Prelude.{unwrap_or, slice_index}
+use Rattle.am_base.specs.declared.entry.GroupView.{GroupView}
 use Rattle.am_base.specs.declared.image.Report.{Report}
 use Rattle.am_base.specs.declared.image.Row.{Row}
 use Rattle.am_base.specs.declared.image.Image.{Image}
@@ -167,9 +168,13 @@ lowest_or_first set = unwrap_or (lowest_of set) 0
 abbrev pub founding_stamp : Rules → Stamp
 founding_stamp rules = record { round = 1; by = lowest_or_first rules.founders }
 
+-- the view that the founders begin
+abbrev pub founding_view : Rules → GroupView
+founding_view rules = record { stamp = founding_stamp rules; members = rules.founders; resilience = rules.resilience }
+
 -- the first entry of the list
 abbrev pub founders_view : Rules → Entry
-founders_view rules = View (founding_stamp rules) rules.founders rules.resilience
+founders_view rules = View (founding_view rules)
 
 abbrev pub founder : Rules → ℕ → Node
 founder rules who = record {

@@ -28,7 +28,7 @@ abbrev pub bodies_after : List KeptBody → Entry → List KeptBody
 bodies_after bodies (Data from req body) = drop_bodies from req bodies
 bodies_after bodies (Join name) = bodies
 bodies_after bodies (Leave name) = bodies
-bodies_after bodies (View stamp names resilience) = bodies
+bodies_after bodies (View v) = bodies
 
 -- the body of a send that was spread: its own waiting send's, or a kept one's
 abbrev pub own_body : Node → ℕ → ℕ → Option OwnSend → Option (List ℕ)
@@ -48,7 +48,7 @@ abbrev pub is_view : Entry → Bool
 is_view (Data from req body) = false
 is_view (Join name) = false
 is_view (Leave name) = false
-is_view (View stamp names resilience) = true
+is_view (View v) = true
 
 -- what the sequencer's packet tells of its fronts
 abbrev pub with_noted : Node → ℕ → ℕ → Node

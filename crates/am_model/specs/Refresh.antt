@@ -44,7 +44,7 @@ abbrev pub is_data_of : ℕ → ℕ → Entry → Bool
 is_data_of who req (Data from r body) = (from == who) && (r == req)
 is_data_of who req (Join name) = false
 is_data_of who req (Leave name) = false
-is_data_of who req (View stamp members resilience) = false
+is_data_of who req (View v) = false
 
 -- where a send stands among the entries that are accepted and not trimmed
 abbrev pub accepted_at : Node → ℕ → Option ℕ

@@ -1,5 +1,6 @@
 -- Hearing what belongs to ballots, and catching up with a view that was decided.
 use Rattle.std.specs.Prelude.{ℕ, ◌+◌, List, [], length, Option, Some, None, Bool, true, false, not, ◌&&◌, ◌||◌, ◌==◌, nat_lt, nat_le, if◌then◌else◌, max}
+use Rattle.am_base.specs.declared.entry.GroupView.{GroupView}
 use Rattle.am_base.specs.declared.image.Vote.{Vote}
 use Rattle.am_base.specs.declared.name.Stamp.{Stamp}
 use Rattle.am_base.specs.declared.entry.Entry.{Entry}
@@ -58,7 +59,7 @@ abbrev pub is_view_past : Stamp → Bool → Entry → Bool
 is_view_past v in_ballot (Data from req body) = false
 is_view_past v in_ballot (Join name) = false
 is_view_past v in_ballot (Leave name) = false
-is_view_past v in_ballot (View stamp names resilience) = stamp_lt v stamp || (in_ballot && stamp_eq stamp v)
+is_view_past v in_ballot (View w) = stamp_lt v w.stamp || (in_ballot && stamp_eq w.stamp v)
 
 -- a fetched entry that comes next is pushed above this base; nobody follows a list past its own Leave
 abbrev pub push_fetched : Node → Stamp → ℕ → ℕ → Entry → Bool → (Node → Plan) → Plan
@@ -103,17 +104,17 @@ piece_row m s v base number e =
 -- ---- a decided view
 
 -- once it is promised
-abbrev pub hears_result : Node → ℕ → Stamp → ℕ → ℕ → List ℕ → ℕ → Plan
-hears_result m s v base number names resilience =
-    if stamp_eq (view m) v then telling m said.Known (only_name s) ack_of
+abbrev pub hears_result : Node → ℕ → ℕ → ℕ → GroupView → Plan
+hears_result m s base number v =
+    if stamp_eq (view m) v.stamp then telling m said.Known (only_name s) ack_of
     else if nat_le number (top m) then quiet m said.Unfit
     else if has_own_leave m then quiet m said.Behind
     else if nat_lt (top m + 1) number then telling m (said.Catching (top m + 1)) (only_name s) fetch_of
     else if nat_lt m.core.taken base then quiet m said.Behind
-    else if not (fits (image_of m) (View v names resilience)) || not (is_within_bound m (max m.core.base base) number) then quiet m said.Unfit
-    else telling (push_entry (trim_up_to m base) (View v names resilience)) (said.Stored number) (only_name s) ack_of
+    else if not (fits (image_of m) (View v)) || not (is_within_bound m (max m.core.base base) number) then quiet m said.Unfit
+    else telling (push_entry (trim_up_to m base) (View v)) (said.Stored number) (only_name s) ack_of
 
-unfoldable pub result_row : Node → ℕ → Stamp → ℕ → ℕ → List ℕ → ℕ → Plan
-result_row m s v base number names resilience =
-    if (v.by == m.core.who) || stamp_lt v m.core.promise then quiet m said.Elsewhere
-    else hears_result (with_promise m v) s v base number names resilience
+unfoldable pub result_row : Node → ℕ → ℕ → ℕ → GroupView → Plan
+result_row m s base number v =
+    if (v.stamp.by == m.core.who) || stamp_lt v.stamp m.core.promise then quiet m said.Elsewhere
+    else hears_result (with_promise m v.stamp) s base number v

@@ -50,7 +50,7 @@ viewed_by None = nobody
 viewed_by (Some (Data from req body)) = nobody
 viewed_by (Some (Join name)) = nobody
 viewed_by (Some (Leave name)) = nobody
-viewed_by (Some (View stamp names resilience)) = names
+viewed_by (Some (View v)) = v.members
 
 -- the last View, told again to those
 abbrev pub and_result : Plan → Plan

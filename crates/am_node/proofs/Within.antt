@@ -1,4 +1,5 @@
 -- The numbers of a packet that is heard are within their limits, by its kind.
+use Rattle.am_base.specs.declared.entry.GroupView.{GroupView}
 use Rattle.std.proofs.Common.{ℕ, ◌≤◌, List}
 use Rattle.am_base.specs.declared.entry.Entry.{Entry}
 use Rattle.am_base.specs.declared.image.Image.{Image}
@@ -42,7 +43,7 @@ pub piece_entry : (s : ℕ) (v : Stamp) (base number : ℕ) (e : Entry) → IsWi
 unfolding IsWithin
 piece_entry s v base number e is = is.1.2
 
-pub result_numbers : (s : ℕ) (v : Stamp) (base number : ℕ) (names : List ℕ) (resilience : ℕ) → IsWithin (packets.Result s v base number names resilience)
-    → IsNumber v.round × (resilience ≤ 15)
+pub result_numbers : (s : ℕ) (base number : ℕ) (v : GroupView) → IsWithin (packets.Result s base number v)
+    → IsNumber v.stamp.round × (v.resilience ≤ 15)
 unfolding IsWithin
-result_numbers s v base number names resilience is = (is.0, is.1.2)
+result_numbers s base number v is = (is.0, is.1.2)

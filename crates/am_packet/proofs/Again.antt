@@ -35,14 +35,14 @@ unfolding entry_bytes
 entry_short (Data from req body) parts = omega (arith, parts)
 entry_short (Join name) parts = omega arith
 entry_short (Leave name) parts = omega arith
-entry_short (View stamp members resilience) parts = omega arith
+entry_short (View v) parts = omega arith
 
 entry_some : (entry : Entry) → 1 ≤ length (entry_bytes entry)
 unfolding entry_bytes
 entry_some (Data from req body) = omega arith
 entry_some (Join name) = omega arith
 entry_some (Leave name) = omega arith
-entry_some (View stamp members resilience) = omega arith
+entry_some (View v) = omega arith
 
 within_total : (n least most : ℕ) → least ≤ n → n ≤ most → (nat_le least n && nat_le n most) ≡ true
 within_total n least most low high = and_from (nat_le least n) (nat_le n most) (le-leb least n low) (le-leb n most high)
@@ -133,12 +133,12 @@ packet_again (packets.Piece sender stamp base number entry) bytes h long within 
       number_again bytes _ 16 number (later bytes _ 12 4 h) within.1.1,
       entry_again bytes 20 entry (later bytes _ 12 8 h) (omega (arith, long)) within.1.2,
     ) refl
-packet_again (packets.Result sender stamp base number members resilience) bytes h long within parts =
+packet_again (packets.Result sender base number v) bytes h long within parts =
     rw (
       number_again bytes _ 12 base h within.1.0,
       number_again bytes _ 16 number (later bytes _ 12 4 h) within.1.1,
-      set_again bytes _ 20 members (later bytes _ 12 8 h) parts,
-      resilience_again bytes 30 resilience (peek bytes _ 12 18 h) within.1.2,
+      set_again bytes _ 20 v.members (later bytes _ 12 8 h) parts,
+      resilience_again bytes 30 v.resilience (peek bytes _ 12 18 h) within.1.2,
     ) refl
 packet_again _ bytes h long within parts = refl
 

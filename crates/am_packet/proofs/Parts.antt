@@ -319,11 +319,11 @@ entry_again bytes at (Join name) h long within parts =
     rw (peek_first bytes _ at h, eq-eqb (length bytes) (at + 2) (omega arith), peek bytes _ at 1 h) refl
 entry_again bytes at (Leave name) h long within parts =
     rw (peek_first bytes _ at h, eq-eqb (length bytes) (at + 2) (omega arith), peek bytes _ at 1 h) refl
-entry_again bytes at (View stamp members resilience) h long within parts =
+entry_again bytes at (View v) h long within parts =
     rw (
       peek_first bytes _ at h,
       eq-eqb (length bytes) (at + 17) (omega arith),
-      stamp_again bytes _ (at + 1) stamp (later bytes _ at 1 h) within.0,
-      set_again bytes _ (at + 6) members (later bytes _ at 6 h) parts,
-      resilience_again bytes (at + 16) resilience (peek bytes _ at 16 h) within.1,
+      stamp_again bytes _ (at + 1) v.stamp (later bytes _ at 1 h) within.0,
+      set_again bytes _ (at + 6) v.members (later bytes _ at 6 h) parts,
+      resilience_again bytes (at + 16) v.resilience (peek bytes _ at 16 h) within.1,
     ) refl

@@ -100,7 +100,7 @@ head_of (packets.Invite sender stamp) = head kinds.Invite sender stamp
 head_of (packets.Vote sender stamp vote) = head kinds.Vote sender stamp
 head_of (packets.Fetch sender stamp stored) = head kinds.Fetch sender stamp
 head_of (packets.Piece sender stamp base number entry) = head kinds.Piece sender stamp
-head_of (packets.Result sender stamp base number members resilience) = head kinds.Result sender stamp
+head_of (packets.Result sender base number v) = head kinds.Result sender v.stamp
 head_of (packets.HandOver sender stamp) = head kinds.HandOver sender stamp
 
 -- the number of its kind

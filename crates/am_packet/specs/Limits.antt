@@ -25,7 +25,7 @@ FieldsWithin (packets.Gone sender stamp number) = IsNumber number
 FieldsWithin (packets.Vote sender stamp vote) = IsVote vote
 FieldsWithin (packets.Fetch sender stamp stored) = IsNumber stored
 FieldsWithin (packets.Piece sender stamp base number entry) = IsNumber base × IsNumber number × IsEntry entry
-FieldsWithin (packets.Result sender stamp base number members resilience) = IsNumber base × IsNumber number × (resilience ≤ 15)
+FieldsWithin (packets.Result sender base number v) = IsNumber base × IsNumber number × (v.resilience ≤ 15)
 FieldsWithin _ = Unit {0}
 
 -- and so is the round of its stamp
@@ -38,7 +38,7 @@ abbrev pub HasEntryParts : Entry → Type 0
 HasEntryParts (Data from req body) = length body ≤ most_body
 HasEntryParts (Join name) = Unit {0}
 HasEntryParts (Leave name) = Unit {0}
-HasEntryParts (View stamp members resilience) = IsSet members
+HasEntryParts (View v) = IsSet v.members
 
 unfoldable pub HasParts : Packet → Type 0
 HasParts (packets.Request sender stamp report req body) = length body ≤ most_body
@@ -47,7 +47,7 @@ HasParts (packets.Bcast sender stamp base acc number entry) = HasEntryParts entr
 HasParts (packets.Welcome sender stamp base join image) = length image.rows ≡ 16
 HasParts (packets.Vote sender stamp vote) = IsSet vote.members
 HasParts (packets.Piece sender stamp base number entry) = HasEntryParts entry
-HasParts (packets.Result sender stamp base number members resilience) = IsSet members
+HasParts (packets.Result sender base number v) = IsSet v.members
 HasParts _ = Unit {0}
 
 -- a packet that has a spelling

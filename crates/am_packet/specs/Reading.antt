@@ -112,7 +112,7 @@ view_fields_at bytes at = do
   stamp ← stamp_at bytes (at + 1)
   members ← set_at bytes (at + 6)
   resilience ← resilience_at bytes (at + 16)
-  Ok (View stamp members resilience)
+  Ok (View (record { stamp = stamp; members = members; resilience = resilience }))
 
 unfoldable pub view_at : List ℕ → ℕ → Read Entry
 view_at bytes at = if length bytes == at + 17 then view_fields_at bytes at else Err (BadField 10)
@@ -160,7 +160,7 @@ packet_at kinds.Piece sender stamp bytes =
     two_at bytes (λ base number. entry_at bytes 20 >>= λ entry. Ok (packets.Piece sender stamp base number entry))
 packet_at kinds.Result sender stamp bytes =
     two_at bytes (λ base number. set_at bytes 20 >>= λ members. resilience_at bytes 30 >>= λ resilience. Ok
-    (packets.Result sender stamp base number members resilience))
+    (packets.Result sender base number (record { stamp = stamp; members = members; resilience = resilience })))
 packet_at kinds.HandOver sender stamp bytes = Ok (packets.HandOver sender stamp)
 
 -- what stands in the header

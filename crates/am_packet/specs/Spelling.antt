@@ -55,7 +55,7 @@ unfoldable pub entry_bytes : Entry → List ℕ
 entry_bytes (Data from req body) = 1 ∷ from ∷ [] ++ big_bytes 4 req ++ body
 entry_bytes (Join name) = 2 ∷ name ∷ []
 entry_bytes (Leave name) = 3 ∷ name ∷ []
-entry_bytes (View stamp members resilience) = 4 ∷ [] ++ stamp_bytes stamp ++ set_bytes members ++ resilience ∷ []
+entry_bytes (View v) = 4 ∷ [] ++ stamp_bytes v.stamp ++ set_bytes v.members ++ v.resilience ∷ []
 
 -- a packet's fields after its header
 unfoldable pub fields_of : Packet → List ℕ
@@ -73,7 +73,7 @@ fields_of (packets.Gone sender stamp number) = big_bytes 4 number
 fields_of (packets.Vote sender stamp vote) = vote_bytes vote
 fields_of (packets.Fetch sender stamp stored) = big_bytes 4 stored
 fields_of (packets.Piece sender stamp base number entry) = big_bytes 4 base ++ big_bytes 4 number ++ entry_bytes entry
-fields_of (packets.Result sender stamp base number members resilience) = big_bytes 4 base ++ big_bytes 4 number ++ set_bytes members ++ resilience ∷ []
+fields_of (packets.Result sender base number v) = big_bytes 4 base ++ big_bytes 4 number ++ set_bytes v.members ++ v.resilience ∷ []
 fields_of _ = []
 
 -- the mark AG, the version 3, the kind, the sender, the stamp, and the number of all bytes

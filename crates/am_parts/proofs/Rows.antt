@@ -1,4 +1,5 @@
 -- The rows of the sixteen places.
+use Rattle.am_base.specs.declared.entry.GroupView.{GroupView}
 use Rattle.std.proofs.Common.{◌≡◌, ◌≢◌, ◌⊎◌, ⊎_elim, inl, inr, ℕ, suc, ◌+◌, ◌<◌, ◌≤◌, List, length, map, refl, sym, ◌∙◌, ap, subst, zero, zero-add, Bool, true}
 use Rattle.std.proofs.Common.{false, ◌==◌, ◌||◌, slice_index, slice_index_or, slice_set, get_or, arith}
 use Rattle.std.specs.List.{list_all, range_with_len}
@@ -65,14 +66,14 @@ with_row_image image name r is row = record {
 }
 
 -- the rows after a View
-pub viewed_image : (image : Image) (first : Bool) (number : ℕ) (stamp : Stamp) (members : List ℕ) (resilience : ℕ) (rows : List Row) → first ≡ is_blank image
+pub viewed_image : (image : Image) (first : Bool) (number : ℕ) (v : GroupView) (rows : List Row) → first ≡ is_blank image
     → length rows ≡ 16 → ((k : ℕ) → k < 16 → slice_index_or rows k blank_row
-    ≡ row_after_view first number (slice_index members k) (slice_index_or image.rows k blank_row))
-    → after image number (View stamp members resilience) ≡ record { view = stamp; view_number = number; resilience = resilience; rows = rows }
+    ≡ row_after_view first number (slice_index v.members k) (slice_index_or image.rows k blank_row))
+    → after image number (View v) ≡ record { view = v.stamp; view_number = number; resilience = v.resilience; rows = rows }
 unfolding after
-viewed_image image first number stamp members resilience rows e long each =
-    rw (← e) (ap (λ l. let i : Image = record { view = stamp; view_number = number; resilience = resilience; rows = l } in
-    i) (sym (by_place_all (λ k. row_after_view first number (slice_index members k) (slice_index_or image.rows k blank_row)) rows blank_row long each)))
+viewed_image image first number v rows e long each =
+    rw (← e) (ap (λ l. let i : Image = record { view = v.stamp; view_number = number; resilience = v.resilience; rows = l } in
+    i) (sym (by_place_all (λ k. row_after_view first number (slice_index v.members k) (slice_index_or image.rows k blank_row)) rows blank_row long each)))
 
 pub viewed_within : (stamp : Stamp) (number resilience : ℕ) (rows : List Row) → IsStamp stamp → IsNumber number → resilience ≤ 15 → length rows ≡ 16
     → ((k : ℕ) → k < 16 → IsRow (slice_index_or rows k blank_row))

@@ -22,7 +22,7 @@ abbrev pub is_view_of : Stamp → Entry → Bool
 is_view_of v (Data from req body) = false
 is_view_of v (Join name) = false
 is_view_of v (Leave name) = false
-is_view_of v (View stamp names resilience) = stamp_eq stamp v
+is_view_of v (View w) = stamp_eq w.stamp v
 
 -- the View stands in the name's list
 abbrev pub has_stored : World → Stamp → ℕ → Bool

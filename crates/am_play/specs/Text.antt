@@ -56,8 +56,8 @@ unfoldable pub entry_text : Rules → Entry → List ℕ
 entry_text rules (entries.Data from req body) = codes "data " ++ (name_text from ++ (codes " " ++ (decimal req ++ (codes " " ++ body_text body))))
 entry_text rules (entries.Join name) = codes "join " ++ name_text name
 entry_text rules (entries.Leave name) = codes "leave " ++ name_text name
-entry_text rules (entries.View stamp members resilience) = codes "view "
-    ++ (stamp_text stamp ++ (codes " " ++ (names_text members ++ resilience_text rules resilience)))
+entry_text rules (entries.View v) = codes "view "
+    ++ (stamp_text v.stamp ++ (codes " " ++ (names_text v.members ++ resilience_text rules v.resilience)))
 
 -- an outcome's word
 unfoldable pub outcome_word : Outcome → List ℕ

@@ -2,6 +2,7 @@
 use Rattle.std.specs.Prelude.{ℕ, ◌+◌, ◌-◌, List, [], ◌∷◌, ◌++◌, length, take, drop, Option, Some, None, Bool, true, false, not, ◌&&◌, ◌||◌, ◌==◌}
 use Rattle.std.specs.Prelude.{nat_lt, nat_le, if◌then◌else◌}
 use Rattle.std.specs.List.{list_any}
+use Rattle.am_base.specs.declared.entry.GroupView.{GroupView}
 use Rattle.am_base.specs.declared.entry.Entry.{Entry}
 use Rattle.am_base.specs.declared.name.Stamp.{Stamp}
 use Rattle.am_base.specs.declared.outcome.Outcome.{Outcome}
@@ -29,9 +30,8 @@ use Rattle.am_model.specs.Lengths.{packet_length}
 -- a view that was decided: its number, and what its View says
 pub record Decided : Type 0 where
   pub number : ℕ
-  pub stamp : Stamp
-  pub members : List ℕ
-  pub resilience : ℕ
+  pub view : GroupView
+  pub open view use *
 
 -- each place's current life, each name's node, who has stopped, all letters in order, all records, the group list,
 -- and the views that were decided, the founders' first
@@ -51,7 +51,7 @@ abbrev pub first_node : Rules → ℕ → Node
 first_node rules name = if has rules.founders name then founder rules name else stranger rules name
 
 abbrev pub founders_decided : Rules → Decided
-founders_decided rules = record { number = 1; stamp = founding_stamp rules; members = rules.founders; resilience = rules.resilience }
+founders_decided rules = record { number = 1; view = founding_view rules }
 
 abbrev pub start : Rules → World
 start rules = record {
@@ -88,7 +88,10 @@ group_after group m = if (view m).by == m.core.who then group_with group m.core 
 
 -- the view in which a node's list ends, as its View says it
 abbrev pub last_view : Node → Decided
-last_view n = record { number = (image_of n).view_number; stamp = view n; members = members n; resilience = (image_of n).resilience }
+last_view n = record {
+  number = (image_of n).view_number;
+  view = record { stamp = view n; members = members n; resilience = (image_of n).resilience };
+}
 
 -- a member's step decided a view where it brought a View of the member's own stamp; an Ask about it later brings none
 abbrev pub decides : Node → Node → Bool

@@ -151,8 +151,8 @@ tail_next name first message whole list (Data from req body) good member front p
     (λ away. tail_same name first message list (Data from req body) none (cond-false (place_of from == place_of name) ((from, body) ∷ []) [] away) h))
 tail_next name first message whole list (Join joiner) good member front parts h = tail_same name first message list (Join joiner) refl refl h
 tail_next name first message whole list (Leave leaver) good member front parts h = tail_same name first message list (Leave leaver) refl refl h
-tail_next name first message whole list (View stamp members resilience) good member front parts h =
-    tail_same name first message list (View stamp members resilience) refl refl h
+tail_next name first message whole list (View v) good member front parts h =
+    tail_same name first message list (View v) refl refl h
 
 -- what the name sends in a list are the parts
 abbrev pub SendsParts : ℕ → ℕ → List ℕ → List Entry → Type 0

@@ -70,13 +70,13 @@ view_pushed m (Data from req body) fit up_to = inl (ap (λ (i : Image). i.view) 
     ∙ view_stays_data (image_of m) (top m + 1) from req body)
 view_pushed m (Join name) fit up_to = inl (ap (λ (i : Image). i.view) (told-push m.core.log (Join name)) ∙ view_stays_join (image_of m) (top m + 1) name)
 view_pushed m (Leave name) fit up_to = inl (ap (λ (i : Image). i.view) (told-push m.core.log (Leave name)) ∙ view_stays_leave (image_of m) (top m + 1) name)
-view_pushed m (View stamp names resilience) fit up_to =
-    let e : Entry = View stamp names resilience in
+view_pushed m (View w) fit up_to =
+    let e : Entry = View w in
     let same = told-push m.core.log e in
-    let v : view (push_entry m e) ≡ stamp = ap (λ (i : Image). i.view) same ∙ view_is (image_of m) (top m + 1) stamp names resilience in
+    let v : view (push_entry m e) ≡ stamp = ap (λ (i : Image). i.view) same ∙ view_is (image_of m) (top m + 1) w in
     inr (record {
       up_to = ap (stamp_lt m.core.promise) v ∙ up_to;
-      own = (λ k. has (members_of (same k)) (v k).by) ∙ view_has (image_of m) (top m + 1) stamp names resilience fit;
+      own = (λ k. has (members_of (same k)) (v k).by) ∙ view_has (image_of m) (top m + 1) w fit;
     })
 
 pub keeps_pushed : (m : Node) (e : Entry) (capacity : ℕ) → IsKept m.core.log capacity → NodeKeeps m → fits (image_of m) e ≡ true → IsUpTo m.core.promise e

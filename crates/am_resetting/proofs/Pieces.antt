@@ -1,4 +1,5 @@
 -- What the rows of pieces and results come to.
+use Rattle.am_base.specs.declared.entry.GroupView.{GroupView}
 use Rattle.am_resetting.proofs.CatchingWords.{◌≡◌, ◌≢◌, ℕ, ◌+◌, ◌-◌, ◌<◌, ◌≤◌, max, Bool, true, false, not, ◌||◌, ◌&&◌, ◌==◌, if◌then◌else◌, List, Option, Some, None}
 use Rattle.am_resetting.proofs.CatchingWords.{refl, sym, ap, subst, ◌∙◌, arith, nat_tests, most_number, Stamp, Entry, Data, Join, Leave, View, Image, Outcome, IsEntry}
 use Rattle.am_resetting.proofs.CatchingWords.{nobody, stamp_lt, stamp_eq, IsInOrder, told-push, split, has_log, Node, Ballot, top, image_of, view, acts, is_member}
@@ -30,7 +31,7 @@ other_view m v is h =
     both false b h = refl
 
 not_past : (v : Stamp) (in_ballot : Bool) (e : Entry) → is_view_past v in_ballot e ≡ false → IsUpTo v e
-not_past v in_ballot (View stamp names resilience) h = or_left (stamp_lt v stamp) (in_ballot && stamp_eq stamp v) h
+not_past v in_ballot (View w) h = or_left (stamp_lt v w.stamp) (in_ballot && stamp_eq w.stamp v) h
 not_past v in_ballot _ h = tt
 
 -- an entry that comes next may be stored
@@ -89,8 +90,8 @@ promised_own m n s v base number e y is r = rw is r
 -- ---- a ballot that fetches
 
 ahead_pushed : (m : Node) (v : Stamp) (e : Entry) → stamp_lt (view m) v ≡ true → IsBelow v e → stamp_lt (view (push_entry m e)) v ≡ true
-ahead_pushed m v (View stamp names resilience) ahead below = ap (λ (i : Image). stamp_lt i.view v) (told-push m.core.log (View stamp names resilience))
-    ∙ ap (λ (s : Stamp). stamp_lt s v) (view_is (image_of m) (top m + 1) stamp names resilience) ∙ below
+ahead_pushed m v (View w) ahead below = ap (λ (i : Image). stamp_lt i.view v) (told-push m.core.log (View w))
+    ∙ ap (λ (s : Stamp). stamp_lt s v) (view_is (image_of m) (top m + 1) w) ∙ below
 ahead_pushed m v (Data from req body) ahead below = ap (λ (i : Image). stamp_lt i.view v) (told-push m.core.log (Data from req body))
     ∙ ap (λ (s : Stamp). stamp_lt s v) (view_stays_data (image_of m) (top m + 1) from req body) ∙ ahead
 ahead_pushed m v (Join name) ahead below = ap (λ (i : Image). stamp_lt i.view v) (told-push m.core.log (Join name))
@@ -155,17 +156,17 @@ not_apart m v h = (
 
 -- ---- results
 
-pub may_view : (m : Node) (v : Stamp) (base number : ℕ) (names : List ℕ) (resilience : ℕ) → IsInOrder m.core → has_log m.status ≡ true → v ≡ m.core.promise
+pub may_view : (m : Node) (base number : ℕ) (v : GroupView) → IsInOrder m.core → has_log m.status ≡ true → v.stamp ≡ m.core.promise
     → ((b : Ballot) → m.ballot ≡ Some b → b.is_over ≡ true)
-    → IsEntry (View v names resilience) → top m < most_number → FollowsAsView m v base number names resilience → MayStore m base (View v names resilience)
-may_view m v base number names resilience order logged is over within room next = record {
+    → IsEntry (View v) → top m < most_number → FollowsAsView m base number v → MayStore m base (View v)
+may_view m base number v order logged is over within room next = record {
   order = order;
-  idle = other_view m v is next.apart;
+  idle = other_view m v.stamp is next.apart;
   logged = logged;
   over = over;
   taken = next.taken;
   fits = next.fits;
-  up_to = ap (λ (p : Stamp). stamp_lt p v) (sym is) ∙ lt_self v;
+  up_to = ap (λ (p : Stamp). stamp_lt p v.stamp) (sym is) ∙ lt_self v.stamp;
   within = within;
   bound = let at = next.next in let low : number - max m.core.base base ≤ m.core.rules.window + 15 = (let b = next.bound in grind (arith, nat_tests)) in
       omega arith;
@@ -179,15 +180,15 @@ none_open m v keeps is other b there = split b.is_over (λ t. t) (λ f. absurd (
     let stamp : b.stamp ≡ v = own.stamp f ∙ sym is in
     other (ap (λ (s : Stamp). s.by) (sym stamp) ∙ own.by f)))
 
-pub result_elsewhere : (m n : Node) (s : ℕ) (v : Stamp) (base number : ℕ) (names : List ℕ) (resilience : ℕ)
-    → ((v.by == m.core.who) || stamp_lt v m.core.promise) ≡ true → IsEndOf m n
-    → Replies (result_row m s v base number names resilience) (quiet_of said.Elsewhere) n
+pub result_elsewhere : (m n : Node) (s : ℕ) (base number : ℕ) (v : GroupView)
+    → ((v.stamp.by == m.core.who) || stamp_lt v.stamp m.core.promise) ≡ true → IsEndOf m n
+    → Replies (result_row m s base number v) (quiet_of said.Elsewhere) n
 unfolding result_row
-result_elsewhere m n s v base number names resilience t end = rw t (replies_quiet m n said.Elsewhere (λ k. end))
+result_elsewhere m n s base number v t end = rw t (replies_quiet m n said.Elsewhere (λ k. end))
 
-pub result_heard : (m mid n : Node) (s : ℕ) (v : Stamp) (base number : ℕ) (names : List ℕ) (resilience : ℕ) (y : Reply)
-    → ((v.by == m.core.who) || stamp_lt v m.core.promise) ≡ false → mid ≡ with_promise m v → Replies (hears_result mid s v base number names resilience) y n
-    → Replies (result_row m s v base number names resilience) y n
+pub result_heard : (m mid n : Node) (s : ℕ) (base number : ℕ) (v : GroupView) (y : Reply)
+    → ((v.stamp.by == m.core.who) || stamp_lt v.stamp m.core.promise) ≡ false → mid ≡ with_promise m v.stamp → Replies (hears_result mid s base number v) y n
+    → Replies (result_row m s base number v) y n
 unfolding result_row
-result_heard m mid n s v base number names resilience y f is r =
-    rw f (subst (λ (x : Node). Replies (hears_result x s v base number names resilience) y n) is r)
+result_heard m mid n s base number v y f is r =
+    rw f (subst (λ (x : Node). Replies (hears_result x s base number v) y n) is r)

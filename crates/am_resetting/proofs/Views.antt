@@ -1,24 +1,25 @@
 -- What a View that fits does to the members and to the view.
+use Rattle.am_base.specs.declared.entry.GroupView.{GroupView}
 use Rattle.am_resetting.proofs.DecidingWords.{◌≡◌, ⊎_elim, ℕ, ◌<◌, ◌≤◌, List, length, true, false, ◌==◌, ◌&&◌, ◌||◌, nat_lt, nat_le, slice_index, refl, sym, ap, ◌∙◌}
 use Rattle.am_resetting.proofs.DecidingWords.{arith, nat_tests, cases_lt, get_or_past, length-map, Image, Row, Stamp, Data, Join, Leave, View, place_of, life_of, has}
 use Rattle.am_resetting.proofs.DecidingWords.{is_within, stamp_lt, blank_row, is_blank, at_place, member_life, members_of, row_after_view, after, fits}
 use Rattle.am_resetting.proofs.DecidingWords.{get_or-by_place, length-by_place, split, row_at, member_at, within_none, and_both}
 
 -- the parts of a View that fits
-pub record FitsAsView (image : Image) (stamp : Stamp) (names : List ℕ) (resilience : ℕ) : Type 0 where
-  pub above : stamp_lt image.view stamp ≡ true
-  pub within : is_blank image ≡ false → is_within names (members_of image) ≡ true
-  pub own : has names stamp.by ≡ true
-  pub no_less : nat_le image.resilience resilience ≡ true
+pub record FitsAsView (image : Image) (v : GroupView) : Type 0 where
+  pub above : stamp_lt image.view v.stamp ≡ true
+  pub within : is_blank image ≡ false → is_within v.members (members_of image) ≡ true
+  pub own : has v.members v.stamp.by ≡ true
+  pub no_less : nat_le image.resilience v.resilience ≡ true
 
-pub view_parts : (image : Image) (stamp : Stamp) (names : List ℕ) (resilience : ℕ) → fits image (View stamp names resilience) ≡ true
-    → FitsAsView image stamp names resilience
+pub view_parts : (image : Image) (v : GroupView) → fits image (View v) ≡ true
+    → FitsAsView image v
 unfolding fits
-view_parts image stamp names resilience h =
-    let a = stamp_lt image.view stamp in
-    let b = is_blank image || is_within names (members_of image) in
-    let c = has names stamp.by in
-    let d = nat_le image.resilience resilience in
+view_parts image v h =
+    let a = stamp_lt image.view v.stamp in
+    let b = is_blank image || is_within v.members (members_of image) in
+    let c = has v.members v.stamp.by in
+    let d = nat_le image.resilience v.resilience in
     let abcd = and_both a (b && (c && d)) h in
     let bcd = and_both b (c && d) abcd.1 in
     let cd = and_both c d bcd.1 in
@@ -26,11 +27,11 @@ view_parts image stamp names resilience h =
     record { above = abcd.0; within = λ full. rw full at within; own = cd.0; no_less = cd.1 }
 
 -- and made of them
-pub fits_view : (image : Image) (stamp : Stamp) (names : List ℕ) (resilience : ℕ) → stamp_lt image.view stamp ≡ true → is_within names (members_of image) ≡ true
-    → has names stamp.by ≡ true → image.resilience ≤ resilience → fits image (View stamp names resilience) ≡ true
+pub fits_view : (image : Image) (v : GroupView) → stamp_lt image.view v.stamp ≡ true → is_within v.members (members_of image) ≡ true
+    → has v.members v.stamp.by ≡ true → image.resilience ≤ v.resilience → fits image (View v) ≡ true
 unfolding fits
-fits_view image stamp names resilience above within own more =
-    let r : nat_le image.resilience resilience ≡ true = grind (arith, nat_tests) in
+fits_view image v above within own more =
+    let r : nat_le image.resilience v.resilience ≡ true = grind (arith, nat_tests) in
     rw (above, within, own, r) (split (is_blank image) (λ t. rw t refl) (λ f. rw f refl))
 
 within_at : (a b : List ℕ) (place : ℕ) → place < 16 → is_within a b ≡ true → ((slice_index a place == 0) || (slice_index a place == slice_index b place)) ≡ true
@@ -48,34 +49,34 @@ viewed_stays number life r e =
     (λ u. rw u e)
 
 -- the stamp's name is a member after a View that fits
-pub view_has : (image : Image) (number : ℕ) (stamp : Stamp) (names : List ℕ) (resilience : ℕ) → fits image (View stamp names resilience) ≡ true
-    → has (members_of (after image number (View stamp names resilience))) stamp.by ≡ true
+pub view_has : (image : Image) (number : ℕ) (v : GroupView) → fits image (View v) ≡ true
+    → has (members_of (after image number (View v))) v.stamp.by ≡ true
 unfolding after
-view_has image number stamp names resilience h =
-    let parts = view_parts image stamp names resilience h in
+view_has image number v h =
+    let parts = view_parts image v h in
     let own = parts.own in
-    let place = place_of stamp.by in
+    let place = place_of v.stamp.by in
     let low : place < 16 = omega arith in
-    let life : slice_index names place ≡ life_of stamp.by = grind (arith, nat_tests) in
-    let new = after image number (View stamp names resilience) in
-    let f : ℕ → Row = λ k. row_after_view (is_blank image) number (slice_index names k) (row_at image k) in
+    let life : slice_index v.members place ≡ life_of v.stamp.by = grind (arith, nat_tests) in
+    let new = after image number (View v) in
+    let f : ℕ → Row = λ k. row_after_view (is_blank image) number (slice_index v.members k) (row_at image k) in
     let long = length-by_place f in
-    let at : slice_index (members_of new) place ≡ member_life (row_after_view (is_blank image) number (slice_index names place) (row_at image place)) =
+    let at : slice_index (members_of new) place ≡ member_life (row_after_view (is_blank image) number (slice_index v.members place) (row_at image place)) =
     member_at new place (omega arith) ∙ ap member_life (get_or-by_place f place blank_row low) in
-    let is : member_life (row_after_view (is_blank image) number (slice_index names place) (row_at image place))
-    ≡ slice_index names place = split (is_blank image) (λ t. rw t (viewed_first number (slice_index names place) (row_at image place) (omega arith)))
+    let is : member_life (row_after_view (is_blank image) number (slice_index v.members place) (row_at image place))
+    ≡ slice_index v.members place = split (is_blank image) (λ t. rw t (viewed_first number (slice_index v.members place) (row_at image place) (omega arith)))
     (λ t.
-    let w = within_at names (members_of image) place low (parts.within t) in
-    let none : (slice_index names place == 0) ≡ false = grind (arith, nat_tests) in
-    let same : (slice_index names place == slice_index (members_of image) place) ≡ true = rw none at w in
-    let e : slice_index names place ≡ slice_index (members_of image) place = grind (arith, nat_tests) in
+    let w = within_at v.members (members_of image) place low (parts.within t) in
+    let none : (slice_index v.members place == 0) ≡ false = grind (arith, nat_tests) in
+    let same : (slice_index v.members place == slice_index (members_of image) place) ≡ true = rw none at w in
+    let e : slice_index v.members place ≡ slice_index (members_of image) place = grind (arith, nat_tests) in
     let there : slice_index (members_of image) place ≡ member_life (row_at image place) = ⊎_elim
     (λ (l : place < length image.rows). member_at image place l)
     (λ (l : length image.rows ≤ place). let long = length-map image.rows member_life in
     let z : slice_index (members_of image) place ≡ 0 = get_or_past (members_of image) place 0 (omega arith) in absurd (omega arith))
     (cases_lt place (length image.rows)) in
-    rw t (viewed_stays number (slice_index names place) (row_at image place) (sym (e ∙ there)))) in
-    let life_is : slice_index (members_of new) place ≡ life_of stamp.by = at ∙ is ∙ life in
+    rw t (viewed_stays number (slice_index v.members place) (row_at image place) (sym (e ∙ there)))) in
+    let life_is : slice_index (members_of new) place ≡ life_of v.stamp.by = at ∙ is ∙ life in
     grind (arith, nat_tests)
 
 -- what is no View leaves the view
@@ -91,6 +92,6 @@ pub view_stays_leave : (image : Image) (number name : ℕ) → (after image numb
 unfolding after
 view_stays_leave image number name = split ((at_place image name).life == life_of name) (λ t. rw t refl) (λ t. rw t refl)
 
-pub view_is : (image : Image) (number : ℕ) (stamp : Stamp) (names : List ℕ) (resilience : ℕ) → (after image number (View stamp names resilience)).view ≡ stamp
+pub view_is : (image : Image) (number : ℕ) (v : GroupView) → (after image number (View v)).view ≡ v.stamp
 unfolding after
-view_is image number stamp names resilience = refl
+view_is image number v = refl

@@ -1,5 +1,6 @@
 -- What is refused of a fetched entry.
 use Rattle.std.specs.Prelude.{◌≡◌, ℕ, ◌+◌, ◌≤◌, max, List, [], Option, Some, None, Bool, false, true}
+use Rattle.am_base.specs.declared.entry.GroupView.{GroupView}
 use Rattle.am_base.specs.declared.entry.Entry.{Entry}
 use Rattle.am_base.specs.declared.entry.Entry.TheVariants.{Data, Join, Leave, View}
 use Rattle.am_base.specs.declared.name.Stamp.{Stamp}
@@ -23,7 +24,7 @@ abbrev pub IsBelow : Stamp → Entry → Type 0
 IsBelow v (Data from req body) = Unit {0}
 IsBelow v (Join name) = Unit {0}
 IsBelow v (Leave name) = Unit {0}
-IsBelow v (View stamp names resilience) = stamp_lt stamp v ≡ true
+IsBelow v (View w) = stamp_lt w.stamp v ≡ true
 
 -- an entry that comes next and isn't refused above this base
 pub record ComesNext (m : Node) (v : Stamp) (base number : ℕ) (e : Entry) (in_ballot : Bool) : Type 0 where
@@ -50,9 +51,9 @@ unless_denied None m plan = plan
 unless_denied (Some refusal) m plan = plan_of m refusal.outcome refusal.telling
 
 -- a decided view that comes next and isn't refused above this base
-pub record FollowsAsView (m : Node) (v : Stamp) (base number : ℕ) (names : List ℕ) (resilience : ℕ) : Type 0 where
-  pub apart : stamp_eq (view m) v ≡ false
+pub record FollowsAsView (m : Node) (base number : ℕ) (v : GroupView) : Type 0 where
+  pub apart : stamp_eq (view m) v.stamp ≡ false
   pub next : number ≡ top m + 1
   pub taken : base ≤ m.core.taken
-  pub fits : fits (image_of m) (View v names resilience) ≡ true
+  pub fits : fits (image_of m) (View v) ≡ true
   pub bound : is_within_bound m (max m.core.base base) number ≡ true

@@ -33,7 +33,7 @@ abbrev pub IsUpTo : Stamp → Entry → Type 0
 IsUpTo promise (Data from req body) = Unit {0}
 IsUpTo promise (Join name) = Unit {0}
 IsUpTo promise (Leave name) = Unit {0}
-IsUpTo promise (View stamp names resilience) = stamp_lt promise stamp ≡ false
+IsUpTo promise (View v) = stamp_lt promise v.stamp ≡ false
 
 -- a node that doesn't act may store this entry above a base
 pub record MayStore (m : Node) (base : ℕ) (e : Entry) : Type 0 where

@@ -177,8 +177,8 @@ grown_change rules k m n f (begins_list s v base join image is says may) none h 
 grown_change rules k m n f (opens least resilience by may) none h = absurd (cc)
 grown_change rules k m n f (looks b verdict over why look is) none h = absurd (looks_leave m b verdict look none)
 grown_change rules k m n f (fetches s v base number e is heard promise below from may) none h = grown_by k m n (e ∷ []) refl (omega arith) h
-grown_change rules k m n f (stores_view s v base number names resilience is heard own other promise below may) none h =
-    grown_by k m n (View v names resilience ∷ []) refl (omega arith) h
+grown_change rules k m n f (stores_view s base number v is heard own other promise below may) none h =
+    grown_by k m n (View v ∷ []) refl (omega arith) h
 grown_change rules k m n f (closes leads leaves last room) none h = let r = rests_closed m in grown_by k m n r.more r.entries r.acc h
 grown_change rules k m n f _ none h = grown_same k m n refl (omega arith) h
 

@@ -28,7 +28,7 @@ same_after image n (Data from req body) f = split ((at_place image from).life ==
 same_after image n (Join name) f = record { view = refl; number = refl; resilience = refl }
 same_after image n (Leave name) f = split ((at_place image name).life == life_of name) (λ t. rw t (record { view = refl; number = refl; resilience = refl }))
     (λ g. rw g (record { view = refl; number = refl; resilience = refl }))
-same_after image n (View stamp names resilience) f = absurd (cc)
+same_after image n (View v) f = absurd (cc)
 
 same_fold : (image : Image) (n : ℕ) (es : List Entry) → All (λ e. is_view e ≡ false) es → SameView image (fold image n es)
 unfolding fold
@@ -105,7 +105,7 @@ first_told rules m h =
 -- ---- an entry more
 
 small : (e : Entry) → is_view e ≡ false → SmallName e
-small (View stamp names resilience) f = absurd (cc)
+small (View v) f = absurd (cc)
 small _ f = tt
 
 group_push : (rules : Rules) (list : List Entry) (e : Entry) → is_view e ≡ false → IsGroup rules list → IsGroup rules (list ++ e ∷ [])

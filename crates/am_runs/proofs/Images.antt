@@ -65,7 +65,7 @@ row_after rules list (Leave name) place low plain h =
     (λ p. row_more rules list (e ∷ []) place (row_at image place) _ (ap (λ x. (row_at image x).joined) (sym p)) (ap (λ x. (row_at image x).life) (sym p))
     (h.each place low)) (h.each place low)))
     (λ f. rw f (row_more rules list (e ∷ []) place (row_at image place) (row_at image place) refl refl (h.each place low)))
-row_after rules list (View stamp names resilience) place low plain h = absurd (cc)
+row_after rules list (View v) place low plain h = absurd (cc)
 
 rows_push : (rules : Rules) (list : List Entry) (e : Entry) → is_view e ≡ false → RowsOk rules list → RowsOk rules (list ++ e ∷ [])
 rows_push rules list e plain h = record {

@@ -244,10 +244,10 @@ other_change rules list acc i all c o m n w d (fetches s v base number e is hear
     let at = subst (CauseOk rules list acc i) is w.cause in
     let t = noted_ok rules list acc i m (max m.core.base base) m.core.told (omega arith) h.fronts.told h in
     pushed_ok rules list acc i (trim_up_to m base) e (next_is list m number e may.next at) t
-other_change rules list acc i all c o m n w d (stores_view s v base number names resilience is heard own other promise below may) none k h =
+other_change rules list acc i all c o m n w d (stores_view s base number v is heard own other promise below may) none k h =
     let at = subst (CauseOk rules list acc i) is w.cause in
     let t = noted_ok rules list acc i m (max m.core.base base) m.core.told (omega arith) h.fronts.told h in
-    pushed_ok rules list acc i (trim_up_to m base) (View v names resilience) (next_is list m number (View v names resilience) may.next at.1) t
+    pushed_ok rules list acc i (trim_up_to m base) (View v) (next_is list m number (View v) may.next at.1) t
 other_change rules list acc i all c o m n w d (queues body is says member stays few) none k h = queued_ok rules list acc i m body h
 other_change rules list acc i all c o m n w d (collects req is) none k h = collected_ok rules list acc i m req h
 other_change rules list acc i all c o m n w d (takes e is says member some there) none k h = taken_ok rules list acc i m member some h

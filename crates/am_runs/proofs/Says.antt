@@ -219,7 +219,7 @@ any_says rules list acc i (packet.Welcome s v base join image) t = absurd (cc)
 any_says rules list acc i (packet.Invite s v) t = absurd (cc)
 any_says rules list acc i (packet.Vote s v shown) t = absurd (cc)
 any_says rules list acc i (packet.Piece s v base number e) t = absurd (cc)
-any_says rules list acc i (packet.Result s v base number names resilience) t = absurd (cc)
+any_says rules list acc i (packet.Result s base number v) t = absurd (cc)
 any_says rules list acc i _ t = tt
 
 pub letter_says : (rules : Rules) (list from : List Entry) (acc low i : ℕ) (m n : Node) (c : Cause) (letter : Letter) → Sends rules list acc i m n

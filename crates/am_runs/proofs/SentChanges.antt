@@ -124,8 +124,8 @@ change_sent all who c o m n sent (begins_list s v base join image is a may) h =
 change_sent all who c o m n sent (looks b verdict over why look is) h = look_sent all who m b verdict look h
 change_sent all who c o m n sent (fetches s v base number e is heard promise below from may) h =
     kept_pushed all who (trim_up_to m base) e (subst (CauseSent all who o) is sent) h
-change_sent all who c o m n sent (stores_view s v base number names resilience is heard own other promise below may) h =
-    kept_pushed all who (trim_up_to m base) (View v names resilience) tt h
+change_sent all who c o m n sent (stores_view s base number v is heard own other promise below may) h =
+    kept_pushed all who (trim_up_to m base) (View v) tt h
 change_sent all who c o m n sent (queues body is a member stays few) h =
     kept_queued all who m body ((subst (CauseSent all who o) is sent) (m.sends.last + 1) a) h
 change_sent all who c o m n sent (collects req is) h = kept_collected all who m req h

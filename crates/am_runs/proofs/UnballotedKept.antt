@@ -80,7 +80,7 @@ PacketOk rules list acc i (Welcome s v base join image) = WelcomeOk rules list a
 PacketOk rules list acc i (Invite s v) = ⊥
 PacketOk rules list acc i (Vote s v vote) = ⊥
 PacketOk rules list acc i (Piece s v base number e) = item_at list number ≡ Some e
-PacketOk rules list acc i (Result s v base number names resilience) = (v ≡ founding_stamp rules) × (item_at list number ≡ Some (View v names resilience))
+PacketOk rules list acc i (Result s base number v) = (v.stamp ≡ founding_stamp rules) × (item_at list number ≡ Some (View v))
 PacketOk rules list acc i _ = Unit {0}
 
 pub record LetterOk (rules : Rules) (list : List Entry) (acc : ℕ) (letter : Letter) : Type 0 where
@@ -162,7 +162,7 @@ packet_more rules list more acc to i (Welcome s v base join image) low up h = re
 packet_more rules list more acc to i (Invite s v) low up h = absurd h
 packet_more rules list more acc to i (Vote s v vote) low up h = absurd h
 packet_more rules list more acc to i (Piece s v base number e) low up h = item_more list more number e h
-packet_more rules list more acc to i (Result s v base number names resilience) low up h = (h.0, item_more list more number (View v names resilience) h.1)
+packet_more rules list more acc to i (Result s base number v) low up h = (h.0, item_more list more number (View v) h.1)
 packet_more rules list more acc to i _ low up h = tt
 
 pub letter_more : (rules : Rules) (list more : List Entry) (acc to : ℕ) (letter : Letter) → acc ≤ length list → acc ≤ to → LetterOk rules list acc letter

@@ -88,7 +88,7 @@ ends_by list (Some (Data from req body)) name message h =
     )
 ends_by list (Some (Join joiner)) name message h = absurd (cc)
 ends_by list (Some (Leave leaver)) name message h = absurd (cc)
-ends_by list (Some (View stamp members resilience)) name message h = absurd (cc)
+ends_by list (Some (View v)) name message h = absurd (cc)
 
 found_by : (list : List Entry) (name req : ℕ) (body message : List ℕ) → slice_get list (length list - 1) ≡ Some (Data name req body)
     → Ending (from_place (place_of name) list) name message → message_at list ≡ Some (name, message)

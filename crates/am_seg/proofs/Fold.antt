@@ -27,7 +27,7 @@ unfolding after_entry
 sixteen_after a (Data from req body) long = length-set _ _ _ ∙ long
 sixteen_after a (Join name) long = long
 sixteen_after a (Leave name) long = long
-sixteen_after a (View stamp members resilience) long = long
+sixteen_after a (View v) long = long
 
 place_after : (a : Assembly) (e : Entry) (place : ℕ) → length a.begun ≡ 16 → place < 16
     → get_or (after_entry a e).begun place None ≡ fold begun_next (get_or a.begun place None) (sent_from place e)
@@ -46,7 +46,7 @@ place_after a (Data from req body) place long there = split (place_of from == pl
     ∙ ap (fold begun_next (get_or a.begun place None)) (sym (cond-false (place_of from == place) ((from, body) ∷ []) [] other)))
 place_after a (Join name) place long there = refl
 place_after a (Leave name) place long there = refl
-place_after a (View stamp members resilience) place long there = refl
+place_after a (View v) place long there = refl
 
 places_after : (a : Assembly) (list : List Entry) (place : ℕ) → length a.begun ≡ 16 → place < 16
     → get_or (fold after_entry a list).begun place None ≡ fold begun_next (get_or a.begun place None) (from_place place list)
@@ -96,7 +96,7 @@ unfolding after_entry
 ended_after list (Data from req body) = taken_data list from req body
 ended_after list (Join name) = sym (message_at-more list (Join name))
 ended_after list (Leave name) = sym (message_at-more list (Leave name))
-ended_after list (View stamp members resilience) = sym (message_at-more list (View stamp members resilience))
+ended_after list (View v) = sym (message_at-more list (View v))
 
 ended : (list : List Entry) → (assembled list).ended ≡ message_at list
 unfolding message_at
@@ -127,7 +127,7 @@ fed_whole list (Data from req body) name fed =
     let is = whole_of from name (taken_at (assembled list) from body) fed in (is.0, sym (taken_data list from req body) ∙ is.1)
 fed_whole list (Join joiner) name fed = absurd (cc)
 fed_whole list (Leave leaver) name fed = absurd (cc)
-fed_whole list (View stamp members resilience) name fed = absurd (cc)
+fed_whole list (View v) name fed = absurd (cc)
 
 whole_fed : (list : List Entry) (e : Entry) (name : ℕ) (message : List ℕ) → message_at (list ++ e ∷ []) ≡ Some (name, message)
     → fed_with (assembled list) e ≡ feds.Whole name
@@ -138,8 +138,8 @@ whole_fed list (Join joiner) name message had =
     let none : ◌≡◌ {A = Option (ℕ × List ℕ)} None (Some (name, message)) = sym (message_at-more list (Join joiner)) ∙ had in absurd (cc)
 whole_fed list (Leave leaver) name message had =
     let none : ◌≡◌ {A = Option (ℕ × List ℕ)} None (Some (name, message)) = sym (message_at-more list (Leave leaver)) ∙ had in absurd (cc)
-whole_fed list (View stamp members resilience) name message had =
-    let none : ◌≡◌ {A = Option (ℕ × List ℕ)} None (Some (name, message)) = sym (message_at-more list (View stamp members resilience)) ∙ had in absurd (cc)
+whole_fed list (View v) name message had =
+    let none : ◌≡◌ {A = Option (ℕ × List ℕ)} None (Some (name, message)) = sym (message_at-more list (View v)) ∙ had in absurd (cc)
 
 pub messages_assemble : MessagesAssemble
 messages_assemble list = record { ended = ended list; whole = λ e name. (fed_whole list e name, λ m. whole_fed list e name m.0 m.1) }

@@ -94,14 +94,14 @@ unfoldable pub after_entry : Assembly → Entry → Assembly
 after_entry a (Data from req body) = after_data a from (taken_at a from body)
 after_entry a (Join name) = record a { ended = None }
 after_entry a (Leave name) = record a { ended = None }
-after_entry a (View stamp members resilience) = record a { ended = None }
+after_entry a (View v) = record a { ended = None }
 
 -- what an entry came to
 unfoldable pub fed_with : Assembly → Entry → Fed
 fed_with a (Data from req body) = fed_by from (taken_at a from body)
 fed_with a (Join name) = feds.Other
 fed_with a (Leave name) = feds.Other
-fed_with a (View stamp members resilience) = feds.Other
+fed_with a (View v) = feds.Other
 
 -- the message that the last entry ended, whoever sent it
 abbrev pub message_in : Option (ℕ × List ℕ) → Option (List ℕ)

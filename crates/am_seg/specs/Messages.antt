@@ -18,7 +18,7 @@ abbrev pub sent_from : ℕ → Entry → List (ℕ × List ℕ)
 sent_from place (Data from req body) = if place_of from == place then (from, body) ∷ [] else []
 sent_from place (Join name) = []
 sent_from place (Leave name) = []
-sent_from place (View stamp members resilience) = []
+sent_from place (View v) = []
 
 -- the Data of the names of a place, in order
 unfoldable pub from_place : ℕ → List Entry → List (ℕ × List ℕ)
@@ -64,7 +64,7 @@ message_by list None = None
 message_by list (Some (Data from req body)) = message_of from (last_of (from_place (place_of from) list) (big_from 3 2 body))
 message_by list (Some (Join name)) = None
 message_by list (Some (Leave name)) = None
-message_by list (Some (View stamp members resilience)) = None
+message_by list (Some (View v)) = None
 
 -- the message that ends with the last entry of a list, and whose it is
 unfoldable pub message_at : List Entry → Option (ℕ × List ℕ)

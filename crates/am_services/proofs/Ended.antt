@@ -14,7 +14,7 @@ unfolding after_entry fed_with
 none_ended a (Data from req body) other = sym (ended_other from (taken_at a from body) other)
 none_ended a (Join name) other = refl
 none_ended a (Leave name) other = refl
-none_ended a (View stamp members resilience) other = refl
+none_ended a (View v) other = refl
 
 some_by : (from whose : ℕ) (taken : Taken) → fed_by from taken ≡ feds.Whole whose → (message : List ℕ) × (ended_by from taken ≡ Some (whose, message))
 some_by from whose plain is = absurd (cc)
@@ -29,7 +29,7 @@ unfolding after_entry fed_with
 some_ended a (Data from req body) whose is = some_by from whose (taken_at a from body) is
 some_ended a (Join name) whose is = absurd (cc)
 some_ended a (Leave name) whose is = absurd (cc)
-some_ended a (View stamp members resilience) whose is = absurd (cc)
+some_ended a (View v) whose is = absurd (cc)
 
 -- it is the one that is told of that name
 pub told_from : (ended : Option (ℕ × List ℕ)) (whose : ℕ) (message : List ℕ) → ended ≡ Some (whose, message) → ended_from whose ended ≡ Some message

@@ -1,4 +1,5 @@
 -- Where a node's list begins after a step: where it did, unless it was welcomed, and then it doesn't lead.
+use Rattle.am_base.specs.declared.entry.GroupView.{GroupView}
 use Rattle.am_stands.proofs.StepWords.{none_of_asking, not-true, same_stamp, ◌≡◌, ℕ, zero, suc, ◌+◌, ◌-◌, ◌<◌, ◌≤◌, ◌==◌, ◌||◌, not, nat_le, true, false, List, []}
 use Rattle.am_stands.proofs.StepWords.{◌∷◌, Some, slice_get, refl, sym, ap, ◌∙◌, subst, arith, nat_tests, Stamp, Image, Entry, View, Outcome, Rules, stamp_eq, Log}
 use Rattle.am_stands.proofs.StepWords.{top_of, told_by, entry_at, after, fold, view_grows, Node, Ballot, view, acts, is_member, is_asking, is_sequencer, Verdict}
@@ -72,23 +73,23 @@ bare_follows n other = split (is_sequencer n)
 
 -- ---- where a View stands
 
-view_number_up : (image : Image) (n k : ℕ) (es : List Entry) (stamp : Stamp) (names : List ℕ) (resilience : ℕ)
-    → slice_get es k ≡ Some (View stamp names resilience) → n + k ≤ (fold image n es).view_number
+view_number_up : (image : Image) (n k : ℕ) (es : List Entry) (v : GroupView)
+    → slice_get es k ≡ Some (View v) → n + k ≤ (fold image n es).view_number
 unfolding fold
-view_number_up image n k [] stamp names resilience at = absurd (cc)
-view_number_up image n zero (e ∷ es) stamp names resilience at =
-    let is : e ≡ View stamp names resilience = cc in
+view_number_up image n k [] v at = absurd (cc)
+view_number_up image n zero (e ∷ es) v at =
+    let is : e ≡ View v = cc in
     let its : (after image n e).view_number ≡ n = view_its image n e (ap is_view is) in
     let up = view_grows (after image n e) (n + 1) es (omega arith) in
     omega arith
-view_number_up image n (suc k) (e ∷ es) stamp names resilience at =
-    (let up = view_number_up (after image n e) (n + 1) k es stamp names resilience at in omega arith)
+view_number_up image n (suc k) (e ∷ es) v at =
+    (let up = view_number_up (after image n e) (n + 1) k es v at in omega arith)
 
-pub view_above : (log : Log) (number : ℕ) (stamp : Stamp) (names : List ℕ) (resilience : ℕ) → entry_at log number ≡ Some (View stamp names resilience)
+pub view_above : (log : Log) (number : ℕ) (v : GroupView) → entry_at log number ≡ Some (View v)
     → log.start < (told_by log).view_number
-view_above log zero stamp names resilience at = absurd (cc)
-view_above log (suc before) stamp names resilience at = split (nat_le log.start before)
+view_above log zero v at = absurd (cc)
+view_above log (suc before) v at = split (nat_le log.start before)
     (λ t. (let there = rw t at at in
-    let up = view_number_up log.image (log.start + 1) (before - log.start) log.entries stamp names resilience there in
+    let up = view_number_up log.image (log.start + 1) (before - log.start) log.entries v there in
     omega arith))
     (λ f. absurd (let z = rw f at at in cc))

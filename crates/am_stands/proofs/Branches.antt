@@ -36,7 +36,7 @@ vote_low v list branch good h begins worse = ⊎_elim
     (low_or_above (length v) (length list))
 
 module _ (s : Group) (k : Kept s) (lawful : IsLawful s) (c : ℕ) (members : List ℕ) (resilience : ℕ) (d : MayDecide s c members resilience) (b : BranchesOk s)
-    (voted : (j : ℕ) → has members j ≡ true → (j ≡ c) ⊎ Voted s (key (s.node c).promise) j (s.node c).list) where
+    (voted : (j : ℕ) → w.stamp members j ≡ true → (j ≡ c) ⊎ Voted s (key (s.node c).promise) j (s.node c).list) where
   abbrev chosen : List Entry
   chosen = (s.node c).list
 
@@ -46,12 +46,12 @@ module _ (s : Group) (k : Kept s) (lawful : IsLawful s) (c : ℕ) (members : Lis
   chain : Begins chosen (chain_of s.views)
   chain = list_chain s k lawful c members resilience d
 
-  in_chosen : (j : ℕ) → has members j ≡ true → mem chosen j ≡ true
+  in_chosen : (j : ℕ) → w.stamp members j ≡ true → mem chosen j ≡ true
   unfolding mem
   in_chosen j h = within_has members (members_of (image_of chosen)) j d.within h
 
-  -- on one branch with the coordinator's list, a name of the View has no more
-  low_on : (j : ℕ) (branch : List Entry) → has members j ≡ true → (s.node j).departed ≡ false → IsGood branch → Begins chosen branch
+  -- on one branch with the coordinator's list, a name of the View w
+  low_on : (j : ℕ) (branch : List Entry) → w.stamp members j ≡ true → (s.node j).departed ≡ false → IsGood branch → Begins chosen branch
       → Begins (s.node j).list branch → Begins (s.node j).list chosen
   low_on j branch in_ stays good mine its = ⊎_elim
       (λ (z : j ≡ c). subst (λ x. Begins (s.node x).list chosen) (sym z) (begins_refl chosen))
@@ -62,26 +62,26 @@ module _ (s : Group) (k : Kept s) (lawful : IsLawful s) (c : ℕ) (members : Lis
       (b.short c j z.vote d.up d.ballot z.is stays)))
       (voted j in_)
 
-  stays_in : (j : ℕ) → has members j ≡ true → (s.node j).departed ≡ false
+  stays_in : (j : ℕ) → w.stamp members j ≡ true → (s.node j).departed ≡ false
   stays_in j in_ = split (s.node j).departed (λ t. absurd (none_departed s k lawful c members resilience d j (in_chosen j in_) t)) (λ f. f)
 
   -- each name of the View has a beginning of what is chosen
-  members_low : (j : ℕ) → has members j ≡ true → Begins (s.node j).list chosen
+  members_low : (j : ℕ) → w.stamp members j ≡ true → Begins (s.node j).list chosen
   members_low j in_ = by_branch (b.branch j (stays_in j in_))
     where
       by_branch : OnBranch s j → Begins (s.node j).list chosen
       by_branch (on_chain its) = low_on j (chain_of s.views) in_ (stays_in j in_) k.views.good chain its
-      by_branch (left_out a v names strong branch part mine its good member out) = ⊎_elim
-          (λ (z : length (a ++ View v names strong ∷ []) ≤ length chosen).
+      by_branch (left_out a v branch part mine its good member out) = ⊎_elim
+          (λ (z : length (a ++ View v ∷ []) ≤ length chosen).
           absurd (let inside = begins_both part chain z in
           let fine = good_begins chain k.views.good in
-          let there = mem_between j fine (begins_more a (View v names strong ∷ [])) inside member (in_chosen j in_) in
-          let has_it = mem_viewed a v names strong j there in cc))
-          (λ (z : length chosen < length (a ++ View v names strong ∷ [])).
-          (let more = length_push a (View v names strong) in
-          let below = begins_both chain (begins_trans (begins_more a (View v names strong ∷ [])) part) (omega arith) in
+          let there = mem_between j fine (begins_more a (View v ∷ [])) inside member (in_chosen j in_) in
+          let has_it = mem_viewed a v j there in cc))
+          (λ (z : length chosen < length (a ++ View v ∷ [])).
+          (let more = length_push a (View v) in
+          let below = begins_both chain (begins_trans (begins_more a (View v ∷ [])) part) (omega arith) in
           low_on j branch in_ (stays_in j in_) good (begins_trans below mine) its))
-          (low_or_above (length (a ++ View v names strong ∷ [])) (length chosen))
+          (low_or_above (length (a ++ View v ∷ [])) (length chosen))
 
   new_view : NewView s (with_choice s c members resilience) (key (s.node c).promise)
   new_view =
@@ -90,7 +90,7 @@ module _ (s : Group) (k : Kept s) (lawful : IsLawful s) (c : ℕ) (members : Lis
       record {
         accepted = subst (λ (x : groups.Chosen). Begins s.group x.before) (sym same) (group_low s k lawful c members resilience d);
         leavers = λ i leaves in_. subst (Begins (s.node i).list) (sym line)
-            (begins_trans (members_low i (subst (λ (x : groups.Chosen). has x.members i ≡ true) same in_))
+            (begins_trans (members_low i (subst (λ (x : groups.Chosen). w.stamp x.members i ≡ true) same in_))
             (begins_more chosen (View (s.node c).promise members resilience ∷ [])));
       }
 
@@ -121,35 +121,35 @@ module _ (s : Group) (k : Kept s) (lawful : IsLawful s) (c : ℕ) (members : Lis
 
   -- on one branch with it
   beside : (j : ℕ) (branch : List Entry) → (s.node j).departed ≡ false → IsGood branch → Begins chosen branch → Begins (s.node j).list branch
-      → Begins (s.node j).list chosen ⊎ ((mem chosen j ≡ true) × (has members j ≡ false))
+      → Begins (s.node j).list chosen ⊎ ((mem chosen j ≡ true) × (w.stamp members j ≡ false))
   beside j branch stays good mine its = split (mem chosen j)
-      (λ t. split (has members j)
+      (λ t. split (w.stamp members j)
       (λ in_. inl (low_on j branch in_ stays good mine its))
       (λ out. inr (t, out)))
       (λ f. inl (ended_in j branch stays good mine its f))
 
   after_choice : (j : ℕ) → (s.node j).departed ≡ false → OnBranch s j
       → Begins (s.node j).list (chain_of (with_choice s c members resilience).views)
-      ⊎ ((a : List Entry) × (v : Stamp) × (names : List ℕ) × (strong : ℕ) × (branch : List Entry)
-      × Begins (a ++ View v names strong ∷ []) (chain_of (with_choice s c members resilience).views)
-      × Begins a branch × Begins (s.node j).list branch × IsGood branch × (mem a j ≡ true) × (has names j ≡ false))
+      ⊎ ((a : List Entry) × (v.stamp : Stamp) × (v.members : List ℕ) × (v.resilience : ℕ) × (branch : List Entry)
+      × Begins (a ++ View v ∷ []) (chain_of (with_choice s c members resilience).views)
+      × Begins a branch × Begins (s.node j).list branch × IsGood branch × (mem a j ≡ true) × (w.stamp v.members j ≡ false))
   after_choice j stays (on_chain its) = ⊎_elim
       (λ (z : Begins (s.node j).list chosen). inl (on_new z))
-      (λ (z : (mem chosen j ≡ true) × (has members j ≡ false)). inr
+      (λ (z : (mem chosen j ≡ true) × (w.stamp members j ≡ false)). inr
       (chosen, (s.node c).promise, members, resilience, chain_of s.views, viewed, chain, its, k.views.good, z.0, z.1))
       (beside j (chain_of s.views) stays k.views.good chain its)
-  after_choice j stays (left_out a v names strong branch part mine its good member out) = ⊎_elim
-      (λ (z : length (a ++ View v names strong ∷ []) ≤ length chosen).
-      inr (a, v, names, strong, branch, on_new (begins_both part chain z), mine, its, good, member, out))
-      (λ (z : length chosen < length (a ++ View v names strong ∷ [])).
-      (let more = length_push a (View v names strong) in
-      let below = begins_trans (begins_both chain (begins_trans (begins_more a (View v names strong ∷ [])) part) (omega arith)) mine in
+  after_choice j stays (left_out a v branch part mine its good member out) = ⊎_elim
+      (λ (z : length (a ++ View v ∷ []) ≤ length chosen).
+      inr (a, v.stamp, v.members, v.resilience, branch, on_new (begins_both part chain z), mine, its, good, member, out))
+      (λ (z : length chosen < length (a ++ View v ∷ [])).
+      (let more = length_push a (View v) in
+      let below = begins_trans (begins_both chain (begins_trans (begins_more a (View v ∷ [])) part) (omega arith)) mine in
       ⊎_elim
       (λ (y : Begins (s.node j).list chosen). inl (on_new y))
-      (λ (y : (mem chosen j ≡ true) × (has members j ≡ false)). inr
+      (λ (y : (mem chosen j ≡ true) × (w.stamp members j ≡ false)). inr
       (chosen, (s.node c).promise, members, resilience, branch, viewed, below, its, good, y.0, y.1))
       (beside j branch stays good below its)))
-      (low_or_above (length (a ++ View v names strong ∷ [])) (length chosen))
+      (low_or_above (length (a ++ View v ∷ [])) (length chosen))
 
 -- ---- each move
 
@@ -288,8 +288,8 @@ choice_branches s k lawful c members resilience d voted kept b =
     (λ j. steady_put s c n (λ stays. inl (up_as (s.node c) n refl refl refl d.up)) j)
     (λ j stays old same. ⊎_elim
     (λ (z : Begins (s.node j).list (chain_of t.views)). on_chain (subst (λ l. Begins l (chain_of t.views)) (sym same) z))
-    (λ (z : (a : List Entry) × (v : Stamp) × (names : List ℕ) × (strong : ℕ) × (branch : List Entry) × Begins (a ++ View v names strong ∷ []) (chain_of t.views)
-    × Begins a branch × Begins (s.node j).list branch × IsGood branch × (mem a j ≡ true) × (has names j ≡ false)).
+    (λ (z : (a : List Entry) × (v.stamp : Stamp) × (v.members : List ℕ) × (v.resilience : ℕ) × (branch : List Entry) × Begins (a ++ View v ∷ []) (chain_of t.views)
+    × Begins a branch × Begins (s.node j).list branch × IsGood branch × (mem a j ≡ true) × (has v.members j ≡ false)).
     left_out z.0 z.1 z.2 z.3 z.4 z.5 z.6 (subst (λ l. Begins l z.4) (sym same) z.7) z.8 z.9 z.10)
     (after_choice s k lawful c members resilience d b voted j stays old))
     (λ x j list. put_at (λ y (m : groups.Node). IsUp m → m.ballot ≡ true → s.shown (key m.promise) j ≡ Some list

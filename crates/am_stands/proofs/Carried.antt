@@ -54,8 +54,8 @@ changes_stand w name c o x y s (opens least resilience by may_) may is h =
 changes_stand w name c o x y s (looks b verdict over_ why look was) may is h = looked w name c x b verdict s may why look is h
 changes_stand w name c o x y s (fetches from v base number e was by promise below why may_) may is h = piece_stands w name x y e s may.few may.runs
     (member_heard x from by) (record { log = refl; stays = refl; leaving = refl; promise = refl; ballot = refl; start = refl }) is h
-changes_stand w name c o x y s (stores_view from v base number names resilience was by own other promise below may_) may is h = piece_stands w name x y
-    (View v names resilience) s may.few may.runs (member_heard x from by)
+changes_stand w name c o x y s (stores_view from base number v was by own other promise below may_) may is h = piece_stands w name x y
+    (View v) s may.few may.runs (member_heard x from by)
     (record { log = refl; stays = refl; leaving = refl; promise = refl; ballot = refl; start = refl }) (of_line is) h
 changes_stand w name c o x y s (asks_to_join was asked) may is h = unmoved w name x y s
     (record {

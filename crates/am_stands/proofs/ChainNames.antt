@@ -71,10 +71,10 @@ after_named image n (Leave name) long e h = split ((at_place image name).life ==
     (λ t. rw t (put_named image name (record (at_place image name) { left = n }) long
     (let o = h (place_of name) (mod16 name) in record { life = o.life; lives = o.lives }) h))
     (λ f. rw f h)
-after_named image n (View stamp names resilience) long e h = λ place low.
+after_named image n (View v) long e h = λ place low.
     (let places = e.places in
-    subst RowNamed (sym (row_view image n stamp names resilience place low))
-    (viewed_named (is_blank image) n (slice_index names place) (row_at image place) (e.lives place (omega arith)) (h place low)))
+    subst RowNamed (sym (row_view image n v place low))
+    (viewed_named (is_blank image) n (slice_index v.members place) (row_at image place) (e.lives place (omega arith)) (h place low)))
 
 fold_named : (image : Image) (n : ℕ) (es : List Entry) → length image.rows ≡ 16 → All NamesNamed es → RowsNamed image → RowsNamed (fold image n es)
 unfolding fold
@@ -103,7 +103,7 @@ members_named list k =
 
 counted_named : (list : List Entry) (n : ℕ) (o : Option Entry) → All NamesNamed list → ((e : Entry) → o ≡ Some e → NamesNamed e)
     → IsSet (counted_of o (members_of (image_of (take n list))))
-counted_named list n (Some (View stamp names resilience)) k its = its (View stamp names resilience) refl
+counted_named list n (Some (View v)) k its = its (View v) refl
 counted_named list n _ k its = members_named (take n list) (All-take NamesNamed n list k)
 
 -- ---- of a node, whose list is so

@@ -9,7 +9,7 @@ use Rattle.am_stands.proofs.{Ends.taken_more, Joins.Becomes, Joins.stayed, Joins
 -- ---- who is a member after an entry that is no View
 
 pub no_view : (e : Entry) → NotView e → is_view e ≡ false
-no_view (View stamp names resilience) h = absurd h
+no_view (View v) h = absurd h
 no_view _ h = refl
 
 pub mem_back : (a : List Entry) (e : Entry) (name : ℕ) → NotView e → mem (a ++ e ∷ []) name ≡ true → (mem a name ≡ true) ⊎ (e ≡ Join name)

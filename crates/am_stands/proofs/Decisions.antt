@@ -18,8 +18,8 @@ use Rattle.std.proofs.lemmas.List.{same_from_push}
 -- ---- lists
 
 -- a View that wasn't there ends the line that it opens
-line_opens : (v : Stamp) (es : List Entry) (names : List ℕ) (resilience : ℕ) → list_any (is_view_of v) es ≡ false
-    → up_to_next v (es ++ View v names resilience ∷ []) ≡ es ++ View v names resilience ∷ []
+line_opens : (v.stamp : Stamp) (es : List Entry) (v.members : List ℕ) (v.resilience : ℕ) → list_any (is_view_of v.stamp) es ≡ false
+    → up_to_next v.stamp (es ++ View v ∷ []) ≡ es ++ View v ∷ []
 unfolding up_to_next up_to_view
 line_opens v [] names resilience h = let t : stamp_eq v v ≡ true = grind (arith, nat_tests) in rw t refl
 line_opens v (x ∷ es) names resilience h = split (is_view_of v x)
@@ -38,12 +38,12 @@ looked_promise w name c x b s may (as_it_is old o on) = open_promise w name c x 
 
 -- ---- the views
 
-module _ (w : World) (name : ℕ) (x y : Node) (a : groups.Node) (views : Views) (v : Stamp) (names : List ℕ) (r : ℕ)
-    (promised : a.promise ≡ v) (mine : v.by ≡ name) (old : NameStands (within w name x) name x a)
-    (log : y.core.log ≡ (push_entry x (View v names r)).core.log) (same_members : members y ≡ names)
-    (fresh : views.decided (key v) ≡ false) (unseen : list_any (is_view_of v) a.list ≡ false) (h : ViewsStand (within w name x) views) where
+module _ (w : World) (name : ℕ) (x y : Node) (a : groups.Node) (views : Views) (v.stamp : Stamp) (v.members : List ℕ) (v.resilience : ℕ)
+    (promised : a.promise ≡ v.stamp) (mine : v.stamp.by ≡ name) (old : NameStands (within w name x) name x a)
+    (log : y.core.log ≡ (push_entry x (View v)).core.log) (same_members : members y ≡ v.members)
+    (fresh : views.decided (key v.stamp) ≡ false) (unseen : list_any (is_view_of v.stamp) a.list ≡ false) (h : ViewsStand (within w name x) views) where
   e : Entry
-  e = View v names r
+  e = View v
 
   next : World
   next = noting w (last_view y)
@@ -51,27 +51,27 @@ module _ (w : World) (name : ℕ) (x y : Node) (a : groups.Node) (views : Views)
   made : Views
   made = record views {
     decided = put views.decided (key a.promise) true;
-    chosen = put views.chosen (key a.promise) (choice_of a names r);
-    line = put views.line (key a.promise) (opening (choice_of a names r));
+    chosen = put views.chosen (key a.promise) (choice_of a v.members v.resilience);
+    line = put views.line (key a.promise) (opening (choice_of a v.members v.resilience));
     current = a.promise;
   }
 
-  is_whole : whole (within next name y) y ≡ a.list ++ View v names r ∷ []
+  is_whole : whole (within next name y) y ≡ a.list ++ View v ∷ []
   unfolding next
   is_whole = ap (λ (g : Log). take g.start w.group ++ g.entries) log
-      ∙ sym (append_assoc (take x.core.log.start w.group) x.core.log.entries (View v names r ∷ [])) ∙ ap (λ l. l ++ View v names r ∷ []) (sym old.list)
+      ∙ sym (append_assoc (take x.core.log.start w.group) x.core.log.entries (View v ∷ [])) ∙ ap (λ l. l ++ View v ∷ []) (sym old.list)
 
-  told_is : nodes.image_of y ≡ nodes.image_of (push_entry x (View v names r))
+  told_is : nodes.image_of y ≡ nodes.image_of (push_entry x (View v))
   told_is = ap (λ (g : Log). nodes.image_of (record y { core = record (y.core) { log = g } })) log
 
-  is_stamp : view y ≡ v
-  is_stamp = ap (λ (i : Image). i.view) (told_is ∙ told_pushed x (View v names r)) ∙ (after_view (nodes.image_of x) (nodes.top x + 1) v names r).0
+  is_stamp : view y ≡ v.stamp
+  is_stamp = ap (λ (i : Image). i.view) (told_is ∙ told_pushed x (View v)) ∙ (after_view (nodes.image_of x) (nodes.top x + 1) v).0
 
   is_number : (nodes.image_of y).view_number ≡ nodes.top x + 1
-  is_number = ap (λ (i : Image). i.view_number) (told_is ∙ told_pushed x (View v names r)) ∙ (after_view (nodes.image_of x) (nodes.top x + 1) v names r).1
+  is_number = ap (λ (i : Image). i.view_number) (told_is ∙ told_pushed x (View v)) ∙ (after_view (nodes.image_of x) (nodes.top x + 1) v).1
 
-  is_resilience : (nodes.image_of y).resilience ≡ r
-  is_resilience = ap (λ (i : Image). i.resilience) (told_is ∙ told_pushed x (View v names r)) ∙ (after_view (nodes.image_of x) (nodes.top x + 1) v names r).2
+  is_resilience : (nodes.image_of y).resilience ≡ v.resilience
+  is_resilience = ap (λ (i : Image). i.resilience) (told_is ∙ told_pushed x (View v)) ∙ (after_view (nodes.image_of x) (nodes.top x + 1) v).2
 
   long : length a.list ≡ nodes.top x
   long = long_all (within w name x) name x a old
@@ -84,15 +84,15 @@ module _ (w : World) (name : ℕ) (x y : Node) (a : groups.Node) (views : Views)
       let list = whole (within w name x) x in
       let other : (key d.stamp == key a.promise) ≡ false = split (key d.stamp == key a.promise)
       (λ t. absurd (let keys : key d.stamp ≡ key v = (let z : key d.stamp ≡ key a.promise = grind (arith, nat_tests) in z ∙ ap key promised) in
-      let z : views.decided (key v) ≡ true = ap views.decided (sym keys) ∙ n.decided in cc))
+      let z : views.decided (key v.stamp) ≡ true = ap views.decided (sym keys) ∙ n.decided in cc))
       (λ f. f) in
       let stays : line_of (within next name y) d.stamp ≡ line_of (within w name x) d.stamp = split (d.stamp.by == name)
       (λ u.
       let own : d.stamp.by ≡ name = grind (arith, nat_tests) in
       let here = line_here w name x d.stamp own in
       let stands = noted_stands (within w name x) views d list n here in
-      line_here next name y d.stamp own ∙ ap (up_to_next d.stamp) (is_whole ∙ ap (λ l. l ++ View v names r ∷ []) old.list)
-      ∙ line_ends d.stamp list (View v names r) stands refl ∙ sym here)
+      line_here next name y d.stamp own ∙ ap (up_to_next d.stamp) (is_whole ∙ ap (λ l. l ++ View v ∷ []) old.list)
+      ∙ line_ends d.stamp list (View v) stands refl ∙ sym here)
       (λ g. rw g refl) in
       record {
         decided = rw other n.decided;
@@ -108,10 +108,10 @@ module _ (w : World) (name : ℕ) (x y : Node) (a : groups.Node) (views : Views)
       let keys : key (view y) ≡ key a.promise = ap key (is_stamp ∙ sym promised) in
       let t : (key (view y) == key a.promise) ≡ true = grind (arith, nat_tests) in
       let own : (view y).by ≡ name = ap (λ (z : Stamp). z.by) is_stamp ∙ mine in
-      let opened_ : opening (choice_of a names r) ≡ a.list ++ View v names r ∷ [] = λ i. a.list ++ View (promised i) names r ∷ [] in
-      let line_ : line_of (within next name y) (view y) ≡ a.list ++ View v names r ∷ [] =
-      line_here next name y (view y) own ∙ ap (up_to_next (view y)) is_whole ∙ ap (λ (z : Stamp). up_to_next z (a.list ++ View v names r ∷ [])) is_stamp
-      ∙ line_opens v a.list names r unseen in
+      let opened_ : opening (choice_of a v.members v.resilience) ≡ a.list ++ View v ∷ [] = λ i. a.list ++ View (promised i) v.members v.resilience ∷ [] in
+      let line_ : line_of (within next name y) (view y) ≡ a.list ++ View v ∷ [] =
+      line_here next name y (view y) own ∙ ap (up_to_next (view y)) is_whole ∙ ap (λ (z : Stamp). up_to_next z (a.list ++ View v ∷ [])) is_stamp
+      ∙ line_opens v.stamp a.list v.members v.resilience unseen in
       record {
         decided = rw t refl;
         chose = record {
@@ -121,7 +121,7 @@ module _ (w : World) (name : ℕ) (x y : Node) (a : groups.Node) (views : Views)
           number = rw t (omega (arith, long, is_number));
         };
         line = rw t (opened_ ∙ sym line_);
-        opens = rw t (record { rest = []; same = append-nil (opening (choice_of a names r)) });
+        opens = rw t (record { rest = []; same = append-nil (opening (choice_of a v.members v.resilience)) });
       }
 
   views_decided : ViewsStand (within next name y) made

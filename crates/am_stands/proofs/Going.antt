@@ -169,9 +169,9 @@ gone_said v i n s name h may =
         letters.may_go before size
         (begins_both part chained.group_in (omega arith))
         (has_stored_it v i n s h name (row_at n name).left before size part low all)
-    by_kind low all (by_view before stamp names resilience size member out part) =
-        has_stopped (h.left_out before stamp names resilience name
-        (subst (Begins (before ++ View stamp names resilience ∷ [])) chained.chain part) member out)
+    by_kind low all (by_view before w size member out part) =
+        has_stopped (h.left_out before w name
+        (subst (Begins (before ++ View w ∷ [])) chained.chain part) member out)
 
 -- to the leaver alone
 pub gone_says : (v : World) (i : ℕ) (n : Node) (s : Group) (name : ℕ) → MayLetGo v i n s → may_go n name ≡ true → (j : ℕ) → has (only_name name) j ≡ true

@@ -1,6 +1,6 @@
 -- What a change needs of the group, from what a letter says and what every run of the group keeps.
 use Rattle.am_stands.proofs.Words.{same_stamp, ◌≡◌, ◌≢◌, ℕ, suc, ◌+◌, ◌<◌, ◌==◌, ◌&&◌, not, nat_lt, List, length, true, false, Some, slice_get, refl, sym, ap}
-use Rattle.am_stands.proofs.Words.{◌∙◌, subst, arith, nat_tests, Entry, Data, View, Stamp, Image, Report, has, stamp_eq, row_of, fits, members_of, OwnSend}
+use Rattle.am_stands.proofs.Words.{◌∙◌, subst, arith, nat_tests, Entry, Data, View, GroupView, Stamp, Image, Report, has, stamp_eq, row_of, fits, members_of, OwnSend}
 use Rattle.am_stands.proofs.Words.{item_at, image_of, key, Group, IsUp, MayNumber, Kept, Node, view, is_member, acts, has_own_leave, body_of, hears_member}
 use Rattle.am_stands.proofs.Words.{hears_in_view, hears_sequencer, World, is_stopped, and_both, Cause, hears, MayStore, Numbers, asked_send, own_send}
 use Rattle.am_stands.proofs.Words.{asked_join, asked_leave, known_member, leave_fits, NameStands, within, line, IsDecided, EntrySays, OrderSays, LeaverSays}
@@ -78,14 +78,14 @@ order_needs w name from above base acc number sender req x v body s k who runs o
     (subst (λ b. EntrySays s from v acc number (Data sender req b)) same says.entry)
 
 -- and the View of the ballot that it promised
-pub result_needs : (w : World) (name from above base number : ℕ) (x : Node) (v : Stamp) (names : List ℕ) (resilience : ℕ) (s : Group) → Kept s
+pub result_needs : (w : World) (name from above base number : ℕ) (x : Node) (v : GroupView) (s : Group) → Kept s
     → x.core.who ≡ name → is_stopped w name ≡ false → NameStands (within w name x) name x (s.node name)
-    → hears_member x from ≡ true → (v.by == x.core.who) ≡ false → x.core.promise ≡ v → MayStore x above base number (View v names resilience)
-    → ResultSays s from v number names resilience → NeedsEntry s name x (View v names resilience)
-result_needs w name from above base number x v names resilience s k who runs old heard other promise may says =
+    → hears_member x from ≡ true → (v.stamp.by == x.core.who) ≡ false → x.core.promise ≡ v.stamp → MayStore x above base number (View v)
+    → ResultSays s from v.stamp number v.members v.resilience → NeedsEntry s name x (View v)
+result_needs w name from above base number x v s k who runs old heard other promise may says =
     let member = (and_both (not (from == x.core.who)) (is_member x.status) heard).1 in
-    entry_needs w name number x v (View v names resilience) s k who old (is_up w name x (s.node name) runs member old) promise
-    (λ same. (let z : (v.by == x.core.who) ≡ true = grind (arith, nat_tests) in cc)) (λ own. refl) says.decided says.stands may.next may.stays
+    entry_needs w name number x v.stamp (View v) s k who old (is_up w name x (s.node name) runs member old) promise
+    (λ same. (let z : (v.stamp.by == x.core.who) ≡ true = grind (arith, nat_tests) in cc)) (λ own. refl) says.decided says.stands may.next may.stays
 
 -- ---- what a sequencer numbers
 

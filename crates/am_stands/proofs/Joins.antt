@@ -86,33 +86,33 @@ became image n (Leave leaver) name long some = split ((at_place image leaver).li
     stayed z.0 (rw t (ap (λ (q : Row). q.joined) z.1)))
     (with_other image leaver name r long h)))
     (λ f. rw f (λ h. stayed h (rw f refl)))
-became image n (View stamp names resilience) name long some = λ h.
+became image n (View v) name long some = λ h.
     let place = place_of name in
-    let is = row_view image n stamp names resilience place (mod16 name) in
+    let is = row_view image n v place (mod16 name) in
     let now = subst (λ q. In q (life_of name)) is h in
     split (is_blank image)
-    (λ t. first t is (ap (λ b. row_after_view b n (slice_index names place) (row_at image place)) t) now)
-    (λ f. later is (ap (λ b. row_after_view b n (slice_index names place) (row_at image place)) f) now)
+    (λ t. first t is (ap (λ b. row_after_view b n (slice_index v.members place) (row_at image place)) t) now)
+    (λ f. later is (ap (λ b. row_after_view b n (slice_index v.members place) (row_at image place)) f) now)
   where
-    first : is_blank image ≡ true → row_at (after image n (View stamp names resilience)) (place_of name) ≡ row_after_view (is_blank image) n
-        (slice_index names (place_of name)) (row_at image (place_of name))
-        → row_after_view (is_blank image) n (slice_index names (place_of name)) (row_at image (place_of name))
-        ≡ row_after_view true n (slice_index names (place_of name)) (row_at image (place_of name))
-        → In (row_after_view (is_blank image) n (slice_index names (place_of name)) (row_at image (place_of name))) (life_of name)
-        → Becomes image n (View stamp names resilience) name
-    first t is same now = split (slice_index names (place_of name) == 0)
+    first : is_blank image ≡ true → row_at (after image n (View v)) (place_of name) ≡ row_after_view (is_blank image) n
+        (slice_index v.members (place_of name)) (row_at image (place_of name))
+        → row_after_view (is_blank image) n (slice_index v.members (place_of name)) (row_at image (place_of name))
+        ≡ row_after_view true n (slice_index v.members (place_of name)) (row_at image (place_of name))
+        → In (row_after_view (is_blank image) n (slice_index v.members (place_of name)) (row_at image (place_of name))) (life_of name)
+        → Becomes image n (View v) name
+    first t is same now = split (slice_index v.members (place_of name) == 0)
         (λ u. absurd (let old : In (row_at image (place_of name)) (life_of name) = rw u at (subst (λ q. In q (life_of name)) same now) in
         let none = blank_joined image (place_of name) t in omega arith))
         (λ f. founds refl t (ap (λ (q : Row). q.joined) (is ∙ same) ∙ rw f refl))
 
-    later : row_at (after image n (View stamp names resilience)) (place_of name) ≡ row_after_view (is_blank image) n (slice_index names (place_of name))
+    later : row_at (after image n (View v)) (place_of name) ≡ row_after_view (is_blank image) n (slice_index v.members (place_of name))
         (row_at image (place_of name))
-        → row_after_view (is_blank image) n (slice_index names (place_of name)) (row_at image (place_of name))
-        ≡ row_after_view false n (slice_index names (place_of name)) (row_at image (place_of name))
-        → In (row_after_view (is_blank image) n (slice_index names (place_of name)) (row_at image (place_of name))) (life_of name)
-        → Becomes image n (View stamp names resilience) name
+        → row_after_view (is_blank image) n (slice_index v.members (place_of name)) (row_at image (place_of name))
+        ≡ row_after_view false n (slice_index v.members (place_of name)) (row_at image (place_of name))
+        → In (row_after_view (is_blank image) n (slice_index v.members (place_of name)) (row_at image (place_of name))) (life_of name)
+        → Becomes image n (View v) name
     later is same now = split (nat_lt 0 (member_life (row_at image (place_of name))) && not
-        (member_life (row_at image (place_of name)) == slice_index names (place_of name)))
+        (member_life (row_at image (place_of name)) == slice_index v.members (place_of name)))
         (λ u. absurd (let k : In (record (row_at image (place_of name)) { left = n }) (life_of name) = rw u at (subst (λ q. In q (life_of name)) same now) in
         let none = k.left in omega arith))
         (λ f. stayed (rw f at (subst (λ q. In q (life_of name)) same now)) (ap (λ (q : Row). q.joined) (is ∙ same) ∙ rw f refl))
@@ -125,10 +125,10 @@ some_was (Data from req body) good = absurd
     (mem_nil from (and_left (has (members_of (image_of [])) from) (req == (row_of (image_of []) from).last + 1) (last_fits [] (Data from req body) good)))
 some_was (Join name) good = (name, joined_in [] name)
 some_was (Leave name) good = absurd (mem_nil name (last_fits [] (Leave name) good))
-some_was (View stamp names resilience) good = (
-  stamp.by,
-  viewed_mem [] stamp names resilience stamp.by good
-      (view_parts (image_of []) stamp names resilience (last_fits [] (View stamp names resilience) good)).by,
+some_was (View v) good = (
+  v.stamp.by,
+  viewed_mem [] v v.stamp.by good
+      (view_parts (image_of []) v (last_fits [] (View v) good)).by,
 )
 
 pub blank_nil : (list : List Entry) → IsGood list → is_blank (image_of list) ≡ true → list ≡ []

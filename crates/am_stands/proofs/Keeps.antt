@@ -405,11 +405,11 @@ keeps_by rules w v name c o x y s t (looks b verdict over why look is) plain q l
 keeps_by rules w v name c o x y s t (fetches from u base number e is heard promise below why may) plain q later =
     keep_pushed q e (other_heard rules w name c x s q.h from heard).1 refl may.fits refl (omega arith) refl refl refl refl refl
     (trimmed_grow w s t y.core.base q.g (trimmed_max s x.core.base base q.h.keeps.trimmed (q.h.heard (packet.Piece from u base number e) is).says.0))
-keeps_by rules w v name c o x y s t (stores_view from u base number names resilience is heard own other promise below may) plain q later =
-    keep_pushed q (View u names resilience) (other_heard rules w name c x s q.h from heard).1 refl may.fits refl
+keeps_by rules w v name c o x y s t (stores_view from base number u is heard own other promise below may) plain q later =
+    keep_pushed q (View u) (other_heard rules w name c x s q.h from heard).1 refl may.fits refl
     (omega arith) refl refl refl refl refl
     (trimmed_grow w s t y.core.base q.g
-    (trimmed_max s x.core.base base q.h.keeps.trimmed (q.h.heard (packet.Result from u base number names resilience) is).says.0))
+    (trimmed_max s x.core.base base q.h.keeps.trimmed (q.h.heard (packet.Result from base number u) is).says.0))
 keeps_by rules w v name c o x y s t (queues body is says_ member stays few) plain q later =
     keep_same q refl refl refl refl refl refl refl (turn_queued x.core.who (t.node name).list body x.sends
     (turn_grows x.core.who (s.node name).list (t.node name).list x.sends (q.g.each name).list q.h.keeps.turn))

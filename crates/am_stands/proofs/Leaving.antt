@@ -1,7 +1,7 @@
 -- Where a name left a list: its row tells the number, and there stands its Leave, or a View that left it out.
 use Rattle.am_stands.proofs.Words.{same_name, split, ◌≡◌, ◌≢◌, ⊎_elim, ℕ, ◌+◌, ◌<◌, ◌==◌, ◌&&◌, not, nat_lt, true, false, if◌then◌else◌, List, [], ◌∷◌, ◌++◌}
 use Rattle.am_stands.proofs.Words.{length, slice_index, refl, sym, ap, ◌∙◌, subst, arith, nat_tests, append_assoc, get_or-replicate, Entry, Data, Join, Leave}
-use Rattle.am_stands.proofs.Words.{View, Row, Image, Stamp, place_of, life_of, has, blank_row, is_blank, at_place, row_of, member_life, with_row}
+use Rattle.am_stands.proofs.Words.{View, Row, Image, GroupView, Stamp, place_of, life_of, has, blank_row, is_blank, at_place, row_of, member_life, with_row}
 use Rattle.am_stands.proofs.Words.{row_after_view, after, fold, Begins, image_of, mem, begins_refl, begins_more, begins_trans, row_at, row_view, In, mod16}
 use Rattle.am_stands.proofs.Words.{row_set, told_push, long_told, in_mem}
 use Rattle.std.proofs.lemmas.List.{append-nil}
@@ -37,7 +37,7 @@ left_other r life f = rw f refl
 pub data Leaves (image : Image) (n : ℕ) (e : Entry) (name : ℕ) : Type 0 where
   stayed : (row_of (after image n e) name).left ≡ (row_of image name).left → Leaves image n e name
   leaves : e ≡ Leave name → (row_of (after image n e) name).left ≡ n → Leaves image n e name
-  left_out : (v : Stamp) (names : List ℕ) (resilience : ℕ) → e ≡ View v names resilience → has names name ≡ false
+  left_out : (v : GroupView) → e ≡ View v → has v.members name ≡ false
       → In (row_at image (place_of name)) (life_of name) → (row_of (after image n e) name).left ≡ n → Leaves image n e name
   none : (row_of (after image n e) name).left ≡ 0 → Leaves image n e name
 
@@ -109,12 +109,12 @@ out_of r given life u same = split (nat_lt 0 r.joined && (r.left == 0))
     let here : (nat_lt 0 0 && not (0 == given)) ≡ true = subst (λ k. (nat_lt 0 k && not (k == given)) ≡ true) is u in
     cc))
 
-view_left : (image : Image) (n : ℕ) (v : Stamp) (names : List ℕ) (resilience name : ℕ) → Leaves image n (View v names resilience) name
-view_left image n v names resilience name =
-    let e = View v names resilience in
-    let given = slice_index names (place_of name) in
+view_left : (image : Image) (n : ℕ) (v : GroupView) (name : ℕ) → Leaves image n (View v) name
+view_left image n v name =
+    let e = View v in
+    let given = slice_index v.members (place_of name) in
     let r = row_at image (place_of name) in
-    let is = row_view image n v names resilience (place_of name) (mod16 name) in
+    let is = row_view image n v (place_of name) (mod16 name) in
     let at : (row_of (after image n e) name).left ≡ left_of (row_after_view (is_blank image) n given r) (life_of name) =
     row_left (after image n e) name ∙ ap (λ q. left_of q (life_of name)) is in
     split (is_blank image)
@@ -130,7 +130,7 @@ view_left image n v names resilience name =
     (λ same.
     let its : r.life ≡ life_of name = grind (arith, nat_tests) in
     let gone = out_of r given (life_of name) u its in
-    left_out v names resilience refl gone.1 gone.0 (here ∙ left_here next (life_of name) its))
+    left_out v refl gone.1 gone.0 (here ∙ left_here next (life_of name) its))
     (λ other. none (here ∙ left_other next (life_of name) other)))
     (λ g. stayed (at ∙ ap (λ q. left_of q (life_of name)) (viewed_same given n r g f) ∙ sym (row_left image name))))
   where
@@ -153,14 +153,14 @@ entry_left : (image : Image) (n : ℕ) (e : Entry) (name : ℕ) → length image
 entry_left image n (Data from req body) name long = stayed (data_left image n from req body name long)
 entry_left image n (Join joiner) name long = join_left image n joiner name long
 entry_left image n (Leave leaver) name long = leave_left image n leaver name long
-entry_left image n (View v names resilience) name long = view_left image n v names resilience name
+entry_left image n (View v) name long = view_left image n v name
 
 -- ---- the number where it left
 
 pub data LeavesAt (list : List Entry) (name left : ℕ) : Type 0 where
   by_leave : (before : List Entry) → length before + 1 ≡ left → Begins (before ++ Leave name ∷ []) list → LeavesAt list name left
-  by_view : (before : List Entry) (v : Stamp) (names : List ℕ) (resilience : ℕ) → length before + 1 ≡ left → mem before name ≡ true → has names name ≡ false
-      → Begins (before ++ View v names resilience ∷ []) list → LeavesAt list name left
+  by_view : (before : List Entry) (v : GroupView) → length before + 1 ≡ left → mem before name ≡ true → has v.members name ≡ false
+      → Begins (before ++ View v ∷ []) list → LeavesAt list name left
 
 abbrev LeftBy : List Entry → ℕ → Type 0
 LeftBy list name = 0 < (row_of (image_of list) name).left → LeavesAt list name (row_of (image_of list) name).left

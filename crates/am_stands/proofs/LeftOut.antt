@@ -1,6 +1,6 @@
 -- In every lawful run of the group, whom a View on the chain left out has stopped.
 use Rattle.am_stands.proofs.Words.{split, ◌≡◌, ⊎_elim, ℕ, List, [], ◌∷◌, ◌++◌, length, true, false, refl, sym, ap, ◌∙◌, subst, arith, Entry}
-use Rattle.am_stands.proofs.Words.{Leave, View, Stamp, has, Begins, NotView, mem, view_of, key, begins_more, begins_trans, begins_length, begins_pushed}
+use Rattle.am_stands.proofs.Words.{Leave, View, GroupView, Stamp, has, Begins, NotView, mem, view_of, key, begins_more, begins_trans, begins_length, begins_pushed}
 use Rattle.am_stands.proofs.Words.{length_push, good_begins, leaver_in, leaver_out, mem_between, mem_nil, Group, put, opening, chain_of, Move, MayDecide}
 use Rattle.am_stands.proofs.Words.{with_line, with_choice, choice_of, longer, numbers, stores, learns, begins, raises, fetches, gives_over, welcomes, asks}
 use Rattle.am_stands.proofs.Words.{departs, closes, stops, Kept, IsLawful, founded, more, start, first_stamp, put_same, put_at, list_chain, departed_in}
@@ -18,22 +18,22 @@ put_stops : (s : Group) (i : ℕ) (b : groups.Node) → ((s.node i).stopped ≡ 
 put_stops s i b new j = put_at (λ k (m : groups.Node). (s.node k).stopped ≡ true → m.stopped ≡ true) s.node i b new (λ k other h. h) j
 
 same_left : (s t : Group) → ((j : ℕ) → (s.node j).stopped ≡ true → (t.node j).stopped ≡ true) → chain_of t.views ≡ chain_of s.views → LeftOut s → LeftOut t
-same_left s t stays chain h a v names resilience name part member out =
-    stays name (h a v names resilience name (subst (Begins (a ++ View v names resilience ∷ [])) chain part) member out)
+same_left s t stays chain h a v name part member out =
+    stays name (h a v name (subst (Begins (a ++ View v ∷ [])) chain part) member out)
 
 -- ---- an entry more, that is no View
 
-is_no_view : (e : Entry) (v : Stamp) (names : List ℕ) (resilience : ℕ) → NotView e → View v names resilience ≡ e → ⊥
-is_no_view (View stamp members strong) v names resilience plain same = plain
-is_no_view _ v names resilience plain same = cc
+is_no_view : (e : Entry) (v : GroupView) → NotView e → View v ≡ e → ⊥
+is_no_view (View v) v plain same = plain
+is_no_view _ v plain same = cc
 
 line_left : (s t : Group) (e : Entry) → ((j : ℕ) → (s.node j).stopped ≡ true → (t.node j).stopped ≡ true) → NotView e
     → chain_of t.views ≡ chain_of s.views ++ e ∷ [] → LeftOut s → LeftOut t
-line_left s t e stays plain chain h a v names resilience name part member out = ⊎_elim
-    (λ (z : Begins (a ++ View v names resilience ∷ []) (chain_of s.views)). stays name (h a v names resilience name z member out))
-    (λ (z : a ++ View v names resilience ∷ [] ≡ chain_of s.views ++ e ∷ []).
-    absurd (is_no_view e v names resilience plain (same_from_push a (chain_of s.views) (View v names resilience) e z).1))
-    (begins_pushed e (subst (Begins (a ++ View v names resilience ∷ [])) chain part))
+line_left s t e stays plain chain h a v name part member out = ⊎_elim
+    (λ (z : Begins (a ++ View v ∷ []) (chain_of s.views)). stays name (h a v name z member out))
+    (λ (z : a ++ View v ∷ [] ≡ chain_of s.views ++ e ∷ []).
+    absurd (is_no_view e v plain (same_from_push a (chain_of s.views) (View v) e z).1))
+    (begins_pushed e (subst (Begins (a ++ View v ∷ [])) chain part))
 
 -- the chain of who numbers
 pub longer_chain : (s : Group) (i : ℕ) (b : groups.Node) (e : Entry) → Kept s → Leads i (s.node i) → b.list ≡ (s.node i).list ++ e ∷ []
@@ -58,32 +58,32 @@ none_departed s k lawful c members resilience d j member gone =
 
 choice_left : (s : Group) (k : Kept s) (lawful : IsLawful s) (c : ℕ) (members : List ℕ) (resilience : ℕ) → MayDecide s c members resilience → LeftOut s
     → LeftOut (with_choice s c members resilience)
-choice_left s k lawful c members resilience d h a v names strong name part member out =
+choice_left s k lawful c members resilience d h a v name part member out =
     let old = (s.node c).list in
     let e = View (s.node c).promise members resilience in
     let all = opening (choice_of (s.node c) members resilience) in
     let is : chain_of (with_choice s c members resilience).views ≡ all = put_same s.views.line (key (s.node c).promise) all in
     let stays = put_stops s c (record (s.node c) { list = all; ballot = false }) (λ t. t) in
     ⊎_elim
-    (λ (z : Begins (a ++ View v names strong ∷ []) old).
-    stays name (h a v names strong name (begins_trans z (list_chain s k lawful c members resilience d)) member out))
-    (λ (z : a ++ View v names strong ∷ [] ≡ old ++ e ∷ []).
-    (let last = (same_from_push a old (View v names strong) e z).1 in
-    let its : names ≡ members = ap (λ x. names_of_view x) last in
-    let one = length_push a (View v names strong) in
+    (λ (z : Begins (a ++ View v ∷ []) old).
+    stays name (h a v name (begins_trans z (list_chain s k lawful c members resilience d)) member out))
+    (λ (z : a ++ View v ∷ [] ≡ old ++ e ∷ []).
+    (let last = (same_from_push a old (View v) e z).1 in
+    let its : v.members ≡ members = ap (λ x. names_of_view x) last in
+    let one = length_push a (View v) in
     let two = length_push old e in
     let long = ap length z in
-    let front : a ≡ old = same_front a old (View v names strong) e z in
+    let front : a ≡ old = same_front a old (View v) e z in
     let here = subst (λ l. mem l name ≡ true) front member in
     stays name (split (s.node name).stopped
     (λ t. t)
     (λ goes. split (s.node name).departed
     (λ gone. absurd (none_departed s k lawful c members resilience d name here gone))
     (λ there. absurd (let in_ = d.all name here (record { goes = goes; stays = there }) in let o = ap (λ set. has set name) its ∙ in_ in cc))))))
-    (begins_pushed e (subst (Begins (a ++ View v names strong ∷ [])) is part))
+    (begins_pushed e (subst (Begins (a ++ View v ∷ [])) is part))
   where
     names_of_view : Entry → List ℕ
-    names_of_view (View stamp set strong) = set
+    names_of_view (View stamp set v.resilience) = set
     names_of_view _ = []
 
     same_front : (a b : List Entry) (x y : Entry) → a ++ x ∷ [] ≡ b ++ y ∷ [] → a ≡ b
@@ -118,11 +118,11 @@ moves_left s t _ k law h = same_left s t (λ j z. z) refl h
 -- ---- each run
 
 start_left : (founders : List ℕ) (first resilience : ℕ) → LeftOut (start founders first resilience)
-start_left founders first resilience a v names strong name part member out = ⊎_elim
-    (λ (low : Begins (a ++ View v names strong ∷ []) []). absurd (let long = begins_length low in let one = length_push a (View v names strong) in omega arith))
-    (λ (all : a ++ View v names strong ∷ [] ≡ [] ++ View (first_stamp first) founders resilience ∷ []).
+start_left founders first resilience a v name part member out = ⊎_elim
+    (λ (low : Begins (a ++ View v ∷ []) []). absurd (let long = begins_length low in let one = length_push a (View v) in omega arith))
+    (λ (all : a ++ View v ∷ [] ≡ [] ++ View (first_stamp first) founders resilience ∷ []).
     absurd (let long = ap length all in
-    let one = length_push a (View v names strong) in
+    let one = length_push a (View v) in
     mem_nil name (subst (λ l. mem l name ≡ true) (nothing a (omega arith)) member)))
     (begins_pushed (View (first_stamp first) founders resilience) part)
   where

@@ -227,13 +227,13 @@ letters_stay w v s t to (Gone i u number) more g h = λ name in_. gone_stays w v
 letters_stay w v s t to (VoteOf i u shown) more g h = (h.0, vote_stays w v s t g more i u shown h.1)
 letters_stay w v s t to (Fetch i u stored) more g h = fetch_stays w v s t g more i u to h
 letters_stay w v s t to (Piece i u base number e) more g h = (trimmed_stays w v s t g more base h.0, piece_stays w v s t g more i u number e h.1)
-letters_stay w v s t to (Result i u base number names resilience) more g h = (
+letters_stay w v s t to (Result i base number u) more g h = (
   trimmed_stays w v s t g more base h.0,
   λ own. (let k = h.1 own in
       record {
         by = k.by;
-        decided = decided_stays w v s t g more (key u) k.decided;
-        stands = item_stays (line s u) (line t u) number (View u names resilience) (g.lines (key u) k.decided) k.stands;
+        decided = decided_stays w v s t g more (key u.stamp) k.decided;
+        stands = item_stays (line s u.stamp) (line t u.stamp) number (View u) (g.lines (key u.stamp) k.decided) k.stands;
       }),
 )
 letters_stay w v s t to _ more g h = tt

@@ -29,11 +29,11 @@ same_view image n (e ∷ es) h = split (is_view e)
     (λ f. same_view (after image n e) (n + 1) es (rw f at h) ∙ (after_same image n e f).view)
 
 is_a_view : (v : Stamp) (e : Entry) → is_view_of v e ≡ true → is_view e ≡ true
-is_a_view v (View stamp names resilience) h = refl
+is_a_view v (View w) h = refl
 is_a_view v _ h = absurd (cc)
 
 pub viewed_as : (v : Stamp) (image : Image) (n : ℕ) (e : Entry) → is_view_of v e ≡ true → (after image n e).view ≡ v
-viewed_as v image n (View stamp names resilience) h = (after_view image n stamp names resilience).0 ∙ same_stamp stamp v h
+viewed_as v image n (View w) h = (after_view image n w).0 ∙ same_stamp w.stamp v h
 viewed_as v image n _ h = absurd (cc)
 
 -- where the list ends in another view
@@ -129,9 +129,9 @@ any_last p [] e h = rw h refl
 any_last p (x ∷ a) e h = split (p x) (λ t. rw t refl) (λ f. rw f (any_last p a e h))
 
 -- a view's line opens with its View
-pub opened : (v : Stamp) (before : List Entry) (names : List ℕ) (resilience : ℕ) (list : List Entry)
-    → Begins (before ++ View v names resilience ∷ []) (up_to_next v list) → HasViewOf v list
-opened v before names resilience list h =
-    let e = View v names resilience in
-    let there = any_front (is_view_of v) (before ++ e ∷ []) h.rest (any_last (is_view_of v) before e (stamp_itself v)) in
-    line_any (is_view_of v) v list (subst (λ l. list_any (is_view_of v) l ≡ true) h.same there)
+pub opened : (v.stamp : Stamp) (before : List Entry) (v.members : List ℕ) (v.resilience : ℕ) (list : List Entry)
+    → Begins (before ++ View v ∷ []) (up_to_next v.stamp list) → HasViewOf v.stamp list
+opened v.stamp before v.members v.resilience list h =
+    let e = View v in
+    let there = any_front (is_view_of v.stamp) (before ++ e ∷ []) h.rest (any_last (is_view_of v.stamp) before e (stamp_itself v.stamp)) in
+    line_any (is_view_of v.stamp) v.stamp list (subst (λ l. list_any (is_view_of v.stamp) l ≡ true) h.same there)

@@ -1,6 +1,6 @@
 -- Whose own Leave isn't in its list is still a member there, if it ever was.
 use Rattle.am_stands.proofs.Words.{split, ◌≡◌, ◌≢◌, ◌⊎◌, inl, inr, ⊎_elim, ℕ, ◌+◌, ◌==◌, ◌&&◌, not, nat_lt, List, [], ◌∷◌, ◌++◌, length, true, false}
-use Rattle.am_stands.proofs.Words.{slice_index, refl, sym, ap, ◌∙◌, subst, arith, nat_tests, Entry, Data, Join, Leave, View, Stamp, Row, Image, place_of}
+use Rattle.am_stands.proofs.Words.{slice_index, refl, sym, ap, ◌∙◌, subst, arith, nat_tests, Entry, Data, Join, Leave, View, GroupView, Stamp, Row, Image, place_of}
 use Rattle.am_stands.proofs.Words.{life_of, is_blank, at_place, row_of, member_life, with_row, row_after_view, after, Begins, BeginsBelow, IsGood, image_of}
 use Rattle.am_stands.proofs.Words.{mem, begins_same, begins_pushed, row_at, In, mod16, row_set, row_view, blank_joined, good_begins, told_push, long_told}
 use Rattle.am_stands.proofs.Words.{mem_in, in_mem, mem_push, Group, IsUp, IsOngoing, Kept}
@@ -31,23 +31,23 @@ view_row n given life r h = split (nat_lt 0 (member_life r) && not (member_life 
     (λ t. inr (rw t refl))
     (λ f. inl (rw f h))
 
-viewed_row : (image : Image) (n : ℕ) (stamp : Stamp) (names : List ℕ) (resilience name : ℕ) → length image.rows ≡ 16
+viewed_row : (image : Image) (n : ℕ) (v : GroupView) (name : ℕ) → length image.rows ≡ 16
     → In (row_at image (place_of name)) (life_of name)
-    → In (row_at (after image n (View stamp names resilience)) (place_of name)) (life_of name) ⊎
-    ((row_of (after image n (View stamp names resilience)) name).left ≡ n)
-viewed_row image n stamp names resilience name long h =
-    let next = after image n (View stamp names resilience) in
+    → In (row_at (after image n (View v)) (place_of name)) (life_of name) ⊎
+    ((row_of (after image n (View v)) name).left ≡ n)
+viewed_row image n v name long h =
+    let next = after image n (View v) in
     let place = place_of name in
-    let is = row_view image n stamp names resilience place (mod16 name) in
+    let is = row_view image n v place (mod16 name) in
     let full : is_blank image ≡ false = split (is_blank image) (λ t. absurd (let none = blank_joined image place t in let some = h.joined in omega arith))
     (λ f. f) in
-    let at : row_at next place ≡ row_after_view false n (slice_index names place) (row_at image place) = is
-    ∙ ap (λ b. row_after_view b n (slice_index names place) (row_at image place)) full in
+    let at : row_at next place ≡ row_after_view false n (slice_index v.members place) (row_at image place) = is
+    ∙ ap (λ b. row_after_view b n (slice_index v.members place) (row_at image place)) full in
     ⊎_elim
-    (λ (z : In (row_after_view false n (slice_index names place) (row_at image place)) (life_of name)). inl (subst (λ q. In q (life_of name)) (sym at) z))
-    (λ (z : row_after_view false n (slice_index names place) (row_at image place) ≡ record (row_at image place) { left = n }). inr
+    (λ (z : In (row_after_view false n (slice_index v.members place) (row_at image place)) (life_of name)). inl (subst (λ q. In q (life_of name)) (sym at) z))
+    (λ (z : row_after_view false n (slice_index v.members place) (row_at image place) ≡ record (row_at image place) { left = n }). inr
     (row_alive next name (record (row_at image place) { left = n }) (at ∙ z) h.is))
-    (view_row n (slice_index names place) (life_of name) (row_at image place) h)
+    (view_row n (slice_index v.members place) (life_of name) (row_at image place) h)
 
 -- ---- the last entry
 
@@ -62,14 +62,14 @@ last_keeps a (Leave leaver) name good member left = split (leaver == name)
     ∙ ap (λ (i : Image). (row_of i name).left) (told_push a (Leave name)) ∙ row in
     omega arith))
     (λ f. mem_push a (Leave leaver) name good (λ same. (let t : (leaver == name) ≡ true = grind (arith, nat_tests) in cc)) member)
-last_keeps a (View stamp names resilience) name good member left =
-    let e = View stamp names resilience in
+last_keeps a (View v) name good member left =
+    let e = View v in
     ⊎_elim
     (λ (z : In (row_at (after (image_of a) (1 + length a) e) (place_of name)) (life_of name)). in_mem (a ++ e ∷ []) name
     (subst (λ (i : Image). In (row_at i (place_of name)) (life_of name)) (sym (told_push a e)) z))
     (λ (z : (row_of (after (image_of a) (1 + length a) e) name).left ≡ 1 + length a). absurd
     (let y : (row_of (image_of (a ++ e ∷ [])) name).left ≡ 1 + length a = ap (λ (i : Image). (row_of i name).left) (told_push a e) ∙ z in omega arith))
-    (viewed_row (image_of a) (1 + length a) stamp names resilience name (long_told a) (mem_in a name member))
+    (viewed_row (image_of a) (1 + length a) v name (long_told a) (mem_in a name member))
 
 -- ---- the whole list
 

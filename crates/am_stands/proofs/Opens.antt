@@ -83,7 +83,7 @@ same_lines s t decided lines h x list d some part =
     record { decided = ap (λ f. f (key (view_of list))) decided ∙ o.decided; line_ = subst (λ f. Begins list (f (key (view_of list)))) (sym lines) o.line_ }
 
 pub numbers_plain : (node : ℕ → groups.Node) (i : ℕ) (e : Entry) → MayNumber node i e → NotView e
-numbers_plain node i (View stamp members resilience) may = may
+numbers_plain node i (View v) may = may
 numbers_plain node i _ may = tt
 
 pub moves_open : (s t : Group) → Move s t → Kept s → LinesOpen s → LinesOpen t

@@ -62,7 +62,7 @@ plain_number a e f = ap (λ (g : Image). g.view_number) (told_push a e) ∙ (aft
 
 pub view_its : (image : Image) (number : ℕ) (e : Entry) → is_view e ≡ true → (after image number e).view_number ≡ number
 unfolding after
-view_its image number (View stamp names resilience) t = refl
+view_its image number (View v) t = refl
 view_its image number _ t = absurd (cc)
 
 -- where no View stands from a number on, the last one's number is as before it
@@ -100,7 +100,7 @@ number_low list = let r = fold_low blank 1 list (omega arith) in omega arith
 -- ---- who counts is concerned
 
 plain_counts : (e : Entry) (before : List ℕ) → is_view e ≡ false → counted_of (Some e) before ≡ before
-plain_counts (View stamp names resilience) before f = absurd (cc)
+plain_counts (View v) before f = absurd (cc)
 plain_counts _ before f = refl
 
 pub next_part : (list : List Entry) (n : ℕ) (e : Entry) → n < length list → slice_get list n ≡ Some e → take (n + 1) list ≡ take n list ++ e ∷ []
@@ -125,16 +125,16 @@ no_none (e ∷ list) (suc n) low is = no_none list n (omega arith) is
 
 stood_view : (list : List Entry) (n name : ℕ) (e : Entry) → IsGood list → n < length list → (image_of list).view_number ≤ n + 1
     → is_view e ≡ true → slice_get list n ≡ Some e → has (counted_of (Some e) (members_of (image_of (take n list)))) name ≡ true → Stood list (n + 1) name
-stood_view list n name (View stamp names resilience) good low high t is h =
-    let part = next_part list n (View stamp names resilience) low is in
+stood_view list n name (View v) good low high t is h =
+    let part = next_part list n (View v) low is in
     let long : length (take (n + 1) list) ≡ n + 1 = length_take (n + 1) list (omega arith) in
-    let good_part : IsGood (take n list ++ View stamp names resilience ∷ []) = subst IsGood part (good_begins (begins_take (n + 1) list) good) in
+    let good_part : IsGood (take n list ++ View v ∷ []) = subst IsGood part (good_begins (begins_take (n + 1) list) good) in
     record {
       upto = take (n + 1) list;
       begins_ = begins_take (n + 1) list;
       near = omega arith;
       from = omega arith;
-      member = subst (λ l. mem l name ≡ true) (sym part) (viewed_mem (take n list) stamp names resilience name good_part h);
+      member = subst (λ l. mem l name ≡ true) (sym part) (viewed_mem (take n list) v name good_part h);
     }
 stood_view list n name _ good low high t is h = absurd (cc)
 

@@ -14,12 +14,12 @@ use Rattle.am_stands.proofs.{Sent.promise_line, Heard.item_next, Heard.entry_nee
 -- ---- the line of a list's last view is all of the list
 
 pub plain : (e : Entry) → is_view e ≡ false → NotView e
-plain (View stamp names resilience) h = absurd (cc)
+plain (View v) h = absurd (cc)
 plain _ h = tt
 
 rises : (a : List Entry) (e : Entry) → is_view e ≡ true → IsGood (a ++ e ∷ []) → key (view_of a) < key (view_of (a ++ e ∷ []))
-rises a (View stamp names resilience) h g = subst (λ (u : Stamp). key (view_of a) < key u) (sym (view_viewed a stamp names resilience))
-    (view_below a stamp names resilience g)
+rises a (View v) h g = subst (λ (u : Stamp). key (view_of a) < key u) (sym (view_viewed a v))
+    (view_below a v g)
 rises a _ h g = absurd (cc)
 
 -- behind the last View there is none
@@ -45,7 +45,7 @@ no_next (e ∷ es) h = split (is_view e)
     (λ f. rw f (ap (λ l. e ∷ l) (no_next es (rw f at h))))
 
 viewed_now : (v : Stamp) (a : List Entry) (e : Entry) → is_view_of v e ≡ true → view_of (a ++ e ∷ []) ≡ v
-viewed_now v a (View stamp names resilience) h = view_viewed a stamp names resilience ∙ same_stamp stamp v h
+viewed_now v a (View w) h = view_viewed a w ∙ same_stamp w.stamp v h
 viewed_now v a _ h = absurd (cc)
 
 all_line : (v : Stamp) (a es : List Entry) → IsGood (a ++ es) → view_of (a ++ es) ≡ v → up_to_next v es ≡ es

@@ -162,9 +162,9 @@ new_before image n (Leave leaver) name long some fit = split ((at_place image le
     (λ t. rw t (row_before image leaver name (record (at_place image leaver) { left = n }) long
     (λ place h. (let at = ap (λ p. row_at image p) place in subst (λ r. NewRow r (life_of name)) (sym at) h))))
     (λ f. rw f (λ h. h))
-new_before image n (View stamp names resilience) name long some fit = λ h.
-    let is = row_view image n stamp names resilience (place_of name) (mod16 name) in
-    viewed_row (is_blank image) n (slice_index names (place_of name)) (life_of name) (row_at image (place_of name)) (blank_joined image (place_of name))
+new_before image n (View v) name long some fit = λ h.
+    let is = row_view image n v (place_of name) (mod16 name) in
+    viewed_row (is_blank image) n (slice_index v.members (place_of name)) (life_of name) (row_at image (place_of name)) (blank_joined image (place_of name))
     (subst (λ r. NewRow r (life_of name)) is h)
 
 -- who is known to a sequencer isn't new

@@ -1,6 +1,6 @@
 -- The Result that is sent is so: a sequencer's View stands in the line of its view.
 use Rattle.am_stands.proofs.Words.{◌≡◌, ℕ, suc, ◌+◌, ◌-◌, ◌<◌, ◌==◌, true, false, List, [], ◌∷◌, ◌++◌, length, Some, slice_get, refl, sym, ap, ◌∙◌, subst}
-use Rattle.am_stands.proofs.Words.{arith, list_any, nat_tests, Entry, View, Image, Stamp, stamp_eq, after, fold, entry_at, item_at, Begins, IsGood, image_of}
+use Rattle.am_stands.proofs.Words.{arith, list_any, nat_tests, Entry, View, Image, GroupView, Stamp, stamp_eq, after, fold, entry_at, item_at, Begins, IsGood, image_of}
 use Rattle.am_stands.proofs.Words.{view_of, key, next_of, told_push, view_viewed, Group, opening, Node, view, is_member, is_sequencer, is_view, viewed_by}
 use Rattle.am_stands.proofs.Words.{World, split, MayTell, leads, decided, after_same, after_view, ResultSays, OwnDecided}
 use Rattle.am_base.proofs.Members.{fold_append}
@@ -20,17 +20,17 @@ plain_fold image n (e ∷ es) h = split (is_view e)
     let one = after_same image n e f in
     (r.0 ∙ one.number, r.1 ∙ one.resilience))
 
-pub last_view_at : (before : List Entry) (v : Stamp) (names : List ℕ) (resilience : ℕ) (list : List Entry) → IsGood list
-    → Begins (before ++ View v names resilience ∷ []) list → view_of list ≡ v
-    → ((image_of list).view_number ≡ length before + 1) × ((image_of list).resilience ≡ resilience)
-last_view_at before v names resilience list good h viewed =
-    let e = View v names resilience in
+pub last_view_at : (before : List Entry) (v : GroupView) (list : List Entry) → IsGood list
+    → Begins (before ++ View v ∷ []) list → view_of list ≡ v.stamp
+    → ((image_of list).view_number ≡ length before + 1) × ((image_of list).resilience ≡ v.resilience)
+last_view_at before v list good h viewed =
+    let e = View v in
     let a = before ++ e ∷ [] in
-    let none = none_after a h.rest (subst IsGood (sym h.same) good) (ap view_of h.same ∙ viewed ∙ sym (view_viewed before v names resilience)) in
+    let none = none_after a h.rest (subst IsGood (sym h.same) good) (ap view_of h.same ∙ viewed ∙ sym (view_viewed before v)) in
     let rest = plain_fold (image_of a) (1 + length a) h.rest none in
     let all : image_of list ≡ fold (image_of a) (1 + length a) h.rest = ap image_of (sym h.same) ∙ fold_append _ 1 a h.rest in
     let last = told_push before e in
-    let its = after_view (image_of before) (1 + length before) v names resilience in
+    let its = after_view (image_of before) (1 + length before) v in
     let number : (image_of list).view_number ≡ 1 + length before = ap (λ (g : Image). g.view_number) all ∙ rest.0 ∙ ap (λ (g : Image). g.view_number) last
     ∙ its.1 in
     (omega arith, ap (λ (g : Image). g.resilience) all ∙ rest.1 ∙ ap (λ (g : Image). g.resilience) last ∙ its.2)

@@ -33,6 +33,7 @@ pub use Rattle.std.{proofs.Common.count_by, proofs.Common.append-nil, proofs.Mat
 pub use Rattle.std.{proofs.Math.Seq.drop-append-add, proofs.Math.Seq.drop-append_seam, proofs.lemmas.Bool.leb-true, proofs.lemmas.Bool.eqb-false}
 pub use Rattle.std.{proofs.lemmas.Bool.eqb-true, proofs.lemmas.Grind.flat_map-append, specs.List.list_all}
 pub use Rattle.std.proofs.lemmas.List.{length-append, append_assoc, get_or-set_other, take-append-drop}
+pub use Rattle.am_base.specs.declared.entry.GroupView.{GroupView}
 pub use Rattle.am_base.specs.{Names.is_within, Lists.with_row, Lists.requests_of, Lists.request_in, Stamps.no_stamp}
 pub use Rattle.am_base.specs.Fronts.{counted_at, need_at, holders_at, is_held, is_satisfied, is_front, counted_of}
 pub use Rattle.am_base.specs.declared.event.NodeEvent.TheVariants.{Done, State, Ask, GiveUp, Tick, Hear}

@@ -1,5 +1,6 @@
 -- Whose list isn't on the chain any more, and so what a decision finds of leavers.
 use Rattle.std.specs.Prelude.{◌≡◌, ◌⊎◌, ℕ, ◌≤◌, List, [], ◌∷◌, ◌++◌, length, Some, true, false, All}
+use Rattle.am_base.specs.declared.entry.GroupView.{GroupView}
 use Rattle.am_base.specs.declared.name.Stamp.{Stamp}
 use Rattle.am_base.specs.declared.entry.Entry.{Entry}
 use Rattle.am_base.specs.declared.entry.Entry.TheVariants.{View}
@@ -15,9 +16,9 @@ use Rattle.am_stands.specs.Growing.{DecidesNew}
 -- the list of a name that hasn't departed begins the chain, or it was left out by a View on it, up to where it did
 pub data OnBranch (s : Group) (i : ℕ) : Type 0 where
   on_chain : Begins (s.node i).list (chain_of s.views) → OnBranch s i
-  left_out : (a : List Entry) (v : Stamp) (names : List ℕ) (resilience : ℕ) (branch : List Entry)
-      → Begins (a ++ View v names resilience ∷ []) (chain_of s.views)
-      → Begins a branch → Begins (s.node i).list branch → IsGood branch → mem a i ≡ true → has names i ≡ false → OnBranch s i
+  left_out : (a : List Entry) (v : GroupView) (branch : List Entry)
+      → Begins (a ++ View v ∷ []) (chain_of s.views)
+      → Begins a branch → Begins (s.node i).list branch → IsGood branch → mem a i ≡ true → has v.members i ≡ false → OnBranch s i
 
 -- of each such name, also one that has stopped: its own Leave is the last entry of its list, or isn't there; and what a voter of an
 -- unfinished ballot has, it has shown, or the coordinator has it

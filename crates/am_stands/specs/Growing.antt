@@ -44,7 +44,7 @@ LettersStay = (w v : World) (s t : Group) (to : List ℕ) (p : Packet) → (rest
 
 -- of a decision it is so that its view is a new one, which found all that was accepted
 abbrev pub DecidesNew : {s t : Group} → Move s t → Type 0
-DecidesNew {s = s} {t = t} (decides i members resilience may) = (s.views.decided (key (s.node i).promise) ≡ false) × NewView s t (key (s.node i).promise)
+DecidesNew {s = s} {t = t} (decides i v may) = (s.views.decided (key (s.node i).promise) ≡ false) × NewView s t (key (s.node i).promise)
 DecidesNew _ = Unit {0}
 
 -- with each move the group goes on so

@@ -1,5 +1,6 @@
 -- What each letter says that is so of the group, when it is sent and when it is heard.
 use Rattle.std.specs.Prelude.{◌≡◌, ◌≢◌, ◌⊎◌, ℕ, ◌+◌, ◌<◌, ◌≤◌, List, [], ◌∷◌, ◌++◌, length, take, Some, true, false, slice_get}
+use Rattle.am_base.specs.declared.entry.GroupView.{GroupView}
 use Rattle.am_base.specs.declared.name.Stamp.{Stamp}
 use Rattle.am_base.specs.declared.image.Report.{Report}
 use Rattle.am_base.specs.declared.image.Vote.{Vote}
@@ -146,10 +147,10 @@ pub data PieceSays (s : Group) (sender : ℕ) (v : Stamp) (number : ℕ) (e : En
   of_shown : ShownEntry s sender v number e → PieceSays s sender v number e
   over : v.by ≢ sender → IsDecided s v → PieceSays s sender v number e
 
-pub record ResultSays (s : Group) (sender : ℕ) (v : Stamp) (number : ℕ) (names : List ℕ) (resilience : ℕ) : Type 0 where
-  pub by : v.by ≡ sender
-  pub decided : IsDecided s v
-  pub stands : item_at (line s v) number ≡ Some (View v names resilience)
+pub record ResultSays (s : Group) (sender number : ℕ) (v : GroupView) : Type 0 where
+  pub by : v.stamp.by ≡ sender
+  pub decided : IsDecided s v.stamp
+  pub stands : item_at (line s v.stamp) number ≡ Some (View v)
 
 -- ---- each packet, to these names; what it trims was stored
 
@@ -167,7 +168,7 @@ PacketSays w s to (Gone i v number) = (name : ℕ) → has to name ≡ true → 
 PacketSays w s to (VoteOf i v vote) = (vote.view.by < 256) × VoteSays s i v vote
 PacketSays w s to (Fetch i v stored) = FetchSays s i v to
 PacketSays w s to (Piece i v base number e) = Trimmed s base × PieceSays s i v number e
-PacketSays w s to (Result i v base number names resilience) = Trimmed s base × (v.by ≡ i → ResultSays s i v number names resilience)
+PacketSays w s to (Result i base number v) = Trimmed s base × (v.stamp.by ≡ i → ResultSays s i number v)
 PacketSays w s to _ = Unit {0}
 
 -- and the stamp of each was begun, and isn't above its sender's promise (am_runs)

@@ -12,7 +12,7 @@ abbrev pub NamesNamed : Entry → Type 0
 NamesNamed (Data from req body) = Unit {0}
 NamesNamed (Join name) = name < 256
 NamesNamed (Leave name) = Unit {0}
-NamesNamed (View stamp members resilience) = IsSet members
+NamesNamed (View v) = IsSet v.members
 
 -- at a decision each other name of the View has voted for no better list, whether it stopped or not
 abbrev pub AllVoted : (s : Group) (i : ℕ) → (ℕ → Type 0) → Type 0
@@ -21,7 +21,7 @@ AllVoted s i in_view = (j : ℕ) → in_view j → (j ≡ i) ⊎ Voted s (key (s
 -- what is so of a move within a step besides what the group asks of it
 abbrev pub MoveOk : {s t : Group} → Move s t → Type 0
 MoveOk (numbers i e leads fit may) = NamesNamed e
-MoveOk {s = s} (decides i members resilience may) = IsSet members × AllVoted s i (λ j. has members j ≡ true)
+MoveOk {s = s} (decides i v may) = IsSet v.members × AllVoted s i (λ j. has v.members j ≡ true)
 MoveOk (stops i) = ⊥
 MoveOk _ = Unit {0}
 

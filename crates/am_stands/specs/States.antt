@@ -1,5 +1,6 @@
 -- What states keep besides what they share with the group.
 use Rattle.std.specs.Prelude.{◌≡◌, ◌≢◌, ◌⊎◌, ℕ, ◌<◌, ◌≤◌, List, [], ◌∷◌, ◌++◌, length, take, Option, Some, None, true, false}
+use Rattle.am_base.specs.declared.entry.GroupView.{GroupView}
 use Rattle.am_base.specs.declared.image.Report.{Report}
 use Rattle.am_base.specs.declared.image.Vote.{Vote}
 use Rattle.am_base.specs.declared.entry.Entry.{Entry}
@@ -114,8 +115,8 @@ RunsHaveRounds = (founders : List ℕ) (first resilience : ℕ) (s : Group) → 
 
 -- whom a View on the chain left out has stopped
 abbrev pub LeftOut : Group → Type 0
-LeftOut s = (a : List Entry) (v : Stamp) (names : List ℕ) (resilience name : ℕ) → Begins (a ++ View v names resilience ∷ []) (chain_of s.views)
-    → mem a name ≡ true → has names name ≡ false → (s.node name).stopped ≡ true
+LeftOut s = (a : List Entry) (v : GroupView) (name : ℕ) → Begins (a ++ View v ∷ []) (chain_of s.views)
+    → mem a name ≡ true → has v.members name ≡ false → (s.node name).stopped ≡ true
 
 -- in every lawful run of the group
 abbrev pub RunsLeaveOut : Type 0

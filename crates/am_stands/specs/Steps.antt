@@ -114,7 +114,7 @@ Needs {m = m} s name (stores from v base acc number e by heard plain may) = Need
 Needs {m = m} s name (begins_list from v base join image is o may) = NeedsWelcome s name v base join image
 Needs s name (looks b verdict over why look is) = NeedsLook s name look
 Needs {m = m} s name (fetches from v base number e is by promise below why may) = NeedsPiece s name m e
-Needs {m = m} s name (stores_view from v base number names resilience is by own other promise below may) = NeedsEntry s name m (View v names resilience)
+Needs {m = m} s name (stores_view from base number v is by own other promise below may) = NeedsEntry s name m (View v)
 Needs s name (closes leads leaves alone room) = ⊥
 Needs s name _ = Unit {0}
 

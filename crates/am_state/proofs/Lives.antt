@@ -64,12 +64,12 @@ used_after image number (Join name) n is = with_row_used image name (record { li
 used_after image number (Leave name) n is = split ((at_place image name).life == life_of name)
     (λ t. rw t (with_row_used image name (record (at_place image name) { left = number }) is (is.unused (place_of name) (omega arith))))
     (λ f. rw f is)
-used_after image number (View stamp members resilience) n is = record {
-  places = length-by_place (λ place. row_after_view (is_blank image) number (slice_index members place) (row_at image place));
+used_after image number (View v) n is = record {
+  places = length-by_place (λ place. row_after_view (is_blank image) number (slice_index v.members place) (row_at image place));
   unused = λ place h.
       let P : Row → Type 0 = λ x. x.joined ≡ 0 → x.life ≡ 0 in
-      subst P (sym (get_or-by_place (λ place. row_after_view (is_blank image) number (slice_index members place) (row_at image place)) place blank_row h))
-      (viewed_used (is_blank image) number (slice_index members place) (row_at image place) (is.unused place h));
+      subst P (sym (get_or-by_place (λ place. row_after_view (is_blank image) number (slice_index v.members place) (row_at image place)) place blank_row h))
+      (viewed_used (is_blank image) number (slice_index v.members place) (row_at image place) (is.unused place h));
 }
 
 blank_all : (a b c d : Bool) → (a && (b && (c && d))) ≡ true → d ≡ true
@@ -109,13 +109,13 @@ abbrev pub JoinFits : Image → Entry → Type 0
 JoinFits image (Data from req body) = Unit {0}
 JoinFits image (Join name) = fits image (Join name) ≡ true
 JoinFits image (Leave name) = Unit {0}
-JoinFits image (View stamp names resilience) = Unit {0}
+JoinFits image (View v) = Unit {0}
 
 pub any_fits : (image : Image) (e : Entry) → fits image e ≡ true → JoinFits image e
 any_fits image (Data from req body) h = tt
 any_fits image (Join name) h = h
 any_fits image (Leave name) h = tt
-any_fits image (View stamp names resilience) h = tt
+any_fits image (View v) h = tt
 
 unfoldable pub JoinsFit : Image → ℕ → List Entry → Type 0
 JoinsFit image n [] = Unit {0}
@@ -141,10 +141,10 @@ life_after image number (Join name) place h is fit =
 life_after image number (Leave name) place h is fit = split ((at_place image name).life == life_of name)
     (λ t. rw t (with_row_grows image name (record (at_place image name) { left = number }) place is.places h (omega arith)))
     (λ f. rw f (omega arith))
-life_after image number (View stamp members resilience) place h is fit =
+life_after image number (View v) place h is fit =
     let P : Row → Type 0 = λ x. (row_at image place).life ≤ x.life in
-    subst P (sym (get_or-by_place (λ place. row_after_view (is_blank image) number (slice_index members place) (row_at image place)) place blank_row h))
-    (viewed_grows (is_blank image) number (slice_index members place) (row_at image place)
+    subst P (sym (get_or-by_place (λ place. row_after_view (is_blank image) number (slice_index v.members place) (row_at image place)) place blank_row h))
+    (viewed_grows (is_blank image) number (slice_index v.members place) (row_at image place)
     (λ t. blank_lives image.rows place (blank_all (stamp_eq image.view no_stamp) (image.view_number == 0) (image.resilience == 0)
     (list_all is_blank_row image.rows) t)))
 

@@ -16,7 +16,7 @@ unfolding after
 same_view image number (Data from req body) = split ((at_place image from).life == life_of from) (λ t. rw t (inl (refl, refl))) (λ t. rw t (inl (refl, refl)))
 same_view image number (Join name) = inl (refl, refl)
 same_view image number (Leave name) = split ((at_place image name).life == life_of name) (λ t. rw t (inl (refl, refl))) (λ t. rw t (inl (refl, refl)))
-same_view image number (View stamp members resilience) = inr refl
+same_view image number (View v) = inr refl
 
 -- the last view's number never falls
 pub view_grows : (image : Image) (number : ℕ) (es : List Entry) → image.view_number < number → image.view_number ≤ (fold image number es).view_number

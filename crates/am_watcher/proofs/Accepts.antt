@@ -1,4 +1,5 @@
 -- What an entry of the group list makes of what is kept.
+use Rattle.am_base.specs.declared.entry.GroupView.{GroupView}
 use Rattle.am_watcher.proofs.WatchWords.{◌≡◌, ℕ, List, [], ◌∷◌, map, Option, Some, None, refl, ap, ◌∙◌, Stamp, Entry, Data, Join, Leave, View, Pending, Watching}
 use Rattle.am_watcher.proofs.WatchWords.{number_of, or_else, place_among, place_view, accept}
 
@@ -32,8 +33,8 @@ pub accepts_leave : (k : Watching) (number name : ℕ) → accept k number (Leav
 unfolding number_of
 accepts_leave k number name = none_placed k number (Leave name) (λ s. refl)
 
-pub accepts_view : (k : Watching) (number : ℕ) (stamp : Stamp) (members : List ℕ) (resilience : ℕ)
-    → accept k number (View stamp members resilience ∷ []) ≡ record k { pending = map (place_view number stamp) k.pending }
+pub accepts_view : (k : Watching) (number : ℕ) (v : GroupView)
+    → accept k number (View v ∷ []) ≡ record k { pending = map (place_view number v.stamp) k.pending }
 unfolding number_of
-accepts_view k number stamp members resilience = ap (λ ps. record k { pending = ps })
-    (both_each (place_among number (View stamp members resilience ∷ [])) (place_view number stamp) (λ v. refl) k.pending)
+accepts_view k number w = ap (λ ps. record k { pending = ps })
+    (both_each (place_among number (View w ∷ [])) (place_view number w.stamp) (λ v. refl) k.pending)

@@ -3,7 +3,7 @@ use Rattle.am_watching.proofs.Words.{or_parts, not-true, cases_lt, or-true, or-f
 use Rattle.am_watching.proofs.Words.{if◌then◌else◌, List, [], ◌∷◌, ◌++◌, length, map, filter, replicate, count_by, min, nat_le, nat_lt, Option, Some, None}
 use Rattle.am_watching.proofs.Words.{slice_index_or, slice_set, refl, sym, ap, ◌∙◌, subst, inl, inr, arith, set-set, get_or-set_same, get_or-set_other}
 use Rattle.am_watching.proofs.Words.{length-set, length-append, length-replicate, get_or-replicate, append-nil, map-append, get_or_past, filter-append}
-use Rattle.am_watching.proofs.Words.{list_any-append, nat_tests, list_any, Stamp, Entry, Data, Join, Leave, View, has, size, names_of, stamp_lt, stamp_eq}
+use Rattle.am_watching.proofs.Words.{list_any-append, nat_tests, list_any, GroupView, Stamp, Entry, Data, Join, Leave, View, has, size, names_of, stamp_lt, stamp_eq}
 use Rattle.am_watching.proofs.Words.{Node, view, is_member, set_at, has_departed, Decided, World, last_view, Watch, is_view_of, split, and_both, DecidedView}
 use Rattle.am_watching.proofs.Words.{Standing, Pending, Watching, blank_standing, standing, is_by, number_of, or_else, same_flag, is_alike, with_standing}
 use Rattle.am_watching.proofs.Words.{new_pending, decided_views, with_decided, with_entries, store_view, note_entries, note_entry, is_view, finish}
@@ -148,9 +148,9 @@ map_twice f g h e [] = refl
 map_twice f g h e (x ∷ xs) = ap (λ y. y ∷ map f (map g xs)) (e x) ∙ ap (λ ys. h x ∷ ys) (map_twice f g h e xs)
 
 -- one entry and then the others
-entered_twice : (name : ℕ) (stamp : Stamp) (members : List ℕ) (resilience : ℕ) (es : List Entry) (v : Pending)
-    → entered name es (store_view name stamp v) ≡ entered name (View stamp members resilience ∷ es) v
-entered_twice name stamp members resilience es v = split (stamp_eq stamp v.view.stamp)
+entered_twice : (name : ℕ) (w : GroupView) (es : List Entry) (v : Pending)
+    → entered name es (store_view name w.stamp v) ≡ entered name (View w ∷ es) v
+entered_twice name w es v = split (stamp_eq w.stamp v.view.stamp)
     (λ t. split (list_any (is_view_of v.view.stamp) es)
     (λ u. rw t (rw u (ap (λ stored. record v { stored = stored }) (set-set v.stored name true true))))
     (λ u. rw t (rw u refl)))
@@ -162,8 +162,8 @@ noted_is name [] ps = map_self ps
 noted_is name (Data from req body ∷ es) ps = noted_is name es ps
 noted_is name (Join joiner ∷ es) ps = noted_is name es ps
 noted_is name (Leave leaver ∷ es) ps = noted_is name es ps
-noted_is name (View stamp members resilience ∷ es) ps = noted_is name es (map (store_view name stamp) ps)
-    ∙ map_twice (entered name es) (store_view name stamp) (entered name (View stamp members resilience ∷ es)) (entered_twice name stamp members resilience es)
+noted_is name (View v ∷ es) ps = noted_is name es (map (store_view name v.stamp) ps)
+    ∙ map_twice (entered name es) (store_view name v.stamp) (entered name (View v ∷ es)) (entered_twice name v es)
     ps
 
 views_noted : (name : ℕ) (entries : List Entry) (ps : List Pending)
@@ -311,11 +311,11 @@ not_decided true false c h = refl
 not_decided false b c h = refl
 
 pub view_one : (s : Stamp) (e : Entry) → is_view e ≡ false → is_view_of s e ≡ false
-view_one s (View stamp members resilience) h = absurd (cc)
+view_one s (View v) h = absurd (cc)
 view_one s _ h = refl
 
 entry_none : (name : ℕ) (e : Entry) (ps : List Pending) → is_view e ≡ false → note_entry name e ps ≡ ps
-entry_none name (View stamp members resilience) ps h = absurd (cc)
+entry_none name (View v) ps h = absurd (cc)
 entry_none name _ ps h = refl
 
 noted_none : (name : ℕ) (entries : List Entry) (ps : List Pending) → list_any is_view entries ≡ false → note_entries name entries ps ≡ ps

@@ -49,7 +49,7 @@ one_of (Some e) = e ∷ []
 
 -- the View that made a view
 abbrev pub last_view : DecidedView → Entry
-last_view v = View v.stamp v.members v.resilience
+last_view v = View (record { stamp = v.stamp; members = v.members; resilience = v.resilience })
 
 -- the Views that a name stored in a step: the last one, where it is a new one, and before that what was fetched, where the
 -- name then decided a view

@@ -25,7 +25,7 @@ abbrev pub view_of : Node → DecidedView
 view_of n = record { number = (image_of n).view_number; stamp = view n; members = members n; resilience = (image_of n).resilience }
 
 abbrev pub decided_of : DecidedView → Decided
-decided_of v = record { number = v.number; stamp = v.stamp; members = v.members; resilience = v.resilience }
+decided_of v = record { number = v.number; view = record { stamp = v.stamp; members = v.members; resilience = v.resilience } }
 
 -- ---- what is kept is so
 

@@ -133,7 +133,7 @@ abbrev pub note_entry : ℕ → Entry → List Pending → List Pending
 note_entry name (Data from req body) pending = pending
 note_entry name (Join joiner) pending = pending
 note_entry name (Leave leaver) pending = pending
-note_entry name (View stamp members resilience) pending = map (store_view name stamp) pending
+note_entry name (View v) pending = map (store_view name v.stamp) pending
 
 -- the views that may become complete, once the name stored these entries
 unfoldable pub note_entries : ℕ → List Entry → List Pending → List Pending
@@ -144,7 +144,7 @@ abbrev pub is_view : Entry → Bool
 is_view (Data from req body) = false
 is_view (Join name) = false
 is_view (Leave name) = false
-is_view (View stamp members resilience) = true
+is_view (View v) = true
 
 -- a name stored an entry, and several
 abbrev pub with_entry : Watching → ℕ → Entry → Watching
