@@ -6,6 +6,7 @@ ghost use Rattle.am_audit.specs.Fields.{told_number, send_of, answer_of, take_of
 
 use crate::outline::Outline;
 use am_base::limits::MOST_BODY;
+use am_base::entry::GroupView;
 use am_base::name::Name;
 use am_fields::body::is_body;
 use am_fields::cut::cut;
@@ -88,11 +89,11 @@ fn view(text: &[u8]) -> Result<Outline, FieldFault>
         Some(word) => lettered_resilience(word)?,
         None => 0,
     };
-    Ok(Outline::View {
+    Ok(Outline::View(GroupView {
         stamp,
         members,
         resilience,
-    })
+    }))
 }
 
 /// An entry, but for its body, which is looked at alone.

@@ -25,15 +25,7 @@ fn bare_entry(outline: &Outline) -> Entry
         },
         Outline::Join(name) => Entry::Join(*name),
         Outline::Leave(name) => Entry::Leave(*name),
-        Outline::View {
-            stamp,
-            members,
-            resilience,
-        } => Entry::View {
-            stamp: *stamp,
-            members: *members,
-            resilience: *resilience,
-        },
+        Outline::View(view) => Entry::View(*view),
     }
 }
 
@@ -41,21 +33,16 @@ fn bare_entry(outline: &Outline) -> Entry
 fn founds(outline: &Outline) -> bool
     ensures { result ≡ founds outline.now }
 {
-    let Outline::View {
-        stamp,
-        members,
-        resilience,
-    } = outline
-    else {
+    let Outline::View(view) = outline else {
         return false;
     };
-    let Some(lowest) = members.lowest() else {
+    let Some(lowest) = view.members.lowest() else {
         return false;
     };
-    if stamp.round != 1 || lowest != stamp.by {
+    if view.stamp.round != 1 || lowest != view.stamp.by {
         return false;
     }
-    are_first(*members) && *resilience == 0
+    are_first(view.members) && view.resilience == 0
 }
 
 /// The first entry that doesn't fit what stands before it.

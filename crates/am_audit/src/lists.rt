@@ -126,8 +126,8 @@ fn may_begin(line: &TextLine) -> bool
     };
     match &outline {
         Outline::Join(name) => name.get() == line.name,
-        Outline::View { members, .. } => {
-            line.number == 1 && members.has(Name::of_byte(line.name))
+        Outline::View(view) => {
+            line.number == 1 && view.members.has(Name::of_byte(line.name))
         }
         _ => false,
     }

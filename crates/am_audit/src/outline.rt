@@ -1,5 +1,5 @@
-use am_base::name::{Name, Stamp};
-use am_base::names::Names;
+use am_base::entry::GroupView;
+use am_base::name::Name;
 
 /// What an entry's text says, but for a body.
 #[derive(Clone, Copy)]
@@ -13,10 +13,6 @@ pub enum Outline {
     Join(Name),
     /// A member goes.
     Leave(Name),
-    /// A view begins: its stamp, its members, its resilience, 0 to 15.
-    View {
-        stamp: Stamp,
-        members: Names,
-        resilience: u8,
-    },
+    /// A view begins.
+    View(GroupView),
 }

@@ -3,7 +3,7 @@ ghost use Rattle.am_base.specs.Most.{most_window};
 ghost use Rattle.am_base.specs.Limits.{IsEntry};
 
 use am_base::body::Body;
-use am_base::entry::Entry;
+use am_base::entry::{Entry, GroupView};
 use am_base::image::Report;
 use am_base::limits::MOST_NUMBER;
 use am_base::name::{Name, Stamp};
@@ -36,14 +36,14 @@ fn all_places() -> Names {
 fn founders_view() -> Entry
     ensures { IsEntry result }
 {
-    Entry::View {
+    Entry::View(GroupView {
         stamp: Stamp {
             round: 1,
             by: Name::of_byte(0),
         },
         members: all_places(),
         resilience: 15,
-    }
+    })
 }
 
 /// That each member has stored whatever there is.

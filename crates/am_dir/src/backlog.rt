@@ -22,7 +22,7 @@ pub fn apply_entry(directory: &mut Directory, number: u32, entry: &Entry) -> Res
 {
     match entry {
         Entry::Data { body, .. } => Ok(Step::Applied(directory.apply(number, body.bytes())?)),
-        Entry::Join(_) | Entry::Leave(_) | Entry::View { .. } => Ok(Step::Noted),
+        Entry::Join(_) | Entry::Leave(_) | Entry::View(_) => Ok(Step::Noted),
     }
 }
 

@@ -10,7 +10,7 @@ ghost use Rattle.am_model.specs.Ballots.{vote_of};
 ghost use Rattle.am_handlers.specs.Replies.{packet_of, own_packet, IsNoteWithin, IsOwnWithin};
 
 use am_base::body::Body;
-use am_base::entry::{EntryParts, EntryRef};
+use am_base::entry::{EntryParts, EntryRef, GroupView};
 use am_base::image::Report;
 use am_base::name::Name;
 use am_base::names::Names;
@@ -174,7 +174,16 @@ pub fn result<'a>(parts: &Parts, number: u32, members: Names, resilience: u8) ->
     ensures value { result ≡ result_of (node_of parts.now) number members resilience }
     ensures within { IsWithin result }
 {
-    packet_from!(parts.core => Result { base: parts.core.log.base(), number, members, resilience })
+    Packet::Result {
+        sender: parts.core.who,
+        base: parts.core.log.base(),
+        number,
+        view: GroupView {
+            stamp: parts.core.promise,
+            members,
+            resilience,
+        },
+    }
 }
 
 /// A send of the node's own for the sequencer to number.

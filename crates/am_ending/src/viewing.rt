@@ -53,7 +53,7 @@ fn viewed_by(entry: Option<&Entry>) -> Names
     match entry {
         None => Names::empty(),
         Some(entry) => match entry {
-            Entry::View { members, .. } => *members,
+            Entry::View(view) => view.members,
             Entry::Data { .. } => Names::empty(),
             Entry::Join(_) => Names::empty(),
             Entry::Leave(_) => Names::empty(),

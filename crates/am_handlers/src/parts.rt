@@ -44,7 +44,7 @@ fn is_data_of(entry: &Entry, who: Name, sent: u32) -> bool
         Entry::Data { from, req, .. } => *from == who && *req == sent,
         Entry::Join(_) => false,
         Entry::Leave(_) => false,
-        Entry::View { .. } => false,
+        Entry::View(_) => false,
     }
 }
 

@@ -167,7 +167,7 @@ fn entry_len(entry: &EntryRef) -> usize
         EntryParts::Data { body, .. } => 6 + body_len(body),
         EntryParts::Join(_) => 2,
         EntryParts::Leave(_) => 2,
-        EntryParts::View { members, .. } => 7 + set_len(*members),
+        EntryParts::View(view) => 7 + set_len(view.members),
     }
 }
 
@@ -192,15 +192,11 @@ fn put_entry(into: &mut PacketBytes, entry: &EntryRef)
             put_byte(into, 3);
             put_byte(into, name.get());
         }
-        EntryParts::View {
-            stamp,
-            members,
-            resilience,
-        } => {
+        EntryParts::View(view) => {
             put_byte(into, 4);
-            put_stamp(into, *stamp);
-            put_set(into, *members);
-            put_byte(into, *resilience);
+            put_stamp(into, view.stamp);
+            put_set(into, view.members);
+            put_byte(into, view.resilience);
         }
     }
 }
@@ -231,7 +227,7 @@ fn fields_len(packet: &Packet) -> usize
         Packet::Gone { .. } | Packet::Fetch { .. } => 4,
         Packet::Vote { vote, .. } => 13 + set_len(vote.members),
         Packet::Piece { entry, .. } => 8 + entry_len(entry),
-        Packet::Result { members, .. } => 9 + set_len(*members),
+        Packet::Result { view, .. } => 9 + set_len(view.members),
         _ => 0,
     }
 }
@@ -365,15 +361,11 @@ fn put_fields(into: &mut PacketBytes, packet: &Packet)
             put_entry(into, entry);
         }
         Packet::Result {
-            base,
-            number,
-            members,
-            resilience,
-            ..
+            base, number, view, ..
         } => {
             put_two(into, *base, *number);
-            put_set(into, *members);
-            put_byte(into, *resilience);
+            put_set(into, view.members);
+            put_byte(into, view.resilience);
         }
         _ => {}
     }

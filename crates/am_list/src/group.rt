@@ -4,7 +4,7 @@ ghost use Rattle.am_base.specs.Names.{has};
 ghost use Rattle.am_group.specs.Groups.{list_with, with_admitted, after_take, next_of, founders_view, founders_fronts, stamp_for};
 
 use am_base::NoMemory;
-use am_base::entry::Entry;
+use am_base::entry::{Entry, GroupView};
 use am_base::founding::Founding;
 use am_base::name::{Name, Stamp};
 use am_base::names::Names;
@@ -46,11 +46,11 @@ fn stamp_for(lowest: Option<Name>) -> Stamp
 fn founders_view(founding: &Founding) -> Entry
     ensures { result ≡ founders_view founding.now }
 {
-    Entry::View {
+    Entry::View(GroupView {
         stamp: stamp_for(founding.founders().lowest()),
         members: founding.founders(),
         resilience: founding.resilience(),
-    }
+    })
 }
 
 /// The first front of a name: 0 of a founder.

@@ -5,7 +5,7 @@ ghost use Rattle.am_base.specs.Founding.{MayFound};
 ghost use Rattle.am_state.specs.Reports.{reports_of, after_report, no_report};
 ghost use Rattle.am_model.specs.Node.{founder, stranger, founders_view, founding_stamp};
 
-use am_base::entry::Entry;
+use am_base::entry::{Entry, GroupView};
 use am_base::founding::Founding;
 use am_base::image::Report;
 use am_base::name::{Name, Stamp};
@@ -37,11 +37,11 @@ pub fn founders_view(founding: &Founding) -> Entry
     ensures within { MayFound founding.now }
 {
     let founders = founding.founders();
-    Entry::View {
+    Entry::View(GroupView {
         stamp: founding_stamp(founding),
         members: founders,
         resilience: founding.resilience(),
-    }
+    })
 }
 
 /// The memory that a node takes for the end of its list, before it begins. Contracts see it as its group's founding.

@@ -19,7 +19,7 @@ use am_ordering::sequencer::{Request, on_ack, on_nack, on_request};
 use am_ordering::welcomed::{Welcome, on_welcome};
 use am_packet::packet::Packet;
 use am_reader::reader::decode;
-use am_resetting::catching::{Arrival, Decided, on_piece, on_result};
+use am_resetting::catching::{Arrival, on_piece, on_result};
 use am_resetting::serving::on_fetch;
 use am_resetting::voting::{on_hand_over, on_invite, on_vote};
 
@@ -164,18 +164,12 @@ fn heard_row<'a>(parts: &mut Parts, packet: &Packet<'a>) -> Reply<'a>
         }
         Packet::Result {
             sender,
-            stamp,
             base,
             number,
-            members,
-            resilience,
+            view,
         } => {
-            let last = arrival(*sender, *stamp, *base, *number);
-            let decided = Decided {
-                members: *members,
-                resilience: *resilience,
-            };
-            on_result(parts, &last, &decided)
+            let last = arrival(*sender, view.stamp, *base, *number);
+            on_result(parts, &last, view)
         }
         Packet::HandOver { .. } => on_hand_over(parts),
     }

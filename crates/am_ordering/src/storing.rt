@@ -21,7 +21,7 @@ fn is_view(entry: &EntryRef) -> bool
     ensures { result ≡ is_view entry.now }
 {
     match entry.parts() {
-        EntryParts::View { .. } => true,
+        EntryParts::View(_) => true,
         EntryParts::Data { .. } => false,
         EntryParts::Join(_) => false,
         EntryParts::Leave(_) => false,
@@ -48,7 +48,7 @@ fn drop_from(pool: &mut Pool, entry: &EntryRef)
         EntryParts::Data { from, req, .. } => pool.drop_upto(*from, *req),
         EntryParts::Join(_) => {}
         EntryParts::Leave(_) => {}
-        EntryParts::View { .. } => {}
+        EntryParts::View(_) => {}
     }
 }
 

@@ -11,7 +11,7 @@ use Rattle.am_packet.specs.declared.kind.Kind.{Kind}
 use Rattle.am_packet.specs.declared.kind.Kind.TheVariants as kinds
 use Rattle.am_packet.specs.Kinds.{is_total}
 use Rattle.am_packet.specs.Reading.{Read, ◌>>=◌, number_at, report_at, stamp_at, set_at, resilience_at, flag_at, life_at, row_at, rows_at, image_at, vote_at}
-use Rattle.am_packet.specs.Reading.{entry_at, data_at, join_at, leave_at, view_at, view_fields_at, packet_at, fields_at}
+use Rattle.am_packet.specs.Reading.{viewed, entry_at, data_at, join_at, leave_at, view_at, view_fields_at, packet_at, fields_at}
 use Rattle.am_packet.specs.Faults.{Field, field, first_wrong, number_field, report_fields, set_field, resilience_field, flag_field, is_life, life_field}
 use Rattle.am_packet.specs.Faults.{row_fields, rows_fields, image_fields, vote_fields, entry_fields, kind_fields, packet_fields}
 use Rattle.am_packet.proofs.Fields.{number_is}
@@ -176,10 +176,10 @@ entry_fails bytes at =
     (either (eqb (slice_index bytes at) 3) _ _ _ _ (one _ 10 _)
     (either (eqb (slice_index bytes at) 4) _ _ _ _ (guarded _ 10 _ _
     (in_turn (stamp_at bytes (at + 1)) (λ stamp. set_at bytes (at + 6) >>= λ members. resilience_at bytes (at + 16) >>= λ resilience. Ok
-    (View stamp members resilience)) (number_field bytes (at + 1) ∷ []) _ (stamp_fails bytes (at + 1)) (λ stamp stamp-is.
-    in_turn (set_at bytes (at + 6)) (λ members. resilience_at bytes (at + 16) >>= λ resilience. Ok (View stamp members resilience)) (set_field bytes (at + 6)
+    (View (viewed stamp members resilience))) (number_field bytes (at + 1) ∷ []) _ (stamp_fails bytes (at + 1)) (λ stamp stamp-is.
+    in_turn (set_at bytes (at + 6)) (λ members. resilience_at bytes (at + 16) >>= λ resilience. Ok (View (viewed stamp members resilience))) (set_field bytes (at + 6)
     ∷ []) _ (set_fails bytes (at + 6)) (λ members members-is.
-    last (resilience_at bytes (at + 16)) (λ resilience. View stamp members resilience) (resilience_field bytes (at + 16) ∷ [])
+    last (resilience_at bytes (at + 16)) (λ resilience. View (viewed stamp members resilience)) (resilience_field bytes (at + 16) ∷ [])
     (resilience_fails bytes (at + 16))))))
     (at, refl, refl))))
 
@@ -240,10 +240,10 @@ kind_fails kinds.Piece sender stamp bytes =
     last (entry_at bytes 20) (λ entry. packets.Piece sender stamp base number entry) (entry_fields bytes 20) (entry_fails bytes 20))
 kind_fails kinds.Result sender stamp bytes =
     two_fail bytes (λ base number. set_at bytes 20 >>= λ members. resilience_at bytes 30 >>= λ resilience. Ok
-    (packets.Result sender stamp base number members resilience)) _ (λ base number.
-    in_turn (set_at bytes 20) (λ members. resilience_at bytes 30 >>= λ resilience. Ok (packets.Result sender stamp base number members resilience))
+    (packets.Result sender base number (viewed stamp members resilience))) _ (λ base number.
+    in_turn (set_at bytes 20) (λ members. resilience_at bytes 30 >>= λ resilience. Ok (packets.Result sender base number (viewed stamp members resilience)))
     (set_field bytes 20 ∷ []) _ (set_fails bytes 20) (λ members members-is.
-    last (resilience_at bytes 30) (λ resilience. packets.Result sender stamp base number members resilience) (resilience_field bytes 30 ∷ [])
+    last (resilience_at bytes 30) (λ resilience. packets.Result sender base number (viewed stamp members resilience)) (resilience_field bytes 30 ∷ [])
     (resilience_fails bytes 30)))
 kind_fails _ sender stamp bytes = refl
 

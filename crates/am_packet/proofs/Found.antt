@@ -12,7 +12,7 @@ use Rattle.am_packet.specs.Kinds.{Head, head, head_of, least_total, most_total}
 use Rattle.am_base.specs.Limits.{IsNumber, IsReport}
 use Rattle.am_packet.specs.Limits.{FieldsWithin, HasParts}
 use Rattle.am_packet.specs.Spelling.{fields_of, report_bytes, set_bytes, image_bytes, vote_bytes, flag_byte}
-use Rattle.am_packet.specs.Reading.{Read, ◌>>=◌, number_at, report_at, set_at, resilience_at, flag_at, image_at, vote_at, entry_at, packet_at}
+use Rattle.am_packet.specs.Reading.{Read, ◌>>=◌, number_at, report_at, set_at, resilience_at, flag_at, image_at, viewed, vote_at, entry_at, packet_at}
 use Rattle.am_packet.specs.Laws.{IsBytes}
 use Rattle.am_packet.proofs.Fields.{Takes, done, bind_ok, ok_is, and_then, to_end, byte_takes, number_takes, report_takes, set_takes, resilience_takes}
 use Rattle.am_packet.proofs.Fields.{flag_takes}
@@ -199,18 +199,18 @@ packet_found kinds.Piece sender stamp bytes packet fits least most read =
     spelled (head kinds.Piece sender stamp) bytes (packets.Piece sender stamp n.a n.b entry.0) packet entry.2 refl
     (n.takes.here ∙ ap (λ xs. (big_bytes 4 n.a ++ big_bytes 4 n.b) ++ xs) here.here)
     (n.a_is, n.b_is, here.within) here.parts
-packet_found kinds.Result sender bytes packet v most read =
+packet_found kinds.Result sender stamp bytes packet fits least most read =
     let n = two_found bytes (λ base number. set_at bytes 20 >>= λ members. resilience_at bytes 30 >>= λ resilience. Ok
-    (packets.Result sender v.stamp base number members resilience)) packet v.members (omega arith) read in
+    (packets.Result sender base number (viewed stamp members resilience))) packet fits (omega arith) read in
     let members = bind_ok (set_at bytes 20) (λ members. resilience_at bytes 30 >>= λ resilience. Ok
-    (packets.Result sender v.stamp n.a n.b members resilience)) packet n.read in
-    let resilience = bind_ok (resilience_at bytes 30) (λ resilience. Ok (packets.Result sender v.stamp n.a n.b members.0 resilience)) packet members.2 in
-    let set-here = set_takes bytes 20 30 members.0 refl v.members (omega arith) members.1 in
+    (packets.Result sender n.a n.b (viewed stamp members resilience))) packet n.read in
+    let resilience = bind_ok (resilience_at bytes 30) (λ resilience. Ok (packets.Result sender n.a n.b (viewed stamp members.0 resilience))) packet members.2 in
+    let set-here = set_takes bytes 20 30 members.0 refl fits (omega arith) members.1 in
     let last-here = resilience_takes bytes 30 31 resilience.0 refl (omega arith) resilience.1 in
     let numbers = big_bytes 4 n.a ++ big_bytes 4 n.b in
     let to-30 = and_then bytes 12 20 30 numbers (set_bytes members.0) n.takes set-here.0 in
     let to-31 = and_then bytes 12 30 31 (numbers ++ set_bytes members.0) (resilience.0 ∷ []) to-30 last-here.0 in
-    spelled (head kinds.Result sender v.stamp) bytes (packets.Result sender v.stamp n.a n.b members.0 resilience.0) packet resilience.2 refl
+    spelled (head kinds.Result sender stamp) bytes (packets.Result sender n.a n.b (viewed stamp members.0 resilience.0)) packet resilience.2 refl
     (to_end bytes 12 31 (numbers ++ set_bytes members.0 ++ resilience.0 ∷ []) to-31 most)
     (n.a_is, n.b_is, last-here.1) set-here.1
 packet_found kind sender stamp bytes packet fits least most read = nothing_found (head kind sender stamp) bytes _ packet read refl most refl tt tt

@@ -20,7 +20,7 @@ use Rattle.am_packet.specs.Limits.{HasEntryParts}
 use Rattle.am_packet.specs.Kinds.{most_entry}
 use Rattle.am_packet.specs.Spelling.{stamp_bytes, set_bytes, row_bytes, rows_bytes, image_bytes, vote_bytes, entry_bytes}
 use Rattle.am_packet.specs.Reading.{◌>>=◌, number_at, stamp_at, set_at, resilience_at, life_at, row_at, rows_at, image_at, vote_at, data_at, join_at, leave_at}
-use Rattle.am_packet.specs.Reading.{view_at, view_fields_at, entry_at}
+use Rattle.am_packet.specs.Reading.{viewed, view_at, view_fields_at, entry_at}
 use Rattle.am_packet.specs.Laws.{IsBytes}
 use Rattle.am_packet.proofs.Fields.{bind_ok, ok_is, passed, chosen, Takes, and_then, to_end, byte_takes, number_takes, stamp_takes, set_takes, resilience_takes}
 use Rattle.am_packet.proofs.Fields.{later, peek, peek_first, number_again, stamp_again, set_again, resilience_again}
@@ -207,16 +207,16 @@ view_ends bytes at entry fits tag read =
     let g = passed _ (view_fields_at bytes at) (BadField 10) entry read in
     let long : length bytes ≡ at + 17 = eqb-true _ _ g.0 in
     let a = bind_ok (stamp_at bytes (at + 1)) (λ stamp. set_at bytes (at + 6) >>= λ members. resilience_at bytes (at + 16) >>= λ resilience. Ok
-    (View stamp members resilience)) entry g.1 in
-    let b = bind_ok (set_at bytes (at + 6)) (λ members. resilience_at bytes (at + 16) >>= λ resilience. Ok (View a.0 members resilience)) entry a.2 in
-    let c = bind_ok (resilience_at bytes (at + 16)) (λ resilience. Ok (View a.0 b.0 resilience)) entry b.2 in
+    (View (viewed stamp members resilience))) entry g.1 in
+    let b = bind_ok (set_at bytes (at + 6)) (λ members. resilience_at bytes (at + 16) >>= λ resilience. Ok (View (viewed a.0 members resilience))) entry a.2 in
+    let c = bind_ok (resilience_at bytes (at + 16)) (λ resilience. Ok (View (viewed a.0 b.0 resilience))) entry b.2 in
     let t1 = stamp_takes bytes (at + 1) (at + 6) a.0 (omega arith) fits (omega arith) a.1 in
     let t2 = set_takes bytes (at + 6) (at + 16) b.0 (omega arith) fits (omega arith) b.1 in
     let t3 = resilience_takes bytes (at + 16) (at + 17) c.0 (omega arith) (omega arith) c.1 in
     let t01 = and_then bytes at (at + 1) (at + 6) (4 ∷ []) (stamp_bytes a.0) tag t1.0 in
     let t02 = and_then bytes at (at + 6) (at + 16) (4 ∷ [] ++ stamp_bytes a.0) (set_bytes b.0) t01 t2.0 in
     let t03 = and_then bytes at (at + 16) (at + 17) (4 ∷ [] ++ stamp_bytes a.0 ++ set_bytes b.0) (c.0 ∷ []) t02 t3.0 in
-    subst (λ (e : Entry). EndsWith bytes at e) (ok_is (View a.0 b.0 c.0) entry c.2)
+    subst (λ (e : Entry). EndsWith bytes at e) (ok_is (View (viewed a.0 b.0 c.0)) entry c.2)
     (record { here = to_end bytes at (at + 17) _ t03 (omega arith); within = (t1.1, t3.1); parts = t2.1 })
 
 pub entry_ends : (bytes : List ℕ) (at : ℕ) (entry : Entry) → IsBytes bytes → at < length bytes → entry_at bytes at ≡ Ok entry → EndsWith bytes at entry

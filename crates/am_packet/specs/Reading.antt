@@ -3,6 +3,7 @@ use Rattle.std.specs.Prelude.{ℕ, zero, suc, ◌+◌, List, [], ◌∷◌, leng
 use Rattle.std.specs.Prelude.{Some, None, Result, Ok, Err, slice_index}
 use Rattle.am_base.specs.Most.{most_number, most_word}
 use Rattle.byteorder.specs.Endian.{big_number}
+use Rattle.am_base.specs.declared.entry.GroupView.{GroupView}
 use Rattle.am_base.specs.declared.name.Stamp.{Stamp}
 use Rattle.am_base.specs.declared.image.Row.{Row}
 use Rattle.am_base.specs.declared.image.Report.{Report}
@@ -107,12 +108,16 @@ join_at bytes at = if length bytes == at + 2 then Ok (Join (slice_index bytes (a
 unfoldable pub leave_at : List ℕ → ℕ → Read Entry
 leave_at bytes at = if length bytes == at + 2 then Ok (Leave (slice_index bytes (at + 1))) else Err (BadField 10)
 
+-- a view of these fields
+abbrev pub viewed : Stamp → List ℕ → ℕ → GroupView
+viewed stamp members resilience = record { stamp = stamp; members = members; resilience = resilience }
+
 unfoldable pub view_fields_at : List ℕ → ℕ → Read Entry
 view_fields_at bytes at = do
   stamp ← stamp_at bytes (at + 1)
   members ← set_at bytes (at + 6)
   resilience ← resilience_at bytes (at + 16)
-  Ok (View (record { stamp = stamp; members = members; resilience = resilience }))
+  Ok (View (viewed stamp members resilience))
 
 unfoldable pub view_at : List ℕ → ℕ → Read Entry
 view_at bytes at = if length bytes == at + 17 then view_fields_at bytes at else Err (BadField 10)
@@ -160,7 +165,7 @@ packet_at kinds.Piece sender stamp bytes =
     two_at bytes (λ base number. entry_at bytes 20 >>= λ entry. Ok (packets.Piece sender stamp base number entry))
 packet_at kinds.Result sender stamp bytes =
     two_at bytes (λ base number. set_at bytes 20 >>= λ members. resilience_at bytes 30 >>= λ resilience. Ok
-    (packets.Result sender base number (record { stamp = stamp; members = members; resilience = resilience })))
+    (packets.Result sender base number (viewed stamp members resilience)))
 packet_at kinds.HandOver sender stamp bytes = Ok (packets.HandOver sender stamp)
 
 -- what stands in the header

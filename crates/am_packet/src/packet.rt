@@ -4,10 +4,9 @@ ghost use Rattle.am_packet.specs.Kinds.{head_of};
 use crate::image_ref::ImageRef;
 use crate::kind::Kind;
 use am_base::body::BodyRef;
-use am_base::entry::EntryRef;
+use am_base::entry::{EntryRef, GroupView};
 use am_base::image::{Report, Vote};
 use am_base::name::{Name, Stamp};
-use am_base::names::Names;
 
 /// What nodes tell each other (docs/PROTOCOL.md, "Packets"). Each has its sender and a stamp. Numbers, rounds and
 /// requests are at most `MOST_NUMBER`. Bodies, entries and images stand elsewhere: among a packet's bytes, or in what a node keeps.
@@ -127,14 +126,12 @@ pub enum Packet<'a> {
         number: u32,
         entry: EntryRef<'a>,
     },
-    /// A ballot's view.
+    /// A ballot's view, whose stamp is the packet's.
     Result {
         sender: Name,
-        stamp: Stamp,
         base: u32,
         number: u32,
-        members: Names,
-        resilience: u8,
+        view: GroupView,
     },
     /// The sequencer leaves; the addressee is to begin a ballot.
     HandOver {
@@ -192,8 +189,8 @@ impl<'a> Packet<'a> {
             | Packet::Vote { sender, stamp, .. }
             | Packet::Fetch { sender, stamp, .. }
             | Packet::Piece { sender, stamp, .. }
-            | Packet::Result { sender, stamp, .. }
             | Packet::HandOver { sender, stamp, .. } => (*sender, *stamp),
+            Packet::Result { sender, view, .. } => (*sender, view.stamp),
         }
     }
 }

@@ -53,7 +53,7 @@ fn counted_at<L: Log>(log: &L, number: u32) -> Names
     match log.entry(number) {
         None => log.members_after(number - 1),
         Some(entry) => match entry {
-            Entry::View { members, .. } => *members,
+            Entry::View(view) => view.members,
             Entry::Data { .. } => log.members_after(number - 1),
             Entry::Join(_) => log.members_after(number - 1),
             Entry::Leave(_) => log.members_after(number - 1),

@@ -5,7 +5,7 @@ ghost use Rattle.am_base.specs.Lists.{blank, blank_row, after, fits, members_of,
 ghost use Rattle.am_base.specs.Limits.{IsNumber, IsStamp, IsRow, IsImage, IsEntry};
 ghost use Rattle.am_base.specs.declared.entry.Entry.TheVariants.{View};
 
-use am_base::entry::{EntryParts, EntryRef};
+use am_base::entry::{EntryParts, EntryRef, GroupView};
 use am_base::image::{Image, Row};
 use am_base::name::{Name, Stamp};
 use am_base::names::Names;
@@ -246,27 +246,22 @@ impl Table {
                 row.joined == 0 || (0 < row.left && row.life < name.life())
             }
             EntryParts::Leave(name) => self.has_member(*name),
-            EntryParts::View {
-                stamp,
-                members,
-                resilience,
-            } => self.fits_view(*stamp, *members, *resilience),
+            EntryParts::View(view) => self.fits_view(view),
         }
     }
 
     /// Whether a View fits: a greater one, of members alone.
     #[tactic(auto, unfolding(am_base::specs::Lists::fits))]
-    fn fits_view(&self, stamp: Stamp, members: Names, resilience: u8) -> bool
-        ensures { result ≡ fits self.now (View stamp members resilience) }
+    fn fits_view(&self, view: &GroupView) -> bool
+        ensures { result ≡ fits self.now (View view.now) }
     {
-        let by = stamp.by;
-        if !self.view().is_below(stamp) {
+        if !self.view().is_below(view.stamp) {
             return false;
         }
-        if !self.is_blank() && !self.are_members(members) {
+        if !self.is_blank() && !self.are_members(view.members) {
             return false;
         }
-        members.has(by) && self.resilience() <= resilience
+        view.members.has(view.stamp.by) && self.resilience() <= view.resilience
     }
 
     /// Writes a place's row, and the members that follow from it.
@@ -322,21 +317,16 @@ impl Table {
                     );
                 }
             }
-            EntryParts::View {
-                stamp,
-                members,
-                resilience,
-            } => self.begin_view(number, *stamp, *members, *resilience),
+            EntryParts::View(view) => self.begin_view(number, view),
         }
     }
 
     /// Begins a View at this number.
     #[tactic(auto, unfolding(am_base::specs::Lists::after))]
-    fn begin_view(&mut self, number: u32, stamp: Stamp, members: Names, resilience: u8)
+    fn begin_view(&mut self, number: u32, view: &GroupView)
         requires number { IsNumber number }
-        requires stamp { IsStamp stamp }
-        requires resilience { resilience ≤ 15 }
-        ensures value { self.new ≡ after self.old number (View stamp members resilience) }
+        requires view { IsEntry (View view.now) }
+        ensures value { self.new ≡ after self.old number (View view.now) }
         ensures within { IsImage self.new }
     {
         let first = self.is_blank();

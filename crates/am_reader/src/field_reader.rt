@@ -4,7 +4,7 @@ ghost use Rattle.am_packet.specs.Images.{rows_length, image_length};
 ghost use Rattle.am_packet.specs.Reading.{number_at, report_at, stamp_at, set_at, resilience_at, flag_at, life_at, row_at, rows_at, image_at, vote_at, entry_at, data_at, view_at, view_fields_at};
 
 use am_base::body::BodyRef;
-use am_base::entry::{EntryParts, EntryRef};
+use am_base::entry::{EntryParts, EntryRef, GroupView};
 use am_base::image::{Image, Report, Row, Vote};
 use am_base::limits::{MOST_BODY, MOST_NUMBER, MOST_RESILIENCE};
 use am_base::name::{Name, Stamp};
@@ -216,11 +216,11 @@ fn view_fields(bytes: &[u8], at: u32) -> Result<EntryRef<'_>, PacketRefusal>
     let stamp = stamp(bytes, at + 1)?;
     let members = set(bytes, at + 6)?;
     let resilience = resilience(bytes, at + 16)?;
-    Ok(EntryRef::of(EntryParts::View {
+    Ok(EntryRef::of(EntryParts::View(GroupView {
         stamp,
         members,
         resilience,
-    }))
+    })))
 }
 
 /// A View, where the bytes end behind it.

@@ -10,6 +10,7 @@ ghost use Rattle.am_packet.specs.Kinds.{least_total, most_total, most_request};
 ghost use Rattle.am_packet.specs.Reading.{Read, number_at, three_at, packet_at};
 
 use crate::field_reader::{body, entry, flag, image, name, number, report, resilience, set, vote};
+use am_base::entry::GroupView;
 use am_base::name::{Name, Stamp};
 use am_packet::PacketRefusal;
 use am_packet::kind::Kind;
@@ -186,9 +187,21 @@ fn result_of(sender: Name, stamp: Stamp, bytes: &[u8]) -> Result<Packet<'_>, Pac
     requires { 31 ≤ length bytes.now }
     ensures { result ≡ packet_at kinds.Result sender stamp bytes.now }
 {
-    read!(bytes, Packet::Result {
-        base: number @ 12, number: number @ 16, members: set @ 20, resilience: resilience @ 30
-    }, sender, stamp)
+    let base = number(bytes, 12)?;
+    let number = number(bytes, 16)?;
+    let members = set(bytes, 20)?;
+    let resilience = resilience(bytes, 30)?;
+    let view = GroupView {
+        stamp,
+        members,
+        resilience,
+    };
+    Ok(Packet::Result {
+        sender,
+        base,
+        number,
+        view,
+    })
 }
 
 /// The packet of a kind, a sender and a stamp, whose fields stand after the header.

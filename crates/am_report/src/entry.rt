@@ -84,16 +84,12 @@ pub fn push_entry<O: Writer>(out: &mut O, founding: &Founding, entry: &EntryRef<
             out.put("leave ");
             push_name(out, *name);
         }
-        EntryParts::View {
-            stamp,
-            members,
-            resilience,
-        } => {
+        EntryParts::View(view) => {
             out.put("view ");
-            push_stamp(out, *stamp);
+            push_stamp(out, view.stamp);
             out.put(" ");
-            push_names(out, *members);
-            push_resilience(out, founding, *resilience);
+            push_names(out, view.members);
+            push_resilience(out, founding, view.resilience);
         }
     }
 }

@@ -15,9 +15,8 @@ use crate::reading::{
     copy_of, has_own_leave, is_beyond, is_same, is_view, last_of, name_of, promise_of, taken_of,
 };
 use am_ballots::ballot::Ballot;
-use am_base::entry::{EntryParts, EntryRef};
+use am_base::entry::{EntryParts, EntryRef, GroupView};
 use am_base::name::{Name, Stamp};
-use am_base::names::Names;
 use am_base::outcome::Outcome;
 use am_handlers::parts::Parts;
 use am_handlers::reply::{Note, Reply, Telling, asking, note_to, quiet, saying};
@@ -34,15 +33,6 @@ pub struct Arrival {
     pub base: u32,
     /// The entry's number.
     pub number: u32,
-}
-
-/// What a ballot decided of its view.
-#[derive(Clone, Copy)]
-pub struct Decided {
-    /// The view's members.
-    pub members: Names,
-    /// Its resilience.
-    pub resilience: u8,
 }
 
 /// Why a decided view isn't stored: the answer, and what goes out beside it.
@@ -80,7 +70,7 @@ fn is_view_past(stamp: &Stamp, in_ballot: bool, entry: &EntryRef) -> bool
     ensures below { in_ballot ≡ true → result ≡ false → IsBelow stamp.now entry.now }
 {
     match entry.parts() {
-        EntryParts::View { stamp: view, .. } => is_past(stamp, in_ballot, view),
+        EntryParts::View(view) => is_past(stamp, in_ballot, &view.stamp),
         EntryParts::Data { .. } => false,
         EntryParts::Join(_) => false,
         EntryParts::Leave(_) => false,
@@ -245,14 +235,10 @@ pub fn on_piece<'a>(parts: &mut Parts, arrival: &Arrival, entry: &EntryRef) -> R
 }
 
 /// The View of a decided view.
-fn view_entry<'a>(stamp: &Stamp, decided: &Decided) -> EntryRef<'a>
-    ensures { result ≡ View stamp.now decided.now.members decided.now.resilience }
+fn view_entry<'a>(view: &GroupView) -> EntryRef<'a>
+    ensures { result ≡ View view.now }
 {
-    EntryRef::of(EntryParts::View {
-        stamp: copy_of(stamp),
-        members: decided.members,
-        resilience: decided.resilience,
-    })
+    EntryRef::of(EntryParts::View(*view))
 }
 
 /// Whether an entry doesn't fit behind the list, or is beyond the bound.
@@ -264,18 +250,18 @@ fn is_unfit(parts: &Parts, entry: &EntryRef, base: u32, number: u32) -> bool
 }
 
 /// What is replied where a decided view isn't stored; None where it comes next and nothing is against it.
-fn result_refusal<'a>(parts: &Parts, arrival: &Arrival, decided: &Decided) -> Option<Denial<'a>>
-    ensures value { hears_result (node_of parts.now) arrival.now.from arrival.now.stamp
-        arrival.now.base arrival.now.number decided.now.members decided.now.resilience
+fn result_refusal<'a>(parts: &Parts, arrival: &Arrival, view: &GroupView) -> Option<Denial<'a>>
+    ensures value { hears_result (node_of parts.now) arrival.now.from
+        arrival.now.base arrival.now.number view.now
         ≡ unless_denied result (node_of parts.now)
         (telling (push_entry (trim_up_to (node_of parts.now) arrival.now.base)
-        (View arrival.now.stamp decided.now.members decided.now.resilience))
+        (View view.now))
         (Outcome.Stored arrival.now.number) (only_name arrival.now.from) ack_of) }
-    ensures next { IfNone result (FollowsAsView (node_of parts.now) arrival.now.stamp
-        arrival.now.base arrival.now.number decided.now.members decided.now.resilience) }
+    ensures next { IfNone result (FollowsAsView (node_of parts.now)
+        arrival.now.base arrival.now.number view.now) }
     ensures plain { IfSome result (λ refusal. IsPlain refusal.telling) }
 {
-    if is_view(parts, &arrival.stamp) {
+    if is_view(parts, &view.stamp) {
         return Some(Denial {
             outcome: Outcome::Known,
             telling: note_to(arrival.from, Note::Ack),
@@ -297,7 +283,7 @@ fn result_refusal<'a>(parts: &Parts, arrival: &Arrival, decided: &Decided) -> Op
     if taken_of(parts) < arrival.base {
         return Some(Denial::of(Outcome::Behind));
     }
-    let entry = view_entry(&arrival.stamp, decided);
+    let entry = view_entry(view);
     if is_unfit(parts, &entry, arrival.base, arrival.number) {
         return Some(Denial::of(Outcome::Unfit));
     }
@@ -305,21 +291,21 @@ fn result_refusal<'a>(parts: &Parts, arrival: &Arrival, decided: &Decided) -> Op
 }
 
 /// What a node does with a decided view that it has promised.
-fn hears_result<'a>(parts: &mut Parts, arrival: &Arrival, decided: &Decided) -> Reply<'a>
+fn hears_result<'a>(parts: &mut Parts, arrival: &Arrival, view: &GroupView) -> Reply<'a>
     requires order { IsInOrder parts.old.core }
     requires logged { has_log parts.old.status ≡ true }
-    requires promise { arrival.now.stamp ≡ parts.old.core.promise }
-    requires other { arrival.now.stamp.by ≢ parts.old.core.who }
-    requires within { IsEntry (View arrival.now.stamp decided.now.members decided.now.resilience) }
+    requires promise { view.now.stamp ≡ parts.old.core.promise }
+    requires other { view.now.stamp.by ≢ parts.old.core.who }
+    requires within { IsEntry (View view.now) }
     requires number { top_of parts.old.core.log < most_number }
-    ensures { Replies (hears_result (node_of parts.old) arrival.now.from arrival.now.stamp
-        arrival.now.base arrival.now.number decided.now.members decided.now.resilience)
+    ensures { Replies (hears_result (node_of parts.old) arrival.now.from
+        arrival.now.base arrival.now.number view.now)
         result (node_of parts.new) }
 {
-    match result_refusal(parts, arrival, decided) {
+    match result_refusal(parts, arrival, view) {
         Some(refusal) => saying(refusal.outcome, refusal.telling),
         None => {
-            store(parts, arrival.base, &view_entry(&arrival.stamp, decided));
+            store(parts, arrival.base, &view_entry(view));
             let number = arrival.number;
             saying(Outcome::Stored { number }, note_to(arrival.from, Note::Ack))
         }
@@ -337,19 +323,18 @@ fn is_passed(parts: &Parts, stamp: &Stamp) -> bool
 /// A view was decided (docs/PROTOCOL.md, "Ballots and views"). Elsewhere where it is the node's own or below the promise, else it
 /// is promised; Known where it is the view; Unfit, Behind or Catching, with a Fetch, where it isn't the next entry or can't be
 /// stored; else Stored, with an Ack. The node must have a list.
-pub fn on_result<'a>(parts: &mut Parts, arrival: &Arrival, decided: &Decided) -> Reply<'a>
+pub fn on_result<'a>(parts: &mut Parts, arrival: &Arrival, view: &GroupView) -> Reply<'a>
     requires logged { has_log parts.old.status ≡ true }
-    requires within { IsStamp arrival.now.stamp }
-    requires resilience { decided.now.resilience ≤ 15 }
+    requires within { IsEntry (View view.now) }
     requires number { top_of parts.old.core.log < most_number }
-    ensures { Replies (result_row (node_of parts.old) arrival.now.from arrival.now.stamp
-        arrival.now.base arrival.now.number decided.now.members decided.now.resilience)
+    ensures { Replies (result_row (node_of parts.old) arrival.now.from
+        arrival.now.base arrival.now.number view.now)
         result (node_of parts.new) }
 {
     let _front = parts.accept_front();
-    if is_passed(parts, &arrival.stamp) {
+    if is_passed(parts, &view.stamp) {
         return quiet(Outcome::Elsewhere);
     }
-    raise_promise(parts, copy_of(&arrival.stamp));
-    hears_result(parts, arrival, decided)
+    raise_promise(parts, copy_of(&view.stamp));
+    hears_result(parts, arrival, view)
 }

@@ -10,7 +10,7 @@ ghost use Rattle.am_handlers.specs.Verdicts.{ComesTo, IsTold};
 
 use crate::reading::{base_of, name_of};
 use am_ballots::ballot::Ballot;
-use am_base::entry::{EntryParts, EntryRef};
+use am_base::entry::{EntryParts, EntryRef, GroupView};
 use am_base::names::Names;
 use am_base::outcome::Outcome;
 use am_handlers::parts::Parts;
@@ -116,15 +116,17 @@ fn decided_answer(parts: &Parts, names: Names) -> Outcome
 fn view_of<'a>(parts: &Parts, ballot: &Ballot, names: Names) -> EntryRef<'a>
     requires stamp { ballot.now.stamp ≡ parts.now.core.promise }
     requires resilience { ballot.now.resilience ≤ 15 }
-    ensures value { result ≡ View ballot.now.stamp names
-        (max ballot.now.resilience (told_by parts.now.core.log).resilience) }
+    ensures value { result ≡ View (record {
+        stamp = ballot.now.stamp; members = names;
+        resilience = max ballot.now.resilience (told_by parts.now.core.log).resilience;
+    }) }
     ensures within { IsEntry result }
 {
-    EntryRef::of(EntryParts::View {
+    EntryRef::of(EntryParts::View(GroupView {
         stamp: ballot.stamp(),
         members: names,
         resilience: ballot.resilience().max(parts.core.log.resilience()),
-    })
+    }))
 }
 
 /// All reports begin anew at the base.

@@ -67,7 +67,7 @@ impl Assembler {
     {
         match entry {
             Entry::Data { from, body, .. } => self.take(*from, body.bytes()),
-            Entry::Join(_) | Entry::Leave(_) | Entry::View { .. } => {
+            Entry::Join(_) | Entry::Leave(_) | Entry::View(_) => {
                 self.whole = None;
                 Fed::Other
             }
@@ -94,7 +94,7 @@ impl Assembler {
             Entry::Data { from, body, .. } => {
                 self.rooms[from.place() as usize].whole_with(alloc, *from, body.bytes())
             }
-            Entry::Join(_) | Entry::Leave(_) | Entry::View { .. } => Ok(None),
+            Entry::Join(_) | Entry::Leave(_) | Entry::View(_) => Ok(None),
         }
     }
 }

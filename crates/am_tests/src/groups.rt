@@ -121,11 +121,10 @@ fn number_taken(group: &mut Group, name: Name) -> u32 {
 /// Whether an entry is the View of two founders.
 fn is_founders_view(entry: &Entry) -> bool {
     match entry.as_ref().parts() {
-        EntryParts::View {
-            stamp,
-            members,
-            resilience,
-        } => stamp.round == 1 && stamp.by.get() == 0 && members.mask() == 3 && *resilience == 0,
+        EntryParts::View(view) => {
+            let by = view.stamp.by.get();
+            view.stamp.round == 1 && by == 0 && view.members.mask() == 3 && view.resilience == 0
+        }
         _ => false,
     }
 }

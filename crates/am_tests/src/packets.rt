@@ -125,13 +125,9 @@ fn entry_numbers(entry: &EntryRef) -> [u32; 5] {
         ],
         EntryParts::Join(name) => [2, u32::from(name.get()), 0, 0, 0],
         EntryParts::Leave(name) => [3, u32::from(name.get()), 0, 0, 0],
-        EntryParts::View {
-            stamp,
-            members,
-            resilience,
-        } => {
-            let [mask, lives] = set_numbers(*members);
-            [4, stamp.round, mask, lives, u32::from(*resilience)]
+        EntryParts::View(view) => {
+            let [mask, lives] = set_numbers(view.members);
+            [4, view.stamp.round, mask, lives, u32::from(view.resilience)]
         }
     }
 }
@@ -238,14 +234,10 @@ fn numbers_of_views(packet: &Packet) -> [u32; 8] {
             [vote.view.round, vote.top, vote.taken, mask, lives, 0, 0, 0]
         }
         Packet::Result {
-            base,
-            number,
-            members,
-            resilience,
-            ..
+            base, number, view, ..
         } => {
-            let [mask, lives] = set_numbers(*members);
-            [*base, *number, mask, lives, u32::from(*resilience), 0, 0, 0]
+            let [mask, lives] = set_numbers(view.members);
+            [*base, *number, mask, lives, u32::from(view.resilience), 0, 0, 0]
         }
         _ => [0; 8],
     }

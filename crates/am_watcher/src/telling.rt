@@ -7,7 +7,7 @@ ghost use Rattle.am_watcher.specs.Watchers.{watching_of, HasRoom};
 
 use crate::views::{decides, is_member, is_same_stamp};
 use crate::watcher::Watcher;
-use am_base::entry::Entry;
+use am_base::entry::{Entry, GroupView};
 use am_base::event::NodeEvent;
 use am_base::name::Name;
 use am_base::outcome::Outcome;
@@ -53,11 +53,11 @@ fn standing_after(before: &Standing, shown: &Shown) -> Standing
 fn last_view(view: &DecidedView) -> Entry
     ensures { result ≡ last_view view.now }
 {
-    Entry::View {
+    Entry::View(GroupView {
         stamp: view.stamp,
         members: view.members,
         resilience: view.resilience,
-    }
+    })
 }
 
 /// The entry of a Piece, where an event brings one.

@@ -320,8 +320,8 @@ impl Watcher {
             Entry::Data { .. } => {}
             Entry::Join(_) => {}
             Entry::Leave(_) => {}
-            Entry::View { stamp, .. } => {
-                store_in_all(&mut self.pending, name, stamp);
+            Entry::View(view) => {
+                store_in_all(&mut self.pending, name, &view.stamp);
                 self.is_due = true;
             }
         }
@@ -363,8 +363,8 @@ impl Watcher {
             Entry::Data { .. } => {}
             Entry::Join(_) => {}
             Entry::Leave(_) => {}
-            Entry::View { stamp, .. } => {
-                place_in_all(&mut self.pending, number, stamp);
+            Entry::View(view) => {
+                place_in_all(&mut self.pending, number, &view.stamp);
             }
         }
     }
