@@ -1,5 +1,5 @@
 -- Ballots, on the kept end of a list as on all of it.
-use Rattle.am_model.proofs.EndWords.{◌≡◌, ℕ, ◌+◌, ◌-◌, max, min, Bool, true, false, not, ◌&&◌, ◌==◌, nat_lt, if◌then◌else◌, List, [], Option, Some, None}
+use Rattle.am_model.proofs.EndWords.{Entry, ◌≡◌, ℕ, ◌+◌, ◌-◌, max, min, Bool, true, false, not, ◌&&◌, ◌==◌, nat_lt, if◌then◌else◌, List, [], Option, Some, None}
 use Rattle.am_model.proofs.EndWords.{unwrap_or, refl, ◌∙◌, ap, Vote, Stamp, View, Outcome, has, size, minus, without_name, names_of, Shown, best_vote, Log}
 use Rattle.am_model.proofs.EndWords.{members_of, with_entry, least_of, Letter, with_letter, Node, Ballot, top, image_of, those, is_member, push_entry, only_name}
 use Rattle.am_model.proofs.EndWords.{invite_of, result_of, Verdict, with_promise, best_of, has_voted, is_waited_for, left_in, taken_by, ends, restart_reports}
@@ -45,19 +45,18 @@ unfolding best_of
 same_best all m b h = reads all m (λ i t. best_vote b.votes m.core.who (record { view = i.view; top = t; taken = m.core.taken; members = members_of i })) h
 
 -- the view is pushed on both sides
-agrees_pushed : (all : Log) (m : Node) (b : Ballot) (names : List ℕ) (r s : ℕ) (o w : Outcome) → Keeps all m → r ≡ s → o ≡ w
-    → Agrees (ends (restart_reports (push_entry (with_log m all) (View b.stamp names r))) b o)
-    (ends (restart_reports (push_entry m (View b.stamp names s))) b w)
-agrees_pushed all m b names r s o w h e f =
-    let k = keeps_pushed all m (View b.stamp names s) h in
-    let n = restart_reports (push_entry m (View b.stamp names s)) in
-    let kn : Keeps (with_entry all (View b.stamp names s)) n = record { kept = k.kept; order = k.order } in
-    let a = agrees_answer true (with_entry all (View b.stamp names s)) n b o w kn f in
+agrees_pushed : (all : Log) (m : Node) (b : Ballot) (d e : Entry) (o w : Outcome) → Keeps all m → d ≡ e → o ≡ w
+    → Agrees (ends (restart_reports (push_entry (with_log m all) d)) b o) (ends (restart_reports (push_entry m e)) b w)
+agrees_pushed all m b d e o w h same f =
+    let k = keeps_pushed all m e h in
+    let n = restart_reports (push_entry m e) in
+    let kn : Keeps (with_entry all e) n = record { kept = k.kept; order = k.order } in
+    let a = agrees_answer true (with_entry all e) n b o w kn f in
     record {
       whole = record {
         log = a.log;
         keeps = a.keeps;
-        node = ap (λ (x : ℕ). (ends (restart_reports (push_entry (with_log m all) (View b.stamp names x))) b o).node) e ∙ a.node;
+        node = ap (λ (x : Entry). (ends (restart_reports (push_entry (with_log m all) x)) b o).node) same ∙ a.node;
       };
       outcome = f;
     }
@@ -66,9 +65,9 @@ agrees_view : (all : Log) (m : Node) (b : Ballot) (names : List ℕ) → Keeps a
 agrees_view all m b names h =
     let full = reads all m (λ i t. nat_lt (m.core.rules.window + 16 - size names) (t + 1 - m.core.base)) h in
     let crowded = reads all m (λ i t. said.Crowded m.core.base t) h in
-    let r = reads all m (λ i t. max b.resilience i.resilience) h in
+    let view = reads all m (λ i t. View (record { stamp = b.stamp; members = names; resilience = max b.resilience i.resilience })) h in
     let decided = reads all m (λ i t. said.Decided (t + 1) names) h in
-    agrees_if _ _ _ _ _ _ full (agrees_answer true all m b _ _ h crowded) (agrees_pushed all m b names _ _ _ _ h r decided)
+    agrees_if _ _ _ _ _ _ full (agrees_answer true all m b _ _ h crowded) (agrees_pushed all m b _ _ _ _ h view decided)
 
 -- what is asked of the best vote alone
 best_reads : {X : Type 0} (all : Log) (m : Node) (b : Ballot) (f : Shown → ℕ → X) → Keeps all m
