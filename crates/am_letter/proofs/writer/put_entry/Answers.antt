@@ -9,5 +9,5 @@ pub returns-in-View : goal.returns-in-View
 unfolding entry_bytes
 returns-in-View c = subst (λ (e : Entry). c.put_byte-in-View-2.new.into ≡ c.args.into.now ++ entry_bytes e) (ap entry_of (sym c.in-View.is) ∙ c.parts.ensures)
     (four c.args.into.now c.put_byte-in-View.new.into c.put_stamp.new.into c.put_set.new.into c.put_byte-in-View-2.new.into
-    (4 ∷ []) (stamp_bytes c.in-View.stamp) (set_bytes c.in-View.members) (c.in-View.resilience ∷ [])
+    (4 ∷ []) (stamp_bytes c.in-View.view.stamp) (set_bytes c.in-View.view.members) (c.in-View.view.resilience ∷ [])
     c.put_byte-in-View.ensures c.put_stamp.ensures c.put_set.ensures c.put_byte-in-View-2.ensures)

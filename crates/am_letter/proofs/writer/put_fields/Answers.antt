@@ -18,5 +18,5 @@ returns-in-Piece c = rw c.in-Piece.is (after c.args.into.now c.put_two.new.into 
 pub returns-in-Result : goal.returns-in-Result
 unfolding fields_of
 returns-in-Result c = rw c.in-Result.is (three c.args.into.now c.put_two-in-Result.new.into c.put_set.new.into c.put_byte-in-Result.new.into
-    (two_bytes c.in-Result.base c.in-Result.number) (set_bytes c.in-Result.members) (c.in-Result.resilience ∷ [])
+    (two_bytes c.in-Result.base c.in-Result.number) (set_bytes c.in-Result.view.members) (c.in-Result.view.resilience ∷ [])
     c.put_two-in-Result.ensures c.put_set.ensures c.put_byte-in-Result.ensures)
