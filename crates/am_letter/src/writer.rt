@@ -361,7 +361,10 @@ fn put_fields(into: &mut PacketBytes, packet: &Packet)
             put_entry(into, entry);
         }
         Packet::Result {
-            base, number, view, ..
+            base,
+            number,
+            view,
+            ..
         } => {
             put_two(into, *base, *number);
             put_set(into, view.members);

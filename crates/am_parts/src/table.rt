@@ -335,15 +335,15 @@ impl Table {
             rows[usize::from(place)] = row_after_view(
                 first,
                 number,
-                members.life_at(place),
+                view.members.life_at(place),
                 &self.image.rows[usize::from(place)],
             );
         }
         self.members = members_of(&rows);
         self.image = Image {
-            view: stamp,
+            view: view.stamp,
             view_number: number,
-            resilience,
+            resilience: view.resilience,
             rows,
         };
     }

@@ -6,17 +6,17 @@ use Rattle.am_parts.proofs.table.Table.begin_view.Goals as goal
 pub returns-clause-value : goal.returns-clause-value
 returns-clause-value c =
     let first = c.is_blank-first.ensures ∙ ap is_blank (sym c.self.view_is) in
-    let image = viewed_image c.self.inside.image c.is_blank-first.result c.args.number c.args.stamp c.args.members c.args.resilience c.loop-place.rows first
+    let image = viewed_image c.self.inside.image c.is_blank-first.result c.args.number c.args.view.now c.loop-place.rows first
     c.loop-place.invariant.long (λ k h. c.loop-place.invariant.done k (omega arith)) in
     rw (← c.self.view_is) (sym image)
 
 pub invariant_of-self : goal.invariant_of-self
 invariant_of-self c = record {
-  rows = viewed_within c.args.stamp c.args.number c.args.resilience c.loop-place.rows c.requires.stamp c.requires.number c.requires.resilience
+  rows = viewed_within c.args.view.now.stamp c.args.number c.args.view.now.resilience c.loop-place.rows c.requires.view.0 c.requires.number c.requires.view.1
       c.loop-place.invariant.long c.loop-place.invariant.within;
   names = c.members_of-self-inside.ensures;
 }
 
 pub returns-clause-within : goal.returns-clause-within
-returns-clause-within c = viewed_within c.args.stamp c.args.number c.args.resilience c.loop-place.rows c.requires.stamp c.requires.number c.requires.resilience
+returns-clause-within c = viewed_within c.args.view.now.stamp c.args.number c.args.view.now.resilience c.loop-place.rows c.requires.view.0 c.requires.number c.requires.view.1
     c.loop-place.invariant.long c.loop-place.invariant.within

@@ -8,5 +8,5 @@ invariant-loop-place l = record {
   long : length l.rows ≡ 16;
   within : (k : ℕ) → k < 16 → IsRow (slice_index_or l.rows k blank_row);
   done : (k : ℕ) → k < l.place → slice_index_or l.rows k blank_row
-      ≡ row_after_view l.first l.number (slice_index l.members k) (slice_index_or l.self-inside.image.rows k blank_row);
+      ≡ row_after_view l.first l.number (slice_index l.view.members k) (slice_index_or l.self-inside.image.rows k blank_row);
 }
