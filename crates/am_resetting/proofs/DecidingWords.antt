@@ -5,7 +5,7 @@ pub use Rattle.std.proofs.Common.{◌≡◌, ℕ, ◌<◌, ◌≤◌, List, Bool
 pub use Rattle.std.proofs.Common.{◌&&◌, Some, refl, subst, length-append, ◌||◌, Option, None, option_map, slice_index, ◌-◌, max, if◌then◌else◌, unwrap_or}
 pub use Rattle.std.proofs.Common.{length, nat_le}
 pub use Rattle.am_base.specs.{declared.image.Vote.Vote, Votes.Shown, Votes.best_vote, Votes.better_of, Votes.all_names, Votes.vote_lt}
-pub use Rattle.am_base.specs.{declared.image.Image.Image, declared.name.Stamp.Stamp, declared.entry.Entry.Entry, Stamps.stamp_lt, Stamps.stamp_eq}
+pub use Rattle.am_base.specs.{declared.image.Image.Image, declared.name.Stamp.Stamp, declared.entry.Entry.Entry, declared.entry.GroupView.GroupView, Stamps.stamp_lt, Stamps.stamp_eq}
 pub use Rattle.am_base.specs.{declared.outcome.Outcome.TheVariants.Overtaken, declared.outcome.Outcome.Outcome, declared.image.Row.Row}
 pub use Rattle.am_base.specs.{declared.image.Report.Report, Founding.Rules}
 pub use Rattle.am_base.specs.Names.{has, size, rank_of, name_at, is_within, by_place, names_of, place_of, life_of}
@@ -20,7 +20,7 @@ pub use Rattle.am_state.specs.Reports.{least_of, reports_from}
 pub use Rattle.am_state.specs.Sends.{next_request}
 pub use Rattle.am_model.specs.Node.{Node, Ballot, has_log, top, image_of, view, members, acts, is_member, is_sequencer, push_entry, name_where, trim_up_to}
 pub use Rattle.am_model.specs.Ballots.{own_vote, is_waited_for, left_in, overtake, with_promise, Verdict, taken_by, with_answer, with_end, goes_on, ends}
-pub use Rattle.am_model.specs.Ballots.{decide_view, trim_for}
+pub use Rattle.am_model.specs.Ballots.{decided_view, decide_view, trim_for}
 pub use Rattle.am_model.specs.Ends.{IsEndOf, with_log}
 unfoldable pub use Rattle.am_model.specs.{Node.those, Ballots.best_of, Ballots.decide}
 pub use Rattle.am_model.proofs.Sets.{has_those, has_size}

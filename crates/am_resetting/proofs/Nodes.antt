@@ -73,7 +73,7 @@ view_pushed m (Leave name) fit up_to = inl (ap (λ (i : Image). i.view) (told-pu
 view_pushed m (View w) fit up_to =
     let e : Entry = View w in
     let same = told-push m.core.log e in
-    let v : view (push_entry m e) ≡ stamp = ap (λ (i : Image). i.view) same ∙ view_is (image_of m) (top m + 1) w in
+    let v : view (push_entry m e) ≡ w.stamp = ap (λ (i : Image). i.view) same ∙ view_is (image_of m) (top m + 1) w in
     inr (record {
       up_to = ap (stamp_lt m.core.promise) v ∙ up_to;
       own = (λ k. has (members_of (same k)) (v k).by) ∙ view_has (image_of m) (top m + 1) w fit;

@@ -3,7 +3,7 @@ use Rattle.am_resetting.proofs.DecidingWords.{◌≡◌, ℕ, ◌+◌, ◌-◌, 
 use Rattle.am_resetting.proofs.DecidingWords.{unwrap_or, refl, sym, ap, subst, ◌∙◌, arith, IfSome, Image, Vote, Entry, View, Outcome, has, size, names_of, Shown}
 use Rattle.am_resetting.proofs.DecidingWords.{better_of, best_from, best_vote, all_names, vote_lt, Log, top_of, Stands, split, least_of, Node, Ballot, top, image_of}
 use Rattle.am_resetting.proofs.DecidingWords.{those, push_entry, trim_up_to, Verdict, own_vote, best_of, is_waited_for, left_in, taken_by, with_answer, with_end}
-use Rattle.am_resetting.proofs.DecidingWords.{goes_on, ends, decide_view, trim_for, decide, IsEndOf, with_log, told_same, top_same, own_vote_same, ComesTo}
+use Rattle.am_resetting.proofs.DecidingWords.{goes_on, ends, decided_view, decide_view, trim_for, decide, IsEndOf, with_log, told_same, top_same, own_vote_same, ComesTo}
 use Rattle.am_base.specs.declared.outcome.Outcome.TheVariants as said
 use Rattle.am_state.specs.Reports as reports
 use Rattle.am_resetting.proofs.Looked.{Looked, Waited, Idle, Counted, some_waited, few, enough}
@@ -57,7 +57,7 @@ crowded_comes m n b names o test answer is = comes (λ x. decide_view x b names)
 
 pub decided_comes : (m mid n : Node) (b : Ballot) (names : List ℕ) (o : Outcome)
     → nat_lt (m.core.rules.window + 16 - size names) (top m + 1 - m.core.base) ≡ false
-    → ((all : Node) → IsEndOf all m → IsEndOf (push_entry all (View b.stamp names (max b.resilience (image_of m).resilience))) mid)
+    → ((all : Node) → IsEndOf all m → IsEndOf (push_entry all (View (decided_view m b names))) mid)
     → o ≡ said.Decided (top m + 1) names → n ≡ record mid { reports = reports.reports_from m.core.base; ballot = Some (with_end b o) }
     → (all : Node) → IsEndOf all m → ComesTo (decide_view all b names) o n
 decided_comes m mid n b names o test pushes answer is = comes (λ x. decide_view x b names) m n o (λ all s.
@@ -66,9 +66,9 @@ decided_comes m mid n b names o test pushes answer is = comes (λ x. decide_view
     let there : nat_lt (m.core.rules.window + 16 - size names) (top_of all + 1 - m.core.base) ≡ false =
     ap (λ k. nat_lt (m.core.rules.window + 16 - size names) (k + 1 - m.core.base)) t ∙ test in
     let same : o ≡ said.Decided (top_of all + 1) names = answer ∙ ap (λ k. said.Decided (k + 1) names) (sym t) in
-    let e : Entry = View b.stamp names (max b.resilience (image_of w).resilience) in
-    let e_is : View b.stamp names (max b.resilience (image_of m).resilience) ≡ e =
-    ap (λ (i : Image). View b.stamp names (max b.resilience i.resilience)) (sym (told_same m all s)) in
+    let e : Entry = View (decided_view w b names) in
+    let e_is : View (decided_view m b names) ≡ e =
+    ap (λ (i : Image). View (record { stamp = b.stamp; members = names; resilience = max b.resilience i.resilience })) (sym (told_same m all s)) in
     let p : IsEndOf (push_entry w e) mid = subst (λ (x : Entry). IsEndOf (push_entry w x) mid) e_is (pushes w (end_here m all s)) in
     rw there (record {
       node = end_reports (push_entry w e) mid n m.core.base (Some (with_end b (said.Decided (top_of all + 1) names))) p refl (is

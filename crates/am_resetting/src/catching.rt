@@ -17,6 +17,7 @@ use crate::reading::{
 use am_ballots::ballot::Ballot;
 use am_base::entry::{EntryParts, EntryRef, GroupView};
 use am_base::name::{Name, Stamp};
+use am_base::names::Names;
 use am_base::outcome::Outcome;
 use am_handlers::parts::Parts;
 use am_handlers::reply::{Note, Reply, Telling, asking, note_to, quiet, saying};

@@ -2,7 +2,7 @@ ghost use Rattle.std.specs.Prelude.{◌≡◌, ◌<◌, ◌≤◌, ◌+◌, ◌-
 ghost use Rattle.am_handlers.specs.Prelude.{most_number, IsEntry, fits, told_by, top_of, has, names_of, size, IsInOrder, Node, push_entry, trim_up_to, Changes, IsEndOf, IsOwnBallot, IsSteady, NodeKeeps, node_of};
 ghost use Rattle.am_base.specs.Outcomes.{is_took};
 ghost use Rattle.am_base.specs.declared.entry.Entry.TheVariants.{View};
-ghost use Rattle.am_model.specs.Ballots.{with_end, with_answer, decide, decide_view, trim_for, taken_by};
+ghost use Rattle.am_model.specs.Ballots.{with_end, with_answer, decide, decided_view, decide_view, trim_for, taken_by};
 ghost use Rattle.am_state.specs.Reports.{reports_from, least_of};
 ghost use Rattle.am_ballots.specs.Kept.{ballot_of};
 ghost use Rattle.am_resetting.specs.Deciding.{Answered, IsTakenOut, MayBeView, MayStore};
@@ -116,10 +116,7 @@ fn decided_answer(parts: &Parts, names: Names) -> Outcome
 fn view_of<'a>(parts: &Parts, ballot: &Ballot, names: Names) -> EntryRef<'a>
     requires stamp { ballot.now.stamp ≡ parts.now.core.promise }
     requires resilience { ballot.now.resilience ≤ 15 }
-    ensures value { result ≡ View (record {
-        stamp = ballot.now.stamp; members = names;
-        resilience = max ballot.now.resilience (told_by parts.now.core.log).resilience;
-    }) }
+    ensures value { result ≡ View (decided_view (node_of parts.now) (ballot_of ballot.now) names) }
     ensures within { IsEntry result }
 {
     EntryRef::of(EntryParts::View(GroupView {

@@ -10,12 +10,12 @@ use Rattle.am_resetting.proofs.catching.hears_result.Goals as goal
 pub returns-in-Some : goal.returns-in-Some
 returns-in-Some c =
     let arrival = c.args.arrival.now in
-    let decided = c.args.decided.now in
+    let v = c.args.view.now in
     let old = node_of c.args.parts.now in
     let r = c.in-Some.refusal in
-    let rest = telling (push_entry (trim_up_to old arrival.base) (View arrival.stamp decided.members decided.resilience)) (said.Stored arrival.number)
+    let rest = telling (push_entry (trim_up_to old arrival.base) (View v)) (said.Stored arrival.number)
     (only_name arrival.from) ack_of in
-    let row = hears_result old arrival.from arrival.stamp arrival.base arrival.number decided.members decided.resilience in
+    let row = hears_result old arrival.from arrival.base arrival.number v in
     by_reply row c.saying.result (saying_of r.outcome r.telling) old c.saying.ensures
     (by_plan row (plan_of old r.outcome r.telling) (saying_of r.outcome r.telling) old
     (c.result_refusal.ensures.value ∙ ap (λ (x : Option Denial). unless_denied x old rest) c.in-Some.is)
@@ -24,14 +24,14 @@ returns-in-Some c =
 pub returns-in-None : goal.returns-in-None
 returns-in-None c =
     let arrival = c.args.arrival.now in
-    let decided = c.args.decided.now in
+    let v = c.args.view.now in
     let old = node_of c.args.parts.now in
     let new = node_of c.store.new.parts in
-    let e = View arrival.stamp decided.members decided.resilience in
+    let e = View v in
     let w = push_entry (trim_up_to old arrival.base) e in
     let stored = said.Stored arrival.number in
     let rest = telling w stored (only_name arrival.from) ack_of in
-    let row = hears_result old arrival.from arrival.stamp arrival.base arrival.number decided.members decided.resilience in
+    let row = hears_result old arrival.from arrival.base arrival.number v in
     let reply = saying_of stored (tell.Note (only_name arrival.from) note.Ack) in
     by_reply row c.saying-in-None.result reply new (c.saying-in-None.ensures ∙ ap (saying_of stored) c.note_to.ensures)
     (by_plan row rest reply new (c.result_refusal.ensures.value ∙ ap (λ (x : Option Denial). unless_denied x old rest) c.in-None.is)
@@ -42,8 +42,8 @@ returns-in-None c =
 pub store-requires : goal.store-requires
 store-requires c =
     let arrival = c.args.arrival.now in
-    let decided = c.args.decided.now in
+    let v = c.args.view.now in
     let old = node_of c.args.parts.now in
     subst (λ (x : Entry). MayStore old arrival.base x) (sym c.view_entry.ensures)
-    (may_view old arrival.stamp arrival.base arrival.number decided.members decided.resilience c.requires.order c.requires.logged c.requires.promise
-    (none_open old arrival.stamp c.args.parts.now.keeps c.requires.promise c.requires.other) c.requires.within c.requires.number c.in-None.ensures.next)
+    (may_view old arrival.base arrival.number v c.requires.order c.requires.logged c.requires.promise
+    (none_open old v.stamp c.args.parts.now.keeps c.requires.promise c.requires.other) c.requires.within c.requires.number c.in-None.ensures.next)

@@ -6,19 +6,19 @@ use Rattle.am_resetting.proofs.catching.on_result.Goals as goal
 pub returns-then-is_passed : goal.returns-then-is_passed
 returns-then-is_passed c =
     let arrival = c.args.arrival.now in
-    let decided = c.args.decided.now in
+    let v = c.args.view.now in
     let old = node_of c.args.parts.now in
-    by_reply (result_row old arrival.from arrival.stamp arrival.base arrival.number decided.members decided.resilience) c.quiet.result (quiet_of said.Elsewhere) old
+    by_reply (result_row old arrival.from arrival.base arrival.number v) c.quiet.result (quiet_of said.Elsewhere) old
     c.quiet.ensures
-    (result_elsewhere old old arrival.from arrival.stamp arrival.base arrival.number decided.members decided.resilience (sym c.is_passed.ensures
+    (result_elsewhere old old arrival.from arrival.base arrival.number v (sym c.is_passed.ensures
     ∙ c.if-is_passed.true) (end_self old c.accept_front-front.ensures.order.kept))
 
 pub returns : goal.returns
 returns c =
     let arrival = c.args.arrival.now in
-    let decided = c.args.decided.now in
+    let v = c.args.view.now in
     let old = node_of c.args.parts.now in
     let mid = node_of c.raise_promise.new.parts in
-    result_heard old mid (node_of c.hears_result.new.parts) arrival.from arrival.stamp arrival.base arrival.number decided.members decided.resilience
+    result_heard old mid (node_of c.hears_result.new.parts) arrival.from arrival.base arrival.number v
     c.hears_result.result (sym c.is_passed.ensures ∙ c.if-is_passed.false)
     (c.raise_promise.ensures ∙ ap (with_promise old) c.copy_of.ensures) c.hears_result.ensures

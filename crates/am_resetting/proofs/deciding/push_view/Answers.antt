@@ -1,22 +1,22 @@
 use Rattle.am_resetting.proofs.DecidingWords.{◌≡◌, ◌+◌, ◌-◌, ◌≤◌, ℕ, List, length, max, true, Some, ap, sym, subst, ◌∙◌, arith, nat_tests, Entry, View, Stamp, Outcome}
 use Rattle.am_resetting.proofs.DecidingWords.{fits, size, has, stamp_lt, IsKept, reports_from, NodeKeeps, node_of, ballot_of, Node, Ballot, image_of, push_entry}
-use Rattle.am_resetting.proofs.DecidingWords.{with_end, IsEndOf, has_size, IsTakenOut, MayBeView}
+use Rattle.am_resetting.proofs.DecidingWords.{with_end, decided_view, IsEndOf, has_size, IsTakenOut, MayBeView}
 use Rattle.am_resetting.proofs.{Orders.lt_self, Views.fits_view, Nodes.keeps_pushed, Nodes.taken_idle, Verdicts.decided_comes}
 use Rattle.am_resetting.proofs.deciding.push_view.Goals as goal
 
 -- the View of a ballot that was taken out fits
 own_view_fits : (m : Node) (b : Ballot) (names : List ℕ) → IsTakenOut m b → MayBeView m names
-    → fits (image_of m) (View b.stamp names (max b.resilience (image_of m).resilience)) ≡ true
+    → fits (image_of m) (View (decided_view m b names)) ≡ true
 own_view_fits m b names is may =
     let by = (is.own).by is.is_open in
-    fits_view (image_of m) b.stamp names (max b.resilience (image_of m).resilience) ((is.own).ahead is.is_open) may.within (ap (has names) by
+    fits_view (image_of m) (decided_view m b names) ((is.own).ahead is.is_open) may.within (ap (has names) by
     ∙ may.itself) (omega arith)
 
 own_view_keeps : (m : Node) (b : Ballot) (names : List ℕ) (capacity : ℕ) → IsKept m.core.log capacity → IsTakenOut m b → MayBeView m names → NodeKeeps m
-    → NodeKeeps (push_entry m (View b.stamp names (max b.resilience (image_of m).resilience)))
+    → NodeKeeps (push_entry m (View (decided_view m b names)))
 own_view_keeps m b names capacity kept is may keeps =
     let stamp = (is.own).stamp is.is_open in
-    keeps_pushed m (View b.stamp names (max b.resilience (image_of m).resilience)) capacity kept keeps (own_view_fits m b names is may)
+    keeps_pushed m (View (decided_view m b names)) capacity kept keeps (own_view_fits m b names is may)
     (ap (λ (p : Stamp). stamp_lt p b.stamp) (sym stamp) ∙ lt_self b.stamp)
     (taken_idle m b is) ((is.own).logged is.is_open) (λ other there. absurd (let x = sym is.out ∙ there in cc))
 
@@ -45,7 +45,7 @@ returns-clause-comes c =
     let old = node_of c.args.parts.now in
     let mid = node_of c.push.new.parts in
     let b = ballot_of c.args.ballot in
-    let e = View b.stamp c.args.names (max b.resilience (image_of old).resilience) in
+    let e = View (decided_view old b c.args.names) in
     decided_comes old mid (node_of c.close.new.parts) b c.args.names c.close.result c.requires.room
     (λ all end. subst (λ (x : Entry). IsEndOf (push_entry all x) mid) c.view_of.ensures.value (c.push.ensures.changes all end))
     (c.close.ensures.answer ∙ c.decided_answer-answer.ensures.value)
