@@ -156,10 +156,10 @@ module _ (rules : Rules) (events : List Event) (place : ℕ) (may : MayFound rul
         omega arith
       where
         reached : (before : List Entry)
-            → Begins (before ++ View (current_of s.views).stamp (current_of s.views).members (current_of s.views).resilience ∷ []) list
+            → Begins (before ++ View (current_of s.views).view ∷ []) list
             → length before < (image_of list).view_number
         reached before on =
-            let e = View (current_of s.views).stamp (current_of s.views).members (current_of s.views).resilience in
+            let e = View (current_of s.views).view in
             let a = before ++ e ∷ [] in
             let long = length_push before e in
             let its = after_view (image_of before) (1 + length before) (current_of s.views).stamp (current_of s.views).members

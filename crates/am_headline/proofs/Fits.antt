@@ -61,7 +61,7 @@ pub data BringsEntry (c : Cause) (number : ℕ) : Type 0 where
   by_bcast : (s : ℕ) (v : Stamp) (base acc : ℕ) (e : Entry) → c ≡ hears (packet.Bcast s v base acc number e) → BringsEntry c number
   by_order : (s : ℕ) (v : Stamp) (base acc from req : ℕ) → c ≡ hears (packet.Order s v base acc number from req) → BringsEntry c number
   by_piece : (s : ℕ) (v : Stamp) (base : ℕ) (e : Entry) → c ≡ hears (packet.Piece s v base number e) → BringsEntry c number
-  by_result : (s : ℕ) (v.stamp : Stamp) (base : ℕ) (v.members : List ℕ) (v.resilience : ℕ) → c ≡ hears (packet.Result s base number v)
+  by_result : (s : ℕ) (v : Stamp) (base : ℕ) (names : List ℕ) (resilience : ℕ) → c ≡ hears (packet.Result s v base number names resilience)
       → BringsEntry c number
 
 abbrev pub FitsAt : Rules → Node → ℕ → Type 0

@@ -89,7 +89,7 @@ asked_move s t (closes i n leads leaving alone may) k h =
     asked_more s t (Leave i) (chain_more s i ((s.node i).list ++ Leave i ∷ []) k leads ∙ ap (λ l. l ++ Leave i ∷ []) ok.chain)
     (put_leaving s i (record (longer (s.node i) (Leave i)) { departed = true }) (λ z. z))
     (λ j is. let same : i ≡ j = same_leave i j is in ap (λ x. (s.node x).leaving) (sym same) ∙ leaving) h
-asked_move s t (decides i members resilience may) k h = λ a j begins_.
+asked_move s t (decides i v may) k h = λ a j begins_.
     (let m = s.node i in
     let all = opening (choice_of m members resilience) in
     let is : chain_of t.views ≡ all = put_same s.views.line (key m.promise) all in
@@ -139,7 +139,7 @@ record Ends (t : Group) : Type 0 where
 
 -- nor decides a ballot, as that would want the last Leave
 gone_decided : (s t : Group) (i : ℕ) (members : List ℕ) (resilience : ℕ) → Kept s → Ends t → groups.IsUp (s.node i) → mem (s.node i).list i ≡ true
-    → chain_of t.views ≡ opening (choice_of (s.node i) members resilience) → Begins s.group t.group → (d : ℕ) → (t.node d).departed ≡ true → GoneBy s d
+    → chain_of t.views ≡ opening (choice_of (s.node i) v) → Begins s.group t.group → (d : ℕ) → (t.node d).departed ≡ true → GoneBy s d
     → GoneBy t d
 gone_decided s t i members resilience k kt up member is group d gone (accepted before h) = accepted before (begins_trans h group)
 gone_decided s t i members resilience k kt up member is group d gone (last before chain none) = absurd (
@@ -182,7 +182,7 @@ gone_move s t (closes i n leads leaving alone may) k kt h = λ d gone.
     leaver_out (s.node i).list i (subst IsGood is kt.good) (subst (λ x. mem ((s.node i).list ++ Leave i ∷ []) x ≡ true) same (subst (λ l. mem l j ≡ true) is
     member))))))
     (put_gone s i m d gone))
-gone_move s t (decides i members resilience may) k kt h = λ d gone.
+gone_move s t (decides i v may) k kt h = λ d gone.
     gone_decided s t i members resilience k kt may.up may.needed (put_same s.views.line (key (s.node i).promise) (opening (choice_of (s.node i) members
     resilience)))
     (begins_refl s.group) d gone (h d (not_now s i _ d refl gone))
@@ -218,7 +218,7 @@ nil_none a e x h = ⊎_elim
 
 pub runs_left : (founders : List ℕ) (first resilience : ℕ) (s : Group) → Run founders first resilience s → AllLeft s
 runs_left founders first resilience s (founded may) = record {
-  asked = λ a j begins_. absurd (let e = nil_none a (View (first_stamp first) founders resilience) (Leave j) begins_ in cc);
+  asked = λ a j begins_. absurd (let e = nil_none a (View (first_choice founders first resilience).view) (Leave j) begins_ in cc);
   gone = λ d gone. absurd (cc);
 }
 runs_left founders first resilience t (more {s = s} run step law) =

@@ -29,7 +29,7 @@ pub record Viewed (v : Stamp) (list : List Entry) : Type 0 where
   pub resilience : ℕ
   pub begins : Begins (before ++ View v ∷ []) list
 
-is_that : (v.stamp : Stamp) (e : Entry) → is_view_of v.stamp e ≡ true → (v.members : List ℕ) × (v.resilience : ℕ) × (e ≡ View v)
+is_that : (v : Stamp) (e : Entry) → is_view_of v e ≡ true → (names : List ℕ) × (resilience : ℕ) × (e ≡ View v names resilience)
 is_that v (View w) h = (w.members, w.resilience, ap (λ s. View s w.members w.resilience) (same_stamp w.stamp v h))
 is_that v _ h = absurd (cc)
 
@@ -49,30 +49,30 @@ find_view v (e ∷ es) h = split (is_view_of v e)
     record { before = e ∷ at.before; names = at.names; resilience = at.resilience; begins = begins_cons e at.begins })
 
 -- two beginnings of one list that end with the same View are the same
-pub same_opening : (v.stamp : Stamp) (a b : List Entry) (v.members others : List ℕ) (v.resilience more : ℕ) (list : List Entry)
-    → Begins (a ++ View v ∷ []) list → Begins (b ++ View v.stamp others more ∷ []) list
-    → IsGood (a ++ View v ∷ []) → IsGood (b ++ View v.stamp others more ∷ []) → a ++ View v ∷ [] ≡ b ++ View v.stamp others more ∷ []
-same_opening v.stamp a b v.members others v.resilience more list h k g f =
-    let p = a ++ View v ∷ [] in
-    let q = b ++ View v.stamp others more ∷ [] in
-    let long_p = length_push a (View v) in
-    let long_q = length_push b (View v.stamp others more) in
+pub same_opening : (v : Stamp) (a b : List Entry) (names others : List ℕ) (resilience more : ℕ) (list : List Entry)
+    → Begins (a ++ View v names resilience ∷ []) list → Begins (b ++ View v others more ∷ []) list
+    → IsGood (a ++ View v names resilience ∷ []) → IsGood (b ++ View v others more ∷ []) → a ++ View v names resilience ∷ [] ≡ b ++ View v others more ∷ []
+same_opening v a b names others resilience more list h k g f =
+    let p = a ++ View v names resilience ∷ [] in
+    let q = b ++ View v others more ∷ [] in
+    let long_p = length_push a (View v names resilience) in
+    let long_q = length_push b (View v others more) in
     ⊎_elim
     (λ (le : length p ≤ length q). ⊎_elim
     (λ (back : length q ≤ length p). begins_same (begins_both h k le) back)
-    (λ (less : length p < length q). absurd (below v.stamp b others more p (begins_both (begins_both h k le) (begins_more b (View v.stamp others more ∷ []))
+    (λ (less : length p < length q). absurd (below v b others more p (begins_both (begins_both h k le) (begins_more b (View v others more ∷ []))
     (omega arith)) f
-    (view_viewed a v)))
+    (view_viewed a v names resilience)))
     (low_or_above (length q) (length p)))
-    (λ (less : length q < length p). absurd (below v.stamp a v.members v.resilience q
-    (begins_both (begins_both k h (omega arith)) (begins_more a (View v ∷ [])) (omega arith)) g (view_viewed b v.stamp others more)))
+    (λ (less : length q < length p). absurd (below v a names resilience q
+    (begins_both (begins_both k h (omega arith)) (begins_more a (View v names resilience ∷ [])) (omega arith)) g (view_viewed b v others more)))
     (low_or_above (length p) (length q))
   where
-    below : (v.stamp : Stamp) (a : List Entry) (v.members : List ℕ) (v.resilience : ℕ) (q : List Entry) → Begins q a → IsGood (a ++ View v ∷ [])
-        → view_of q ≡ v.stamp → ⊥
-    below v.stamp a v.members v.resilience q h g is =
-        let up = view_up (good_begins (begins_more a (View v ∷ [])) g) h in
-        let low = view_below a v g in
+    below : (v : Stamp) (a : List Entry) (names : List ℕ) (resilience : ℕ) (q : List Entry) → Begins q a → IsGood (a ++ View v names resilience ∷ [])
+        → view_of q ≡ v → ⊥
+    below v a names resilience q h g is =
+        let up = view_up (good_begins (begins_more a (View v names resilience ∷ [])) g) h in
+        let low = view_below a v names resilience g in
         let same = ap key is in
         omega arith
 

@@ -176,8 +176,8 @@ unfinished_none who promise v w None f = tt
 unfinished_none who promise v w (Some b) f = λ over. absurd (let g = rw over at f in cc)
 
 -- a View up to the promise, below an open ballot
-fetched_high : (m : Node) (s : ℕ) (v w.stamp : Stamp) (w.members : List ℕ) (w.resilience : ℕ) → m.core.promise ≡ v → w.stamp.by < 256 → HasNames m
-    → Fetches m s v (View w) → Balloted m → (stamp_lt m.core.promise w.stamp ≡ false) × OpenBallot m.core.who m.core.promise w.stamp m.ballot
+fetched_high : (m : Node) (s : ℕ) (v stamp : Stamp) (names : List ℕ) (resilience : ℕ) → m.core.promise ≡ v → stamp.by < 256 → HasNames m
+    → Fetches m s v (View stamp names resilience) → Balloted m → (stamp_lt m.core.promise stamp ≡ false) × OpenBallot m.core.who m.core.promise stamp m.ballot
 fetched_high m s v stamp names resilience is few named (without_ballot none own past) h =
     let low : stamp_lt v stamp ≡ false = or_first (stamp_lt v stamp) _ past in
     (subst (λ (p : Stamp). stamp_lt p stamp ≡ false) (sym is) low, unfinished_none m.core.who m.core.promise stamp stamp m.ballot none)
@@ -227,8 +227,8 @@ other_open who promise w v (Some b) is other h = λ over. absurd (
     let t : (v.by == who) ≡ true = grind (arith, nat_tests) in
     cc)
 
-does_result : (m : Node) (v.stamp : Stamp) (base : ℕ) (v.members : List ℕ) (v.resilience : ℕ) → m.core.promise ≡ v.stamp → (v.stamp.by == m.core.who) ≡ false
-    → fits (image_of m) (View v) ≡ true → Balloted m → Does m (push_entry (trim_up_to m base) (View v))
+does_result : (m : Node) (v : Stamp) (base : ℕ) (names : List ℕ) (resilience : ℕ) → m.core.promise ≡ v → (v.by == m.core.who) ≡ false
+    → fits (image_of m) (View v names resilience) ≡ true → Balloted m → Does m (push_entry (trim_up_to m base) (View v names resilience))
 does_result m v.stamp base v.members v.resilience is other fit h =
     let same : view (push_entry (trim_up_to m base) (View v)) ≡ v = view_last (trim_up_to m base) v in
     record {

@@ -18,8 +18,8 @@ use Rattle.std.proofs.lemmas.List.{same_from_push}
 -- ---- lists
 
 -- a View that wasn't there ends the line that it opens
-line_opens : (v.stamp : Stamp) (es : List Entry) (v.members : List ℕ) (v.resilience : ℕ) → list_any (is_view_of v.stamp) es ≡ false
-    → up_to_next v.stamp (es ++ View v ∷ []) ≡ es ++ View v ∷ []
+line_opens : (v : Stamp) (es : List Entry) (names : List ℕ) (resilience : ℕ) → list_any (is_view_of v) es ≡ false
+    → up_to_next v (es ++ View v names resilience ∷ []) ≡ es ++ View v names resilience ∷ []
 unfolding up_to_next up_to_view
 line_opens v [] names resilience h = let t : stamp_eq v v ≡ true = grind (arith, nat_tests) in rw t refl
 line_opens v (x ∷ es) names resilience h = split (is_view_of v x)
@@ -38,10 +38,10 @@ looked_promise w name c x b s may (as_it_is old o on) = open_promise w name c x 
 
 -- ---- the views
 
-module _ (w : World) (name : ℕ) (x y : Node) (a : groups.Node) (views : Views) (v.stamp : Stamp) (v.members : List ℕ) (v.resilience : ℕ)
-    (promised : a.promise ≡ v.stamp) (mine : v.stamp.by ≡ name) (old : NameStands (within w name x) name x a)
-    (log : y.core.log ≡ (push_entry x (View v)).core.log) (same_members : members y ≡ v.members)
-    (fresh : views.decided (key v.stamp) ≡ false) (unseen : list_any (is_view_of v.stamp) a.list ≡ false) (h : ViewsStand (within w name x) views) where
+module _ (w : World) (name : ℕ) (x y : Node) (a : groups.Node) (views : Views) (v : Stamp) (names : List ℕ) (r : ℕ)
+    (promised : a.promise ≡ v) (mine : v.by ≡ name) (old : NameStands (within w name x) name x a)
+    (log : y.core.log ≡ (push_entry x (View v names r)).core.log) (same_members : members y ≡ names)
+    (fresh : views.decided (key v) ≡ false) (unseen : list_any (is_view_of v) a.list ≡ false) (h : ViewsStand (within w name x) views) where
   e : Entry
   e = View v
 
@@ -51,8 +51,8 @@ module _ (w : World) (name : ℕ) (x y : Node) (a : groups.Node) (views : Views)
   made : Views
   made = record views {
     decided = put views.decided (key a.promise) true;
-    chosen = put views.chosen (key a.promise) (choice_of a v.members v.resilience);
-    line = put views.line (key a.promise) (opening (choice_of a v.members v.resilience));
+    chosen = put views.chosen (key a.promise) (choice_of a names r);
+    line = put views.line (key a.promise) (opening (choice_of a names r));
     current = a.promise;
   }
 
@@ -64,13 +64,13 @@ module _ (w : World) (name : ℕ) (x y : Node) (a : groups.Node) (views : Views)
   told_is : nodes.image_of y ≡ nodes.image_of (push_entry x (View v))
   told_is = ap (λ (g : Log). nodes.image_of (record y { core = record (y.core) { log = g } })) log
 
-  is_stamp : view y ≡ v.stamp
+  is_stamp : view y ≡ v
   is_stamp = ap (λ (i : Image). i.view) (told_is ∙ told_pushed x (View v)) ∙ (after_view (nodes.image_of x) (nodes.top x + 1) v).0
 
   is_number : (nodes.image_of y).view_number ≡ nodes.top x + 1
   is_number = ap (λ (i : Image). i.view_number) (told_is ∙ told_pushed x (View v)) ∙ (after_view (nodes.image_of x) (nodes.top x + 1) v).1
 
-  is_resilience : (nodes.image_of y).resilience ≡ v.resilience
+  is_resilience : (nodes.image_of y).resilience ≡ r
   is_resilience = ap (λ (i : Image). i.resilience) (told_is ∙ told_pushed x (View v)) ∙ (after_view (nodes.image_of x) (nodes.top x + 1) v).2
 
   long : length a.list ≡ nodes.top x

@@ -240,7 +240,7 @@ welcome_stands w name c x v base join image s may needs h =
     let n = h.views.noted k d at in
     let none : line_of (within w name x) d.stamp ≡ [] = line_here w name x d.stamp mine ∙ ap (up_to_next d.stamp) bare in
     let ch = s.views.chosen (key d.stamp) in
-    absurd (none_opens ch.before (View ch.stamp ch.members ch.resilience) (subst (Begins (opening ch)) (n.line ∙ none) n.opens)))
+    absurd (none_opens ch.before (View ch.view) (subst (Begins (opening ch)) (n.line ∙ none) n.opens)))
     (λ f. rw f refl) in
     one_move (λ t. StandsBut name (within w name y) t × FrontsBegin name base t) s (with_node s name b) (group.welcomes name v base join needs.may) tt (
       record {

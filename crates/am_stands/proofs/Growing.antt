@@ -73,16 +73,16 @@ group_in s i k leads = subst (Begins s.group) (sym ((k.each i).leads leads).chai
 -- ---- a decision
 
 decision_grows : (s : Group) (i : ℕ) (members : List ℕ) (resilience : ℕ) → s.views.decided (key (s.node i).promise) ≡ false
-    → NewView s (with_choice s i members resilience) (key (s.node i).promise) → Grows s (with_choice s i members resilience)
+    → NewView s (with_choice s i v) (key (s.node i).promise) → Grows s (with_choice s i v)
 unfolding put
 decision_grows s i members resilience fresh new = record {
-  each = λ j. put_grows s i (record (s.node i) { list = opening (choice_of (s.node i) members resilience); ballot = false })
+  each = λ j. put_grows s i (record (s.node i) { list = opening (choice_of (s.node i) v); ballot = false })
       (record { list = begins_more (s.node i).list _; log = λ z. z; promise = omega arith; stopped = λ t. t; departed = λ t. t; leaving = λ t. t }) j;
   group = begins_refl s.group;
   lines = λ x d. (let f = other x d in rw f (begins_refl (s.views.line x)));
   decided = λ x d. (let f = other x d in (rw f d, rw f refl));
   new = λ x d. split (x == key (s.node i).promise)
-      (λ t. inr (let same : x ≡ key (s.node i).promise = grind (arith, nat_tests) in subst (NewView s (with_choice s i members resilience)) (sym same) new))
+      (λ t. inr (let same : x ≡ key (s.node i).promise = grind (arith, nat_tests) in subst (NewView s (with_choice s i v)) (sym same) new))
       (λ f. inl (rw f at d));
   shown = λ x j list is. is;
   served = λ x j is. is;
@@ -153,7 +153,7 @@ moves_grow s t (serves i list up shown others) k new = record {
       (put2_cases s.served (key (s.node i).promise) i true x j);
 }
 moves_grow s t (fetches i h list e up ballot served shown next) k new = node_grows s i (longer (s.node i) e) (longer_name (s.node i) e)
-moves_grow s t (decides i members resilience may) k new = decision_grows s i members resilience new.0 new.1
+moves_grow s t (decides i v may) k new = decision_grows s i members resilience new.0 new.1
 moves_grow s t (gives_over i) k new = node_grows s i _
     (record { list = begins_refl (s.node i).list; log = λ z. z; promise = omega arith; stopped = λ z. z; departed = λ z. z; leaving = λ z. z })
 moves_grow s t (welcomes j stamp base join may) k new = node_grows s j

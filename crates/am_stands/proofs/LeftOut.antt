@@ -47,26 +47,26 @@ longer_chain s i b e k leads is =
 -- ---- a decision
 
 -- who departed is no member of what is chosen
-pub none_departed : (s : Group) (k : Kept s) (lawful : IsLawful s) (c : ℕ) (members : List ℕ) (resilience : ℕ) (d : MayDecide s c members resilience) (j : ℕ)
+pub none_departed : (s : Group) (k : Kept s) (lawful : IsLawful s) (c : ℕ) (v : GroupView) (d : MayDecide s c v) (j : ℕ)
     → mem (s.node c).list j ≡ true → (s.node j).departed ≡ true → ⊥
-none_departed s k lawful c members resilience d j member gone =
+none_departed s k lawful c v d j member gone =
     let o = k.departed j gone in
-    let inside = departed_in s k lawful c members resilience d j gone in
-    let good = good_begins (begins_trans inside (list_chain s k lawful c members resilience d)) k.views.good in
-    leaver_out o.before j good (mem_between j (good_begins (list_chain s k lawful c members resilience d) k.views.good)
+    let inside = departed_in s k lawful c v d j gone in
+    let good = good_begins (begins_trans inside (list_chain s k lawful c v d)) k.views.good in
+    leaver_out o.before j good (mem_between j (good_begins (list_chain s k lawful c v d) k.views.good)
     (begins_more o.before (Leave j ∷ [])) inside (leaver_in o.before j good) member)
 
-choice_left : (s : Group) (k : Kept s) (lawful : IsLawful s) (c : ℕ) (members : List ℕ) (resilience : ℕ) → MayDecide s c members resilience → LeftOut s
-    → LeftOut (with_choice s c members resilience)
-choice_left s k lawful c members resilience d h a v name part member out =
+choice_left : (s : Group) (k : Kept s) (lawful : IsLawful s) (c : ℕ) (members : List ℕ) (resilience : ℕ) → MayDecide s c v → LeftOut s
+    → LeftOut (with_choice s c v)
+choice_left s k lawful c v d h a v name part member out =
     let old = (s.node c).list in
-    let e = View (s.node c).promise members resilience in
-    let all = opening (choice_of (s.node c) members resilience) in
-    let is : chain_of (with_choice s c members resilience).views ≡ all = put_same s.views.line (key (s.node c).promise) all in
+    let e = View (choice_of (s.node c) v).view in
+    let all = opening (choice_of (s.node c) v) in
+    let is : chain_of (with_choice s c v).views ≡ all = put_same s.views.line (key (s.node c).promise) all in
     let stays = put_stops s c (record (s.node c) { list = all; ballot = false }) (λ t. t) in
     ⊎_elim
     (λ (z : Begins (a ++ View v ∷ []) old).
-    stays name (h a v name (begins_trans z (list_chain s k lawful c members resilience d)) member out))
+    stays name (h a v name (begins_trans z (list_chain s k lawful c v d)) member out))
     (λ (z : a ++ View v ∷ [] ≡ old ++ e ∷ []).
     (let last = (same_from_push a old (View v) e z).1 in
     let its : v.members ≡ members = ap (λ x. names_of_view x) last in
@@ -78,7 +78,7 @@ choice_left s k lawful c members resilience d h a v name part member out =
     stays name (split (s.node name).stopped
     (λ t. t)
     (λ goes. split (s.node name).departed
-    (λ gone. absurd (none_departed s k lawful c members resilience d name here gone))
+    (λ gone. absurd (none_departed s k lawful c v d name here gone))
     (λ there. absurd (let in_ = d.all name here (record { goes = goes; stays = there }) in let o = ap (λ set. has set name) its ∙ in_ in cc))))))
     (begins_pushed e (subst (Begins (a ++ View v ∷ [])) is part))
   where
@@ -105,7 +105,7 @@ moves_left s t (learns i told acc up rises within before up_to given low) k law 
 moves_left s t (begins i few up stays member) k law h = same_left s t (put_stops s i _ (λ z. z)) refl h
 moves_left s t (raises i stamp there above) k law h = same_left s t (put_stops s i _ (λ z. z)) refl h
 moves_left s t (fetches i f list e up ballot served shown next) k law h = same_left s t (put_stops s i _ (λ z. z)) refl h
-moves_left s t (decides i members resilience may) k law h = choice_left s k law i members resilience may h
+moves_left s t (decides i v may) k law h = choice_left s k law i v may h
 moves_left s t (gives_over i) k law h = same_left s t (put_stops s i _ (λ z. z)) refl h
 moves_left s t (welcomes j stamp base join may) k law h = same_left s t (put_stops s j _ (λ z. z)) refl h
 moves_left s t (asks i up none) k law h = same_left s t (put_stops s i _ (λ z. z)) refl h
@@ -120,11 +120,11 @@ moves_left s t _ k law h = same_left s t (λ j z. z) refl h
 start_left : (founders : List ℕ) (first resilience : ℕ) → LeftOut (start founders first resilience)
 start_left founders first resilience a v name part member out = ⊎_elim
     (λ (low : Begins (a ++ View v ∷ []) []). absurd (let long = begins_length low in let one = length_push a (View v) in omega arith))
-    (λ (all : a ++ View v ∷ [] ≡ [] ++ View (first_stamp first) founders resilience ∷ []).
+    (λ (all : a ++ View v ∷ [] ≡ [] ++ View (first_choice founders first resilience).view ∷ []).
     absurd (let long = ap length all in
     let one = length_push a (View v) in
     mem_nil name (subst (λ l. mem l name ≡ true) (nothing a (omega arith)) member)))
-    (begins_pushed (View (first_stamp first) founders resilience) part)
+    (begins_pushed (View (first_choice founders first resilience).view) part)
   where
     nothing : (l : List Entry) → length l ≡ 0 → l ≡ []
     nothing [] none = refl

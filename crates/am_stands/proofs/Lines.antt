@@ -129,8 +129,8 @@ any_last p [] e h = rw h refl
 any_last p (x ∷ a) e h = split (p x) (λ t. rw t refl) (λ f. rw f (any_last p a e h))
 
 -- a view's line opens with its View
-pub opened : (v.stamp : Stamp) (before : List Entry) (v.members : List ℕ) (v.resilience : ℕ) (list : List Entry)
-    → Begins (before ++ View v ∷ []) (up_to_next v.stamp list) → HasViewOf v.stamp list
+pub opened : (v : Stamp) (before : List Entry) (names : List ℕ) (resilience : ℕ) (list : List Entry)
+    → Begins (before ++ View v names resilience ∷ []) (up_to_next v list) → HasViewOf v list
 opened v.stamp before v.members v.resilience list h =
     let e = View v in
     let there = any_front (is_view_of v.stamp) (before ++ e ∷ []) h.rest (any_last (is_view_of v.stamp) before e (stamp_itself v.stamp)) in

@@ -44,15 +44,15 @@ list_opens s i k h up some = h (key s.views.current) (s.node i).list k.views.now
 
 -- ---- a decision
 
-choice_opens : (s : Group) (i : ℕ) (members : List ℕ) (resilience : ℕ) → Kept s → MayDecide s i members resilience → LinesOpen s
-    → LinesOpen (with_choice s i members resilience)
+choice_opens : (s : Group) (i : ℕ) (members : List ℕ) (resilience : ℕ) → Kept s → MayDecide s i v → LinesOpen s
+    → LinesOpen (with_choice s i v)
 choice_opens s i members resilience k may h x list d some part =
     let a = s.node i in
     let at = key a.promise in
     let all = opening (choice_of a members resilience) in
     let fresh : (y : ℕ) → s.views.decided y ≡ true → y ≢ at = λ y is same.
     (let above = ((k.each i).ballot may.up may.ballot).above in let most = k.views.order y is in omega arith) in
-    let before : (y : ℕ) → s.views.decided y ≡ true → Begins list (s.views.line y) → LineOpens (with_choice s i members resilience) list = λ y is low.
+    let before : (y : ℕ) → s.views.decided y ≡ true → Begins list (s.views.line y) → LineOpens (with_choice s i v) list = λ y is low.
     (let o = h y list is some low in
     let other = fresh (key (view_of list)) o.decided in
     record {
@@ -88,7 +88,7 @@ numbers_plain node i _ may = tt
 
 pub moves_open : (s t : Group) → Move s t → Kept s → LinesOpen s → LinesOpen t
 moves_open s t (numbers i e leads fit may) k h = line_opens s i e (longer (s.node i) e) k leads (numbers_plain s.node i e may) refl h
-moves_open s t (decides i members resilience may) k h = choice_opens s i members resilience k may h
+moves_open s t (decides i v may) k h = choice_opens s i members resilience k may h
 moves_open s t (closes i n leads leaving alone may) k h =
     let b = record (longer (s.node i) (Leave i)) { departed = true } in
     same_lines (with_line s i b) t refl refl (line_opens s i (Leave i) b k leads tt refl h)
@@ -99,13 +99,13 @@ moves_open s t _ k h = same_lines s t refl refl h
 start_opens : (founders : List ℕ) (first resilience : ℕ) → LinesOpen (start founders first resilience)
 start_opens founders first resilience x list d some part = ⊎_elim
     (λ (low : Begins list []). absurd (some (nothing list low)))
-    (λ (all : list ≡ [] ++ View (first_stamp first) founders resilience ∷ []).
-    (let same : view_of list ≡ first_stamp first = ap view_of all ∙ view_viewed [] (first_stamp first) founders resilience in
+    (λ (all : list ≡ [] ++ View (first_choice founders first resilience).view ∷ []).
+    (let same : view_of list ≡ first_stamp first = ap view_of all ∙ view_viewed [] (first_choice founders first resilience).view in
     record {
       decided = ap (λ (u : Stamp). key u == key (first_stamp first)) same ∙ itself (key (first_stamp first));
       line_ = subst (Begins list) all (begins_refl list);
     }))
-    (begins_pushed (View (first_stamp first) founders resilience) part)
+    (begins_pushed (View (first_choice founders first resilience).view) part)
   where
     itself : (n : ℕ) → (n == n) ≡ true
     itself n = grind (arith, nat_tests)
