@@ -132,7 +132,7 @@ look_fits : (rules : Rules) (c : Cause) (x : Node) (b : Ballot) (v : Verdict) â†
 look_fits rules c x b v same fronts (decides may) h =
     let names = left_in b (need_of x b) in
     let before = trim_for x b names in
-    let e = View b.stamp names (max b.resilience (image_of x).resilience) in
+    let e = View (decided_view x b names) in
     let used = told_used x fronts in
     let few = viewed_few (image_of x) (top x + 1) b.stamp names (max b.resilience (image_of x).resilience) used.places (omega arith)
     (those_long (Î» name. not (b.given_up name)) (need_of x b)) in

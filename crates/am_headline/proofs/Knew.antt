@@ -37,7 +37,7 @@ know_change nodes c o x y none w k (takes_report s v report brings may) =
     (λ f. rw f (omega arith)))
 know_change nodes c o x y none w k (admits s v is leads fit) = absurd (none s v is)
 know_change nodes c o x y none w k (looks b verdict over why look is) = know_look nodes x b verdict look (looked_at x b why k).open_.above
-know_change nodes c o x y none w k (stores_view s v base number names resilience is heard own other promise below_ may) = same nodes x y refl (λ j other_. refl)
+know_change nodes c o x y none w k (stores_view s base number v is heard own other promise below_ may) = same nodes x y refl (λ j other_. refl)
 know_change nodes c o x y none w k (closes leads leaves alone room) =
     same nodes x y (rests_at_end (push_entry x (Leave x.core.who))).rests.who (end_same (push_entry x (Leave x.core.who)))
 know_change nodes c o x y none w k _ = same nodes x y refl (λ j other. refl)

@@ -85,7 +85,7 @@ pub decide_alike : (m : Node) (b : Ballot) → Alike m (decide m b).node
 unfolding decide
 decide_alike m b =
     let names = left_in b (need_of m b) in
-    let view = View b.stamp names (max b.resilience (image_of m).resilience) in
+    let view = View (decided_view m b names) in
     let over : (o : Outcome) → Alike m (ends m b o).node = λ o. same_log m (ends m b o).node refl (omega arith) refl refl refl refl refl refl refl refl in
     let on : (o : Outcome) → Alike m (goes_on m b o).node = λ o. same_log m (goes_on m b o).node refl (omega arith) refl refl refl refl refl refl refl refl in
     let before = trim_for m b names in

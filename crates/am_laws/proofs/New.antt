@@ -123,9 +123,9 @@ heard_own rules w e c h cause = record {
   piece = λ s v base number x is. (let was : WasSentTo w (actor w e) e.act (packet.Piece s v base number x) = subst (IsCause w (actor w e) e.act) is cause in
       let known : PacketKnown w.nodes (packet.Piece s v base number x) =
       subst (PacketKnown w.nodes) was.is (all_item (LetterKnown w.nodes) w.letters (heard_by e.act) was.letter h.heard was.there) in known);
-  result = λ s v base number names resilience is. (let was : WasSentTo w (actor w e) e.act (packet.Result s v base number names resilience) =
+  result = λ s base number v is. (let was : WasSentTo w (actor w e) e.act (packet.Result s base number v) =
       subst (IsCause w (actor w e) e.act) is cause in
-      let known : PacketKnown w.nodes (packet.Result s v base number names resilience) =
+      let known : PacketKnown w.nodes (packet.Result s base number v) =
       subst (PacketKnown w.nodes) was.is (all_item (LetterKnown w.nodes) w.letters (heard_by e.act) was.letter h.heard was.there) in known);
 }
 

@@ -41,7 +41,7 @@ module _ (rules : Rules) (w : World) (name : ℕ) (c : Cause) (x : Node) (s : Gr
   promise_begun : (v : Stamp) → Promises c x v → WasBegun s v
   promise_begun v (invited from _ is heard own) = h.begun (packet.Invite from v) is
   promise_begun v (overtaken from _ vote is heard above) = h.begun (packet.Vote from v vote) is
-  promise_begun v (told_result from _ base number names resilience is heard own other) = h.begun (packet.Result from v base number names resilience) is
+  promise_begun v (told_result from base number w is heard own other) = h.begun (packet.Result from base number w) is
 
   pub may_move : MayMove w name c x s
   may_move = record {
@@ -215,7 +215,7 @@ module _ (rules : Rules) (w : World) (name : ℕ) (c : Cause) (x : Node) (s : Gr
   needs o y (begins_list from v base join image is says_ may) open_ = welcome_ok from v base join image is may
   needs o y (looks b verdict over why look is) open_ = look_ok b verdict why look
   needs o y (fetches from v base number e is heard promise below why may) open_ = fetch_ok from v base number e is heard promise why may
-  needs o y (stores_view from v base number names resilience is heard own other promise below may) open_ =
-      result_ok from v base number names resilience is heard own other promise may
+  needs o y (stores_view from base number v is heard own other promise below may) open_ =
+      result_ok from base number v is heard own other promise may
   needs o y (closes leads leaves alone room) open_ = absurd open_
   needs o y _ open_ = tt
