@@ -84,8 +84,8 @@ change_owns nodes i c o x y names begun (begins_list s v base join image is says
 change_owns nodes i c o x y names begun (promises v low why) h = promise_owns nodes i c x v names begun why low (raised why) h
   where
     raised : {v : Stamp} → Promises c x v → IsBegun nodes v
-    raised (invited s w.stamp is heard own) = subst (CauseBegun nodes) is begun
-    raised (overtaken_by s w.stamp shown is heard above) = subst (CauseBegun nodes) is begun
+    raised (invited s w is heard own) = subst (CauseBegun nodes) is begun
+    raised (overtaken_by s w shown is heard above) = subst (CauseBegun nodes) is begun
     raised (told_result s base number w is heard own other) = subst (CauseBegun nodes) is begun
 change_owns nodes i c o x y names begun (opens least resilience by may) h = λ b number all at answer mine. absurd (let z = ap answer_in at ∙ answer in cc)
 change_owns nodes i c o x y names begun (looks b verdict over why look is) h = look_owns x b verdict look (looked_at x b why h.balloted).open_.promised
