@@ -36,7 +36,7 @@ vote_low v list branch good h begins worse = ⊎_elim
     (low_or_above (length v) (length list))
 
 module _ (s : Group) (k : Kept s) (lawful : IsLawful s) (c : ℕ) (v : GroupView) (d : MayDecide s c v) (b : BranchesOk s)
-    (voted : (j : ℕ) → has members j ≡ true → (j ≡ c) ⊎ Voted s (key (s.node c).promise) j (s.node c).list) where
+    (voted : (j : ℕ) → has v.members j ≡ true → (j ≡ c) ⊎ Voted s (key (s.node c).promise) j (s.node c).list) where
   abbrev chosen : List Entry
   chosen = (s.node c).list
 
@@ -46,12 +46,12 @@ module _ (s : Group) (k : Kept s) (lawful : IsLawful s) (c : ℕ) (v : GroupView
   chain : Begins chosen (chain_of s.views)
   chain = list_chain s k lawful c v d
 
-  in_chosen : (j : ℕ) → has members j ≡ true → mem chosen j ≡ true
+  in_chosen : (j : ℕ) → has v.members j ≡ true → mem chosen j ≡ true
   unfolding mem
-  in_chosen j h = within_has members (members_of (image_of chosen)) j d.within h
+  in_chosen j h = within_has v.members (members_of (image_of chosen)) j d.within h
 
   -- on one branch with the coordinator's list, a name of the View has no more
-  low_on : (j : ℕ) (branch : List Entry) → has members j ≡ true → (s.node j).departed ≡ false → IsGood branch → Begins chosen branch
+  low_on : (j : ℕ) (branch : List Entry) → has v.members j ≡ true → (s.node j).departed ≡ false → IsGood branch → Begins chosen branch
       → Begins (s.node j).list branch → Begins (s.node j).list chosen
   low_on j branch in_ stays good mine its = ⊎_elim
       (λ (z : j ≡ c). subst (λ x. Begins (s.node x).list chosen) (sym z) (begins_refl chosen))
@@ -62,26 +62,26 @@ module _ (s : Group) (k : Kept s) (lawful : IsLawful s) (c : ℕ) (v : GroupView
       (b.short c j z.vote d.up d.ballot z.is stays)))
       (voted j in_)
 
-  stays_in : (j : ℕ) → has members j ≡ true → (s.node j).departed ≡ false
+  stays_in : (j : ℕ) → has v.members j ≡ true → (s.node j).departed ≡ false
   stays_in j in_ = split (s.node j).departed (λ t. absurd (none_departed s k lawful c v d j (in_chosen j in_) t)) (λ f. f)
 
   -- each name of the View has a beginning of what is chosen
-  members_low : (j : ℕ) → has members j ≡ true → Begins (s.node j).list chosen
+  members_low : (j : ℕ) → has v.members j ≡ true → Begins (s.node j).list chosen
   members_low j in_ = by_branch (b.branch j (stays_in j in_))
     where
       by_branch : OnBranch s j → Begins (s.node j).list chosen
       by_branch (on_chain its) = low_on j (chain_of s.views) in_ (stays_in j in_) k.views.good chain its
-      by_branch (left_out a v branch part mine its good member out) = ⊎_elim
-          (λ (z : length (a ++ View v ∷ []) ≤ length chosen).
+      by_branch (left_out a u branch part mine its good member out) = ⊎_elim
+          (λ (z : length (a ++ View u ∷ []) ≤ length chosen).
           absurd (let inside = begins_both part chain z in
           let fine = good_begins chain k.views.good in
-          let there = mem_between j fine (begins_more a (View v ∷ [])) inside member (in_chosen j in_) in
-          let has_it = mem_viewed a v j there in cc))
-          (λ (z : length chosen < length (a ++ View v ∷ [])).
-          (let more = length_push a (View v) in
-          let below = begins_both chain (begins_trans (begins_more a (View v ∷ [])) part) (omega arith) in
+          let there = mem_between j fine (begins_more a (View u ∷ [])) inside member (in_chosen j in_) in
+          let has_it = mem_viewed a u j there in cc))
+          (λ (z : length chosen < length (a ++ View u ∷ [])).
+          (let more = length_push a (View u) in
+          let below = begins_both chain (begins_trans (begins_more a (View u ∷ [])) part) (omega arith) in
           low_on j branch in_ (stays_in j in_) good (begins_trans below mine) its))
-          (low_or_above (length (a ++ View v ∷ [])) (length chosen))
+          (low_or_above (length (a ++ View u ∷ [])) (length chosen))
 
   new_view : NewView s (with_choice s c v) (key (s.node c).promise)
   new_view =
@@ -121,35 +121,35 @@ module _ (s : Group) (k : Kept s) (lawful : IsLawful s) (c : ℕ) (v : GroupView
 
   -- on one branch with it
   beside : (j : ℕ) (branch : List Entry) → (s.node j).departed ≡ false → IsGood branch → Begins chosen branch → Begins (s.node j).list branch
-      → Begins (s.node j).list chosen ⊎ ((mem chosen j ≡ true) × (has members j ≡ false))
+      → Begins (s.node j).list chosen ⊎ ((mem chosen j ≡ true) × (has v.members j ≡ false))
   beside j branch stays good mine its = split (mem chosen j)
-      (λ t. split (has members j)
+      (λ t. split (has v.members j)
       (λ in_. inl (low_on j branch in_ stays good mine its))
       (λ out. inr (t, out)))
       (λ f. inl (ended_in j branch stays good mine its f))
 
   after_choice : (j : ℕ) → (s.node j).departed ≡ false → OnBranch s j
       → Begins (s.node j).list (chain_of (with_choice s c v).views)
-      ⊎ ((a : List Entry) × (v : GroupView) × (branch : List Entry)
-      × Begins (a ++ View v ∷ []) (chain_of (with_choice s c v).views)
-      × Begins a branch × Begins (s.node j).list branch × IsGood branch × (mem a j ≡ true) × (has v.members j ≡ false))
+      ⊎ ((a : List Entry) × (u : GroupView) × (branch : List Entry)
+      × Begins (a ++ View u ∷ []) (chain_of (with_choice s c v).views)
+      × Begins a branch × Begins (s.node j).list branch × IsGood branch × (mem a j ≡ true) × (has u.members j ≡ false))
   after_choice j stays (on_chain its) = ⊎_elim
       (λ (z : Begins (s.node j).list chosen). inl (on_new z))
-      (λ (z : (mem chosen j ≡ true) × (has members j ≡ false)). inr
-      (chosen, (s.node c).promise, members, resilience, chain_of s.views, viewed, chain, its, k.views.good, z.0, z.1))
+      (λ (z : (mem chosen j ≡ true) × (has v.members j ≡ false)). inr
+      (chosen, (choice_of (s.node c) v).view, chain_of s.views, viewed, chain, its, k.views.good, z.0, z.1))
       (beside j (chain_of s.views) stays k.views.good chain its)
-  after_choice j stays (left_out a v branch part mine its good member out) = ⊎_elim
-      (λ (z : length (a ++ View v ∷ []) ≤ length chosen).
-      inr (a, v.stamp, v.members, v.resilience, branch, on_new (begins_both part chain z), mine, its, good, member, out))
-      (λ (z : length chosen < length (a ++ View v ∷ [])).
-      (let more = length_push a (View v) in
-      let below = begins_trans (begins_both chain (begins_trans (begins_more a (View v ∷ [])) part) (omega arith)) mine in
+  after_choice j stays (left_out a u branch part mine its good member out) = ⊎_elim
+      (λ (z : length (a ++ View u ∷ []) ≤ length chosen).
+      inr (a, u, branch, on_new (begins_both part chain z), mine, its, good, member, out))
+      (λ (z : length chosen < length (a ++ View u ∷ [])).
+      (let more = length_push a (View u) in
+      let below = begins_trans (begins_both chain (begins_trans (begins_more a (View u ∷ [])) part) (omega arith)) mine in
       ⊎_elim
       (λ (y : Begins (s.node j).list chosen). inl (on_new y))
-      (λ (y : (mem chosen j ≡ true) × (has members j ≡ false)). inr
-      (chosen, (s.node c).promise, members, resilience, branch, viewed, below, its, good, y.0, y.1))
+      (λ (y : (mem chosen j ≡ true) × (has v.members j ≡ false)). inr
+      (chosen, (choice_of (s.node c) v).view, branch, viewed, below, its, good, y.0, y.1))
       (beside j branch stays good below its)))
-      (low_or_above (length (a ++ View v ∷ [])) (length chosen))
+      (low_or_above (length (a ++ View u ∷ [])) (length chosen))
 
 -- ---- each move
 
@@ -195,8 +195,8 @@ branches_of s t k steady moved opened b = record {
 still_on : (s t : Group) → Begins (chain_of s.views) (chain_of t.views) → (j : ℕ) → (s.node j).departed ≡ false → OnBranch s j
     → (t.node j).list ≡ (s.node j).list → OnBranch t j
 still_on s t chain j stays (on_chain its) same = on_chain (subst (λ l. Begins l (chain_of t.views)) (sym same) (begins_trans its chain))
-still_on s t chain j stays (left_out a v names strong branch part mine its good member out) same =
-    left_out a v names strong branch (begins_trans part chain) mine (subst (λ l. Begins l branch) (sym same) its) good member out
+still_on s t chain j stays (left_out a v branch part mine its good member out) same =
+    left_out a v branch (begins_trans part chain) mine (subst (λ l. Begins l branch) (sym same) its) good member out
 
 -- a move of one name
 record OneName (s t : Group) (i : ℕ) (n : groups.Node) : Type 0 where
@@ -279,7 +279,7 @@ shown_open s i c j list up ballot is = ⊎_elim
     (put2_cases s.shown (key (s.node i).promise) i (Some (s.node i).list) (key (s.node c).promise) j)
 
 choice_branches : (s : Group) (k : Kept s) (lawful : IsLawful s) (c : ℕ) (v : GroupView) (d : MayDecide s c v)
-    → ((j : ℕ) → has members j ≡ true → (j ≡ c) ⊎ Voted s (key (s.node c).promise) j (s.node c).list) → Kept (with_choice s c v) → BranchesOk s
+    → ((j : ℕ) → has v.members j ≡ true → (j ≡ c) ⊎ Voted s (key (s.node c).promise) j (s.node c).list) → Kept (with_choice s c v) → BranchesOk s
     → BranchesOk (with_choice s c v)
 choice_branches s k lawful c v d voted kept b =
     let t = with_choice s c v in
@@ -288,9 +288,9 @@ choice_branches s k lawful c v d voted kept b =
     (λ j. steady_put s c n (λ stays. inl (up_as (s.node c) n refl refl refl d.up)) j)
     (λ j stays old same. ⊎_elim
     (λ (z : Begins (s.node j).list (chain_of t.views)). on_chain (subst (λ l. Begins l (chain_of t.views)) (sym same) z))
-    (λ (z : (a : List Entry) × (v : Stamp) × (names : List ℕ) × (strong : ℕ) × (branch : List Entry) × Begins (a ++ View v names strong ∷ []) (chain_of t.views)
-    × Begins a branch × Begins (s.node j).list branch × IsGood branch × (mem a j ≡ true) × (has names j ≡ false)).
-    left_out z.0 z.1 z.2 z.3 z.4 z.5 z.6 (subst (λ l. Begins l z.4) (sym same) z.7) z.8 z.9 z.10)
+    (λ (z : (a : List Entry) × (u : GroupView) × (branch : List Entry) × Begins (a ++ View u ∷ []) (chain_of t.views)
+    × Begins a branch × Begins (s.node j).list branch × IsGood branch × (mem a j ≡ true) × (has u.members j ≡ false)).
+    left_out z.0 z.1 z.2 z.3 z.4 (subst (λ l. Begins l z.2) (sym same) z.5) z.6 z.7 z.8)
     (after_choice s k lawful c v d b voted j stays old))
     (λ x j list. put_at (λ y (m : groups.Node). IsUp m → m.ballot ≡ true → s.shown (key m.promise) j ≡ Some list
     → (length (put s.node c n j).list ≤ length list)

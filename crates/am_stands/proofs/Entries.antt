@@ -54,8 +54,8 @@ pub noted_stands : (w : World) (views : Views) (v : Decided) (list : List Entry)
     → HasViewOf v.stamp list
 noted_stands w views v list h is =
     let ch = views.chosen (key v.stamp) in
-    opened v.stamp ch.before ch.members ch.resilience list
-    (subst (λ (s : Stamp). Begins (ch.before ++ View s ch.members ch.resilience ∷ []) (up_to_next v.stamp list)) h.stamp
+    opened ch.before (record ch.view { stamp = v.stamp }) list
+    (subst (λ (s : Stamp). Begins (ch.before ++ View (record ch.view { stamp = s }) ∷ []) (up_to_next v.stamp list)) h.stamp
     (subst (λ l. Begins (opening ch) l) (h.line ∙ is) h.opens))
 
 pub line_here : (w : World) (name : ℕ) (x : Node) (v : Stamp) → v.by ≡ name → line_of (within w name x) v ≡ up_to_next v (whole (within w name x) x)

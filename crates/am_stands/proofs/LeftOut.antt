@@ -4,7 +4,7 @@ use Rattle.am_stands.proofs.Words.{Leave, View, GroupView, Stamp, has, Begins, N
 use Rattle.am_stands.proofs.Words.{length_push, good_begins, leaver_in, leaver_out, mem_between, mem_nil, Group, put, opening, chain_of, Move, MayDecide}
 use Rattle.am_stands.proofs.Words.{with_line, with_choice, choice_of, longer, numbers, stores, learns, begins, raises, fetches, gives_over, welcomes, asks}
 use Rattle.am_stands.proofs.Words.{departs, closes, stops, Kept, IsLawful, founded, more, start, first_stamp, put_same, put_at, list_chain, departed_in}
-use Rattle.am_stands.proofs.Words.{run_keeps, LeftOut, RunsLeaveOut}
+use Rattle.am_stands.proofs.Words.{run_keeps, LeftOut, RunsLeaveOut, first_choice}
 use Rattle.am_chain.specs.Group.{Leads}
 use Rattle.am_chain.specs.Moves.{decides}
 use Rattle.am_chain.specs.Group as groups
@@ -24,7 +24,7 @@ same_left s t stays chain h a v name part member out =
 -- ---- an entry more, that is no View
 
 is_no_view : (e : Entry) (v : GroupView) → NotView e → View v ≡ e → ⊥
-is_no_view (View v) v plain same = plain
+is_no_view (View u) v plain same = plain
 is_no_view _ v plain same = cc
 
 line_left : (s t : Group) (e : Entry) → ((j : ℕ) → (s.node j).stopped ≡ true → (t.node j).stopped ≡ true) → NotView e
@@ -56,34 +56,33 @@ none_departed s k lawful c v d j member gone =
     leaver_out o.before j good (mem_between j (good_begins (list_chain s k lawful c v d) k.views.good)
     (begins_more o.before (Leave j ∷ [])) inside (leaver_in o.before j good) member)
 
-choice_left : (s : Group) (k : Kept s) (lawful : IsLawful s) (c : ℕ) (members : List ℕ) (resilience : ℕ) → MayDecide s c v → LeftOut s
-    → LeftOut (with_choice s c v)
-choice_left s k lawful c v d h a v name part member out =
+choice_left : (s : Group) (k : Kept s) (lawful : IsLawful s) (c : ℕ) (v : GroupView) → MayDecide s c v → LeftOut s → LeftOut (with_choice s c v)
+choice_left s k lawful c v d h a u name part member out =
     let old = (s.node c).list in
     let e = View (choice_of (s.node c) v).view in
     let all = opening (choice_of (s.node c) v) in
     let is : chain_of (with_choice s c v).views ≡ all = put_same s.views.line (key (s.node c).promise) all in
     let stays = put_stops s c (record (s.node c) { list = all; ballot = false }) (λ t. t) in
     ⊎_elim
-    (λ (z : Begins (a ++ View v ∷ []) old).
-    stays name (h a v name (begins_trans z (list_chain s k lawful c v d)) member out))
-    (λ (z : a ++ View v ∷ [] ≡ old ++ e ∷ []).
-    (let last = (same_from_push a old (View v) e z).1 in
-    let its : v.members ≡ members = ap (λ x. names_of_view x) last in
-    let one = length_push a (View v) in
+    (λ (z : Begins (a ++ View u ∷ []) old).
+    stays name (h a u name (begins_trans z (list_chain s k lawful c v d)) member out))
+    (λ (z : a ++ View u ∷ [] ≡ old ++ e ∷ []).
+    (let last = (same_from_push a old (View u) e z).1 in
+    let its : u.members ≡ v.members = ap (λ x. names_of_view x) last in
+    let one = length_push a (View u) in
     let two = length_push old e in
     let long = ap length z in
-    let front : a ≡ old = same_front a old (View v) e z in
+    let front : a ≡ old = same_front a old (View u) e z in
     let here = subst (λ l. mem l name ≡ true) front member in
     stays name (split (s.node name).stopped
     (λ t. t)
     (λ goes. split (s.node name).departed
     (λ gone. absurd (none_departed s k lawful c v d name here gone))
     (λ there. absurd (let in_ = d.all name here (record { goes = goes; stays = there }) in let o = ap (λ set. has set name) its ∙ in_ in cc))))))
-    (begins_pushed e (subst (Begins (a ++ View v ∷ [])) is part))
+    (begins_pushed e (subst (Begins (a ++ View u ∷ [])) is part))
   where
     names_of_view : Entry → List ℕ
-    names_of_view (View stamp set v.resilience) = set
+    names_of_view (View seen) = seen.members
     names_of_view _ = []
 
     same_front : (a b : List Entry) (x y : Entry) → a ++ x ∷ [] ≡ b ++ y ∷ [] → a ≡ b
