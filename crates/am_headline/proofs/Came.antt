@@ -1,4 +1,5 @@
 -- How a name comes to act in a view: it did before, it decided it, or a letter of the view's own name told it, whose base it had taken.
+use Rattle.am_model.specs.Ballots.{decided_view}
 use Rattle.am_base.specs.declared.entry.GroupView.{GroupView}
 use Rattle.am_headline.proofs.RepairedWords.{numbers_plain, stamp_by, other_asks, other_heard, stamp_itself, same_stamp, ◌≡◌, ⊎_elim, ℕ, ◌<◌, ◌≤◌, ◌==◌, ◌&&◌, max}
 use Rattle.am_headline.proofs.RepairedWords.{true, false, List, [], refl, sym, ap, ◌∙◌, subst, arith, nat_tests, Entry, View, Image, Stamp}
@@ -67,8 +68,7 @@ came_look c m x b v (fetches_from_best w u z) mine above h t = came_on c m x v.n
   taken = omega arith;
 }) (h t)
 came_look c m x b v (decides may) mine above h t =
-    let is : view v.node ≡ b.stamp = view_last (trim_for x b (left_in b (need_of x b))) b.stamp (left_in b (need_of x b))
-    (max b.resilience (image_of x).resilience) in
+    let is : view v.node ≡ b.stamp = view_last (trim_for x b (left_in b (need_of x b))) (decided_view x b (left_in b (need_of x b))) in
     own (ap (λ (u : Stamp). u.by) is ∙ mine) (ap (stamp_lt (view m)) is ∙ above)
 came_look c m x b v _ mine above h t = came_on c m x v.node (record { who = refl; view_ = refl; acts_ = λ a. a; taken = omega arith }) (h t)
 

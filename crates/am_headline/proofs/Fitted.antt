@@ -273,7 +273,7 @@ module _ (rules : Rules) (events : List Event) (e : Event) (c : Cause) (step : S
       by_packet number (by_bcast from u base acc x heard_) above within = fits_bcast from u base acc number x heard_ above within
       by_packet number (by_order from u base acc by req heard_) above within = fits_order from u base acc number by req heard_ above within
       by_packet number (by_piece from u base x heard_) above within = fits_piece from u base number x heard_ above within
-      by_packet number (by_result from u base names resilience heard_) above within = fits_result from u base number names resilience heard_ above within
+      by_packet number (by_result from base u heard_) above within = fits_result from base number u heard_ above within
 
   -- ---- its letters
 

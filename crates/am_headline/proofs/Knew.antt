@@ -1,4 +1,5 @@
 -- What a sequencer knows of others to be taken, through a step that neither decides a view nor hears a request to join.
+use Rattle.am_model.specs.Ballots.{decided_view}
 use Rattle.am_headline.proofs.RepairedWords.{◌≡◌, ℕ, ◌≤◌, ◌==◌, max, true, false, refl, sym, ap, ◌∙◌, subst, arith, nat_tests, Report, Leave, Outcome, Rules}
 use Rattle.am_headline.proofs.RepairedWords.{stamp_lt, Node, Ballot, view, image_of, push_entry, Verdict, trim_for, left_in, need_of, refresh, split, Cause, Looks}
 use Rattle.am_headline.proofs.RepairedWords.{decides, Change, refreshes, settles, takes_report, admits, looks, stores_view, closes, Changes, unchanged, changed}
@@ -23,8 +24,7 @@ same nodes x y who is = knew who (λ j other. let b = ap (λ (r : Report). r.tak
 
 know_look : (nodes : ℕ → Node) (x : Node) (b : Ballot) (v : Verdict) → Looks x b v → stamp_lt (view x) b.stamp ≡ true → Know nodes x v.node
 know_look nodes x b v (decides may) above =
-    let is : view v.node ≡ b.stamp = view_last (trim_for x b (left_in b (need_of x b))) b.stamp (left_in b (need_of x b))
-    (max b.resilience (image_of x).resilience) in
+    let is : view v.node ≡ b.stamp = view_last (trim_for x b (left_in b (need_of x b))) (decided_view x b (left_in b (need_of x b))) in
     anew (ap (stamp_lt (view x)) is ∙ above)
 know_look nodes x b v _ above = same nodes x v.node refl (λ j other. refl)
 

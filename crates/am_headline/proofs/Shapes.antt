@@ -106,7 +106,7 @@ sets_on s t (decides i v may) ok h x d =
     by_number (put_cases s.views.chosen at choice x) (put_cases s.views.decided at true x)
   where
     by_number : ((x ≡ key (s.node i).promise) × (put s.views.chosen (key (s.node i).promise) (choice_of (s.node i) v) x ≡ choice_of
-        (s.node i) members resilience))
+        (s.node i) v))
         ⊎ ((x ≢ key (s.node i).promise) × (put s.views.chosen (key (s.node i).promise) (choice_of (s.node i) v) x ≡ s.views.chosen x))
         → ((x ≡ key (s.node i).promise) × (put s.views.decided (key (s.node i).promise) true x ≡ true))
         ⊎ ((x ≢ key (s.node i).promise) × (put s.views.decided (key (s.node i).promise) true x ≡ s.views.decided x))

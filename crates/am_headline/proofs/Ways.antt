@@ -6,7 +6,7 @@ use Rattle.am_headline.proofs.Words.{left_in, best_of, is_waited_for, decide_vie
 use Rattle.am_headline.proofs.Words.{and_both, Cause, hears, Looks, decides, MayBeWelcomed, Change, refreshes, settles, numbers, stores, begins_list, looks}
 use Rattle.am_headline.proofs.Words.{fetches, stores_view, queues, collects, takes, asks_to_join, asks_to_leave, closes}
 use Rattle.am_laws.specs.Changes.{departs}
-use Rattle.am_model.specs.Ballots.{goes_on}
+use Rattle.am_model.specs.Ballots.{goes_on, decided_view}
 use Rattle.am_base.specs.declared.outcome.Outcome.TheVariants as said
 use Rattle.am_packet.specs.declared.packet.Packet.TheVariants as packet
 use Rattle.am_state.specs.Sends as own
