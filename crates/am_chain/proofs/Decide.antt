@@ -1,6 +1,6 @@
 -- A decision keeps what is kept.
 use Rattle.am_chain.proofs.Words.{low_or_above, split, ◌≡◌, ◌≢◌, ◌⊎◌, ⊎_elim, inl, inr, ℕ, ◌+◌, ◌<◌, ◌≤◌, min, Bool, true, false, List, [], ◌∷◌, ◌++◌}
-use Rattle.am_chain.proofs.Words.{length, take, Some, refl, sym, ap, ◌∙◌, subst, arith, Entry, View, has, Begins, IsGood, mem, view_of, key, begins_refl}
+use Rattle.am_chain.proofs.Words.{length, take, Some, refl, sym, ap, ◌∙◌, subst, arith, GroupView, Entry, View, has, Begins, IsGood, mem, view_of, key, begins_refl}
 use Rattle.am_chain.proofs.Words.{begins_more, begins_trans, begins_length, begins_both, length_push, below_begins, below_of, begins_pushed, begins_take}
 use Rattle.am_chain.proofs.Words.{mem_between, mem_viewed, viewed_mem, good_begins, good_push, Ends, ends_of, view_viewed, view_fits, key_by}
 use Rattle.am_chain.proofs.Words.{resilience_viewed, put, how_many, Node, Chosen, opening, Views, Group, chain_of, current_of, IsThere, IsUp, MayDecide}
@@ -9,7 +9,7 @@ use Rattle.am_chain.proofs.Heart.{ballot_ok, list_chain, member_above, needed_pr
 use Rattle.am_chain.proofs.{Puts.put_cases, Puts.put_same, Puts.put_other, Puts.put_at, Frames.Later, Frames.later_all, Frames.shown_later}
 use Rattle.am_chain.proofs.{Frames.served_later, Frames.witness_later, Nodes.fronts_longer, Nodes.view_current}
 
-module _ (s : Group) (k : Kept s) (lawful : IsLawful s) (c : ℕ) (members : List ℕ) (resilience : ℕ) (d : MayDecide s c members resilience) where
+module _ (s : Group) (k : Kept s) (lawful : IsLawful s) (c : ℕ) (v : GroupView) (d : MayDecide s c v) where
   abbrev list : List Entry
   list = (s.node c).list
 
@@ -17,27 +17,27 @@ module _ (s : Group) (k : Kept s) (lawful : IsLawful s) (c : ℕ) (members : Lis
   w = key (s.node c).promise
 
   abbrev choice : Chosen
-  choice = choice_of (s.node c) members resilience
+  choice = choice_of (s.node c) v
 
   abbrev node : Node
   node = record (s.node c) { list = opening choice; ballot = false }
 
   abbrev views : Views
-  views = (with_choice s c members resilience).views
+  views = (with_choice s c v).views
 
   chain : Begins list (chain_of s.views)
-  chain = list_chain s k lawful c members resilience d
+  chain = list_chain s k lawful c v d
 
   pub group_low : Begins s.group list
-  group_low = group_in s k lawful c members resilience d
+  group_low = group_in s k lawful c v d
 
   above : key s.views.current < w
-  above = (ballot_ok s k lawful c members resilience d).above
+  above = (ballot_ok s k lawful c v d).above
 
   older : (x : ℕ) → s.views.decided x ≡ true → x ≢ w
   older x h e = let o = k.views.order x h in let a = above in let z : ⊥ = omega arith in z
 
-  has_own : has members c ≡ true
+  has_own : has v.members c ≡ true
   has_own = d.all c d.needed d.up.there
 
   good : IsGood (opening choice)
@@ -45,12 +45,12 @@ module _ (s : Group) (k : Kept s) (lawful : IsLawful s) (c : ℕ) (members : Lis
       let fine = good_begins chain k.views.good in
       let now = view_current s.views list k.views chain in
       let a = above in
-      let by : has members (s.node c).promise.by ≡ true = subst (λ j. has members j ≡ true) (sym (ballot_ok s k lawful c members resilience d).by) has_own in
-      good_push list (View (s.node c).promise members resilience) fine
-      (view_fits list (s.node c).promise members resilience fine (k.each c).small (omega arith) d.within by d.strong) (k.each c).small
+      let by : has v.members (s.node c).promise.by ≡ true = subst (λ j. has v.members j ≡ true) (sym (ballot_ok s k lawful c v d).by) has_own in
+      good_push list (View choice.view) fine
+      (view_fits list choice.view fine (k.each c).small (omega arith) d.within by d.strong) (k.each c).small
 
   more : Begins list (opening choice)
-  more = begins_more list (View (s.node c).promise members resilience ∷ [])
+  more = begins_more list (View choice.view ∷ [])
 
   chain_is : chain_of views ≡ opening choice
   chain_is = put_same s.views.line w (opening choice)
@@ -76,7 +76,7 @@ module _ (s : Group) (k : Kept s) (lawful : IsLawful s) (c : ℕ) (members : Lis
   on_new h = subst (Begins _) (sym chain_is) (begins_trans h more)
 
   own_now : mem (opening choice) c ≡ true
-  own_now = viewed_mem list (s.node c).promise members resilience c good has_own
+  own_now = viewed_mem list choice.view c good has_own
 
   views_decided : ViewsOk views
   views_decided = record {
@@ -88,10 +88,10 @@ module _ (s : Group) (k : Kept s) (lawful : IsLawful s) (c : ℕ) (members : Lis
         (λ (z : s.views.decided x ≡ true). ap (λ (ch : Chosen). key ch.stamp) (chosen_old x z) ∙ k.views.stamps x z)
         (decided_cases x h);
     good = subst IsGood (sym chain_is) good;
-    view = ap view_of chain_is ∙ view_viewed list (s.node c).promise members resilience;
+    view = ap view_of chain_is ∙ view_viewed list choice.view;
     opens = subst (λ ch. Begins (opening ch) (chain_of views)) (sym chosen_is) (subst (Begins (opening choice)) (sym chain_is) (begins_refl (opening choice)));
     complete = λ x h. subst (λ ch. Begins (opening ch) (chain_of views)) (sym (chosen_old x (k.views.marked x h)))
-        (on_new (complete_in s k lawful c members resilience d x h));
+        (on_new (complete_in s k lawful c v d x h));
     marked = λ x h. decided_old x (k.views.marked x h);
     some = k.views.some;
   }
@@ -110,7 +110,7 @@ module _ (s : Group) (k : Kept s) (lawful : IsLawful s) (c : ℕ) (members : Lis
       let ok = k.each j in
       let on = ok.list u in
       split (mem list j)
-      (λ t. begins_both on chain (needed_low s k lawful c members resilience d j t u))
+      (λ t. begins_both on chain (needed_low s k lawful c v d j t u))
       (λ f. ⊎_elim
       (λ (l : length (s.node j).list ≤ length list). begins_both on chain l)
       (λ (l : length list < length (s.node j).list).
@@ -122,9 +122,9 @@ module _ (s : Group) (k : Kept s) (lawful : IsLawful s) (c : ℕ) (members : Lis
   ballot_above : (j : ℕ) → j ≢ c → IsUp (s.node j) → (s.node j).ballot ≡ true → w < key (s.node j).promise
   ballot_above j other u b =
       let o = (k.each j).ballot u b in
-      let mine = ballot_ok s k lawful c members resilience d in
+      let mine = ballot_ok s k lawful c v d in
       let on = (k.each j).stays u.there o.staying (s.node j).list ((k.each j).list u) o.member in
-      let p = needed_promised s k lawful c members resilience d j (stays_in j u on) u.there in
+      let p = needed_promised s k lawful c v d j (stays_in j u on) u.there in
       let apart : key (s.node j).promise ≢ w = λ same. other (sym o.by ∙ key_by (s.node j).promise (s.node c).promise (k.each j).small (k.each c).small same
       ∙ mine.by) in
       omega arith
@@ -134,7 +134,7 @@ module _ (s : Group) (k : Kept s) (lawful : IsLawful s) (c : ℕ) (members : Lis
   late_now j u l =
       let ok = k.each j in
       let joined = ok.joined u.log in
-      let out : mem list j ≡ false = split (mem list j) (λ t. let p = needed_promised s k lawful c members resilience d j t u.there in
+      let out : mem list j ≡ false = split (mem list j) (λ t. let p = needed_promised s k lawful c v d j t u.there in
       absurd (omega arith)) (λ f. f) in
       let e = ends_of j (join_in j u.log) joined.member out in
       let b = e.before ++ e.last ∷ [] in
@@ -191,16 +191,16 @@ module _ (s : Group) (k : Kept s) (lawful : IsLawful s) (c : ℕ) (members : Lis
         fronts = ok.fronts;
         leads = λ l.
             let o = ok.leads l in
-            let p = needed_promised s k lawful c members resilience d j (stays_in j l.up o.member) l.up.there in
+            let p = needed_promised s k lawful c v d j (stays_in j l.up o.member) l.up.there in
             let q = ap key (l.acts ∙ ap view_of o.chain ∙ k.views.view) in
             let a = above in absurd (omega arith);
-        promised = λ t m. needed_promised s k lawful c members resilience d j (subst (λ (ch : Chosen). mem ch.before j ≡ true) chosen_is m) t;
+        promised = λ t m. needed_promised s k lawful c v d j (subst (λ (ch : Chosen). mem ch.before j ≡ true) chosen_is m) t;
         stays = λ t l a h m. subst (λ y. mem y j ≡ true) (sym chain_is) (⊎_elim
             (λ (x : Begins a list).
             let on = ok.stays t l a (begins_trans x chain) m in
-            viewed_mem list (s.node c).promise members resilience j good (d.all j (mem_between j k.views.good x chain m on) t))
+            viewed_mem list choice.view j good (d.all j (mem_between j k.views.good x chain m on) t))
             (λ (x : a ≡ opening choice). subst (λ y. mem y j ≡ true) x m)
-            (begins_pushed (View (s.node c).promise members resilience) (subst (Begins a) chain_is h)));
+            (begins_pushed (View choice.view) (subst (Begins a) chain_is h)));
         joined = ok.joined;
         own = ok.own;
         late = λ u l. late_now j u l;
@@ -236,7 +236,7 @@ module _ (s : Group) (k : Kept s) (lawful : IsLawful s) (c : ℕ) (members : Lis
         small = ok.small;
         list = λ u. whole;
         blank = λ h. absurd (cc);
-        fronts = fronts_longer s.group (s.node c) node (View (s.node c).promise members resilience ∷ []) refl refl refl ok.fronts;
+        fronts = fronts_longer s.group (s.node c) node (View choice.view ∷ []) refl refl refl ok.fronts;
         leads = λ l. record { chain = sym chain_is; member = now };
         promised = λ t m. omega arith;
         stays = λ t l a h m. now;
@@ -245,7 +245,7 @@ module _ (s : Group) (k : Kept s) (lawful : IsLawful s) (c : ℕ) (members : Lis
         late = λ u l. absurd (omega arith);
         ballot = λ u b. absurd (cc);
         complete = λ x h t m. subst (λ ch. Begins (opening ch) (opening choice)) (sym (chosen_old x (k.views.marked x h)))
-            (begins_trans (complete_in s k lawful c members resilience d x h) more);
+            (begins_trans (complete_in s k lawful c v d x h) more);
         heard = λ x h l. ⊎_elim (λ (z : x ≡ w). absurd (omega arith)) (λ (z : s.views.decided x ≡ true). let o = k.views.order x z in let a = above in
             absurd (omega arith)) (decided_cases x h);
       }
@@ -291,23 +291,23 @@ module _ (s : Group) (k : Kept s) (lawful : IsLawful s) (c : ℕ) (members : Lis
           (put_cases s.node c node h) in
           let on = k.enough x z holders counts had much in
           let fine = good_begins on k.views.good in
-          let there = resilience_viewed ch.before ch.stamp ch.members ch.resilience in
+          let there = resilience_viewed ch.before ch.view in
           ⊎_elim
           (λ (l : length (opening ch) ≤ length list). on_new (begins_both on chain l))
           (λ (l : length list < length (opening ch)). absurd
-          (too_few s k lawful c members resilience d (opening ch) (opening ch) on (begins_both chain on (omega arith)) (begins_refl (opening ch)) l
+          (too_few s k lawful c v d (opening ch) (opening ch) on (begins_both chain on (omega arith)) (begins_refl (opening ch)) l
           (has ch.members) holders counts
-          (λ h m. viewed_mem ch.before ch.stamp ch.members ch.resilience h fine m)
-          (λ h m. mem_viewed ch.before ch.stamp ch.members ch.resilience h m)
+          (λ h m. viewed_mem ch.before ch.view h fine m)
+          (λ h m. mem_viewed ch.before ch.view h m)
           (λ h t. split (s.node h).has_log (λ y. y) (λ y.
           let e = begins_length (subst (Begins (opening ch)) ((k.each h).blank y) (had h t)) in
-          let long = length_push ch.before (View ch.stamp ch.members ch.resilience) in absurd (omega arith)))
+          let long = length_push ch.before (View ch.view) in absurd (omega arith)))
           had
           (λ h t u. begins_length (all_low h u))
           (subst (λ r. min (r + 1) (how_many (has ch.members)) ≤ how_many holders) (sym there) much)))
           (low_or_above (length (opening ch)) (length list)))
 
-  pub decides_keeps : Kept (with_choice s c members resilience)
+  pub decides_keeps : Kept (with_choice s c v)
   decides_keeps = record {
     views = views_decided;
     group = on_new group_low;
@@ -340,7 +340,7 @@ module _ (s : Group) (k : Kept s) (lawful : IsLawful s) (c : ℕ) (members : Lis
         (λ h. let z = d.up.there.stays in absurd (cc))
         (λ e other h. let o = k.departed e h in record {
           before = o.before;
-          chain = on_new (departed_in s k lawful c members resilience d e h);
+          chain = on_new (departed_in s k lawful c v d e h);
           stored = λ j m t l. begins_trans (o.stored j m ((up j).there t) ((up j).staying l)) (up j).list;
         });
     enough = enough_new;
@@ -351,6 +351,6 @@ module _ (s : Group) (k : Kept s) (lawful : IsLawful s) (c : ℕ) (members : Lis
       served_low i other u b l on promised = ⊎_elim
           (λ (x : length l ≤ length list). begins_both on chain x)
           (λ (x : length list < length l).
-          let p = promised c d.up.there (member_above s k lawful c members resilience d l on (omega arith)) in
+          let p = promised c d.up.there (member_above s k lawful c v d l on (omega arith)) in
           let a = ballot_above i other u b in absurd (omega arith))
           (low_or_above (length l) (length list))

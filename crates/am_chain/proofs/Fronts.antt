@@ -142,7 +142,7 @@ module _ (s : Group) (k : Kept s) (i : ℕ) (e : Entry) (leads : Leads i (s.node
       (put_cases s.views.line (key (view_of (s.node i).list)) ((s.node i).list ++ e ∷ []) x)
 
   small_plain : (e : Entry) → NotView e → SmallName e
-  small_plain (View viewed) h = absurd h
+  small_plain (View v) h = absurd h
   small_plain _ h = tt
 
   pub good_grown : IsGood ((s.node i).list ++ e ∷ [])

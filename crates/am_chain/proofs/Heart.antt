@@ -1,7 +1,7 @@
 -- A coordinator that decides has all that was accepted.
 use Rattle.am_chain.proofs.Words.{low_or_above, split, ◌≡◌, ◌⊎◌, ⊎_elim, ℕ, zero, suc, ◌+◌, ◌-◌, ◌<◌, ◌≤◌, ◌&&◌, ◌||◌, not, nat_lt, min, Bool, true, false}
 use Rattle.am_chain.proofs.Words.{List, [], ◌∷◌, ◌++◌, length, take, Option, Some, None, slice_get, refl, sym, ap, ◌∙◌, subst, arith, nat_tests}
-use Rattle.am_chain.proofs.Words.{slice_get_within, Entry, Leave, View, has, Begins, IsGood, mem, view_of, key, resilience_of, begins_refl, begins_nil}
+use Rattle.am_chain.proofs.Words.{slice_get_within, GroupView, Entry, Leave, View, has, Begins, IsGood, mem, view_of, key, resilience_of, begins_refl, begins_nil}
 use Rattle.am_chain.proofs.Words.{begins_more, begins_trans, begins_length, begins_both, begins_same, begins_push, length_push, begins_take, length_take}
 use Rattle.am_chain.proofs.Words.{take_begins, mem_between, mem_nil, mem_viewed, viewed_mem, good_begins, leaver_in, leaver_out, view_up, resilience_up}
 use Rattle.am_chain.proofs.Words.{resilience_viewed, how_many, counted_in, opening, Group, chain_of, IsThere, IsUp, NoBetter, MayDecide, Voted, counts_for}
@@ -75,7 +75,7 @@ either true b c h = refl
 either false b c h = let z = h refl in let x = z.0 in let y = z.1 in rw (x, y) refl
 
 -- A ballot that may be decided, in a lawful moment.
-module _ (s : Group) (k : Kept s) (lawful : IsLawful s) (c : ℕ) (members : List ℕ) (resilience : ℕ) (d : MayDecide s c members resilience) where
+module _ (s : Group) (k : Kept s) (lawful : IsLawful s) (c : ℕ) (v : GroupView) (d : MayDecide s c v) where
   pub ballot_ok : BallotOk s.views c (s.node c)
   ballot_ok = (k.each c).ballot d.up d.ballot
 
@@ -136,7 +136,7 @@ module _ (s : Group) (k : Kept s) (lawful : IsLawful s) (c : ℕ) (members : Lis
       ⊎_elim
       (λ (l : length (opening ch) ≤ length (s.node c).list). begins_both o list_chain l)
       (λ (l : length (s.node c).list < length (opening ch)).
-      (k.each c).complete g h d.up.there (mem_viewed ch.before ch.stamp ch.members ch.resilience c (member_above (opening ch) o (omega arith))))
+      (k.each c).complete g h d.up.there (mem_viewed ch.before ch.view c (member_above (opening ch) o (omega arith))))
       (low_or_above (length (opening ch)) (length (s.node c).list))
 
   -- Who holds more of the chain than the coordinator are too few: if none of them is up, they are stopped undeparted, and
@@ -182,7 +182,7 @@ module _ (s : Group) (k : Kept s) (lawful : IsLawful s) (c : ℕ) (members : Lis
             let part = begins_both first (k.views.complete g is) (omega arith) in
             let good = good_begins (begins_trans below chain) k.views.good in
             let there = mem_between h good part (begins_trans (complete_in g is) above) j.member (members_at h (in_count h t)) in
-            let z = mem_viewed ch.before ch.stamp ch.members ch.resilience h there in absurd (cc))
+            let z = mem_viewed ch.before ch.view h there in absurd (cc))
             (λ (x : length (opening (s.views.chosen g)) < (s.node h).start). grind (arith, nat_tests))
             w
 
@@ -197,7 +197,7 @@ module _ (s : Group) (k : Kept s) (lawful : IsLawful s) (c : ℕ) (members : Lis
         let c_out : holders c ≡ false = split (holders c) (λ t. absurd (not_up c t d.up)) (λ f. f) in
         let fewer = count_below holders count_in 256 c in_count d.small c_out c_in in
         let rises = resilience_up (good_begins chain k.views.good) (begins_trans (complete_in g.0 g.1) (begins_trans above below)) in
-        let there = resilience_viewed ch.before ch.stamp ch.members ch.resilience in
+        let there = resilience_viewed ch.before ch.view in
         omega arith
 
   -- what was accepted stands in the coordinator's list

@@ -23,18 +23,18 @@ module _ (s : Group) (k : Kept s) (complete : ℕ → Bool) (stay : (x : ℕ) �
       let ch = s.views.chosen x in
       let on = stands x h in
       let good = good_begins on k.views.good in
-      let low = view_below ch.before ch.stamp ch.members ch.resilience good in
+      let low = view_below ch.before ch.view good in
       let stamp = k.views.stamps x h.decided in
       let last = h.none_lags j m t in
-      let long = length_push ch.before (View ch.stamp ch.members ch.resilience) in
+      let long = length_push ch.before (View ch.view) in
       split (s.node j).has_log
       (λ log.
       let mine = (k.each j).list (record { log = log; there = t }) in
       ⊎_elim
       (λ (l : length (opening ch) ≤ length (s.node j).list). begins_both on mine l)
       (λ (l : length (s.node j).list < length (opening ch)).
-      let part = begins_both (begins_both mine on (omega arith)) (begins_more ch.before (View ch.stamp ch.members ch.resilience ∷ [])) (omega arith) in
-      let up = view_up (good_begins (begins_more ch.before (View ch.stamp ch.members ch.resilience ∷ [])) good) part in
+      let part = begins_both (begins_both mine on (omega arith)) (begins_more ch.before (View ch.view ∷ [])) (omega arith) in
+      let up = view_up (good_begins (begins_more ch.before (View ch.view ∷ [])) good) part in
       absurd (omega arith))
       (low_or_above (length (opening ch)) (length (s.node j).list)))
       (λ none.

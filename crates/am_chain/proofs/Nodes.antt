@@ -291,7 +291,7 @@ welcome_ok s j stamp base join w v g ok =
       ballot = λ u b. absurd (cc);
       complete = λ x c t h.
           let o = begins_length (subst (Begins (opening (s.views.chosen x))) (ok.blank w.no_log) (ok.complete x c (there t) h)) in
-          let l = length_push (s.views.chosen x).before (View (s.views.chosen x).stamp (s.views.chosen x).members (s.views.chosen x).resilience) in
+          let l = length_push (s.views.chosen x).before (View (s.views.chosen x).view) in
           absurd (omega arith);
       heard = λ x d l. let o = v.order x d in absurd (omega arith);
     }

@@ -122,17 +122,17 @@ module _ (s : Group) (k : Kept s) where
       (λ l h none. let o = k.shown (key (own_stamp i (s.node i))) i l h in absurd (o.other (key_by o.stamp (own_stamp i (s.node i)) o.small small o.is)))
       (λ h. inl h)
 
-  pub raises_keeps : (i : ℕ) (v.stamp : Stamp) → IsThere (s.node i) → IsAbove s.node i v.stamp
-      → Kept (with_node s i (record (s.node i) { promise = v.stamp; ballot = false }))
-  raises_keeps i v.stamp t a =
-      let n = record (s.node i) { promise = v.stamp; ballot = false } in
+  pub raises_keeps : (i : ℕ) (stamp : Stamp) → IsThere (s.node i) → IsAbove s.node i stamp
+      → Kept (with_node s i (record (s.node i) { promise = stamp; ballot = false }))
+  raises_keeps i stamp t a =
+      let n = record (s.node i) { promise = stamp; ballot = false } in
       let greater = a.greater in
       node_change s k i n
       (later_promise (s.node i) n refl refl refl refl (λ t. record { goes = t.goes; stays = t.stays }) (omega arith))
-      (raise_ok s.views s.group i (s.node i) v.stamp a.greater a.small a.other (k.each i))
+      (raise_ok s.views s.group i (s.node i) stamp a.greater a.small a.other (k.each i))
       (λ _ b. absurd (cc))
       (inl (refl, λ w. record { log = w.log; there = t }))
-      (λ l h none. let o = k.shown (key v.stamp) i l h in let p = o.promised in absurd (omega arith))
+      (λ l h none. let o = k.shown (key stamp) i l h in let p = o.promised in absurd (omega arith))
       (λ h. inl h)
 
   flags_keep : (i : ℕ) (stopped departed leaving ballot : Bool)
@@ -170,17 +170,17 @@ module _ (s : Group) (k : Kept s) where
       (λ t. let z = t.stays in absurd (cc)) (λ h. h) (λ u. let z = u.there.stays in absurd (cc))
       (λ h. inr (record { before = before; chain = begins_trans d.accepted k.group; stored = d.stored }))
 
-  pub welcomes_keeps : (j : ℕ) (v.stamp : Stamp) (base join : ℕ) → MayWelcome s j v.stamp base join
-      → Kept (with_node s j (record (s.node j) { list = take base s.group; has_log = true; start = join; promise = v.stamp; told = base; acc = base }))
-  welcomes_keeps j v.stamp base join w =
-      let n = record (s.node j) { list = take base s.group; has_log = true; start = join; promise = v.stamp; told = base; acc = base } in
+  pub welcomes_keeps : (j : ℕ) (stamp : Stamp) (base join : ℕ) → MayWelcome s j stamp base join
+      → Kept (with_node s j (record (s.node j) { list = take base s.group; has_log = true; start = join; promise = stamp; told = base; acc = base }))
+  welcomes_keeps j stamp base join w =
+      let n = record (s.node j) { list = take base s.group; has_log = true; start = join; promise = stamp; told = base; acc = base } in
       let ok = k.each j in
       let no_log = w.no_log in
       let no_ballot = w.no_ballot in
       let promise = w.promise in
       let empty = ok.blank no_log in
-      let now = welcome_now s j v.stamp base join w k.views ok in
-      let last = k.views.order (key v.stamp) w.decided in
+      let now = welcome_now s j stamp base join w k.views ok in
+      let last = k.views.order (key stamp) w.decided in
       let up : IsUp n = record { log = refl; there = record { goes = w.there.goes; stays = w.there.stays } } in
       node_change s k j n
       (record {
@@ -191,7 +191,7 @@ module _ (s : Group) (k : Kept s) where
         staying = λ h. h;
         promise = promise;
       })
-      (welcome_ok s j v.stamp base join w k.views k.group ok)
+      (welcome_ok s j stamp base join w k.views k.group ok)
       (λ u b. absurd (cc))
       (inr (up, λ c l differ u b h. let p = (k.shown (key (s.node c).promise) j l h).promised in let a = ((k.each c).ballot u b).above in absurd (omega arith)))
       (λ l h none. let z = w.decided in absurd (cc))

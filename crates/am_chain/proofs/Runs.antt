@@ -37,10 +37,10 @@ grows_on k law (raises {s = s} i stamp a b) = record { group = begins_refl s.gro
 grows_on k law (shows {s = s} i a b c d e) = record { group = begins_refl s.group; decided = λ x h. h; chosen = λ x h. refl; complete = λ x h. h }
 grows_on k law (serves {s = s} i list a b c) = record { group = begins_refl s.group; decided = λ x h. h; chosen = λ x h. refl; complete = λ x h. h }
 grows_on k law (fetches {s = s} i h list e a b c d f) = record { group = begins_refl s.group; decided = λ x h. h; chosen = λ x h. refl; complete = λ x h. h }
-grows_on k law (decides {s = s} i members resilience a) = record {
+grows_on k law (decides {s = s} i v a) = record {
   group = begins_refl s.group;
-  decided = decided_old s k law i members resilience a;
-  chosen = chosen_old s k law i members resilience a;
+  decided = decided_old s k law i v a;
+  chosen = chosen_old s k law i v a;
   complete = λ x h. h;
 }
 grows_on k law (gives_over {s = s} i) = record { group = begins_refl s.group; decided = λ x h. h; chosen = λ x h. refl; complete = λ x h. h }
@@ -61,7 +61,7 @@ grows_on k law (closes {s = s} i n a b c d) =
 grows_on k law (stops {s = s} i) = record { group = begins_refl s.group; decided = λ x h. h; chosen = λ x h. refl; complete = λ x h. h }
 
 move_keeps : {s t : Group} → Kept s → IsLawful s → Move s t → Kept t
-move_keeps k law (decides {s = s} i members resilience a) = decides_keeps s k law i members resilience a
+move_keeps k law (decides {s = s} i v a) = decides_keeps s k law i v a
 move_keeps k law (numbers i e a b c) = quiet_keeps (numbers i e a b c) tt k
 move_keeps k law (stores i e a b c d f) = quiet_keeps (stores i e a b c d f) tt k
 move_keeps k law (accepts i n a b) = quiet_keeps (accepts i n a b) tt k
@@ -118,8 +118,8 @@ pub runs_keep : RunsKeep
 runs_keep founders first resilience s run = (run_keeps founders first resilience s run).kept
 
 pub choices_keep : ChoicesKeep
-choices_keep founders first resilience s run i members strong may = let o = run_keeps founders first resilience s run in
-    group_low s o.kept o.lawful i members strong may
+choices_keep founders first resilience s run i v may = let o = run_keeps founders first resilience s run in
+    group_low s o.kept o.lawful i v may
 
 -- from a moment that is kept
 record Since (s t : Group) : Type 0 where

@@ -4,14 +4,14 @@ use Rattle.am_chain.proofs.Words.{arith, nat_tests, Entry, View, has, no_stamp, 
 use Rattle.am_chain.proofs.Words.{begins_length, begins_same, begins_pushed, below_length, good_nil, good_push, mem_nil, mem_viewed, viewed_mem}
 use Rattle.am_chain.proofs.Words.{view_viewed, opening, MayBegin, first_stamp, first_choice, start, NodeOk, Kept}
 
-first_fits : (founders : List ℕ) (first resilience : ℕ) → has founders first ≡ true → fits blank (View (first_stamp first) founders resilience) ≡ true
+first_fits : (founders : List ℕ) (first resilience : ℕ) → has founders first ≡ true → fits blank (View (first_choice founders first resilience).view) ≡ true
 unfolding fits
 first_fits founders first resilience h = let z : nat_le 0 resilience ≡ true = grind (arith, nat_tests) in rw (h, z) refl
 
 module _ (founders : List ℕ) (first resilience : ℕ) (may : MayBegin founders first resilience) where
   first_good : IsGood (opening (first_choice founders first resilience))
   unfolding fold
-  first_good = good_push [] (View (first_stamp first) founders resilience) good_nil (first_fits founders first resilience may.among) may.small
+  first_good = good_push [] (View (first_choice founders first resilience).view) good_nil (first_fits founders first resilience may.among) may.small
 
   nobody : (a : List Entry) (j : ℕ) → length a ≤ 0 → mem a j ≡ true → ⊥
   nobody a j short m = mem_nil j (subst (λ l. mem l j ≡ true) (sym (begins_same (begins_nil a) short)) m)
@@ -19,12 +19,12 @@ module _ (founders : List ℕ) (first resilience : ℕ) (may : MayBegin founders
   member_first : (a : List Entry) (j : ℕ) → Begins a (opening (first_choice founders first resilience)) → mem a j ≡ true → has founders j ≡ true
   member_first a j h m = ⊎_elim
       (λ (x : Begins a []). absurd (nobody a j (begins_length x) m))
-      (λ (x : a ≡ [] ++ View (first_stamp first) founders resilience ∷ []). mem_viewed [] (first_stamp first) founders resilience j
+      (λ (x : a ≡ [] ++ View (first_choice founders first resilience).view ∷ []). mem_viewed [] (first_choice founders first resilience).view j
       (subst (λ l. mem l j ≡ true) x m))
-      (begins_pushed {a = a} {b = []} (View (first_stamp first) founders resilience) h)
+      (begins_pushed {a = a} {b = []} (View (first_choice founders first resilience).view) h)
 
   first_member : (j : ℕ) → has founders j ≡ true → mem (opening (first_choice founders first resilience)) j ≡ true
-  first_member j h = viewed_mem [] (first_stamp first) founders resilience j first_good h
+  first_member j h = viewed_mem [] (first_choice founders first resilience).view j first_good h
 
   first_ok : (b : Bool) (j : ℕ) → has founders j ≡ b → NodeOk (start founders first resilience).views (opening (first_choice founders first resilience)) j
       (record {
@@ -84,7 +84,7 @@ module _ (founders : List ℕ) (first resilience : ℕ) (may : MayBegin founders
       order = λ x d. grind (arith, nat_tests);
       stamps = λ x d. grind (arith, nat_tests);
       good = first_good;
-      view = view_viewed [] (first_stamp first) founders resilience;
+      view = view_viewed [] (first_choice founders first resilience).view;
       opens = begins_refl (opening (first_choice founders first resilience));
       complete = λ x d. begins_refl (opening (first_choice founders first resilience));
       marked = λ x d. d;

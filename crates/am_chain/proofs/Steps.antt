@@ -16,7 +16,7 @@ quiet_keeps (raises {s = s} i stamp a b) q k = raises_keeps s k i stamp a b
 quiet_keeps (shows {s = s} i a b c d e) q k = shows_keeps s k i a b c d e
 quiet_keeps (serves {s = s} i list a b c) q k = serves_keeps s k i list a b c
 quiet_keeps (fetches {s = s} i h list e a b c d f) q k = fetches_keeps s k i h list e a b c d f
-quiet_keeps (decides {s = s} i members resilience a) q k = absurd q
+quiet_keeps (decides {s = s} i v a) q k = absurd q
 quiet_keeps (gives_over {s = s} i) q k = gives_over_keeps s k i
 quiet_keeps (welcomes {s = s} j stamp base join a) q k = welcomes_keeps s k j stamp base join a
 quiet_keeps (asks {s = s} i a b) q k = asks_keeps s k i a b
@@ -25,7 +25,7 @@ quiet_keeps (closes {s = s} i n a b c d) q k = closes_keeps s k i n a b c d
 quiet_keeps (stops {s = s} i) q k = stops_keeps s k i
 
 quiet_current : {s t : Group} (move : Move s t) → IsNoDecision move → t.views.current ≡ s.views.current
-quiet_current (decides i members resilience a) q = absurd q
+quiet_current (decides i v a) q = absurd q
 quiet_current _ q = refl
 
 pub quiet_runs_keep : QuietRunsKeep

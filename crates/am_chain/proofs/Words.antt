@@ -12,7 +12,7 @@ pub use Rattle.am_base.proofs.Prefixes.{begins_same, begins_push, length_push, b
 pub use Rattle.am_base.proofs.{Greatest.split, Rows.low_or_above, Rows.Spares, Rows.row_at, Rows.long_after}
 pub use Rattle.am_base.specs.{Fronts.counted_of, Lists.members_of, Lists.blank, Lists.after, Lists.request_in, Lists.requests_of, Names.has, Names.rank_of}
 pub use Rattle.am_base.specs.{Names.place_of, Names.life_of, Stamps.no_stamp, Whole.Begins, Whole.IsGood, Whole.NotView, Whole.SmallName, Whole.image_of}
-pub use Rattle.am_base.specs.{Whole.resilience_of, declared.entry.Entry.Entry, declared.entry.Entry.TheVariants.View, declared.entry.Entry.TheVariants.Data}
+pub use Rattle.am_base.specs.{Whole.resilience_of, declared.entry.Entry.Entry, declared.entry.GroupView.GroupView, declared.entry.Entry.TheVariants.View, declared.entry.Entry.TheVariants.Data}
 pub use Rattle.am_base.specs.{declared.entry.Entry.TheVariants.Join, declared.entry.Entry.TheVariants.Leave, declared.image.Image.Image}
 pub use Rattle.am_base.specs.{declared.name.Stamp.Stamp}
 pub use Rattle.am_chain.specs.Group.{Group, IsThere, IsUp, Node, opening, Views, how_many, counted_in, need_of, chain_of, Leads, MayAccept, current_of}

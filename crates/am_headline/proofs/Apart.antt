@@ -36,7 +36,7 @@ not_open r m x h b o = let none = h.apart.no_ballot in let some = o.last in cc
 pub promised_view : (r : Repair) (w : World) (c : Cause) (x : Node) (v : Stamp) → CalmCause r w c → Promises c x v → v ≡ r.view
 promised_view r w c x v calm (invited s v_ is heard own) = absurd (subst (CalmCause r w) is calm)
 promised_view r w c x v calm (overtaken_by s v_ vote is heard above) = absurd (subst (CalmCause r w) is calm)
-promised_view r w c x v calm (told_result s v_ base number names resilience is heard own other) = (subst (CalmCause r w) is calm) (eqb-true v.by s own)
+promised_view r w c x v calm (told_result s base number u is heard own other) = (subst (CalmCause r w) is calm) (eqb-true v.by s own)
 
 pub apart_change : (r : Repair) (w : World) (c : Cause) (o : Outcome) (m x y : Node) → r.view.by ≡ r.by → (m.core.who == r.by) ≡ false → CalmCause r w c
     → Change c o x y → StaysApart r m x → StaysApart r m y

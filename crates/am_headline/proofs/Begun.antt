@@ -4,7 +4,7 @@ use Rattle.am_headline.proofs.Words.{subst, arith, Contains, slice_index_or, nat
 use Rattle.am_headline.proofs.Words.{IsGood, key, begins_refl, begins_nil, good_begins, Group, chain_of, MayBegin, founded, run_keeps, lowest_or_first}
 use Rattle.am_headline.proofs.Words.{founding_stamp, has_departed, Decided, World, start, first_node, founders_decided, happen, run, Watch, watch_all}
 use Rattle.am_headline.proofs.Words.{watch_run, watch_start, broken_at, BecameComplete, split, first_founder, NamesNamed, GroupFor, start_keeps}
-use Rattle.am_headline.proofs.Words.{branches_begin, goes_on, start_stands, Following, StepsMove}
+use Rattle.am_headline.proofs.Words.{branches_begin, goes_on, start_stands, Following, StepsMove, founding_view}
 use Rattle.am_chain.specs.Runs as begun
 use Rattle.am_headline.proofs.{Shapes.Shaped, Shapes.shaped_moves, Greatest.unbroken, Fold.KeptBy, Fold.Held, Fold.moves_mark, Fold.next}
 
@@ -24,7 +24,7 @@ first_ok rules may =
     record {
       run = founded begin;
       branches = branches_begin rules.founders (lowest_or_first rules.founders) rules.resilience begin;
-      named = All-cons NamesNamed (View (founding_stamp rules) rules.founders rules.resilience) [] may.names (All-nil NamesNamed);
+      named = All-cons NamesNamed (View (founding_view rules)) [] may.names (All-nil NamesNamed);
     }
 
 own_key : (rules : Rules) → (key (founding_stamp rules) == key (founding_stamp rules)) ≡ true

@@ -1,4 +1,5 @@
 -- How a name comes to act in a view: it did before, it decided it, or a letter of the view's own name told it, whose base it had taken.
+use Rattle.am_model.specs.Ballots.{decided_view}
 use Rattle.am_base.specs.declared.entry.GroupView.{GroupView}
 use Rattle.am_headline.proofs.RepairedWords.{numbers_plain, stamp_by, other_asks, other_heard, stamp_itself, same_stamp, ◌≡◌, ⊎_elim, ℕ, ◌<◌, ◌≤◌, ◌==◌, ◌&&◌, max}
 use Rattle.am_headline.proofs.RepairedWords.{true, false, List, [], refl, sym, ap, ◌∙◌, subst, arith, nat_tests, Entry, View, Image, Stamp}
@@ -67,8 +68,7 @@ came_look c m x b v (fetches_from_best w u z) mine above h t = came_on c m x v.n
   taken = omega arith;
 }) (h t)
 came_look c m x b v (decides may) mine above h t =
-    let is : view v.node ≡ b.stamp = view_last (trim_for x b (left_in b (need_of x b))) b.stamp (left_in b (need_of x b))
-    (max b.resilience (image_of x).resilience) in
+    let is : view v.node ≡ b.stamp = view_last (trim_for x b (left_in b (need_of x b))) (decided_view x b (left_in b (need_of x b))) in
     own (ap (λ (u : Stamp). u.by) is ∙ mine) (ap (stamp_lt (view m)) is ∙ above)
 came_look c m x b v _ mine above h t = came_on c m x v.node (record { who = refl; view_ = refl; acts_ = λ a. a; taken = omega arith }) (h t)
 
@@ -128,9 +128,9 @@ came_change c o m x y heard names after k low (fetches s v base number e is hear
     (λ u. let at = fetched_view x s v base e why (same_stamp v x.core.promise promise) u t in
     told_so s v base (subst (λ z. Tells z s v base) (sym is) (by_piece s v base number e)) at.0 at.1 (other_heard x s heard_) may.taken)
     (λ f. let s_ = stays_pushed x y e f refl refl refl refl (omega arith) in came_on c m x y s_ (h (s_.acts_ t)))
-came_change c o m x y heard names after k low (stores_view s v base number names_ resilience is heard_ own_ other promise below may) h t =
-    told_so s v base (subst (λ z. Tells z s v base) (sym is) (by_result s v base number names_ resilience)) (view_last (trim_up_to x base) v names_ resilience)
-    (stamp_by v s own_) (other_heard x s heard_) may.taken
+came_change c o m x y heard names after k low (stores_view s base number v is heard_ own_ other promise below may) h t =
+    told_so s v.stamp base (subst (λ z. Tells z s v.stamp base) (sym is) (by_result s base number v)) (view_last (trim_up_to x base) v)
+    (stamp_by v.stamp s own_) (other_heard x s heard_) may.taken
 came_change c o m x y heard names after k low (collects req is) h t = came_on c m x y (plain_stay x y refl refl refl refl (omega arith)) (h t)
 came_change c o m x y heard names after k low (takes e is says member some there) h t =
     came_on c m x y (record { who = refl; view_ = refl; acts_ = λ a. a; taken = omega arith }) (h t)

@@ -156,14 +156,13 @@ module _ (rules : Rules) (events : List Event) (place : ℕ) (may : MayFound rul
         omega arith
       where
         reached : (before : List Entry)
-            → Begins (before ++ View (current_of s.views).stamp (current_of s.views).members (current_of s.views).resilience ∷ []) list
+            → Begins (before ++ View (current_of s.views).view ∷ []) list
             → length before < (image_of list).view_number
         reached before on =
-            let e = View (current_of s.views).stamp (current_of s.views).members (current_of s.views).resilience in
+            let e = View (current_of s.views).view in
             let a = before ++ e ∷ [] in
             let long = length_push before e in
-            let its = after_view (image_of before) (1 + length before) (current_of s.views).stamp (current_of s.views).members
-            (current_of s.views).resilience in
+            let its = after_view (image_of before) (1 + length before) (current_of s.views).view in
             let here : (image_of a).view_number ≡ 1 + length before = ap (λ (g : Image). g.view_number) (told_push before e) ∙ its.1 in
             let all : image_of list ≡ fold (image_of a) (1 + length a) on.rest = ap image_of (sym on.same) ∙ fold_append blank 1 a on.rest in
             let same = ap (λ (g : Image). g.view_number) all in

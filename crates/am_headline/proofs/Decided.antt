@@ -35,7 +35,7 @@ module _ (rules : Rules) (events : List Event) (e : Event) (c : Cause) (step : S
   old_low k l low at to (packet.Piece from u base number y) is says = λ mine same. absurd (is_new (ap (λ (z : Stamp). s.views.decided (key z)) (sym same)
       ∙ piece_decided rules events e c step s t x from u number y (subst (λ j. j < 256) (sym mine) small_i) (ap (λ (z : Stamp). z.by) same ∙ own ∙ sym mine)
       says.1))
-  old_low k l low at to (packet.Result from u base number names resilience) is says = λ mine same. absurd (is_new
+  old_low k l low at to (packet.Result from base number u) is says = λ mine same. absurd (is_new
       (ap (λ (z : Stamp). s.views.decided (key z)) (sym same) ∙ (says.1 (ap (λ (z : Stamp). z.by) same ∙ own ∙ sym mine)).decided))
   old_low k l low at to (packet.Welcome from u base join image) is says = λ mine same. absurd (is_new
       (ap (λ (z : Stamp). s.views.decided (key z)) (sym same) ∙ x.trims.welcomes k l from u base join image at (sym is)))

@@ -6,7 +6,7 @@ use Rattle.am_headline.proofs.Words.{members_at, image_at, top_of, with_entry, a
 use Rattle.am_headline.proofs.Words.{Node, Ballot, top, image_of, has_room, push_entry, Verdict, need_of, left_in, trim_for, split, Cause, hears, Looks}
 use Rattle.am_headline.proofs.Words.{decides, Carries, whole_entry, by_number, Change, refreshes, settles, numbers, stores, begins_list, looks, fetches}
 use Rattle.am_headline.proofs.Words.{stores_view, closes, Changes, unchanged, changed, rests_refresh, rests_at_end, settle_is, told_pushed, change_blank}
-use Rattle.am_headline.proofs.Words.{HeardUsed, change_owned, Along, Fronts, told_used, HeardNames, change_names, change_does, those_long, kept_change}
+use Rattle.am_headline.proofs.Words.{HeardUsed, change_owned, Along, Fronts, told_used, HeardNames, change_names, change_does, those_long, kept_change, decided_view}
 use Rattle.am_packet.specs.declared.packet.Packet.TheVariants as packet
 
 -- ---- how many names
@@ -61,8 +61,7 @@ pub data BringsEntry (c : Cause) (number : ℕ) : Type 0 where
   by_bcast : (s : ℕ) (v : Stamp) (base acc : ℕ) (e : Entry) → c ≡ hears (packet.Bcast s v base acc number e) → BringsEntry c number
   by_order : (s : ℕ) (v : Stamp) (base acc from req : ℕ) → c ≡ hears (packet.Order s v base acc number from req) → BringsEntry c number
   by_piece : (s : ℕ) (v : Stamp) (base : ℕ) (e : Entry) → c ≡ hears (packet.Piece s v base number e) → BringsEntry c number
-  by_result : (s : ℕ) (v.stamp : Stamp) (base : ℕ) (v.members : List ℕ) (v.resilience : ℕ) → c ≡ hears (packet.Result s base number v)
-      → BringsEntry c number
+  by_result : (s base : ℕ) (v : GroupView) → c ≡ hears (packet.Result s base number v) → BringsEntry c number
 
 abbrev pub FitsAt : Rules → Node → ℕ → Type 0
 FitsAt rules x number = number - x.core.base ≤ rules.window + 16 - size (members_at x.core.log number)
@@ -132,9 +131,9 @@ look_fits : (rules : Rules) (c : Cause) (x : Node) (b : Ballot) (v : Verdict) �
 look_fits rules c x b v same fronts (decides may) h =
     let names = left_in b (need_of x b) in
     let before = trim_for x b names in
-    let e = View b.stamp names (max b.resilience (image_of x).resilience) in
+    let e = View (decided_view x b names) in
     let used = told_used x fronts in
-    let few = viewed_few (image_of x) (top x + 1) b.stamp names (max b.resilience (image_of x).resilience) used.places (omega arith)
+    let few = viewed_few (image_of x) (top x + 1) (decided_view x b names) used.places (omega arith)
     (those_long (λ name. not (b.given_up name)) (need_of x b)) in
     let long = length-append x.core.log.entries (e ∷ []) in
     let all : top_of (with_entry x.core.log e) ≡ top x + 1 = omega arith in
@@ -169,7 +168,7 @@ fitting_change rules c o x y same fronts (looks b verdict over why look is) h = 
 fitting_change rules c o x y same fronts (fetches s v base number e is heard promise below from may) h =
     push_fits rules c x y e refl (omega arith) (told_entry rules c x y number may.next (by_piece s v base e is)) h
 fitting_change rules c o x y same fronts (stores_view s base number v is heard own other promise below may) h =
-    push_fits rules c x y (View v) refl (omega arith) (told_entry rules c x y number may.next (by_result s v.stamp base v.members v.resilience is)) h
+    push_fits rules c x y (View v) refl (omega arith) (told_entry rules c x y number may.next (by_result s base v is)) h
 fitting_change rules c o x y same fronts (closes leads leaves alone room) h =
     let p = push_entry x (Leave x.core.who) in
     let r = rests_at_end p in

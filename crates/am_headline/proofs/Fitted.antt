@@ -1,7 +1,7 @@
 -- Up to its lawful front each node of a run has room for a View that leaves somebody out.
 use Rattle.am_headline.proofs.Words.{eqb-true, not_view, same_stamp, low_or_above, ◌≡◌, ◌⊎◌, ⊎_elim, inl, inr, ℕ, zero, suc, ◌+◌, ◌-◌, ◌<◌, ◌≤◌, ◌==◌, true}
 use Rattle.am_headline.proofs.Words.{false, List, [], ◌∷◌, ◌++◌, length, take, Some, slice_get, refl, sym, ap, ◌∙◌, subst, arith, length-map, Entry, Data}
-use Rattle.am_headline.proofs.Words.{View, Stamp, Rules, MayFound, has, size, top_of, told_by, member_life, members_of, members_at, CoreState, stamp_eq}
+use Rattle.am_headline.proofs.Words.{View, GroupView, Stamp, Rules, MayFound, has, size, top_of, told_by, member_life, members_of, members_at, CoreState, stamp_eq}
 use Rattle.am_headline.proofs.Words.{Packet, Letter, Event, item_at, Begins, view_of, key, key_by, view_push, view_viewed, long_told, begins_both}
 use Rattle.am_headline.proofs.Words.{begins_length, begins_push, begins_trans, Group, IsUp, Status, is_unfinished, Node, top, view, is_member, acts, founder}
 use Rattle.am_headline.proofs.Words.{founders_view, has_departed, Step, hears_member, hears_in_view, hears_sequencer, heard_by, FitsView, ViewsFit}
@@ -69,21 +69,21 @@ module _ (rules : Rules) (events : List Event) (e : Event) (c : Cause) (step : S
       omega arith
 
   -- where an entry of a line was stored
-  fits_line : (number base : ℕ) (u.stamp : Stamp) (x : Entry) (row : Node) → n.core.log ≡ row.core.log → row.core.base ≤ n.core.base → n.core.base < number
-      → Stores m row base number x → LineFits rules s u.stamp base number → Begins ((s.node i).list ++ x ∷ []) (t.views.line (key u.stamp)) → FitsAt rules n number
-  fits_line number base u.stamp x row log up above st line its =
+  fits_line : (number base : ℕ) (u : Stamp) (x : Entry) (row : Node) → n.core.log ≡ row.core.log → row.core.base ≤ n.core.base → n.core.base < number
+      → Stores m row base number x → LineFits rules s u base number → Begins ((s.node i).list ++ x ∷ []) (t.views.line (key u)) → FitsAt rules n number
+  fits_line number base u x row log up above st line its =
       let mine = stored_list w v s t i m n row base number x stands_m stands_n group_grows log st in
       let long = long_all w i m (s.node i) stands_m in
       let next = st.next in
       let low = st.base_ in
       let start = order_n in
-      stored_fits rules v t i base number n (s.node i).list (t.views.line (key u.stamp)) x stands_n (omega arith) (omega arith) (omega arith) mine its
-      (fit_more rules (s.views.line (key u.stamp)) (t.views.line (key u.stamp)) base number (grows.lines (key u.stamp) line.decided) line.fits)
+      stored_fits rules v t i base number n (s.node i).list (t.views.line (key u)) x stands_n (omega arith) (omega arith) (omega arith) mine its
+      (fit_more rules (s.views.line (key u)) (t.views.line (key u)) base number (grows.lines (key u) line.decided) line.fits)
 
   -- the line of the view in which an entry ends the list
-  on_last : (base number : ℕ) (u.stamp : Stamp) (x : Entry) (row : Node) → n.core.log ≡ row.core.log → Stores m row base number x
-      → view_of ((s.node i).list ++ x ∷ []) ≡ u.stamp → Begins ((s.node i).list ++ x ∷ []) (t.views.line (key u.stamp))
-  on_last base number u.stamp x row log st viewed =
+  on_last : (base number : ℕ) (u : Stamp) (x : Entry) (row : Node) → n.core.log ≡ row.core.log → Stores m row base number x
+      → view_of ((s.node i).list ++ x ∷ []) ≡ u → Begins ((s.node i).list ++ x ∷ []) (t.views.line (key u))
+  on_last base number u x row log st viewed =
       let mine = stored_list w v s t i m n row base number x stands_m stands_n group_grows log st in
       subst (λ y. Begins ((s.node i).list ++ x ∷ []) (t.views.line (key y))) viewed
       (last_line t i ((s.node i).list ++ x ∷ []) shaped opens_t (push_some (s.node i).list x) mine)
@@ -92,8 +92,8 @@ module _ (rules : Rules) (events : List Event) (e : Event) (c : Cause) (step : S
   unfolding view_of
   view_m = ap (λ g. g.view) (told_all w i m (s.node i) stands_m)
 
-  plain_view : (from : ℕ) (u.stamp : Stamp) (x : Entry) → InView m from u.stamp x → view_of ((s.node i).list ++ x ∷ []) ≡ u.stamp
-  plain_view from u.stamp x why = view_push (s.node i).list x (not_view x why.plain) ∙ view_m ∙ sym (in_view m from u.stamp why.heard)
+  plain_view : (from : ℕ) (u : Stamp) (x : Entry) → InView m from u x → view_of ((s.node i).list ++ x ∷ []) ≡ u
+  plain_view from u x why = view_push (s.node i).list x (not_view x why.plain) ∙ view_m ∙ sym (in_view m from u why.heard)
 
   sent_so : (p : Packet) → c ≡ hears p → WasSentTo w i e.act p
   sent_so p says_ = subst (IsCause w i e.act) says_ cause
@@ -120,38 +120,38 @@ module _ (rules : Rules) (events : List Event) (e : Event) (c : Cause) (step : S
             let base = ap (λ (x : Node). x.core.base) same in
             f (ap (λ (x : Node). x.core.log) same ∙ r.log) (omega arith)
 
-  fits_bcast : (from : ℕ) (u.stamp : Stamp) (base acc number : ℕ) (x : Entry) → c ≡ hears (packet.Bcast from u.stamp base acc number x) → n.core.base < number
+  fits_bcast : (from : ℕ) (u : Stamp) (base acc number : ℕ) (x : Entry) → c ≡ hears (packet.Bcast from u base acc number x) → n.core.base < number
       → number ≤ top n → FitsAt rules n number
-  fits_bcast from u.stamp base acc number x heard_ above within =
-      let p = packet.Bcast from u.stamp base acc number x in
+  fits_bcast from u base acc number x heard_ above within =
+      let p = packet.Bcast from u base acc number x in
       let line = packet_fits p (sent_so p heard_) in
-      by_row p heard_ number above within (λ log up. by_way line log up (bcast_does m from u.stamp base acc number x))
+      by_row p heard_ number above within (λ log up. by_way line log up (bcast_does m from u base acc number x))
     where
-      by_way : LineFits rules s u.stamp base number → n.core.log ≡ (rows.hear_row m (packet.Bcast from u.stamp base acc number x)).node.core.log
-          → (rows.hear_row m (packet.Bcast from u.stamp base acc number x)).node.core.base ≤ n.core.base
-          → Does m (rows.hear_row m (packet.Bcast from u.stamp base acc number x)).node base number x (InView m from u.stamp x) → FitsAt rules n number
+      by_way : LineFits rules s u base number → n.core.log ≡ (rows.hear_row m (packet.Bcast from u base acc number x)).node.core.log
+          → (rows.hear_row m (packet.Bcast from u base acc number x)).node.core.base ≤ n.core.base
+          → Does m (rows.hear_row m (packet.Bcast from u base acc number x)).node base number x (InView m from u x) → FitsAt rules n number
       by_way line log up (done.nothing same low) = fits_still number (log ∙ same) (omega arith) above within
       by_way line log up (done.one why st) =
-          let r = (rows.hear_row m (packet.Bcast from u.stamp base acc number x)).node in
-          fits_line number base u.stamp x r log up above st line (on_last base number u.stamp x r log st (plain_view from u.stamp x why))
+          let r = (rows.hear_row m (packet.Bcast from u base acc number x)).node in
+          fits_line number base u x r log up above st line (on_last base number u x r log st (plain_view from u x why))
 
-  fits_order : (from : ℕ) (u.stamp : Stamp) (base acc number by req : ℕ) → c ≡ hears (packet.Order from u.stamp base acc number by req) → n.core.base < number
+  fits_order : (from : ℕ) (u : Stamp) (base acc number by req : ℕ) → c ≡ hears (packet.Order from u base acc number by req) → n.core.base < number
       → number ≤ top n → FitsAt rules n number
-  fits_order from u.stamp base acc number by req heard_ above within =
-      let p = packet.Order from u.stamp base acc number by req in
+  fits_order from u base acc number by req heard_ above within =
+      let p = packet.Order from u base acc number by req in
       let line = packet_fits p (sent_so p heard_) in
-      by_row p heard_ number above within (λ log up. by_way line log up (order_does m from u.stamp base acc number by req))
+      by_row p heard_ number above within (λ log up. by_way line log up (order_does m from u base acc number by req))
     where
-      by_way : LineFits rules s u.stamp base number → n.core.log ≡ (rows.hear_row m (packet.Order from u.stamp base acc number by req)).node.core.log
-          → (rows.hear_row m (packet.Order from u.stamp base acc number by req)).node.core.base ≤ n.core.base
-          → OrderDoes m (rows.hear_row m (packet.Order from u.stamp base acc number by req)).node from u.stamp base number by req → FitsAt rules n number
+      by_way : LineFits rules s u base number → n.core.log ≡ (rows.hear_row m (packet.Order from u base acc number by req)).node.core.log
+          → (rows.hear_row m (packet.Order from u base acc number by req)).node.core.base ≤ n.core.base
+          → OrderDoes m (rows.hear_row m (packet.Order from u base acc number by req)).node from u base number by req → FitsAt rules n number
       by_way line log up (done.nothing same low) = fits_still number (log ∙ same) (omega arith) above within
       by_way line log up (done.one body why st) =
-          let r = (rows.hear_row m (packet.Order from u.stamp base acc number by req)).node in
+          let r = (rows.hear_row m (packet.Order from u base acc number by req)).node in
           let x = Data by req body in
-          fits_line number base u.stamp x r log up above st line (on_last base number u.stamp x r log st (plain_view from u.stamp x why))
+          fits_line number base u x r log up above st line (on_last base number u x r log st (plain_view from u x why))
 
-  fits_result : (from : ℕ) (u.stamp : Stamp) (base number : ℕ) (u.members : List ℕ) (u.resilience : ℕ) → c ≡ hears (packet.Result from base number u)
+  fits_result : (from : ℕ) (base number : ℕ) (u : GroupView) → c ≡ hears (packet.Result from base number u)
       → n.core.base < number → number ≤ top n → FitsAt rules n number
   fits_result from base number u heard_ above within =
       let p = packet.Result from base number u in
@@ -181,13 +181,13 @@ module _ (rules : Rules) (events : List Event) (e : Event) (c : Cause) (step : S
       member_stays status.Departed z = absurd (cc)
       member_stays _ z = refl
 
-  module _ (from : ℕ) (u.stamp : Stamp) (base number : ℕ) (x : Entry) (row : Node) (log : n.core.log ≡ row.core.log) (up : row.core.base ≤ n.core.base)
-      (above : n.core.base < number) (why : Piecewise m from u.stamp) (st : Stores m row base number x) where
+  module _ (from : ℕ) (u : Stamp) (base number : ℕ) (x : Entry) (row : Node) (log : n.core.log ≡ row.core.log) (up : row.core.base ≤ n.core.base)
+      (above : n.core.base < number) (why : Piecewise m from u) (st : Stores m row base number x) where
     member : is_member m.status ≡ true
     member = (and_both _ (is_member m.status) why.member).1
 
-    promise : u.stamp ≡ (s.node i).promise
-    promise = same_stamp u.stamp m.core.promise why.promise ∙ sym stands_m.promise
+    promise : u ≡ (s.node i).promise
+    promise = same_stamp u m.core.promise why.promise ∙ sym stands_m.promise
 
     number_is : number ≡ length (s.node i).list + 1
     number_is = let a = st.next in let b = long_all w i m (s.node i) stands_m in omega arith
@@ -195,16 +195,16 @@ module _ (rules : Rules) (events : List Event) (e : Event) (c : Cause) (step : S
     next_item : (list : List Entry) → item_at list number ≡ Some x → slice_get list (length (s.node i).list) ≡ Some x
     next_item list at = item_get list number (length (s.node i).list) x number_is at
 
-    piece_line : LineFits rules s u.stamp base number → item_at (s.views.line (key u.stamp)) number ≡ Some x → FitsAt rules n number
+    piece_line : LineFits rules s u base number → item_at (s.views.line (key u)) number ≡ Some x → FitsAt rules n number
     piece_line line at =
         let d : s.views.decided (key (s.node i).promise) ≡ true = ap (λ y. s.views.decided (key y)) (sym promise) ∙ line.decided in
         let on = promised_line s i kept_s (up_s member) d in
-        let on_u : Begins (s.node i).list (s.views.line (key u.stamp)) = subst (λ y. Begins (s.node i).list (s.views.line (key y))) (sym promise) on in
-        let its = begins_push x on_u (next_item (s.views.line (key u.stamp)) at) in
-        fits_line number base u.stamp x row log up above st line (begins_trans its (grows.lines (key u.stamp) line.decided))
+        let on_u : Begins (s.node i).list (s.views.line (key u)) = subst (λ y. Begins (s.node i).list (s.views.line (key y))) (sym promise) on in
+        let its = begins_push x on_u (next_item (s.views.line (key u)) at) in
+        fits_line number base u x row log up above st line (begins_trans its (grows.lines (key u) line.decided))
 
     -- a ballot of its own
-    piece_shown : (list : List Entry) → s.shown (key u.stamp) from ≡ Some list → s.served (key u.stamp) from ≡ true → item_at list number ≡ Some x
+    piece_shown : (list : List Entry) → s.shown (key u) from ≡ Some list → s.served (key u) from ≡ true → item_at list number ≡ Some x
         → FitIn rules list base number → is_unfinished m.ballot ≡ true → FitsAt rules n number
     piece_shown list shown served at fit open_ =
         let ballot : (s.node i).ballot ≡ true = stands_m.ballot ∙ open_ in
@@ -221,40 +221,40 @@ module _ (rules : Rules) (events : List Event) (e : Event) (c : Cause) (step : S
         let start = order_n in
         stored_fits rules v t i base number n (s.node i).list list x stands_n (omega arith) number_is (omega arith) goes its fit
 
-    own_shown : (list : List Entry) → s.shown (key u.stamp) from ≡ Some list → u.stamp.by ≡ from → ⊥
+    own_shown : (list : List Entry) → s.shown (key u) from ≡ Some list → u.by ≡ from → ⊥
     own_shown list shown same =
-        let k = kept_s.shown (key u.stamp) from list shown in
-        let small : u.stamp.by < 256 = subst (λ (y : Stamp). y.by < 256) (sym promise) (kept_s.each i).small in
-        k.other (key_by k.stamp u.stamp k.small small k.is ∙ same)
+        let k = kept_s.shown (key u) from list shown in
+        let small : u.by < 256 = subst (λ (y : Stamp). y.by < 256) (sym promise) (kept_s.each i).small in
+        k.other (key_by k.stamp u k.small small k.is ∙ same)
 
-    none_over : s.views.decided (key u.stamp) ≡ true → is_unfinished m.ballot ≡ true → ⊥
+    none_over : s.views.decided (key u) ≡ true → is_unfinished m.ballot ≡ true → ⊥
     none_over d open_ =
         let ballot : (s.node i).ballot ≡ true = stands_m.ballot ∙ open_ in
         let above_ = ((kept_s.each i).ballot (up_s member) ballot).above in
-        let most = kept_s.views.order (key u.stamp) d in
+        let most = kept_s.views.order (key u) d in
         let same = ap key promise in
         omega arith
 
-    piece_so : PieceFits rules s from u.stamp base number x → Fetched m from u.stamp → FitsAt rules n number
+    piece_so : PieceFits rules s from u base number x → Fetched m from u → FitsAt rules n number
     piece_so (of_line line at) how = piece_line line at
-    piece_so (of_shown list shown served at fit) (done.without none by) = absurd (own_shown list shown (eqb-true u.stamp.by from by))
+    piece_so (of_shown list shown served at fit) (done.without none by) = absurd (own_shown list shown (eqb-true u.by from by))
     piece_so (of_shown list shown served at fit) (done.for_ballot open_) = piece_shown list shown served at fit open_
-    piece_so (over other d) (done.without none by) = absurd (other (eqb-true u.stamp.by from by))
+    piece_so (over other d) (done.without none by) = absurd (other (eqb-true u.by from by))
     piece_so (over other d) (done.for_ballot open_) = absurd (none_over d open_)
 
-  fits_piece : (from : ℕ) (u.stamp : Stamp) (base number : ℕ) (x : Entry) → c ≡ hears (packet.Piece from u.stamp base number x) → n.core.base < number
+  fits_piece : (from : ℕ) (u : Stamp) (base number : ℕ) (x : Entry) → c ≡ hears (packet.Piece from u base number x) → n.core.base < number
       → number ≤ top n → FitsAt rules n number
-  fits_piece from u.stamp base number x heard_ above within =
-      let p = packet.Piece from u.stamp base number x in
+  fits_piece from u base number x heard_ above within =
+      let p = packet.Piece from u base number x in
       let line = packet_fits p (sent_so p heard_) in
-      by_row p heard_ number above within (λ log up. by_way line log up (piece_does m from u.stamp base number x))
+      by_row p heard_ number above within (λ log up. by_way line log up (piece_does m from u base number x))
     where
-      by_way : PieceFits rules s from u.stamp base number x → n.core.log ≡ (rows.hear_row m (packet.Piece from u.stamp base number x)).node.core.log
-          → (rows.hear_row m (packet.Piece from u.stamp base number x)).node.core.base ≤ n.core.base
-          → Does m (rows.hear_row m (packet.Piece from u.stamp base number x)).node base number x (Piecewise m from u.stamp) → FitsAt rules n number
+      by_way : PieceFits rules s from u base number x → n.core.log ≡ (rows.hear_row m (packet.Piece from u base number x)).node.core.log
+          → (rows.hear_row m (packet.Piece from u base number x)).node.core.base ≤ n.core.base
+          → Does m (rows.hear_row m (packet.Piece from u base number x)).node base number x (Piecewise m from u) → FitsAt rules n number
       by_way line log up (done.nothing same low) = fits_still number (log ∙ same) (omega arith) above within
       by_way line log up (done.one why st) =
-          piece_so from u.stamp base number x (rows.hear_row m (packet.Piece from u.stamp base number x)).node log up above why st line why.how
+          piece_so from u base number x (rows.hear_row m (packet.Piece from u base number x)).node log up above why st line why.how
 
   -- ---- the node
 
@@ -264,16 +264,16 @@ module _ (rules : Rules) (events : List Event) (e : Event) (c : Cause) (step : S
         (let owned = run_owned rules events may in
         let names = heard_names rules w e c owned.blanks.base cause in
         let used = heard_used rules w e c owned cause in
-        let all = fitting_changes rules c step.outcome m n u.members used effect.changes (each_along rules w i few owned)
+        let all = fitting_changes rules c step.outcome m n names used effect.changes (each_along rules w i few owned)
         (λ k high low. inl ((h.nodes i).each k high low)) number above within in
         ⊎_elim (λ (f : FitsAt rules n number). f) (λ (b : BringsEntry c number). by_packet number b above within) all);
   }
     where
       by_packet : (number : ℕ) → BringsEntry c number → n.core.base < number → number ≤ top n → FitsAt rules n number
-      by_packet number (by_bcast from u.stamp base acc x heard_) above within = fits_bcast from u.stamp base acc number x heard_ above within
-      by_packet number (by_order from u.stamp base acc by req heard_) above within = fits_order from u.stamp base acc number by req heard_ above within
-      by_packet number (by_piece from u.stamp base x heard_) above within = fits_piece from u.stamp base number x heard_ above within
-      by_packet number (by_result from u.stamp base u.members u.resilience heard_) above within = fits_result from base number u heard_ above within
+      by_packet number (by_bcast from u base acc x heard_) above within = fits_bcast from u base acc number x heard_ above within
+      by_packet number (by_order from u base acc by req heard_) above within = fits_order from u base acc number by req heard_ above within
+      by_packet number (by_piece from u base x heard_) above within = fits_piece from u base number x heard_ above within
+      by_packet number (by_result from base u heard_) above within = fits_result from base number u heard_ above within
 
   -- ---- its letters
 
@@ -318,10 +318,10 @@ module _ (rules : Rules) (events : List Event) (e : Event) (c : Cause) (step : S
       }
 
   -- a list that it showed
-  shown_fit : (list : List Entry) (u.stamp : Stamp) (number : ℕ) (en : Entry) → t.shown (key u.stamp) i ≡ Some list → item_at list number ≡ Some en
+  shown_fit : (list : List Entry) (u : Stamp) (number : ℕ) (en : Entry) → t.shown (key u) i ≡ Some list → item_at list number ≡ Some en
       → FitIn rules list x.core.base number
-  shown_fit list u.stamp number en shown at = subst (λ (q : CoreState). FitIn rules list q.base number) core_x
-      (let begins = (kept_t.shown (key u.stamp) i list shown).list in
+  shown_fit list u number en shown at = subst (λ (q : CoreState). FitIn rules list q.base number) core_x
+      (let begins = (kept_t.shown (key u) i list shown).list in
       let low = item_within list number en at in
       let long = begins_length begins in
       let all = long_all v i n (t.node i) stands_n in
@@ -346,10 +346,10 @@ module _ (rules : Rules) (events : List Event) (e : Event) (c : Cause) (step : S
   packet_sent stays to p (bcast _ number en leads at) h_ =
       let says_ = h_.1 in
       sent_line stays number at.within (item_within (t.views.line (key x.core.promise)) number en says_.stands).1 says_.sequencer.decided
-  packet_sent stays to p (order _ number from req u.stamp report body heard_ leads at) h_ =
+  packet_sent stays to p (order _ number from req u report body heard_ leads at) h_ =
       let says_ = h_.1.entry in
       sent_line stays number at.within (item_within (t.views.line (key x.core.promise)) number (Data from req h_.1.body) says_.stands).1 says_.sequencer.decided
-  packet_sent stays to p (piece from u.stamp stored number en heard_ may_ at) h_ = by_piece_says h_.1
+  packet_sent stays to p (piece from u stored number en heard_ may_ at) h_ = by_piece_says h_.1
     where
       by_piece_says : PieceSays t x.core.who x.core.promise number en → PieceFits rules t x.core.who x.core.promise x.core.base number en
       by_piece_says (says.of_line by d there) =
@@ -357,7 +357,7 @@ module _ (rules : Rules) (events : List Event) (e : Event) (c : Cause) (step : S
       by_piece_says (says.of_shown so) = of_shown so.list so.shown so.served so.stands
           (shown_fit so.list x.core.promise number en (ap (λ k. t.shown (key x.core.promise) k) (sym who_x) ∙ so.shown) so.stands)
       by_piece_says (says.over other d) = over other d
-  packet_sent stays to p (result _ number u.members is_ viewed may_) h_ = λ by.
+  packet_sent stays to p (result _ number names is_ viewed may_) h_ = λ by.
       (let says_ = h_.1 by in
       let same : nodes.image_of x ≡ image_of (t.node i).list = ap (λ (q : CoreState). told_by q.log) (sym core_x) ∙ sym (told_all v i n (t.node i) stands_n) in
       sent_line stays number (let z = view_low same in omega arith)

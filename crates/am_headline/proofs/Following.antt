@@ -106,7 +106,7 @@ overtaken_same v (Some b) h = let over = not-false b.is_over h in rw over refl
 promised_same : (r : Repair) (w : World) (c : Cause) (q x : Node) (v : Stamp) → CalmCause r w c → FollowsView r q x → Promises c x v → Alike x (with_promise x v)
 promised_same r w c q x v calm f (invited s v_ is heard own) = absurd (subst (CalmCause r w) is calm)
 promised_same r w c q x v calm f (overtaken_by s v_ vote is heard above) = absurd (subst (CalmCause r w) is calm)
-promised_same r w c q x v calm f (told_result s v_ base number names resilience is heard own other) =
+promised_same r w c q x v calm f (told_result s base number u is heard own other) =
     let same : v ≡ r.view = (subst (CalmCause r w) is calm) (eqb-true v.by s own) in
     let promise = same ∙ sym f.view_ ∙ sym (acting x f.acts_).1 in
     alike_here x (with_promise x v) refl refl promise refl refl (overtaken_same v x.ballot f.rest.no_ballot) (omega arith) (omega arith)
@@ -135,8 +135,8 @@ follow_change r w c o m x y by other calm (looks b verdict over why look is) h =
     (let k = looked_open c x b why in not_open x k.0 k.1 h.follows.rest.no_ballot)
 follow_change r w c o m x y by other calm (fetches s v base number e is heard promise below why may) h = absurd
     (not_behind x v h.follows.acts_ (same_stamp v x.core.promise promise) below)
-follow_change r w c o m x y by other calm (stores_view s v base number names resilience is heard own other_ promise below may) h = absurd
-    (not_behind x v h.follows.acts_ (sym promise) below)
+follow_change r w c o m x y by other calm (stores_view s base number v is heard own other_ promise below may) h = absurd
+    (not_behind x v.stamp h.follows.acts_ (sym promise) below)
 follow_change r w c o m x y by other calm (queues body is says member stays few) h = absurd (subst (CalmCause r w) is calm)
 follow_change r w c o m x y by other calm (collects req is) h = absurd (subst (CalmCause r w) is calm)
 follow_change r w c o m x y by other calm (takes e is says member some there) h = absurd (subst (CalmCause r w) is calm)

@@ -65,7 +65,7 @@ module _ (rules : Rules) (w : World) (s : Group) (d : Decided) (f : Following ru
       let up : Begins part s.group = subst (Begins part) (sym f.stands.group) (begins_trans delivered grows) in
       let front : Begins open_ part = begins_both (kept.views.complete (key d.stamp) became.marked_) (begins_trans up kept.group) (omega arith) in
       let risen = view_up good (begins_trans front (begins_take acc list)) in
-      let viewed : view_of open_ ≡ d.stamp = view_viewed (s.views.chosen (key d.stamp)).before _ _ _ ∙ noted.stamp in
+      let viewed : view_of open_ ≡ d.stamp = view_viewed (s.views.chosen (key d.stamp)).before _ ∙ noted.stamp in
       let same = ap key viewed in
       let z : ⊥ = omega arith in z))
       (two number d.number)

@@ -45,7 +45,7 @@ pub record Opens (rules : Rules) (group : List Entry) : Type 0 where
 founder_of : (rules : Rules) (group : List Entry) (name : ℕ) → Opens rules group → mem (take 1 group) name ≡ true → has rules.founders name ≡ true
 founder_of rules group name h member =
     let is : take 1 group ≡ founders_view rules ∷ [] = one group h.first.rest (founders_view rules) h.first.same in
-    mem_viewed [] _ rules.founders rules.resilience name (subst (λ l. mem l name ≡ true) is member)
+    mem_viewed [] _ name (subst (λ l. mem l name ≡ true) is member)
   where
     one : (group rest : List Entry) (e : Entry) → (e ∷ []) ++ rest ≡ group → take 1 group ≡ e ∷ []
     one group rest e same = ap (take 1) (sym same)

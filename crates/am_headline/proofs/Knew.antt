@@ -1,4 +1,5 @@
 -- What a sequencer knows of others to be taken, through a step that neither decides a view nor hears a request to join.
+use Rattle.am_model.specs.Ballots.{decided_view}
 use Rattle.am_headline.proofs.RepairedWords.{◌≡◌, ℕ, ◌≤◌, ◌==◌, max, true, false, refl, sym, ap, ◌∙◌, subst, arith, nat_tests, Report, Leave, Outcome, Rules}
 use Rattle.am_headline.proofs.RepairedWords.{stamp_lt, Node, Ballot, view, image_of, push_entry, Verdict, trim_for, left_in, need_of, refresh, split, Cause, Looks}
 use Rattle.am_headline.proofs.RepairedWords.{decides, Change, refreshes, settles, takes_report, admits, looks, stores_view, closes, Changes, unchanged, changed}
@@ -23,8 +24,7 @@ same nodes x y who is = knew who (λ j other. let b = ap (λ (r : Report). r.tak
 
 know_look : (nodes : ℕ → Node) (x : Node) (b : Ballot) (v : Verdict) → Looks x b v → stamp_lt (view x) b.stamp ≡ true → Know nodes x v.node
 know_look nodes x b v (decides may) above =
-    let is : view v.node ≡ b.stamp = view_last (trim_for x b (left_in b (need_of x b))) b.stamp (left_in b (need_of x b))
-    (max b.resilience (image_of x).resilience) in
+    let is : view v.node ≡ b.stamp = view_last (trim_for x b (left_in b (need_of x b))) (decided_view x b (left_in b (need_of x b))) in
     anew (ap (stamp_lt (view x)) is ∙ above)
 know_look nodes x b v _ above = same nodes x v.node refl (λ j other. refl)
 
@@ -37,7 +37,7 @@ know_change nodes c o x y none w k (takes_report s v report brings may) =
     (λ f. rw f (omega arith)))
 know_change nodes c o x y none w k (admits s v is leads fit) = absurd (none s v is)
 know_change nodes c o x y none w k (looks b verdict over why look is) = know_look nodes x b verdict look (looked_at x b why k).open_.above
-know_change nodes c o x y none w k (stores_view s v base number names resilience is heard own other promise below_ may) = same nodes x y refl (λ j other_. refl)
+know_change nodes c o x y none w k (stores_view s base number v is heard own other promise below_ may) = same nodes x y refl (λ j other_. refl)
 know_change nodes c o x y none w k (closes leads leaves alone room) =
     same nodes x y (rests_at_end (push_entry x (Leave x.core.who))).rests.who (end_same (push_entry x (Leave x.core.who)))
 know_change nodes c o x y none w k _ = same nodes x y refl (λ j other. refl)

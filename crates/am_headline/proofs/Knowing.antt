@@ -124,7 +124,7 @@ known_numbered c m e none (asked_leave s v report is other known stays) f h =
 promised_leads : (c : Cause) (m : Node) (v : Stamp) → Promises c m v → Balloted m → is_sequencer (with_promise m v) ≡ true → ⊥
 promised_leads c m v (invited s _ is heard own) k t =
     not_own (with_promise m v) s (ap (λ (x : Stamp). x.by) (sym (promise_is (with_promise m v) t)) ∙ stamp_by v s own) (other_asks m s heard) t
-promised_leads c m v (told_result s _ base number names resilience is heard own other) k t =
+promised_leads c m v (told_result s base number w is heard own other) k t =
     not_own (with_promise m v) v.by (ap (λ (x : Stamp). x.by) (sym (promise_is (with_promise m v) t))) other t
 promised_leads c m v (overtaken s _ vote is heard above) k t = not_above_view (with_promise m v) (at_most_below (view m) m.core.promise v k.high above) t
 
@@ -160,8 +160,8 @@ known_change c o m n none k f (looks b verdict over why look is) h = (let old = 
     (open_leads m old.0 old.1 k))
 known_change c o m n none k f (fetches s v base number e is heard promise below why may) h = λ t i few there. absurd
     (fetch_follows m s v base e why (other_heard m s heard) promise below t)
-known_change c o m n none k f (stores_view s v base number names resilience is heard own other promise below may) h = λ t i few there. absurd (
-    not_own n v.by (ap (λ (x : Stamp). x.by) (view_last (trim_up_to m base) v names resilience)) other t)
+known_change c o m n none k f (stores_view s base number v is heard own other promise below may) h = λ t i few there. absurd (
+    not_own n v.stamp.by (ap (λ (x : Stamp). x.by) (view_last (trim_up_to m base) v)) other t)
 known_change c o m n none k f (asks_to_join is was) h = λ t i few there. absurd (cc)
 known_change c o m n none k f (closes leads leaves alone room) h = λ t i few there. absurd (cc)
 known_change c o m n none k f _ h = h

@@ -68,7 +68,7 @@ counts_too : (w : World) (s : Group) (v : Decided) (j : ℕ) → Stands w s → 
 counts_too w s v j h noted few t =
     let mine = h.each j few in
     let ch = s.views.chosen (key v.stamp) in
-    let long = length_push ch.before (View ch.stamp ch.members ch.resilience) in
+    let long = length_push ch.before (View ch.view) in
     let number = noted.number in
     ⊎_elim
     (λ (a : has ch.members j ≡ true). (let there : has v.members j ≡ true = ap (λ l. has l j) (sym noted.members) ∙ a in rw there refl))

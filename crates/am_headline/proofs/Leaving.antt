@@ -62,7 +62,7 @@ raised r m x y who leaving status ballot other h = record {
 promised_other : (r : Repair) (w : World) (c : Cause) (x : Node) (v : Stamp) → CalmCause r w c → Promises c x v → (v.by == x.core.who) ≡ false
 promised_other r w c x v calm (invited s v_ is heard own) = absurd (subst (CalmCause r w) is calm)
 promised_other r w c x v calm (overtaken_by s v_ vote is heard above) = absurd (subst (CalmCause r w) is calm)
-promised_other r w c x v calm (told_result s v_ base number names resilience is heard own other) = other
+promised_other r w c x v calm (told_result s base number u is heard own other) = other
 
 -- it fetches from another, without a ballot
 fetched_other : (x : Node) (s : ℕ) (v : Stamp) (e : Entry) → Fetches x s v e → is_unfinished x.ballot ≡ false → (not (s == x.core.who) && is_member x.status) ≡ true
@@ -115,7 +115,7 @@ left_change r w c o m x y calm (looks b verdict over why look is) h = absurd
 left_change r w c o m x y calm (fetches s v base number e is heard promise below why may) h =
     let same = same_stamp v x.core.promise promise in
     raised r m x y refl refl refl h.left.no_ballot (ap (λ (u : Stamp). u.by == x.core.who) (sym same) ∙ fetched_other x s v e why h.left.no_ballot heard) h
-left_change r w c o m x y calm (stores_view s v base number names resilience is heard own other promise below may) h =
+left_change r w c o m x y calm (stores_view s base number v is heard own other promise below may) h =
     raised r m x y refl refl refl h.left.no_ballot (ap (λ (u : Stamp). u.by == x.core.who) promise ∙ other) h
 left_change r w c o m x y calm (queues body is says member stays few) h = absurd (subst (CalmCause r w) is calm)
 left_change r w c o m x y calm (collects req is) h = absurd (subst (CalmCause r w) is calm)

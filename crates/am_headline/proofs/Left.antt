@@ -1,4 +1,6 @@
 -- Who left: whose Leave stands on the chain asked to leave, and who departed has its Leave accepted, unless nobody is left.
+use Rattle.am_base.specs.declared.entry.GroupView.{GroupView}
+use Rattle.am_chain.specs.Runs.{first_choice}
 use Rattle.am_headline.proofs.RepairedWords.{same_from_push, ◌≡◌, ◌⊎◌, ⊎_elim, inl, inr, ℕ, ◌+◌, ◌<◌, ◌≤◌, List, [], ◌∷◌, ◌++◌, length, true, false, refl, sym}
 use Rattle.am_headline.proofs.RepairedWords.{subst, arith, Entry, Leave, View, Image, place_of, life_of, Begins, IsGood, mem, view_of, key, In, row_at, ap, ◌∙◌}
 use Rattle.am_headline.proofs.RepairedWords.{begins_refl, begins_more, begins_trans, begins_both, begins_same, begins_length, begins_pushed, length_push}
@@ -89,14 +91,14 @@ asked_move s t (closes i n leads leaving alone may) k h =
     asked_more s t (Leave i) (chain_more s i ((s.node i).list ++ Leave i ∷ []) k leads ∙ ap (λ l. l ++ Leave i ∷ []) ok.chain)
     (put_leaving s i (record (longer (s.node i) (Leave i)) { departed = true }) (λ z. z))
     (λ j is. let same : i ≡ j = same_leave i j is in ap (λ x. (s.node x).leaving) (sym same) ∙ leaving) h
-asked_move s t (decides i members resilience may) k h = λ a j begins_.
+asked_move s t (decides i v may) k h = λ a j begins_.
     (let m = s.node i in
-    let all = opening (choice_of m members resilience) in
+    let all = opening (choice_of m v) in
     let is : chain_of t.views ≡ all = put_same s.views.line (key m.promise) all in
     put_leaving s i (record m { list = all; ballot = false }) (λ z. z) j (⊎_elim
     (λ (old : Begins (a ++ Leave j ∷ []) m.list). h a j (begins_trans old ((k.each i).list may.up)))
-    (λ (now : a ++ Leave j ∷ [] ≡ all). absurd (let e = (same_from_push a m.list (Leave j) (View m.promise members resilience) now).1 in cc))
-    (begins_pushed (View m.promise members resilience) (subst (Begins (a ++ Leave j ∷ [])) is begins_))))
+    (λ (now : a ++ Leave j ∷ [] ≡ all). absurd (let e = (same_from_push a m.list (Leave j) (View (choice_of m v).view) now).1 in cc))
+    (begins_pushed (View (choice_of m v).view) (subst (Begins (a ++ Leave j ∷ [])) is begins_))))
 asked_move s t (stores i e up decided other stays next) k h = asked_same s t refl (put_leaving s i (longer (s.node i) e) (λ z. z)) h
 asked_move s t (learns i told_ acc up rises within before up_to given low) k h = asked_same s t refl (put_leaving s i _ (λ z. z)) h
 asked_move s t (begins i few up stays member) k h = asked_same s t refl (put_leaving s i _ (λ z. z)) h
@@ -138,18 +140,18 @@ record Ends (t : Group) : Type 0 where
   there : (d : ℕ) → (t.node d).departed ≡ true → (before : List Entry) × Begins (before ++ Leave d ∷ []) (chain_of t.views)
 
 -- nor decides a ballot, as that would want the last Leave
-gone_decided : (s t : Group) (i : ℕ) (members : List ℕ) (resilience : ℕ) → Kept s → Ends t → groups.IsUp (s.node i) → mem (s.node i).list i ≡ true
-    → chain_of t.views ≡ opening (choice_of (s.node i) members resilience) → Begins s.group t.group → (d : ℕ) → (t.node d).departed ≡ true → GoneBy s d
+gone_decided : (s t : Group) (i : ℕ) (v : GroupView) → Kept s → Ends t → groups.IsUp (s.node i) → mem (s.node i).list i ≡ true
+    → chain_of t.views ≡ opening (choice_of (s.node i) v) → Begins s.group t.group → (d : ℕ) → (t.node d).departed ≡ true → GoneBy s d
     → GoneBy t d
-gone_decided s t i members resilience k kt up member is group d gone (accepted before h) = accepted before (begins_trans h group)
-gone_decided s t i members resilience k kt up member is group d gone (last before chain none) = absurd (
+gone_decided s t i v k kt up member is group d gone (accepted before h) = accepted before (begins_trans h group)
+gone_decided s t i v k kt up member is group d gone (last before chain none) = absurd (
     let m = s.node i in
     let there = kt.there d gone in
     let part : Begins (there.0 ++ Leave d ∷ []) m.list = ⊎_elim
     (λ (old : Begins (there.0 ++ Leave d ∷ []) m.list). old)
-    (λ (now : there.0 ++ Leave d ∷ [] ≡ opening (choice_of m members resilience)).
-    absurd (let e = (same_from_push there.0 m.list (Leave d) (View m.promise members resilience) now).1 in cc))
-    (begins_pushed (View m.promise members resilience) (subst (Begins (there.0 ++ Leave d ∷ [])) is there.1)) in
+    (λ (now : there.0 ++ Leave d ∷ [] ≡ opening (choice_of m v)).
+    absurd (let e = (same_from_push there.0 m.list (Leave d) (View (choice_of m v).view) now).1 in cc))
+    (begins_pushed (View (choice_of m v).view) (subst (Begins (there.0 ++ Leave d ∷ [])) is there.1)) in
     let on = (k.each i).list up in
     let long_a = length_push there.0 (Leave d) in
     let long_b = length_push before (Leave d) in
@@ -182,9 +184,8 @@ gone_move s t (closes i n leads leaving alone may) k kt h = λ d gone.
     leaver_out (s.node i).list i (subst IsGood is kt.good) (subst (λ x. mem ((s.node i).list ++ Leave i ∷ []) x ≡ true) same (subst (λ l. mem l j ≡ true) is
     member))))))
     (put_gone s i m d gone))
-gone_move s t (decides i members resilience may) k kt h = λ d gone.
-    gone_decided s t i members resilience k kt may.up may.needed (put_same s.views.line (key (s.node i).promise) (opening (choice_of (s.node i) members
-    resilience)))
+gone_move s t (decides i v may) k kt h = λ d gone.
+    gone_decided s t i v k kt may.up may.needed (put_same s.views.line (key (s.node i).promise) (opening (choice_of (s.node i) v)))
     (begins_refl s.group) d gone (h d (not_now s i _ d refl gone))
 gone_move s t (departs i before may) k kt h = λ d gone. ⊎_elim
     (λ (old : (s.node d).departed ≡ true). gone_same s t refl (begins_refl s.group) d (h d old))
@@ -218,7 +219,7 @@ nil_none a e x h = ⊎_elim
 
 pub runs_left : (founders : List ℕ) (first resilience : ℕ) (s : Group) → Run founders first resilience s → AllLeft s
 runs_left founders first resilience s (founded may) = record {
-  asked = λ a j begins_. absurd (let e = nil_none a (View (first_stamp first) founders resilience) (Leave j) begins_ in cc);
+  asked = λ a j begins_. absurd (let e = nil_none a (View (first_choice founders first resilience).view) (Leave j) begins_ in cc);
   gone = λ d gone. absurd (cc);
 }
 runs_left founders first resilience t (more {s = s} run step law) =

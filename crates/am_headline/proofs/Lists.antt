@@ -1,8 +1,8 @@
 -- Lists, their lines, and where a View stands in them.
 use Rattle.am_headline.proofs.Words.{same_stamp, low_or_above, ◌≡◌, ⊎_elim, ℕ, zero, suc, ◌<◌, ◌≤◌, true, List, [], ◌∷◌, ◌++◌, length, Some, slice_get}
-use Rattle.am_headline.proofs.Words.{sym, ap, ◌∙◌, subst, arith, list_any, Entry, View, Stamp, item_at, get_before, Begins, IsGood, view_of, key, begins_nil}
+use Rattle.am_headline.proofs.Words.{sym, ap, ◌∙◌, subst, arith, list_any, Entry, View, GroupView, Stamp, item_at, get_before, Begins, IsGood, view_of, key, begins_nil}
 use Rattle.am_headline.proofs.Words.{begins_both, begins_more, begins_same, length_push, good_begins, view_up, view_below, view_viewed, is_view, is_view_of}
-use Rattle.am_headline.proofs.Words.{up_to_view, up_to_next, split, item_more}
+use Rattle.am_headline.proofs.Words.{up_to_view, up_to_next, split, item_more, refl}
 
 -- ---- lines
 
@@ -25,52 +25,44 @@ line_part v (e ∷ es) = split (is_view_of v e) (λ t. rw t (begins_cons e (view
 -- up to which a list has it
 pub record Viewed (v : Stamp) (list : List Entry) : Type 0 where
   pub before : List Entry
-  pub names : List ℕ
-  pub resilience : ℕ
-  pub begins : Begins (before ++ View v ∷ []) list
+  pub view : GroupView
+  pub is : view.stamp ≡ v
+  pub begins : Begins (before ++ View view ∷ []) list
 
-is_that : (v.stamp : Stamp) (e : Entry) → is_view_of v.stamp e ≡ true → (v.members : List ℕ) × (v.resilience : ℕ) × (e ≡ View v)
-is_that v (View w) h = (w.members, w.resilience, ap (λ s. View s w.members w.resilience) (same_stamp w.stamp v h))
+is_that : (v : Stamp) (e : Entry) → is_view_of v e ≡ true → (w : GroupView) × (w.stamp ≡ v) × (e ≡ View w)
+is_that v (View w) h = (w, same_stamp w.stamp v h, refl)
 is_that v _ h = absurd (cc)
 
 pub find_view : (v : Stamp) (list : List Entry) → list_any (is_view_of v) list ≡ true → Viewed v list
 find_view v [] h = absurd (cc)
 find_view v (e ∷ es) h = split (is_view_of v e)
     (λ t.
-    let is = is_that v e t in
-    record {
-      before = [];
-      names = is.0;
-      resilience = is.1;
-      begins = record { rest = es; same = ap (λ x. x ∷ es) (sym is.2) };
-    })
+    let its = is_that v e t in
+    record { before = []; view = its.0; is = its.1; begins = record { rest = es; same = ap (λ x. x ∷ es) (sym its.2) } })
     (λ f.
     let at = find_view v es (rw f at h) in
-    record { before = e ∷ at.before; names = at.names; resilience = at.resilience; begins = begins_cons e at.begins })
+    record { before = e ∷ at.before; view = at.view; is = at.is; begins = begins_cons e at.begins })
 
--- two beginnings of one list that end with the same View are the same
-pub same_opening : (v.stamp : Stamp) (a b : List Entry) (v.members others : List ℕ) (v.resilience more : ℕ) (list : List Entry)
-    → Begins (a ++ View v ∷ []) list → Begins (b ++ View v.stamp others more ∷ []) list
-    → IsGood (a ++ View v ∷ []) → IsGood (b ++ View v.stamp others more ∷ []) → a ++ View v ∷ [] ≡ b ++ View v.stamp others more ∷ []
-same_opening v.stamp a b v.members others v.resilience more list h k g f =
+-- two beginnings of one list that end with Views of the same stamp are the same
+pub same_opening : (a b : List Entry) (v w : GroupView) (list : List Entry) → v.stamp ≡ w.stamp → Begins (a ++ View v ∷ []) list
+    → Begins (b ++ View w ∷ []) list → IsGood (a ++ View v ∷ []) → IsGood (b ++ View w ∷ []) → a ++ View v ∷ [] ≡ b ++ View w ∷ []
+same_opening a b v w list stamps h k g f =
     let p = a ++ View v ∷ [] in
-    let q = b ++ View v.stamp others more ∷ [] in
+    let q = b ++ View w ∷ [] in
     let long_p = length_push a (View v) in
-    let long_q = length_push b (View v.stamp others more) in
+    let long_q = length_push b (View w) in
     ⊎_elim
     (λ (le : length p ≤ length q). ⊎_elim
     (λ (back : length q ≤ length p). begins_same (begins_both h k le) back)
-    (λ (less : length p < length q). absurd (below v.stamp b others more p (begins_both (begins_both h k le) (begins_more b (View v.stamp others more ∷ []))
-    (omega arith)) f
-    (view_viewed a v)))
+    (λ (less : length p < length q). absurd (below w b p (begins_both (begins_both h k le) (begins_more b (View w ∷ [])) (omega arith)) f
+    (view_viewed a v ∙ stamps)))
     (low_or_above (length q) (length p)))
-    (λ (less : length q < length p). absurd (below v.stamp a v.members v.resilience q
-    (begins_both (begins_both k h (omega arith)) (begins_more a (View v ∷ [])) (omega arith)) g (view_viewed b v.stamp others more)))
+    (λ (less : length q < length p). absurd (below v a q (begins_both (begins_both k h (omega arith)) (begins_more a (View v ∷ [])) (omega arith)) g
+    (view_viewed b w ∙ sym stamps)))
     (low_or_above (length p) (length q))
   where
-    below : (v.stamp : Stamp) (a : List Entry) (v.members : List ℕ) (v.resilience : ℕ) (q : List Entry) → Begins q a → IsGood (a ++ View v ∷ [])
-        → view_of q ≡ v.stamp → ⊥
-    below v.stamp a v.members v.resilience q h g is =
+    below : (v : GroupView) (a q : List Entry) → Begins q a → IsGood (a ++ View v ∷ []) → view_of q ≡ v.stamp → ⊥
+    below v a q h g is =
         let up = view_up (good_begins (begins_more a (View v ∷ [])) g) h in
         let low = view_below a v g in
         let same = ap key is in

@@ -51,23 +51,19 @@ stored_opens w s v h k noted small few stored =
     let list = (s.node h).list in
     let is : list_any (is_view_of v.stamp) list ≡ true = ap (list_any (is_view_of v.stamp)) (k.stands.each h few).list ∙ stored in
     let at = find_view v.stamp list is in
-    let part = at.before ++ View v.stamp at.names at.resilience ∷ [] in
+    let part = at.before ++ View at.view ∷ [] in
     let on = k.shaped.lines h (λ nil. absurd (let z = ap (list_any (is_view_of v.stamp)) nil in cc)) in
-    let seen : view_of part ≡ v.stamp = view_viewed at.before v.stamp at.names at.resilience in
-    let opened = k.opens on.view part on.decided (λ nil. not_nil at.before (View v.stamp at.names at.resilience) nil) (begins_trans at.begins on.line) in
+    let seen : view_of part ≡ v.stamp = view_viewed at.before at.view ∙ at.is in
+    let opened = k.opens on.view part on.decided (λ nil. not_nil at.before (View at.view) nil) (begins_trans at.begins on.line) in
     let mine : Begins part (s.views.line (key v.stamp)) = subst (λ u. Begins part (s.views.line (key u))) seen opened.line_ in
     let good : IsGood part = good_begins at.begins (k.shaped.good h) in
-    let stamped : opening ch ≡ ch.before ++ View v.stamp ch.members ch.resilience ∷ [] = ap (λ u. ch.before ++ View u ch.members ch.resilience ∷ [])
-    noted.stamp in
-    let its : Begins (ch.before ++ View v.stamp ch.members ch.resilience ∷ []) (s.views.line (key v.stamp)) = subst
-    (λ l. Begins l (s.views.line (key v.stamp))) stamped noted.opens in
     let by = k.stands.each v.stamp.by small in
     let line_is : s.views.line (key v.stamp) ≡ up_to_next v.stamp (s.node v.stamp.by).list = noted.line ∙ ap (up_to_next v.stamp) (sym by.list) in
     let line_good : IsGood (s.views.line (key v.stamp)) = subst IsGood (sym line_is) (good_begins (line_part v.stamp (s.node v.stamp.by).list) (k.shaped.good
     v.stamp.by)) in
-    let same = same_opening v.stamp at.before ch.before at.names ch.members at.resilience ch.resilience (s.views.line (key v.stamp)) mine its good
-    (good_begins its line_good) in
-    subst (λ l. Begins l list) (same ∙ sym stamped) at.begins
+    let same = same_opening at.before ch.before at.view ch.view (s.views.line (key v.stamp)) (at.is ∙ sym noted.stamp) mine noted.opens good
+    (good_begins noted.opens line_good) in
+    subst (λ l. Begins l list) same at.begins
   where
     not_nil : (a : List Entry) (e : Entry) → a ++ e ∷ [] ≡ [] → ⊥
     not_nil [] e h = cc

@@ -85,7 +85,7 @@ looked_named c m b (as_it_is old open_ on) h = open_named m old open_ h
 
 look_named : (m : Node) (b : Ballot) (v : Verdict) → Looks m b v → b.stamp.by < 256 → NodeNamed m → NodeNamed v.node
 look_named m b v (decides may) by h =
-    let p = pushed_named m (View b.stamp _ _) by h in
+    let p = pushed_named m (View _) by h in
     record { who = p.who; entries = p.entries; ballot = by }
 look_named m b v _ by h = record { who = h.who; entries = h.entries; ballot = by }
 

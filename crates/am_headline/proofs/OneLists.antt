@@ -1,4 +1,5 @@
 -- What one list of a group gives: each member's list tells what the sequencer's tells up to there.
+use Rattle.am_base.specs.declared.entry.GroupView.{GroupView}
 use Rattle.am_headline.proofs.RepairWords.{◌≡◌, max, ◌⊎◌, inl, inr, ⊎_elim, ℕ, zero, suc, ◌+◌, ◌-◌, ◌<◌, ◌≤◌, nat_le, true, List, [], ◌∷◌, length, take, Some}
 use Rattle.am_headline.proofs.RepairWords.{slice_get, refl, sym, ap, ◌∙◌, arith, length-append, subst, cases_lt, nat_tests, take-append-add, Image, Entry}
 use Rattle.am_headline.proofs.RepairWords.{Data, Join, Leave, View, has, entry_at, image_at, blank, fold, after, fits, members_of, fit_at, IsGood, mem}
@@ -87,10 +88,10 @@ fits_there w q number e good own there =
 -- the last View of some entries
 record ViewIn (image : Image) (n : ℕ) (es : List Entry) : Type 0 where
   index : ℕ
-  names : List ℕ
-  resilience : ℕ
+  last : GroupView
+  is : last.stamp ≡ (fold image n es).view
   number : n + index ≡ (fold image n es).view_number
-  there : slice_get es index ≡ Some (View (fold image n es).view names resilience)
+  there : slice_get es index ≡ Some (View last)
 
 Unviewed : Image → ℕ → List Entry → Type 0
 Unviewed image n es = ((fold image n es).view ≡ image.view) × ((fold image n es).view_number ≡ image.view_number)
@@ -100,10 +101,10 @@ view_at : (image : Image) (n : ℕ) (e : Entry) (es : List Entry) → Unviewed (
 unfolding fold after Unviewed
 view_at image n (View w) es h = inl (record {
   index = 0;
-  names = w.members;
-  resilience = w.resilience;
+  last = w;
+  is = sym h.0;
   number = (let at = h.1 in omega arith);
-  there = ap (λ v. Some (View v w.members w.resilience)) (sym h.0);
+  there = refl;
 })
 view_at image n (Data from req body) es h = inr (
   h.0 ∙ (after_same image n (Data from req body) refl).view,
@@ -118,7 +119,7 @@ unfolding fold Unviewed
 view_in image n [] = inr (refl, refl)
 view_in image n (e ∷ es) = ⊎_elim
     (λ (h : ViewIn (after image n e) (n + 1) es). let at = h.number in inl
-    (record { index = suc h.index; names = h.names; resilience = h.resilience; number = omega arith; there = h.there }))
+    (record { index = suc h.index; last = h.last; is = h.is; number = omega arith; there = h.there }))
     (λ (h : Unviewed (after image n e) (n + 1) es). view_at image n e es h)
     (view_in (after image n e) (n + 1) es)
 
@@ -130,15 +131,15 @@ no_less w q m good own h same short = ⊎_elim
     let list = lists.whole w q in
     let tells = whole_told w q q own in
     let number = ap (λ (i : Image). i.view_number) tells in
-    let stamp = (whole.image_of list).view in
     let long = whole_long w m h.within in
-    let within = slice_get_within list x.index (View stamp x.names x.resilience) x.there in
+    let within = slice_get_within list x.index (View x.last) x.there in
     let before = length_take x.index list (omega arith) in
-    let there : slice_get list (length (take x.index list)) ≡ Some (View stamp x.names x.resilience) = ap (slice_get list) before ∙ x.there in
-    let good_view = good_begins (begins_push (View stamp x.names x.resilience) (begins_take x.index list) there) good in
-    let below = view_below (take x.index list) stamp x.names x.resilience good_view in
+    let there : slice_get list (length (take x.index list)) ≡ Some (View x.last) = ap (slice_get list) before ∙ x.there in
+    let good_view = good_begins (begins_push (View x.last) (begins_take x.index list) there) good in
+    let below = view_below (take x.index list) x.last good_view in
     let up = view_up (good_begins (begins_take x.index list) good) (begins_both h.begins (begins_take x.index list) (omega arith)) in
-    let mine : whole.view_of (lists.whole w m) ≡ stamp = ap (λ (i : Image). i.view) (whole_told w q m h) ∙ same ∙ ap (λ (i : Image). i.view) (sym tells) in
+    let mine : whole.view_of (lists.whole w m) ≡ x.last.stamp =
+    ap (λ (i : Image). i.view) (whole_told w q m h) ∙ same ∙ ap (λ (i : Image). i.view) (sym tells) ∙ sym x.is in
     let keys = ap key mine in
     let z : ⊥ = omega arith in z)
     (λ (x : Unviewed blank 1 (lists.whole w q)).

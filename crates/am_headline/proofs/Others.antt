@@ -39,22 +39,22 @@ module _ (rules : Rules) (events : List Event) (e : Event) (c : Cause) (step : S
   told_low from u base tells mine same = by_kind tells x.cause
     where
       by_kind : {d : Cause} → Tells d from u base → IsCause w i e.act d → h.low ≤ base
-      by_kind (by_piece s_ viewed.stamp base_ number y) was =
-          let sent : WasSentTo w i e.act (packet.Piece s_ viewed.stamp base_ number y) = was in
+      by_kind (by_piece s_ v base_ number y) was =
+          let sent : WasSentTo w i e.act (packet.Piece s_ v base_ number y) = was in
           let at = item_get w.letters (heard_by e.act) sent.letter sent.there in
-          let low : LetterLow q (view (w.nodes q)) h.low (packet.Piece s_ viewed.stamp base_ number y) = subst (LetterLow q (view (w.nodes q)) h.low) sent.is
+          let low : LetterLow q (view (w.nodes q)) h.low (packet.Piece s_ v base_ number y) = subst (LetterLow q (view (w.nodes q)) h.low) sent.is
           (h.letters at.0 sent.letter at.1) in
           low mine same
-      by_kind (by_result s_ viewed.stamp base_ number viewed.members viewed.resilience) was =
-          let sent : WasSentTo w i e.act (packet.Result s_ base_ number viewed) = was in
+      by_kind (by_result s_ base_ number v) was =
+          let sent : WasSentTo w i e.act (packet.Result s_ base_ number v) = was in
           let at = item_get w.letters (heard_by e.act) sent.letter sent.there in
-          let low : LetterLow q (view (w.nodes q)) h.low (packet.Result s_ base_ number viewed) =
+          let low : LetterLow q (view (w.nodes q)) h.low (packet.Result s_ base_ number v) =
           subst (LetterLow q (view (w.nodes q)) h.low) sent.is (h.letters at.0 sent.letter at.1) in
           low mine same
-      by_kind (by_welcome s_ viewed.stamp base_ join image) was =
-          let sent : WasSentTo w i e.act (packet.Welcome s_ viewed.stamp base_ join image) = was in
+      by_kind (by_welcome s_ v base_ join image) was =
+          let sent : WasSentTo w i e.act (packet.Welcome s_ v base_ join image) = was in
           let at = item_get w.letters (heard_by e.act) sent.letter sent.there in
-          let low : LetterLow q (view (w.nodes q)) h.low (packet.Welcome s_ viewed.stamp base_ join image) =
+          let low : LetterLow q (view (w.nodes q)) h.low (packet.Welcome s_ v base_ join image) =
           subst (LetterLow q (view (w.nodes q)) h.low) sent.is (h.letters at.0 sent.letter at.1) in
           low mine same
 

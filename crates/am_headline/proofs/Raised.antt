@@ -1,4 +1,5 @@
 -- What a change keeps of a node whose Views have no less resilience than the founding.
+use Rattle.am_model.specs.Ballots.{decided_view}
 use Rattle.am_laws.proofs.Words.{◌≡◌, inl, inr, ⊎_elim, ℕ, suc, ◌+◌, ◌-◌, ◌<◌, ◌≤◌, ◌==◌, ◌&&◌, nat_lt, max, true, false, List, [], ◌∷◌, ◌++◌}
 use Rattle.am_laws.proofs.Words.{length, take, Option, Some, None, refl, sym, ap, ◌∙◌, subst, arith, nat_tests, length-append, All, All-nil}
 use Rattle.am_laws.proofs.Words.{All-cons, All-head, All-tail, All-append, All-take, split, and_both, place_of, has, Stamp, stamp_lt, stamp_eq, Entry, Data}
@@ -189,9 +190,9 @@ look_raised rules m b v (decides may) has_ h =
     let some = has_.1 in
     let names = left_in b (need_of m b) in
     let before = trim_for m b names in
-    let r = max b.resilience (image_of m).resilience in
-    let up : rules.resilience ≤ r = omega arith in
-    let k = pushed rules before (View b.stamp names r) up (λ none. refl) (same_raised rules m before refl refl refl refl h) in
+    let v = decided_view m b names in
+    let up : rules.resilience ≤ v.resilience = omega arith in
+    let k = pushed rules before (View v) up (λ none. refl) (same_raised rules m before refl refl refl refl h) in
     record { list = k.list; promised = h.promised; balloted = λ x is. (has_.0, simp length-append (omega arith)) }
 look_raised rules m b v _ has_ h = record { list = h.list; promised = h.promised; balloted = λ x is. has_ }
 

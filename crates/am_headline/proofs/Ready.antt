@@ -52,8 +52,7 @@ shaped_marked s complete h = record {
 
 branch_marked : (s : Group) (complete : ℕ → Bool) (i : ℕ) → OnBranch s i → OnBranch (marked s complete) i
 branch_marked s complete i (on_chain h) = on_chain h
-branch_marked s complete i (left_out a v names resilience branch on below list good member out) = left_out a v names resilience branch on below list good
-    member out
+branch_marked s complete i (left_out a v branch on below list good member out) = left_out a v branch on below list good member out
 
 branches_marked : (s : Group) (complete : ℕ → Bool) → BranchesOk s → BranchesOk (marked s complete)
 branches_marked s complete h = record {
@@ -187,8 +186,8 @@ halts s i j = ⊎_elim
 
 branch_halted : (s : Group) (i j : ℕ) → OnBranch s j → OnBranch (halted s i) j
 branch_halted s i j (on_chain h) = on_chain (subst (λ l. Begins l (s.views.line (key s.views.current))) (sym (halts s i j).list) h)
-branch_halted s i j (left_out a v names resilience branch on below list good member out) =
-    left_out a v names resilience branch on below (subst (λ l. Begins l branch) (sym (halts s i j).list) list) good member out
+branch_halted s i j (left_out a v branch on below list good member out) =
+    left_out a v branch on below (subst (λ l. Begins l branch) (sym (halts s i j).list) list) good member out
 
 branches_halted : (s : Group) (i : ℕ) → BranchesOk s → BranchesOk (halted s i)
 branches_halted s i h = record {

@@ -239,7 +239,7 @@ own_view r taken q m by h = by ∙ sym h.own
 no_promise : (r : Repair) (w : World) (c : Cause) (m : Node) (v : Stamp) → r.view.by ≡ m.core.who → CalmCause r w c → Promises c m v → ⊥
 no_promise r w c m v by h (invited s v_ is heard own) = subst (CalmCause r w) is h
 no_promise r w c m v by h (overtaken s v_ vote is heard above) = subst (CalmCause r w) is h
-no_promise r w c m v by h (told_result s v_ base number names resilience is heard own other) =
+no_promise r w c m v by h (told_result s base number u is heard own other) =
     let same : v ≡ r.view = (subst (CalmCause r w) is h) (eqb-true v.by s own) in
     let w_ : v.by ≡ m.core.who = ap (λ (x : Stamp). x.by) same ∙ by in
     let z : ⊥ = grind (arith, nat_tests) in z
@@ -292,8 +292,8 @@ lead_change r taken w q c o m n by calm tells f (looks b verdict over why look i
     (let k = looked_open c m b why in not_open m k.0 k.1 h.leads.rest.no_ballot)
 lead_change r taken w q c o m n by calm tells f (fetches s v base number e is heard promise below why may) h =
     absurd (not_behind m v (leading m h.leads.leads).0 (same_stamp v m.core.promise promise) below)
-lead_change r taken w q c o m n by calm tells f (stores_view s v base number names resilience is heard own other promise below may) h =
-    absurd (not_behind m v (leading m h.leads.leads).0 (sym promise) below)
+lead_change r taken w q c o m n by calm tells f (stores_view s base number v is heard own other promise below may) h =
+    absurd (not_behind m v.stamp (leading m h.leads.leads).0 (sym promise) below)
 lead_change r taken w q c o m n by calm tells f (queues body is says member stays few) h = absurd (subst (CalmCause r w) is calm)
 lead_change r taken w q c o m n by calm tells f (collects req is) h = absurd (subst (CalmCause r w) is calm)
 lead_change r taken w q c o m n by calm tells f (takes e is says member some there) h = absurd (subst (CalmCause r w) is calm)

@@ -91,7 +91,7 @@ truly_change nodes c o m n w k (begins_list s v base join image is says may) h =
 truly_change nodes c o m n w k (looks b verdict over why look is) h = truly_look nodes m b verdict look h
 truly_change nodes c o m n w k (fetches s v base number e is heard promise below why may) h =
     truly_more nodes m n refl (omega arith) (λ name other. refl) h
-truly_change nodes c o m n w k (stores_view s v base number names resilience is heard own other promise below may) h =
+truly_change nodes c o m n w k (stores_view s base number v is heard own other promise below may) h =
     truly_more nodes m n refl (omega arith) (λ name other. refl) h
 truly_change nodes c o m n w k (closes leads leaves alone room) h =
     (let r = (rests_at_end (push_entry m (Leave m.core.who))).rests in truly_more nodes m n r.who r.base (end_same (push_entry m (Leave m.core.who))) h)
@@ -107,7 +107,7 @@ rises_change c o m n k f (begins_list s v base join image is says may) =
     record { base = omega arith; taken = omega arith })
 rises_change c o m n k f (looks b verdict over why look is) = rises_look m b verdict look
 rises_change c o m n k f (fetches s v base number e is heard promise below why may) = record { base = omega arith; taken = omega arith }
-rises_change c o m n k f (stores_view s v base number names resilience is heard own other promise below may) =
+rises_change c o m n k f (stores_view s base number v is heard own other promise below may) =
     record { base = omega arith; taken = omega arith }
 rises_change c o m n k f (takes e is says member some there_) = record { base = omega arith; taken = omega arith }
 rises_change c o m n k f (closes leads leaves alone room) =

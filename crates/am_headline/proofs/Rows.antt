@@ -213,7 +213,7 @@ result_does m s base number v =
     either m base number e _ (hears_member m s && (v.stamp.by == s)) _ (quiet m said.Elsewhere)
     (λ t. either m base number e _ ((v.stamp.by == m.core.who) || stamp_lt v.stamp m.core.promise) (quiet m said.Elsewhere) _ (λ u. nothing refl (omega arith))
     (λ f.
-    let why : Viewing m s v = (let b = and_both _ _ t in record { member = b.0; by = b.1 }) in
+    let why : Viewing m s v.stamp = (let b = and_both _ _ t in record { member = b.0; by = b.1 }) in
     from_same m p _ base number e (Viewing m s v.stamp) refl (omega arith)
     (either p base number e _ (stamp_eq (view p) v.stamp) _ _ (λ u. nothing refl (omega arith))
     (λ other. either p base number e _ (nat_le number (top p)) (quiet p said.Unfit) _ (λ u. nothing refl (omega arith))

@@ -60,7 +60,7 @@ move_goes s t (begins i few there stays member) k = list_stays s t i _ refl refl
 move_goes s t (raises i stamp there above) k = list_stays s t i _ refl refl
 move_goes s t (fetches i f list e there ballot served shown next) k = now_up s t i (longer (s.node i) e) refl
     (up_as (s.node i) (longer (s.node i) e) refl refl refl there)
-move_goes s t (decides i members resilience may) k = now_up s t i _ refl (up_as (s.node i) _ refl refl refl may.up)
+move_goes s t (decides i v may) k = now_up s t i _ refl (up_as (s.node i) _ refl refl refl may.up)
 move_goes s t (gives_over i) k = list_stays s t i _ refl refl
 move_goes s t (welcomes j stamp base join may) k = now_up s t j _ refl (record {
   log = refl;
@@ -100,17 +100,17 @@ good_on s t k each h i = by_way (each i)
     by_way (gone on) = good_begins on k.views.good
 
 sets_on : (s t : Group) (move : Move s t) → MoveOk move → Shaped s → (x : ℕ) → t.views.decided x ≡ true → IsSet (t.views.chosen x).members
-sets_on s t (decides i members resilience may) ok h x d =
+sets_on s t (decides i v may) ok h x d =
     let at = key (s.node i).promise in
-    let choice = choice_of (s.node i) members resilience in
+    let choice = choice_of (s.node i) v in
     by_number (put_cases s.views.chosen at choice x) (put_cases s.views.decided at true x)
   where
-    by_number : ((x ≡ key (s.node i).promise) × (put s.views.chosen (key (s.node i).promise) (choice_of (s.node i) members resilience) x ≡ choice_of
-        (s.node i) members resilience))
-        ⊎ ((x ≢ key (s.node i).promise) × (put s.views.chosen (key (s.node i).promise) (choice_of (s.node i) members resilience) x ≡ s.views.chosen x))
+    by_number : ((x ≡ key (s.node i).promise) × (put s.views.chosen (key (s.node i).promise) (choice_of (s.node i) v) x ≡ choice_of
+        (s.node i) v))
+        ⊎ ((x ≢ key (s.node i).promise) × (put s.views.chosen (key (s.node i).promise) (choice_of (s.node i) v) x ≡ s.views.chosen x))
         → ((x ≡ key (s.node i).promise) × (put s.views.decided (key (s.node i).promise) true x ≡ true))
         ⊎ ((x ≢ key (s.node i).promise) × (put s.views.decided (key (s.node i).promise) true x ≡ s.views.decided x))
-        → IsSet (put s.views.chosen (key (s.node i).promise) (choice_of (s.node i) members resilience) x).members
+        → IsSet (put s.views.chosen (key (s.node i).promise) (choice_of (s.node i) v) x).members
     by_number (inl a) c = subst (λ (b : Chosen). IsSet b.members) (sym a.1) ok.0
     by_number (inr a) (inl c) = absurd (a.0 c.0)
     by_number (inr a) (inr c) = subst (λ (b : Chosen). IsSet b.members) (sym a.1) (h.sets x (sym c.1 ∙ d))

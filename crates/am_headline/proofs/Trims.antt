@@ -119,22 +119,22 @@ module _ (rules : Rules) (events : List Event) (e : Event) (c : Cause) (step : S
   told_decided from u base tells by = by_kind tells x.cause heard
     where
       by_kind : {d : Cause} → Tells d from u base → IsCause w i e.act d → HeardNames d → s.views.decided (key u) ≡ true
-      by_kind (by_piece s_ q.stamp base_ number y) was names =
-          let sent : WasSentTo w i e.act (packet.Piece s_ q.stamp base_ number y) = was in
+      by_kind (by_piece s_ v base_ number y) was names =
+          let sent : WasSentTo w i e.act (packet.Piece s_ v base_ number y) = was in
           let at = item_get w.letters (heard_by e.act) sent.letter sent.there in
-          let says : PacketSays w s sent.letter.to (packet.Piece s_ q.stamp base_ number y) = subst (PacketSays w s sent.letter.to) sent.is
+          let says : PacketSays w s sent.letter.to (packet.Piece s_ v base_ number y) = subst (PacketSays w s sent.letter.to) sent.is
           (x.old.letters at.0 sent.letter at.1) in
-          piece_decided s_ q.stamp number y (names.senders (packet.Piece s_ q.stamp base_ number y) refl) by says.1
-      by_kind (by_result s_ q.stamp base_ number q.members q.resilience) was names =
-          let sent : WasSentTo w i e.act (packet.Result s_ base_ number q) = was in
+          piece_decided s_ v number y (names.senders (packet.Piece s_ v base_ number y) refl) by says.1
+      by_kind (by_result s_ base_ number v) was names =
+          let sent : WasSentTo w i e.act (packet.Result s_ base_ number v) = was in
           let at = item_get w.letters (heard_by e.act) sent.letter sent.there in
-          let says : PacketSays w s sent.letter.to (packet.Result s_ base_ number q) =
+          let says : PacketSays w s sent.letter.to (packet.Result s_ base_ number v) =
           subst (PacketSays w s sent.letter.to) sent.is (x.old.letters at.0 sent.letter at.1) in
           (says.1 by).decided
-      by_kind (by_welcome s_ q.stamp base_ join image) was names =
-          let sent : WasSentTo w i e.act (packet.Welcome s_ q.stamp base_ join image) = was in
+      by_kind (by_welcome s_ v base_ join image) was names =
+          let sent : WasSentTo w i e.act (packet.Welcome s_ v base_ join image) = was in
           let at = item_get w.letters (heard_by e.act) sent.letter sent.there in
-          x.trims.welcomes at.0 sent.letter s_ q.stamp base_ join image at.1 sent.is
+          x.trims.welcomes at.0 sent.letter s_ v base_ join image at.1 sent.is
 
 -- ---- what it gives
 

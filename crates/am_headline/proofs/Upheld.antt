@@ -191,14 +191,14 @@ module _ (rules : Rules) (events : List Event) (e : Event) (c : Cause) (step : S
       (λ (above : length (current_of t.views).before < length v.group).
       (let ch = current_of t.views in
       let open_ = opening ch in
-      let open_long = length_push ch.before (View ch.stamp ch.members ch.resilience) in
+      let open_long = length_push ch.before (View ch.view) in
       let in_chain = subst (λ g. Begins g (chain_of t.views)) same_group kept_t.group in
       let front : Begins open_ v.group = begins_both kept_t.views.opens in_chain (omega arith) in
       let mine = begins_trans front begins_ in
       let good = shaped.good i in
       let risen = view_up good mine in
       let stamp = kept_t.views.stamps (key t.views.current) kept_t.views.now in
-      let opened = ap key (view_viewed ch.before ch.stamp ch.members ch.resilience) in
+      let opened = ap key (view_viewed ch.before ch.view) in
       let some : (t.node i).list ≢ [] = λ nil. (let z = begins_length mine in let y = ap length nil in let k : 0 < length open_ = omega arith in omega arith) in
       let on = shaped.lines i some in
       let decided = (opens_t on.view (t.node i).list on.decided some on.line).decided in

@@ -6,7 +6,7 @@ use Rattle.am_headline.proofs.Words.{left_in, best_of, is_waited_for, decide_vie
 use Rattle.am_headline.proofs.Words.{and_both, Cause, hears, Looks, decides, MayBeWelcomed, Change, refreshes, settles, numbers, stores, begins_list, looks}
 use Rattle.am_headline.proofs.Words.{fetches, stores_view, queues, collects, takes, asks_to_join, asks_to_leave, closes}
 use Rattle.am_laws.specs.Changes.{departs}
-use Rattle.am_model.specs.Ballots.{goes_on}
+use Rattle.am_model.specs.Ballots.{goes_on, decided_view}
 use Rattle.am_base.specs.declared.outcome.Outcome.TheVariants as said
 use Rattle.am_packet.specs.declared.packet.Packet.TheVariants as packet
 use Rattle.am_state.specs.Sends as own
@@ -85,7 +85,7 @@ pub decide_alike : (m : Node) (b : Ballot) → Alike m (decide m b).node
 unfolding decide
 decide_alike m b =
     let names = left_in b (need_of m b) in
-    let view = View b.stamp names (max b.resilience (image_of m).resilience) in
+    let view = View (decided_view m b names) in
     let over : (o : Outcome) → Alike m (ends m b o).node = λ o. same_log m (ends m b o).node refl (omega arith) refl refl refl refl refl refl refl refl in
     let on : (o : Outcome) → Alike m (goes_on m b o).node = λ o. same_log m (goes_on m b o).node refl (omega arith) refl refl refl refl refl refl refl refl in
     let before = trim_for m b names in

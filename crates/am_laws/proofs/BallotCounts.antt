@@ -2,7 +2,7 @@
 use Rattle.am_laws.proofs.Words.{◌≡◌, ℕ, ◌+◌, ◌≤◌, ◌==◌, nat_lt, max, min, Bool, true, false, if◌then◌else◌, List, Option, Some, None, option_map, unwrap_or}
 use Rattle.am_laws.proofs.Words.{refl, ap, arith, Vote, View, Outcome, names_of, least_of, Node, Ballot, top, image_of, push_entry, Verdict, with_promise}
 use Rattle.am_laws.proofs.Words.{taken_by, goes_on, ended, decide_view, trim_for, restart_reports, decide, next_stamp, new_ballot, begin, with_vote}
-use Rattle.am_laws.proofs.Words.{keep_vote, without_voter, give_up, give_up_of, give_up_row, reset_row, split, Bounds, up}
+use Rattle.am_laws.proofs.Words.{keep_vote, without_voter, give_up, give_up_of, give_up_row, reset_row, split, Bounds, up, decided_view}
 use Rattle.am_base.specs.declared.outcome.Outcome.TheVariants as said
 use Rattle.am_state.specs.Reports as reports
 use Rattle.am_laws.proofs.Counts.{Low, Behind, VotesKnown, low_more, low_viewed, low_trimmed, low_promised, least_low, Ends, ends_next, ends as plans}
@@ -62,7 +62,7 @@ or_nought g (Some x) h = h x refl
 comes_view : (most : Bounds) (g : ℕ) (m : Node) (b : Ballot) (names : List ℕ) → top m ≤ most.lists → VotesKnown g (Some b) → Behind g m → Low (up most) g m
     → Comes most g (decide_view m b names)
 comes_view most g m b names low votes k h =
-    let e = View b.stamp names (max b.resilience (image_of m).resilience) in
+    let e = View (decided_view m b names) in
     let n = low_viewed (up most) g m e (omega arith) k h in
     let over : Comes most g (ended m b (said.Crowded m.core.base (top m))) = comes_over most g m b (said.Crowded m.core.base (top m)) votes h in
     let done : Comes most g (ended (restart_reports (push_entry m e)) b (said.Decided (top m + 1) names)) =

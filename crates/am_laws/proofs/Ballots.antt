@@ -1,4 +1,5 @@
 -- The effects of ballots.
+use Rattle.am_model.specs.Ballots.{decided_view}
 use Rattle.am_base.specs.declared.entry.GroupView.{GroupView}
 use Rattle.am_laws.proofs.EffectWords.{not-true, not-false, ◌≡◌, ℕ, zero, suc, ◌+◌, ◌-◌, ◌==◌, ◌&&◌, min, max, nat_lt, nat_le, not, Bool, true, false}
 use Rattle.am_laws.proofs.EffectWords.{if◌then◌else◌, List, [], length, Option, Some, None, slice_get, refl, sym, ap, subst, ◌∙◌, arith, nat_tests, Vote, Image}
@@ -70,10 +71,10 @@ says_result : (m : Node) (c : Cause) (n p : Node) (b : Ballot) (v : Verdict) (le
 says_result m c n p b v letters (decides x) r h =
     let names = left_in b (need_of p b) in
     let before = trim_for p b names in
-    let e = View b.stamp names (max b.resilience (image_of p).resilience) in
+    let e = View (decided_view p b names) in
     let number = top p + 1 in
     let image : image_of n ≡ after (image_of p) number e = ap Rattle.am_base.specs.Lists.told_by r.log ∙ told_pushed before e in
-    let is = viewed (image_of p) number b.stamp names (max b.resilience (image_of p).resilience) in
+    let is = viewed (image_of p) number (decided_view p b names) in
     let high : number ≡ (image_of n).view_number = sym (ap (λ (i : Image). i.view_number) image ∙ is.0) in
     let there : entry_at n.core.log number ≡ Some e = ap (λ l. entry_at l number) r.log
     ∙ (entry_is (push_entry before e).core.log number (length p.core.log.entries) (omega arith) ∙ get_last p.core.log.entries e) in

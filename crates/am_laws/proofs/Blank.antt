@@ -56,7 +56,7 @@ change_blank m n (looks b verdict over why look is) k h =
     let l = looked_at m b why k in
     λ f. absurd (let d = look_log m b verdict look in let t = l.has_list in cc)
 change_blank m n (fetches s v base number e is by promise below from may) k h = listed m n refl (member_of m s by)
-change_blank m n (stores_view s v base number names resilience is by own other promise below may) k h = listed m n refl (member_of m s by)
+change_blank m n (stores_view s base number v is by own other promise below may) k h = listed m n refl (member_of m s by)
 change_blank m n (asks_to_join is was) k h = λ f. h (ap has_log was)
 change_blank m n (closes leads leaves alone room) k h = λ f. absurd (cc)
 change_blank m n _ k h = h

@@ -9,7 +9,7 @@ use Rattle.am_base.specs.Founding.{Rules}
 use Rattle.am_base.specs.Names.{size, names_of}
 use Rattle.am_state.specs.Reports.{least_of}
 use Rattle.am_model.specs.Node.{Node, Ballot, top, image_of, push_entry, trim_up_to}
-use Rattle.am_model.specs.Ballots.{Verdict, need_of, left_in, taken_by, trim_for}
+use Rattle.am_model.specs.Ballots.{Verdict, need_of, left_in, taken_by, trim_for, decided_view}
 use Rattle.am_model.proofs.Sets.{has_size, has_those}
 use Rattle.am_laws.specs.Causes.{Cause}
 use Rattle.am_laws.specs.Looks.{Looks, finds_no_room, decides, HasOpen, Balloting, with_more}
@@ -42,7 +42,7 @@ kept_look rules m b v (decides may) own h =
     let same = ap (λ (r : Rules). r.window) h.founding in
     let low : top m + 1 - before.core.base ≤ m.core.rules.window + 16 - size names = grind (arith, nat_tests) in
     let k = kept_trimmed rules m (unwrap_or (least_of (taken_by m.core.who m.core.taken b) (names_of names)) 0) h in
-    let l = kept_next rules before (View b.stamp names (max b.resilience (image_of m).resilience)) k (omega arith) in
+    let l = kept_next rules before (View (decided_view m b names)) k (omega arith) in
     record { founding = l.founding; few = l.few; itself = own }
 kept_look rules m b v _ own h = record { founding = h.founding; few = h.few; itself = own }
 

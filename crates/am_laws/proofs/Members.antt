@@ -1,4 +1,5 @@
 -- A view is noted with the members that its View names: in the step that decides it nothing changes them any more.
+use Rattle.am_model.specs.Ballots.{decided_view}
 use Rattle.am_base.specs.declared.entry.GroupView.{GroupView}
 use Rattle.am_laws.proofs.WatchedWords.{welcomed_none, numbers_plain, or_second, stamp_itself, same_stamp, ◌≡◌, ◌⊎◌, inl, inr, ⊎_elim, ℕ, ◌+◌, ◌<◌, ◌==◌, ◌&&◌}
 use Rattle.am_laws.proofs.WatchedWords.{not, max, nat_lt, Bool, true, false, List, length, slice_index, Option, Some, None, refl, sym, ap, ◌∙◌, subst, arith}
@@ -71,7 +72,11 @@ looks_by c m b (as_it_is old open_ (was_fetched s v base number e is at)) promis
 
 -- the last View stands with the members
 abbrev pub Whole : Log → Type 0
-Whole log = entry_at log (told_by log).view_number ≡ Some (View (told_by log).view (members_of (told_by log)) (told_by log).resilience)
+Whole log = entry_at log (told_by log).view_number ≡ Some (View (record {
+  stamp = (told_by log).view;
+  members = members_of (told_by log);
+  resilience = (told_by log).resilience;
+}))
 
 pub record IsFresh (c : Cause) (x : Node) : Type 0 where
   pub whole : Whole x.core.log
@@ -112,14 +117,14 @@ whole_sent x from req body long h =
     let v : view (push_entry x e) ≡ view x = ap (λ (i : Image). i.view) is ∙ same.view in
     let r : (image_of (push_entry x e)).resilience ≡ (image_of x).resilience = ap (λ (i : Image). i.resilience) is ∙ same.resilience in
     let m : members (push_entry x e) ≡ members x = ap members_of is ∙ data_members (image_of x) (top x + 1) from req body long in
-    ap (entry_at (push_entry x e).core.log) number ∙ entry_stays x.core.log e _ (image_of x).view_number h ∙ (λ i. Some (View (sym v i) (sym m i) (sym r i)))
+    ap (entry_at (push_entry x e).core.log) number ∙ entry_stays x.core.log e _ (image_of x).view_number h ∙ (λ i. Some (View (record { stamp = sym v i; members = sym m i; resilience = sym r i })))
 
 -- the View that is decided
 whole_decided : (x : Node) (v : GroupView) → members (push_entry x (View v)) ≡ v.members
     → Whole (push_entry x (View v)).core.log
 whole_decided x v same =
     let n = push_entry x (View v) in
-    view_there x v ∙ (λ i. Some (View (view n) (sym same i) (image_of n).resilience))
+    view_there x v ∙ (λ i. Some (View (record { stamp = view n; members = sym same i; resilience = (image_of n).resilience })))
 
 -- ---- who has an unfinished ballot doesn't leave
 
@@ -177,17 +182,17 @@ look_viewed c old m b v (decides may) by stays long none h =
     let names = left_in b (need_of m b) in
     let before = trim_for m b names in
     let r = max b.resilience (image_of m).resilience in
-    let e = View b.stamp names r in
+    let e = View (decided_view m b names) in
     let need = own_need m b may.learned.own none in
     let some : (place : ℕ) → place < 16 → (slice_index names place ≡ 0) ⊎ (slice_index names place ≡ slice_index (members m) place) =
     λ place low. ⊎_elim (λ (z : slice_index names place ≡ 0). inl z)
     (λ (z : slice_index names place ≡ slice_index (need_of m b) place). inr (z ∙ ap (λ set. slice_index set place) need))
     (those_some test (need_of m b) place low) in
     let same : members (push_entry before e) ≡ names = ap members_of (told_pushed before e)
-    ∙ viewed_members (image_of m) (top m + 1) b.stamp names r long (omega arith) (those_long test (need_of m b)) some in
+    ∙ viewed_members (image_of m) (top m + 1) (decided_view m b names) long (omega arith) (those_long test (need_of m b)) some in
     decided (record {
-      whole = whole_decided before b.stamp names r same;
-      by = subst (LooksBy c) (sym (view_last before b.stamp names r)) by;
+      whole = whole_decided before (decided_view m b names) same;
+      by = subst (LooksBy c) (sym (view_last before (decided_view m b names))) by;
       stays = stays;
     })
 look_viewed c old m b v _ by stays long none h = viewed_same c old m v.node refl refl refl h
@@ -235,8 +240,8 @@ change_viewed nodes name c o old m n heard (looks b verdict over why look is) lo
     look_viewed c old m b verdict look (looks_by c m b why (looked_open m b why k).promised) (looked_quiet c m b why q) long (looked_vote c m b why none) h
 change_viewed nodes name c o old m n heard (fetches s v base number e is by promise below from may) log who up long none k q h =
     fetch_viewed c old nodes name m s v base number e is below who (heard.piece s v base number e is) up may.fits h
-change_viewed nodes name c o old m n heard (stores_view s v base number names resilience is by own other promise below may) log who up long none k q h =
-    of_other (ap (λ (x : Stamp). x.by == m.core.who) (view_last (trim_up_to m base) v names resilience) ∙ other)
+change_viewed nodes name c o old m n heard (stores_view s base number v is by own other promise below may) log who up long none k q h =
+    of_other (ap (λ (x : Stamp). x.by == m.core.who) (view_last (trim_up_to m base) v) ∙ other)
 change_viewed nodes name c o old m n heard (asks_to_leave is was stays done) log who up long none k q (as_before x) = as_before x
 change_viewed nodes name c o old m n heard (asks_to_leave is was stays done) log who up long none k q (of_other x) = of_other x
 change_viewed nodes name c o old m n heard (asks_to_leave is was stays done) log who up long none k q (decided x) =

@@ -45,15 +45,15 @@ quiet_along m n (changed {n = x} one more) h = quiet_along x n more (change_quie
 
 pub record WholeView (nodes : ℕ → Node) (v : Decided) : Type 0 where
   pub log_ : has_log (nodes v.stamp.by).status ≡ true
-  pub there : entry_at (nodes v.stamp.by).core.log v.number ≡ Some (View v.stamp v.members v.resilience)
+  pub there : entry_at (nodes v.stamp.by).core.log v.number ≡ Some (View v.view)
 
 still_whole : (nodes : ℕ → Node) (name : ℕ) (n : Node) (v : Decided) → Does (nodes name) n → WholeView nodes v → WholeView (set_at nodes name n) v
 still_whole nodes name n v d h = split (v.stamp.by == name)
     (λ t.
     let same : v.stamp.by ≡ name = grind (arith, nat_tests) in
     let log : has_log (nodes name).status ≡ true = subst (λ k. has_log (nodes k).status ≡ true) same h.log_ in
-    let there : entry_at (nodes name).core.log v.number ≡ Some (View v.stamp v.members v.resilience) =
-    subst (λ k. entry_at (nodes k).core.log v.number ≡ Some (View v.stamp v.members v.resilience)) same h.there in
+    let there : entry_at (nodes name).core.log v.number ≡ Some (View v.view) =
+    subst (λ k. entry_at (nodes k).core.log v.number ≡ Some (View v.view)) same h.there in
     record { log_ = rw t (d.log_ log); there = rw t ((d.goes log).stays v.number _ there) })
     (λ f. record { log_ = rw f h.log_; there = rw f h.there })
 

@@ -46,36 +46,36 @@ pub record AllOwn (rules : Rules) (w : World) : Type 0 where
 -- ---- a step of a name
 
 module _ (nodes : ℕ → Node) (name : ℕ) (n : Node) (d : Does (nodes name) n) (rises : stamp_lt n.core.promise (nodes name).core.promise ≡ false) where
-  below_up : (v.stamp : Stamp) → Below nodes v.stamp → Below (set_at nodes name n) v.stamp
-  below_up v.stamp h = split (v.stamp.by == name)
-      (λ t. let same : v.stamp.by ≡ name = grind (arith, nat_tests) in
-      let low : stamp_lt (nodes name).core.promise v.stamp ≡ false = subst (λ k. stamp_lt (nodes k).core.promise v.stamp ≡ false) same h in
-      rw t (at_most v.stamp (nodes name).core.promise n.core.promise low rises))
+  below_up : (v : Stamp) → Below nodes v → Below (set_at nodes name n) v
+  below_up v h = split (v.by == name)
+      (λ t. let same : v.by ≡ name = grind (arith, nat_tests) in
+      let low : stamp_lt (nodes name).core.promise v ≡ false = subst (λ k. stamp_lt (nodes k).core.promise v ≡ false) same h in
+      rw t (at_most v (nodes name).core.promise n.core.promise low rises))
       (λ f. rw f h)
 
-  known_stamp : (v.stamp : Stamp) → IsKnown nodes v.stamp → IsKnown (set_at nodes name n) v.stamp
-  known_stamp v.stamp h = split (v.stamp.by == name)
-      (λ t. let same : v.stamp.by ≡ name = grind (arith, nat_tests) in
+  known_stamp : (v : Stamp) → IsKnown nodes v → IsKnown (set_at nodes name n) v
+  known_stamp v h = split (v.by == name)
+      (λ t. let same : v.by ≡ name = grind (arith, nat_tests) in
       let log : has_log (nodes name).status ≡ true = subst (λ k. has_log (nodes k).status ≡ true) same h.has_list in
-      let low : stamp_lt (view (nodes name)) v.stamp ≡ false = subst (λ k. stamp_lt (view (nodes k)) v.stamp ≡ false) same h.low in
-      record { low = rw t (at_most v.stamp (view (nodes name)) (view n) low (view_rises (nodes name) n (d.goes log))); has_list = rw t (d.log_ log) })
+      let low : stamp_lt (view (nodes name)) v ≡ false = subst (λ k. stamp_lt (view (nodes k)) v ≡ false) same h.low in
+      record { low = rw t (at_most v (view (nodes name)) (view n) low (view_rises (nodes name) n (d.goes log))); has_list = rw t (d.log_ log) })
       (λ f. record { low = rw f h.low; has_list = rw f h.has_list })
 
   known_up : (e : Entry) → Known nodes e → Known (set_at nodes name n) e
-  known_up (View stamp v.members v.resilience) h = known_stamp stamp h
+  known_up (View v) h = known_stamp v.stamp h
   known_up _ h = tt
 
-  own_known : (v.stamp : Stamp) → IsOwn name n v.stamp → IsKnown (set_at nodes name n) v.stamp
-  own_known v.stamp o =
-      let t : (v.stamp.by == name) ≡ true = let same = o.by in grind (arith, nat_tests) in
+  own_known : (v : Stamp) → IsOwn name n v → IsKnown (set_at nodes name n) v
+  own_known v o =
+      let t : (v.by == name) ≡ true = let same = o.by in grind (arith, nat_tests) in
       record { low = rw t o.low; has_list = rw t o.has_list }
 
   chained_known : (e : Entry) → Chained nodes name n e → Known (set_at nodes name n) e
-  chained_known (View stamp v.members v.resilience) h = ⊎_elim (λ (k : IsKnown nodes stamp). known_stamp stamp k) (λ (o : IsOwn name n stamp). own_known stamp o) h
+  chained_known (View v) h = ⊎_elim (λ (k : IsKnown nodes v.stamp). known_stamp v.stamp k) (λ (o : IsOwn name n v.stamp). own_known v.stamp o) h
   chained_known _ h = tt
 
   packet_up : (p : Packet) → PacketKnown nodes p → PacketKnown (set_at nodes name n) p
-  packet_up (packet.Piece s v.stamp base number e) h = known_up e h
+  packet_up (packet.Piece s v base number e) h = known_up e h
   packet_up (packet.Result s base number v) h = λ t. known_stamp v.stamp (h t)
   packet_up _ h = tt
 
@@ -123,9 +123,9 @@ heard_own rules w e c h cause = record {
   piece = λ s v base number x is. (let was : WasSentTo w (actor w e) e.act (packet.Piece s v base number x) = subst (IsCause w (actor w e) e.act) is cause in
       let known : PacketKnown w.nodes (packet.Piece s v base number x) =
       subst (PacketKnown w.nodes) was.is (all_item (LetterKnown w.nodes) w.letters (heard_by e.act) was.letter h.heard was.there) in known);
-  result = λ s v base number names resilience is. (let was : WasSentTo w (actor w e) e.act (packet.Result s v base number names resilience) =
+  result = λ s base number v is. (let was : WasSentTo w (actor w e) e.act (packet.Result s base number v) =
       subst (IsCause w (actor w e) e.act) is cause in
-      let known : PacketKnown w.nodes (packet.Result s v base number names resilience) =
+      let known : PacketKnown w.nodes (packet.Result s base number v) =
       subst (PacketKnown w.nodes) was.is (all_item (LetterKnown w.nodes) w.letters (heard_by e.act) was.letter h.heard was.there) in known);
 }
 

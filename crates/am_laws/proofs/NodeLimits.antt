@@ -8,7 +8,7 @@ use Rattle.am_laws.proofs.Words.{accepted_at, settle_at, settle_waiting, settle,
 use Rattle.am_laws.proofs.Words.{by_spread, HasOpen, Balloting, with_more, without_one, as_it_is, Looks, finds_itself_out, decides, Numbers, asked_send}
 use Rattle.am_laws.proofs.Words.{own_send, asked_join, asked_leave, Carries, whole_entry, by_number, Change, Changes, unchanged, changed, refreshes, settles}
 use Rattle.am_laws.proofs.Words.{numbers, keeps_body, stores, begins_list, promises, opens, looks, fetches, stores_view, queues, collects, closes, all_find}
-use Rattle.am_laws.proofs.Words.{with_fronts, refresh_is, rests_refresh, rests_at_end, settle_is, sender_of, Bounds, up}
+use Rattle.am_laws.proofs.Words.{with_fronts, refresh_is, rests_refresh, rests_at_end, settle_is, sender_of, Bounds, up, decided_view}
 use Rattle.am_base.specs.declared.event.NodeEvent.TheVariants as does
 use Rattle.am_packet.specs.declared.packet.Packet.TheVariants as packet
 use Rattle.am_state.specs.Sends as own
@@ -253,7 +253,7 @@ need_within b m x k h =
 
 -- the View that is decided
 view_within : (b : Bounds) (m : Node) (x : Ballot) → VotesWithin b x → Within b m
-    → EntryWithin b (View x.stamp (left_in x (need_of m x)) (max x.resilience (image_of m).resilience))
+    → EntryWithin b (View (decided_view m x (left_in x (need_of m x))))
 view_within b m x k h =
     let t = (told_within b m.core.log h.entries h.image).resilience in
     (k.round, set_those (λ name. not (x.given_up name)) (need_of m x) (need_within b m x k h), omega arith)

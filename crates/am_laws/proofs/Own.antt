@@ -1,5 +1,6 @@
 -- Views of a name come from that name alone: along the changes of a step, its promise never falls, what it tells is what it decided, and
 -- each View in its list is of another name's list or is not above its own view.
+use Rattle.am_model.specs.Ballots.{decided_view}
 use Rattle.am_base.specs.declared.entry.GroupView.{GroupView}
 use Rattle.am_laws.proofs.WatchedWords.{eqb-false, not_both, view_rises, of_open, next_above, welcomed_none, eqb-true, ◌≡◌, ◌⊎◌, inl, inr, ⊎_elim, ℕ, ◌==◌}
 use Rattle.am_laws.proofs.WatchedWords.{◌||◌, not, true, false, List, [], ◌∷◌, ◌++◌, Option, Some, refl, sym, ap, ◌∙◌, subst, arith, All, nat_tests, All-nil}
@@ -114,12 +115,12 @@ not_own nodes name c x v heard (overtaken_by s _ shown is by above) h e =
     let mine : stamp_lt (nodes name).core.promise v ≡ false = subst (λ k. stamp_lt (nodes k).core.promise v ≡ false) (e ∙ h.who) low in
     let up : stamp_lt x.core.promise v ≡ false = at_most v (nodes name).core.promise x.core.promise mine h.rises in
     not_both (stamp_lt x.core.promise v) above up
-not_own nodes name c x v heard (told_result s _ base number names resilience is by own other) h e = eqb-false v.by x.core.who other e
+not_own nodes name c x v heard (told_result s base number w is by own other) h e = eqb-false v.by x.core.who other e
 
 heard_promise : (nodes : ℕ → Node) (c : Cause) (x : Node) (v : Stamp) → HeardOwn nodes c → Promises c x v → Below nodes v
 heard_promise nodes c x v heard (invited s _ is by own) = heard.stamp (packet.Invite s v) is
 heard_promise nodes c x v heard (overtaken_by s _ shown is by above) = heard.stamp (packet.Vote s v shown) is
-heard_promise nodes c x v.stamp heard (told_result s _ base number v.members v.resilience is by own other) = heard.stamp (packet.Result s base number v) is
+heard_promise nodes c x v heard (told_result s base number w is by own other) = heard.stamp (packet.Result s base number w) is
 
 -- ---- looks
 
@@ -127,7 +128,7 @@ look_along : (nodes : ℕ → Node) (name : ℕ) (x : Node) (b : Ballot) (v : Ve
     → has_log x.status ≡ true → Along nodes name x → Along nodes name v.node
 look_along nodes name x b v (decides may) d o log h =
     let names = left_in b (need_of x b) in
-    let same : view v.node ≡ b.stamp = view_last (trim_for x b names) b.stamp names _ in
+    let same : view v.node ≡ b.stamp = view_last (trim_for x b names) (decided_view x b names) in
     let own : IsOwn name v.node b.stamp = record {
       by = o.own ∙ h.who;
       low = subst (λ (s : Stamp). stamp_lt s b.stamp ≡ false) (sym same) (not_above_itself b.stamp);

@@ -192,7 +192,7 @@ row_hears_result m s base number v heard own other low =
     let n = push_entry (trim_up_to p base) e in
     let may : MayStore p (max p.core.base base) base number e = may_store p (max p.core.base base) base number e next taken stays
     (or_first (not (fits (image_of p) e)) (not within) f) (or_second (not (fits (image_of p) e)) (not within) f) in
-    let stamp : view n ≡ v = ap (λ (i : Image). i.view) (told_pushed (trim_up_to p base) e) ∙ (viewed (image_of p) (top p + 1) v).1 in
+    let stamp : view n ≡ v.stamp = ap (λ (i : Image). i.view) (told_pushed (trim_up_to p base) e) ∙ (viewed (image_of p) (top p + 1) v).1 in
     let same : stamp_eq v.stamp (view n) ≡ true = ap (stamp_eq v.stamp) stamp ∙ stamp_itself v.stamp in
     effect_of m c _ (does_telling RestsWhole m c n (said.Stored number)
     (only_name s) ack_of (and_then (comes _) (stores_view {m = p} s base number v refl heard own other refl below may) tt) (λ k r. tt)

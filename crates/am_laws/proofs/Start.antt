@@ -54,7 +54,7 @@ module _ (s : ℕ) (v : Stamp) (base join : ℕ) (image : Image) where
   no_promise : {c : Cause} {m : Node} {at : Stamp} → Promises c m at → c ≡ welcome_ → ⊥
   no_promise (invited _ _ is _ _) h = cc
   no_promise (overtaken _ _ _ is _ _) h = cc
-  no_promise (told_result _ _ _ _ _ _ is _ _ _) h = cc
+  no_promise (told_result _ _ _ w is _ _ _) h = cc
 
   no_ballot : {c : Cause} {m : Node} → BeginsBy m c → c ≡ welcome_ → ⊥
   no_ballot (by_reset _ _) h = cc
@@ -107,7 +107,7 @@ module _ (s : ℕ) (v : Stamp) (base join : ℕ) (image : Image) where
   change_begun w x y (opens least resilience by may) h = absurd (no_ballot by w)
   change_begun w x y (looks b verdict over why look is) h = absurd (no_look why w h.1)
   change_begun w x y (fetches s1 v1 low number e is by promise below from may) h = absurd (cc)
-  change_begun w x y (stores_view s1 v1 low number names resilience is by own unlike promise below may) h = absurd (cc)
+  change_begun w x y (stores_view s1 low number v is by own unlike promise below may) h = absurd (cc)
   change_begun w x y (asks_to_join is was) h = absurd (cc)
   change_begun w x y (closes leads leaves last room) h = absurd (let f = h.2 in cc)
   change_begun w x y _ h = h

@@ -4,7 +4,7 @@ use Rattle.am_laws.proofs.Words.{Option, Some, None, refl, sym, ap, ◌∙◌, s
 use Rattle.am_laws.proofs.Words.{Log, fits, Status, has_log, Ballot, top, image_of, view, those, is_member, is_within_bound, push_entry, trim_up_to, Plan}
 use Rattle.am_laws.proofs.Words.{Step, quiet, finish, Verdict, with_promise, need_of, best_of, left_in, trim_for, decide, decide_view, restart_reports}
 use Rattle.am_laws.proofs.Words.{refresh_at_end, push_fetched, catch_up, decide_anew, piece_promised, piece_for, piece_row, hears_result, result_row}
-use Rattle.am_laws.proofs.Words.{hears_member, hear_row, split, and_both, or_first, rests_at_end, view_pushed}
+use Rattle.am_laws.proofs.Words.{hears_member, hear_row, split, and_both, or_first, rests_at_end, view_pushed, decided_view}
 use Rattle.am_laws.proofs.StoredWords.{or-false, eq-eqb, view_last, not-false, has_own_leave, is_waited_for, ends, is_view_past, fetches_from, is_view_of}
 use Rattle.am_laws.proofs.StoredWords.{not_above_itself, IsOpen, OpenBallot, Balloted}
 use Rattle.am_base.specs.Lists.{with_entry}
@@ -60,16 +60,15 @@ quietly name brought m o = record { stays = refl; adds = none (λ v. refl) refl 
 -- the list stays, or has the ballot's View more
 data ComesTo (p : Node) (b : Ballot) (v : Verdict) : Type 0 where
   stays : v.node.core.log ≡ p.core.log → v.node.status ≡ p.status → ComesTo p b v
-  decided : (names : List ℕ) (resilience : ℕ) → v.node.core.log ≡ (push_entry p (View b.stamp names resilience)).core.log → v.node.status ≡ p.status
-      → ComesTo p b v
+  decided : (w : GroupView) → w.stamp ≡ b.stamp → v.node.core.log ≡ (push_entry p (View w)).core.log → v.node.status ≡ p.status → ComesTo p b v
 
 view_comes : (p t : Node) (b : Ballot) (names : List ℕ) → t.core.log ≡ p.core.log → t.status ≡ p.status → ComesTo p b (decide_view t b names)
 view_comes p t b names log same =
-    let resilience = max b.resilience (image_of t).resilience in
+    let w = decided_view t b names in
     if_else (ComesTo p b) (nat_lt (t.core.rules.window + 16 - size names) (top t + 1 - t.core.base)) (ends t b (said.Crowded t.core.base (top t)))
-    (ends (restart_reports (push_entry t (View b.stamp names resilience))) b (said.Decided (top t + 1) names))
+    (ends (restart_reports (push_entry t (View w))) b (said.Decided (top t + 1) names))
     (λ t. stays log same)
-    (λ f. decided names resilience (ap (λ (l : Log). with_entry l (View b.stamp names resilience)) log) same)
+    (λ f. decided w refl (ap (λ (l : Log). with_entry l (View w)) log) same)
 
 comes_to : (p : Node) (b : Ballot) → ComesTo p b (decide p b)
 unfolding decide
@@ -104,7 +103,7 @@ came : (name : ℕ) (m : Node) (base : ℕ) (e : Entry) (s : Status) → is_memb
     → Adds name (e ∷ []) m s (push_entry (trim_up_to m base) e).core.log
 came name m base (View w) s member fit =
     let e = View w in
-    let same : view_in (push_entry m e).core.log ≡ stamp = view_last m w in
+    let same : view_in (push_entry m e).core.log ≡ w.stamp = view_last m w in
     let one : (v : Stamp) → (any_of (e ∷ []) v || stamp_eq (view_in (push_entry m e).core.log) v) ≡ stamp_eq (view_in (push_entry m e).core.log) v =
     λ v. ap (λ (u : Stamp). (stamp_eq w.stamp v || false) || stamp_eq u v) same ∙ twice (stamp_eq w.stamp v) ∙ ap (λ (u : Stamp). stamp_eq u v) (sym same) in
     last
@@ -121,7 +120,7 @@ came_decided : (name : ℕ) (m : Node) (base : ℕ) (e : Entry) (s : Status) (v 
 came_decided name m base e s w member above own =
     let p = push_entry m e in
     let d = View w in
-    let same : view_in (push_entry p d).core.log ≡ stamp = view_last p w in
+    let same : view_in (push_entry p d).core.log ≡ w.stamp = view_last p w in
     let by : ((view_in (push_entry p d).core.log).by == name) ≡ true = let q : (view_in (push_entry p d).core.log).by ≡ name = ap (λ (u : Stamp). u.by) same
     ∙ own in
     eq-eqb _ name q in
@@ -159,9 +158,9 @@ decided_adds : (name : ℕ) (m : Node) (base : ℕ) (e : Entry) (b : Ballot) (v 
     → is_member m.status ≡ true → IsOpen m.core.who m.core.promise (view m) b → fits (image_of m) e ≡ true → Adds name (e ∷ []) m v.node.status v.node.core.log
 decided_adds name m base e b v (stays log same) who member open_ fit =
     subst (Adds name (e ∷ []) m v.node.status) (sym log) (came name m base e v.node.status member fit)
-decided_adds name m base e b v (decided names resilience log same) who member open_ fit =
-    subst (Adds name (e ∷ []) m v.node.status) (sym log) (came_decided name m base e v.node.status b.stamp names resilience member open_.above (open_.own
-    ∙ who))
+decided_adds name m base e b v (decided w is log same) who member open_ fit =
+    subst (Adds name (e ∷ []) m v.node.status) (sym log) (came_decided name m base e v.node.status w member
+    (subst (λ s. stamp_lt (view m) s ≡ true) (sym is) open_.above) (ap (λ (s : Stamp). s.by) is ∙ open_.own ∙ who))
 
 piece_for_adds : (name : ℕ) (m : Node) (s : ℕ) (v : Stamp) (base number : ℕ) (e : Entry) (b : Option Ballot) → m.core.who ≡ name → is_member m.status ≡ true
     → OpenBallot m.core.who m.core.promise (view m) b → PlanAdds name (e ∷ []) m (piece_for m s v base number e b)
@@ -192,7 +191,7 @@ viewed_adds : (name : ℕ) (m : Node) (v : GroupView) → is_member m.status ≡
     → fits (image_of m) (View v) ≡ true → Adds name [] m m.status (push_entry m (View v)).core.log
 viewed_adds name m w member fit =
     let e = View w in
-    let same : view_in (push_entry m e).core.log ≡ stamp = view_last m w in
+    let same : view_in (push_entry m e).core.log ≡ w.stamp = view_last m w in
     last
     (λ v. has_view_more m e v ∙ ap (λ (u : Stamp). has_view m.core.log v || stamp_eq u v) (sym same))
     (ap (λ (u : Stamp). stamp_lt (view m) u) same ∙ fits_above (image_of m) w fit)

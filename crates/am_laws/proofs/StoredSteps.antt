@@ -31,7 +31,7 @@ may_bring _ = false
 brings_none : (c : Cause) → may_bring c ≡ false → BringsNone c
 brings_none c f = record {
   pieces = λ s v base number e is. (let t = ap may_bring is in cc);
-  results = λ s v base number names resilience is. (let t = ap may_bring is in cc);
+  results = λ s base number v is. (let t = ap may_bring is in cc);
 }
 
 plain_adds : (name : ℕ) (m : Node) (c : Cause) (s : Step) → may_bring c ≡ false → Balloted m → IsBare m → Effect m c s → StepAdds name [] m s

@@ -6,7 +6,7 @@ use Rattle.am_laws.proofs.Words.{left_in, trim_for, next_stamp, refresh, settle,
 use Rattle.am_laws.proofs.Words.{Balloting, with_more, without_one, as_it_is, Looks, finds_itself_out, waits, fetches_from_best, finds_too_few, finds_no_room}
 use Rattle.am_laws.proofs.Words.{Promises, invited, overtaken_by, told_result, MayBeWelcomed, Change, refreshes, settles, takes_report, admits, numbers}
 use Rattle.am_laws.proofs.Words.{keeps_body, notes, stores, begins_list, departs, promises, opens, looks, fetches, stores_view, queues, collects, takes}
-use Rattle.am_laws.proofs.Words.{asks_to_join, closes, Changes, rests_refresh, rests_at_end, settle_is, view_pushed, along}
+use Rattle.am_laws.proofs.Words.{asks_to_join, closes, Changes, rests_refresh, rests_at_end, settle_is, view_pushed, along, decided_view}
 use Rattle.am_laws.proofs.StoredWords.{view_one, or-false, view_last, next_above, welcomed_none, numbers_plain, not-true, is_view_of, BeginsBy, by_reset}
 use Rattle.am_laws.proofs.StoredWords.{asks_to_leave, at_most, at_most_below, not_above}
 use Rattle.am_model.specs.Node.{Node}
@@ -152,7 +152,7 @@ look_still o m x b v (fetches_from_best y z u) is up h = still (still_ballot m x
 look_still o m x b v (decides may) is up h =
     let names = left_in b (need_of x b) in
     let t = trim_for x b names in
-    let stamp : view v.node ≡ b.stamp = view_last t b.stamp names _ in
+    let stamp : view v.node ≡ b.stamp = view_last t (decided_view x b names) in
     more (record {
       views = λ s. has_view_more t _ s ∙ (λ i. h.views s i || stamp_eq (sym stamp i) s);
       above = (λ i. stamp_lt (sym h.same i) (stamp i)) ∙ up;
@@ -213,8 +213,8 @@ change_still m x y brings (opens least resilience by may) h =
     })
 change_still {c} {o} m x y brings (looks b verdict over why look is) h = look_still o m x b verdict look is (above_looked m x b why h) h
 change_still m x y brings (fetches s v base number e is by promise below from may) h = absurd (brings.pieces s v base number e is)
-change_still m x y brings (stores_view s v base number names resilience is by own other promise below may) h =
-    absurd (brings.results s v base number names resilience is)
+change_still m x y brings (stores_view s base number v is by own other promise below may) h =
+    absurd (brings.results s base number v is)
 change_still m x y brings (asks_to_join is was) h = still (record {
   views = h.views;
   same = h.same;
@@ -274,8 +274,8 @@ change_more {c} {o} m x y brings (begins_list s v base join image is says may) h
 change_more {c} {o} m x y brings (departs s v number is by leaves) h = more_same o m x y (λ t. absurd (cc)) refl h
 change_more {c} {o} m x y brings (looks b verdict over why look is) h = look_more o m x b verdict look is h
 change_more {c} {o} m x y brings (fetches s v base number e is by promise below from may) h = absurd (brings.pieces s v base number e is)
-change_more {c} {o} m x y brings (stores_view s v base number names resilience is by own other promise below may) h =
-    absurd (brings.results s v base number names resilience is)
+change_more {c} {o} m x y brings (stores_view s base number v is by own other promise below may) h =
+    absurd (brings.results s base number v is)
 change_more {c} {o} m x y brings (asks_to_join is was) h = more_same o m x y (λ t. absurd (cc)) refl h
 change_more {c} {o} m x y brings (closes leads leaves alone room) h =
     let p = push_entry x (Leave x.core.who) in
@@ -312,7 +312,7 @@ look_new c o m x b v (decides may) is h = absurd (let first = h.is in cc)
 promises_new : {A : Type 0} (c : Cause) (o : Outcome) (m x : Node) (v : Stamp) → Promises c x v → Begun c o m x → A
 promises_new c o m x v (invited s u is by own) h = absurd (let first = h.heard in cc)
 promises_new c o m x v (overtaken_by s u vote is by up) h = absurd (let first = h.heard in cc)
-promises_new c o m x v (told_result s u base number names resilience is by own other) h = absurd (let first = h.heard in cc)
+promises_new c o m x v (told_result s base number u is by own other) h = absurd (let first = h.heard in cc)
 
 opens_new : {A : Type 0} (c : Cause) (o : Outcome) (m x : Node) → BeginsBy x c → Begun c o m x → A
 opens_new c o m x (by_reset least resilience) h = absurd (let first = h.heard in cc)
@@ -345,8 +345,8 @@ change_new {c} {o} m x y brings (promises v low why) h = promises_new c o m x v 
 change_new {c} {o} m x y brings (opens least resilience by may) h = opens_new c o m x by h
 change_new {c} {o} m x y brings (looks b verdict over why look is) h = look_new c o m x b verdict look is h
 change_new {c} {o} m x y brings (fetches s v base number e is by promise below from may) h = absurd (brings.pieces s v base number e is)
-change_new {c} {o} m x y brings (stores_view s v base number names resilience is by own other promise below may) h =
-    absurd (brings.results s v base number names resilience is)
+change_new {c} {o} m x y brings (stores_view s base number v is by own other promise below may) h =
+    absurd (brings.results s base number v is)
 change_new {c} {o} m x y brings (queues body is says member stays few) h = new_same c o m x y refl refl refl (λ v. refl) h
 change_new {c} {o} m x y brings (collects req is) h = new_same c o m x y refl refl refl (λ v. refl) h
 change_new {c} {o} m x y brings (takes e is says member some there) h = new_same c o m x y refl refl refl (λ v. refl) h

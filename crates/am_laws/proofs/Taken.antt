@@ -11,7 +11,7 @@ use Rattle.am_laws.proofs.Words.{HasOpen, Balloting, with_more, without_one, as_
 use Rattle.am_laws.proofs.Words.{told_result, Numbers, asked_send, own_send, asked_join, asked_leave, Fetches, without_ballot, for_ballot, Change, refreshes}
 use Rattle.am_laws.proofs.Words.{settles, takes_report, admits, numbers, notes, stores, begins_list, departs, promises, opens, looks, fetches, stores_view}
 use Rattle.am_laws.proofs.Words.{takes, asks_to_join, closes, rests_refresh, rests_at_end, settle_is, asking_log, told_pushed, view_pushed, HasItself, itself}
-use Rattle.am_laws.proofs.Words.{JoinFits, any_fits, JoinsFit}
+use Rattle.am_laws.proofs.Words.{JoinFits, any_fits, JoinsFit, decided_view}
 use Rattle.am_packet.specs.declared.packet.Packet.TheVariants as packet
 use Rattle.am_state.specs.Reports as reports
 use Rattle.am_model.specs.Sequencing as sequencing
@@ -160,13 +160,12 @@ look_own m b v (decides may) none stays h =
     let needed = may.learned.needed in
     let names = left_in b (need_of m b) in
     let before = trim_for m b names in
-    let r = max b.resilience (image_of m).resilience in
-    let e = View b.stamp names r in
+    let e = View (decided_view m b names) in
     let f = trimmed_fronts m _ (trims_own m b needed stays) h.fronts in
     let g = pushed_fronts before e tt f in
     let used = told_used m h.fronts in
     let member : has (members m) m.core.who ≡ true = subst (λ set. has set m.core.who ≡ true) (own_need m b may.learned.own none) needed in
-    let after_ = view_member (image_of m) (top m + 1) b.stamp names r m.core.who used.places (long_after (image_of m) (top m + 1) e used.places) member
+    let after_ = view_member (image_of m) (top m + 1) (decided_view m b names) m.core.who used.places (long_after (image_of m) (top m + 1) e used.places) member
     (in_view m b needed stays) in
     record {
       fronts = reporting _ (restarted_own m before.core.base f.base) g;
@@ -269,7 +268,7 @@ promised_follows : (c : Cause) (m : Node) (v : Stamp) → Promises c m v → sta
 promised_follows c m v (invited s _ is heard own) low k t =
     let p = promise_is (with_promise m v) t in
     not_own (with_promise m v) s (ap (λ (x : Stamp). x.by) (sym p) ∙ stamp_by v s own) (other_asks m s heard) t
-promised_follows c m v (told_result s _ base number names resilience is heard own other) low k t =
+promised_follows c m v (told_result s base number w is heard own other) low k t =
     let p = promise_is (with_promise m v) t in
     not_own (with_promise m v) v.by (ap (λ (x : Stamp). x.by) (sym p)) other t
 promised_follows c m v (overtaken_by s _ shown is heard above) low k t =

@@ -3,7 +3,7 @@ use Rattle.am_laws.proofs.Words.{first_has, kept_own, ◌≡◌, ℕ, ◌+◌, �
 use Rattle.am_laws.proofs.Words.{All-weaker, Outcome, Rules, MayFound, place_of, life_of, has, fold, Packet, Letter, used_fold, Event, Node, founder}
 use Rattle.am_laws.proofs.Words.{stranger, founding_stamp, World, start, with_step, run, heard_by, split, Cause, Says, welcome, LetterSays, Changes}
 use Rattle.am_laws.proofs.Words.{no_change, changed, actor, WasSentTo, IsCause, all_item, EachKeeps, StepsKeep, SameParts, law_keeps, runs_keep, Keeps}
-use Rattle.am_laws.proofs.Words.{kept_change, TakenHolds, JoinsFit}
+use Rattle.am_laws.proofs.Words.{kept_change, TakenHolds, JoinsFit, founding_view}
 use Rattle.am_laws.proofs.{LeaderRows.first_member, LeaderRows.used_blank, Named.few_names, ViewNames.HasNames, ViewNames.HeardNames, ViewNames.change_names}
 use Rattle.am_laws.proofs.{ViewChanges.Balloted, ViewChanges.change_does, Views.heard_names, Views.views_start, Blank.Blanked, Blank.change_blank}
 use Rattle.am_laws.proofs.{Blank.AllBlank, Blank.each_blank, Blank.first_blank, Trims.Fronts, Trims.Owned, Trims.WelcomeUsed, Taken.HeardUsed}
@@ -103,7 +103,7 @@ founder_owned rules name there =
         accepted = omega arith;
         reported = rw there (omega arith);
       };
-      leads = λ t. first_member (founding_stamp rules) rules.founders rules.resilience name given;
+      leads = λ t. first_member (founding_view rules) name given;
       vote = tt;
     }
 

@@ -1,13 +1,13 @@
 -- What changes do to views, to lists and to ballots: an open ballot is above the view, and is what was promised.
 use Rattle.am_laws.proofs.Words.{logged, same_stamp, and_right, and_left, ◌≡◌, ℕ, ◌+◌, ◌<◌, ◌==◌, ◌&&◌, ◌||◌, not, max, nat_lt, Bool, true, false, List}
-use Rattle.am_laws.proofs.Words.{Option, Some, None, refl, sym, ap, ◌∙◌, subst, arith, nat_tests, Outcome, Stamp, Image, Entry, Data, Join, Leave, View}
+use Rattle.am_laws.proofs.Words.{Option, Some, None, refl, sym, ap, ◌∙◌, subst, arith, nat_tests, Outcome, GroupView, Stamp, Image, Entry, Data, Join, Leave, View}
 use Rattle.am_laws.proofs.Words.{stamp_lt, stamp_eq, Log, fits, fold, told_by, Status, Node, Ballot, image_of, view, acts, is_sequencer, is_member, is_asking}
 use Rattle.am_laws.proofs.Words.{push_entry, trim_up_to, has_log, Verdict, overtake, need_of, left_in, trim_for, next_stamp, is_unfinished, is_view, refresh}
 use Rattle.am_laws.proofs.Words.{hears_member, hears_in_view, hears_sequencer, split, Cause, HasOpen, Balloting, with_more, without_one, as_it_is, Looks}
 use Rattle.am_laws.proofs.Words.{finds_itself_out, waits, fetches_from_best, finds_too_few, finds_no_room, decides, Numbers, asked_send, own_send, asked_join}
 use Rattle.am_laws.proofs.Words.{asked_leave, Fetches, without_ballot, for_ballot, MayBeWelcomed, Change, refreshes, settles, numbers, stores, begins_list}
 use Rattle.am_laws.proofs.Words.{departs, promises, opens, looks, fetches, stores_view, asks_to_join, closes, Changes, unchanged, changed, or_first}
-use Rattle.am_laws.proofs.Words.{or_second, view_pushed, rests_refresh, rests_at_end, settle_is}
+use Rattle.am_laws.proofs.Words.{or_second, view_pushed, rests_refresh, rests_at_end, settle_is, decided_view}
 use Rattle.am_packet.specs.declared.packet.Packet.TheVariants as packet
 use Rattle.am_model.specs.declared.status.Status.TheVariants as status
 use Rattle.am_laws.proofs.ViewNames.{ViewNamed, HasNames, HeardNames, change_names, promised_named}
@@ -155,11 +155,11 @@ look_does m b v (decides may) l h =
     let names = left_in b (need_of m b) in
     let before = trim_for m b names in
     let r = max b.resilience (image_of m).resilience in
-    let e = View b.stamp names r in
+    let e = View (decided_view m b names) in
     let o = l.open_ in
-    let same : view (push_entry before e) ≡ b.stamp = view_last before b.stamp names r in
+    let same : view (push_entry before e) ≡ b.stamp = view_last before (decided_view m b names) in
     record {
-      goes = λ t. goes_view before b.stamp names r o.above;
+      goes = λ t. goes_view before (decided_view m b names) o.above;
       log_ = λ t. t;
       balloted = record {
         high = subst (λ (s : Stamp). stamp_lt m.core.promise s
@@ -176,20 +176,20 @@ unfinished_none who promise v w None f = tt
 unfinished_none who promise v w (Some b) f = λ over. absurd (let g = rw over at f in cc)
 
 -- a View up to the promise, below an open ballot
-fetched_high : (m : Node) (s : ℕ) (v w.stamp : Stamp) (w.members : List ℕ) (w.resilience : ℕ) → m.core.promise ≡ v → w.stamp.by < 256 → HasNames m
+fetched_high : (m : Node) (s : ℕ) (v : Stamp) (w : GroupView) → m.core.promise ≡ v → w.stamp.by < 256 → HasNames m
     → Fetches m s v (View w) → Balloted m → (stamp_lt m.core.promise w.stamp ≡ false) × OpenBallot m.core.who m.core.promise w.stamp m.ballot
-fetched_high m s v stamp names resilience is few named (without_ballot none own past) h =
-    let low : stamp_lt v stamp ≡ false = or_first (stamp_lt v stamp) _ past in
-    (subst (λ (p : Stamp). stamp_lt p stamp ≡ false) (sym is) low, unfinished_none m.core.who m.core.promise stamp stamp m.ballot none)
-fetched_high m s v stamp names resilience is few named (for_ballot b open_ from past) h =
-    let low : stamp_lt v stamp ≡ false = or_first (stamp_lt v stamp) _ past in
-    let differs : stamp_eq stamp v ≡ false = or_second (stamp_lt v stamp) _ past in
+fetched_high m s v w is few named (without_ballot none own past) h =
+    let low : stamp_lt v w.stamp ≡ false = or_first (stamp_lt v w.stamp) _ past in
+    (subst (λ (p : Stamp). stamp_lt p w.stamp ≡ false) (sym is) low, unfinished_none m.core.who m.core.promise w.stamp w.stamp m.ballot none)
+fetched_high m s v w is few named (for_ballot b open_ from past) h =
+    let low : stamp_lt v w.stamp ≡ false = or_first (stamp_lt v w.stamp) _ past in
+    let differs : stamp_eq w.stamp v ≡ false = or_second (stamp_lt v w.stamp) _ past in
     let mine : v.by < 256 = let k = named.promise_ in let q = ap (λ (x : Stamp). x.by) is in omega arith in
-    let strict : stamp_lt stamp v ≡ true = strictly stamp v few mine low differs in
+    let strict : stamp_lt w.stamp v ≡ true = strictly w.stamp v few mine low differs in
     let o = of_open m b open_ h in
-    let above : stamp_lt stamp b.stamp ≡ true = subst (λ (x : Stamp). stamp_lt stamp x ≡ true) (sym is ∙ o.promised) strict in
-    let P : Option Ballot → Type 0 = OpenBallot m.core.who m.core.promise stamp in (
-      subst (λ (p : Stamp). stamp_lt p stamp ≡ false) (sym is) low,
+    let above : stamp_lt w.stamp b.stamp ≡ true = subst (λ (x : Stamp). stamp_lt w.stamp x ≡ true) (sym is ∙ o.promised) strict in
+    let P : Option Ballot → Type 0 = OpenBallot m.core.who m.core.promise w.stamp in (
+      subst (λ (p : Stamp). stamp_lt p w.stamp ≡ false) (sym is) low,
       subst P (sym open_.last) (λ over. record { above = above; promised = o.promised; own = o.own }),
     )
 
@@ -197,7 +197,7 @@ does_fetch : (m : Node) (s : ℕ) (v : Stamp) (base : ℕ) (e : Entry) → m.cor
     → fits (image_of m) e ≡ true → Balloted m → Does m (push_entry (trim_up_to m base) e)
 does_fetch m s v base (View w) is few named log from fit h =
     let k = fetched_high m s v w is few named from h in
-    let same : view (push_entry (trim_up_to m base) (View w)) ≡ stamp = view_last (trim_up_to m base) w in
+    let same : view (push_entry (trim_up_to m base) (View w)) ≡ w.stamp = view_last (trim_up_to m base) w in
     record {
       goes = λ t. goes_fit (trim_up_to m base) (View w) fit;
       log_ = λ t. t;
@@ -227,10 +227,10 @@ other_open who promise w v (Some b) is other h = λ over. absurd (
     let t : (v.by == who) ≡ true = grind (arith, nat_tests) in
     cc)
 
-does_result : (m : Node) (v.stamp : Stamp) (base : ℕ) (v.members : List ℕ) (v.resilience : ℕ) → m.core.promise ≡ v.stamp → (v.stamp.by == m.core.who) ≡ false
+does_result : (m : Node) (base : ℕ) (v : GroupView) → m.core.promise ≡ v.stamp → (v.stamp.by == m.core.who) ≡ false
     → fits (image_of m) (View v) ≡ true → Balloted m → Does m (push_entry (trim_up_to m base) (View v))
-does_result m v.stamp base v.members v.resilience is other fit h =
-    let same : view (push_entry (trim_up_to m base) (View v)) ≡ v = view_last (trim_up_to m base) v in
+does_result m base v is other fit h =
+    let same : view (push_entry (trim_up_to m base) (View v)) ≡ v.stamp = view_last (trim_up_to m base) v in
     record {
       goes = λ t. goes_fit (trim_up_to m base) (View v) fit;
       log_ = λ t. t;
@@ -301,8 +301,8 @@ change_does heard m n (opens least resilience by may) k h =
 change_does heard m n (looks b verdict over why look is) k h = look_does m b verdict look (looked_at m b why h) h
 change_does heard m n (fetches s v base number e is by promise below from may) k h =
     does_fetch m s v base e (sym (same_stamp v m.core.promise promise)) (heard.pieces (packet.Piece s v base number e) is) k (member_of m s by) from may.fits h
-change_does heard m n (stores_view s v base number names resilience is by own other promise below may) k h =
-    does_result m v base names resilience promise other may.fits h
+change_does heard m n (stores_view s base number v is by own other promise below may) k h =
+    does_result m base v promise other may.fits h
 change_does heard m n (asks_to_join is was) k h = record {
   goes = λ t. absurd (let f = ap has_log was in cc);
   log_ = λ t. absurd (let f = ap has_log was in cc);

@@ -79,7 +79,7 @@ same_names m n a p b c h = record {
 pub promised_named : (c : Cause) (m : Node) (v : Stamp) → Promises c m v → HeardNames c → v.by < 256
 promised_named c m v (invited s _ is by own) heard = heard.stamps (packet.Invite s v) is
 promised_named c m v (overtaken_by s _ shown is by above) heard = heard.stamps (packet.Vote s v shown) is
-promised_named c m v.stamp (told_result s _ base number v.members v.resilience is by own other) heard = heard.stamps (packet.Result s base number v) is
+promised_named c m v (told_result s base number w is by own other) heard = heard.stamps (packet.Result s base number w) is
 
 pub change_names : {c : Cause} {o : Outcome} → HeardNames c → (m n : Node) → Change c o m n → HasNames m → HasNames n
 change_names heard m n refreshes h = let r = rests_refresh m in same_names m (refresh m) r.rests.who r.rests.promise r.log r.rests.ballot h

@@ -44,7 +44,7 @@ after_view image number v = (refl, refl, refl)
 -- the last View stands at its number
 pub record Stood (log : Log) : Type 0 where
   pub names : List ℕ
-  pub there : entry_at log (told_by log).view_number ≡ Some (View (told_by log).view names (told_by log).resilience)
+  pub there : entry_at log (told_by log).view_number ≡ Some (View (record { stamp = (told_by log).view; members = names; resilience = (told_by log).resilience }))
 
 -- what has become of a list: its entries stay, and its view stays, or is greater and stands in it
 pub record Goes (old new : Log) : Type 0 where
@@ -61,7 +61,7 @@ stood_on : (old new : Log) → ((number : ℕ) (x : Entry) → entry_at old numb
     → Stood old → Stood new
 stood_on old new stays same h = record {
   names = h.names;
-  there = ap (entry_at new) same.number ∙ stays (told_by old).view_number _ h.there ∙ (λ i. Some (View (sym same.view i) h.names (sym same.resilience i)));
+  there = ap (entry_at new) same.number ∙ stays (told_by old).view_number _ h.there ∙ (λ i. Some (View (record { stamp = sym same.view i; members = h.names; resilience = sym same.resilience i })));
 }
 
 pub goes_then : (a b c : Log) → Goes a b → Goes b c → Goes a c
@@ -109,15 +109,15 @@ view_last m v = ap (λ (i : Image). i.view) (told_pushed m (View v))
 -- and stands where it is told
 pub view_there : (m : Node) (v : GroupView)
     → entry_at (push_entry m (View v)).core.log (image_of (push_entry m (View v))).view_number
-    ≡ Some (View (view (push_entry m (View v))) v.members (image_of (push_entry m (View v))).resilience)
+    ≡ Some (View (record { stamp = view (push_entry m (View v)); members = v.members; resilience = (image_of (push_entry m (View v))).resilience }))
 view_there m w =
     let e = View w in
     let is = told_pushed m e in
     let new = after_view (image_of m) (top m + 1) w in
-    let v : view (push_entry m e) ≡ stamp = ap (λ (i : Image). i.view) is ∙ new.0 in
+    let v : view (push_entry m e) ≡ w.stamp = ap (λ (i : Image). i.view) is ∙ new.0 in
     let n : (image_of (push_entry m e)).view_number ≡ top m + 1 = ap (λ (i : Image). i.view_number) is ∙ new.1 in
-    let r : (image_of (push_entry m e)).resilience ≡ resilience = ap (λ (i : Image). i.resilience) is ∙ new.2 in
-    ap (entry_at (push_entry m e).core.log) n ∙ entry_last m e ∙ (λ i. Some (View (sym v i) w.members (sym r i)))
+    let r : (image_of (push_entry m e)).resilience ≡ w.resilience = ap (λ (i : Image). i.resilience) is ∙ new.2 in
+    ap (entry_at (push_entry m e).core.log) n ∙ entry_last m e ∙ (λ i. Some (View (record { stamp = sym v i; members = w.members; resilience = sym r i })))
 
 pub goes_view : (m : Node) (v : GroupView) → stamp_lt (view m) v.stamp ≡ true
     → Goes m.core.log (push_entry m (View v)).core.log

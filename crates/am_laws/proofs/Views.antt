@@ -24,7 +24,7 @@ pub record IsNoted (nodes : ℕ → Node) (v : Decided) : Type 0 where
   pub log_ : has_log (nodes v.stamp.by).status ≡ true
   pub low : stamp_lt (view (nodes v.stamp.by)) v.stamp ≡ false
   pub names : List ℕ
-  pub there : entry_at (nodes v.stamp.by).core.log v.number ≡ Some (View v.stamp names v.resilience)
+  pub there : entry_at (nodes v.stamp.by).core.log v.number ≡ Some (View (record v.view { members = names }))
 
 abbrev PieceLetter : Letter → Type 0
 PieceLetter l = PieceNamed l.packet
@@ -73,8 +73,8 @@ still_noted nodes name n v d h = split (v.stamp.by == name)
     let same : v.stamp.by ≡ name = grind (arith, nat_tests) in
     let log_m : has_log m.status ≡ true = subst (λ k. has_log (nodes k).status ≡ true) same h.log_ in
     let low_m : stamp_lt (view m) v.stamp ≡ false = subst (λ k. stamp_lt (view (nodes k)) v.stamp ≡ false) same h.low in
-    let there_m : entry_at m.core.log v.number ≡ Some (View v.stamp h.names v.resilience) =
-    subst (λ k. entry_at (nodes k).core.log v.number ≡ Some (View v.stamp h.names v.resilience)) same h.there in
+    let there_m : entry_at m.core.log v.number ≡ Some (View (record v.view { members = h.names })) =
+    subst (λ k. entry_at (nodes k).core.log v.number ≡ Some (View (record v.view { members = h.names }))) same h.there in
     let g = d.goes log_m in
     record {
       by = h.by;

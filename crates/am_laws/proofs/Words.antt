@@ -56,7 +56,7 @@ pub use Rattle.am_state.specs.{declared.bodies.KeptBody.KeptBody, Bodies.find_bo
 pub use Rattle.am_state.specs.Sends.{Sends, is_unsettled}
 pub use Rattle.am_model.specs.{Node.set_at, Node.founders_view, Node.founding_stamp, Receiving.own_body, Receiving.first_body, Sequencing.number_data}
 pub use Rattle.am_model.specs.{Joining.asks_to_leave}
-pub use Rattle.am_model.specs.Ballots.{taken_by, goes_on, ends as ended, decide_view, restart_reports, overtake, own_vote}
+pub use Rattle.am_model.specs.Ballots.{taken_by, goes_on, ends as ended, decide_view, restart_reports, overtake, own_vote, decided_view}
 pub use Rattle.am_model.proofs.Founders.{first_founder}
 pub use Rattle.am_play.specs.{Claims.Begins, Lawful.broken_at, Lawful.before_break}
 pub use Rattle.am_play.specs.World.{lives_on, group_with, group_after, Decided, founders_decided, last_view, views_after}
@@ -75,4 +75,5 @@ pub use Rattle.am_laws.proofs.{Kept.HasItself, Kept.Keeps, Changes.itself, Chang
 pub use Rattle.am_laws.specs.{Packets.Bounds, Packets.up, Packets.UpTo, Blank.BlankHolds, Begins.FrontBegins, GivenUp.OnlyStoppedGivenUp, Named.NamesHold}
 pub use Rattle.am_laws.specs.{Numbers.NumbersHold, Taken.TakenHolds, Views.ViewsHold}
 pub use Rattle.am_laws.specs.Bytes.{BodyWithin, IsShort, LettersArePackets, LettersAreRead, acts_by_bytes, RunsAreOfBytes}
+pub use Rattle.am_model.specs.Node.{founding_view}
 unfoldable pub use Rattle.am_laws.specs.Bytes.{happen_by_bytes}

@@ -22,7 +22,7 @@ use Rattle.am_state.specs.Cores.{CoreState}
 use Rattle.am_group.specs.Journals.{letter_at, the_record}
 pub use Rattle.am_group.specs.Journals.{no_caller}
 use Rattle.am_group.specs.Addressed.{is_for}
-use Rattle.am_model.specs.Node.{Node, is_member, has_departed, image_of, view, members, set_at, founder, stranger, founding_stamp, founders_view}
+use Rattle.am_model.specs.Node.{Node, is_member, has_departed, image_of, view, members, set_at, founder, stranger, founding_view, founders_view}
 use Rattle.am_model.specs.Emit.{Step}
 use Rattle.am_model.specs.Step.{step, hear, hear_refusal}
 use Rattle.am_model.specs.Lengths.{packet_length}

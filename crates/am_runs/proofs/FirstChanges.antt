@@ -313,8 +313,8 @@ first_change rules list acc c o m n w (opens least resilience by may) none h = a
 first_change rules list acc c o m n w (looks b verdict over why look is) none h = absurd (looks_leave m b verdict look none)
 first_change rules list acc c o m n w (fetches s v base number e is heard promise below from may) none h =
     absurd (not_fetched rules m v h.base (and_both (not (s == m.core.who)) (is_member m.status) heard).1 promise below)
-first_change rules list acc c o m n w (stores_view s v base number names resilience is heard own other promise below may) none h =
-    absurd (not_fetched rules m v h.base (and_both (not (s == m.core.who)) (is_member m.status) heard).1 (ap (stamp_eq v) promise ∙ stamp_itself v) below)
+first_change rules list acc c o m n w (stores_view s base number v is heard own other promise below may) none h =
+    absurd (not_fetched rules m v.stamp h.base (and_both (not (s == m.core.who)) (is_member m.status) heard).1 (ap (stamp_eq v.stamp) promise ∙ stamp_itself v.stamp) below)
 first_change rules list acc c o m n w (queues body is says member stays few) none h =
     let b = h.base in
     let own_ = b.own in

@@ -1,4 +1,5 @@
 -- Where the number of a row's joining stands in the whole list.
+use Rattle.am_model.specs.Node.{founding_view}
 use Rattle.am_runs.proofs.UnballotedWords.{same_name, ◌≡◌, ◌≢◌, ◌⊎◌, ⊎_elim, inl, inr, ℕ, ◌+◌, ◌<◌, ◌==◌, true, false, List, [], ◌∷◌, ◌++◌, length, slice_index}
 use Rattle.am_runs.proofs.UnballotedWords.{Some, refl, sym, ap, ◌∙◌, subst, append_assoc, append-nil, arith, get_or-replicate, All, nat_tests, All-head, All-tail}
 use Rattle.am_runs.proofs.UnballotedWords.{Row, Image, Entry, Data, Join, Leave, View, Rules, has, place_of, life_of, blank, blank_row, fold, after, at_place}
@@ -84,7 +85,7 @@ rows_go_on rules list (e ∷ es) plain h =
 row_founded : (rules : Rules) (place : ℕ) → place < 16 → RowOk rules (founders_view rules ∷ []) place (row_at (after blank 1 (founders_view rules)) place)
 row_founded rules place low =
     let none : row_at blank place ≡ blank_row = get_or-replicate 16 place blank_row blank_row low in
-    let is = row_view blank 1 (founding_stamp rules) rules.founders rules.resilience place low in
+    let is = row_view blank 1 (founding_view rules) place low in
     let life = slice_index rules.founders place in
     subst (RowOk rules (founders_view rules ∷ []) place) (sym is)
     (split (life == 0)

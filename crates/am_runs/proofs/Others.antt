@@ -198,7 +198,7 @@ pub promised_first : (rules : Rules) (list : List Entry) (acc i : ℕ) (c : Caus
     → v ≡ founding_stamp rules
 promised_first rules list acc i c m v (invited s w is heard own) h = absurd (subst (CauseOk rules list acc i) is h)
 promised_first rules list acc i c m v (overtaken s w vote is heard above) h = absurd (subst (CauseOk rules list acc i) is h)
-promised_first rules list acc i c m v (told_result s w base number names resilience is heard own other) h = (subst (CauseOk rules list acc i) is h).0
+promised_first rules list acc i c m v (told_result s base number w is heard own other) h = (subst (CauseOk rules list acc i) is h).0
 
 -- ---- each change
 

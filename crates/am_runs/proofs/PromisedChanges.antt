@@ -37,7 +37,7 @@ looked nodes i m b v _ h = same_promise nodes i m _ refl refl h
 raised : (nodes : ℕ → Node) (c : Cause) (m : Node) (v : Stamp) → Promises c m v → CauseBegun nodes c → IsBegun nodes v
 raised nodes c m v (invited s w is heard own) h = subst (CauseBegun nodes) is h
 raised nodes c m v (overtaken s w shown is heard above) h = subst (CauseBegun nodes) is h
-raised nodes c m v (told_result s w base number names resilience is heard own other) h = subst (CauseBegun nodes) is h
+raised nodes c m v (told_result s base number w is heard own other) h = subst (CauseBegun nodes) is h
 
 pub promise_change : (nodes : ℕ → Node) (i : ℕ) (c : Cause) (o : Outcome) (m n : Node) → CauseBegun nodes c → Change c o m n → Promised nodes i m
     → Promised nodes i n

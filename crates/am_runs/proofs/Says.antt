@@ -158,7 +158,11 @@ welcome_says rules list acc i m n s h f t (asks_again same lives some stays low 
 -- the founders' View, as it is told again
 result_says : (rules : Rules) (list : List Entry) (acc i : ℕ) (m n : Node) (number : ℕ) (names : List ℕ) → Sends rules list acc i m n
     → IsFirst rules list acc m n → is_sequencer n ≡ true → number ≡ (nodes.image_of n).view_number → viewed_by (entry_at n.core.log number) ≡ names
-    → (n.core.promise ≡ founding_stamp rules) × (item_at list number ≡ Some (View n.core.promise names (nodes.image_of n).resilience))
+    → (n.core.promise ≡ founding_stamp rules) × (item_at list number ≡ Some (View (record {
+      stamp = n.core.promise;
+      members = names;
+      resilience = (nodes.image_of n).resilience;
+    })))
 result_says rules list acc i m n number names h f t high named =
     let told_ = first_told rules list acc i m n h f in
     let v = group_view rules list f.group in
@@ -169,7 +173,7 @@ result_says rules list acc i m n number names h f t high named =
     ∙ (ap (λ l. slice_get l 0) (sym f.list_) ∙ first) in
     let founders : rules.founders ≡ names = sym (ap viewed_by there) ∙ named in
     let strong : (nodes.image_of n).resilience ≡ rules.resilience = ap (λ (x : Image). x.resilience) told_ ∙ v.resilience in
-    (stamp, get_item list number 0 (founders_view rules) (omega arith) first ∙ (λ j. Some (View (sym stamp j) (founders j) (sym strong j))))
+    (stamp, get_item list number 0 (founders_view rules) (omega arith) first ∙ (λ j. Some (View (record { stamp = sym stamp j; members = founders j; resilience = sym strong j }))))
 
 -- ---- each letter
 

@@ -107,7 +107,7 @@ carried_sent all who o c m s v base acc number e (by_number from req body is fou
 -- ---- each change
 
 look_sent : (all : List Record) (who : ℕ) (m : Node) (b : Ballot) (v : Verdict) → Looks m b v → Keeps all who m → Keeps all who v.node
-look_sent all who m b v (decides may) h = kept_pushed all who m (View b.stamp _ _) tt h
+look_sent all who m b v (decides may) h = kept_pushed all who m (View _) tt h
 look_sent all who m b v _ h = h
 
 pub change_sent : (all : List Record) (who : ℕ) (c : Cause) (o : Outcome) (m n : Node) → CauseSent all who o c → Change c o m n → Keeps all who m

@@ -1,4 +1,5 @@
 -- Each run in which nobody began a ballot keeps what a world keeps.
+use Rattle.am_model.specs.Node.{founding_view}
 use Rattle.am_runs.proofs.UnballotedWords.{◌≡◌, ℕ, ◌<◌, ◌≤◌, ◌==◌, nat_le, true, false, List, [], ◌∷◌, None, refl, ap, ◌∙◌, subst, arith, nat_tests, All-nil}
 use Rattle.am_runs.proofs.UnballotedWords.{Entry, Rules, MayFound, has, fold, AllFit, fits, top_of, CoreState, Event, Node, set_at, founder, stranger}
 use Rattle.am_runs.proofs.UnballotedWords.{founders_view, founding_stamp, World, start, record_of, with_record, with_step, run, NoBallot, split, actor, idles}
@@ -130,7 +131,7 @@ first_start rules may =
         log = refl;
         own = record { next = 1; turn = refl; low = omega arith };
       };
-      member = λ t. viewed_mem [] (founding_stamp rules) rules.founders rules.resilience (first_of rules) good there;
+      member = λ t. viewed_mem [] (founding_view rules) (first_of rules) good there;
     }
 
 start_ok : (rules : Rules) → MayFound rules → WorldOk rules (start rules)

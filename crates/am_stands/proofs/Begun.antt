@@ -2,7 +2,7 @@
 use Rattle.am_stands.proofs.Words.{◌≡◌, ℕ, ◌<◌, true, false, [], ◌∷◌, length, take, slice_index, refl, sym, ap, ◌∙◌, subst, arith, nat_tests, Rules, has}
 use Rattle.am_stands.proofs.Words.{place_of, life_of, fold, after, Begins, IsGood, mem, good_begins, begins_refl, begins_nil, Group, IsUp, chain_of, Kept}
 use Rattle.am_stands.proofs.Words.{Node, founder, stranger, founding_stamp, founders_view, lowest_or_first, first_node, split, first_member, Turn, NameStands}
-use Rattle.am_stands.proofs.Words.{Stands, GroupFor, NodeKeeps, StartKeeps}
+use Rattle.am_stands.proofs.Words.{Stands, GroupFor, NodeKeeps, StartKeeps, founding_view}
 use Rattle.am_play.specs.World.{start}
 use Rattle.am_stands.proofs.{Onward.group_kept, Refreshing.member_old, Trimming.trimmed_none}
 
@@ -46,7 +46,7 @@ module _ (rules : Rules) (s : Group) (gs : GroupFor rules s) (h : Stands (start 
         };
         fresh = λ j new. split (has rules.founders j)
             (λ t. absurd (let given : slice_index rules.founders (place_of j) ≡ life_of j = grind (arith, nat_tests) in
-            member_old (founders_view rules ∷ []) j (first_member (founding_stamp rules) rules.founders rules.resilience j given) new))
+            member_old (founders_view rules ∷ []) j (first_member (founding_view rules) j given) new))
             (λ f. rw f (omega arith));
         trimmed = trimmed_none s;
         turn = record { next = 1; turn = refl; low = omega arith };

@@ -1,6 +1,6 @@
 -- What stopped names have is on the chain, or was left out of it; so a decision finds what each of its members has.
 use Rattle.am_stands.proofs.Words.{low_or_above, split, ◌≡◌, ◌⊎◌, inl, inr, ⊎_elim, ℕ, ◌<◌, ◌≤◌, ◌==◌, ◌||◌, List, [], ◌∷◌, ◌++◌, length, take, true, false}
-use Rattle.am_stands.proofs.Words.{Some, slice_index, refl, sym, ap, ◌∙◌, subst, arith, nat_tests, Entry, Leave, View, Stamp, place_of, life_of, has}
+use Rattle.am_stands.proofs.Words.{Some, slice_index, refl, sym, ap, ◌∙◌, subst, arith, nat_tests, Entry, Leave, View, GroupView, Stamp, place_of, life_of, has}
 use Rattle.am_stands.proofs.Words.{is_within, members_of, all_at, Begins, BeginsBelow, IsGood, image_of, mem, view_of, key, begins_refl, begins_nil}
 use Rattle.am_stands.proofs.Words.{begins_more, begins_trans, begins_both, begins_take, below_of, below_length, length_push, mod16, good_begins, mem_between}
 use Rattle.am_stands.proofs.Words.{mem_viewed, key_by, view_up, Group, put, put2, opening, chain_of, IsUp, NoBetter, MayDecide, Voted, with_choice, choice_of}
@@ -35,23 +35,23 @@ vote_low v list branch good h begins worse = ⊎_elim
     worse)
     (low_or_above (length v) (length list))
 
-module _ (s : Group) (k : Kept s) (lawful : IsLawful s) (c : ℕ) (members : List ℕ) (resilience : ℕ) (d : MayDecide s c members resilience) (b : BranchesOk s)
-    (voted : (j : ℕ) → w.stamp members j ≡ true → (j ≡ c) ⊎ Voted s (key (s.node c).promise) j (s.node c).list) where
+module _ (s : Group) (k : Kept s) (lawful : IsLawful s) (c : ℕ) (v : GroupView) (d : MayDecide s c v) (b : BranchesOk s)
+    (voted : (j : ℕ) → has v.members j ≡ true → (j ≡ c) ⊎ Voted s (key (s.node c).promise) j (s.node c).list) where
   abbrev chosen : List Entry
   chosen = (s.node c).list
 
   abbrev all : List Entry
-  all = opening (choice_of (s.node c) members resilience)
+  all = opening (choice_of (s.node c) v)
 
   chain : Begins chosen (chain_of s.views)
-  chain = list_chain s k lawful c members resilience d
+  chain = list_chain s k lawful c v d
 
-  in_chosen : (j : ℕ) → w.stamp members j ≡ true → mem chosen j ≡ true
+  in_chosen : (j : ℕ) → has v.members j ≡ true → mem chosen j ≡ true
   unfolding mem
-  in_chosen j h = within_has members (members_of (image_of chosen)) j d.within h
+  in_chosen j h = within_has v.members (members_of (image_of chosen)) j d.within h
 
-  -- on one branch with the coordinator's list, a name of the View w
-  low_on : (j : ℕ) (branch : List Entry) → w.stamp members j ≡ true → (s.node j).departed ≡ false → IsGood branch → Begins chosen branch
+  -- on one branch with the coordinator's list, a name of the View has no more
+  low_on : (j : ℕ) (branch : List Entry) → has v.members j ≡ true → (s.node j).departed ≡ false → IsGood branch → Begins chosen branch
       → Begins (s.node j).list branch → Begins (s.node j).list chosen
   low_on j branch in_ stays good mine its = ⊎_elim
       (λ (z : j ≡ c). subst (λ x. Begins (s.node x).list chosen) (sym z) (begins_refl chosen))
@@ -62,47 +62,47 @@ module _ (s : Group) (k : Kept s) (lawful : IsLawful s) (c : ℕ) (members : Lis
       (b.short c j z.vote d.up d.ballot z.is stays)))
       (voted j in_)
 
-  stays_in : (j : ℕ) → w.stamp members j ≡ true → (s.node j).departed ≡ false
-  stays_in j in_ = split (s.node j).departed (λ t. absurd (none_departed s k lawful c members resilience d j (in_chosen j in_) t)) (λ f. f)
+  stays_in : (j : ℕ) → has v.members j ≡ true → (s.node j).departed ≡ false
+  stays_in j in_ = split (s.node j).departed (λ t. absurd (none_departed s k lawful c v d j (in_chosen j in_) t)) (λ f. f)
 
   -- each name of the View has a beginning of what is chosen
-  members_low : (j : ℕ) → w.stamp members j ≡ true → Begins (s.node j).list chosen
+  members_low : (j : ℕ) → has v.members j ≡ true → Begins (s.node j).list chosen
   members_low j in_ = by_branch (b.branch j (stays_in j in_))
     where
       by_branch : OnBranch s j → Begins (s.node j).list chosen
       by_branch (on_chain its) = low_on j (chain_of s.views) in_ (stays_in j in_) k.views.good chain its
-      by_branch (left_out a v branch part mine its good member out) = ⊎_elim
-          (λ (z : length (a ++ View v ∷ []) ≤ length chosen).
+      by_branch (left_out a u branch part mine its good member out) = ⊎_elim
+          (λ (z : length (a ++ View u ∷ []) ≤ length chosen).
           absurd (let inside = begins_both part chain z in
           let fine = good_begins chain k.views.good in
-          let there = mem_between j fine (begins_more a (View v ∷ [])) inside member (in_chosen j in_) in
-          let has_it = mem_viewed a v j there in cc))
-          (λ (z : length chosen < length (a ++ View v ∷ [])).
-          (let more = length_push a (View v) in
-          let below = begins_both chain (begins_trans (begins_more a (View v ∷ [])) part) (omega arith) in
+          let there = mem_between j fine (begins_more a (View u ∷ [])) inside member (in_chosen j in_) in
+          let has_it = mem_viewed a u j there in cc))
+          (λ (z : length chosen < length (a ++ View u ∷ [])).
+          (let more = length_push a (View u) in
+          let below = begins_both chain (begins_trans (begins_more a (View u ∷ [])) part) (omega arith) in
           low_on j branch in_ (stays_in j in_) good (begins_trans below mine) its))
-          (low_or_above (length (a ++ View v ∷ [])) (length chosen))
+          (low_or_above (length (a ++ View u ∷ [])) (length chosen))
 
-  new_view : NewView s (with_choice s c members resilience) (key (s.node c).promise)
+  new_view : NewView s (with_choice s c v) (key (s.node c).promise)
   new_view =
-      let same = put_same s.views.chosen (key (s.node c).promise) (choice_of (s.node c) members resilience) in
+      let same = put_same s.views.chosen (key (s.node c).promise) (choice_of (s.node c) v) in
       let line = put_same s.views.line (key (s.node c).promise) all in
       record {
-        accepted = subst (λ (x : groups.Chosen). Begins s.group x.before) (sym same) (group_low s k lawful c members resilience d);
+        accepted = subst (λ (x : groups.Chosen). Begins s.group x.before) (sym same) (group_low s k lawful c v d);
         leavers = λ i leaves in_. subst (Begins (s.node i).list) (sym line)
-            (begins_trans (members_low i (subst (λ (x : groups.Chosen). w.stamp x.members i ≡ true) same in_))
-            (begins_more chosen (View (s.node c).promise members resilience ∷ [])));
+            (begins_trans (members_low i (subst (λ (x : groups.Chosen). has x.members i ≡ true) same in_))
+            (begins_more chosen (View (choice_of (s.node c) v).view ∷ [])));
       }
 
   -- ---- who is on which branch then
 
-  now : chain_of (with_choice s c members resilience).views ≡ all
+  now : chain_of (with_choice s c v).views ≡ all
   now = put_same s.views.line (key (s.node c).promise) all
 
-  on_new : {a : List Entry} → Begins a chosen → Begins a (chain_of (with_choice s c members resilience).views)
-  on_new h = subst (Begins _) (sym now) (begins_trans h (begins_more chosen (View (s.node c).promise members resilience ∷ [])))
+  on_new : {a : List Entry} → Begins a chosen → Begins a (chain_of (with_choice s c v).views)
+  on_new h = subst (Begins _) (sym now) (begins_trans h (begins_more chosen (View (choice_of (s.node c) v).view ∷ [])))
 
-  viewed : Begins (chosen ++ View (s.node c).promise members resilience ∷ []) (chain_of (with_choice s c members resilience).views)
+  viewed : Begins (chosen ++ View (choice_of (s.node c) v).view ∷ []) (chain_of (with_choice s c v).views)
   viewed = subst (Begins all) (sym now) (begins_refl all)
 
   -- who isn't a member of what is chosen ended in it
@@ -113,7 +113,7 @@ module _ (s : Group) (k : Kept s) (lawful : IsLawful s) (c : ℕ) (members : Lis
       (λ (z : length (s.node j).list ≤ length chosen). begins_both its mine z)
       (λ (z : length chosen < length (s.node j).list).
       absurd (let joined = (k.each j).joined log in
-      let front = begins_trans (begins_take (s.node j).start s.group) (group_low s k lawful c members resilience d) in
+      let front = begins_trans (begins_take (s.node j).start s.group) (group_low s k lawful c v d) in
       let there = b.own j stays (take (s.node j).start s.group) chosen (below_of (begins_both mine its (omega arith)) z) front joined.member in
       cc))
       (low_or_above (length (s.node j).list) (length chosen)))
@@ -121,35 +121,35 @@ module _ (s : Group) (k : Kept s) (lawful : IsLawful s) (c : ℕ) (members : Lis
 
   -- on one branch with it
   beside : (j : ℕ) (branch : List Entry) → (s.node j).departed ≡ false → IsGood branch → Begins chosen branch → Begins (s.node j).list branch
-      → Begins (s.node j).list chosen ⊎ ((mem chosen j ≡ true) × (w.stamp members j ≡ false))
+      → Begins (s.node j).list chosen ⊎ ((mem chosen j ≡ true) × (has v.members j ≡ false))
   beside j branch stays good mine its = split (mem chosen j)
-      (λ t. split (w.stamp members j)
+      (λ t. split (has v.members j)
       (λ in_. inl (low_on j branch in_ stays good mine its))
       (λ out. inr (t, out)))
       (λ f. inl (ended_in j branch stays good mine its f))
 
   after_choice : (j : ℕ) → (s.node j).departed ≡ false → OnBranch s j
-      → Begins (s.node j).list (chain_of (with_choice s c members resilience).views)
-      ⊎ ((a : List Entry) × (v.stamp : Stamp) × (v.members : List ℕ) × (v.resilience : ℕ) × (branch : List Entry)
-      × Begins (a ++ View v ∷ []) (chain_of (with_choice s c members resilience).views)
-      × Begins a branch × Begins (s.node j).list branch × IsGood branch × (mem a j ≡ true) × (w.stamp v.members j ≡ false))
+      → Begins (s.node j).list (chain_of (with_choice s c v).views)
+      ⊎ ((a : List Entry) × (u : GroupView) × (branch : List Entry)
+      × Begins (a ++ View u ∷ []) (chain_of (with_choice s c v).views)
+      × Begins a branch × Begins (s.node j).list branch × IsGood branch × (mem a j ≡ true) × (has u.members j ≡ false))
   after_choice j stays (on_chain its) = ⊎_elim
       (λ (z : Begins (s.node j).list chosen). inl (on_new z))
-      (λ (z : (mem chosen j ≡ true) × (w.stamp members j ≡ false)). inr
-      (chosen, (s.node c).promise, members, resilience, chain_of s.views, viewed, chain, its, k.views.good, z.0, z.1))
+      (λ (z : (mem chosen j ≡ true) × (has v.members j ≡ false)). inr
+      (chosen, (choice_of (s.node c) v).view, chain_of s.views, viewed, chain, its, k.views.good, z.0, z.1))
       (beside j (chain_of s.views) stays k.views.good chain its)
-  after_choice j stays (left_out a v branch part mine its good member out) = ⊎_elim
-      (λ (z : length (a ++ View v ∷ []) ≤ length chosen).
-      inr (a, v.stamp, v.members, v.resilience, branch, on_new (begins_both part chain z), mine, its, good, member, out))
-      (λ (z : length chosen < length (a ++ View v ∷ [])).
-      (let more = length_push a (View v) in
-      let below = begins_trans (begins_both chain (begins_trans (begins_more a (View v ∷ [])) part) (omega arith)) mine in
+  after_choice j stays (left_out a u branch part mine its good member out) = ⊎_elim
+      (λ (z : length (a ++ View u ∷ []) ≤ length chosen).
+      inr (a, u, branch, on_new (begins_both part chain z), mine, its, good, member, out))
+      (λ (z : length chosen < length (a ++ View u ∷ [])).
+      (let more = length_push a (View u) in
+      let below = begins_trans (begins_both chain (begins_trans (begins_more a (View u ∷ [])) part) (omega arith)) mine in
       ⊎_elim
       (λ (y : Begins (s.node j).list chosen). inl (on_new y))
-      (λ (y : (mem chosen j ≡ true) × (w.stamp members j ≡ false)). inr
-      (chosen, (s.node c).promise, members, resilience, branch, viewed, below, its, good, y.0, y.1))
+      (λ (y : (mem chosen j ≡ true) × (has v.members j ≡ false)). inr
+      (chosen, (choice_of (s.node c) v).view, branch, viewed, below, its, good, y.0, y.1))
       (beside j branch stays good below its)))
-      (low_or_above (length (a ++ View v ∷ [])) (length chosen))
+      (low_or_above (length (a ++ View u ∷ [])) (length chosen))
 
 -- ---- each move
 
@@ -195,8 +195,8 @@ branches_of s t k steady moved opened b = record {
 still_on : (s t : Group) → Begins (chain_of s.views) (chain_of t.views) → (j : ℕ) → (s.node j).departed ≡ false → OnBranch s j
     → (t.node j).list ≡ (s.node j).list → OnBranch t j
 still_on s t chain j stays (on_chain its) same = on_chain (subst (λ l. Begins l (chain_of t.views)) (sym same) (begins_trans its chain))
-still_on s t chain j stays (left_out a v names strong branch part mine its good member out) same =
-    left_out a v names strong branch (begins_trans part chain) mine (subst (λ l. Begins l branch) (sym same) its) good member out
+still_on s t chain j stays (left_out a v branch part mine its good member out) same =
+    left_out a v branch (begins_trans part chain) mine (subst (λ l. Begins l branch) (sym same) its) good member out
 
 -- a move of one name
 record OneName (s t : Group) (i : ℕ) (n : groups.Node) : Type 0 where
@@ -278,20 +278,20 @@ shown_open s i c j list up ballot is = ⊎_elim
     inr (up, ballot, sym z.1 ∙ is, omega arith))
     (put2_cases s.shown (key (s.node i).promise) i (Some (s.node i).list) (key (s.node c).promise) j)
 
-choice_branches : (s : Group) (k : Kept s) (lawful : IsLawful s) (c : ℕ) (members : List ℕ) (resilience : ℕ) (d : MayDecide s c members resilience)
-    → ((j : ℕ) → has members j ≡ true → (j ≡ c) ⊎ Voted s (key (s.node c).promise) j (s.node c).list) → Kept (with_choice s c members resilience) → BranchesOk s
-    → BranchesOk (with_choice s c members resilience)
-choice_branches s k lawful c members resilience d voted kept b =
-    let t = with_choice s c members resilience in
-    let n : groups.Node = record (s.node c) { list = opening (choice_of (s.node c) members resilience); ballot = false } in
+choice_branches : (s : Group) (k : Kept s) (lawful : IsLawful s) (c : ℕ) (v : GroupView) (d : MayDecide s c v)
+    → ((j : ℕ) → has v.members j ≡ true → (j ≡ c) ⊎ Voted s (key (s.node c).promise) j (s.node c).list) → Kept (with_choice s c v) → BranchesOk s
+    → BranchesOk (with_choice s c v)
+choice_branches s k lawful c v d voted kept b =
+    let t = with_choice s c v in
+    let n : groups.Node = record (s.node c) { list = opening (choice_of (s.node c) v); ballot = false } in
     branches_of s t kept
     (λ j. steady_put s c n (λ stays. inl (up_as (s.node c) n refl refl refl d.up)) j)
     (λ j stays old same. ⊎_elim
     (λ (z : Begins (s.node j).list (chain_of t.views)). on_chain (subst (λ l. Begins l (chain_of t.views)) (sym same) z))
-    (λ (z : (a : List Entry) × (v.stamp : Stamp) × (v.members : List ℕ) × (v.resilience : ℕ) × (branch : List Entry) × Begins (a ++ View v ∷ []) (chain_of t.views)
-    × Begins a branch × Begins (s.node j).list branch × IsGood branch × (mem a j ≡ true) × (has v.members j ≡ false)).
-    left_out z.0 z.1 z.2 z.3 z.4 z.5 z.6 (subst (λ l. Begins l z.4) (sym same) z.7) z.8 z.9 z.10)
-    (after_choice s k lawful c members resilience d b voted j stays old))
+    (λ (z : (a : List Entry) × (u : GroupView) × (branch : List Entry) × Begins (a ++ View u ∷ []) (chain_of t.views)
+    × Begins a branch × Begins (s.node j).list branch × IsGood branch × (mem a j ≡ true) × (has u.members j ≡ false)).
+    left_out z.0 z.1 z.2 z.3 z.4 (subst (λ l. Begins l z.2) (sym same) z.5) z.6 z.7 z.8)
+    (after_choice s k lawful c v d b voted j stays old))
     (λ x j list. put_at (λ y (m : groups.Node). IsUp m → m.ballot ≡ true → s.shown (key m.promise) j ≡ Some list
     → (length (put s.node c n j).list ≤ length list)
     ⊎ (IsUp (s.node y) × ((s.node y).ballot ≡ true) × (s.shown (key (s.node y).promise) j ≡ Some list) × (length (s.node y).list ≤ length m.list))) s.node c n
@@ -336,7 +336,7 @@ moves_branch s t (group.shows i there small other begun none) voted k law kt b =
     (still_on s t (same_chain s)) (shown_open s i) b
 moves_branch s t (group.fetches i f list e up ballot served shown next) voted k law kt b = one_name s t i (longer (s.node i) e) kt
     (longer_name s t i e refl refl (same_chain s) up) b
-moves_branch s t (group.decides i members resilience may) voted k law kt b = choice_branches s k law i members resilience may voted.1 kt b
+moves_branch s t (group.decides i v may) voted k law kt b = choice_branches s k law i v may voted.1 kt b
 moves_branch s t (group.gives_over i) voted k law kt b = one_name s t i (record (s.node i) { ballot = false }) kt (record {
   node = refl;
   shown = refl;
@@ -388,11 +388,11 @@ moves_branch s t _ voted k law kt b = no_name s t kt refl refl refl b
 -- ---- what a decision finds
 
 pub decisions_are_new : DecisionsAreNew
-decisions_are_new s t (group.decides i members resilience may) voted k law b = (
+decisions_are_new s t (group.decides i v may) voted k law b = (
   split (s.views.decided (key (s.node i).promise))
-      (λ d. absurd (let above = (ballot_ok s k law i members resilience may).above in let most = k.views.order (key (s.node i).promise) d in omega arith))
+      (λ d. absurd (let above = (ballot_ok s k law i v may).above in let most = k.views.order (key (s.node i).promise) d in omega arith))
       (λ f. f),
-  new_view s k law i members resilience may b voted.1,
+  new_view s k law i v may b voted.1,
 )
 decisions_are_new s t _ voted k law b = tt
 

@@ -25,12 +25,9 @@ front_named (x ∷ a) b h k = (let all = subst (All NamesNamed) (sym h.same) k i
 pub moves_named : MovesNamed
 moves_named s t (group.numbers i e leads fit may) ok k h = subst (All NamesNamed) (sym (longer_chain s i (longer (s.node i) e) e k leads refl))
     (pushed_named (chain_of s.views) e h ok)
-moves_named s t (group.decides i members resilience may) ok k h =
-    subst (All NamesNamed) (sym (put_same s.views.line (key (s.node i).promise) (opening (choice_of (s.node i) members resilience))))
-    (pushed_named (s.node i).list (groups_view i members resilience) (front_named (s.node i).list (chain_of s.views) ((k.each i).list may.up) h) ok.0)
-  where
-    groups_view : ℕ → List ℕ → ℕ → Entry
-    groups_view i members resilience = View (s.node i).promise members resilience
+moves_named s t (group.decides i v may) ok k h =
+    subst (All NamesNamed) (sym (put_same s.views.line (key (s.node i).promise) (opening (choice_of (s.node i) v))))
+    (pushed_named (s.node i).list (View (choice_of (s.node i) v).view) (front_named (s.node i).list (chain_of s.views) ((k.each i).list may.up) h) ok.0)
 moves_named s t (group.closes i n leads leaving alone may) ok k h =
     subst (All NamesNamed) (sym (longer_chain s i (record (longer (s.node i) (Leave i)) { departed = true }) (Leave i) k leads refl))
     (pushed_named (chain_of s.views) (Leave i) h tt)

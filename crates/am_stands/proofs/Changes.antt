@@ -176,7 +176,7 @@ kept v (Some b) f = split b.is_over
 promiser_stays : (c : Cause) (x : Node) (v : Stamp) → Promises c x v → has_departed x.status ≡ false
 promiser_stays c x v (invited s _ is heard own) = asking_stays x.status (and_both (not (s == x.core.who)) (is_member x.status || is_asking x.status) heard).1
 promiser_stays c x v (overtaken_by s _ shown is heard above) = member_stays x.status (and_both (not (s == x.core.who)) (is_member x.status) heard).1
-promiser_stays c x v (told_result s _ base number names resilience is heard own other) = member_stays x.status
+promiser_stays c x v (told_result s base number w is heard own other) = member_stays x.status
     (and_both (not (s == x.core.who)) (is_member x.status) heard).1
 
 pub promise_stands : (w : World) (name : ℕ) (c : Cause) (x : Node) (v : Stamp) (s : Group) → MayMove w name c x s → stamp_lt v x.core.promise ≡ false

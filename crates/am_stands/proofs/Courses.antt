@@ -43,7 +43,7 @@ pub record BringsNothing (c : Cause) : Type 0 where
 pub promise_brings : {c : Cause} {m : Node} (v : Stamp) → Promises c m v → BringsNothing c
 promise_brings v (invited s u is heard own) = record { brings = ap brings_report is; welcomes = ap was_welcomed is }
 promise_brings v (overtaken s u shown is heard above) = record { brings = ap brings_report is; welcomes = ap was_welcomed is }
-promise_brings v (told_result s u base number names resilience is heard own other) = record { brings = ap brings_report is; welcomes = ap was_welcomed is }
+promise_brings v (told_result s base number u is heard own other) = record { brings = ap brings_report is; welcomes = ap was_welcomed is }
 
 pub begin_brings : {c : Cause} {m : Node} → BeginsBy m c → BringsNothing c
 begin_brings (by_reset least resilience) = record { brings = refl; welcomes = refl }
@@ -126,7 +126,7 @@ leads_on group x y (begins_list from v base join image is says_ may) p t l low h
 leads_on group x y (promises v below why) p t l low high = absurd (both_ways _ t (promise_brings v why).brings)
 leads_on group x y (opens least resilience by may) p t l low high = absurd (both_ways _ t (begin_brings by).brings)
 leads_on group x y (fetches from v base number e is heard promise below why may) p t l low high = absurd (both_ways _ t (ap brings_report is))
-leads_on group x y (stores_view from v base number names resilience is heard own other promise below may) p t l low high =
+leads_on group x y (stores_view from base number v is heard own other promise below may) p t l low high =
     absurd (both_ways _ t (ap brings_report is))
 leads_on group x y (queues body is says_ member stays_ few) p t l low high = absurd (both_ways _ t (ap brings_report is))
 leads_on group x y (collects req is) p t l low high = absurd (both_ways _ t (ap brings_report is))

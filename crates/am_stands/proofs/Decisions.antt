@@ -1,10 +1,10 @@
 -- A decision, as a move of the group.
 use Rattle.am_stands.proofs.Words.{◌≡◌, ⊎_elim, ℕ, ◌+◌, ◌==◌, max, true, false, List, [], ◌∷◌, ◌++◌, length, take, Some, slice_get, refl, sym, ap, ◌∙◌, subst}
-use Rattle.am_stands.proofs.Words.{arith, list_any, nat_tests, append_assoc, Stamp, Image, Entry, View, stamp_eq, Log, key, Group, Views, put}
+use Rattle.am_stands.proofs.Words.{arith, list_any, nat_tests, append_assoc, GroupView, Stamp, Image, Entry, View, stamp_eq, Log, key, Group, Views, put}
 use Rattle.am_stands.proofs.Words.{opening, with_choice, choice_of, put_same, Node, Ballot, view, members, push_entry, need_of, left_in, restart_reports}
 use Rattle.am_stands.proofs.Words.{with_end, Decided, World, last_view, whole, is_view_of, up_to_view, up_to_next, line_of, split, Cause, HasOpen, Balloting}
 use Rattle.am_stands.proofs.Words.{with_more, without_one, as_it_is, get_front, get_last, get_push, told_pushed, after_view, NameStands, NotedStands}
-use Rattle.am_stands.proofs.Words.{ViewsStand, StandsBut, within, MayMove, NeedsDecision, noting}
+use Rattle.am_stands.proofs.Words.{ViewsStand, StandsBut, within, MayMove, NeedsDecision, noting, decided_view}
 use Rattle.std.proofs.lemmas.List.{append-nil}
 use Rattle.am_chain.specs.Group as groups
 use Rattle.am_chain.specs.Moves as group
@@ -18,13 +18,12 @@ use Rattle.std.proofs.lemmas.List.{same_from_push}
 -- ---- lists
 
 -- a View that wasn't there ends the line that it opens
-line_opens : (v.stamp : Stamp) (es : List Entry) (v.members : List ℕ) (v.resilience : ℕ) → list_any (is_view_of v.stamp) es ≡ false
-    → up_to_next v.stamp (es ++ View v ∷ []) ≡ es ++ View v ∷ []
+line_opens : (v : GroupView) (es : List Entry) → list_any (is_view_of v.stamp) es ≡ false → up_to_next v.stamp (es ++ View v ∷ []) ≡ es ++ View v ∷ []
 unfolding up_to_next up_to_view
-line_opens v [] names resilience h = let t : stamp_eq v v ≡ true = grind (arith, nat_tests) in rw t refl
-line_opens v (x ∷ es) names resilience h = split (is_view_of v x)
+line_opens v [] h = let t : stamp_eq v.stamp v.stamp ≡ true = grind (arith, nat_tests) in rw t refl
+line_opens v (x ∷ es) h = split (is_view_of v.stamp x)
     (λ t. absurd (let z = rw t at h in cc))
-    (λ f. rw f (ap (λ l. x ∷ l) (line_opens v es names resilience (rw f at h))))
+    (λ f. rw f (ap (λ l. x ∷ l) (line_opens v es (rw f at h))))
 
 -- ---- the ballot that is looked at
 
@@ -38,7 +37,7 @@ looked_promise w name c x b s may (as_it_is old o on) = open_promise w name c x 
 
 -- ---- the views
 
-module _ (w : World) (name : ℕ) (x y : Node) (a : groups.Node) (views : Views) (v.stamp : Stamp) (v.members : List ℕ) (v.resilience : ℕ)
+module _ (w : World) (name : ℕ) (x y : Node) (a : groups.Node) (views : Views) (v : GroupView)
     (promised : a.promise ≡ v.stamp) (mine : v.stamp.by ≡ name) (old : NameStands (within w name x) name x a)
     (log : y.core.log ≡ (push_entry x (View v)).core.log) (same_members : members y ≡ v.members)
     (fresh : views.decided (key v.stamp) ≡ false) (unseen : list_any (is_view_of v.stamp) a.list ≡ false) (h : ViewsStand (within w name x) views) where
@@ -51,8 +50,8 @@ module _ (w : World) (name : ℕ) (x y : Node) (a : groups.Node) (views : Views)
   made : Views
   made = record views {
     decided = put views.decided (key a.promise) true;
-    chosen = put views.chosen (key a.promise) (choice_of a v.members v.resilience);
-    line = put views.line (key a.promise) (opening (choice_of a v.members v.resilience));
+    chosen = put views.chosen (key a.promise) (choice_of a v);
+    line = put views.line (key a.promise) (opening (choice_of a v));
     current = a.promise;
   }
 
@@ -83,7 +82,7 @@ module _ (w : World) (name : ℕ) (x y : Node) (a : groups.Node) (views : Views)
       let n = h.noted k d at in
       let list = whole (within w name x) x in
       let other : (key d.stamp == key a.promise) ≡ false = split (key d.stamp == key a.promise)
-      (λ t. absurd (let keys : key d.stamp ≡ key v = (let z : key d.stamp ≡ key a.promise = grind (arith, nat_tests) in z ∙ ap key promised) in
+      (λ t. absurd (let keys : key d.stamp ≡ key v.stamp = (let z : key d.stamp ≡ key a.promise = grind (arith, nat_tests) in z ∙ ap key promised) in
       let z : views.decided (key v.stamp) ≡ true = ap views.decided (sym keys) ∙ n.decided in cc))
       (λ f. f) in
       let stays : line_of (within next name y) d.stamp ≡ line_of (within w name x) d.stamp = split (d.stamp.by == name)
@@ -108,10 +107,10 @@ module _ (w : World) (name : ℕ) (x y : Node) (a : groups.Node) (views : Views)
       let keys : key (view y) ≡ key a.promise = ap key (is_stamp ∙ sym promised) in
       let t : (key (view y) == key a.promise) ≡ true = grind (arith, nat_tests) in
       let own : (view y).by ≡ name = ap (λ (z : Stamp). z.by) is_stamp ∙ mine in
-      let opened_ : opening (choice_of a v.members v.resilience) ≡ a.list ++ View v ∷ [] = λ i. a.list ++ View (promised i) v.members v.resilience ∷ [] in
+      let opened_ : opening (choice_of a v) ≡ a.list ++ View v ∷ [] = λ i. a.list ++ View (record v { stamp = promised i }) ∷ [] in
       let line_ : line_of (within next name y) (view y) ≡ a.list ++ View v ∷ [] =
       line_here next name y (view y) own ∙ ap (up_to_next (view y)) is_whole ∙ ap (λ (z : Stamp). up_to_next z (a.list ++ View v ∷ [])) is_stamp
-      ∙ line_opens v.stamp a.list v.members v.resilience unseen in
+      ∙ line_opens v a.list unseen in
       record {
         decided = rw t refl;
         chose = record {
@@ -121,7 +120,7 @@ module _ (w : World) (name : ℕ) (x y : Node) (a : groups.Node) (views : Views)
           number = rw t (omega (arith, long, is_number));
         };
         line = rw t (opened_ ∙ sym line_);
-        opens = rw t (record { rest = []; same = append-nil (opening (choice_of a v.members v.resilience)) });
+        opens = rw t (record { rest = []; same = append-nil (opening (choice_of a v)) });
       }
 
   views_decided : ViewsStand (within next name y) made
@@ -148,7 +147,7 @@ pub decision_stands : (w : World) (name : ℕ) (c : Cause) (x : Node) (b : Ballo
 unfolding next made
 decision_stands w name c x b s may why needs h =
     let names = left_in b (need_of x b) in
-    let r = max b.resilience (nodes.image_of x).resilience in
+    let v = decided_view x b names in
     let y = record (restart_reports (looks.view_of x b)) { ballot = Some (with_end b (said.Decided (nodes.top x + 1) names)) } in
     let w2 = noting w (last_view (restart_reports (looks.view_of x b))) in
     let a = s.node name in
@@ -158,9 +157,9 @@ decision_stands w name c x b s may why needs h =
     let mine : b.stamp.by ≡ name = ap (λ (z : Stamp). z.by) same ∙ needs.own in
     let fresh : s.views.decided (key b.stamp) ≡ false = ap (λ (z : Stamp). s.views.decided (key z)) same ∙ needs.fresh in
     let unseen : list_any (is_view_of b.stamp) a.list ≡ false = ap (λ (z : Stamp). list_any (is_view_of z) a.list) same ∙ needs.unseen in
-    let chosen = record a { list = opening (choice_of a names r); ballot = false } in
-    let list_ : opening (choice_of a names r) ≡ whole (within w name y) y = (λ i. a.list ++ View (promised i) names r ∷ [])
-    ∙ sym (is_whole w name x y a s.views b.stamp names r promised mine old refl needs.members_ fresh unseen h.views) in
+    let chosen = record a { list = opening (choice_of a v); ballot = false } in
+    let list_ : opening (choice_of a v) ≡ whole (within w name y) y = (λ i. a.list ++ View (record v { stamp = promised i }) ∷ [])
+    ∙ sym (is_whole w name x y a s.views v promised mine old refl needs.members_ fresh unseen h.views) in
     let name_ : NameStands (within w name x) name x a → NameStands (within w name y) name y chosen = λ k. record {
       begins = record { within = k.begins.within; image = k.begins.image };
       list = list_;
@@ -169,10 +168,10 @@ decision_stands w name c x b s may why needs h =
       ballot = refl;
       start = k.start;
     } in
-    onto_move name (within w2 name y) s (with_choice s name names r) (group.decides name names r needs.may) (needs.set, needs.voted)
+    onto_move name (within w2 name y) s (with_choice s name v) (group.decides name v needs.may) (needs.set, needs.voted)
     chosen (put_same s.node name chosen) refl refl (record {
       each = λ i few. name_in (within w name y) (within w2 name y) i _ _ refl refl (each_within w name x y s chosen name_ h.each i few);
       fronts = fronts_within w name x y s chosen h.fronts;
-      views = views_decided w name x y a s.views b.stamp names r promised mine old refl needs.members_ fresh unseen h.views;
+      views = views_decided w name x y a s.views v promised mine old refl needs.members_ fresh unseen h.views;
       group = h.group;
     })

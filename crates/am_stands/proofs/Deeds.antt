@@ -1,4 +1,5 @@
 -- A look at a ballot, which comes last before the end of a step: a view that it decided was noted.
+use Rattle.am_model.specs.Ballots.{decided_view}
 use Rattle.am_stands.proofs.StepWords.{logged, ◌≡◌, ◌⊎◌, inl, inr, ⊎_elim, ℕ, max, true, false, List, [], ◌∷◌, ◌++◌, refl, sym, ap, ◌∙◌, subst, Stamp, Entry}
 use Rattle.am_stands.proofs.StepWords.{Outcome, Rules, stamp_lt, Group, Node, Ballot, view, is_member, image_of, Verdict, trim_for, left_in, need_of, Decided}
 use Rattle.am_stands.proofs.StepWords.{World, last_view, Cause, Balloting, Looks, finds_itself_out, waits, fetches_from_best, finds_too_few, finds_no_room}
@@ -54,7 +55,7 @@ seen_by {x = x} {b = b} {v = v} (decides may) w m member own above = one_new (re
 }) refl
   where
     is : view v.node ≡ b.stamp
-    is = view_last (trim_for x b (left_in b (need_of x b))) b.stamp (left_in b (need_of x b)) (max b.resilience (image_of x).resilience)
+    is = view_last (trim_for x b (left_in b (need_of x b))) (decided_view x b (left_in b (need_of x b)))
 
 world_after : {x : Node} {b : Ballot} {v : Verdict} (look : Looks x b v) (w : World) (group : List Entry)
     → after_look look (growing w group) ≡ further w group (after_look look w).views

@@ -68,7 +68,7 @@ module _ (x : Node) (gone : x.status ≡ status.Departed) where
   no_promise : (c : Cause) (v : Stamp) → Promises c x v → ⊥
   no_promise c v (invited s _ is heard own) = no_asker s heard
   no_promise c v (overtaken s _ shown is heard above) = no_hearer s heard
-  no_promise c v (told_result s _ base number names resilience is heard own other) = no_hearer s heard
+  no_promise c v (told_result s base number w is heard own other) = no_hearer s heard
 
   other_status : (t : Status) → x.status ≡ t → has_departed t ≡ false → ⊥
   other_status t is f = (let z = sym (ap has_departed (sym is ∙ gone)) ∙ f in cc)
@@ -88,7 +88,7 @@ module _ (x : Node) (gone : x.status ≡ status.Departed) where
   rests_change y (promises v low why) p = absurd (no_promise _ v why)
   rests_change y (opens least resilience by may) p = absurd (no_member may.member)
   rests_change y (fetches s v base number e is heard promise below why may) p = absurd (no_hearer s heard)
-  rests_change y (stores_view s v base number names resilience is heard own other promise below may) p = absurd (no_hearer s heard)
+  rests_change y (stores_view s base number v is heard own other promise below may) p = absurd (no_hearer s heard)
   rests_change y (queues body is says member stays few) p = absurd (no_member member)
   rests_change y (collects req is) p = record {
     same = record { log = refl; log_ = refl; departed = refl; leaving = refl; promise = refl; ballot = refl; start = refl };

@@ -54,8 +54,8 @@ pub noted_stands : (w : World) (views : Views) (v : Decided) (list : List Entry)
     → HasViewOf v.stamp list
 noted_stands w views v list h is =
     let ch = views.chosen (key v.stamp) in
-    opened v.stamp ch.before ch.members ch.resilience list
-    (subst (λ (s : Stamp). Begins (ch.before ++ View s ch.members ch.resilience ∷ []) (up_to_next v.stamp list)) h.stamp
+    opened ch.before (record ch.view { stamp = v.stamp }) list
+    (subst (λ (s : Stamp). Begins (ch.before ++ View (record ch.view { stamp = s }) ∷ []) (up_to_next v.stamp list)) h.stamp
     (subst (λ l. Begins (opening ch) l) (h.line ∙ is) h.opens))
 
 pub line_here : (w : World) (name : ℕ) (x : Node) (v : Stamp) → v.by ≡ name → line_of (within w name x) v ≡ up_to_next v (whole (within w name x) x)
@@ -240,7 +240,7 @@ welcome_stands w name c x v base join image s may needs h =
     let n = h.views.noted k d at in
     let none : line_of (within w name x) d.stamp ≡ [] = line_here w name x d.stamp mine ∙ ap (up_to_next d.stamp) bare in
     let ch = s.views.chosen (key d.stamp) in
-    absurd (none_opens ch.before (View ch.stamp ch.members ch.resilience) (subst (Begins (opening ch)) (n.line ∙ none) n.opens)))
+    absurd (none_opens ch.before (View ch.view) (subst (Begins (opening ch)) (n.line ∙ none) n.opens)))
     (λ f. rw f refl) in
     one_move (λ t. StandsBut name (within w name y) t × FrontsBegin name base t) s (with_node s name b) (group.welcomes name v base join needs.may) tt (
       record {

@@ -81,7 +81,7 @@ order_needs w name from above base acc number sender req x v body s k who runs o
 pub result_needs : (w : World) (name from above base number : ℕ) (x : Node) (v : GroupView) (s : Group) → Kept s
     → x.core.who ≡ name → is_stopped w name ≡ false → NameStands (within w name x) name x (s.node name)
     → hears_member x from ≡ true → (v.stamp.by == x.core.who) ≡ false → x.core.promise ≡ v.stamp → MayStore x above base number (View v)
-    → ResultSays s from v.stamp number v.members v.resilience → NeedsEntry s name x (View v)
+    → ResultSays s from number v → NeedsEntry s name x (View v)
 result_needs w name from above base number x v s k who runs old heard other promise may says =
     let member = (and_both (not (from == x.core.who)) (is_member x.status) heard).1 in
     entry_needs w name number x v.stamp (View v) s k who old (is_up w name x (s.node name) runs member old) promise

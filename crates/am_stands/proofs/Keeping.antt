@@ -1,6 +1,6 @@
 -- What a node keeps besides what it shares with the group, and what is known of it within a step.
 use Rattle.am_stands.proofs.Words.{not-true, same_stamp, ◌≡◌, ℕ, ◌<◌, ◌==◌, ◌||◌, not, max, true, false, List, Some, refl, sym, ap, ◌∙◌, subst, arith}
-use Rattle.am_stands.proofs.Words.{nat_tests, Entry, View, Image, Vote, Stamp, Outcome, Rules, IsSet, has, stamp_eq, members_of, IsGood, mem, key}
+use Rattle.am_stands.proofs.Words.{nat_tests, Entry, View, Image, Vote, GroupView, Stamp, Outcome, Rules, IsSet, has, stamp_eq, members_of, IsGood, mem, key}
 use Rattle.am_stands.proofs.Words.{good_begins, view_small, Group, IsUp, chain_of, Kept, Status, Node, Ballot, view, members, is_member, is_asking}
 use Rattle.am_stands.proofs.Words.{is_sequencer, acts, lowest_or_first, has_log, has_departed, Verdict, is_unfinished, hears_member, hears_sequencer, World}
 use Rattle.am_stands.proofs.Words.{is_stopped, split, and_both, Cause, hears, Balloting, Looks, decides, with_more, without_one, as_it_is, Numbers, MayStore}
@@ -41,7 +41,7 @@ module _ (rules : Rules) (w : World) (name : ℕ) (c : Cause) (x : Node) (s : Gr
   promise_begun : (v : Stamp) → Promises c x v → WasBegun s v
   promise_begun v (invited from _ is heard own) = h.begun (packet.Invite from v) is
   promise_begun v (overtaken from _ vote is heard above) = h.begun (packet.Vote from v vote) is
-  promise_begun v (told_result from _ base number names resilience is heard own other) = h.begun (packet.Result from v base number names resilience) is
+  promise_begun v (told_result from base number w is heard own other) = h.begun (packet.Result from base number w) is
 
   pub may_move : MayMove w name c x s
   may_move = record {
@@ -198,12 +198,12 @@ module _ (rules : Rules) (w : World) (name : ℕ) (c : Cause) (x : Node) (s : Gr
         member = o.1;
       }) o.0 (sym (same_stamp v x.core.promise promise)) why may (h.heard (packet.Piece from v base number e) is).says.1
 
-  result_ok : (from : ℕ) (v : Stamp) (base number : ℕ) (names : List ℕ) (resilience : ℕ) → c ≡ hears (packet.Result from v base number names resilience)
-      → hears_member x from ≡ true → (v.by == from) ≡ true → (v.by == x.core.who) ≡ false → x.core.promise ≡ v
-      → MayStore x (max x.core.base base) base number (View v names resilience) → NeedsEntry s name x (View v names resilience)
-  result_ok from v base number names resilience is heard own other promise may =
-      result_needs w name from (max x.core.base base) base number x v names resilience s kept h.who h.runs old heard other promise may
-      ((h.heard (packet.Result from v base number names resilience) is).says.1 (let z : v.by ≡ from = grind (arith, nat_tests) in z))
+  result_ok : (from base number : ℕ) (v : GroupView) → c ≡ hears (packet.Result from base number v)
+      → hears_member x from ≡ true → (v.stamp.by == from) ≡ true → (v.stamp.by == x.core.who) ≡ false → x.core.promise ≡ v.stamp
+      → MayStore x (max x.core.base base) base number (View v) → NeedsEntry s name x (View v)
+  result_ok from base number v is heard own other promise may =
+      result_needs w name from (max x.core.base base) base number x v s kept h.who h.runs old heard other promise may
+      ((h.heard (packet.Result from base number v) is).says.1 (let z : v.stamp.by ≡ from = grind (arith, nat_tests) in z))
 
   abbrev pub IsNoClose : {o : Outcome} {y : Node} → Change c o x y → Type 0
   IsNoClose (closes leads leaves alone room) = ⊥
@@ -215,7 +215,7 @@ module _ (rules : Rules) (w : World) (name : ℕ) (c : Cause) (x : Node) (s : Gr
   needs o y (begins_list from v base join image is says_ may) open_ = welcome_ok from v base join image is may
   needs o y (looks b verdict over why look is) open_ = look_ok b verdict why look
   needs o y (fetches from v base number e is heard promise below why may) open_ = fetch_ok from v base number e is heard promise why may
-  needs o y (stores_view from v base number names resilience is heard own other promise below may) open_ =
-      result_ok from v base number names resilience is heard own other promise may
+  needs o y (stores_view from base number v is heard own other promise below may) open_ =
+      result_ok from base number v is heard own other promise may
   needs o y (closes leads leaves alone room) open_ = absurd open_
   needs o y _ open_ = tt

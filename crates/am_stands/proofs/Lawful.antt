@@ -1,4 +1,5 @@
 -- As long as nobody stops, no move makes a run unlawful.
+use Rattle.am_base.specs.declared.entry.GroupView.{GroupView}
 use Rattle.am_stands.proofs.Words.{split, ◌≡◌, inl, ℕ, ◌==◌, ◌&&◌, ◌||◌, not, nat_lt, List, Bool, true, false, length, refl, sym, ap, ◌∙◌, subst, arith}
 use Rattle.am_stands.proofs.Words.{nat_tests, has, key, Group, Chosen, put, opening, Move, with_choice, choice_of, longer, numbers, stores, learns, begins}
 use Rattle.am_stands.proofs.Words.{raises, fetches, gives_over, welcomes, asks, departs, closes, stops, more, counts_for, IsLawful, Kept, put_at}
@@ -83,13 +84,13 @@ undecided s i x k up ballot d =
     let most = k.views.order x d in
     split (x == key (s.node i).promise) (λ t. absurd (let same : x ≡ key (s.node i).promise = grind (arith, nat_tests) in omega arith)) (λ f. f)
 
-decided_lawful : (s : Group) (i : ℕ) (members : List ℕ) (resilience : ℕ) → Kept s → groups.IsUp (s.node i) → (s.node i).ballot ≡ true → IsLawful s
-    → IsLawful (with_choice s i members resilience)
+decided_lawful : (s : Group) (i : ℕ) (v : GroupView) → Kept s → groups.IsUp (s.node i) → (s.node i).ballot ≡ true → IsLawful s
+    → IsLawful (with_choice s i v)
 unfolding put
-decided_lawful s i members resilience k up ballot h = lawful_where s (with_choice s i members resilience)
+decided_lawful s i v k up ballot h = lawful_where s (with_choice s i v)
     (λ view c. (let f = undecided s i view k up ballot (k.views.marked view c) in (c, rw f refl)))
     (λ x c. c)
-    (λ j. put_more s i (record (s.node i) { list = opening (choice_of (s.node i) members resilience); ballot = false }) (as_before refl refl refl (λ z. z)) j)
+    (λ j. put_more s i (record (s.node i) { list = opening (choice_of (s.node i) v); ballot = false }) (as_before refl refl refl (λ z. z)) j)
     h
 
 lawful_move : (s t : Group) (move : Move s t) → Kept s → IsNoStop move → IsLawful s → IsLawful t
@@ -102,7 +103,7 @@ lawful_move s t (begins i few up stays member) k goes h = lawful_same s t refl r
 lawful_move s t (raises i stamp there above) k goes h = lawful_same s t refl refl (put_more s i _ (as_before refl refl refl (λ z. z))) h
 lawful_move s t (fetches i g list e up ballot served shown next) k goes h = lawful_same s t refl refl
     (put_more s i (longer (s.node i) e) (as_before refl refl refl (λ z. z))) h
-lawful_move s t (decides i members resilience may) k goes h = decided_lawful s i members resilience k may.up may.ballot h
+lawful_move s t (decides i v may) k goes h = decided_lawful s i v k may.up may.ballot h
 lawful_move s t (gives_over i) k goes h = lawful_same s t refl refl (put_more s i _ (as_before refl refl refl (λ z. z))) h
 lawful_move s t (welcomes j stamp base join may) k goes h = lawful_same s t refl refl (put_more s j _ (runs may.there.goes)) h
 lawful_move s t (asks i up none) k goes h = lawful_same s t refl refl (put_more s i _ (as_before refl refl refl (λ z. z))) h

@@ -167,7 +167,7 @@ LeftBy list name = 0 < (row_of (image_of list) name).left → LeavesAt list name
 
 leaves_more : (a b : List Entry) (name left : ℕ) → Begins a b → LeavesAt a name left → LeavesAt b name left
 leaves_more a b name left h (by_leave before size part) = by_leave before size (begins_trans part h)
-leaves_more a b name left h (by_view before v names resilience size member out part) = by_view before v names resilience size member out (begins_trans part h)
+leaves_more a b name left h (by_view before v size member out part) = by_view before v size member out (begins_trans part h)
 
 left_push : (a : List Entry) (e : Entry) (name : ℕ) → LeftBy a name → LeftBy (a ++ e ∷ []) name
 left_push a e name h = λ some.
@@ -183,9 +183,9 @@ left_push a e name h = λ some.
     by_kind row some (leaves its same) =
         let is = row ∙ same in
         by_leave a (omega arith) (subst (λ x. Begins (a ++ x ∷ []) (a ++ e ∷ [])) its (begins_refl (a ++ e ∷ [])))
-    by_kind row some (left_out v names resilience its out in_ same) =
+    by_kind row some (left_out v its out in_ same) =
         let is = row ∙ same in
-        by_view a v names resilience (omega arith) (in_mem a name in_) out (subst (λ x. Begins (a ++ x ∷ []) (a ++ e ∷ [])) its (begins_refl (a ++ e ∷ [])))
+        by_view a v (omega arith) (in_mem a name in_) out (subst (λ x. Begins (a ++ x ∷ []) (a ++ e ∷ [])) its (begins_refl (a ++ e ∷ [])))
     by_kind row some (none same) = absurd (let is = row ∙ same in omega arith)
 
 left_walk : (a es : List Entry) (name : ℕ) → LeftBy a name → LeftBy (a ++ es) name

@@ -4,7 +4,7 @@ use Rattle.am_stands.proofs.Words.{Leave, View, GroupView, Stamp, has, Begins, N
 use Rattle.am_stands.proofs.Words.{length_push, good_begins, leaver_in, leaver_out, mem_between, mem_nil, Group, put, opening, chain_of, Move, MayDecide}
 use Rattle.am_stands.proofs.Words.{with_line, with_choice, choice_of, longer, numbers, stores, learns, begins, raises, fetches, gives_over, welcomes, asks}
 use Rattle.am_stands.proofs.Words.{departs, closes, stops, Kept, IsLawful, founded, more, start, first_stamp, put_same, put_at, list_chain, departed_in}
-use Rattle.am_stands.proofs.Words.{run_keeps, LeftOut, RunsLeaveOut}
+use Rattle.am_stands.proofs.Words.{run_keeps, LeftOut, RunsLeaveOut, first_choice}
 use Rattle.am_chain.specs.Group.{Leads}
 use Rattle.am_chain.specs.Moves.{decides}
 use Rattle.am_chain.specs.Group as groups
@@ -24,7 +24,7 @@ same_left s t stays chain h a v name part member out =
 -- ---- an entry more, that is no View
 
 is_no_view : (e : Entry) (v : GroupView) → NotView e → View v ≡ e → ⊥
-is_no_view (View v) v plain same = plain
+is_no_view (View u) v plain same = plain
 is_no_view _ v plain same = cc
 
 line_left : (s t : Group) (e : Entry) → ((j : ℕ) → (s.node j).stopped ≡ true → (t.node j).stopped ≡ true) → NotView e
@@ -47,43 +47,42 @@ longer_chain s i b e k leads is =
 -- ---- a decision
 
 -- who departed is no member of what is chosen
-pub none_departed : (s : Group) (k : Kept s) (lawful : IsLawful s) (c : ℕ) (members : List ℕ) (resilience : ℕ) (d : MayDecide s c members resilience) (j : ℕ)
+pub none_departed : (s : Group) (k : Kept s) (lawful : IsLawful s) (c : ℕ) (v : GroupView) (d : MayDecide s c v) (j : ℕ)
     → mem (s.node c).list j ≡ true → (s.node j).departed ≡ true → ⊥
-none_departed s k lawful c members resilience d j member gone =
+none_departed s k lawful c v d j member gone =
     let o = k.departed j gone in
-    let inside = departed_in s k lawful c members resilience d j gone in
-    let good = good_begins (begins_trans inside (list_chain s k lawful c members resilience d)) k.views.good in
-    leaver_out o.before j good (mem_between j (good_begins (list_chain s k lawful c members resilience d) k.views.good)
+    let inside = departed_in s k lawful c v d j gone in
+    let good = good_begins (begins_trans inside (list_chain s k lawful c v d)) k.views.good in
+    leaver_out o.before j good (mem_between j (good_begins (list_chain s k lawful c v d) k.views.good)
     (begins_more o.before (Leave j ∷ [])) inside (leaver_in o.before j good) member)
 
-choice_left : (s : Group) (k : Kept s) (lawful : IsLawful s) (c : ℕ) (members : List ℕ) (resilience : ℕ) → MayDecide s c members resilience → LeftOut s
-    → LeftOut (with_choice s c members resilience)
-choice_left s k lawful c members resilience d h a v name part member out =
+choice_left : (s : Group) (k : Kept s) (lawful : IsLawful s) (c : ℕ) (v : GroupView) → MayDecide s c v → LeftOut s → LeftOut (with_choice s c v)
+choice_left s k lawful c v d h a u name part member out =
     let old = (s.node c).list in
-    let e = View (s.node c).promise members resilience in
-    let all = opening (choice_of (s.node c) members resilience) in
-    let is : chain_of (with_choice s c members resilience).views ≡ all = put_same s.views.line (key (s.node c).promise) all in
+    let e = View (choice_of (s.node c) v).view in
+    let all = opening (choice_of (s.node c) v) in
+    let is : chain_of (with_choice s c v).views ≡ all = put_same s.views.line (key (s.node c).promise) all in
     let stays = put_stops s c (record (s.node c) { list = all; ballot = false }) (λ t. t) in
     ⊎_elim
-    (λ (z : Begins (a ++ View v ∷ []) old).
-    stays name (h a v name (begins_trans z (list_chain s k lawful c members resilience d)) member out))
-    (λ (z : a ++ View v ∷ [] ≡ old ++ e ∷ []).
-    (let last = (same_from_push a old (View v) e z).1 in
-    let its : v.members ≡ members = ap (λ x. names_of_view x) last in
-    let one = length_push a (View v) in
+    (λ (z : Begins (a ++ View u ∷ []) old).
+    stays name (h a u name (begins_trans z (list_chain s k lawful c v d)) member out))
+    (λ (z : a ++ View u ∷ [] ≡ old ++ e ∷ []).
+    (let last = (same_from_push a old (View u) e z).1 in
+    let its : u.members ≡ v.members = ap (λ x. names_of_view x) last in
+    let one = length_push a (View u) in
     let two = length_push old e in
     let long = ap length z in
-    let front : a ≡ old = same_front a old (View v) e z in
+    let front : a ≡ old = same_front a old (View u) e z in
     let here = subst (λ l. mem l name ≡ true) front member in
     stays name (split (s.node name).stopped
     (λ t. t)
     (λ goes. split (s.node name).departed
-    (λ gone. absurd (none_departed s k lawful c members resilience d name here gone))
+    (λ gone. absurd (none_departed s k lawful c v d name here gone))
     (λ there. absurd (let in_ = d.all name here (record { goes = goes; stays = there }) in let o = ap (λ set. has set name) its ∙ in_ in cc))))))
-    (begins_pushed e (subst (Begins (a ++ View v ∷ [])) is part))
+    (begins_pushed e (subst (Begins (a ++ View u ∷ [])) is part))
   where
     names_of_view : Entry → List ℕ
-    names_of_view (View stamp set v.resilience) = set
+    names_of_view (View seen) = seen.members
     names_of_view _ = []
 
     same_front : (a b : List Entry) (x y : Entry) → a ++ x ∷ [] ≡ b ++ y ∷ [] → a ≡ b
@@ -105,7 +104,7 @@ moves_left s t (learns i told acc up rises within before up_to given low) k law 
 moves_left s t (begins i few up stays member) k law h = same_left s t (put_stops s i _ (λ z. z)) refl h
 moves_left s t (raises i stamp there above) k law h = same_left s t (put_stops s i _ (λ z. z)) refl h
 moves_left s t (fetches i f list e up ballot served shown next) k law h = same_left s t (put_stops s i _ (λ z. z)) refl h
-moves_left s t (decides i members resilience may) k law h = choice_left s k law i members resilience may h
+moves_left s t (decides i v may) k law h = choice_left s k law i v may h
 moves_left s t (gives_over i) k law h = same_left s t (put_stops s i _ (λ z. z)) refl h
 moves_left s t (welcomes j stamp base join may) k law h = same_left s t (put_stops s j _ (λ z. z)) refl h
 moves_left s t (asks i up none) k law h = same_left s t (put_stops s i _ (λ z. z)) refl h
@@ -120,11 +119,11 @@ moves_left s t _ k law h = same_left s t (λ j z. z) refl h
 start_left : (founders : List ℕ) (first resilience : ℕ) → LeftOut (start founders first resilience)
 start_left founders first resilience a v name part member out = ⊎_elim
     (λ (low : Begins (a ++ View v ∷ []) []). absurd (let long = begins_length low in let one = length_push a (View v) in omega arith))
-    (λ (all : a ++ View v ∷ [] ≡ [] ++ View (first_stamp first) founders resilience ∷ []).
+    (λ (all : a ++ View v ∷ [] ≡ [] ++ View (first_choice founders first resilience).view ∷ []).
     absurd (let long = ap length all in
     let one = length_push a (View v) in
     mem_nil name (subst (λ l. mem l name ≡ true) (nothing a (omega arith)) member)))
-    (begins_pushed (View (first_stamp first) founders resilience) part)
+    (begins_pushed (View (first_choice founders first resilience).view) part)
   where
     nothing : (l : List Entry) → length l ≡ 0 → l ≡ []
     nothing [] none = refl

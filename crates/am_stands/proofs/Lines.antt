@@ -1,6 +1,6 @@
 -- The line of a view, where its coordinator's list gets one entry more.
 use Rattle.am_stands.proofs.Words.{stamp_itself, same_stamp, ◌≡◌, ◌≢◌, ℕ, ◌+◌, Bool, true, false, if◌then◌else◌, List, [], ◌∷◌, ◌++◌, refl, ap, ◌∙◌, subst}
-use Rattle.am_stands.proofs.Words.{list_any, Stamp, Entry, View, Image, blank, after, fold, Begins, view_of, is_view, is_view_of, up_to_view, up_to_next}
+use Rattle.am_stands.proofs.Words.{list_any, GroupView, Stamp, Entry, View, Image, blank, after, fold, Begins, view_of, is_view, is_view_of, up_to_view, up_to_next}
 use Rattle.am_stands.proofs.Words.{split, after_same, after_view}
 
 -- ---- a View stands in a list, and another behind it
@@ -129,9 +129,9 @@ any_last p [] e h = rw h refl
 any_last p (x ∷ a) e h = split (p x) (λ t. rw t refl) (λ f. rw f (any_last p a e h))
 
 -- a view's line opens with its View
-pub opened : (v.stamp : Stamp) (before : List Entry) (v.members : List ℕ) (v.resilience : ℕ) (list : List Entry)
+pub opened : (before : List Entry) (v : GroupView) (list : List Entry)
     → Begins (before ++ View v ∷ []) (up_to_next v.stamp list) → HasViewOf v.stamp list
-opened v.stamp before v.members v.resilience list h =
+opened before v list h =
     let e = View v in
     let there = any_front (is_view_of v.stamp) (before ++ e ∷ []) h.rest (any_last (is_view_of v.stamp) before e (stamp_itself v.stamp)) in
     line_any (is_view_of v.stamp) v.stamp list (subst (λ l. list_any (is_view_of v.stamp) l ≡ true) h.same there)

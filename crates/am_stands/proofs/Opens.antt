@@ -1,9 +1,9 @@
 -- What begins the line of a decided view begins the line of its own last View's, in every lawful run of the group.
 use Rattle.am_stands.proofs.Words.{◌≡◌, ◌≢◌, ⊎_elim, ℕ, ◌==◌, List, [], ◌∷◌, ◌++◌, true, refl, sym, ap, ◌∙◌, subst, arith, nat_tests, Entry, Leave, View}
-use Rattle.am_stands.proofs.Words.{Stamp, Begins, NotView, view_of, key, view_viewed, view_push, begins_refl, begins_more, begins_trans, begins_pushed}
+use Rattle.am_stands.proofs.Words.{GroupView, Stamp, Begins, NotView, view_of, key, view_viewed, view_push, begins_refl, begins_more, begins_trans, begins_pushed}
 use Rattle.am_stands.proofs.Words.{begins_length, Group, put, opening, IsUp, Move, MayNumber, MayDecide, with_line, with_choice, choice_of, longer, numbers}
 use Rattle.am_stands.proofs.Words.{closes, Kept, founded, more, start, first_stamp, put_same, put_other, put_cases, put_at, run_keeps, LineOpens, LinesOpen}
-use Rattle.am_stands.proofs.Words.{RunsOpen}
+use Rattle.am_stands.proofs.Words.{RunsOpen, first_choice}
 use Rattle.am_chain.specs.Group.{Leads}
 use Rattle.am_chain.specs.Moves.{decides}
 use Rattle.am_chain.specs.Group as groups
@@ -44,15 +44,15 @@ list_opens s i k h up some = h (key s.views.current) (s.node i).list k.views.now
 
 -- ---- a decision
 
-choice_opens : (s : Group) (i : ℕ) (members : List ℕ) (resilience : ℕ) → Kept s → MayDecide s i members resilience → LinesOpen s
-    → LinesOpen (with_choice s i members resilience)
-choice_opens s i members resilience k may h x list d some part =
+choice_opens : (s : Group) (i : ℕ) (v : GroupView) → Kept s → MayDecide s i v → LinesOpen s
+    → LinesOpen (with_choice s i v)
+choice_opens s i v k may h x list d some part =
     let a = s.node i in
     let at = key a.promise in
-    let all = opening (choice_of a members resilience) in
+    let all = opening (choice_of a v) in
     let fresh : (y : ℕ) → s.views.decided y ≡ true → y ≢ at = λ y is same.
     (let above = ((k.each i).ballot may.up may.ballot).above in let most = k.views.order y is in omega arith) in
-    let before : (y : ℕ) → s.views.decided y ≡ true → Begins list (s.views.line y) → LineOpens (with_choice s i members resilience) list = λ y is low.
+    let before : (y : ℕ) → s.views.decided y ≡ true → Begins list (s.views.line y) → LineOpens (with_choice s i v) list = λ y is low.
     (let o = h y list is some low in
     let other = fresh (key (view_of list)) o.decided in
     record {
@@ -64,13 +64,13 @@ choice_opens s i members resilience k may h x list d some part =
     ⊎_elim
     (λ (low : Begins list a.list). before (key s.views.current) k.views.now (begins_trans low ((k.each i).list may.up)))
     (λ (whole : list ≡ all).
-    (let same : view_of list ≡ a.promise = ap view_of whole ∙ view_viewed a.list a.promise members resilience in
+    (let same : view_of list ≡ a.promise = ap view_of whole ∙ view_viewed a.list (choice_of a v).view in
     record {
       decided = ap (λ (u : Stamp). put s.views.decided at true (key u)) same ∙ put_same s.views.decided at true;
       line_ = subst (λ (u : Stamp). Begins list (put s.views.line at all (key u))) (sym same)
           (subst (Begins list) (sym (put_same s.views.line at all)) (subst (Begins list) whole (begins_refl list)));
     }))
-    (begins_pushed (View a.promise members resilience) (subst (Begins list) z.1 part)))
+    (begins_pushed (View (choice_of a v).view) (subst (Begins list) z.1 part)))
     (λ (z : (x ≢ at) × (put s.views.line at all x ≡ s.views.line x)). before x (sym (put_other s.views.decided at true x z.0) ∙ d)
     (subst (Begins list) z.1 part))
     (put_cases s.views.line at all x)
@@ -88,7 +88,7 @@ numbers_plain node i _ may = tt
 
 pub moves_open : (s t : Group) → Move s t → Kept s → LinesOpen s → LinesOpen t
 moves_open s t (numbers i e leads fit may) k h = line_opens s i e (longer (s.node i) e) k leads (numbers_plain s.node i e may) refl h
-moves_open s t (decides i members resilience may) k h = choice_opens s i members resilience k may h
+moves_open s t (decides i v may) k h = choice_opens s i v k may h
 moves_open s t (closes i n leads leaving alone may) k h =
     let b = record (longer (s.node i) (Leave i)) { departed = true } in
     same_lines (with_line s i b) t refl refl (line_opens s i (Leave i) b k leads tt refl h)
@@ -99,13 +99,13 @@ moves_open s t _ k h = same_lines s t refl refl h
 start_opens : (founders : List ℕ) (first resilience : ℕ) → LinesOpen (start founders first resilience)
 start_opens founders first resilience x list d some part = ⊎_elim
     (λ (low : Begins list []). absurd (some (nothing list low)))
-    (λ (all : list ≡ [] ++ View (first_stamp first) founders resilience ∷ []).
-    (let same : view_of list ≡ first_stamp first = ap view_of all ∙ view_viewed [] (first_stamp first) founders resilience in
+    (λ (all : list ≡ [] ++ View (first_choice founders first resilience).view ∷ []).
+    (let same : view_of list ≡ first_stamp first = ap view_of all ∙ view_viewed [] (first_choice founders first resilience).view in
     record {
       decided = ap (λ (u : Stamp). key u == key (first_stamp first)) same ∙ itself (key (first_stamp first));
       line_ = subst (Begins list) all (begins_refl list);
     }))
-    (begins_pushed (View (first_stamp first) founders resilience) part)
+    (begins_pushed (View (first_choice founders first resilience).view) part)
   where
     itself : (n : ℕ) → (n == n) ≡ true
     itself n = grind (arith, nat_tests)

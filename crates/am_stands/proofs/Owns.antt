@@ -86,7 +86,7 @@ change_owns nodes i c o x y names begun (promises v low why) h = promise_owns no
     raised : {v : Stamp} → Promises c x v → IsBegun nodes v
     raised (invited s w is heard own) = subst (CauseBegun nodes) is begun
     raised (overtaken_by s w shown is heard above) = subst (CauseBegun nodes) is begun
-    raised (told_result s w base number names_ resilience is heard own other) = subst (CauseBegun nodes) is begun
+    raised (told_result s base number w is heard own other) = subst (CauseBegun nodes) is begun
 change_owns nodes i c o x y names begun (opens least resilience by may) h = λ b number all at answer mine. absurd (let z = ap answer_in at ∙ answer in cc)
 change_owns nodes i c o x y names begun (looks b verdict over why look is) h = look_owns x b verdict look (looked_at x b why h.balloted).open_.promised
 change_owns nodes i c o x y names begun (closes leads leaves alone room) h = let r = rests_closed x in same_owning x y r.who r.promise r.ballot h.owns

@@ -1,7 +1,7 @@
 -- What is reported to a node stays true through each of its changes.
 use Rattle.am_stands.proofs.Words.{◌≡◌, ◌≢◌, ◌⊎◌, inl, inr, ⊎_elim, ℕ, ◌+◌, ◌<◌, ◌≤◌, ◌==◌, ◌&&◌, max, not, nat_lt, Bool, true, false, List, [], ◌∷◌, ◌++◌}
 use Rattle.am_stands.proofs.Words.{length, take, slice_index, refl, sym, ap, ◌∙◌, subst, arith, nat_tests, Entry, Data, Join, Leave, View, Report, Row, Image}
-use Rattle.am_stands.proofs.Words.{Stamp, place_of, life_of, is_blank, at_place, row_of, member_life, with_row, row_after_view, fits, after, after_report}
+use Rattle.am_stands.proofs.Words.{GroupView, Stamp, place_of, life_of, is_blank, at_place, row_of, member_life, with_row, row_after_view, fits, after, after_report}
 use Rattle.am_stands.proofs.Words.{with_admitted, reports_from, Begins, IsGood, image_of, mem, view_of, key, begins_refl, begins_more, begins_trans}
 use Rattle.am_stands.proofs.Words.{begins_both, begins_length, begins_take, begins_pushed, length_push, length_take, take_begins, row_at, In, mod16, row_set}
 use Rattle.am_stands.proofs.Words.{row_view, blank_joined, good_begins, told_push, long_told, mem_in, in_mem, mem_between, mem_viewed, Group, opening}
@@ -196,12 +196,12 @@ pub leaver_true : (s : Group) (from : ℕ) (v : Stamp) (list : List Entry) (repo
 leaver_true s from v list report d is good stamp viewed opens low (of_view leaves h) concerned = report_true s from v list report is low h
 leaver_true s from v list report d is good stamp viewed opens low (before_it leaves h) concerned =
     let c = s.views.chosen (key v) in
-    let all : Begins (c.before ++ View v c.members c.resilience ∷ []) list = subst (λ (u : Stamp). Begins
-    (c.before ++ View u c.members c.resilience ∷ []) list) stamp opens in
-    let last = last_view_at c.before v c.members c.resilience list good all viewed in
-    let more = length_push c.before (View v c.members c.resilience) in
-    let inside : Begins (c.before ++ View v c.members c.resilience ∷ []) concerned.upto = begins_both all concerned.begins (omega arith) in
-    let front = begins_trans (h.later d) (begins_more c.before (View v c.members c.resilience ∷ [])) in
+    let its : GroupView = record c.view { stamp = v } in
+    let all : Begins (c.before ++ View its ∷ []) list = subst (λ (u : Stamp). Begins (c.before ++ View (record c.view { stamp = u }) ∷ []) list) stamp opens in
+    let last = last_view_at c.before its list good all viewed in
+    let more = length_push c.before (View its) in
+    let inside : Begins (c.before ++ View its ∷ []) concerned.upto = begins_both all concerned.begins (omega arith) in
+    let front = begins_trans (h.later d) (begins_more c.before (View its ∷ [])) in
     let there = mem_between from (good_begins concerned.begins good) front inside h.joined concerned.member in
-    let in_ = mem_viewed c.before v c.members c.resilience from there in
+    let in_ = mem_viewed c.before its from there in
     part_true list (s.node from).list report.stored h.within (subst (Begins (take report.stored (s.node from).list)) is (h.begins d in_)) low

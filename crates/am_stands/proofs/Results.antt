@@ -55,7 +55,7 @@ pub result_said : (v : World) (i number : ℕ) (n : Node) (names : List ℕ) (s 
     → (s.views.chosen (key n.core.promise)).stamp ≡ n.core.promise
     → Begins (opening (s.views.chosen (key n.core.promise))) (s.views.line (key n.core.promise))
     → n.core.log.start < (nodes.image_of n).view_number → number ≡ (nodes.image_of n).view_number → viewed_by (entry_at n.core.log number) ≡ names
-    → ResultSays s i n.core.promise number names (nodes.image_of n).resilience
+    → ResultSays s i number (record { stamp = n.core.promise; members = names; resilience = (nodes.image_of n).resilience })
 result_said v i number n names s h t stamp opens low is viewed =
     let a = s.node i in
     let l = leading v i n s h t in
@@ -63,20 +63,20 @@ result_said v i number n names s h t stamp opens low is viewed =
     let told_is = told_all v i n a h.stands in
     let chain = ((h.kept.each i).leads l.leads).chain in
     let good : IsGood a.list = subst IsGood (sym chain) h.kept.views.good in
-    let here : Begins (c.before ++ View n.core.promise c.members c.resilience ∷ []) a.list = subst (λ (u : Stamp). Begins
-    (c.before ++ View u c.members c.resilience ∷ []) a.list) stamp (subst (Begins (opening c)) l.line_ opens) in
-    let last = last_view_at c.before n.core.promise c.members c.resilience a.list good here l.viewed in
-    let at : slice_get a.list (length c.before) ≡ Some (View n.core.promise c.members c.resilience) = next_of c.before
-    (View n.core.promise c.members c.resilience) here in
+    let its : GroupView = record c.view { stamp = n.core.promise } in
+    let here : Begins (c.before ++ View its ∷ []) a.list = subst (λ (u : Stamp). Begins (c.before ++ View (record c.view { stamp = u }) ∷ []) a.list)
+    stamp (subst (Begins (opening c)) l.line_ opens) in
+    let last = last_view_at c.before its a.list good here l.viewed in
+    let at : slice_get a.list (length c.before) ≡ Some (View its) = next_of c.before (View its) here in
     let where_ : number ≡ length c.before + 1 = is ∙ ap (λ (g : Image). g.view_number) (sym told_is) ∙ last.0 in
     let strong : c.resilience ≡ (nodes.image_of n).resilience = sym last.1 ∙ ap (λ (g : Image). g.resilience) told_is in
     let index : number - 1 ≡ length c.before = omega arith in
-    let entry : entry_at n.core.log number ≡ Some (View n.core.promise c.members c.resilience) = entry_whole v i number n a h.stands (omega arith)
+    let entry : entry_at n.core.log number ≡ Some (View its) = entry_whole v i number n a h.stands (omega arith)
     ∙ ap (slice_get a.list) index ∙ at in
     let named : c.members ≡ names = ap viewed_by (sym entry) ∙ viewed in
     record {
       by = ap (λ (u : Stamp). u.by) (sym l.viewed) ∙ l.leads.by;
       decided = l.decided;
       stands = ap (λ g. item_at g number) l.line_ ∙ (let z : number ≡ suc (length c.before) = omega arith in ap (item_at a.list) z) ∙ at
-          ∙ (λ j. Some (View n.core.promise (named j) (strong j)));
+          ∙ (λ j. Some (View (record { stamp = n.core.promise; members = named j; resilience = strong j })));
     }

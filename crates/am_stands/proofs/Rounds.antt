@@ -51,7 +51,7 @@ moves_rounds s t (raises i stamp there above) h =
     put_rounds s t i (record (s.node i) { promise = stamp; ballot = false }) refl refl
     (λ log. (let old = h.promised i log in let up = above.greater in omega arith)) h
 moves_rounds s t (fetches i f list e up ballot served shown next) h = put_rounds s t i _ refl refl (h.promised i) h
-moves_rounds s t (decides i members resilience may) h = choice_rounds s t i _ refl refl refl may.up.log h
+moves_rounds s t (decides i v may) h = choice_rounds s t i _ refl refl refl may.up.log h
 moves_rounds s t (gives_over i) h = put_rounds s t i _ refl refl (h.promised i) h
 moves_rounds s t (welcomes j stamp base join may) h = put_rounds s t j _ refl refl (λ log. h.decided (key stamp) may.decided) h
 moves_rounds s t (asks i up none) h = put_rounds s t i _ refl refl (h.promised i) h

@@ -43,7 +43,7 @@ module _ (rules : Rules) (w v : World) (name : ℕ) (c : Cause) (m n : Node) (t 
       let same : was.view.stamp ≡ n.core.promise = key_stamp was.view.stamp n.core.promise noted.by h.along.names.promise_ was.is in
       let by : was.view.stamp.by ≡ name = ap (λ (s : Stamp). s.by) (same ∙ sym l.viewed) ∙ l.leads.by in
       let node : v.nodes was.view.stamp.by ≡ n = ap v.nodes by ∙ is in
-      view_above n.core.log was.view.number was.view.stamp noted.names was.view.resilience
+      view_above n.core.log was.view.number (record was.view.view { members = noted.names })
       (ap (λ (x : Node). entry_at x.core.log was.view.number) (sym node) ∙ noted.there)
 
   leader : is_sequencer n ≡ true → LeaderStands t name n

@@ -112,7 +112,7 @@ module _ (v : World) (i : ℕ) (c : Cause) (m n : Node) (s : Group) (h : Sender 
 
   -- a View of its own
   told_result : (number : ℕ) (names : List ℕ) → number ≡ (nodes.image_of n).view_number → viewed_by (entry_at n.core.log number) ≡ names → MayTell n
-      → n.core.promise.by ≡ i → ResultSays s i n.core.promise number names (nodes.image_of n).resilience
+      → n.core.promise.by ≡ i → ResultSays s i number (record { stamp = n.core.promise; members = names; resilience = (nodes.image_of n).resilience })
   told_result number names is viewed may mine =
       let member = logged_member (tells_log may) in
       let t = tells_leads n member may h.ballots.own (mine ∙ sym h.who) in
@@ -271,7 +271,7 @@ sent_says v i c m n s to p h (piece from u stored number e is may at) =
     }
 sent_says v i c m n s to p h (result _ number names is viewed may) = so v i c m n s h to _ (
   h.trimmed,
-  λ mine. subst (λ j. ResultSays s j n.core.promise number names (nodes.image_of n).resilience) (sym h.who)
+  λ mine. subst (λ j. ResultSays s j number (record { stamp = n.core.promise; members = names; resilience = (nodes.image_of n).resilience })) (sym h.who)
       (told_result v i c m n s h number names is viewed may (mine ∙ h.who)),
 )
 sent_says v i c m n s to p h _ = so v i c m n s h to p tt

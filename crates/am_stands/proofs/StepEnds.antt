@@ -43,9 +43,7 @@ seen_end w m x n views log who (one_new d is) =
       above = ap (stamp_lt (view m)) viewed ∙ d.above;
     }) (is ∙ ap (λ (l : Log). w.views ++ record {
       number = (told_by l).view_number;
-      stamp = (told_by l).view;
-      members = members_of (told_by l);
-      resilience = (told_by l).resilience;
+      view = record { stamp = (told_by l).view; members = members_of (told_by l); resilience = (told_by l).resilience };
     } ∷ []) (sym log))
 
 pub ended_on : (rules : Rules) (w : World) (name : ℕ) (c : Cause) (o : Outcome) (m x : Node) (s : Group) → CauseSent w.records name o c

@@ -7,7 +7,7 @@ use Rattle.am_stands.proofs.Words.{view_of, resilience_of, key, key_lt, view_up,
 use Rattle.am_stands.proofs.Words.{Ballot, view, members, name_where, those, View, append_assoc, length-map, mod16, is_view_of, trim_for, own_vote, best_of}
 use Rattle.am_stands.proofs.Words.{need_of, has_voted, is_waited_for, left_in, World, best_vote_is, split, has_size, has_those, set_those, equal_stamps}
 use Rattle.am_stands.proofs.Words.{own_need, those_at, viewed_members, those_some, those_long, NameStands, within, told_pushed, VoteTells, AllShown, AllVoted}
-use Rattle.am_stands.proofs.Words.{NeedsDecision}
+use Rattle.am_stands.proofs.Words.{NeedsDecision, decided_view}
 use Rattle.am_model.specs.Node as nodes
 use Rattle.am_laws.specs.Looks as looks
 use Rattle.am_stands.proofs.{Lines.HasViewOf, Lines.viewed_as, Changes.told_whole, Changes.long_all}
@@ -146,7 +146,7 @@ other_voted w name x b s j h may needed stays other =
 -- ---- the group's own test
 
 pub may_decide : (w : World) (name : ℕ) (x : Node) (b : Ballot) (s : Group) → BallotKnown w name x b s → looks.MayDecide x b
-    → MayDecide s name (left_in b (need_of x b)) (max b.resilience (nodes.image_of x).resilience)
+    → MayDecide s name (decided_view x b (left_in b (need_of x b)))
 unfolding mem view_of resilience_of
 may_decide w name x b s h may =
     let a = s.node name in
@@ -212,13 +212,12 @@ view_members x b long need =
     let test : ℕ → Bool = λ name. not (b.given_up name) in
     let names = left_in b (need_of x b) in
     let before = trim_for x b names in
-    let r = max b.resilience (nodes.image_of x).resilience in
     let some : (place : ℕ) → place < 16 → (slice_index names place ≡ 0) ⊎ (slice_index names place ≡ slice_index (members x) place) =
     λ place low. ⊎_elim (λ (z : slice_index names place ≡ 0). inl z)
     (λ (z : slice_index names place ≡ slice_index (need_of x b) place). inr (z ∙ ap (λ set. slice_index set place) need))
     (those_some test (need_of x b) place low) in
-    ap members_of (told_pushed before (View b.stamp names r))
-    ∙ viewed_members (nodes.image_of x) (nodes.top x + 1) b.stamp names r long (omega arith) (those_long test (need_of x b)) some
+    ap members_of (told_pushed before (View (decided_view x b names)))
+    ∙ viewed_members (nodes.image_of x) (nodes.top x + 1) (decided_view x b names) long (omega arith) (those_long test (need_of x b)) some
 
 -- each other name of the View has voted for no better list, whether it stopped or not
 all_voted : (w : World) (name : ℕ) (x : Node) (b : Ballot) (s : Group) → BallotKnown w name x b s → looks.MayDecide x b

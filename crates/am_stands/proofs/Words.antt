@@ -96,3 +96,5 @@ pub use Rattle.am_stands.specs.Letters.{ResultSays, WasAsked, VoteTells, AllShow
 pub use Rattle.am_stands.specs.Letters.{has_left, is_leaving, may_begin, VoteSays, own, tells, over as over_vote, FetchSays, for_ballot, of_promise}
 pub use Rattle.am_stands.specs.Letters.{PieceSays, of_line, of_shown, over, ShownEntry, PacketSays}
 pub use Rattle.am_stands.specs.Ends.{NeedsClose, after_closing, CloseStands, Accepts, no_more, rises, Learns, departed, bare, before_end, EndsStand, MayLearn}
+pub use Rattle.am_model.specs.Ballots.{decided_view}
+pub use Rattle.am_model.specs.Node.{founding_view}

@@ -17,7 +17,7 @@ use Rattle.am_chain.specs.Moves.{with_node, MayNumber, MayWelcome, MayDecide}
 use Rattle.am_model.specs.Node.{Node, Ballot, image_of, view, members}
 use Rattle.am_model.specs.Calls.{is_unfinished}
 use Rattle.am_model.specs.Receiving.{is_view}
-use Rattle.am_model.specs.Ballots.{Verdict, need_of, left_in}
+use Rattle.am_model.specs.Ballots.{Verdict, need_of, left_in, decided_view}
 use Rattle.am_play.specs.Lawful.{is_view_of}
 use Rattle.am_play.specs.World.{Decided, World, is_stopped, last_view}
 use Rattle.am_laws.specs.Causes.{Cause, hears}
@@ -95,7 +95,7 @@ pub record NeedsWelcome (s : Group) (name : ℕ) (v : Stamp) (base join : ℕ) (
 -- a coordinator may decide: by the group's own test, with a stamp of which nothing was decided and no View stands in its list; and the
 -- members that its View names are the members then
 pub record NeedsDecision (s : Group) (name : ℕ) (x : Node) (b : Ballot) : Type 0 where
-  pub may : MayDecide s name (left_in b (need_of x b)) (max b.resilience (image_of x).resilience)
+  pub may : MayDecide s name (decided_view x b (left_in b (need_of x b)))
   pub own : x.core.promise.by ≡ name
   pub fresh : s.views.decided (key x.core.promise) ≡ false
   pub unseen : list_any (is_view_of x.core.promise) (s.node name).list ≡ false
