@@ -6,6 +6,7 @@ use Rattle.std.specs.Str.Parse.{digits_value}
 use Rattle.std.proofs.lemmas.Bool.{leb-true}
 use Rattle.am_base.specs.Most.{most_number}
 use Rattle.am_base.specs.Limits.{IsEntry}
+use Rattle.am_base.specs.declared.entry.GroupView.{GroupView}
 use Rattle.am_base.specs.declared.name.Stamp.{Stamp}
 use Rattle.am_fields.specs.declared.fault.FieldFault.{FieldFault}
 use Rattle.am_fields.specs.declared.fault.FieldFault.TheVariants.{Form, Limit}
@@ -79,8 +80,9 @@ view_within text outline h =
     let first = bound (two_of text) _ outline h in
     let stamp = bound (stamp_of first.0.0) _ outline first.2 in
     let members = bound (names_of (cut_of 32 first.0.1).0) _ outline stamp.2 in
-    let resilience = bound (resilience_in (cut_of 32 first.0.1).1) (λ r. Ok (outlines.View stamp.0 members.0 r)) outline members.2 in
-    let is : outlines.View stamp.0 members.0 resilience.0 ≡ outline = same_ok _ outline (Ok (outlines.View stamp.0 members.0 resilience.0)) refl resilience.2 in
+    let viewed : ℕ → GroupView = λ r. record { stamp = stamp.0; members = members.0; resilience = r } in
+    let resilience = bound (resilience_in (cut_of 32 first.0.1).1) (λ r. Ok (outlines.View (viewed r))) outline members.2 in
+    let is : outlines.View (viewed resilience.0) ≡ outline = same_ok _ outline (Ok (outlines.View (viewed resilience.0))) refl resilience.2 in
     subst (λ (o : Outline). IsEntry (bare_entry o)) is
     (stamp_within first.0.0 stamp.0 stamp.1, resilience_in_within (cut_of 32 first.0.1).1 resilience.0 resilience.1)
 

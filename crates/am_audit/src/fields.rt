@@ -5,8 +5,8 @@ ghost use Rattle.am_audit.specs.Fields.{Gives, two_of, expect, is_body, data_par
 ghost use Rattle.am_audit.specs.Fields.{told_number, send_of, answer_of, take_of, return_of};
 
 use crate::outline::Outline;
-use am_base::limits::MOST_BODY;
 use am_base::entry::GroupView;
+use am_base::limits::MOST_BODY;
 use am_base::name::Name;
 use am_fields::body::is_body;
 use am_fields::cut::cut;

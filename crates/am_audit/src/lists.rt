@@ -126,9 +126,7 @@ fn may_begin(line: &TextLine) -> bool
     };
     match &outline {
         Outline::Join(name) => name.get() == line.name,
-        Outline::View(view) => {
-            line.number == 1 && view.members.has(Name::of_byte(line.name))
-        }
+        Outline::View(view) => { line.number == 1 && view.members.has(Name::of_byte(line.name)) }
         _ => false,
     }
 }

@@ -5,10 +5,7 @@ use am_base::name::Name;
 #[derive(Clone, Copy)]
 pub enum Outline {
     /// A send of a member: its request number.
-    Data {
-        from: Name,
-        req: u32,
-    },
+    Data { from: Name, req: u32 },
     /// A name becomes a member.
     Join(Name),
     /// A member goes.

@@ -1,7 +1,8 @@
 -- The numbers of a packet that is heard are within their limits, by its kind.
-use Rattle.am_base.specs.declared.entry.GroupView.{GroupView}
-use Rattle.std.proofs.Common.{ℕ, ◌≤◌, List}
+use Rattle.std.proofs.Common.{ℕ, List}
 use Rattle.am_base.specs.declared.entry.Entry.{Entry}
+use Rattle.am_base.specs.declared.entry.Entry.TheVariants.{View}
+use Rattle.am_base.specs.declared.entry.GroupView.{GroupView}
 use Rattle.am_base.specs.declared.image.Image.{Image}
 use Rattle.am_base.specs.declared.image.Report.{Report}
 use Rattle.am_base.specs.declared.image.Vote.{Vote}
@@ -43,7 +44,6 @@ pub piece_entry : (s : ℕ) (v : Stamp) (base number : ℕ) (e : Entry) → IsWi
 unfolding IsWithin
 piece_entry s v base number e is = is.1.2
 
-pub result_numbers : (s : ℕ) (base number : ℕ) (v : GroupView) → IsWithin (packets.Result s base number v)
-    → IsNumber v.stamp.round × (v.resilience ≤ 15)
+pub result_view : (s base number : ℕ) (v : GroupView) → IsWithin (packets.Result s base number v) → IsEntry (View v)
 unfolding IsWithin
-result_numbers s base number v is = (is.0, is.1.2)
+result_view s base number v is = (is.0, is.1.2)

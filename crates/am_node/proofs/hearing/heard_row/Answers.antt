@@ -1,6 +1,6 @@
 use Rattle.std.proofs.Common.{subst}
 use Rattle.am_packet.specs.Limits.{IsWithin}
-use Rattle.am_node.proofs.Within.{request_req, spread_req, bcast_number, order_number, welcome_numbers, invite_round, vote_round, piece_entry, result_numbers}
+use Rattle.am_node.proofs.Within.{request_req, spread_req, bcast_number, order_number, welcome_numbers, invite_round, vote_round, piece_entry, result_view}
 use Rattle.am_node.proofs.hearing.heard_row.Goals as goal
 
 pub on_request-requires-clause-req : goal.on_request-requires-clause-req
@@ -50,9 +50,5 @@ on_piece-requires-clause-entry c = piece_entry c.in-Piece.sender c.in-Piece.stam
     (subst IsWithin c.in-Piece.is c.requires.within)
 
 pub on_result-requires-clause-within : goal.on_result-requires-clause-within
-on_result-requires-clause-within c = rw c.arrival-last.ensures (result_numbers c.in-Result.sender c.in-Result.stamp c.in-Result.base c.in-Result.number
-    c.in-Result.members c.in-Result.resilience (subst IsWithin c.in-Result.is c.requires.within)).0
-
-pub on_result-requires-clause-resilience : goal.on_result-requires-clause-resilience
-on_result-requires-clause-resilience c = (result_numbers c.in-Result.sender c.in-Result.stamp c.in-Result.base c.in-Result.number c.in-Result.members
-    c.in-Result.resilience (subst IsWithin c.in-Result.is c.requires.within)).1
+on_result-requires-clause-within c = result_view c.in-Result.sender c.in-Result.base c.in-Result.number c.in-Result.view
+    (subst IsWithin c.in-Result.is c.requires.within)

@@ -16,4 +16,4 @@ returns-in-Leave c = let k = watching_of c.args.self.now in sym (ap (λ e. accep
 
 pub returns-in-View : goal.returns-in-View
 returns-in-View c = let k = watching_of c.args.self.now in sym (ap (λ e. accept k c.args.number (e ∷ [])) c.in-View.is
-    ∙ accepts_view k c.args.number c.in-View.stamp c.in-View.members c.in-View.resilience ∙ ap (λ ps. record k { pending = ps }) (sym c.place_in_all.ensures))
+    ∙ accepts_view k c.args.number c.in-View.view ∙ ap (λ ps. record k { pending = ps }) (sym c.place_in_all.ensures))
