@@ -2,7 +2,8 @@
 pub use Rattle.std.{proofs.lemmas.Bool.not-false, proofs.lemmas.Bool.not-true, proofs.lemmas.Bool.Decides.nat_tests}
 pub use Rattle.std.proofs.Common.{◌≡◌, ◌≢◌, ℕ, ◌+◌, ◌-◌, ◌<◌, ◌≤◌, max, Bool, true, false, not, ◌||◌, ◌&&◌, ◌==◌, if◌then◌else◌, List, Option, Some, None}
 pub use Rattle.std.proofs.Common.{refl, sym, ap, subst, ◌∙◌, arith, length, nat_lt}
-pub use Rattle.am_base.specs.{Most.most_number, declared.name.Stamp.Stamp, declared.entry.Entry.Entry, declared.entry.GroupView.GroupView, declared.image.Image.Image}
+pub use Rattle.am_base.specs.{Most.most_number, declared.name.Stamp.Stamp, declared.entry.Entry.Entry, declared.entry.GroupView.GroupView}
+pub use Rattle.am_base.specs.{declared.image.Image.Image}
 pub use Rattle.am_base.specs.{declared.outcome.Outcome.Outcome, Limits.IsEntry, Names.nobody, Stamps.stamp_lt, Stamps.stamp_eq}
 pub use Rattle.am_base.specs.declared.entry.Entry.TheVariants.{Data, Join, Leave, View}
 pub use Rattle.am_state.specs.Cores.{IsInOrder}

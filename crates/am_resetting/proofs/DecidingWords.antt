@@ -5,7 +5,8 @@ pub use Rattle.std.proofs.Common.{◌≡◌, ℕ, ◌<◌, ◌≤◌, List, Bool
 pub use Rattle.std.proofs.Common.{◌&&◌, Some, refl, subst, length-append, ◌||◌, Option, None, option_map, slice_index, ◌-◌, max, if◌then◌else◌, unwrap_or}
 pub use Rattle.std.proofs.Common.{length, nat_le}
 pub use Rattle.am_base.specs.{declared.image.Vote.Vote, Votes.Shown, Votes.best_vote, Votes.better_of, Votes.all_names, Votes.vote_lt}
-pub use Rattle.am_base.specs.{declared.image.Image.Image, declared.name.Stamp.Stamp, declared.entry.Entry.Entry, declared.entry.GroupView.GroupView, Stamps.stamp_lt, Stamps.stamp_eq}
+pub use Rattle.am_base.specs.{declared.image.Image.Image, declared.name.Stamp.Stamp, declared.entry.Entry.Entry, declared.entry.GroupView.GroupView}
+pub use Rattle.am_base.specs.{Stamps.stamp_lt, Stamps.stamp_eq}
 pub use Rattle.am_base.specs.{declared.outcome.Outcome.TheVariants.Overtaken, declared.outcome.Outcome.Outcome, declared.image.Row.Row}
 pub use Rattle.am_base.specs.{declared.image.Report.Report, Founding.Rules}
 pub use Rattle.am_base.specs.Names.{has, size, rank_of, name_at, is_within, by_place, names_of, place_of, life_of}

@@ -1,6 +1,7 @@
 -- What the rows of pieces and results come to.
 use Rattle.am_resetting.proofs.CatchingWords.{◌≡◌, ◌≢◌, ℕ, ◌+◌, ◌-◌, ◌<◌, ◌≤◌, max, Bool, true, false, not, ◌||◌, ◌&&◌, ◌==◌, if◌then◌else◌, List, Option, Some, None}
-use Rattle.am_resetting.proofs.CatchingWords.{refl, sym, ap, subst, ◌∙◌, arith, nat_tests, most_number, Stamp, Entry, GroupView, Data, Join, Leave, View, Image, Outcome, IsEntry}
+use Rattle.am_resetting.proofs.CatchingWords.{refl, sym, ap, subst, ◌∙◌, arith, nat_tests, most_number, Stamp, Entry, GroupView, Data, Join, Leave, View}
+use Rattle.am_resetting.proofs.CatchingWords.{Image, Outcome, IsEntry}
 use Rattle.am_resetting.proofs.CatchingWords.{nobody, stamp_lt, stamp_eq, IsInOrder, told-push, split, has_log, Node, Ballot, top, image_of, view, acts, is_member}
 use Rattle.am_resetting.proofs.CatchingWords.{push_entry, trim_up_to, Plan, quiet, Verdict, with_promise, decide, is_view_past, push_fetched, catch_up, decide_anew}
 use Rattle.am_resetting.proofs.CatchingWords.{fetches_from, piece_promised, piece_for, piece_row, hears_result, result_row, IsEndOf, NodeKeeps, IsOwnBallot, IsSteady}

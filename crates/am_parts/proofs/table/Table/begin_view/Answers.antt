@@ -18,5 +18,6 @@ invariant_of-self c = record {
 }
 
 pub returns-clause-within : goal.returns-clause-within
-returns-clause-within c = viewed_within c.args.view.now.stamp c.args.number c.args.view.now.resilience c.loop-place.rows c.requires.view.0 c.requires.number c.requires.view.1
+returns-clause-within c = viewed_within c.args.view.now.stamp c.args.number c.args.view.now.resilience c.loop-place.rows
+    c.requires.view.0 c.requires.number c.requires.view.1
     c.loop-place.invariant.long c.loop-place.invariant.within
