@@ -18,7 +18,7 @@ both_each f g h (x ∷ xs) = ap (λ y. y ∷ map f xs) (h x) ∙ ap (λ ys. g x 
 none_placed : (k : Watching) (number : ℕ) (e : Entry) → ((s : Stamp) → number_of s number (e ∷ []) ≡ None) → accept k number (e ∷ []) ≡ k
 none_placed k number e h =
     let none : (v : Pending) → place_among number (e ∷ []) v ≡ v =
-    λ v. ap (λ o. record v { number_in_group = o }) (ap (or_else v.number_in_group) (h v.view.stamp) ∙ or_none v.number_in_group) in
+    λ v. ap (λ o. record v { number_in_group = o }) (ap (or_else v.number_in_group) (h v.decided.view.stamp) ∙ or_none v.number_in_group) in
     ap (λ ps. record k { pending = ps }) (same_each (place_among number (e ∷ [])) none k.pending)
 
 pub accepts_data : (k : Watching) (number from req : ℕ) (body : List ℕ) → accept k number (Data from req body ∷ []) ≡ k

@@ -92,17 +92,17 @@ views_stay k name before after v what was same =
     ∙ ap (λ x. is_member before.status && (own && not x)) same ∙ none_decided (is_member before.status) own in
     let still : with_decided k name after v ≡ k = ap (λ b. record k {
       pending = k.pending
-          ++ (if b && stamp_lt k.complete.stamp v.stamp then new_pending v ∷ [] else []);
+          ++ (if b && stamp_lt k.complete.view.stamp v.view.stamp then new_pending v ∷ [] else []);
     }) no ∙ ap (λ ps. record k { pending = ps }) (append-nil k.pending) in
     let stays = ap (λ x. begins before after.status || x) same ∙ or-true (begins before after.status) in
     views_none k name (begins before after.status || stamp_eq before.view after.view) _ stays
     ∙ ap (λ q. with_entries q name (stored_of name before after v what)) (sym still)
 
 abbrev told : Watching → ℕ → Shown → NodeEvent → ℕ → List Entry → Standing → Standing → Watching
-told k name n what number more before after = accept (finish (with_views k name before after n.view what) name after) number more
+told k name n what number more before after = accept (finish (with_views k name before after n.decided what) name after) number more
 
 pub noted_is : (k views_ finished_ new : Watching) (name : ℕ) (n : Shown) (what : NodeEvent) (number : ℕ) (more : List Entry) (before after : Standing)
-    → before ≡ standing k name → after ≡ standing_after before n → views_ ≡ with_views k name before after n.view what
+    → before ≡ standing k name → after ≡ standing_after before n → views_ ≡ with_views k name before after n.decided what
     → finished_ ≡ finish views_ name after → new ≡ accept finished_ number more → new ≡ told_step k name n what number more
 unfolding told_step
 noted_is k views_ finished_ new name n what number more before after was stands s f a =

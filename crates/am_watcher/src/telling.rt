@@ -7,7 +7,7 @@ ghost use Rattle.am_watcher.specs.Watchers.{watching_of, HasRoom};
 
 use crate::views::{decides, is_member, is_same_stamp};
 use crate::watcher::Watcher;
-use am_base::entry::{Entry, GroupView};
+use am_base::entry::Entry;
 use am_base::event::NodeEvent;
 use am_base::name::Name;
 use am_base::outcome::Outcome;
@@ -39,7 +39,7 @@ fn standing_after(before: &Standing, shown: &Shown) -> Standing
 {
     Standing {
         status: shown.status,
-        view: shown.view.stamp,
+        view: shown.decided.view.stamp,
         start: shown.start,
         from: if begins(before, shown.status) {
             shown.base
@@ -50,14 +50,10 @@ fn standing_after(before: &Standing, shown: &Shown) -> Standing
 }
 
 /// The View that made a view.
-fn last_view(view: &DecidedView) -> Entry
-    ensures { result ≡ last_view view.now }
+fn last_view(decided: &DecidedView) -> Entry
+    ensures { result ≡ last_view decided.now }
 {
-    Entry::View(GroupView {
-        stamp: view.stamp,
-        members: view.members,
-        resilience: view.resilience,
-    })
+    Entry::View(decided.view)
 }
 
 /// The entry of a Piece, where an event brings one.
@@ -204,7 +200,7 @@ impl Watcher {
     {
         let before = self.standing(name);
         let after = standing_after(&before, shown);
-        note_views(self, name, &before, &after, &shown.view, what);
+        note_views(self, name, &before, &after, &shown.decided, what);
         self.finish(name, &after);
         accept_above(self, group, known);
     }

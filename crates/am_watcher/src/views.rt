@@ -3,6 +3,7 @@ ghost use Rattle.am_base.specs.Stamps.{stamp_eq};
 ghost use Rattle.am_model.specs.Node.{is_member, founding_stamp, has_departed};
 ghost use Rattle.am_watching.specs.Watching.{blank_standing, first_standing, first_view, same_flag, is_alike, decides, new_pending, store_view, or_else, place_view};
 
+use am_base::entry::GroupView;
 use am_base::founding::Founding;
 use am_base::name::{Name, Stamp};
 use am_model::status::Status;
@@ -90,9 +91,11 @@ pub fn first_view(founding: &Founding) -> DecidedView
 {
     DecidedView {
         number: 1,
-        stamp: founding_stamp(founding),
-        members: founding.founders(),
-        resilience: founding.resilience(),
+        view: GroupView {
+            stamp: founding_stamp(founding),
+            members: founding.founders(),
+            resilience: founding.resilience(),
+        },
     }
 }
 
@@ -114,11 +117,11 @@ pub fn decides(before: &Standing, name: Name, after: &Standing) -> bool
 }
 
 /// A view that nobody has stored.
-pub fn new_pending(view: &DecidedView) -> Pending
-    ensures { result ≡ new_pending view.now }
+pub fn new_pending(decided: &DecidedView) -> Pending
+    ensures { result ≡ new_pending decided.now }
 {
     Pending {
-        view: *view,
+        decided: *decided,
         stored: [false; 256],
         number_in_group: None,
     }
@@ -127,7 +130,7 @@ pub fn new_pending(view: &DecidedView) -> Pending
 fn store(v: &mut Pending, name: Name, stamp: &Stamp)
     ensures { v.new ≡ store_view name stamp.now v.old }
 {
-    if is_same_stamp(stamp, &v.view.stamp) {
+    if is_same_stamp(stamp, &v.decided.view.stamp) {
         v.stored[usize::from(name.get())] = true;
     }
 }
@@ -153,7 +156,7 @@ fn number_after(known: Option<u32>, is_it: bool, number: u32) -> Option<u32>
 fn place(v: &mut Pending, number: u32, stamp: &Stamp)
     ensures { v.new ≡ place_view number stamp.now v.old }
 {
-    let is_it = is_same_stamp(stamp, &v.view.stamp);
+    let is_it = is_same_stamp(stamp, &v.decided.view.stamp);
     v.number_in_group = number_after(v.number_in_group, is_it, number);
 }
 

@@ -53,7 +53,7 @@ fn first_standings(founding: &Founding) -> [Standing; 256]
 fn keep_above(pending: &mut Vec<Pending>, stamp: Stamp)
     ensures { pending.new.items ≡ filter (is_above stamp) pending.old.items }
 {
-    pending.retain(|v| stamp.is_below(v.view.stamp));
+    pending.retain(|v| stamp.is_below(v.decided.view.stamp));
 }
 
 fn store_in_all(pending: &mut Vec<Pending>, name: Name, stamp: &Stamp)
@@ -173,9 +173,9 @@ impl Watcher {
     #[tactic(auto, using(am_state::proofs::ReportLaws::count_laws))]
     fn holders(&self, v: &Pending) -> u32
         ensures { result ≡ count_by (has_stored (watching_of self.now) v.now)
-            (names_of v.now.view.members) }
+            (names_of v.now.decided.view.members) }
     {
-        let lives = v.view.members.each_life();
+        let lives = v.decided.view.members.each_life();
         let mut held = 0;
         for place in 0..16u8 {
             held += u32::from(self.life_has_stored(v, place, lives[usize::from(place)]));
@@ -186,12 +186,12 @@ impl Watcher {
     /// Whether a running member's list hasn't reached a view.
     #[tactic(auto, using(am_watching::proofs::Members::any_laws))]
     fn is_lagged(&self, v: &Pending) -> bool
-        ensures { result ≡ list_any (lags (watching_of self.now) v.now.view.stamp)
-            (names_of v.now.view.members) }
+        ensures { result ≡ list_any (lags (watching_of self.now) v.now.decided.view.stamp)
+            (names_of v.now.decided.view.members) }
     {
-        let lives = v.view.members.each_life();
+        let lives = v.decided.view.members.each_life();
         for place in 0..16u8 {
-            if self.life_lags(&v.view.stamp, place, lives[usize::from(place)]) {
+            if self.life_lags(&v.decided.view.stamp, place, lives[usize::from(place)]) {
                 return true;
             }
         }
@@ -205,15 +205,15 @@ impl Watcher {
         if self.is_lagged(v) {
             return false;
         }
-        let need = (u32::from(v.view.resilience) + 1).min(v.view.members.len());
+        let need = (u32::from(v.decided.view.resilience) + 1).min(v.decided.view.members.len());
         need <= self.holders(v)
     }
 
     fn greater(&self, best: &DecidedView, v: &Pending) -> DecidedView
         ensures { result ≡ greater (watching_of self.now) best.now v.now }
     {
-        if best.stamp.is_below(v.view.stamp) && self.is_complete(v) {
-            return v.view;
+        if best.view.stamp.is_below(v.decided.view.stamp) && self.is_complete(v) {
+            return v.decided;
         }
         *best
     }
@@ -235,7 +235,7 @@ impl Watcher {
         ensures { result ≡ is_lost (watching_of self.now) v.now name }
     {
         let standing = self.standing(name);
-        (v.members.has(name) || v.number < standing.start) && !has_departed(standing.status)
+        (v.view.members.has(name) || v.number < standing.start) && !has_departed(standing.status)
     }
 
     #[tactic(auto, unfolding(am_watching::specs::Watching::is_lawful))]
@@ -248,7 +248,7 @@ impl Watcher {
             .iter()
             .filter(|name| self.is_lost(v, **name))
             .count();
-        lost <= usize::from(v.resilience)
+        lost <= usize::from(v.view.resilience)
     }
 
     fn broken_after(&self, best: &DecidedView) -> Option<u32>
@@ -276,7 +276,8 @@ impl Watcher {
     {
         let best = self.greatest();
         self.broken = self.broken_after(&best);
-        keep_above(&mut self.pending, best.stamp);
+        let view = best.view;
+        keep_above(&mut self.pending, view.stamp);
         self.is_due = false;
         self.complete = best;
         self.count += 1;
@@ -302,13 +303,15 @@ impl Watcher {
 
     /// A name did a step: what its node shows after that, and the view in which its list ends. This comes first; then the
     /// entries that the name stored in the step; and then the step is finished. It takes no memory.
-    pub fn decide(&mut self, name: Name, after: &Standing, view: &DecidedView)
+    pub fn decide(&mut self, name: Name, after: &Standing, decided: &DecidedView)
         requires { HasRoom self.old }
         ensures { watching_of self.new ≡ with_decided
-            (watching_of self.old) name after.now view.now }
+            (watching_of self.old) name after.now decided.now }
     {
-        if decides(&self.standing(name), name, after) && self.complete.stamp.is_below(view.stamp) {
-            self.pending.push_reserved(new_pending(view));
+        if decides(&self.standing(name), name, after)
+            && self.complete.view.stamp.is_below(decided.view.stamp)
+        {
+            self.pending.push_reserved(new_pending(decided));
         }
     }
 

@@ -8,7 +8,7 @@ use Rattle.am_watching.specs.Watching as kept
 use Rattle.am_watching.proofs.Order.{lt_self}
 
 founder_shown : (rules : Rules) (name : ℕ) → standing_of (founder rules name)
-    ≡ record { status = (founder rules name).status; view = (first_view rules).stamp; start = 1; from = 0 }
+    ≡ record { status = (founder rules name).status; view = (first_view rules).view.stamp; start = 1; from = 0 }
 unfolding fold after
 founder_shown rules name = refl
 

@@ -13,18 +13,18 @@ begin_is k w group name sees = ap (take (w.nodes name).core.log.start) sees.goes
     ∙ take-append-le (w.nodes name).core.log.start group sees.more (sees.within name)
 
 stored_one : (k : Watching) (w : World) (group : List Entry) (v : Pending) (name : ℕ) → Sees k w group → IsNoted w group v
-    → kept.has_stored k v name ≡ law.has_stored w v.view.stamp name
+    → kept.has_stored k v name ≡ law.has_stored w v.decided.view.stamp name
 stored_one k w group v name sees noted =
-    let p = is_view_of v.view.stamp in
+    let p = is_view_of v.decided.view.stamp in
     let n = w.nodes name in
     let from : is_by v.number_in_group (standing k name).from ≡ list_any p (take n.core.log.start w.group) =
-    ap (λ o. is_by o (standing k name).from) noted.placed ∙ ap (λ (m : Standing). is_by (number_of v.view.stamp 1 group) m.from) (sees.names name)
-    ∙ number_by v.view.stamp n.core.log.start group ∙ ap (list_any p) (sym (begin_is k w group name sees)) in
+    ap (λ o. is_by o (standing k name).from) noted.placed ∙ ap (λ (m : Standing). is_by (number_of v.decided.view.stamp 1 group) m.from) (sees.names name)
+    ∙ number_by v.decided.view.stamp n.core.log.start group ∙ ap (list_any p) (sym (begin_is k w group name sees)) in
     ap (λ b. b || slice_index_or v.stored name false) from ∙ ap (λ b. list_any p (take n.core.log.start w.group) || b) (noted.stored name)
     ∙ sym (list_any-append p (take n.core.log.start w.group) n.core.log.entries)
 
 pub stored_is : (k : Watching) (w : World) (group : List Entry) (v : Pending) → Sees k w group → IsNoted w group v
-    → kept.has_stored k v ≡ law.has_stored w v.view.stamp
+    → kept.has_stored k v ≡ law.has_stored w v.decided.view.stamp
 stored_is k w group v sees noted = λ i name. stored_one k w group v name sees noted i
 
 pub lags_is : (k : Watching) (w : World) (group : List Entry) (v : Stamp) → Sees k w group → kept.lags k v ≡ law.lags w v
@@ -33,22 +33,23 @@ lags_is k w group v sees = λ i name. (ap (λ gone. not (list_any (λ other. oth
     ∙ ap (λ (m : Standing). not (list_any (λ other. other == name) w.stopped) && (not (has_departed m.status) && stamp_lt m.view v)) (sees.names name)) i
 
 pub complete_is : (k : Watching) (w : World) (group : List Entry) (v : Pending) → Sees k w group → IsNoted w group v
-    → kept.is_complete k v ≡ law.is_complete w (decided_of v.view)
+    → kept.is_complete k v ≡ law.is_complete w (decided_of v.decided)
 unfolding kept.is_complete law.is_complete
 complete_is k w group v sees noted =
-    let names = names_of v.view.members in
-    let need = min (v.view.resilience + 1) (size v.view.members) in
-    ap (λ (f : ℕ → Bool). nat_le need (count_by f names) && not (list_any (kept.lags k v.view.stamp) names)) (stored_is k w group v sees noted)
-    ∙ ap (λ (f : ℕ → Bool). nat_le need (count_by (law.has_stored w v.view.stamp) names) && not (list_any f names)) (lags_is k w group v.view.stamp sees)
+    let names = names_of v.decided.view.members in
+    let need = min (v.decided.view.resilience + 1) (size v.decided.view.members) in
+    ap (λ (f : ℕ → Bool). nat_le need (count_by f names) && not (list_any (kept.lags k v.decided.view.stamp) names)) (stored_is k w group v sees noted)
+    ∙ ap (λ (f : ℕ → Bool). nat_le need (count_by (law.has_stored w v.decided.view.stamp) names) && not (list_any f names))
+    (lags_is k w group v.decided.view.stamp sees)
 
 pub each_kept : (k : Watching) (w : World) (group : List Entry) (vs : List Pending) → Sees k w group → Each (IsNoted w group) vs → Each (IsKept k w) vs
 each_kept k w group vs sees noted = each_of (IsNoted w group) (IsKept k w) (λ v h. record { is = complete_is k w group v sees h }) vs noted
 
 lost_is : (k : Watching) (w : World) (group : List Entry) (v : DecidedView) → Sees k w group → kept.is_lost k v ≡ law.is_lost w (decided_of v)
-lost_is k w group v sees = λ i name. ap (λ (m : Standing). (has v.members name || nat_lt v.number m.start) && not (has_departed m.status)) (sees.names name) i
+lost_is k w group v sees = λ i name. ap (λ (m : Standing). (has v.view.members name || nat_lt v.number m.start) && not (has_departed m.status)) (sees.names name) i
 
 pub lawful_is : (k : Watching) (w : World) (group : List Entry) (v : DecidedView) → Sees k w group → kept.is_lawful k v ≡ law.is_lawful w (decided_of v)
 unfolding kept.is_lawful law.is_lawful
 lawful_is k w group v sees =
-    ap (λ (f : ℕ → Bool). nat_le (count_by f k.stopped) v.resilience) (lost_is k w group v sees)
-    ∙ ap (λ gone. nat_le (count_by (law.is_lost w (decided_of v)) gone) v.resilience) sees.stopped
+    ap (λ (f : ℕ → Bool). nat_le (count_by f k.stopped) v.view.resilience) (lost_is k w group v sees)
+    ∙ ap (λ gone. nat_le (count_by (law.is_lost w (decided_of v)) gone) v.view.resilience) sees.stopped

@@ -43,37 +43,37 @@ and_first : (a b : Bool) → (a && b) ≡ true → a ≡ true
 and_first true b h = refl
 and_first false b h = h
 
-pub up_greater : (k : Watching) (best : DecidedView) (v : Pending) → IsUpTo best.stamp (greater k best v).stamp
-up_greater k best v = split (stamp_lt best.stamp v.view.stamp && kept.is_complete k v)
-    (λ t. rw t (up_lt best.stamp v.view.stamp (and_first _ _ t)))
-    (λ t. rw t (up_self best.stamp))
+pub up_greater : (k : Watching) (best : DecidedView) (v : Pending) → IsUpTo best.view.stamp (greater k best v).view.stamp
+up_greater k best v = split (stamp_lt best.view.stamp v.decided.view.stamp && kept.is_complete k v)
+    (λ t. rw t (up_lt best.view.stamp v.decided.view.stamp (and_first _ _ t)))
+    (λ t. rw t (up_self best.view.stamp))
 
-pub up_greatest : (k : Watching) (best : DecidedView) (vs : List Pending) → IsUpTo best.stamp (greatest k best vs).stamp
+pub up_greatest : (k : Watching) (best : DecidedView) (vs : List Pending) → IsUpTo best.view.stamp (greatest k best vs).view.stamp
 unfolding greatest
-up_greatest k best [] = up_self best.stamp
+up_greatest k best [] = up_self best.view.stamp
 up_greatest k best (v ∷ vs) = up_trans _ _ _ (up_greater k best v) (up_greatest k (greater k best v) vs)
 
 -- ---- what is left isn't complete
 
 pub record IsLeft (k : Watching) (best : Stamp) (v : Pending) : Type 0 where
-  pub waits : stamp_lt best v.view.stamp ≡ true → kept.is_complete k v ≡ false
+  pub waits : stamp_lt best v.decided.view.stamp ≡ true → kept.is_complete k v ≡ false
 
-left_one : (k : Watching) (best : DecidedView) (v : Pending) (end : Stamp) → IsUpTo (greater k best v).stamp end → IsLeft k end v
+left_one : (k : Watching) (best : DecidedView) (v : Pending) (end : Stamp) → IsUpTo (greater k best v).view.stamp end → IsLeft k end v
 left_one k best v end h = record {
   waits = λ above. split (kept.is_complete k v)
-      (λ c. split (stamp_lt best.stamp v.view.stamp)
-      (λ t. let e : greater k best v ≡ v.view = rw t (rw c refl) in let g : IsUpTo v.view.stamp end = rw e at h in
-      not_both (stamp_lt end v.view.stamp) above (g.keeps v.view.stamp (lt_self v.view.stamp)))
-      (λ t. let e : greater k best v ≡ best = rw t refl in let g : IsUpTo best.stamp end = rw e at h in
-      not_both (stamp_lt end v.view.stamp) above (g.keeps v.view.stamp t)))
+      (λ c. split (stamp_lt best.view.stamp v.decided.view.stamp)
+      (λ t. let e : greater k best v ≡ v.decided = rw t (rw c refl) in let g : IsUpTo v.decided.view.stamp end = rw e at h in
+      not_both (stamp_lt end v.decided.view.stamp) above (g.keeps v.decided.view.stamp (lt_self v.decided.view.stamp)))
+      (λ t. let e : greater k best v ≡ best = rw t refl in let g : IsUpTo best.view.stamp end = rw e at h in
+      not_both (stamp_lt end v.decided.view.stamp) above (g.keeps v.decided.view.stamp t)))
       (λ c. c);
 }
 
-pub each_left : (k : Watching) (best : DecidedView) (vs : List Pending) → Each (IsLeft k (greatest k best vs).stamp) vs
+pub each_left : (k : Watching) (best : DecidedView) (vs : List Pending) → Each (IsLeft k (greatest k best vs).view.stamp) vs
 unfolding greatest Each
 each_left k best [] = tt
 each_left k best (v ∷ vs) = (
-  left_one k best v (greatest k (greater k best v) vs).stamp (up_greatest k (greater k best v) vs),
+  left_one k best v (greatest k (greater k best v) vs).view.stamp (up_greatest k (greater k best v) vs),
   each_left k (greater k best v) vs,
 )
 
@@ -85,17 +85,17 @@ choice_of false x y = refl
 
 -- it is complete in the world exactly where what is kept says so
 pub record IsKept (k : Watching) (w : World) (v : Pending) : Type 0 where
-  pub is : kept.is_complete k v ≡ law.is_complete w (decided_of v.view)
+  pub is : kept.is_complete k v ≡ law.is_complete w (decided_of v.decided)
 
 pub greatest_is : (k : Watching) (w : World) (best : DecidedView) (vs : List Pending) → Each (IsKept k w) vs
-    → decided_of (greatest k best vs) ≡ law.greatest_complete w (decided_of best) (map (λ v. decided_of v.view) vs)
+    → decided_of (greatest k best vs) ≡ law.greatest_complete w (decided_of best) (map (λ v. decided_of v.decided) vs)
 unfolding greatest law.greatest_complete Each
 greatest_is k w best [] h = refl
 greatest_is k w best (v ∷ vs) (h, hs) =
-    let step : decided_of (greater k best v) ≡ law.greater_complete w (decided_of best) (decided_of v.view) =
-    choice_of (stamp_lt best.stamp v.view.stamp && kept.is_complete k v) v.view best
-    ∙ ap (λ c. if stamp_lt best.stamp v.view.stamp && c then decided_of v.view else decided_of best) h.is in
-    greatest_is k w (greater k best v) vs hs ∙ ap (λ b. law.greatest_complete w b (map (λ v. decided_of v.view) vs)) step
+    let step : decided_of (greater k best v) ≡ law.greater_complete w (decided_of best) (decided_of v.decided) =
+    choice_of (stamp_lt best.view.stamp v.decided.view.stamp && kept.is_complete k v) v.decided best
+    ∙ ap (λ c. if stamp_lt best.view.stamp v.decided.view.stamp && c then decided_of v.decided else decided_of best) h.is in
+    greatest_is k w (greater k best v) vs hs ∙ ap (λ b. law.greatest_complete w b (map (λ v. decided_of v.decided) vs)) step
 
 up_complete : (w : World) (best v : Decided) → IsUpTo best.stamp (law.greater_complete w best v).stamp
 up_complete w best v = split (stamp_lt best.stamp v.stamp && law.is_complete w v)

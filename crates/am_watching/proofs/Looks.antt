@@ -12,7 +12,7 @@ use Rattle.am_watching.proofs.Complete.{each_kept, lawful_is}
 pub record IsReady (group : List Entry) (k : Watching) (s : Watch) (w : World) : Type 0 where
   pub sees : Sees k w group
   pub noted : Each (IsNoted w group) k.pending
-  pub pending : map (λ v. decided_of v.view) k.pending ≡ filter (comes_after s.complete.stamp) w.views
+  pub pending : map (λ v. decided_of v.decided) k.pending ≡ filter (comes_after s.complete.stamp) w.views
   pub complete : decided_of k.complete ≡ s.complete
   pub count : k.count ≡ s.count
   pub broken : k.broken ≡ s.broken
@@ -65,14 +65,14 @@ unfolding kept.is_lawful
 same_lawful k best v = refl
 
 left_over : (group : List Entry) (k : Watching) (s : Watch) (w : World) → IsReady group k s w
-    → let best = greatest k k.complete k.pending in map (λ v. decided_of v.view) (filter (is_above best.stamp) k.pending)
+    → let best = greatest k k.complete k.pending in map (λ v. decided_of v.decided) (filter (is_above best.view.stamp) k.pending)
     ≡ filter (comes_after (law.greatest_complete w s.complete w.views).stamp) w.views
 left_over group k s w r =
     let best = greatest k k.complete k.pending in
-    let up : IsUpTo s.complete.stamp best.stamp = subst (λ (v : Decided). IsUpTo v.stamp best.stamp) r.complete (up_greatest k k.complete k.pending) in
-    map_filter (λ (v : Pending). decided_of v.view) (comes_after best.stamp) k.pending
-    ∙ ap (filter (comes_after best.stamp)) r.pending
-    ∙ filter_above s.complete.stamp best.stamp w.views up
+    let up : IsUpTo s.complete.stamp best.view.stamp = subst (λ (v : Decided). IsUpTo v.stamp best.view.stamp) r.complete (up_greatest k k.complete k.pending) in
+    map_filter (λ (v : Pending). decided_of v.decided) (comes_after best.view.stamp) k.pending
+    ∙ ap (filter (comes_after best.view.stamp)) r.pending
+    ∙ filter_above s.complete.stamp best.view.stamp w.views up
     ∙ ap (λ (v : Decided). filter (comes_after v.stamp) w.views) (best_is group k s w r)
 
 pub looks : (group : List Entry) (k : Watching) (s : Watch) (w : World) → IsReady group k s w → WatchesUpTo group (look k) (after s w)
@@ -83,10 +83,10 @@ looks group k s w r =
     record {
       sees = sees_as k (look k) w group (λ name. refl) refl refl r.sees;
       due = refl;
-      noted = each_of _ (IsNoted w group) (λ v h. h.0) _ (each_filter (IsNoted w group) (is_above best.stamp) k.pending r.noted);
+      noted = each_of _ (IsNoted w group) (λ v h. h.0) _ (each_filter (IsNoted w group) (is_above best.view.stamp) k.pending r.noted);
       pending = left_over group k s w r;
       rest = each_of _ (λ v. kept.is_complete (end_event k best) v ≡ false) (λ v h. same_complete k best v
-          ∙ h.0.waits h.1) _ (each_filter (IsLeft k best.stamp) (is_above best.stamp) k.pending (each_left k k.complete k.pending));
+          ∙ h.0.waits h.1) _ (each_filter (IsLeft k best.view.stamp) (is_above best.view.stamp) k.pending (each_left k k.complete k.pending));
       complete = is;
       count = ap (λ c. c + 1) r.count;
       broken = ap (kept.broken_now k best) r.broken ∙ broken_cases k w best s.count s.broken r.count (lawful_is k w group best r.sees)
@@ -100,7 +100,7 @@ stays : (k : Watching) (best : DecidedView) (vs : List Pending) → Each (λ v. 
 unfolding greatest Each
 stays k best [] h = refl
 stays k best (v ∷ vs) (h, hs) =
-    let e : greater k best v ≡ best = either (stamp_lt best.stamp v.view.stamp) (kept.is_complete k v) v.view best h in
+    let e : greater k best v ≡ best = either (stamp_lt best.view.stamp v.decided.view.stamp) (kept.is_complete k v) v.decided best h in
     ap (λ b. greatest k b vs) e ∙ stays k best vs hs
   where
     either : (a b : Bool) (x y : DecidedView) → b ≡ false → (if a && b then x else y) ≡ y

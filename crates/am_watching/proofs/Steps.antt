@@ -3,7 +3,8 @@ use Rattle.am_watching.proofs.Words.{or_parts, not-true, cases_lt, or-true, or-f
 use Rattle.am_watching.proofs.Words.{if◌then◌else◌, List, [], ◌∷◌, ◌++◌, length, map, filter, replicate, count_by, min, nat_le, nat_lt, Option, Some, None}
 use Rattle.am_watching.proofs.Words.{slice_index_or, slice_set, refl, sym, ap, ◌∙◌, subst, inl, inr, arith, set-set, get_or-set_same, get_or-set_other}
 use Rattle.am_watching.proofs.Words.{length-set, length-append, length-replicate, get_or-replicate, append-nil, map-append, get_or_past, filter-append}
-use Rattle.am_watching.proofs.Words.{list_any-append, nat_tests, list_any, GroupView, Stamp, Entry, Data, Join, Leave, View, has, size, names_of, stamp_lt, stamp_eq}
+use Rattle.am_watching.proofs.Words.{list_any-append, nat_tests, list_any, GroupView, Stamp, Entry, Data, Join, Leave, View, has, size, names_of, stamp_lt}
+use Rattle.am_watching.proofs.Words.{stamp_eq}
 use Rattle.am_watching.proofs.Words.{Node, view, is_member, set_at, has_departed, Decided, World, last_view, Watch, is_view_of, split, and_both, DecidedView}
 use Rattle.am_watching.proofs.Words.{Standing, Pending, Watching, blank_standing, standing, is_by, number_of, or_else, same_flag, is_alike, with_standing}
 use Rattle.am_watching.proofs.Words.{new_pending, decided_views, with_decided, with_entries, store_view, note_entries, note_entry, is_view, finish}
@@ -69,11 +70,11 @@ sees_step k w v name n entries more sees steps to = record {
 
 -- a view, once the name stored these entries
 abbrev pub entered : ℕ → List Entry → Pending → Pending
-entered name entries v = if list_any (is_view_of v.view.stamp) entries then record v { stored = slice_set v.stored name true } else v
+entered name entries v = if list_any (is_view_of v.decided.view.stamp) entries then record v { stored = slice_set v.stored name true } else v
 
 set_one : (entries : List Entry) (name other : ℕ) (v : Pending) (old : Bool) → name < length v.stored → slice_index_or v.stored other false ≡ old
-    → slice_index_or (entered name entries v).stored other false ≡ (if other == name then old || list_any (is_view_of v.view.stamp) entries else old)
-set_one entries name other v old h is = split (list_any (is_view_of v.view.stamp) entries)
+    → slice_index_or (entered name entries v).stored other false ≡ (if other == name then old || list_any (is_view_of v.decided.view.stamp) entries else old)
+set_one entries name other v old h is = split (list_any (is_view_of v.decided.view.stamp) entries)
     (λ t. split (other == name)
     (λ e. let same : other ≡ name = grind (arith, nat_tests) in rw t (rw e (rw same (get_or-set_same v.stored name true false h) ∙ sym (or-true old))))
     (λ e. let other_one : other ≢ name = λ same. not_same other name same e in rw t (rw e (get_or-set_other v.stored name other true false other_one ∙ is))))
@@ -84,14 +85,14 @@ set_one entries name other v old h is = split (list_any (is_view_of v.view.stamp
     not_same : (a b : ℕ) → a ≡ b → (a == b) ≡ false → ⊥
     not_same a b e f = grind (arith, nat_tests)
 
-same_view : (entries : List Entry) (name : ℕ) (v : Pending) → (entered name entries v).view ≡ v.view
-same_view entries name v = split (list_any (is_view_of v.view.stamp) entries) (λ t. rw t refl) (λ t. rw t refl)
+same_view : (entries : List Entry) (name : ℕ) (v : Pending) → (entered name entries v).decided ≡ v.decided
+same_view entries name v = split (list_any (is_view_of v.decided.view.stamp) entries) (λ t. rw t refl) (λ t. rw t refl)
 
 same_number : (entries : List Entry) (name : ℕ) (v : Pending) → (entered name entries v).number_in_group ≡ v.number_in_group
-same_number entries name v = split (list_any (is_view_of v.view.stamp) entries) (λ t. rw t refl) (λ t. rw t refl)
+same_number entries name v = split (list_any (is_view_of v.decided.view.stamp) entries) (λ t. rw t refl) (λ t. rw t refl)
 
 same_places : (entries : List Entry) (name : ℕ) (v : Pending) → length (entered name entries v).stored ≡ length v.stored
-same_places entries name v = split (list_any (is_view_of v.view.stamp) entries) (λ t. rw t (length-set v.stored name true)) (λ t. rw t refl)
+same_places entries name v = split (list_any (is_view_of v.decided.view.stamp) entries) (λ t. rw t (length-set v.stored name true)) (λ t. rw t refl)
 
 in_list_one : (w v : World) (name other : ℕ) (n : Node) (entries more : List Entry) (s : Stamp) → Steps w name n entries → SteppedTo w v name n more
     → has_in_list v s other ≡ (if other == name then has_in_list w s other || list_any (is_view_of s) entries else has_in_list w s other)
@@ -111,11 +112,11 @@ noted_one w v name n entries more p steps to noted =
     record {
       stored = λ other.
           let h : name < length p.stored = let a = noted.places in let b = steps.within in omega arith in
-          set_one entries name other p (has_in_list w p.view.stamp other) h (noted.stored other)
-          ∙ sym (in_list_one w v name other n entries more p.view.stamp steps to)
-          ∙ ap (λ (d : DecidedView). has_in_list v d.stamp other) (sym same);
+          set_one entries name other p (has_in_list w p.decided.view.stamp other) h (noted.stored other)
+          ∙ sym (in_list_one w v name other n entries more p.decided.view.stamp steps to)
+          ∙ ap (λ (d : DecidedView). has_in_list v d.view.stamp other) (sym same);
       places = same_places entries name p ∙ noted.places;
-      placed = same_number entries name p ∙ noted.placed ∙ ap (λ (d : DecidedView). number_of d.stamp 1 w.group) (sym same);
+      placed = same_number entries name p ∙ noted.placed ∙ ap (λ (d : DecidedView). number_of d.view.stamp 1 w.group) (sym same);
     }
 
 is_new : (w : World) (n : Node) → IsNew w (view n) → IsNoted w w.group (new_pending (view_of n))
@@ -150,8 +151,8 @@ map_twice f g h e (x ∷ xs) = ap (λ y. y ∷ map f (map g xs)) (e x) ∙ ap (�
 -- one entry and then the others
 entered_twice : (name : ℕ) (w : GroupView) (es : List Entry) (v : Pending)
     → entered name es (store_view name w.stamp v) ≡ entered name (View w ∷ es) v
-entered_twice name w es v = split (stamp_eq w.stamp v.view.stamp)
-    (λ t. split (list_any (is_view_of v.view.stamp) es)
+entered_twice name w es v = split (stamp_eq w.stamp v.decided.view.stamp)
+    (λ t. split (list_any (is_view_of v.decided.view.stamp) es)
     (λ u. rw t (rw u (ap (λ stored. record v { stored = stored }) (set-set v.stored name true true))))
     (λ u. rw t (rw u refl)))
     (λ t. rw t refl)
@@ -167,14 +168,14 @@ noted_is name (View v ∷ es) ps = noted_is name es (map (store_view name v.stam
     ps
 
 views_noted : (name : ℕ) (entries : List Entry) (ps : List Pending)
-    → map (λ (p : Pending). decided_of p.view) (map (entered name entries) ps) ≡ map (λ (p : Pending). decided_of p.view) ps
-views_noted name entries ps = map_same (entered name entries) (λ (p : Pending). decided_of p.view) (λ p. ap decided_of (same_view entries name p)) ps
+    → map (λ (p : Pending). decided_of p.decided) (map (entered name entries) ps) ≡ map (λ (p : Pending). decided_of p.decided) ps
+views_noted name entries ps = map_same (entered name entries) (λ (p : Pending). decided_of p.decided) (λ p. ap decided_of (same_view entries name p)) ps
 
 -- a decided view, where it is above another
 abbrev pub one_above : Bool → Bool → Decided → List Decided
 one_above decides above d = if decides then (if above then d ∷ [] else []) else []
 
-decided_cases : (a c : Bool) (v : DecidedView) → map (λ (p : Pending). decided_of p.view) (if a && c then new_pending v ∷ [] else [])
+decided_cases : (a c : Bool) (v : DecidedView) → map (λ (p : Pending). decided_of p.decided) (if a && c then new_pending v ∷ [] else [])
     ≡ one_above a c (decided_of v)
 decided_cases true true v = refl
 decided_cases true false v = refl
@@ -187,15 +188,15 @@ after_cases false c views d = append-nil (filter (comes_after c) views)
 
 pending_step : (k : Watching) (s : Watch) (w : World) (name : ℕ) (n : Node) (entries more : List Entry) → Watches k s → Steps s.world name n entries
     → SteppedTo s.world w name n more
-    → map (λ (p : Pending). decided_of p.view) (k.pending ++ decided_views k name (standing_of n) (view_of n)) ≡ filter (comes_after s.complete.stamp) w.views
+    → map (λ (p : Pending). decided_of p.decided) (k.pending ++ decided_views k name (standing_of n) (view_of n)) ≡ filter (comes_after s.complete.stamp) w.views
 pending_step k s w name n entries more is steps to =
-    let dec : Pending → Decided = λ p. decided_of p.view in
+    let dec : Pending → Decided = λ p. decided_of p.decided in
     let m = s.world.nodes name in
     map-append dec k.pending (decided_views k name (standing_of n) (view_of n))
     ∙ ap (λ vs. vs ++ map dec (decided_views k name (standing_of n) (view_of n))) is.pending
     ∙ ap (λ vs. filter (comes_after s.complete.stamp) s.world.views ++ vs)
-    (decided_cases (kept.decides (standing k name) name (standing_of n)) (stamp_lt k.complete.stamp (view n)) (view_of n)
-    ∙ ap (λ a. one_above a (stamp_lt k.complete.stamp (view n)) (last_view n)) (decides_is k s.world name n (is.sees.names name) steps.own)
+    (decided_cases (kept.decides (standing k name) name (standing_of n)) (stamp_lt k.complete.view.stamp (view n)) (view_of n)
+    ∙ ap (λ a. one_above a (stamp_lt k.complete.view.stamp (view n)) (last_view n)) (decides_is k s.world name n (is.sees.names name) steps.own)
     ∙ ap (λ (c : Decided). one_above (run.decides m n) (stamp_lt c.stamp (view n)) (last_view n)) is.complete)
     ∙ after_cases (run.decides m n) s.complete.stamp s.world.views (last_view n)
     ∙ ap (filter (comes_after s.complete.stamp)) (sym to.views)
@@ -219,7 +220,7 @@ stepping_ready k s w name n entries more is steps to =
     let sees = sees_step k s.world w name n entries more is.sees steps to in
     let all = k.pending ++ decided_views k name (standing_of n) (view_of n) in
     let e : note_entries name entries all ≡ map (entered name entries) all = noted_is name entries all in
-    let new = decided_each (kept.decides (standing k name) name (standing_of n)) (stamp_lt k.complete.stamp (view n)) s.world n
+    let new = decided_each (kept.decides (standing k name) name (standing_of n)) (stamp_lt k.complete.view.stamp (view n)) s.world n
     (λ t. steps.new (sym (decides_is k s.world name n (is.sees.names name) steps.own) ∙ t)) in
     let each = each_append (IsNoted s.world s.world.group) k.pending (decided_views k name (standing_of n) (view_of n)) is.noted new in
     record {
@@ -227,7 +228,7 @@ stepping_ready k s w name n entries more is steps to =
       noted = subst (Each (IsNoted w s.world.group)) (sym e)
           (each_map (IsNoted s.world s.world.group) (IsNoted w s.world.group) (entered name entries)
           (λ p h. noted_one s.world w name n entries more p steps to h) all each);
-      pending = ap (map (λ (p : Pending). decided_of p.view)) e ∙ views_noted name entries all ∙ pending_step k s w name n entries more is steps to;
+      pending = ap (map (λ (p : Pending). decided_of p.decided)) e ∙ views_noted name entries all ∙ pending_step k s w name n entries more is steps to;
       complete = is.complete;
       count = is.count;
       broken = is.broken;
@@ -285,14 +286,14 @@ complete_alike : (k : Watching) (name : ℕ) (after : Standing) (v : Pending) �
 unfolding kept.is_complete
 complete_alike k name after v alike =
     let j = with_standing k name after in
-    let names = names_of v.view.members in
-    let need = min (v.view.resilience + 1) (size v.view.members) in
+    let names = names_of v.decided.view.members in
+    let need = min (v.decided.view.resilience + 1) (size v.decided.view.members) in
     let stored : kept.has_stored j v ≡ kept.has_stored k v =
     λ i other. ap (λ from. is_by v.number_in_group from || slice_index_or v.stored other false) (alike other).from i in
-    let lags : kept.lags j v.view.stamp ≡ kept.lags k v.view.stamp =
-    λ i other. (ap (λ gone. not (kept.has_stopped k other) && (not gone && stamp_lt (standing j other).view v.view.stamp)) (alike other).gone
-    ∙ ap (λ stamp. not (kept.has_stopped k other) && (not (has_departed (standing k other).status) && stamp_lt stamp v.view.stamp)) (alike other).view) i in
-    ap (λ (f : ℕ → Bool). nat_le need (count_by f names) && not (list_any (kept.lags j v.view.stamp) names)) stored
+    let lags : kept.lags j v.decided.view.stamp ≡ kept.lags k v.decided.view.stamp =
+    λ i other. (ap (λ gone. not (kept.has_stopped k other) && (not gone && stamp_lt (standing j other).view v.decided.view.stamp)) (alike other).gone
+    ∙ ap (λ stamp. not (kept.has_stopped k other) && (not (has_departed (standing k other).status) && stamp_lt stamp v.decided.view.stamp)) (alike other).view) i in
+    ap (λ (f : ℕ → Bool). nat_le need (count_by f names) && not (list_any (kept.lags j v.decided.view.stamp) names)) stored
     ∙ ap (λ (f : ℕ → Bool). nat_le need (count_by (kept.has_stored k v) names) && not (list_any f names)) lags
 
 lawful_alike : (k : Watching) (name : ℕ) (after : Standing) (v : DecidedView) → AreAlike k name after
@@ -301,9 +302,9 @@ unfolding kept.is_lawful
 lawful_alike k name after v alike =
     let j = with_standing k name after in
     let lost : kept.is_lost j v ≡ kept.is_lost k v = λ i other.
-    (ap (λ start. (has v.members other || nat_lt v.number start) && not (has_departed (standing j other).status)) (alike other).start
-    ∙ ap (λ gone. (has v.members other || nat_lt v.number (standing k other).start) && not gone) (alike other).gone) i in
-    ap (λ (f : ℕ → Bool). nat_le (count_by f k.stopped) v.resilience) lost
+    (ap (λ start. (has v.view.members other || nat_lt v.number start) && not (has_departed (standing j other).status)) (alike other).start
+    ∙ ap (λ gone. (has v.view.members other || nat_lt v.number (standing k other).start) && not gone) (alike other).gone) i in
+    ap (λ (f : ℕ → Bool). nat_le (count_by f k.stopped) v.view.resilience) lost
 
 not_decided : (a b c : Bool) → c ≡ true → (a && (b && not c)) ≡ false
 not_decided true true c h = rw h refl
@@ -340,7 +341,7 @@ stepping_same : (k : Watching) (name : ℕ) (after : Standing) (view : DecidedVi
     → list_any is_view entries ≡ false → (stepping k name after view entries).pending ≡ k.pending
 stepping_same k name after view entries same none =
     let test : kept.decides (standing k name) name after ≡ false = not_decided _ _ _ same in
-    let no : decided_views k name after view ≡ [] = ap (λ b. if b && stamp_lt k.complete.stamp view.stamp then new_pending view ∷ [] else []) test in
+    let no : decided_views k name after view ≡ [] = ap (λ b. if b && stamp_lt k.complete.view.stamp view.view.stamp then new_pending view ∷ [] else []) test in
     noted_none name entries (k.pending ++ decided_views k name after view) none ∙ ap (λ vs. k.pending ++ vs) no ∙ append-nil k.pending
 
 alike_step : (k : Watching) (s : Watch) (w : World) (name : ℕ) (n : Node) (entries more : List Entry) → Watches k s → Steps s.world name n entries
@@ -370,9 +371,10 @@ accepted_view w group more p e noted =
     record {
       stored = noted.stored;
       places = noted.places;
-      placed = ap (λ o. or_else o (number_of p.view.stamp (length group + 1) more)) noted.placed
-          ∙ ap (λ n. or_else (number_of p.view.stamp 1 group) (number_of p.view.stamp n more)) z ∙ sym (number_append p.view.stamp 1 group more)
-          ∙ ap (number_of p.view.stamp 1) (sym e);
+      placed = ap (λ o. or_else o (number_of p.decided.view.stamp (length group + 1) more)) noted.placed
+          ∙ ap (λ n. or_else (number_of p.decided.view.stamp 1 group) (number_of p.decided.view.stamp n more)) z
+          ∙ sym (number_append p.decided.view.stamp 1 group more)
+          ∙ ap (number_of p.decided.view.stamp 1) (sym e);
     }
 
 accepted_lawful : (k : Watching) (number : ℕ) (more : List Entry) (v : DecidedView) → kept.is_lawful (accept k number more) v ≡ kept.is_lawful k v
@@ -408,7 +410,7 @@ accepts group more k s is e =
       sees = sees;
       due = is.due;
       noted = each_map (IsNoted w group) (IsNoted w w.group) (place_among (length group + 1) more) (λ p h. accepted_view w group more p e h) k.pending is.noted;
-      pending = map_same (place_among (length group + 1) more) (λ (p : Pending). decided_of p.view) (λ p. refl) k.pending ∙ is.pending;
+      pending = map_same (place_among (length group + 1) more) (λ (p : Pending). decided_of p.decided) (λ p. refl) k.pending ∙ is.pending;
       rest = each_map (IsWaiting k w group) (λ v. kept.is_complete j v
           ≡ false) (place_among (length group + 1) more) (λ p h. complete_is j w w.group (place_among (length group + 1) more p) sees
           (accepted_view w group more p e h.noted) ∙ sym (complete_is k w group p is.sees h.noted)
@@ -435,7 +437,7 @@ steps_are_watched k s w name n entries more is steps to = accepts s.world.group 
 -- a world in which the lists and the views are the same
 same_noted : (w v : World) (p : Pending) → v.nodes ≡ w.nodes → IsNoted w w.group p → IsNoted v w.group p
 same_noted w v p e h = record {
-  stored = λ name. h.stored name ∙ ap (λ (f : ℕ → Node). list_any (is_view_of p.view.stamp) (f name).core.log.entries) (sym e);
+  stored = λ name. h.stored name ∙ ap (λ (f : ℕ → Node). list_any (is_view_of p.decided.view.stamp) (f name).core.log.entries) (sym e);
   places = h.places;
   placed = h.placed;
 }
@@ -483,8 +485,8 @@ placed_twice number xs ys (p ∷ ps) = ap (λ q. q ∷ map (place_among number (
     assoc (Some x) b c = refl
 
     one : (number : ℕ) (xs ys : List Entry) (p : Pending) → place_among number (xs ++ ys) p ≡ place_among (number + length xs) ys (place_among number xs p)
-    one number xs ys p = ap (λ o. record p { number_in_group = o }) (ap (or_else p.number_in_group) (number_append p.view.stamp number xs ys)
-        ∙ assoc p.number_in_group (number_of p.view.stamp number xs) (number_of p.view.stamp (number + length xs) ys))
+    one number xs ys p = ap (λ o. record p { number_in_group = o }) (ap (or_else p.number_in_group) (number_append p.decided.view.stamp number xs ys)
+        ∙ assoc p.number_in_group (number_of p.decided.view.stamp number xs) (number_of p.decided.view.stamp (number + length xs) ys))
 
 pub accepted_goes_on : AcceptedGoesOn
 accepted_goes_on k number xs ys = ap (λ ps. record k { pending = ps }) (placed_twice number xs ys k.pending)

@@ -9,7 +9,8 @@ pub use Rattle.std.proofs.lemmas.Bool.{cases_lt, le-leb, lt-leb, eqb-true, or_pa
 pub use Rattle.std.proofs.lemmas.List.{get_or_past, take-append-le, append-nil, drop_more, at_drop_all, set-set, get_or-set_same, get_or-set_other}
 pub use Rattle.std.proofs.lemmas.List.{length-set, length-append, length-replicate, get_or-replicate, map-append}
 pub use Rattle.am_base.specs.{Names.has, Names.place_of, Names.life_of, Names.size, Names.names_of, Names.names_from, Names.name_at, Names.rank_of}
-pub use Rattle.am_base.specs.{Founding.Rules, Founding.MayFound, Stamps.stamp_lt, Stamps.stamp_eq, declared.name.Stamp.Stamp, declared.entry.Entry.Entry, declared.entry.GroupView.GroupView}
+pub use Rattle.am_base.specs.{Founding.Rules, Founding.MayFound, Stamps.stamp_lt, Stamps.stamp_eq, declared.name.Stamp.Stamp, declared.entry.Entry.Entry}
+pub use Rattle.am_base.specs.{declared.entry.GroupView.GroupView}
 pub use Rattle.am_base.specs.{declared.outcome.Outcome.Outcome}
 pub use Rattle.am_base.specs.declared.entry.Entry.TheVariants.{Data, Join, Leave, View}
 unfoldable pub use Rattle.am_base.specs.Lists.{fold}

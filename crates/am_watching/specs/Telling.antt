@@ -20,7 +20,7 @@ use Rattle.am_watching.specs.Watches.{view_of}
 
 -- what is told of a node
 abbrev pub shown_of : Node → Shown
-shown_of n = record { status = n.status; start = n.core.start; base = n.core.base; view = view_of n }
+shown_of n = record { status = n.status; start = n.core.start; base = n.core.base; decided = view_of n }
 
 -- a name's list began in a step
 abbrev pub begins : Standing → Status → Bool
@@ -28,7 +28,7 @@ begins before after = not (has_log before.status) && is_member after
 
 -- what its node shows after that: its list begins at its base, or where it began before
 abbrev pub standing_after : Standing → Shown → Standing
-standing_after before n = record { status = n.status; view = n.view.stamp; start = n.start; from = if begins before n.status then n.base else before.from }
+standing_after before n = record { status = n.status; view = n.decided.view.stamp; start = n.start; from = if begins before n.status then n.base else before.from }
 
 -- the entry of a Piece
 abbrev pub piece_in : Packet → Option Entry
@@ -49,7 +49,7 @@ one_of (Some e) = e ∷ []
 
 -- the View that made a view
 abbrev pub last_view : DecidedView → Entry
-last_view v = View (record { stamp = v.stamp; members = v.members; resilience = v.resilience })
+last_view v = View v.view
 
 -- the Views that a name stored in a step: the last one, where it is a new one, and before that what was fetched, where the
 -- name then decided a view
@@ -66,7 +66,7 @@ with_views k name before after v what = with_entries (with_decided k name after 
 unfoldable pub told_step : Watching → ℕ → Shown → NodeEvent → ℕ → List Entry → Watching
 told_step k name n what number more =
     let after = standing_after (standing k name) n in
-    accept (watch_step k name after n.view (stored_of name (standing k name) after n.view what)) number more
+    accept (watch_step k name after n.decided (stored_of name (standing k name) after n.decided what)) number more
 
 -- a name that has or hasn't stopped stops by an answer: by its own event, or because its place returns
 abbrev pub stops_by : Bool → Outcome → Bool

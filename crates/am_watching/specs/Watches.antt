@@ -22,10 +22,13 @@ standing_of n = record { status = n.status; view = view n; start = n.core.start;
 
 -- the view in which its list ends
 abbrev pub view_of : Node → DecidedView
-view_of n = record { number = (image_of n).view_number; stamp = view n; members = members n; resilience = (image_of n).resilience }
+view_of n = record {
+  number = (image_of n).view_number;
+  view = record { stamp = view n; members = members n; resilience = (image_of n).resilience };
+}
 
 abbrev pub decided_of : DecidedView → Decided
-decided_of v = record { number = v.number; view = record { stamp = v.stamp; members = v.members; resilience = v.resilience } }
+decided_of v = record { number = v.number; view = v.view }
 
 -- ---- what is kept is so
 
@@ -35,9 +38,9 @@ has_in_list w v name = list_any (is_view_of v) (w.nodes name).core.log.entries
 
 -- who stored a view, and where it stands in the group list up to here
 pub record IsNoted (w : World) (group : List Entry) (v : Pending) : Type 0 where
-  pub stored : (name : ℕ) → slice_index_or v.stored name false ≡ has_in_list w v.view.stamp name
+  pub stored : (name : ℕ) → slice_index_or v.stored name false ≡ has_in_list w v.decided.view.stamp name
   pub places : length v.stored ≡ 256
-  pub placed : v.number_in_group ≡ number_of v.view.stamp 1 group
+  pub placed : v.number_in_group ≡ number_of v.decided.view.stamp 1 group
 
 -- each of a list
 unfoldable pub Each : {A : Type 0} → (A → Type 0) → List A → Type 0
@@ -62,7 +65,7 @@ pub record WatchesUpTo (group : List Entry) (k : Watching) (s : Watch) : Type 0 
   pub sees : Sees k s.world group
   pub due : k.is_due ≡ false
   pub noted : Each (IsNoted s.world group) k.pending
-  pub pending : map (λ v. decided_of v.view) k.pending ≡ filter (comes_after s.complete.stamp) s.world.views
+  pub pending : map (λ v. decided_of v.decided) k.pending ≡ filter (comes_after s.complete.stamp) s.world.views
   pub rest : Each (λ v. kept.is_complete k v ≡ false) k.pending
   pub complete : decided_of k.complete ≡ s.complete
   pub count : k.count ≡ s.count

@@ -11,7 +11,7 @@ use Rattle.am_base.specs.Names.{has, size, names_of}
 use Rattle.am_base.specs.Stamps.{stamp_lt, stamp_eq, no_stamp}
 use Rattle.am_base.specs.Founding.{Rules}
 use Rattle.am_model.specs.declared.status.Status.TheVariants.{Stranger, Member}
-use Rattle.am_model.specs.Node.{is_member, founding_stamp, has_departed}
+use Rattle.am_model.specs.Node.{is_member, founding_stamp, founding_view, has_departed}
 use Rattle.am_play.specs.Lawful.{is_view_of}
 use Rattle.am_watching.specs.declared.views.DecidedView.{DecidedView}
 use Rattle.am_watching.specs.declared.views.Standing.{Standing}
@@ -54,12 +54,12 @@ lags k v name = not (has_stopped k name) && (not (has_departed (standing k name)
 
 unfoldable pub is_complete : Watching → Pending → Bool
 is_complete k v =
-    nat_le (min (v.view.resilience + 1) (size v.view.members)) (count_by (has_stored k v) (names_of v.view.members))
-    && not (list_any (lags k v.view.stamp) (names_of v.view.members))
+    nat_le (min (v.decided.view.resilience + 1) (size v.decided.view.members)) (count_by (has_stored k v) (names_of v.decided.view.members))
+    && not (list_any (lags k v.decided.view.stamp) (names_of v.decided.view.members))
 
 -- the greater of a view and of another that is complete
 abbrev pub greater : Watching → DecidedView → Pending → DecidedView
-greater k best v = if stamp_lt best.stamp v.view.stamp && is_complete k v then v.view else best
+greater k best v = if stamp_lt best.view.stamp v.decided.view.stamp && is_complete k v then v.decided else best
 
 unfoldable pub greatest : Watching → DecidedView → List Pending → DecidedView
 greatest k best [] = best
@@ -69,10 +69,10 @@ greatest k best (v ∷ vs) = greatest k (greater k best v) vs
 
 -- a stopped name that counts and hadn't departed
 abbrev pub is_lost : Watching → DecidedView → ℕ → Bool
-is_lost k v name = (has v.members name || nat_lt v.number (standing k name).start) && not (has_departed (standing k name).status)
+is_lost k v name = (has v.view.members name || nat_lt v.number (standing k name).start) && not (has_departed (standing k name).status)
 
 unfoldable pub is_lawful : Watching → DecidedView → Bool
-is_lawful k v = nat_le (count_by (is_lost k v) k.stopped) v.resilience
+is_lawful k v = nat_le (count_by (is_lost k v) k.stopped) v.view.resilience
 
 abbrev pub broken_now : Watching → DecidedView → Option ℕ → Option ℕ
 broken_now k best (Some count) = Some count
@@ -82,12 +82,12 @@ broken_now k best None = if is_lawful k best then None else Some (k.count + 1)
 
 -- it comes after another view
 abbrev pub is_above : Stamp → Pending → Bool
-is_above stamp v = stamp_lt stamp v.view.stamp
+is_above stamp v = stamp_lt stamp v.decided.view.stamp
 
 -- an event is over, and this is the greatest complete view
 abbrev pub end_event : Watching → DecidedView → Watching
 end_event k best = record k {
-  pending = filter (is_above best.stamp) k.pending;
+  pending = filter (is_above best.view.stamp) k.pending;
   is_due = false;
   complete = best;
   count = k.count + 1;
@@ -115,18 +115,18 @@ decides before name after = is_member before.status && ((after.view.by == name) 
 
 -- a view that nobody has stored
 abbrev pub new_pending : DecidedView → Pending
-new_pending view = record { view = view; stored = replicate 256 false; number_in_group = None }
+new_pending v = record { decided = v; stored = replicate 256 false; number_in_group = None }
 
 -- the view that the name decided, if it did
 abbrev pub decided_views : Watching → ℕ → Standing → DecidedView → List Pending
-decided_views k name after view = if decides (standing k name) name after && stamp_lt k.complete.stamp view.stamp then new_pending view ∷ [] else []
+decided_views k name after v = if decides (standing k name) name after && stamp_lt k.complete.view.stamp v.view.stamp then new_pending v ∷ [] else []
 
 abbrev pub with_decided : Watching → ℕ → Standing → DecidedView → Watching
-with_decided k name after view = record k { pending = k.pending ++ decided_views k name after view }
+with_decided k name after v = record k { pending = k.pending ++ decided_views k name after v }
 
 -- the name stored the View of this stamp
 abbrev pub store_view : ℕ → Stamp → Pending → Pending
-store_view name stamp v = if stamp_eq stamp v.view.stamp then record v { stored = slice_set v.stored name true } else v
+store_view name stamp v = if stamp_eq stamp v.decided.view.stamp then record v { stored = slice_set v.stored name true } else v
 
 -- the name stored an entry
 abbrev pub note_entry : ℕ → Entry → List Pending → List Pending
@@ -174,7 +174,7 @@ finish k name after =
 
 -- a name did a step: what it shows after that, the view in which its list ends, and the entries that it stored
 abbrev pub watch_step : Watching → ℕ → Standing → DecidedView → List Entry → Watching
-watch_step k name after view entries = finish (with_entries (with_decided k name after view) name entries) name after
+watch_step k name after v entries = finish (with_entries (with_decided k name after v) name entries) name after
 
 -- ---- the group list
 
@@ -189,11 +189,11 @@ or_else (Some a) b = Some a
 
 -- the group list goes on by these entries, the first of which has this number
 abbrev pub place_among : ℕ → List Entry → Pending → Pending
-place_among number more v = record v { number_in_group = or_else v.number_in_group (number_of v.view.stamp number more) }
+place_among number more v = record v { number_in_group = or_else v.number_in_group (number_of v.decided.view.stamp number more) }
 
 -- by a View of this stamp alone
 abbrev pub place_view : ℕ → Stamp → Pending → Pending
-place_view number stamp v = record v { number_in_group = or_else v.number_in_group (if stamp_eq stamp v.view.stamp then Some number else None) }
+place_view number stamp v = record v { number_in_group = or_else v.number_in_group (if stamp_eq stamp v.decided.view.stamp then Some number else None) }
 
 abbrev pub accept : Watching → ℕ → List Entry → Watching
 accept k number more = record k { pending = map (place_among number more) k.pending }
@@ -206,7 +206,7 @@ first_standing rules name = if has rules.founders name then record { status = Me
 
 -- the founders' view
 abbrev pub first_view : Rules → DecidedView
-first_view rules = record { number = 1; stamp = founding_stamp rules; members = rules.founders; resilience = rules.resilience }
+first_view rules = record { number = 1; view = founding_view rules }
 
 -- what is kept of a run without events
 abbrev pub first_watching : Rules → Watching

@@ -1,5 +1,5 @@
+use am_base::entry::GroupView;
 use am_base::name::Stamp;
-use am_base::names::Names;
 use am_model::status::Status;
 
 /// A view that a name decided.
@@ -7,12 +7,8 @@ use am_model::status::Status;
 pub struct DecidedView {
     /// The number of its View in the list of the name that decided it.
     pub number: u32,
-    /// Its stamp.
-    pub stamp: Stamp,
-    /// Its members.
-    pub members: Names,
-    /// Its resilience, 0 to 15.
-    pub resilience: u8,
+    /// What its View says.
+    pub view: GroupView,
 }
 
 /// What a name's node shows.
@@ -38,14 +34,14 @@ pub struct Shown {
     /// The number up to which its list is trimmed.
     pub base: u32,
     /// The view in which its list ends.
-    pub view: DecidedView,
+    pub decided: DecidedView,
 }
 
 /// A view that isn't complete: who stored its View in a list of its own, and where that stands in the group list.
 #[derive(Drop)]
 pub struct Pending {
     /// The view.
-    pub view: DecidedView,
+    pub decided: DecidedView,
     /// For each of the 256 names, whether its View stands among the entries that the name stored.
     pub stored: [bool; 256],
     /// The number of its View in the group list, where it stands there.

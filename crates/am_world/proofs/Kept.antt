@@ -37,7 +37,8 @@ next_watched rules events e v is =
 -- ---- what a node's end shows
 
 end_view_of : (all m : protocol.Node) → IsEndOf all m → view_of m ≡ view_of all
-end_view_of all m is = ap (λ (i : Image). record { number = i.view_number; stamp = i.view; members = members_of i; resilience = i.resilience })
+end_view_of all m is =
+    ap (λ (i : Image). record { number = i.view_number; view = record { stamp = i.view; members = members_of i; resilience = i.resilience } })
     (end-told all.core.log m.core.log is.stands.kept)
 
 end_standing : (before : Standing) (all m : protocol.Node) → IsEndOf all m

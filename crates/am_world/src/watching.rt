@@ -2,6 +2,7 @@ ghost use Rattle.std.specs.Prelude.{◌≡◌};
 ghost use Rattle.am_node.specs.Stands.{state_of};
 ghost use Rattle.am_watching.specs.Telling.{shown_of};
 
+use am_base::entry::GroupView;
 use am_node::node::Node;
 use am_watching::views::{DecidedView, Shown};
 
@@ -13,11 +14,13 @@ pub fn shown_by(node: &Node) -> Shown
         status: node.status(),
         start: node.start(),
         base: node.base(),
-        view: DecidedView {
+        decided: DecidedView {
             number: node.view_number(),
-            stamp: node.view(),
-            members: node.members(),
-            resilience: node.resilience(),
+            view: GroupView {
+                stamp: node.view(),
+                members: node.members(),
+                resilience: node.resilience(),
+            },
         },
     }
 }
