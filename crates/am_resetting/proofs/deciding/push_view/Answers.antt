@@ -1,4 +1,4 @@
-use Rattle.am_resetting.proofs.DecidingWords.{◌≡◌, ◌+◌, ◌-◌, ◌≤◌, ℕ, List, length, max, true, Some, ap, sym, subst, ◌∙◌, arith, nat_tests, Entry, View, Stamp, Outcome}
+use Rattle.am_resetting.proofs.DecidingWords.{◌≡◌, ◌+◌, ◌-◌, ◌≤◌, ℕ, List, length, true, Some, ap, sym, subst, ◌∙◌, arith, nat_tests, Entry, View, Stamp, Outcome}
 use Rattle.am_resetting.proofs.DecidingWords.{fits, size, has, stamp_lt, IsKept, reports_from, NodeKeeps, node_of, ballot_of, Node, Ballot, image_of, push_entry}
 use Rattle.am_resetting.proofs.DecidingWords.{with_end, decided_view, IsEndOf, has_size, IsTakenOut, MayBeView}
 use Rattle.am_resetting.proofs.{Orders.lt_self, Views.fits_view, Nodes.keeps_pushed, Nodes.taken_idle, Verdicts.decided_comes}
