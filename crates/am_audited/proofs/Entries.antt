@@ -18,7 +18,7 @@ abbrev pub outline_as : Rules → Entry → Outline
 outline_as rules (entries.Data from req body) = outlines.Data from req
 outline_as rules (entries.Join name) = outlines.Join name
 outline_as rules (entries.Leave name) = outlines.Leave name
-outline_as rules (entries.View v) = outlines.View v.stamp v.members (resilience_as rules v.resilience)
+outline_as rules (entries.View v) = outlines.View (record v { resilience = resilience_as rules v.resilience })
 
 pub has_bytes : (entry : Entry) → IsSayable entry → HasBytes entry
 has_bytes (entries.Data from req body) say = say.2
@@ -51,7 +51,7 @@ resilience_read false resilience low some =
 
 view_read : (b : Bool) (v : GroupView) → v.stamp.round ≤ most_number → v.stamp.by < 256 → IsSet v.members → v.resilience ≤ 15
     → (b ≡ false → 0 < v.resilience) → view_of (stamp_text v.stamp ++ 32 ∷ (names_text v.members ++ text_by b v.resilience))
-    ≡ Ok (outlines.View v.stamp v.members (if b then 0 else v.resilience))
+    ≡ Ok (outlines.View (record v { resilience = if b then 0 else v.resilience }))
 unfolding view_of
 view_read b v round by set low some =
     rw (
@@ -84,7 +84,7 @@ entry_read rules (entries.Leave name) say raised = rw (name_again name say) refl
 entry_read rules (entries.View v) say raised =
     view_read (v.resilience == rules.resilience) v say.1 say.0 say.2 say.3 (λ other. above (rules.resilience) v.resilience other raised)
   where
-    above : (least v.resilience : ℕ) → (v.resilience == least) ≡ false → least ≤ v.resilience → 0 < v.resilience
+    above : (least given : ℕ) → (given == least) ≡ false → least ≤ given → 0 < given
     above least zero other raised = absurd (grind (arith, nat_tests))
     above least (suc before) other raised = omega arith
 
