@@ -45,7 +45,7 @@ after_above rules image number (entries.View v) some fit h =
     let b = (and_parts (is_blank image || is_within v.members (members_of image)) _ a).1 in
     let c = (and_parts (has v.members v.stamp.by) (nat_le image.resilience v.resilience) b).1 in
     let least = h.least in
-    let up : image.resilience ≤ resilience = grind (arith, nat_tests) in
+    let up : image.resilience ≤ v.resilience = grind (arith, nat_tests) in
     record { viewed = some; least = omega arith }
 
 low_rises : (rules : Rules) (a b : ℕ) → rules.resilience ≤ a → a ≤ b → nat_le (resilience_as rules a) (resilience_as rules b) ≡ true
@@ -64,7 +64,7 @@ fits_low rules image (entries.View v) h fit =
     let a = and_parts (stamp_lt image.view v.stamp) _ fit in
     let b = and_parts (is_blank image || is_within v.members (members_of image)) _ a.1 in
     let c = and_parts (has v.members v.stamp.by) (nat_le image.resilience v.resilience) b.1 in
-    let up : image.resilience ≤ resilience = let d = c.1 in grind (arith, nat_tests) in
+    let up : image.resilience ≤ v.resilience = let d = c.1 in grind (arith, nat_tests) in
     let within : is_within v.members (members_of image) ≡ true = ap (λ x. x || is_within v.members (members_of image)) (sym (not_blank image h.viewed)) ∙ b.0 in
     let other = not_blank (lowered rules image) h.viewed in
     and_from (stamp_lt image.view v.stamp) _ a.0
