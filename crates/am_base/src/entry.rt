@@ -23,11 +23,7 @@ pub struct GroupView {
 #[derive(Drop, Debug)]
 pub enum Entry {
     /// A send of a member: its request number, from 1, and its body.
-    Data {
-        from: Name,
-        req: u32,
-        body: Body,
-    },
+    Data { from: Name, req: u32, body: Body },
     /// A name becomes a member.
     Join(Name),
     /// A member goes.

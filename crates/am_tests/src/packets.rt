@@ -234,10 +234,22 @@ fn numbers_of_views(packet: &Packet) -> [u32; 8] {
             [vote.view.round, vote.top, vote.taken, mask, lives, 0, 0, 0]
         }
         Packet::Result {
-            base, number, view, ..
+            base,
+            number,
+            view,
+            ..
         } => {
             let [mask, lives] = set_numbers(view.members);
-            [*base, *number, mask, lives, u32::from(view.resilience), 0, 0, 0]
+            [
+                *base,
+                *number,
+                mask,
+                lives,
+                u32::from(view.resilience),
+                0,
+                0,
+                0,
+            ]
         }
         _ => [0; 8],
     }
