@@ -1,6 +1,6 @@
 -- What is read is within its limits.
-use Rattle.std.proofs.Common.{◌≡◌, ℕ, ◌≤◌, ◌==◌, List, Option, Some, None, Result, Ok, Err, Bool, true, false, cond}
-use Rattle.std.proofs.Common.{not, ◌||◌, nat_le, length, drop, refl, sym, subst, ap, arith, ◌⊎◌, ⊎_elim, inl, inr}
+use Rattle.std.proofs.Common.{◌≡◌, ℕ, ◌≤◌, ◌==◌, List, Option, Some, None, Result, Ok, Err, Bool, true, false, cond, not, ◌||◌, nat_le, length, drop, refl, sym}
+use Rattle.std.proofs.Common.{subst, ap, arith, ◌⊎◌, ⊎_elim, inl, inr}
 use Rattle.std.specs.Prelude.{codes, slice_index}
 use Rattle.std.specs.Str.Parse.{digits_value}
 use Rattle.std.proofs.lemmas.Bool.{leb-true}

@@ -1,6 +1,6 @@
 -- What a verdict that agrees means: of lists and logs.
-use Rattle.std.proofs.Common.{◌≡◌, ◌≢◌, ℕ, zero, suc, ◌+◌, ◌<◌, ◌==◌, ◌&&◌, nat_le, List, [], ◌∷◌, map, Option, Some, None}
-use Rattle.std.proofs.Common.{slice_get, Result, Ok, Err, Bool, true, false, cond, refl, sym, subst, ap, ◌∙◌, arith, add-one}
+use Rattle.std.proofs.Common.{◌≡◌, ◌≢◌, ℕ, zero, suc, ◌+◌, ◌<◌, ◌==◌, ◌&&◌, nat_le, List, [], ◌∷◌, map, Option, Some, None, slice_get, Result, Ok, Err, Bool}
+use Rattle.std.proofs.Common.{true, false, cond, refl, sym, subst, ap, ◌∙◌, arith, add-one}
 use Rattle.std.proofs.lemmas.Bool.{eq-eqb, eqb-true}
 use Rattle.std.proofs.lemmas.Bool.Decides.{nat_tests}
 use Rattle.std.proofs.lemmas.Slice.Eq.{bytes_eq-Decides}
@@ -16,9 +16,8 @@ use Rattle.am_audit.specs.declared.outline.Outline.TheVariants as outlines
 use Rattle.am_audit.specs.declared.line.Answer.{Answer}
 use Rattle.am_audit.specs.Fields.{outline_of, data_in, is_send}
 use Rattle.am_audit.specs.Lines.{Line, Reading}
-use Rattle.am_audit.specs.Verdicts.{or_else, last_of, first_fault, is_text, first_astray, once_more}
-use Rattle.am_audit.specs.Verdicts.{stands, is_at, lost_at, first_lost, may_begin, early_at, first_early}
-use Rattle.am_audit.specs.Verdicts.{bare_entry, founds, fits_at, image_after, first_misfit, lines_of, wrong_lists}
+use Rattle.am_audit.specs.Verdicts.{or_else, last_of, first_fault, is_text, first_astray, once_more, stands, is_at, lost_at, first_lost, may_begin, early_at}
+use Rattle.am_audit.specs.Verdicts.{first_early, bare_entry, founds, fits_at, image_after, first_misfit, lines_of, wrong_lists}
 use Rattle.am_audit.specs.Keeping.{first_number}
 use Rattle.am_audit.specs.Agreement.{IsPiece, Begins, BeginsAt, StandsAlone, IsFounded, AreFitting, Lists}
 use Rattle.am_audit.proofs.Segments.{none_first, none_second, log_runs, log_in_list, all_in, number_at, there_at, lead, first_is_lead}

@@ -1,6 +1,6 @@
 -- What the words of a text's lines tell: entries, and events that count.
-use Rattle.std.specs.Prelude.{ℕ, List, length, drop, slice_index, Option, Some, None, Result, Ok}
-use Rattle.std.specs.Prelude.{Err, Bool, false, ◌≡◌, not, ◌||◌, ◌&&◌, ◌==◌, if◌then◌else◌, codes}
+use Rattle.std.specs.Prelude.{ℕ, List, length, drop, slice_index, Option, Some, None, Result, Ok, Err, Bool, false, ◌≡◌, not, ◌||◌, ◌&&◌, ◌==◌, if◌then◌else◌}
+use Rattle.std.specs.Prelude.{codes}
 use Rattle.am_base.specs.Most.{most_body}
 use Rattle.am_base.specs.Names.{name_at}
 use Rattle.am_fields.specs.declared.fault.FieldFault.{FieldFault}

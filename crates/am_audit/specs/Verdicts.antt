@@ -1,7 +1,6 @@
 -- The verdicts on what a text was read as.
-use Rattle.std.specs.Prelude.{ℕ, ◌+◌, ◌==◌, ◌&&◌, Bool, true, false, List, [], ◌∷◌, ◌++◌, filter}
-use Rattle.std.specs.Prelude.{slice_get, option_map, unwrap_or, Option, Some, None, Result, Ok, Err}
-use Rattle.std.specs.Prelude.{if◌then◌else◌, nat_le, nat_lt, codes, decimal}
+use Rattle.std.specs.Prelude.{ℕ, ◌+◌, ◌==◌, ◌&&◌, Bool, true, false, List, [], ◌∷◌, ◌++◌, filter, slice_get, option_map, unwrap_or, Option, Some, None, Result}
+use Rattle.std.specs.Prelude.{Ok, Err, if◌then◌else◌, nat_le, nat_lt, codes, decimal}
 use Rattle.std.specs.List.{list_all}
 use Rattle.am_base.specs.Most.{most_number}
 use Rattle.am_base.specs.Names.{has, lowest_of}

@@ -1,8 +1,8 @@
 -- Each send of the list was asked for, as it is read.
 use Rattle.am_audited.proofs.Words.{◌≡◌, ℕ, zero, suc, ◌+◌, ◌==◌, ◌&&◌, Bool, true, false, if◌then◌else◌, List, [], ◌∷◌, ◌++◌, length, refl, sym, ap, ◌∙◌}
 use Rattle.am_audited.proofs.Words.{arith, subst, Some, None, slice_get, All, option_map, range_with_len, slice_get-map, and_parts, and_from, nat_tests}
-use Rattle.am_audited.proofs.Words.{All-head, All-tail, Rules, Entry, split, Record, name_of, body_text, IsSend, Line, or_else, first_asked, body_at}
-use Rattle.am_audited.proofs.Words.{is_text, unsent_at, first_unsent, lines_of, IsSayable, send_in, sends_of, texts_of}
+use Rattle.am_audited.proofs.Words.{All-head, All-tail, Rules, Entry, split, Record, name_of, body_text, IsSend, Line, or_else, first_asked, body_at, is_text}
+use Rattle.am_audited.proofs.Words.{unsent_at, first_unsent, lines_of, IsSayable, send_in, sends_of, texts_of}
 use Rattle.am_audited.proofs.{Outcomes.same_self, Entries.data_as, Entries.data_in_is, Sends.numbers_of}
 use Rattle.am_base.specs.declared.entry.Entry.TheVariants as entries
 use Rattle.am_base.specs.declared.outcome.Outcome.TheVariants as said

@@ -1,11 +1,10 @@
 -- What is printed of events and entries has no newline and no mark in it.
-use Rattle.am_audited.proofs.Words.{◌≡◌, ℕ, ◌+◌, ◌==◌, ◌&&◌, ◌||◌, not, Bool, true, false, cond, List, [], ◌∷◌, ◌++◌, refl, ap, ◌∙◌, Option, Some, None}
-use Rattle.am_audited.proofs.Words.{codes, decimal, slice_index, drop, list_all, append-nil, Rules, place_of, Stamp, Entry, Outcome, IsBytes, Letter, Packet}
-use Rattle.am_audited.proofs.Words.{Act, Event, onto_cut, name_text, stamp_text, names_text, body_text, resilience_text, entry_text, outcome_word}
-use Rattle.am_audited.proofs.Words.{numbers_text, outcome_numbers, outcome_parts, outcome_text, act_word, act_parts, event_text, kind_word}
-use Rattle.am_audited.proofs.Words.{is_everybody_else, addressees_text, letter_text, letters_text, IsOfBytes, begins_mark, mark_cut, IsLine, is_plain_byte}
-use Rattle.am_audited.proofs.Words.{IsWord, IsPlain, both, all_append, all_weaker, word_plain, plains, decimal_word, name_word, stamp_word, names_word}
-use Rattle.am_audited.proofs.Words.{body_word}
+use Rattle.am_audited.proofs.Words.{◌≡◌, ℕ, ◌+◌, ◌==◌, ◌&&◌, ◌||◌, not, Bool, true, false, cond, List, [], ◌∷◌, ◌++◌, refl, ap, ◌∙◌, Option, Some, None, codes}
+use Rattle.am_audited.proofs.Words.{decimal, slice_index, drop, list_all, append-nil, Rules, place_of, Stamp, Entry, Outcome, IsBytes, Letter, Packet, Act}
+use Rattle.am_audited.proofs.Words.{Event, onto_cut, name_text, stamp_text, names_text, body_text, resilience_text, entry_text, outcome_word, numbers_text}
+use Rattle.am_audited.proofs.Words.{outcome_numbers, outcome_parts, outcome_text, act_word, act_parts, event_text, kind_word, is_everybody_else}
+use Rattle.am_audited.proofs.Words.{addressees_text, letter_text, letters_text, IsOfBytes, begins_mark, mark_cut, IsLine, is_plain_byte, IsWord, IsPlain, both}
+use Rattle.am_audited.proofs.Words.{all_append, all_weaker, word_plain, plains, decimal_word, name_word, stamp_word, names_word, body_word}
 use Rattle.am_base.specs.declared.entry.Entry.TheVariants as entries
 use Rattle.am_base.specs.declared.outcome.Outcome.TheVariants as said
 use Rattle.am_packet.specs.declared.packet.Packet.TheVariants as packets

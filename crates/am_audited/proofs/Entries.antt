@@ -1,7 +1,7 @@
 -- An entry that is printed is read.
-use Rattle.am_audited.proofs.Words.{◌≡◌, ℕ, ◌<◌, ◌≤◌, ◌==◌, ◌&&◌, zero, suc, Bool, true, false, List, [], ◌∷◌, ◌++◌, length, lit<, refl, ap, ◌∙◌, arith}
-use Rattle.am_audited.proofs.Words.{Result, Ok, Err, Option, Some, None, if◌then◌else◌, codes, decimal, append-nil, nat_tests, most_number, most_body, IsSet}
-use Rattle.am_audited.proofs.Words.{Rules, GroupView, Stamp, Entry, FieldFault, Form, cut_of, name_text, stamp_text, names_text, body_text, resilience_text, entry_text}
+use Rattle.am_audited.proofs.Words.{◌≡◌, ℕ, ◌<◌, ◌≤◌, ◌==◌, ◌&&◌, zero, suc, Bool, true, false, List, [], ◌∷◌, ◌++◌, length, lit<, refl, ap, ◌∙◌, arith, Result}
+use Rattle.am_audited.proofs.Words.{Ok, Err, Option, Some, None, if◌then◌else◌, codes, decimal, append-nil, nat_tests, most_number, most_body, IsSet, Rules}
+use Rattle.am_audited.proofs.Words.{GroupView, Entry, FieldFault, Form, cut_of, name_text, stamp_text, names_text, body_text, resilience_text, entry_text}
 use Rattle.am_audited.proofs.Words.{Outline, data_parts, data_of, resilience_of, resilience_in, view_of, outline_of, data_in, number_again, name_again}
 use Rattle.am_audited.proofs.Words.{names_again, decimal_word, name_word, stamp_word, names_word, word_cut, word_whole, stamp_again, body_again, IsSayable}
 use Rattle.am_audited.proofs.Words.{IsRaised}

@@ -1,11 +1,10 @@
 -- A list that fits is read as one that fits, where the founding's resilience is read as 0.
 use Rattle.am_audited.proofs.Words.{◌≡◌, ℕ, zero, suc, ◌+◌, ◌<◌, ◌≤◌, ◌==◌, ◌&&◌, ◌||◌, nat_le, Bool, true, false, if◌then◌else◌, List, [], ◌∷◌, length, map}
 use Rattle.am_audited.proofs.Words.{refl, sym, ap, ◌∙◌, arith, Option, Some, None, Result, Ok, get_or, unwrap_or, All, slice_index, slice_index_or, list_all}
-use Rattle.am_audited.proofs.Words.{range_with_len, and_parts, and_from, nat_tests, All-head, All-tail, most_number, Rules, MayFound, has, life_of}
-use Rattle.am_audited.proofs.Words.{is_within, lowest_of, by_place, stamp_lt, stamp_eq, no_stamp, blank, is_blank, is_blank_row, at_place, members_of, after}
-use Rattle.am_audited.proofs.Words.{fits, AllFit, row_after_view, blank_row, Image, Entry, split, lowest_or_first, founders_view, first_founder, entry_text}
-use Rattle.am_audited.proofs.Words.{Outline, Verdict, outline_of, or_else, bare_entry, is_lowest, founds, fits_at, image_after, first_misfit, IsSayable}
-use Rattle.am_audited.proofs.Words.{IsRaised, texts_of}
+use Rattle.am_audited.proofs.Words.{range_with_len, and_parts, and_from, nat_tests, All-head, All-tail, most_number, Rules, MayFound, has, life_of, is_within}
+use Rattle.am_audited.proofs.Words.{lowest_of, by_place, stamp_lt, stamp_eq, no_stamp, blank, is_blank, is_blank_row, at_place, members_of, after, fits, AllFit}
+use Rattle.am_audited.proofs.Words.{row_after_view, blank_row, Image, Entry, split, lowest_or_first, founders_view, first_founder, entry_text, Outline, Verdict}
+use Rattle.am_audited.proofs.Words.{outline_of, or_else, bare_entry, is_lowest, founds, fits_at, image_after, first_misfit, IsSayable, IsRaised, texts_of}
 use Rattle.am_audited.proofs.Entries.{resilience_as, outline_as, entry_read}
 use Rattle.am_base.specs.declared.entry.Entry.TheVariants as entries
 use Rattle.am_audit.specs.declared.verdict.Verdict.TheVariants as verdicts

@@ -1,11 +1,11 @@
 -- The logs of a run whose list fits are pieces of it, as they are read.
 use Rattle.am_audited.proofs.Words.{◌≡◌, ◌≢◌, ℕ, zero, suc, ◌+◌, ◌*◌, ◌/◌, ◌%◌, ◌<◌, ◌≤◌, ◌==◌, ◌&&◌, Bool, true, false, if◌then◌else◌, List, [], ◌∷◌, ◌++◌}
 use Rattle.am_audited.proofs.Words.{map, refl, sym, ap, ◌∙◌, arith, subst, Option, Some, None, Ok, ◌⊎◌, ⊎_elim, inl, inr, All, option_map, flat_map}
-use Rattle.am_audited.proofs.Words.{range_with_len, flat_map-append, append-nil, slice_get-map, and_parts, nat_tests, Rules, blank, AllFit, has, Entry}
-use Rattle.am_audited.proofs.Words.{split, item_at, deliveries, same, founders_view, has_log, entry_text, World, logs, BeginsAt, IsSegment, Segment}
-use Rattle.am_audited.proofs.Words.{all_item, no_send_twice, Verdict, outline_of, data_in, is_send, Line, or_else, last_of, first_with, first_sent, gap_at}
-use Rattle.am_audited.proofs.Words.{differs_at, twice_by, twice_at, fault_at, first_fault, is_text, first_astray, may_begin, early_at, first_early}
-use Rattle.am_audited.proofs.Words.{IsSayable, IsRaised, texts_of, log_in, logs_in}
+use Rattle.am_audited.proofs.Words.{range_with_len, flat_map-append, append-nil, slice_get-map, and_parts, nat_tests, Rules, blank, AllFit, has, Entry, split}
+use Rattle.am_audited.proofs.Words.{item_at, deliveries, same, founders_view, has_log, entry_text, World, logs, BeginsAt, IsSegment, Segment, all_item}
+use Rattle.am_audited.proofs.Words.{no_send_twice, Verdict, outline_of, data_in, is_send, Line, or_else, last_of, first_with, first_sent, gap_at, differs_at}
+use Rattle.am_audited.proofs.Words.{twice_by, twice_at, fault_at, first_fault, is_text, first_astray, may_begin, early_at, first_early, IsSayable, IsRaised}
+use Rattle.am_audited.proofs.Words.{texts_of, log_in, logs_in}
 use Rattle.am_audited.proofs.{Outcomes.same_self, Entries.outline_as, Entries.entry_read, Entries.is_of, Entries.data_as, Entries.data_in_is}
 use Rattle.am_base.specs.declared.entry.Entry.TheVariants as entries
 use Rattle.am_audit.specs.declared.verdict.Verdict.TheVariants as verdicts

@@ -3,8 +3,8 @@ use Rattle.am_base.proofs.ChainWords.{split, ◌≡◌, ⊎_elim, inl, ℕ, ◌+
 use Rattle.am_base.proofs.ChainWords.{sym, ap, ◌∙◌, subst, arith, append-nil, nat_tests, get_or-map, GroupView, Image, Row, Entry, Leave, View, has, place_of}
 use Rattle.am_base.proofs.ChainWords.{life_of, blank_row, blank, after, fits, fold, AllFit, members_of, member_life, Begins, IsGood, AllSmall, SmallName}
 use Rattle.am_base.proofs.ChainWords.{image_of, mem}
-use Rattle.am_base.proofs.Rows.{row_at, In, Past, Was, Spares, Lasting, was_lasting, past_lasting, mod16, long_after, lasts_after, not_both}
-use Rattle.am_base.proofs.Rows.{blank_joined, in_after, in_viewed, viewed_member, out_after}
+use Rattle.am_base.proofs.Rows.{row_at, In, Past, Was, Spares, Lasting, was_lasting, past_lasting, mod16, long_after, lasts_after, not_both, blank_joined}
+use Rattle.am_base.proofs.Rows.{in_after, in_viewed, viewed_member, out_after}
 use Rattle.am_base.proofs.Prefixes.{begins_refl, begins_more, begins_trans, push_next}
 
 pub fold_append : (image : Image) (n : ℕ) (a b : List Entry) → fold image n (a ++ b) ≡ fold (fold image n a) (n + length a) b

@@ -1,7 +1,7 @@
 -- Views and resilience rise along a list.
 use Rattle.am_base.proofs.ChainWords.{split, ◌≡◌, ℕ, ◌+◌, ◌<◌, ◌≤◌, ◌==◌, nat_lt, true, List, [], ◌∷◌, ◌++◌, length, refl, sym, ap, ◌∙◌, subst, arith}
-use Rattle.am_base.proofs.ChainWords.{nat_tests, Stamp, GroupView, Image, Entry, Data, Join, Leave, View, has, life_of, rank_of, is_within, stamp_lt, blank, after}
-use Rattle.am_base.proofs.ChainWords.{fits, fold, AllFit, members_of, at_place, Begins, IsGood, AllSmall, SmallName, NotView, image_of, view_of}
+use Rattle.am_base.proofs.ChainWords.{nat_tests, Stamp, GroupView, Image, Entry, Data, Join, Leave, View, has, life_of, rank_of, is_within, stamp_lt, blank}
+use Rattle.am_base.proofs.ChainWords.{after, fits, fold, AllFit, members_of, at_place, Begins, IsGood, AllSmall, SmallName, NotView, image_of, view_of}
 use Rattle.am_base.proofs.ChainWords.{resilience_of, key}
 use Rattle.am_base.proofs.Members.{fold_append, fit_back, small_back, told_push, last_fits, last_small, good_begins}
 use Rattle.am_base.proofs.Rows.{view_parts}

@@ -3,8 +3,8 @@ use Rattle.am_base.proofs.ChainWords.{split, ◌≡◌, ◌≢◌, ◌⊎◌, �
 use Rattle.am_base.proofs.ChainWords.{slice_index, refl, sym, ap, ◌∙◌, subst, arith, nat_tests, get_or-map, GroupView, Image, Row, Entry, Data, Join, Leave}
 use Rattle.am_base.proofs.ChainWords.{View, has, place_of, life_of, blank_row, blank, is_blank, row_of, member_life, members_of, with_row, row_after_view}
 use Rattle.am_base.proofs.ChainWords.{after, fits, request_in}
-use Rattle.am_base.proofs.{Rows.same_name, Rows.row_at, Rows.In, Rows.and_left, Rows.and_right, Rows.mod16, Rows.row_set, Rows.row_view}
-use Rattle.am_base.proofs.{Rows.blank_joined, Members.member_in}
+use Rattle.am_base.proofs.{Rows.same_name, Rows.row_at, Rows.In, Rows.and_left, Rows.and_right, Rows.mod16, Rows.row_set, Rows.row_view, Rows.blank_joined}
+use Rattle.am_base.proofs.{Members.member_in}
 
 -- the next request of this life of a place: the first as long as the life has not joined, else the one after its last; where
 -- a greater life has joined there is none, and any number will do
@@ -151,7 +151,8 @@ view_goes_on : (image : Image) (n : ℕ) (v : GroupView) (name next : ℕ) → I
     → IsNext (row_at (after image n (View v)) (place_of name)) (life_of name) next
 view_goes_on image n v name next h = rw (row_view image n v (place_of name) (mod16 name))
     (split (is_blank image)
-    (λ t. rw t (next_first (row_at image (place_of name)) n (slice_index v.members (place_of name)) (life_of name) next (blank_joined image (place_of name) t) h))
+    (λ t. rw t (next_first (row_at image (place_of name)) n (slice_index v.members (place_of name)) (life_of name) next
+    (blank_joined image (place_of name) t) h))
     (λ f. rw f (next_viewed (row_at image (place_of name)) n (slice_index v.members (place_of name)) (life_of name) next h)))
 
 pub entry_goes_on : (image : Image) (n : ℕ) (e : Entry) (name next : ℕ) → length image.rows ≡ 16 → 0 < n → fits image e ≡ true

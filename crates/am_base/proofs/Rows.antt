@@ -1,9 +1,9 @@
 -- One place's row, along a list.
-use Rattle.am_base.proofs.ChainWords.{split, ◌≡◌, ◌≢◌, ◌⊎◌, ⊎_elim, inl, inr, ℕ, zero, suc, ◌+◌, ◌%◌, ◌<◌, ◌≤◌, ◌==◌, ◌&&◌, ◌||◌, nat_lt, nat_le, Bool}
-use Rattle.am_base.proofs.ChainWords.{true, false, not, List, [], ◌∷◌, length, get_or, slice_index, refl, sym, ◌∙◌, subst, arith, get_or-set_same}
-use Rattle.am_base.proofs.ChainWords.{get_or-set_other, nat_tests, list_all, range_with_len, GroupView, Image, Row, Entry, Data, Join, Leave, View, has}
-use Rattle.am_base.proofs.ChainWords.{place_of, life_of, is_within, stamp_lt, blank_row, is_blank_row, is_blank, after, fits, members_of, member_life}
-use Rattle.am_base.proofs.ChainWords.{at_place, with_row, row_after_view, get_or-by_place, length-by_place}
+use Rattle.am_base.proofs.ChainWords.{split, ◌≡◌, ◌≢◌, ◌⊎◌, ⊎_elim, inl, inr, ℕ, zero, suc, ◌+◌, ◌%◌, ◌<◌, ◌≤◌, ◌==◌, ◌&&◌, ◌||◌, nat_lt, nat_le, Bool, true}
+use Rattle.am_base.proofs.ChainWords.{false, not, List, [], ◌∷◌, length, get_or, slice_index, refl, sym, ◌∙◌, subst, arith, get_or-set_same, get_or-set_other}
+use Rattle.am_base.proofs.ChainWords.{nat_tests, list_all, range_with_len, GroupView, Image, Row, Entry, Data, Join, Leave, View, has, place_of, life_of}
+use Rattle.am_base.proofs.ChainWords.{is_within, stamp_lt, blank_row, is_blank_row, is_blank, after, fits, members_of, member_life, at_place, with_row}
+use Rattle.am_base.proofs.ChainWords.{row_after_view, get_or-by_place, length-by_place}
 use Rattle.std.proofs.Math.ListN as listn
 
 -- the row of a place

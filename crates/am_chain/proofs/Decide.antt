@@ -1,13 +1,13 @@
 -- A decision keeps what is kept.
-use Rattle.am_chain.proofs.Words.{low_or_above, split, ◌≡◌, ◌≢◌, ◌⊎◌, ⊎_elim, inl, inr, ℕ, ◌+◌, ◌<◌, ◌≤◌, min, Bool, true, false, List, [], ◌∷◌, ◌++◌}
-use Rattle.am_chain.proofs.Words.{length, take, Some, refl, sym, ap, ◌∙◌, subst, arith, GroupView, Entry, View, has, Begins, IsGood, mem, view_of, key, begins_refl}
+use Rattle.am_chain.proofs.Words.{low_or_above, split, ◌≡◌, ◌≢◌, ◌⊎◌, ⊎_elim, inl, inr, ℕ, ◌+◌, ◌<◌, ◌≤◌, min, Bool, true, false, List, [], ◌∷◌, ◌++◌, length}
+use Rattle.am_chain.proofs.Words.{take, Some, refl, sym, ap, ◌∙◌, subst, arith, GroupView, Entry, View, has, Begins, IsGood, mem, view_of, key, begins_refl}
 use Rattle.am_chain.proofs.Words.{begins_more, begins_trans, begins_length, begins_both, length_push, below_begins, below_of, begins_pushed, begins_take}
-use Rattle.am_chain.proofs.Words.{mem_between, mem_viewed, viewed_mem, good_begins, good_push, Ends, ends_of, view_viewed, view_fits, key_by}
-use Rattle.am_chain.proofs.Words.{resilience_viewed, put, how_many, Node, Chosen, opening, Views, Group, chain_of, current_of, IsThere, IsUp, MayDecide}
-use Rattle.am_chain.proofs.Words.{choice_of, with_choice, IsLawful, LateOk, NodeOk, ServedOk, DepartedOk, ViewsOk, Kept}
+use Rattle.am_chain.proofs.Words.{mem_between, mem_viewed, viewed_mem, good_begins, good_push, Ends, ends_of, view_viewed, view_fits, key_by, resilience_viewed}
+use Rattle.am_chain.proofs.Words.{put, how_many, Node, Chosen, opening, Views, Group, chain_of, current_of, IsThere, IsUp, MayDecide, choice_of, with_choice}
+use Rattle.am_chain.proofs.Words.{IsLawful, LateOk, NodeOk, ServedOk, DepartedOk, ViewsOk, Kept}
 use Rattle.am_chain.proofs.Heart.{ballot_ok, list_chain, member_above, needed_promised, needed_low, departed_in, complete_in, group_in, too_few}
-use Rattle.am_chain.proofs.{Puts.put_cases, Puts.put_same, Puts.put_other, Puts.put_at, Frames.Later, Frames.later_all, Frames.shown_later}
-use Rattle.am_chain.proofs.{Frames.served_later, Frames.witness_later, Nodes.fronts_longer, Nodes.view_current}
+use Rattle.am_chain.proofs.{Puts.put_cases, Puts.put_same, Puts.put_other, Puts.put_at, Frames.Later, Frames.later_all, Frames.shown_later, Frames.served_later}
+use Rattle.am_chain.proofs.{Frames.witness_later, Nodes.fronts_longer, Nodes.view_current}
 
 module _ (s : Group) (k : Kept s) (lawful : IsLawful s) (c : ℕ) (v : GroupView) (d : MayDecide s c v) where
   abbrev list : List Entry

@@ -1,10 +1,10 @@
 -- The group list grows, and the chain does.
-use Rattle.am_chain.proofs.Words.{low_or_above, split, ◌≡◌, ◌≢◌, ◌⊎◌, ⊎_elim, ℕ, ◌+◌, ◌-◌, ◌<◌, ◌≤◌, min, true, false, List, [], ◌∷◌, ◌++◌}
-use Rattle.am_chain.proofs.Words.{length, take, Some, slice_get, sym, ap, ◌∙◌, subst, arith, take-append-le, Entry, View, has, members_of, fits}
-use Rattle.am_chain.proofs.Words.{counted_of, Begins, IsGood, NotView, SmallName, image_of, mem, view_of, key, resilience_of, begins_refl, begins_more}
-use Rattle.am_chain.proofs.Words.{begins_trans, begins_length, begins_both, begins_pushed, begins_take, length_take, Spares, mem_push, good_push}
-use Rattle.am_chain.proofs.Words.{view_push, put, how_many, counted_in, need_of, Node, opening, Views, Group, chain_of, IsThere, IsUp, Leads, MayAccept}
-use Rattle.am_chain.proofs.Words.{NodeOk, ServedOk, Witness, DepartedOk, ViewsOk, Kept}
+use Rattle.am_chain.proofs.Words.{low_or_above, split, ◌≡◌, ◌≢◌, ◌⊎◌, ⊎_elim, ℕ, ◌+◌, ◌-◌, ◌<◌, ◌≤◌, min, true, false, List, [], ◌∷◌, ◌++◌, length, take, Some}
+use Rattle.am_chain.proofs.Words.{slice_get, sym, ap, ◌∙◌, subst, arith, take-append-le, Entry, View, has, members_of, fits, counted_of, Begins, IsGood}
+use Rattle.am_chain.proofs.Words.{NotView, SmallName, image_of, mem, view_of, key, resilience_of, begins_refl, begins_more, begins_trans, begins_length}
+use Rattle.am_chain.proofs.Words.{begins_both, begins_pushed, begins_take, length_take, Spares, mem_push, good_push, view_push, put, how_many, counted_in}
+use Rattle.am_chain.proofs.Words.{need_of, Node, opening, Views, Group, chain_of, IsThere, IsUp, Leads, MayAccept, NodeOk, ServedOk, Witness, DepartedOk}
+use Rattle.am_chain.proofs.Words.{ViewsOk, Kept}
 use Rattle.am_chain.proofs.{Puts.put_cases, Puts.put_same, Puts.put_at, Frames.Later, Frames.later_all, Frames.shown_later, Frames.served_later}
 use Rattle.am_chain.proofs.{Frames.witness_later, Frames.departed_later}
 use Rattle.am_group.proofs.Places.{get_before}

@@ -1,11 +1,11 @@
 -- A coordinator that decides has all that was accepted.
 use Rattle.am_chain.proofs.Words.{low_or_above, split, ◌≡◌, ◌⊎◌, ⊎_elim, ℕ, zero, suc, ◌+◌, ◌-◌, ◌<◌, ◌≤◌, ◌&&◌, ◌||◌, not, nat_lt, min, Bool, true, false}
 use Rattle.am_chain.proofs.Words.{List, [], ◌∷◌, ◌++◌, length, take, Option, Some, None, slice_get, refl, sym, ap, ◌∙◌, subst, arith, nat_tests}
-use Rattle.am_chain.proofs.Words.{slice_get_within, GroupView, Entry, Leave, View, has, Begins, IsGood, mem, view_of, key, resilience_of, begins_refl, begins_nil}
-use Rattle.am_chain.proofs.Words.{begins_more, begins_trans, begins_length, begins_both, begins_same, begins_push, length_push, begins_take, length_take}
-use Rattle.am_chain.proofs.Words.{take_begins, mem_between, mem_nil, mem_viewed, viewed_mem, good_begins, leaver_in, leaver_out, view_up, resilience_up}
-use Rattle.am_chain.proofs.Words.{resilience_viewed, how_many, counted_in, opening, Group, chain_of, IsThere, IsUp, NoBetter, MayDecide, Voted, counts_for}
-use Rattle.am_chain.proofs.Words.{IsLawful, BallotOk, Kept}
+use Rattle.am_chain.proofs.Words.{slice_get_within, GroupView, Entry, Leave, View, has, Begins, IsGood, mem, view_of, key, resilience_of, begins_refl}
+use Rattle.am_chain.proofs.Words.{begins_nil, begins_more, begins_trans, begins_length, begins_both, begins_same, begins_push, length_push, begins_take}
+use Rattle.am_chain.proofs.Words.{length_take, take_begins, mem_between, mem_nil, mem_viewed, viewed_mem, good_begins, leaver_in, leaver_out, view_up}
+use Rattle.am_chain.proofs.Words.{resilience_up, resilience_viewed, how_many, counted_in, opening, Group, chain_of, IsThere, IsUp, NoBetter, MayDecide, Voted}
+use Rattle.am_chain.proofs.Words.{counts_for, IsLawful, BallotOk, Kept}
 use Rattle.am_chain.proofs.Puts.{count_within, count_below}
 
 -- the greatest number that passes

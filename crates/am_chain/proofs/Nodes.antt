@@ -1,10 +1,9 @@
 -- What each move of one node keeps of that node.
-use Rattle.am_chain.proofs.Words.{low_or_above, ◌≡◌, ◌≢◌, ◌⊎◌, ⊎_elim, ℕ, ◌+◌, ◌<◌, ◌≤◌, Bool, true, false, List, [], ◌∷◌, ◌++◌, length, take, Some}
-use Rattle.am_chain.proofs.Words.{slice_get, refl, sym, ap, ◌∙◌, subst, arith, length-append, take-append-le, slice_get_within, Stamp, Entry, View}
-use Rattle.am_chain.proofs.Words.{rank_of, Begins, mem, view_of, key, begins_more, begins_trans, begins_length, begins_both, begins_same, begins_push}
-use Rattle.am_chain.proofs.Words.{length_push, below_begins, below_length, below_of, begins_take, length_take, mem_between, view_up, Node, opening}
-use Rattle.am_chain.proofs.Words.{Views, Group, chain_of, current_of, IsThere, IsUp, IsOngoing, own_stamp, longer, MayWelcome, FrontsOk, LateOk}
-use Rattle.am_chain.proofs.Words.{BallotOk, NodeOk, ServedOk, ViewsOk}
+use Rattle.am_chain.proofs.Words.{low_or_above, ◌≡◌, ◌≢◌, ◌⊎◌, ⊎_elim, ℕ, ◌+◌, ◌<◌, ◌≤◌, Bool, true, false, List, [], ◌∷◌, ◌++◌, length, take, Some, slice_get}
+use Rattle.am_chain.proofs.Words.{refl, sym, ap, ◌∙◌, subst, arith, length-append, take-append-le, slice_get_within, Stamp, Entry, View, rank_of, Begins, mem}
+use Rattle.am_chain.proofs.Words.{view_of, key, begins_more, begins_trans, begins_length, begins_both, begins_same, begins_push, length_push, below_begins}
+use Rattle.am_chain.proofs.Words.{below_length, below_of, begins_take, length_take, mem_between, view_up, Node, opening, Views, Group, chain_of, current_of}
+use Rattle.am_chain.proofs.Words.{IsThere, IsUp, IsOngoing, own_stamp, longer, MayWelcome, FrontsOk, LateOk, BallotOk, NodeOk, ServedOk, ViewsOk}
 
 -- a list that goes on
 pub fronts_longer : (group : List Entry) (m n : Node) (more : List Entry) → n.list ≡ m.list ++ more → n.told ≡ m.told → n.acc ≡ m.acc → FrontsOk group m

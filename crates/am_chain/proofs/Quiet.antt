@@ -1,11 +1,10 @@
 -- Each move but a decision keeps what is kept, whoever stopped.
 use Rattle.am_chain.proofs.Words.{low_or_above, ◌≡◌, ◌≢◌, ◌⊎◌, ⊎_elim, inl, inr, ℕ, ◌<◌, ◌≤◌, Bool, true, false, List, [], ◌∷◌, ◌++◌, length, take, Some}
-use Rattle.am_chain.proofs.Words.{slice_get, refl, sym, ap, ◌∙◌, subst, arith, Stamp, Entry, Leave, View, fits, Begins, NotView, image_of, mem}
-use Rattle.am_chain.proofs.Words.{view_of, key, begins_refl, begins_nil, begins_more, begins_trans, begins_length, begins_both, below_begins, Spares}
-use Rattle.am_chain.proofs.Words.{mem_between, mem_push, key_by, put, Node, Group, chain_of, IsThere, IsUp, Leads, IsOngoing, IsHeld, MayAccept, longer}
-use Rattle.am_chain.proofs.Words.{own_stamp, IsAbove, MayNumber, MayWelcome, MayDepart, with_node, with_line, ServedOk, DepartedOk, Kept}
-use Rattle.am_chain.proofs.Nodes.{fronts_longer, flags_ok, fronts_ok, raise_ok, begin_ok, own_above, store_ok, fetch_ok, fetch_chain, welcome_ok}
-use Rattle.am_chain.proofs.Nodes.{welcome_now}
+use Rattle.am_chain.proofs.Words.{slice_get, refl, sym, ap, ◌∙◌, subst, arith, Stamp, Entry, Leave, View, fits, Begins, NotView, image_of, mem, view_of, key}
+use Rattle.am_chain.proofs.Words.{begins_refl, begins_nil, begins_more, begins_trans, begins_length, begins_both, below_begins, Spares, mem_between, mem_push}
+use Rattle.am_chain.proofs.Words.{key_by, put, Node, Group, chain_of, IsThere, IsUp, Leads, IsOngoing, IsHeld, MayAccept, longer, own_stamp, IsAbove, MayNumber}
+use Rattle.am_chain.proofs.Words.{MayWelcome, MayDepart, with_node, with_line, ServedOk, DepartedOk, Kept}
+use Rattle.am_chain.proofs.Nodes.{fronts_longer, flags_ok, fronts_ok, raise_ok, begin_ok, own_above, store_ok, fetch_ok, fetch_chain, welcome_ok, welcome_now}
 use Rattle.am_chain.proofs.Fronts.{group_change, chain_change, grown, views_grow, chain_is, good_grown}
 use Rattle.am_chain.proofs.{Puts.put_cases, Puts.put_same, Puts.put_other, Frames.Later, Frames.later_promise, Frames.node_change}
 

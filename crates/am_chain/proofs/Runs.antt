@@ -1,9 +1,9 @@
 -- What every run keeps.
 use Rattle.am_chain.proofs.Words.{◌≡◌, ℕ, zero, suc, ◌&&◌, not, Bool, true, false, List, [], ◌∷◌, ◌++◌, length, take, refl, sym, ◌∙◌, subst, arith, Entry}
 use Rattle.am_chain.proofs.Words.{Leave, Begins, begins_refl, begins_trans, begins_take, begins_both, length_take, count, Node, opening, Group, chain_of}
-use Rattle.am_chain.proofs.Words.{MayAccept, put, Move, numbers, stores, accepts, learns, begins, raises, shows, serves, fetches, decides, gives_over}
-use Rattle.am_chain.proofs.Words.{welcomes, asks, departs, closes, stops, longer, Step, IsLawful, start, Run, founded, more, Onward, here, onward}
-use Rattle.am_chain.proofs.Words.{counts_for, Kept, RunsKeep, ChoicesKeep, CompleteViewsStand, image_of, begins_more}
+use Rattle.am_chain.proofs.Words.{MayAccept, put, Move, numbers, stores, accepts, learns, begins, raises, shows, serves, fetches, decides, gives_over, welcomes}
+use Rattle.am_chain.proofs.Words.{asks, departs, closes, stops, longer, Step, IsLawful, start, Run, founded, more, Onward, here, onward, counts_for, Kept}
+use Rattle.am_chain.proofs.Words.{RunsKeep, ChoicesKeep, CompleteViewsStand, image_of, begins_more}
 use Rattle.am_chain.proofs.{Start.start_kept, Steps.quiet_keeps, Decide.decides_keeps, Decide.chosen_old, Decide.decided_old, Decide.group_low}
 use Rattle.am_chain.proofs.{Marks.marks_keep}
 

@@ -1,8 +1,8 @@
 -- What a group keeps at its start.
-use Rattle.am_chain.proofs.Words.{◌≡◌, ⊎_elim, ℕ, ◌<◌, ◌≤◌, nat_le, if◌then◌else◌, Bool, true, false, List, [], ◌∷◌, ◌++◌, length, refl, sym, subst}
-use Rattle.am_chain.proofs.Words.{arith, nat_tests, Entry, View, has, no_stamp, blank, fits, fold, Begins, IsGood, mem, key, begins_refl, begins_nil}
-use Rattle.am_chain.proofs.Words.{begins_length, begins_same, begins_pushed, below_length, good_nil, good_push, mem_nil, mem_viewed, viewed_mem}
-use Rattle.am_chain.proofs.Words.{view_viewed, opening, MayBegin, first_stamp, first_choice, start, NodeOk, Kept}
+use Rattle.am_chain.proofs.Words.{◌≡◌, ⊎_elim, ℕ, ◌<◌, ◌≤◌, nat_le, if◌then◌else◌, Bool, true, false, List, [], ◌∷◌, ◌++◌, length, refl, sym, subst, arith}
+use Rattle.am_chain.proofs.Words.{nat_tests, Entry, View, has, no_stamp, blank, fits, fold, Begins, IsGood, mem, key, begins_refl, begins_nil, begins_length}
+use Rattle.am_chain.proofs.Words.{begins_same, begins_pushed, below_length, good_nil, good_push, mem_nil, mem_viewed, viewed_mem, view_viewed, opening}
+use Rattle.am_chain.proofs.Words.{MayBegin, first_stamp, first_choice, start, NodeOk, Kept}
 
 first_fits : (founders : List ℕ) (first resilience : ℕ) → has founders first ≡ true → fits blank (View (first_choice founders first resilience).view) ≡ true
 unfolding fits

@@ -1,6 +1,6 @@
 -- What every run keeps in which no ballot is decided.
-use Rattle.am_chain.proofs.Words.{◌≡◌, refl, ◌∙◌, Group, Move, numbers, stores, accepts, learns, begins, raises, shows, serves, fetches, decides}
-use Rattle.am_chain.proofs.Words.{gives_over, welcomes, asks, departs, closes, stops, IsNoDecision, quiet, quietly, Kept, QuietRunsKeep}
+use Rattle.am_chain.proofs.Words.{◌≡◌, refl, ◌∙◌, Group, Move, numbers, stores, accepts, learns, begins, raises, shows, serves, fetches, decides, gives_over}
+use Rattle.am_chain.proofs.Words.{welcomes, asks, departs, closes, stops, IsNoDecision, quiet, quietly, Kept, QuietRunsKeep}
 use Rattle.am_chain.proofs.Quiet.{numbers_keeps, stores_keeps, accepts_keeps, learns_keeps, begins_keeps, raises_keeps, fetches_keeps, gives_over_keeps}
 use Rattle.am_chain.proofs.Quiet.{welcomes_keeps, asks_keeps, departs_keeps, closes_keeps, stops_keeps}
 use Rattle.am_chain.proofs.{Start.start_kept, Ballots.shows_keeps, Ballots.serves_keeps}

@@ -1,12 +1,11 @@
 -- The parts of a node keep what they keep.
-use Rattle.am_handlers.proofs.Words.{and_left, ◌≡◌, ◌≢◌, ◌<◌, inl, ℕ, ◌+◌, [], ◌∷◌, length, ◌-◌, ◌≤◌, nat_lt, List, Bool, true, false, ◌&&◌, ◌==◌, Option}
-use Rattle.am_handlers.proofs.Words.{Some, None, option_map, refl, sym, ◌∙◌, ap, subst, arith, Image, Stamp, Report, Row, Entry, Data, Join, Leave, View}
-use Rattle.am_handlers.proofs.Words.{nat_tests, has, life_of, stamp_eq, stamp_lt, members_of, at_place, after, fits, fold, CoreState, IsInOrder, accept}
-use Rattle.am_handlers.proofs.Words.{pass_over, IsKept, split, end-top, end-told, told-push, stands_self, Led, LeadsBy, MayLead, own_report, tell, go_on}
-use Rattle.am_handlers.proofs.Words.{let_go, KeptBody, OwnSend, Sends, next_request, has_log, Node, Ballot, top, image_of, view, members, acts, waiting}
-use Rattle.am_handlers.proofs.Words.{is_member, is_sequencer, push_entry, with_report, after_report, Status, Member, is_view, refresh, lead, led_of, with_led}
-use Rattle.am_handlers.proofs.Words.{accepted_at, settle_at, settle_waiting, settle, refresh_at_end, IsEndOf, long_after, NodeKeeps, IsOwnBallot, IsSteady}
-use Rattle.am_handlers.proofs.Words.{IsDue, MayServe}
+use Rattle.am_handlers.proofs.Words.{and_left, ◌≡◌, ◌≢◌, ◌<◌, inl, ℕ, ◌+◌, [], ◌∷◌, length, ◌-◌, ◌≤◌, nat_lt, List, Bool, true, false, ◌&&◌, ◌==◌, Option, Some}
+use Rattle.am_handlers.proofs.Words.{None, option_map, refl, sym, ◌∙◌, ap, subst, arith, Image, Stamp, Report, Row, Entry, Data, Join, Leave, View, nat_tests}
+use Rattle.am_handlers.proofs.Words.{has, life_of, stamp_eq, stamp_lt, members_of, at_place, after, fits, fold, CoreState, IsInOrder, accept, pass_over, IsKept}
+use Rattle.am_handlers.proofs.Words.{split, end-top, end-told, told-push, stands_self, Led, LeadsBy, MayLead, own_report, tell, go_on, let_go, KeptBody}
+use Rattle.am_handlers.proofs.Words.{OwnSend, Sends, next_request, has_log, Node, Ballot, top, image_of, view, members, acts, waiting, is_member, is_sequencer}
+use Rattle.am_handlers.proofs.Words.{push_entry, with_report, after_report, Status, Member, is_view, refresh, lead, led_of, with_led, accepted_at, settle_at}
+use Rattle.am_handlers.proofs.Words.{settle_waiting, settle, refresh_at_end, IsEndOf, long_after, NodeKeeps, IsOwnBallot, IsSteady, IsDue, MayServe}
 use Rattle.am_state.specs.Cores.{advance}
 use Rattle.am_state.specs.Refresh as fronts
 use Rattle.am_state.specs.Sends as sending

@@ -1,10 +1,10 @@
 -- At the start there is a group that follows the world, and so there is up to the lawful front.
 use Rattle.am_headline.proofs.Words.{watch_push, ◌≡◌, ℕ, zero, suc, ◌<◌, ◌≤◌, ◌==◌, true, List, [], ◌∷◌, ◌++◌, length, take, None, Some, refl, sym, ap, ◌∙◌}
-use Rattle.am_headline.proofs.Words.{subst, arith, Contains, slice_index_or, nat_tests, take_all, All-nil, All-cons, View, Rules, MayFound, has, Event}
-use Rattle.am_headline.proofs.Words.{IsGood, key, begins_refl, begins_nil, good_begins, Group, chain_of, MayBegin, founded, run_keeps, lowest_or_first}
-use Rattle.am_headline.proofs.Words.{founding_stamp, has_departed, Decided, World, start, first_node, founders_decided, happen, run, Watch, watch_all}
-use Rattle.am_headline.proofs.Words.{watch_run, watch_start, broken_at, BecameComplete, split, first_founder, NamesNamed, GroupFor, start_keeps}
-use Rattle.am_headline.proofs.Words.{branches_begin, goes_on, start_stands, Following, StepsMove, founding_view}
+use Rattle.am_headline.proofs.Words.{subst, arith, Contains, slice_index_or, nat_tests, take_all, All-nil, All-cons, View, Rules, MayFound, has, Event, IsGood}
+use Rattle.am_headline.proofs.Words.{key, begins_refl, begins_nil, good_begins, Group, chain_of, MayBegin, founded, run_keeps, lowest_or_first, founding_stamp}
+use Rattle.am_headline.proofs.Words.{has_departed, Decided, World, start, first_node, founders_decided, happen, run, Watch, watch_all, watch_run, watch_start}
+use Rattle.am_headline.proofs.Words.{broken_at, BecameComplete, split, first_founder, NamesNamed, GroupFor, start_keeps, branches_begin, goes_on, start_stands}
+use Rattle.am_headline.proofs.Words.{Following, StepsMove, founding_view}
 use Rattle.am_chain.specs.Runs as begun
 use Rattle.am_headline.proofs.{Shapes.Shaped, Shapes.shaped_moves, Greatest.unbroken, Fold.KeptBy, Fold.Held, Fold.moves_mark, Fold.next}
 

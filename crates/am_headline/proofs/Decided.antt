@@ -1,7 +1,7 @@
 -- Who steps decides a view in it, and is its sequencer: what it trimmed as it decided is what its members have taken.
-use Rattle.am_headline.proofs.RepairedWords.{eqb-true, ◌≡◌, ℕ, ◌<◌, ◌≤◌, ◌==◌, max, true, false, List, [], ◌∷◌, ◌++◌, Some, slice_get, refl, sym, ap, ◌∙◌, subst}
-use Rattle.am_headline.proofs.RepairedWords.{arith, Stamp, Rules, stamp_lt, Packet, Letter, Event, key, Group, Node, view, acts, is_sequencer, Step, World, run}
-use Rattle.am_headline.proofs.RepairedWords.{split, and_both, Cause, actor, all_get, IsNoted, PacketSays, key_stamp, parts, plain, known_is_taken}
+use Rattle.am_headline.proofs.RepairedWords.{eqb-true, ◌≡◌, ℕ, ◌<◌, ◌≤◌, ◌==◌, max, true, false, List, [], ◌∷◌, ◌++◌, Some, slice_get, refl, sym, ap, ◌∙◌}
+use Rattle.am_headline.proofs.RepairedWords.{subst, arith, Stamp, Rules, stamp_lt, Packet, Letter, Event, key, Group, Node, view, acts, is_sequencer, Step}
+use Rattle.am_headline.proofs.RepairedWords.{World, run, split, and_both, Cause, actor, all_get, IsNoted, PacketSays, key_stamp, parts, plain, known_is_taken}
 use Rattle.am_packet.specs.declared.packet.Packet.TheVariants as packet
 use Rattle.am_headline.proofs.Trims.{LetterLow, Knows, took, Settles, TrimStep, Sent, before, now, laws_w, laws_v, who_n, letter_v, piece_decided}
 use Rattle.am_headline.proofs.Mailed.{says_low}

@@ -1,12 +1,13 @@
 -- How far above its base a name's entries lie, by the members at each: within a step.
-use Rattle.am_headline.proofs.Words.{◌≡◌, ◌⊎◌, ⊎_elim, inl, inr, ℕ, suc, ◌+◌, ◌-◌, ◌<◌, ◌≤◌, max, ◌==◌, ◌&&◌, not, nat_lt, Bool, true, if◌then◌else◌, List}
-use Rattle.am_headline.proofs.Words.{[], ◌∷◌, length, slice_index, refl, sym, ap, ◌∙◌, subst, length-append, arith, nat_tests, length-map, get_or-map}
-use Rattle.am_headline.proofs.Words.{count_by-le-length, Entry, Leave, View, Image, Row, GroupView, Stamp, Outcome, Rules, size, Log, blank_row, member_life, members_of}
-use Rattle.am_headline.proofs.Words.{members_at, image_at, top_of, with_entry, after, image-push, image-top, count_cons, In, row_at, long_after, in_viewed}
-use Rattle.am_headline.proofs.Words.{Node, Ballot, top, image_of, has_room, push_entry, Verdict, need_of, left_in, trim_for, split, Cause, hears, Looks}
-use Rattle.am_headline.proofs.Words.{decides, Carries, whole_entry, by_number, Change, refreshes, settles, numbers, stores, begins_list, looks, fetches}
+use Rattle.am_headline.proofs.Words.{◌≡◌, ◌⊎◌, ⊎_elim, inl, inr, ℕ, suc, ◌+◌, ◌-◌, ◌<◌, ◌≤◌, ◌==◌, ◌&&◌, not, nat_lt, Bool, true, if◌then◌else◌, List, [], ◌∷◌}
+use Rattle.am_headline.proofs.Words.{length, slice_index, refl, sym, ap, ◌∙◌, subst, length-append, arith, nat_tests, length-map, get_or-map}
+use Rattle.am_headline.proofs.Words.{count_by-le-length, Entry, Leave, View, Image, Row, GroupView, Stamp, Outcome, Rules, size, Log, blank_row, member_life}
+use Rattle.am_headline.proofs.Words.{members_of, members_at, image_at, top_of, with_entry, after, image-push, image-top, count_cons, In, row_at, long_after}
+use Rattle.am_headline.proofs.Words.{in_viewed, Node, Ballot, top, image_of, has_room, push_entry, Verdict, need_of, left_in, trim_for, split, Cause, hears}
+use Rattle.am_headline.proofs.Words.{Looks, decides, Carries, whole_entry, by_number, Change, refreshes, settles, numbers, stores, begins_list, looks, fetches}
 use Rattle.am_headline.proofs.Words.{stores_view, closes, Changes, unchanged, changed, rests_refresh, rests_at_end, settle_is, told_pushed, change_blank}
-use Rattle.am_headline.proofs.Words.{HeardUsed, change_owned, Along, Fronts, told_used, HeardNames, change_names, change_does, those_long, kept_change, decided_view}
+use Rattle.am_headline.proofs.Words.{HeardUsed, change_owned, Along, Fronts, told_used, HeardNames, change_names, change_does, those_long, kept_change}
+use Rattle.am_headline.proofs.Words.{decided_view}
 use Rattle.am_packet.specs.declared.packet.Packet.TheVariants as packet
 
 -- ---- how many names

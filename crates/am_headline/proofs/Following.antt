@@ -1,14 +1,15 @@
 -- What a member's changes keep while a schedule runs.
-use Rattle.am_headline.proofs.RepairWords.{eqb-true, not-false, same_stamp, ◌≡◌, ℕ, ◌+◌, ◌≤◌, ◌==◌, true, false, Option, Some, None, refl, sym, ap, ◌∙◌}
-use Rattle.am_headline.proofs.RepairWords.{subst, arith, length-append, ◌≢◌, Stamp, Image, Entry, Data, Outcome, Log, top_of, told_by, entry_at, image_at}
-use Rattle.am_headline.proofs.RepairWords.{after, image-next, Node, Ballot, top, image_of, is_sequencer, push_entry, is_unfinished, overtake, with_promise}
-use Rattle.am_headline.proofs.RepairWords.{is_view, bodies_after, World, Cause, hears, Promises, invited, overtaken_by, told_result, Carries, whole_entry}
-use Rattle.am_headline.proofs.RepairWords.{by_number, Change, refreshes, settles, takes_report, admits, numbers, stores, begins_list, departs, promises}
-use Rattle.am_headline.proofs.RepairWords.{opens, looks, fetches, stores_view, queues, collects, takes, asks_to_join, asks_to_leave, closes, told_pushed}
-use Rattle.am_headline.proofs.RepairWords.{view_pushed, acts_pushed, Repair, FollowsView, SequencerHas}
+use Rattle.am_headline.proofs.RepairWords.{eqb-true, not-false, same_stamp, ◌≡◌, ℕ, ◌+◌, ◌≤◌, ◌==◌, true, false, Option, Some, None, refl, sym, ap, ◌∙◌, subst}
+use Rattle.am_headline.proofs.RepairWords.{arith, length-append, ◌≢◌, Stamp, Image, Entry, Data, Outcome, Log, top_of, told_by, entry_at, image_at, after}
+use Rattle.am_headline.proofs.RepairWords.{image-next, Node, Ballot, top, image_of, is_sequencer, push_entry, is_unfinished, overtake, with_promise, is_view}
+use Rattle.am_headline.proofs.RepairWords.{bodies_after, World, Cause, hears, Promises, invited, overtaken_by, told_result, Carries, whole_entry, by_number}
+use Rattle.am_headline.proofs.RepairWords.{Change, refreshes, settles, takes_report, admits, numbers, stores, begins_list, departs, promises, opens, looks}
+use Rattle.am_headline.proofs.RepairWords.{fetches, stores_view, queues, collects, takes, asks_to_join, asks_to_leave, closes, told_pushed, view_pushed}
+use Rattle.am_headline.proofs.RepairWords.{acts_pushed, Repair, FollowsView, SequencerHas}
 use Rattle.am_packet.specs.declared.packet.Packet.TheVariants as packet
 use Rattle.am_headline.proofs.Nodes.{CalmCause, acting, leads_not, not_open, Alike, alike_here, alike_refresh, alike_settle, view_alike, acts_alike, rest_alike}
-use Rattle.am_headline.proofs.{RepairLists.entry_within, RepairLists.same_after, RepairLeading.no_ballot_begun, RepairLeading.looked_open, RepairLeading.not_behind}
+use Rattle.am_headline.proofs.{RepairLists.entry_within, RepairLists.same_after, RepairLeading.no_ballot_begun, RepairLeading.looked_open}
+use Rattle.am_headline.proofs.{RepairLeading.not_behind}
 
 -- an entry that isn't the next above a number
 abbrev pub Skips : ℕ → Cause → Type 0

@@ -1,13 +1,14 @@
 -- A sequencer trims no more than it knows each member of its list to have taken: each change keeps it.
-use Rattle.am_headline.proofs.RepairWords.{fetch_follows, stamp_by, other_asks, promise_is, not_above_view, not_own, base_low, other_heard, has_in, ◌≡◌, ◌≢◌, ⊎_elim}
-use Rattle.am_headline.proofs.RepairWords.{ℕ, ◌+◌, ◌<◌, ◌≤◌, ◌==◌, nat_lt, true, false, List, length, refl, sym, ap, ◌∙◌, subst, arith, nat_tests, Stamp, Image}
-use Rattle.am_headline.proofs.RepairWords.{Report, Row, Entry, Data, Join, Leave, Outcome, place_of, life_of, has, at_place, members_of, with_row, after, row_at, In}
-use Rattle.am_headline.proofs.RepairWords.{row_set, long_after, accept, pass_over, own_report, tell, go_on, let_go, Node, Ballot, top, image_of, view, members}
-use Rattle.am_headline.proofs.RepairWords.{is_sequencer, push_entry, trim_up_to, with_report, lead, refresh, settle, refresh_at_end, Verdict, with_promise}
-use Rattle.am_headline.proofs.RepairWords.{next_stamp, with_admitted, split, Cause, hears, HasOpen, Looks, decides, Promises, invited, overtaken, told_result}
-use Rattle.am_headline.proofs.RepairWords.{Numbers, asked_send, own_send, asked_join, asked_leave, Change, refreshes, settles, takes_report, admits, numbers, notes}
-use Rattle.am_headline.proofs.RepairWords.{stores, begins_list, departs, promises, opens, looks, fetches, stores_view, asks_to_join, closes, settle_is, told_pushed}
-use Rattle.am_headline.proofs.RepairWords.{leads_pushed, in_is, at_most_below, view_last, Balloted, next_above, Fronts, told_used, TrimsKnown}
+use Rattle.am_headline.proofs.RepairWords.{fetch_follows, stamp_by, other_asks, promise_is, not_above_view, not_own, base_low, other_heard, has_in, ◌≡◌, ◌≢◌}
+use Rattle.am_headline.proofs.RepairWords.{⊎_elim, ℕ, ◌+◌, ◌<◌, ◌≤◌, ◌==◌, nat_lt, true, false, List, length, refl, sym, ap, ◌∙◌, subst, arith, nat_tests}
+use Rattle.am_headline.proofs.RepairWords.{Stamp, Image, Report, Row, Entry, Data, Join, Leave, Outcome, place_of, life_of, has, at_place, members_of, with_row}
+use Rattle.am_headline.proofs.RepairWords.{after, row_at, In, row_set, long_after, accept, pass_over, own_report, tell, go_on, let_go, Node, Ballot, top}
+use Rattle.am_headline.proofs.RepairWords.{image_of, view, members, is_sequencer, push_entry, trim_up_to, with_report, lead, refresh, settle, refresh_at_end}
+use Rattle.am_headline.proofs.RepairWords.{Verdict, with_promise, next_stamp, with_admitted, split, Cause, hears, HasOpen, Looks, decides, Promises, invited}
+use Rattle.am_headline.proofs.RepairWords.{overtaken, told_result, Numbers, asked_send, own_send, asked_join, asked_leave, Change, refreshes, settles}
+use Rattle.am_headline.proofs.RepairWords.{takes_report, admits, numbers, notes, stores, begins_list, departs, promises, opens, looks, fetches, stores_view}
+use Rattle.am_headline.proofs.RepairWords.{asks_to_join, closes, settle_is, told_pushed, leads_pushed, in_is, at_most_below, view_last, Balloted, next_above}
+use Rattle.am_headline.proofs.RepairWords.{Fronts, told_used, TrimsKnown}
 use Rattle.am_packet.specs.declared.packet.Packet.TheVariants as packet
 use Rattle.am_headline.proofs.{Ends.follows, Ends.raise_up, Ends.lead_reports, Nodes.leading, Nodes.no_open, Nodes.not_open, Nodes.alike_refresh}
 use Rattle.am_headline.proofs.{Nodes.leads_alike, RepairLeading.least_low, RepairLeading.looked_open}

@@ -1,7 +1,7 @@
 -- A world that is lawful for its greatest complete view is so in the group that stands for it.
 use Rattle.am_headline.proofs.Words.{◌≡◌, ◌≢◌, ◌⊎◌, ⊎_elim, inl, inr, ℕ, zero, suc, ◌+◌, ◌<◌, ◌≤◌, ◌==◌, ◌&&◌, ◌||◌, not, nat_lt, Bool, true, false}
-use Rattle.am_headline.proofs.Words.{if◌then◌else◌, List, [], ◌∷◌, length, count_by, refl, sym, ap, ◌∙◌, arith, list_any, nat_tests, View, has, count_cons}
-use Rattle.am_headline.proofs.Words.{key, length_push, Group, count, how_many, opening, counts_for, has_log, has_departed, Decided, World, counts, is_lost}
+use Rattle.am_headline.proofs.Words.{if◌then◌else◌, List, [], ◌∷◌, length, count_by, refl, sym, ap, ◌∙◌, arith, list_any, nat_tests, View, has, count_cons, key}
+use Rattle.am_headline.proofs.Words.{length_push, Group, count, how_many, opening, counts_for, has_log, has_departed, Decided, World, counts, is_lost}
 use Rattle.am_headline.proofs.Words.{is_lawful, split, and_both, NotedStands, Stands, count_up_to}
 
 -- ---- names that are counted, and a list that has them

@@ -4,10 +4,9 @@ use Rattle.am_chain.specs.Runs.{first_choice}
 use Rattle.am_headline.proofs.RepairedWords.{same_from_push, ◌≡◌, ◌⊎◌, ⊎_elim, inl, inr, ℕ, ◌+◌, ◌<◌, ◌≤◌, List, [], ◌∷◌, ◌++◌, length, true, false, refl, sym}
 use Rattle.am_headline.proofs.RepairedWords.{subst, arith, Entry, Leave, View, Image, place_of, life_of, Begins, IsGood, mem, view_of, key, In, row_at, ap, ◌∙◌}
 use Rattle.am_headline.proofs.RepairedWords.{begins_refl, begins_more, begins_trans, begins_both, begins_same, begins_length, begins_pushed, length_push}
-use Rattle.am_headline.proofs.RepairedWords.{good_begins}
-use Rattle.am_headline.proofs.RepairedWords.{told_push, long_told, mem_in, in_mem, mem_between, leaver_in, leaver_out, Group, put, opening, Leads, chain_of}
-use Rattle.am_headline.proofs.RepairedWords.{MayNumber, choice_of, longer, accepts, learns, begins, raises, gives_over, welcomes, asks, stops, Kept, Move}
-use Rattle.am_headline.proofs.RepairedWords.{Run, founded, more, first_stamp, put_same, put_at, run_keeps, moves_grow, Becomes, stayed, joins, founds, became}
+use Rattle.am_headline.proofs.RepairedWords.{good_begins, told_push, long_told, mem_in, in_mem, mem_between, leaver_in, leaver_out, Group, put, opening, Leads}
+use Rattle.am_headline.proofs.RepairedWords.{chain_of, MayNumber, choice_of, longer, accepts, learns, begins, raises, gives_over, welcomes, asks, stops, Kept}
+use Rattle.am_headline.proofs.RepairedWords.{Move, Run, founded, more, put_same, put_at, run_keeps, moves_grow, Becomes, stayed, joins, founds, became}
 use Rattle.am_base.specs.Whole.{image_of}
 use Rattle.am_chain.specs.Moves.{numbers, stores, fetches, decides, departs, closes}
 use Rattle.am_chain.specs.Group as groups

@@ -1,17 +1,12 @@
 -- Each entry that a node has, a letter tells or a group lists speaks of names that there are.
-use Rattle.am_laws.proofs.Words.{◌≡◌, ℕ, ◌<◌, ◌==◌, ◌&&◌, not, List, [], ◌∷◌, Option, Some, None, refl, sym, subst, arith, nat_tests, All}
-use Rattle.am_laws.proofs.Words.{All-nil, All-cons, All-append, All-weaker, split, Stamp, Report, stamp_lt, Entry, Data, Join, Leave}
-use Rattle.am_laws.proofs.Words.{View, Outcome}
-use Rattle.am_laws.proofs.Words.{Rules, MayFound, Packet, Letter, Event, Node, Ballot, push_entry, set_at, founders_view}
-use Rattle.am_laws.proofs.Words.{overtake, Verdict, refresh, settle, refresh_at_end, Step, World, start, run, with_record, with_step, heard_by}
-use Rattle.am_laws.proofs.Words.{Cause}
-use Rattle.am_laws.proofs.Words.{hears, Looks, decides, HasOpen, Balloting, with_more, without_one, as_it_is, Numbers, asked_send, own_send, asked_join}
-use Rattle.am_laws.proofs.Words.{asked_leave}
-use Rattle.am_laws.proofs.Words.{Carries, whole_entry, by_number, BringsSend, by_request, by_spread, Change, refreshes, settles}
-use Rattle.am_laws.proofs.Words.{numbers, stores, begins_list, promises, opens, looks, fetches, stores_view, closes, Says, bcast, order, piece, LetterSays}
-use Rattle.am_laws.proofs.Words.{Effect}
-use Rattle.am_laws.proofs.Words.{actor, IsCause, idles, stops, returns, steps, all_get, all_item, refresh_is, settle_is, along, EachKeeps, runs_keep, sender_of}
-use Rattle.am_laws.proofs.Words.{first_founder, first_has}
+use Rattle.am_laws.proofs.Words.{◌≡◌, ℕ, ◌<◌, ◌==◌, ◌&&◌, not, List, [], ◌∷◌, Option, Some, None, refl, sym, subst, arith, nat_tests, All, All-nil, All-cons}
+use Rattle.am_laws.proofs.Words.{All-append, All-weaker, split, Stamp, Report, stamp_lt, Entry, Data, Join, Leave, View, Outcome, Rules, MayFound, Packet}
+use Rattle.am_laws.proofs.Words.{Letter, Event, Node, Ballot, push_entry, set_at, founders_view, overtake, Verdict, refresh, settle, refresh_at_end, Step}
+use Rattle.am_laws.proofs.Words.{World, start, run, with_record, with_step, heard_by, Cause, hears, Looks, decides, HasOpen, Balloting, with_more, without_one}
+use Rattle.am_laws.proofs.Words.{as_it_is, Numbers, asked_send, own_send, asked_join, asked_leave, Carries, whole_entry, by_number, BringsSend, by_request}
+use Rattle.am_laws.proofs.Words.{by_spread, Change, refreshes, settles, numbers, stores, begins_list, promises, opens, looks, fetches, stores_view, closes}
+use Rattle.am_laws.proofs.Words.{Says, bcast, order, piece, LetterSays, Effect, actor, IsCause, idles, stops, returns, steps, all_get, all_item, refresh_is}
+use Rattle.am_laws.proofs.Words.{settle_is, along, EachKeeps, runs_keep, sender_of, first_founder, first_has}
 use Rattle.am_packet.specs.declared.packet.Packet.TheVariants as packet
 use Rattle.am_laws.proofs.Named.{AllNamed, few_names, each_named, start_named}
 use Rattle.am_laws.proofs.RunCounts.{was_heard}

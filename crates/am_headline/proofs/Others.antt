@@ -1,7 +1,7 @@
 -- While another name steps, a sequencer that runs still trimmed no more than its members have taken.
-use Rattle.am_headline.proofs.RepairedWords.{item_get, eqb-true, equals_itself, ◌≡◌, ⊎_elim, ℕ, ◌<◌, ◌≤◌, ◌==◌, true, false, List, sym, ap, ◌∙◌, subst, arith, Stamp}
-use Rattle.am_headline.proofs.RepairedWords.{Rules, Letter, Event, Group, Node, view, acts, is_sequencer, has_log, Step, is_stopped, run, heard_by, split, and_both}
-use Rattle.am_headline.proofs.RepairedWords.{Cause, actor, WasSentTo, IsCause, parts, plain, Rises}
+use Rattle.am_headline.proofs.RepairedWords.{item_get, eqb-true, equals_itself, ◌≡◌, ⊎_elim, ℕ, ◌<◌, ◌≤◌, ◌==◌, true, false, List, sym, ap, ◌∙◌, subst, arith}
+use Rattle.am_headline.proofs.RepairedWords.{Stamp, Rules, Letter, Event, Group, Node, view, acts, is_sequencer, has_log, Step, is_stopped, run, heard_by}
+use Rattle.am_headline.proofs.RepairedWords.{split, and_both, Cause, actor, WasSentTo, IsCause, parts, plain, Rises}
 use Rattle.am_packet.specs.declared.packet.Packet.TheVariants as packet
 use Rattle.am_headline.proofs.Came.{Tells, by_piece, by_result, by_welcome, Came, before as went_on, own, told_so}
 use Rattle.am_headline.proofs.Trims.{LetterLow, Knows, took, joins, halts, Settles, TrimStep, Sent, before, now, along, heard, used, who_v, who_n, stopped_v}

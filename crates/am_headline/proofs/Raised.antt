@@ -1,14 +1,13 @@
 -- What a change keeps of a node whose Views have no less resilience than the founding.
 use Rattle.am_model.specs.Ballots.{decided_view}
-use Rattle.am_laws.proofs.Words.{◌≡◌, inl, inr, ⊎_elim, ℕ, suc, ◌+◌, ◌-◌, ◌<◌, ◌≤◌, ◌==◌, ◌&&◌, nat_lt, max, true, false, List, [], ◌∷◌, ◌++◌}
-use Rattle.am_laws.proofs.Words.{length, take, Option, Some, None, refl, sym, ap, ◌∙◌, subst, arith, nat_tests, length-append, All, All-nil}
-use Rattle.am_laws.proofs.Words.{All-cons, All-head, All-tail, All-append, All-take, split, and_both, place_of, has, Stamp, stamp_lt, stamp_eq, Entry, Data}
-use Rattle.am_laws.proofs.Words.{Join, Leave, View, Image, Outcome, Rules, Log, blank, top_of, told_by, image_at, with_entry, members_of, after, fold}
-use Rattle.am_laws.proofs.Words.{Packet, Node, Ballot, top, image_of, view, members, acts, is_sequencer, is_member, has_log, push_entry, trim_up_to}
-use Rattle.am_laws.proofs.Words.{overtake, Verdict, need_of, left_in, trim_for, is_view, refresh}
-use Rattle.am_laws.proofs.Words.{Cause, hears, Balloting, with_more, without_one, as_it_is, Looks, decides, Change, refreshes}
-use Rattle.am_laws.proofs.Words.{settles, numbers, stores, begins_list, departs, promises, opens, looks, fetches, stores_view, asks_to_join, closes, logged}
-use Rattle.am_laws.proofs.Words.{same_stamp, rests_refresh, rests_at_end, settle_is, has_in, blank_joined}
+use Rattle.am_laws.proofs.Words.{◌≡◌, inl, inr, ⊎_elim, ℕ, suc, ◌+◌, ◌-◌, ◌<◌, ◌≤◌, ◌==◌, ◌&&◌, nat_lt, true, false, List, [], ◌∷◌, ◌++◌, length, take, Option}
+use Rattle.am_laws.proofs.Words.{Some, None, refl, sym, ap, ◌∙◌, subst, arith, nat_tests, length-append, All, All-nil, All-cons, All-head, All-tail, All-append}
+use Rattle.am_laws.proofs.Words.{All-take, split, and_both, place_of, has, Stamp, stamp_lt, stamp_eq, Entry, Data, Join, Leave, View, Image, Outcome, Rules}
+use Rattle.am_laws.proofs.Words.{Log, blank, top_of, told_by, image_at, with_entry, members_of, after, fold, Packet, Node, Ballot, top, view, members, acts}
+use Rattle.am_laws.proofs.Words.{is_sequencer, is_member, has_log, push_entry, trim_up_to, overtake, Verdict, need_of, left_in, trim_for, is_view, refresh}
+use Rattle.am_laws.proofs.Words.{Cause, hears, Balloting, with_more, without_one, as_it_is, Looks, decides, Change, refreshes, settles, numbers, stores}
+use Rattle.am_laws.proofs.Words.{begins_list, departs, promises, opens, looks, fetches, stores_view, asks_to_join, closes, logged, same_stamp, rests_refresh}
+use Rattle.am_laws.proofs.Words.{rests_at_end, settle_is, has_in, blank_joined}
 use Rattle.am_packet.specs.declared.packet.Packet.TheVariants as packet
 use Rattle.am_laws.proofs.ViewSteps.{after_same, after_view}
 use Rattle.am_laws.proofs.ViewChanges.{numbers_plain, welcomed_none, leads_member, member_of}

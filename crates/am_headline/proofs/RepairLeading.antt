@@ -3,16 +3,15 @@ use Rattle.am_headline.proofs.RepairWords.{with_send, by_ack, by_nack, by_reques
 use Rattle.am_headline.proofs.RepairWords.{inr, ◌-◌, ◌≡◌, ℕ, ◌+◌, ◌≤◌, ◌==◌, true, false, Some, refl, sym, ap, ◌∙◌, subst, arith, length-append, length, All}
 use Rattle.am_headline.proofs.RepairWords.{cases_lt, Join, nat_tests, Stamp, Image, Report, Entry, Outcome, has, names_of, stamp_eq, Log, top_of, told_by}
 use Rattle.am_headline.proofs.RepairWords.{members_of, members_at, entry_at, fits, image_at, counted_at, CoreState, accept, pass_over, since_accepted}
-use Rattle.am_headline.proofs.RepairWords.{image-top, IsUsed, used_fold, member_row, least_taken, own_report, tell, go_on, let_go, Node, Ballot, top}
-use Rattle.am_headline.proofs.RepairWords.{image_of, view, members, acts, is_member, push_entry, with_report, lead, refresh, settle, with_admitted, World}
-use Rattle.am_headline.proofs.RepairWords.{split, and_both, Cause, BringsReport, HasOpen, BeginsBy, by_reset, Balloting, with_more, without_one}
-use Rattle.am_headline.proofs.RepairWords.{as_it_is, Promises, invited, overtaken, told_result, Numbers, asked_send, own_send, asked_join, asked_leave}
-use Rattle.am_headline.proofs.RepairWords.{Change, refreshes, settles, takes_report, admits, numbers, keeps_body, notes, stores, begins_list, departs}
-use Rattle.am_headline.proofs.RepairWords.{promises, opens, looks, fetches, stores_view, queues, collects, takes, asks_to_join, asks_to_leave, closes}
-use Rattle.am_headline.proofs.RepairWords.{settle_is, told_pushed, view_pushed, leads_pushed, JoinsFit, least_within, Fronts, told_used, after_same, eqb-true}
-use Rattle.am_headline.proofs.RepairWords.{Repair, Leads, ReportIs, is_past}
-use Rattle.am_headline.proofs.RepairLists.{LogGrows, grows_then, grows_push, counted_stays, IsJoinOrData, is_data, is_join, plain, member_after}
-use Rattle.am_headline.proofs.RepairLists.{past_stays, past_left}
+use Rattle.am_headline.proofs.RepairWords.{image-top, IsUsed, used_fold, member_row, least_taken, own_report, tell, go_on, let_go, Node, Ballot, top, image_of}
+use Rattle.am_headline.proofs.RepairWords.{view, members, acts, is_member, push_entry, with_report, lead, refresh, settle, with_admitted, World, split}
+use Rattle.am_headline.proofs.RepairWords.{and_both, Cause, BringsReport, HasOpen, BeginsBy, by_reset, Balloting, with_more, without_one, as_it_is, Promises}
+use Rattle.am_headline.proofs.RepairWords.{invited, overtaken, told_result, Numbers, asked_send, own_send, asked_join, asked_leave, Change, refreshes, settles}
+use Rattle.am_headline.proofs.RepairWords.{takes_report, admits, numbers, keeps_body, notes, stores, begins_list, departs, promises, opens, looks, fetches}
+use Rattle.am_headline.proofs.RepairWords.{stores_view, queues, collects, takes, asks_to_join, asks_to_leave, closes, settle_is, told_pushed, view_pushed}
+use Rattle.am_headline.proofs.RepairWords.{leads_pushed, JoinsFit, least_within, Fronts, told_used, after_same, eqb-true, Repair, Leads, ReportIs, is_past}
+use Rattle.am_headline.proofs.RepairLists.{LogGrows, grows_then, grows_push, counted_stays, IsJoinOrData, is_data, is_join, plain, member_after, past_stays}
+use Rattle.am_headline.proofs.RepairLists.{past_left}
 use Rattle.am_headline.proofs.Nodes.{CalmCause, acting, leading, not_open, Alike, alike_here, alike_refresh, alike_settle, view_alike, leads_alike, rest_alike}
 use Rattle.am_headline.proofs.Ends.{follows, refreshed_stay, raise_up}
 

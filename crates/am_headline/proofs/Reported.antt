@@ -1,9 +1,9 @@
 -- What is known of a name to be taken, through each change: it was reported so, and taken, or is no more than the base.
 use Rattle.am_headline.proofs.RepairWords.{welcomed_none, top_of, Leave, Report, Stamp, Outcome, settle_is, rests_at_end, rests_refresh, split, Verdict, Ballot}
-use Rattle.am_headline.proofs.RepairWords.{is_sequencer, with_report, push_entry, Node, with_admitted, refresh_at_end, refresh, nat_tests, ◌≡◌, ℕ, ◌≤◌, ◌==◌, max}
-use Rattle.am_headline.proofs.RepairWords.{nat_lt, nat_le, false, if◌then◌else◌, List, refl, sym, ap, ◌∙◌, subst, arith, Change, refreshes, settles, takes_report}
-use Rattle.am_headline.proofs.RepairWords.{admits, notes, begins_list, looks, fetches, stores_view, takes, closes, Says, leave_ask, Looks, finds_no_room, decides}
-use Rattle.am_headline.proofs.RepairWords.{Cause, hears, by_request, BringsReport, with_send, Packet, Fronts, Blanked}
+use Rattle.am_headline.proofs.RepairWords.{is_sequencer, with_report, push_entry, Node, with_admitted, refresh_at_end, refresh, nat_tests, ◌≡◌, ℕ, ◌≤◌, ◌==◌}
+use Rattle.am_headline.proofs.RepairWords.{max, nat_lt, nat_le, false, if◌then◌else◌, List, refl, sym, ap, ◌∙◌, subst, arith, Change, refreshes, settles}
+use Rattle.am_headline.proofs.RepairWords.{takes_report, admits, notes, begins_list, looks, fetches, stores_view, takes, closes, Says, leave_ask, Looks}
+use Rattle.am_headline.proofs.RepairWords.{finds_no_room, decides, Cause, hears, by_request, BringsReport, with_send, Packet, Fronts, Blanked}
 use Rattle.am_laws.specs.Letters.{request, spread, ack, nack}
 use Rattle.am_packet.specs.declared.packet.Packet.TheVariants as packet
 use Rattle.am_headline.proofs.RepairLeading.{lead_others}

@@ -1,10 +1,11 @@
 -- What the rows of packets with entries store: the next entry, above a base that was noted.
 use Rattle.am_headline.proofs.Words.{◌≡◌, ℕ, ◌+◌, ◌≤◌, ◌==◌, ◌&&◌, ◌||◌, not, nat_lt, nat_le, Bool, true, false, if◌then◌else◌, List, [], ◌∷◌, ◌++◌, Option}
-use Rattle.am_headline.proofs.Words.{Some, None, refl, sym, ap, ◌∙◌, append-nil, arith, nat_tests, Entry, Data, View, GroupView, Stamp, Outcome, stamp_lt, stamp_eq, Log}
-use Rattle.am_headline.proofs.Words.{top_of, fits, CoreState, Packet, Departed, Node, Ballot, top, image_of, view, has_own_leave, is_within_bound, push_entry}
-use Rattle.am_headline.proofs.Words.{trim_up_to, Plan, quiet, finish, with_promise, decide, is_unfinished, hears_member, hears_sequencer, hear_row, is_view}
-use Rattle.am_headline.proofs.Words.{with_noted, store, receive_entry, data_of, body_of, bcast_row, order_row, refresh_at_end, push_fetched, catch_up}
-use Rattle.am_headline.proofs.Words.{decide_anew, fetches_from, piece_promised, piece_for, piece_row, result_row, hear, split, and_both, rests_at_end}
+use Rattle.am_headline.proofs.Words.{Some, None, refl, sym, ap, ◌∙◌, append-nil, arith, nat_tests, Entry, Data, View, GroupView, Stamp, Outcome, stamp_lt}
+use Rattle.am_headline.proofs.Words.{stamp_eq, Log, top_of, fits, CoreState, Packet, Departed, Node, Ballot, top, image_of, view, has_own_leave}
+use Rattle.am_headline.proofs.Words.{is_within_bound, push_entry, trim_up_to, Plan, quiet, finish, with_promise, decide, is_unfinished, hears_member}
+use Rattle.am_headline.proofs.Words.{hears_sequencer, hear_row, is_view, with_noted, store, receive_entry, data_of, body_of, bcast_row, order_row}
+use Rattle.am_headline.proofs.Words.{refresh_at_end, push_fetched, catch_up, decide_anew, fetches_from, piece_promised, piece_for, piece_row, result_row, hear}
+use Rattle.am_headline.proofs.Words.{split, and_both, rests_at_end}
 use Rattle.am_base.specs.declared.outcome.Outcome.TheVariants as said
 use Rattle.am_packet.specs.declared.packet.Packet.TheVariants as packet
 use Rattle.am_headline.proofs.Ways.{decide_alike}

@@ -1,14 +1,11 @@
 -- What each record of a run tells is within its limits, and each name's requests are 1, 2, 3 and so on.
-use Rattle.am_laws.proofs.Words.{◌≡◌, ℕ, zero, suc, ◌+◌, ◌-◌, ◌<◌, ◌≤◌, ◌==◌, nat_le, Bool, true, false, if◌then◌else◌, List, [], ◌∷◌, ◌++◌, length, ◌⊎◌}
-use Rattle.am_laws.proofs.Words.{inl, inr}
-use Rattle.am_laws.proofs.Words.{⊎_elim, Option, Some, None, slice_get, refl, sym, ap, ◌∙◌, subst, arith, nat_tests, All, All-nil, All-cons, All-head, All-tail}
-use Rattle.am_laws.proofs.Words.{All-append, range_with_len, length-append, most_number, most_body, split, Entry, Data, Leave, View, Outcome, Log}
-use Rattle.am_laws.proofs.Words.{entry_at, top_of}
-use Rattle.am_laws.proofs.Words.{Rules, MayFound, Act, Event, Node, Ballot, push_entry, Verdict, Step, World, start, run, happen}
-use Rattle.am_laws.proofs.Words.{happens, with_record, with_step, Cause, calls, Looks, finds_itself_out, Change, Changes, no_change, changed, refreshes}
-use Rattle.am_laws.proofs.Words.{settles}
-use Rattle.am_laws.proofs.Words.{looks, queues, collects, closes, Effect, actor, IsCall, IsCause, Happens, idles, stops, returns, steps}
-use Rattle.am_laws.proofs.Words.{all_get, first_has, current, events_have_effects, rests_refresh, settle_is, rests_at_end, BodyWithin, IsShort, Bounds}
+use Rattle.am_laws.proofs.Words.{◌≡◌, ℕ, zero, suc, ◌+◌, ◌-◌, ◌<◌, ◌≤◌, ◌==◌, nat_le, Bool, true, false, if◌then◌else◌, List, [], ◌∷◌, ◌++◌, length, ◌⊎◌, inl}
+use Rattle.am_laws.proofs.Words.{inr, ⊎_elim, Option, Some, None, slice_get, refl, sym, ap, ◌∙◌, subst, arith, nat_tests, All, All-nil, All-cons, All-head}
+use Rattle.am_laws.proofs.Words.{All-tail, All-append, range_with_len, length-append, most_number, most_body, split, Entry, Data, Leave, View, Outcome, Log}
+use Rattle.am_laws.proofs.Words.{entry_at, top_of, Rules, MayFound, Act, Event, Node, Ballot, push_entry, Verdict, Step, World, start, run, happen, happens}
+use Rattle.am_laws.proofs.Words.{with_record, with_step, Cause, calls, Looks, finds_itself_out, Change, Changes, no_change, changed, refreshes, settles, looks}
+use Rattle.am_laws.proofs.Words.{queues, collects, closes, Effect, actor, IsCall, IsCause, Happens, idles, stops, returns, steps, all_get, first_has, current}
+use Rattle.am_laws.proofs.Words.{events_have_effects, rests_refresh, settle_is, rests_at_end, BodyWithin, IsShort, Bounds}
 use Rattle.std.proofs.lemmas.Option.{slice_get_within}
 use Rattle.std.proofs.lemmas.List.FromFn.{length-range_with_len}
 use Rattle.std.proofs.Common.{append-nil, append_assoc}

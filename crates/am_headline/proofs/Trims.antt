@@ -1,10 +1,10 @@
 -- What a sequencer trimmed, its members have taken: what a run keeps of it, with the group that follows.
-use Rattle.am_headline.proofs.RepairedWords.{item_get, ◌≡◌, ⊎_elim, ℕ, ◌<◌, ◌≤◌, ◌==◌, max, true, false, List, [], ◌++◌, Some, slice_get, refl, sym, ap, ◌∙◌, subst}
-use Rattle.am_headline.proofs.RepairedWords.{arith, All, All-nil, All-append, All-weaker, slice_get-get_or, Entry, Image, Stamp, Rules, Packet, Letter, Event, key}
-use Rattle.am_headline.proofs.RepairedWords.{key_by, Group, Node, view, acts, is_member, is_sequencer, has_log, Step, World, is_stopped, with_step, run, heard_by}
-use Rattle.am_headline.proofs.RepairedWords.{and_both, Cause, LetterSays, WasSentTo, IsCause, steps, all_get, logged, heard_names, HeardNames, HeardUsed, Along}
-use Rattle.am_headline.proofs.RepairedWords.{AllOwned, run_owned, each_owned, each_along, heard_used, PacketSays, PieceSays, of_line, of_shown, over, OneStep, parts}
-use Rattle.am_headline.proofs.RepairedWords.{plain}
+use Rattle.am_headline.proofs.RepairedWords.{item_get, ◌≡◌, ⊎_elim, ℕ, ◌<◌, ◌≤◌, ◌==◌, max, true, false, List, [], ◌++◌, Some, slice_get, refl, sym, ap, ◌∙◌}
+use Rattle.am_headline.proofs.RepairedWords.{subst, arith, All, All-nil, All-append, All-weaker, slice_get-get_or, Entry, Image, Stamp, Rules, Packet, Letter}
+use Rattle.am_headline.proofs.RepairedWords.{Event, key, key_by, Group, Node, view, acts, is_member, is_sequencer, has_log, Step, World, is_stopped, with_step}
+use Rattle.am_headline.proofs.RepairedWords.{run, heard_by, and_both, Cause, LetterSays, WasSentTo, IsCause, steps, all_get, logged, heard_names, HeardNames}
+use Rattle.am_headline.proofs.RepairedWords.{HeardUsed, Along, AllOwned, run_owned, each_owned, each_along, heard_used, PacketSays, PieceSays, of_line}
+use Rattle.am_headline.proofs.RepairedWords.{of_shown, over, OneStep, parts, plain}
 use Rattle.am_packet.specs.declared.packet.Packet.TheVariants as packet
 use Rattle.am_headline.proofs.{Came.Tells, Came.by_piece, Came.by_result, Came.by_welcome, Came.Came, Came.came, Fresh.Welcomed, Sends.sent_by}
 

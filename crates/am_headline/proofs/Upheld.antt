@@ -1,14 +1,15 @@
 -- What the group accepted behind the last View its coordinator accepted.
-use Rattle.am_headline.proofs.RepairedWords.{◌≡◌, ◌≢◌, ◌⊎◌, ⊎_elim, ℕ, zero, suc, ◌+◌, ◌-◌, ◌<◌, ◌≤◌, max, ◌==◌, true, false, if◌then◌else◌, List, [], ◌∷◌, ◌++◌}
-use Rattle.am_headline.proofs.RepairedWords.{length, take, drop, Some, slice_get, refl, sym, ap, ◌∙◌, subst, arith, length-append, append_assoc, nat_tests}
-use Rattle.am_headline.proofs.RepairedWords.{take-append-drop, length-take, take_all, take-append-add, Entry, View, Outcome, Rules, MayFound, Event, Begins, view_of}
-use Rattle.am_headline.proofs.RepairedWords.{key, key_by, view_small, view_up, view_viewed, begins_refl, begins_take, begins_trans, begins_both, begins_same}
-use Rattle.am_headline.proofs.RepairedWords.{begins_length, length_take, length_push, Group, opening, current_of, chain_of, Kept, Node, top, view, is_member}
-use Rattle.am_headline.proofs.RepairedWords.{founding_stamp, lowest_or_first, has_log, has_departed, Step, is_unfinished, Letter, Decided, World, start}
-use Rattle.am_headline.proofs.RepairedWords.{founders_decided, group_with, run, split, and_both, Cause, Changes, unchanged, changed, Ending, at_end, let_go, closing}
-use Rattle.am_headline.proofs.RepairedWords.{all_get, asking, rests_refresh, rests_closed, settle_is, asking_log, numbers_hold, first_founder, run_owned, IsNoted}
-use Rattle.am_headline.proofs.RepairedWords.{lists_go_on, NameStands, Moves, NewView, GroupOk, Following, told_all, long_all, taken_more, group_kept, rests_step}
-use Rattle.am_headline.proofs.RepairedWords.{rests_course, departed_is, OneStep, parts, plain, KeptBy, ListGoes, same, up, gone, list_moves, Kind, kind_of}
+use Rattle.am_headline.proofs.RepairedWords.{◌≡◌, ◌≢◌, ◌⊎◌, ⊎_elim, ℕ, zero, suc, ◌+◌, ◌-◌, ◌<◌, ◌≤◌, max, ◌==◌, true, false, if◌then◌else◌, List, [], ◌∷◌}
+use Rattle.am_headline.proofs.RepairedWords.{◌++◌, length, take, drop, Some, slice_get, refl, sym, ap, ◌∙◌, subst, arith, length-append, append_assoc}
+use Rattle.am_headline.proofs.RepairedWords.{nat_tests, take-append-drop, length-take, take_all, take-append-add, Entry, View, Outcome, Rules, MayFound, Event}
+use Rattle.am_headline.proofs.RepairedWords.{Begins, view_of, key, key_by, view_small, view_up, view_viewed, begins_refl, begins_take, begins_trans}
+use Rattle.am_headline.proofs.RepairedWords.{begins_both, begins_same, begins_length, length_take, length_push, Group, opening, current_of, chain_of, Kept}
+use Rattle.am_headline.proofs.RepairedWords.{Node, top, view, is_member, founding_stamp, lowest_or_first, has_log, has_departed, Step, is_unfinished, Letter}
+use Rattle.am_headline.proofs.RepairedWords.{Decided, World, start, founders_decided, group_with, run, split, and_both, Cause, Changes, unchanged, changed}
+use Rattle.am_headline.proofs.RepairedWords.{Ending, at_end, let_go, closing, all_get, asking, rests_refresh, rests_closed, settle_is, asking_log, numbers_hold}
+use Rattle.am_headline.proofs.RepairedWords.{first_founder, run_owned, IsNoted, lists_go_on, NameStands, Moves, NewView, GroupOk, Following, told_all, long_all}
+use Rattle.am_headline.proofs.RepairedWords.{taken_more, group_kept, rests_step, rests_course, departed_is, OneStep, parts, plain, KeptBy, ListGoes, same, up}
+use Rattle.am_headline.proofs.RepairedWords.{gone, list_moves, Kind, kind_of}
 use Rattle.am_chain.specs.Group as groups
 use Rattle.am_model.specs.declared.status.Status.TheVariants as status
 use Rattle.am_headline.proofs.Ways as ways

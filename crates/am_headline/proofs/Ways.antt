@@ -1,10 +1,10 @@
 -- The changes of a node by what they do to what its application was given, and to its own sends.
-use Rattle.am_headline.proofs.Words.{leads_member, ◌≡◌, ℕ, ◌+◌, ◌≤◌, ◌-◌, ◌==◌, ◌||◌, not, max, nat_lt, Bool, true, false, if◌then◌else◌, List, [], ◌∷◌}
-use Rattle.am_headline.proofs.Words.{◌++◌, refl, sym, ◌∙◌, append-nil, arith, Entry, Leave, View, Image, Stamp, Outcome, has, size, Node, Ballot, top}
-use Rattle.am_headline.proofs.Words.{image_of, those, is_member, push_entry, unsettled_count, Verdict, decide, ends, restart_reports, trim_for, need_of}
-use Rattle.am_headline.proofs.Words.{left_in, best_of, is_waited_for, decide_view, with_queued, is_unfinished, begin_list, refresh, settle, refresh_at_end}
-use Rattle.am_headline.proofs.Words.{and_both, Cause, hears, Looks, decides, MayBeWelcomed, Change, refreshes, settles, numbers, stores, begins_list, looks}
-use Rattle.am_headline.proofs.Words.{fetches, stores_view, queues, collects, takes, asks_to_join, asks_to_leave, closes}
+use Rattle.am_headline.proofs.Words.{leads_member, ◌≡◌, ℕ, ◌+◌, ◌≤◌, ◌-◌, ◌==◌, ◌||◌, not, nat_lt, Bool, true, false, if◌then◌else◌, List, [], ◌∷◌, ◌++◌, refl}
+use Rattle.am_headline.proofs.Words.{sym, ◌∙◌, append-nil, arith, Entry, Leave, View, Image, Stamp, Outcome, has, size, Node, Ballot, top, those, is_member}
+use Rattle.am_headline.proofs.Words.{push_entry, unsettled_count, Verdict, decide, ends, restart_reports, trim_for, need_of, left_in, best_of, is_waited_for}
+use Rattle.am_headline.proofs.Words.{decide_view, with_queued, is_unfinished, begin_list, refresh, settle, refresh_at_end, and_both, Cause, hears, Looks}
+use Rattle.am_headline.proofs.Words.{decides, MayBeWelcomed, Change, refreshes, settles, numbers, stores, begins_list, looks, fetches, stores_view, queues}
+use Rattle.am_headline.proofs.Words.{collects, takes, asks_to_join, asks_to_leave, closes}
 use Rattle.am_laws.specs.Changes.{departs}
 use Rattle.am_model.specs.Ballots.{goes_on, decided_view}
 use Rattle.am_base.specs.declared.outcome.Outcome.TheVariants as said

@@ -24,22 +24,22 @@ pub use Rattle.am_stands.proofs.Words.{count_by, eqb-true, not-true, length-map,
 pub use Rattle.am_stands.proofs.Words.{members_of, members_at, count_cons, lowest_or_first, has_departed, unsettled_count, has_own_leave, those, need_of}
 pub use Rattle.am_stands.proofs.Words.{left_in, trim_for, with_promise, restart_reports, best_of, is_waited_for, is_unfinished, Plan, quiet, Decided}
 pub use Rattle.am_stands.proofs.Words.{first_node, founders_decided, current, is_stopped, views_after, lives_on, group_with, is_view_of, whole, line_of, key}
-pub use Rattle.am_stands.proofs.Words.{BeginsBelow, begins_refl, begins_nil, begins_both, begins_length, begins_trans, begins_more, mem_viewed, In}
-pub use Rattle.am_stands.proofs.Words.{long_after, low_or_above, mod16, key_by, view_push, view_viewed, key_lt, view_small, view_up, view_below, decides}
-pub use Rattle.am_stands.proofs.Words.{rests_at_end, refresh_is, told_pushed, same_stamp, equals_itself, Along, told_used, those_long, Group, chain_of, IsUp}
-pub use Rattle.am_stands.proofs.Words.{how_many, opening, IsThere, put, Chosen, founded, counts_for, IsLawful, more, Move, with_node, gives_over, stops}
-pub use Rattle.am_stands.proofs.Words.{choice_of, longer, learns, begins, raises, welcomes, asks, departs, Kept, put_cases, put_other, put_same, run_keeps}
-pub use Rattle.am_stands.proofs.Words.{found_at, NamesNamed, Moves, none, moves, MoveOk, GroupFor, NodeKeeps, GroupOk, PacketSays, PieceSays, WelcomeSays}
-pub use Rattle.am_stands.proofs.Words.{WelcomeTo, has_begun, has_gone, has_left, is_leaving, may_begin, Grows, EventStands, no_move, stop, NameStands}
-pub use Rattle.am_stands.proofs.Words.{NotedStands, Stands, FrontsStand, LinesOpen, OnBranch, on_chain, left_out, BranchesOk}
+pub use Rattle.am_stands.proofs.Words.{BeginsBelow, begins_refl, begins_nil, begins_both, begins_length, begins_trans, begins_more, mem_viewed, In, long_after}
+pub use Rattle.am_stands.proofs.Words.{low_or_above, mod16, key_by, view_push, view_viewed, key_lt, view_small, view_up, view_below, decides, rests_at_end}
+pub use Rattle.am_stands.proofs.Words.{refresh_is, told_pushed, same_stamp, equals_itself, Along, told_used, those_long, Group, chain_of, IsUp, how_many}
+pub use Rattle.am_stands.proofs.Words.{opening, IsThere, put, Chosen, founded, counts_for, IsLawful, more, Move, with_node, gives_over, stops, choice_of}
+pub use Rattle.am_stands.proofs.Words.{longer, learns, begins, raises, welcomes, asks, departs, Kept, put_cases, put_other, put_same, run_keeps, found_at}
+pub use Rattle.am_stands.proofs.Words.{NamesNamed, Moves, none, moves, MoveOk, GroupFor, NodeKeeps, GroupOk, PacketSays, PieceSays, WelcomeSays, WelcomeTo}
+pub use Rattle.am_stands.proofs.Words.{has_begun, has_gone, has_left, is_leaving, may_begin, Grows, EventStands, no_move, stop, NameStands, NotedStands, Stands}
+pub use Rattle.am_stands.proofs.Words.{FrontsStand, LinesOpen, OnBranch, on_chain, left_out, BranchesOk}
 unfoldable pub use Rattle.am_stands.proofs.Words.{finish, hear_row, hear, hear_refusal, up_to_view, up_to_next, view_of, count}
 pub use Rattle.am_stands.proofs.StepWords.{image_of, packet_length, with_noted, hears_letter, hear_cut, acts_as, Ending, let_go, closing, HeardUsed, each_along}
 pub use Rattle.am_stands.proofs.StepWords.{heard_used, run_owned, HeardNames, change_names, HasNames, change_does, Balloted, numbers_hold, heard_names, IsNoted}
 pub use Rattle.am_stands.proofs.StepWords.{AllViews, each_views, views_start, few_names, nil_from_length, goes_on, grows_same, Following, StepsMove}
 pub use Rattle.am_stands.proofs.StepWords.{departed_silent, letters_stay, others_keep, taken_more, member_stays}
 unfoldable pub use Rattle.am_stands.proofs.StepWords.{happens}
-pub use Rattle.std.{proofs.lemmas.List.take_all, proofs.lemmas.List.get_or-map, proofs.lemmas.List.Sums.count_by-le-length}
-pub use Rattle.std.{proofs.lemmas.List.Sums.sum_by-cons, specs.Prelude.Contains, specs.Prelude.slice_index_or}
+pub use Rattle.std.{proofs.lemmas.List.take_all, proofs.lemmas.List.get_or-map, proofs.lemmas.List.Sums.count_by-le-length, proofs.lemmas.List.Sums.sum_by-cons}
+pub use Rattle.std.{specs.Prelude.Contains, specs.Prelude.slice_index_or}
 pub use Rattle.am_base.specs.declared.entry.GroupView.{GroupView}
 pub use Rattle.am_base.specs.Lists.{with_entry}
 pub use Rattle.am_state.proofs.Ends.{image-push, image-top}
@@ -66,8 +66,8 @@ pub use Rattle.am_runs.proofs.{Lists.item_get, Lists.item_within, Lists.item_mor
 pub use Rattle.am_runs.proofs.{Worlds.StandsAt, Worlds.GivenOk, Worlds.begins_at, Worlds.RecordOk, Goes.by_name, UnballotedKept.At, UnballotedKept.BeginsOk}
 pub use Rattle.am_runs.proofs.{UnballotedKept.IsSettled, UnballotedKept.sends_more, Welcomes.record_step, Welcomes.welcomed_step, UnballotedKept.SendOk}
 pub use Rattle.am_runs.proofs.Chains.{gave_still, passed_front, front, Gave, nothing, took, began, at_least, gave_begun, still_log}
-pub use Rattle.am_runs.proofs.Records.{idle_takes, idle_welcomes, idle_sends, deliveries_push, given_same, not_given, idle_gives, given_more}
-pub use Rattle.am_runs.proofs.Records.{accepted_more, accepted_and, welcome_in, welcomes_push, idle_welcome, other_welcome, record_up}
+pub use Rattle.am_runs.proofs.Records.{idle_takes, idle_welcomes, idle_sends, deliveries_push, given_same, not_given, idle_gives, given_more, accepted_more}
+pub use Rattle.am_runs.proofs.Records.{accepted_and, welcome_in, welcomes_push, idle_welcome, other_welcome, record_up}
 pub use Rattle.am_stands.proofs.{Begun.start_keeps, Branches.branches_begin, Branches.up_as, Onward.group_kept, Onward.move_on, Start.start_stands}
 pub use Rattle.am_stands.proofs.{Pieces.plain as not_view, Changes.told_all, Changes.long_all, Parts.number_low, Parts.image_whole, Events.idle_stands}
 pub use Rattle.am_stands.proofs.{Events.stop_stands, Events.return_stands, Joins.Becomes, Joins.stayed, Joins.joins, Joins.founds, Joins.became}

@@ -9,8 +9,8 @@ use Rattle.am_base.specs.Names.{place_of, life_of, has, names_of}
 use Rattle.am_base.specs.Lists.{at_place, image_at, entry_at, members_at, fits}
 use Rattle.am_base.specs.Fronts.{counted_at}
 use Rattle.am_packet.specs.declared.packet.Packet.{Packet}
-use Rattle.am_packet.specs.declared.packet.Packet.TheVariants.{Request, Spread, Bcast, Order, Accept, Ack, Nack, Hold, JoinAsk, Welcome, LeaveAsk, Gone}
-use Rattle.am_packet.specs.declared.packet.Packet.TheVariants.{Fetch, Piece, Result}
+use Rattle.am_packet.specs.declared.packet.Packet.TheVariants.{Request, Spread, Bcast, Order, Accept, Ack, Nack, Hold, JoinAsk, Welcome, LeaveAsk, Gone, Fetch}
+use Rattle.am_packet.specs.declared.packet.Packet.TheVariants.{Piece, Result}
 use Rattle.am_packet.specs.Boxes.{Letter}
 use Rattle.am_group.specs.Journals.{letter_at}
 use Rattle.am_model.specs.Node.{Node, top, image_of, view, acts, is_member, is_sequencer, has_log, has_departed}

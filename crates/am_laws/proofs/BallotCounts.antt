@@ -1,8 +1,8 @@
 -- What ballots add to the numbers that grow: one round where one begins, one entry where one is decided.
-use Rattle.am_laws.proofs.Words.{◌≡◌, ℕ, ◌+◌, ◌≤◌, ◌==◌, nat_lt, max, min, Bool, true, false, if◌then◌else◌, List, Option, Some, None, option_map, unwrap_or}
-use Rattle.am_laws.proofs.Words.{refl, ap, arith, Vote, View, Outcome, names_of, least_of, Node, Ballot, top, image_of, push_entry, Verdict, with_promise}
-use Rattle.am_laws.proofs.Words.{taken_by, goes_on, ended, decide_view, trim_for, restart_reports, decide, next_stamp, new_ballot, begin, with_vote}
-use Rattle.am_laws.proofs.Words.{keep_vote, without_voter, give_up, give_up_of, give_up_row, reset_row, split, Bounds, up, decided_view}
+use Rattle.am_laws.proofs.Words.{◌≡◌, ℕ, ◌+◌, ◌≤◌, ◌==◌, nat_lt, min, Bool, true, false, if◌then◌else◌, List, Option, Some, None, option_map, unwrap_or, refl}
+use Rattle.am_laws.proofs.Words.{ap, arith, Vote, View, Outcome, names_of, least_of, Node, Ballot, top, push_entry, Verdict, with_promise, taken_by, goes_on}
+use Rattle.am_laws.proofs.Words.{ended, decide_view, trim_for, restart_reports, decide, next_stamp, new_ballot, begin, with_vote, keep_vote, without_voter}
+use Rattle.am_laws.proofs.Words.{give_up, give_up_of, give_up_row, reset_row, split, Bounds, up, decided_view}
 use Rattle.am_base.specs.declared.outcome.Outcome.TheVariants as said
 use Rattle.am_state.specs.Reports as reports
 use Rattle.am_laws.proofs.Counts.{Low, Behind, VotesKnown, low_more, low_viewed, low_trimmed, low_promised, least_low, Ends, ends_next, ends as plans}

@@ -1,11 +1,11 @@
 -- The effects of ballots.
 use Rattle.am_model.specs.Ballots.{decided_view}
 use Rattle.am_base.specs.declared.entry.GroupView.{GroupView}
-use Rattle.am_laws.proofs.EffectWords.{not-true, not-false, ◌≡◌, ℕ, zero, suc, ◌+◌, ◌-◌, ◌==◌, ◌&&◌, min, max, nat_lt, nat_le, not, Bool, true, false}
-use Rattle.am_laws.proofs.EffectWords.{if◌then◌else◌, List, [], length, Option, Some, None, slice_get, refl, sym, ap, subst, ◌∙◌, arith, nat_tests, Vote, Image}
-use Rattle.am_laws.proofs.EffectWords.{Stamp, View, has, size, without_name, Log, entry_at, after, Letter, with_letter, Node, Ballot, top, image_of, view}
-use Rattle.am_laws.proofs.EffectWords.{members, others, only_name, those, is_member, push_entry, invite_of, fetch_of, result_of, with_promise, Verdict, need_of}
-use Rattle.am_laws.proofs.EffectWords.{best_of, is_waited_for, left_in, trim_for, decide, with_result, with_fetch, verdict_plan, next_stamp, new_ballot, begin}
+use Rattle.am_laws.proofs.EffectWords.{not-true, not-false, ◌≡◌, ℕ, zero, suc, ◌+◌, ◌-◌, ◌==◌, ◌&&◌, min, nat_lt, nat_le, not, Bool, true, false, if◌then◌else◌}
+use Rattle.am_laws.proofs.EffectWords.{List, [], length, Option, Some, None, slice_get, refl, sym, ap, subst, ◌∙◌, arith, nat_tests, Vote, Image, View, has}
+use Rattle.am_laws.proofs.EffectWords.{size, without_name, Log, entry_at, after, Letter, with_letter, Node, Ballot, top, image_of, view, members, others}
+use Rattle.am_laws.proofs.EffectWords.{only_name, those, is_member, push_entry, invite_of, fetch_of, result_of, with_promise, Verdict, need_of, best_of}
+use Rattle.am_laws.proofs.EffectWords.{is_waited_for, left_in, trim_for, decide, with_result, with_fetch, verdict_plan, next_stamp, new_ballot, begin}
 use Rattle.am_laws.proofs.EffectWords.{with_vote, newly_needed, keep_vote, without_voter, give_up, viewed_by, reset_row, give_up_of, give_up_row, and_both}
 use Rattle.am_laws.proofs.EffectWords.{Cause, calls, HasLearned, Looks, finds_itself_out, waits, fetches_from_best, finds_too_few, finds_no_room, decides}
 use Rattle.am_laws.proofs.EffectWords.{MayBegin, BeginsBy, by_reset, MayLook, was_reset, HasOpen, Balloting, as_it_is, without_one}

@@ -1,9 +1,9 @@
 -- A node that has no list has a blank one.
-use Rattle.am_laws.proofs.Words.{Each, each_node_keeps, first_has, logged, ◌≡◌, ℕ, ◌<◌, true, false, [], refl, sym, ap, ◌∙◌, subst, arith, Outcome, Rules}
-use Rattle.am_laws.proofs.Words.{Log, blank, top_of, accept, pass_over, Status, Node, Ballot, is_member, is_sequencer, has_log, Verdict, refresh, World}
-use Rattle.am_laws.proofs.Words.{start, first_node, run, split, Cause, Change, refreshes, settles, numbers, notes, stores, begins_list, departs, looks}
-use Rattle.am_laws.proofs.Words.{fetches, stores_view, asks_to_join, closes, Changes, no_change, changed, actor, Looks, finds_itself_out, rests_refresh}
-use Rattle.am_laws.proofs.Words.{settle_is, EachKeeps, runs_keep, BlankHolds}
+use Rattle.am_laws.proofs.Words.{Each, each_node_keeps, first_has, logged, ◌≡◌, ℕ, ◌<◌, true, false, [], refl, sym, ap, ◌∙◌, subst, arith, Outcome, Rules, Log}
+use Rattle.am_laws.proofs.Words.{blank, top_of, accept, pass_over, Status, Node, Ballot, is_member, is_sequencer, has_log, Verdict, refresh, World, start}
+use Rattle.am_laws.proofs.Words.{first_node, run, split, Cause, Change, refreshes, settles, numbers, notes, stores, begins_list, departs, looks, fetches}
+use Rattle.am_laws.proofs.Words.{stores_view, asks_to_join, closes, Changes, no_change, changed, actor, Looks, finds_itself_out, rests_refresh, settle_is}
+use Rattle.am_laws.proofs.Words.{EachKeeps, runs_keep, BlankHolds}
 use Rattle.am_model.specs.declared.status.Status.TheVariants as status
 use Rattle.am_laws.proofs.ViewChanges.{Balloted, leads_member, in_view_log, member_of, looked_at, change_does}
 use Rattle.am_laws.proofs.{RunCounts.numbers_hold, ViewNames.HasNames, ViewNames.HeardNames, ViewNames.change_names, Views.AllViews, Views.heard_names}

@@ -1,6 +1,5 @@
 -- What each change keeps. A coordinator that isn't given up is itself a member of the view that it decides.
-use Rattle.std.proofs.Common.{◌≡◌, ℕ, ◌+◌, ◌-◌, ◌≤◌, max, false, not, ◌==◌}
-use Rattle.std.proofs.Common.{unwrap_or, refl, sym, ap, subst, ◌∙◌, arith}
+use Rattle.std.proofs.Common.{◌≡◌, ℕ, ◌+◌, ◌-◌, ◌≤◌, max, false, not, ◌==◌, unwrap_or, refl, sym, ap, subst, ◌∙◌, arith}
 use Rattle.std.proofs.lemmas.Bool.Decides.{nat_tests}
 use Rattle.am_base.specs.declared.entry.Entry.{Entry}
 use Rattle.am_base.specs.declared.entry.Entry.TheVariants.{Leave, View}
@@ -8,14 +7,13 @@ use Rattle.am_base.specs.declared.outcome.Outcome.{Outcome}
 use Rattle.am_base.specs.Founding.{Rules}
 use Rattle.am_base.specs.Names.{size, names_of}
 use Rattle.am_state.specs.Reports.{least_of}
-use Rattle.am_model.specs.Node.{Node, Ballot, top, image_of, push_entry, trim_up_to}
+use Rattle.am_model.specs.Node.{Node, Ballot, top, push_entry, trim_up_to}
 use Rattle.am_model.specs.Ballots.{Verdict, need_of, left_in, taken_by, trim_for, decided_view}
 use Rattle.am_model.proofs.Sets.{has_size, has_those}
 use Rattle.am_laws.specs.Causes.{Cause}
-use Rattle.am_laws.specs.Looks.{Looks, finds_no_room, decides, HasOpen, Balloting, with_more}
-use Rattle.am_laws.specs.Looks.{without_one, as_it_is}
-use Rattle.am_laws.specs.Changes.{MayStore, Change, refreshes, settles, numbers, notes, stores, begins_list}
-use Rattle.am_laws.specs.Changes.{promises, opens, looks, fetches, stores_view, closes}
+use Rattle.am_laws.specs.Looks.{Looks, finds_no_room, decides, HasOpen, Balloting, with_more, without_one, as_it_is}
+use Rattle.am_laws.specs.Changes.{MayStore, Change, refreshes, settles, numbers, notes, stores, begins_list, promises, opens, looks, fetches, stores_view}
+use Rattle.am_laws.specs.Changes.{closes}
 use Rattle.am_laws.proofs.Kept.{HasItself, Keeps, kept_next, kept_pushed, kept_trimmed, kept_promised, kept_refresh, kept_settle, kept_at_end}
 
 -- ---- looks at a ballot

@@ -1,9 +1,9 @@
 -- Each row has its effect.
 use Rattle.am_laws.proofs.EffectWords.{not-true, ◌≡◌, ℕ, ◌==◌, ◌&&◌, Bool, true, false, not, if◌then◌else◌, List, Ok, Err, refl, Stamp, Report, NodeEvent}
-use Rattle.am_laws.proofs.EffectWords.{stamp_eq, Packet, Read, reading, Node, image_of, view, acts, is_sequencer, Plan, request_row, spread_row}
-use Rattle.am_laws.proofs.EffectWords.{hears_member, hears_asking, hears_in_view, where_heard, hear_row, read_row, row, step, hear, refuse}
-use Rattle.am_laws.proofs.EffectWords.{hear_refusal, and_both, Cause, hears, refuses, by_request, by_spread, cause_of_read, cause_of, by_reset}
-use Rattle.am_laws.proofs.EffectWords.{StepsHaveEffects, HearingHasEffects, RefusingHasEffects}
+use Rattle.am_laws.proofs.EffectWords.{stamp_eq, Packet, Read, reading, Node, image_of, view, acts, is_sequencer, Plan, request_row, spread_row, hears_member}
+use Rattle.am_laws.proofs.EffectWords.{hears_asking, hears_in_view, where_heard, hear_row, read_row, row, step, hear, refuse, hear_refusal, and_both, Cause}
+use Rattle.am_laws.proofs.EffectWords.{hears, refuses, by_request, by_spread, cause_of_read, cause_of, by_reset, StepsHaveEffects, HearingHasEffects}
+use Rattle.am_laws.proofs.EffectWords.{RefusingHasEffects}
 use Rattle.am_base.specs.declared.event.NodeEvent.TheVariants as does
 use Rattle.am_packet.specs.declared.packet.Packet.TheVariants as packet
 use Rattle.am_laws.specs.Looks.{by_hand_over}

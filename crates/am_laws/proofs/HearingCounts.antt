@@ -1,19 +1,19 @@
 -- What hearing adds to the numbers that grow, and a whole step.
 use Rattle.am_laws.proofs.Words.{◌≡◌, inl, inr, ⊎_elim, ℕ, ◌≤◌, ◌==◌, ◌||◌, not, max, if◌then◌else◌, Bool, true, false, nat_le, List, [], ◌∷◌, Option, Some}
-use Rattle.am_laws.proofs.Words.{None, refl, arith, All, nat_tests, All-head, All-tail, GroupView, Stamp, Report, Row, Image, Vote, Entry, Data, Join, Leave, View}
-use Rattle.am_laws.proofs.Words.{Outcome, NodeEvent, at_place, fits, Packet, OwnSend, Node, Ballot, top, image_of, is_within_bound, push_entry, trim_up_to}
-use Rattle.am_laws.proofs.Words.{with_report, waiting, Plan, take_report, number_data, answer_request, request_row, ack_row, serve_again, nack_row}
+use Rattle.am_laws.proofs.Words.{None, refl, arith, All, nat_tests, All-head, All-tail, GroupView, Stamp, Report, Row, Image, Vote, Entry, Data, Join, Leave}
+use Rattle.am_laws.proofs.Words.{View, Outcome, NodeEvent, at_place, fits, Packet, OwnSend, Node, Ballot, top, image_of, is_within_bound, push_entry}
+use Rattle.am_laws.proofs.Words.{trim_up_to, with_report, waiting, Plan, take_report, number_data, answer_request, request_row, ack_row, serve_again, nack_row}
 use Rattle.am_laws.proofs.Words.{spread_row, is_view, store_fitting, store, with_noted, receive_entry, bcast_row, data_of, body_of, order_row, accept_row}
 use Rattle.am_laws.proofs.Words.{answer_hold, hold_row, with_admitted, number_join, join_ask_row, begin_list, welcome_row, leave_ask_row, gone_row}
 use Rattle.am_laws.proofs.Words.{with_promise, invite_row, take_vote, vote_row, fetch_row, push_fetched, catch_up, decide_anew, piece_promised, piece_for}
-use Rattle.am_laws.proofs.Words.{piece_row, hears_result, result_row, hear_row, row, step, hear, hear_refusal, refuse, split, or_first, Bounds}
-use Rattle.am_laws.proofs.Words.{up, UpTo, asks_to_leave}
+use Rattle.am_laws.proofs.Words.{piece_row, hears_result, result_row, hear_row, row, step, hear, hear_refusal, refuse, split, or_first, Bounds, up, UpTo}
+use Rattle.am_laws.proofs.Words.{asks_to_leave}
 use Rattle.am_model.specs.Joining.{asks_to_join}
 use Rattle.am_base.specs.declared.outcome.Outcome.TheVariants as said
 use Rattle.am_base.specs.declared.event.NodeEvent.TheVariants as does
 use Rattle.am_packet.specs.declared.packet.Packet.TheVariants as packet
-use Rattle.am_laws.proofs.Counts.{IsKnown, VotesKnown, leads, Low, Behind, low_pushed, low_any, low_within, low_trimmed, low_report, low_promised}
-use Rattle.am_laws.proofs.Counts.{low_refresh, Ends, ends_if, ends_at, ends_next, ends, low_finish}
+use Rattle.am_laws.proofs.Counts.{IsKnown, VotesKnown, leads, Low, Behind, low_pushed, low_any, low_within, low_trimmed, low_report, low_promised, low_refresh}
+use Rattle.am_laws.proofs.Counts.{Ends, ends_if, ends_at, ends_next, ends, low_finish}
 use Rattle.am_laws.proofs.BallotCounts.{low_look, ends_keep_vote, ends_reset, ends_give_up_row}
 use Rattle.am_laws.proofs.CallCounts.{ends_send, ends_done, ends_take, ends_join, ends_state, ends_leave, ends_ask, ends_tick}
 

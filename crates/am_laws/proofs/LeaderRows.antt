@@ -1,7 +1,7 @@
 -- The rows of a list in which each Join fits what stands before it: the lives of a place never fall, and who leads stays among those
 -- whose reports count.
 use Rattle.am_laws.proofs.Words.{has_in, ◌≡◌, ℕ, zero, suc, ◌+◌, ◌-◌, ◌<◌, ◌≤◌, ◌==◌, ◌&&◌, not, nat_lt, Bool, true, false, List, [], ◌∷◌, ◌++◌, length, take}
-use Rattle.am_laws.proofs.Words.{Some, slice_index, refl, sym, ap, ◌∙◌, subst, arith, nat_tests, get_or-replicate, Entry, Data, View, GroupView, Stamp, Report, Row}
+use Rattle.am_laws.proofs.Words.{Some, slice_index, refl, sym, ap, ◌∙◌, subst, arith, nat_tests, get_or-replicate, Entry, Data, View, GroupView, Report, Row}
 use Rattle.am_laws.proofs.Words.{Image, place_of, life_of, has, blank_row, blank, is_blank, at_place, member_life, members_of, members_at, row_after_view}
 use Rattle.am_laws.proofs.Words.{after, fold, top_of, image_at, told_by, CoreState, since_accepted, JoinFits, JoinsFit, IsUsed, row_at, used_after, used_fold}
 use Rattle.am_laws.proofs.Words.{life_fold, member_at, unions_most, unions_least, unions_long, In, mod16, long_after, set_keeps, row_view, least_taken}

@@ -1,10 +1,10 @@
 -- Which rows, images and entries are within their limits.
 use Rattle.am_laws.proofs.Words.{◌≡◌, ℕ, zero, suc, ◌+◌, ◌-◌, ◌<◌, ◌≤◌, ◌==◌, ◌&&◌, not, nat_lt, Bool, true, false, List, [], ◌∷◌, length, take, map, set}
 use Rattle.am_laws.proofs.Words.{slice_index, slice_index_or, refl, ◌∙◌, arith, All, range_with_len, nat_tests, length-map, length-set, All-head, All-tail}
-use Rattle.am_laws.proofs.Words.{All-map, All-set, All-take, All-weaker, All-get_or, All-from_get_or, All-replicate, most_number, most_body, Entry, Data}
-use Rattle.am_laws.proofs.Words.{Join, Leave, View, Row, Image, IsSet, nobody, place_of, life_of, name_at, by_place, IsImage, IsEntry, Log, blank_row, blank}
-use Rattle.am_laws.proofs.Words.{is_blank, at_place, member_life, members_of, row_after_view, after, fold, image_at, told_by, HasEntryParts, name_where}
-use Rattle.am_laws.proofs.Words.{those, split, Bounds, up}
+use Rattle.am_laws.proofs.Words.{All-map, All-set, All-take, All-weaker, All-get_or, All-from_get_or, All-replicate, most_number, most_body, Entry, Data, Join}
+use Rattle.am_laws.proofs.Words.{Leave, View, Row, Image, IsSet, nobody, place_of, life_of, name_at, by_place, IsImage, IsEntry, Log, blank_row, blank}
+use Rattle.am_laws.proofs.Words.{is_blank, at_place, member_life, members_of, row_after_view, after, fold, image_at, told_by, HasEntryParts, name_where, those}
+use Rattle.am_laws.proofs.Words.{split, Bounds, up}
 use Rattle.am_laws.proofs.Images.{ImageUp, all_places, up_at}
 
 -- ---- sets

@@ -4,9 +4,9 @@ use Rattle.am_base.specs.declared.entry.GroupView.{GroupView}
 use Rattle.am_laws.proofs.WatchedWords.{welcomed_none, numbers_plain, or_second, stamp_itself, same_stamp, ◌≡◌, ◌⊎◌, inl, inr, ⊎_elim, ℕ, ◌+◌, ◌<◌, ◌==◌, ◌&&◌}
 use Rattle.am_laws.proofs.WatchedWords.{not, max, nat_lt, Bool, true, false, List, length, slice_index, Option, Some, None, refl, sym, ap, ◌∙◌, subst, arith}
 use Rattle.am_laws.proofs.WatchedWords.{nat_tests, Entry, Data, Join, Leave, View, Vote, Image, Stamp, Outcome, stamp_lt, stamp_eq, Log, members_of, fits}
-use Rattle.am_laws.proofs.WatchedWords.{entry_at, told_by, Node, Ballot, top, image_of, view, members, unsettled_count, push_entry, trim_up_to, has_log, Verdict}
-use Rattle.am_laws.proofs.WatchedWords.{overtake, need_of, left_in, trim_for, is_unfinished, is_view, refresh, split, and_both, Cause, calls, hears, was_reset}
-use Rattle.am_laws.proofs.WatchedWords.{was_fetched, HasOpen, Balloting, with_more, without_one, as_it_is, Looks, finds_itself_out, decides, Numbers}
+use Rattle.am_laws.proofs.WatchedWords.{entry_at, told_by, Node, Ballot, top, image_of, view, members, unsettled_count, push_entry, trim_up_to, has_log}
+use Rattle.am_laws.proofs.WatchedWords.{Verdict, overtake, need_of, left_in, trim_for, is_unfinished, is_view, refresh, split, and_both, Cause, calls, hears}
+use Rattle.am_laws.proofs.WatchedWords.{was_reset, was_fetched, HasOpen, Balloting, with_more, without_one, as_it_is, Looks, finds_itself_out, decides, Numbers}
 use Rattle.am_laws.proofs.WatchedWords.{asked_send, own_send, asked_join, asked_leave, Carries, whole_entry, by_number, Change, refreshes, settles, numbers}
 use Rattle.am_laws.proofs.WatchedWords.{stores, begins_list, promises, opens, looks, fetches, stores_view, asks_to_leave, closes, rests_refresh, rests_at_end}
 use Rattle.am_laws.proofs.WatchedWords.{settle_is, told_pushed, view_pushed, at_most_below, entry_stays, after_same, view_last, view_there, Balloted}
@@ -117,7 +117,8 @@ whole_sent x from req body long h =
     let v : view (push_entry x e) ≡ view x = ap (λ (i : Image). i.view) is ∙ same.view in
     let r : (image_of (push_entry x e)).resilience ≡ (image_of x).resilience = ap (λ (i : Image). i.resilience) is ∙ same.resilience in
     let m : members (push_entry x e) ≡ members x = ap members_of is ∙ data_members (image_of x) (top x + 1) from req body long in
-    ap (entry_at (push_entry x e).core.log) number ∙ entry_stays x.core.log e _ (image_of x).view_number h ∙ (λ i. Some (View (record { stamp = sym v i; members = sym m i; resilience = sym r i })))
+    ap (entry_at (push_entry x e).core.log) number ∙ entry_stays x.core.log e _ (image_of x).view_number h
+    ∙ (λ i. Some (View (record { stamp = sym v i; members = sym m i; resilience = sym r i })))
 
 -- the View that is decided
 whole_decided : (x : Node) (v : GroupView) → members (push_entry x (View v)) ≡ v.members

@@ -1,11 +1,12 @@
 -- In each run each noted view has the members that its View names.
-use Rattle.am_laws.proofs.WatchedWords.{view_rises, equals_itself, logged, stamp_itself, ◌≡◌, ℕ, ◌==◌, not, Bool, true, false, if◌then◌else◌, List, [], ◌∷◌, Some}
-use Rattle.am_laws.proofs.WatchedWords.{refl, sym, ap, ◌∙◌, subst, arith, All, nat_tests, All-nil, All-cons, All-append, All-weaker, View, Outcome, Rules}
+use Rattle.am_laws.proofs.WatchedWords.{view_rises, equals_itself, logged, stamp_itself, ◌≡◌, ℕ, ◌==◌, not, Bool, true, false, if◌then◌else◌, List, [], ◌∷◌}
+use Rattle.am_laws.proofs.WatchedWords.{Some, refl, sym, ap, ◌∙◌, subst, arith, All, nat_tests, All-nil, All-cons, All-append, All-weaker, View, Outcome, Rules}
 use Rattle.am_laws.proofs.WatchedWords.{MayFound, has, stamp_lt, stamp_eq, entry_at, after, fold, Event, Node, image_of, view, set_at, is_member, has_log, Step}
-use Rattle.am_laws.proofs.WatchedWords.{Decided, World, start, first_node, founders_decided, last_view, views_after, with_record, with_step, run, split, and_both}
-use Rattle.am_laws.proofs.WatchedWords.{Cause, Changes, no_change, changed, Effect, actor, IsCause, idles, stops, returns, steps, all_get, EachKeeps, runs_keep}
-use Rattle.am_laws.proofs.WatchedWords.{at_most, not_above_itself, few_names, change_named, first_founder, HeardNames, Does, change_does, changes_do, heard_names}
-use Rattle.am_laws.proofs.WatchedWords.{told_used, HeardUsed, Along, along_changes, AllOwned, each_along, heard_used, each_owned, owned_start, MembersHold}
+use Rattle.am_laws.proofs.WatchedWords.{Decided, World, start, first_node, founders_decided, last_view, views_after, with_record, with_step, run, split}
+use Rattle.am_laws.proofs.WatchedWords.{and_both, Cause, Changes, no_change, changed, Effect, actor, IsCause, idles, stops, returns, steps, all_get, EachKeeps}
+use Rattle.am_laws.proofs.WatchedWords.{runs_keep, at_most, not_above_itself, few_names, change_named, first_founder, HeardNames, Does, change_does, changes_do}
+use Rattle.am_laws.proofs.WatchedWords.{heard_names, told_used, HeardUsed, Along, along_changes, AllOwned, each_along, heard_used, each_owned, owned_start}
+use Rattle.am_laws.proofs.WatchedWords.{MembersHold}
 use Rattle.am_play.specs.World as runs
 use Rattle.am_laws.proofs.Members.{Whole, Viewed, as_before, of_other, decided, Quiet, change_quiet, change_viewed}
 use Rattle.am_laws.proofs.{Own.HeardOwn, New.AllOwn, New.heard_own, New.each_own, New.own_start}

@@ -1,14 +1,14 @@
 -- What a node has is within its limits, and each change keeps it so.
-use Rattle.am_laws.proofs.Words.{◌≡◌, ℕ, ◌+◌, ◌<◌, ◌≤◌, ◌==◌, ◌&&◌, not, max, nat_le, false, if◌then◌else◌, List, [], ◌∷◌, length, drop, find, Option, Some}
-use Rattle.am_laws.proofs.Words.{None, option_map, refl, sym, ap, subst, arith, All, list_any, nat_tests, All-nil, All-cons, All-append, All-map, All-filter}
+use Rattle.am_laws.proofs.Words.{◌≡◌, ℕ, ◌+◌, ◌<◌, ◌≤◌, ◌==◌, ◌&&◌, not, nat_le, false, if◌then◌else◌, List, [], ◌∷◌, length, drop, find, Option, Some, None}
+use Rattle.am_laws.proofs.Words.{option_map, refl, sym, ap, subst, arith, All, list_any, nat_tests, All-nil, All-cons, All-append, All-map, All-filter}
 use Rattle.am_laws.proofs.Words.{All-drop, All-weaker, most_body, Entry, Data, Leave, View, Vote, Report, Stamp, Outcome, IsSet, stamp_lt, Shown, vote_lt}
 use Rattle.am_laws.proofs.Words.{all_names, better_of, best_from, Packet, OwnSend, KeptBody, is_of, find_body, keep_body, Node, Ballot, image_of, waiting}
 use Rattle.am_laws.proofs.Words.{push_entry, Verdict, overtake, own_vote, best_of, need_of, left_in, own_body, first_body, body_of, bodies_after, refresh}
-use Rattle.am_laws.proofs.Words.{accepted_at, settle_at, settle_waiting, settle, refresh_at_end, split, Cause, calls, hears, BringsSend, by_request}
-use Rattle.am_laws.proofs.Words.{by_spread, HasOpen, Balloting, with_more, without_one, as_it_is, Looks, finds_itself_out, decides, Numbers, asked_send}
-use Rattle.am_laws.proofs.Words.{own_send, asked_join, asked_leave, Carries, whole_entry, by_number, Change, Changes, unchanged, changed, refreshes, settles}
-use Rattle.am_laws.proofs.Words.{numbers, keeps_body, stores, begins_list, promises, opens, looks, fetches, stores_view, queues, collects, closes, all_find}
-use Rattle.am_laws.proofs.Words.{with_fronts, refresh_is, rests_refresh, rests_at_end, settle_is, sender_of, Bounds, up, decided_view}
+use Rattle.am_laws.proofs.Words.{accepted_at, settle_at, settle_waiting, settle, refresh_at_end, split, Cause, calls, hears, BringsSend, by_request, by_spread}
+use Rattle.am_laws.proofs.Words.{HasOpen, Balloting, with_more, without_one, as_it_is, Looks, finds_itself_out, decides, Numbers, asked_send, own_send}
+use Rattle.am_laws.proofs.Words.{asked_join, asked_leave, Carries, whole_entry, by_number, Change, Changes, unchanged, changed, refreshes, settles, numbers}
+use Rattle.am_laws.proofs.Words.{keeps_body, stores, begins_list, promises, opens, looks, fetches, stores_view, queues, collects, closes, all_find, with_fronts}
+use Rattle.am_laws.proofs.Words.{refresh_is, rests_refresh, rests_at_end, settle_is, sender_of, Bounds, up, decided_view}
 use Rattle.am_base.specs.declared.event.NodeEvent.TheVariants as does
 use Rattle.am_packet.specs.declared.packet.Packet.TheVariants as packet
 use Rattle.am_state.specs.Sends as own

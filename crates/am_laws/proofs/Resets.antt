@@ -1,19 +1,19 @@
 -- The effects of what belongs to ballots.
 use Rattle.am_base.specs.declared.entry.GroupView.{GroupView}
-use Rattle.am_laws.proofs.EffectWords.{not-true, not-false, ◌≡◌, ℕ, ◌+◌, ◌≤◌, max, ◌==◌, ◌&&◌, ◌||◌, nat_lt, nat_le, not, Bool, true, false, List, [], Option}
-use Rattle.am_laws.proofs.EffectWords.{Some, None, refl, sym, ap, ◌∙◌, arith, nat_tests, Vote, Image, Stamp, Entry, View, Outcome, stamp_lt, stamp_eq, fits}
-use Rattle.am_laws.proofs.EffectWords.{Node, Ballot, top, image_of, view, only_name, is_member, has_own_leave, is_within_bound, push_entry, trim_up_to, Plan}
-use Rattle.am_laws.proofs.EffectWords.{quiet, ack_of, fetch_of, piece_of, is_unfinished, with_promise, vote_of, invite_row, is_open, take_vote, vote_row}
-use Rattle.am_laws.proofs.EffectWords.{may_fetch, fetch_row, is_view_past, push_fetched, catch_up, decide_anew, fetches_from, piece_promised, piece_for}
-use Rattle.am_laws.proofs.EffectWords.{piece_row, hears_result, result_row, hears_member, hears_asking, and_both, Cause, hears, HasOpen, with_more, as_it_is}
-use Rattle.am_laws.proofs.EffectWords.{was_fetched, MayStore, without_ballot, invited, overtaken, told_result, promises, fetches, stores_view, Course}
-use Rattle.am_laws.proofs.EffectWords.{nothing_yet, and_then, vote, piece, ack, fetch, of_promise}
+use Rattle.am_laws.proofs.EffectWords.{not-true, not-false, ◌≡◌, ℕ, ◌+◌, ◌≤◌, max, ◌==◌, ◌&&◌, ◌||◌, nat_lt, nat_le, not, Bool, true, false, [], Option, Some}
+use Rattle.am_laws.proofs.EffectWords.{None, refl, sym, ap, ◌∙◌, arith, nat_tests, Vote, Image, Stamp, Entry, View, Outcome, stamp_lt, stamp_eq, fits, Node}
+use Rattle.am_laws.proofs.EffectWords.{Ballot, top, image_of, view, only_name, is_member, has_own_leave, is_within_bound, push_entry, trim_up_to, Plan, quiet}
+use Rattle.am_laws.proofs.EffectWords.{ack_of, fetch_of, piece_of, is_unfinished, with_promise, vote_of, invite_row, is_open, take_vote, vote_row, may_fetch}
+use Rattle.am_laws.proofs.EffectWords.{fetch_row, is_view_past, push_fetched, catch_up, decide_anew, fetches_from, piece_promised, piece_for, piece_row}
+use Rattle.am_laws.proofs.EffectWords.{hears_result, result_row, hears_member, hears_asking, and_both, Cause, hears, HasOpen, with_more, as_it_is, was_fetched}
+use Rattle.am_laws.proofs.EffectWords.{MayStore, without_ballot, invited, overtaken, told_result, promises, fetches, stores_view, Course, nothing_yet, and_then}
+use Rattle.am_laws.proofs.EffectWords.{vote, piece, ack, fetch, of_promise}
 use Rattle.am_laws.specs.Changes.{for_ballot}
 use Rattle.am_base.specs.declared.outcome.Outcome.TheVariants as said
 use Rattle.am_packet.specs.declared.packet.Packet.TheVariants as packet
 use Rattle.am_laws.proofs.Plans.{none_says, Comes, HasEffect, effect_if, effect_of, does_quiet, does_telling, does_where, rows}
-use Rattle.am_laws.proofs.{Receiving.stamp_turned, Receiving.may_store, Tests.or_first, Tests.or_second, Rests.RestsWhole, Says.told_pushed}
-use Rattle.am_laws.proofs.{Says.says_served, Says.tells_ack, Ballots.viewed, Ballots.effect_answered, Ballots.row_keep_vote, Calls.Allows}
+use Rattle.am_laws.proofs.{Receiving.stamp_turned, Receiving.may_store, Tests.or_first, Tests.or_second, Rests.RestsWhole, Says.told_pushed, Says.says_served}
+use Rattle.am_laws.proofs.{Says.tells_ack, Ballots.viewed, Ballots.effect_answered, Ballots.row_keep_vote, Calls.Allows}
 
 -- ---- stamps
 

@@ -1,10 +1,10 @@
 -- Which Views a step of any cause adds to a node's list, and that these are what a watcher is told.
-use Rattle.am_laws.proofs.Words.{logged, stamp_itself, ◌≡◌, ℕ, ◌&&◌, ◌||◌, not, if◌then◌else◌, Bool, true, false, List, [], ◌∷◌, ◌++◌, Option, Some, None}
-use Rattle.am_laws.proofs.Words.{refl, sym, ap, ◌∙◌, list_any, list_any-append, Outcome, Stamp, Entry, NodeEvent, stamp_eq, Packet, Ballot, view, is_member}
-use Rattle.am_laws.proofs.Words.{has_log, Step, finish, hear_row, step, row, hear, hear_refusal, split, Cause, hears, Effect}
-use Rattle.am_laws.proofs.StoredWords.{or_right, or_left, or-false, Ok, Err, Piece, Read, reading, cause_of, read_row, is_view_of, refuses}
-use Rattle.am_laws.proofs.StoredWords.{steps_have_effects, hearing_has_effects, refusing_has_effects, Balloted, OpenBallot, decides, standing_of, view_of}
-use Rattle.am_laws.proofs.StoredWords.{IsBare, begins, one_of, piece_in, fetched_from, entry_in, last_view, stored_of}
+use Rattle.am_laws.proofs.Words.{logged, stamp_itself, ◌≡◌, ℕ, ◌&&◌, ◌||◌, not, if◌then◌else◌, Bool, true, false, List, [], ◌∷◌, ◌++◌, Option, Some, None, refl}
+use Rattle.am_laws.proofs.Words.{sym, ap, ◌∙◌, list_any, list_any-append, Outcome, Stamp, Entry, NodeEvent, stamp_eq, Packet, Ballot, view, is_member, has_log}
+use Rattle.am_laws.proofs.Words.{Step, finish, hear_row, step, row, hear, hear_refusal, split, Cause, hears, Effect}
+use Rattle.am_laws.proofs.StoredWords.{or_right, or_left, or-false, Ok, Err, Piece, Read, reading, cause_of, read_row, is_view_of, refuses, steps_have_effects}
+use Rattle.am_laws.proofs.StoredWords.{hearing_has_effects, refusing_has_effects, Balloted, OpenBallot, decides, standing_of, view_of, IsBare, begins, one_of}
+use Rattle.am_laws.proofs.StoredWords.{piece_in, fetched_from, entry_in, last_view, stored_of}
 use Rattle.am_packet.specs.declared.packet.Packet.TheVariants.{Result}
 use Rattle.am_model.specs.Node.{Node}
 use Rattle.am_base.specs.declared.event.NodeEvent.TheVariants as does

@@ -1,24 +1,24 @@
 -- A node trims no more than its own application has taken: who leads is a member of its own list, so its own report counts.
-use Rattle.am_laws.proofs.Words.{other_heard, stamp_itself, same_stamp, has_in, ◌≡◌, ◌≢◌, ℕ, ◌+◌, ◌≤◌, ◌==◌, ◌&&◌, ◌||◌, not, max, nat_lt, nat_le, Bool, true}
-use Rattle.am_laws.proofs.Words.{false, if◌then◌else◌, List, [], ◌∷◌, length, Option, Some, None, slice_index, unwrap_or, refl, sym, ap, ◌∙◌, subst, arith}
-use Rattle.am_laws.proofs.Words.{nat_tests, Entry, Data, Join, Leave, View, Vote, Image, GroupView, Stamp, Outcome, place_of, life_of, name_at, has, names_of, stamp_lt}
+use Rattle.am_laws.proofs.Words.{other_heard, stamp_itself, same_stamp, has_in, ◌≡◌, ◌≢◌, ℕ, ◌+◌, ◌≤◌, ◌==◌, ◌&&◌, ◌||◌, not, nat_lt, nat_le, Bool, true, false}
+use Rattle.am_laws.proofs.Words.{if◌then◌else◌, List, [], ◌∷◌, length, Option, Some, None, slice_index, unwrap_or, refl, sym, ap, ◌∙◌, subst, arith, nat_tests}
+use Rattle.am_laws.proofs.Words.{Entry, Data, Join, Leave, View, Vote, Image, GroupView, Stamp, Outcome, place_of, life_of, name_at, has, names_of, stamp_lt}
 use Rattle.am_laws.proofs.Words.{stamp_eq, Shown, vote_lt, all_names, better_of, best_from, top_of, told_by, members_of, at_place, after, fits}
 use Rattle.am_laws.proofs.Words.{slice_index-by_place, length-by_place, Packet, least_of, least_in, Spares, mod16, long_after, in_after, Node, Ballot, top}
 use Rattle.am_laws.proofs.Words.{image_of, view, members, name_where, those, is_member, is_asking, acts, is_sequencer, push_entry, trim_up_to, refresh}
-use Rattle.am_laws.proofs.Words.{refresh_at_end, Verdict, overtake, with_promise, next_stamp, own_vote, best_of, need_of, left_in, taken_by, trim_for}
-use Rattle.am_laws.proofs.Words.{is_view, is_unknown, hears_member, hears_asking, hears_sequencer, hears_in_view, has_log, split, and_both, Cause, hears}
-use Rattle.am_laws.proofs.Words.{HasOpen, Balloting, with_more, without_one, as_it_is, Looks, finds_no_room, decides, Promises, invited, overtaken_by}
-use Rattle.am_laws.proofs.Words.{told_result, Numbers, asked_send, own_send, asked_join, asked_leave, Fetches, without_ballot, for_ballot, Change, refreshes}
-use Rattle.am_laws.proofs.Words.{settles, takes_report, admits, numbers, notes, stores, begins_list, departs, promises, opens, looks, fetches, stores_view}
-use Rattle.am_laws.proofs.Words.{takes, asks_to_join, closes, rests_refresh, rests_at_end, settle_is, asking_log, told_pushed, view_pushed, HasItself, itself}
+use Rattle.am_laws.proofs.Words.{refresh_at_end, Verdict, overtake, with_promise, next_stamp, own_vote, best_of, need_of, left_in, taken_by, trim_for, is_view}
+use Rattle.am_laws.proofs.Words.{is_unknown, hears_member, hears_asking, hears_sequencer, hears_in_view, has_log, split, and_both, Cause, hears, HasOpen}
+use Rattle.am_laws.proofs.Words.{Balloting, with_more, without_one, as_it_is, Looks, finds_no_room, decides, Promises, invited, overtaken_by, told_result}
+use Rattle.am_laws.proofs.Words.{Numbers, asked_send, own_send, asked_join, asked_leave, Fetches, without_ballot, for_ballot, Change, refreshes, settles}
+use Rattle.am_laws.proofs.Words.{takes_report, admits, numbers, notes, stores, begins_list, departs, promises, opens, looks, fetches, stores_view, takes}
+use Rattle.am_laws.proofs.Words.{asks_to_join, closes, rests_refresh, rests_at_end, settle_is, asking_log, told_pushed, view_pushed, HasItself, itself}
 use Rattle.am_laws.proofs.Words.{JoinFits, any_fits, JoinsFit, decided_view}
 use Rattle.am_packet.specs.declared.packet.Packet.TheVariants as packet
 use Rattle.am_state.specs.Reports as reports
 use Rattle.am_model.specs.Sequencing as sequencing
 use Rattle.am_laws.proofs.Trims.{Fronts, NoOwnVote, Owned, WelcomeUsed, told_used, pushed_fronts, trimmed_fronts, member_leads, refresh_fronts, closed_fronts}
 use Rattle.am_laws.proofs.Trims.{closed_leads, reporting}
-use Rattle.am_laws.proofs.{LeaderRows.in_is, LeaderRows.data_member, LeaderRows.view_member, Stamps.not_above_itself, Stamps.at_most_below}
-use Rattle.am_laws.proofs.{ViewSteps.view_last, ViewChanges.Balloted, ViewChanges.next_above, Blank.Blanked}
+use Rattle.am_laws.proofs.{LeaderRows.in_is, LeaderRows.data_member, LeaderRows.view_member, Stamps.not_above_itself, Stamps.at_most_below, ViewSteps.view_last}
+use Rattle.am_laws.proofs.{ViewChanges.Balloted, ViewChanges.next_above, Blank.Blanked}
 
 -- ---- what a sequencer numbers
 

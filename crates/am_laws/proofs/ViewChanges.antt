@@ -1,13 +1,13 @@
 -- What changes do to views, to lists and to ballots: an open ballot is above the view, and is what was promised.
-use Rattle.am_laws.proofs.Words.{logged, same_stamp, and_right, and_left, ◌≡◌, ℕ, ◌+◌, ◌<◌, ◌==◌, ◌&&◌, ◌||◌, not, max, nat_lt, Bool, true, false, List}
-use Rattle.am_laws.proofs.Words.{Option, Some, None, refl, sym, ap, ◌∙◌, subst, arith, nat_tests, Outcome, GroupView, Stamp, Image, Entry, Data, Join, Leave, View}
-use Rattle.am_laws.proofs.Words.{stamp_lt, stamp_eq, Log, fits, fold, told_by, Status, Node, Ballot, image_of, view, acts, is_sequencer, is_member, is_asking}
-use Rattle.am_laws.proofs.Words.{push_entry, trim_up_to, has_log, Verdict, overtake, need_of, left_in, trim_for, next_stamp, is_unfinished, is_view, refresh}
-use Rattle.am_laws.proofs.Words.{hears_member, hears_in_view, hears_sequencer, split, Cause, HasOpen, Balloting, with_more, without_one, as_it_is, Looks}
-use Rattle.am_laws.proofs.Words.{finds_itself_out, waits, fetches_from_best, finds_too_few, finds_no_room, decides, Numbers, asked_send, own_send, asked_join}
-use Rattle.am_laws.proofs.Words.{asked_leave, Fetches, without_ballot, for_ballot, MayBeWelcomed, Change, refreshes, settles, numbers, stores, begins_list}
-use Rattle.am_laws.proofs.Words.{departs, promises, opens, looks, fetches, stores_view, asks_to_join, closes, Changes, unchanged, changed, or_first}
-use Rattle.am_laws.proofs.Words.{or_second, view_pushed, rests_refresh, rests_at_end, settle_is, decided_view}
+use Rattle.am_laws.proofs.Words.{logged, same_stamp, and_right, and_left, ◌≡◌, ℕ, ◌+◌, ◌<◌, ◌==◌, ◌&&◌, ◌||◌, not, max, nat_lt, Bool, true, false, Option, Some}
+use Rattle.am_laws.proofs.Words.{None, refl, sym, ap, ◌∙◌, subst, arith, nat_tests, Outcome, GroupView, Stamp, Image, Entry, Data, Join, Leave, View, stamp_lt}
+use Rattle.am_laws.proofs.Words.{stamp_eq, Log, fits, fold, told_by, Status, Node, Ballot, image_of, view, acts, is_sequencer, is_member, is_asking, push_entry}
+use Rattle.am_laws.proofs.Words.{trim_up_to, has_log, Verdict, overtake, need_of, left_in, trim_for, next_stamp, is_unfinished, is_view, refresh, hears_member}
+use Rattle.am_laws.proofs.Words.{hears_in_view, hears_sequencer, split, Cause, HasOpen, Balloting, with_more, without_one, as_it_is, Looks, finds_itself_out}
+use Rattle.am_laws.proofs.Words.{waits, fetches_from_best, finds_too_few, finds_no_room, decides, Numbers, asked_send, own_send, asked_join, asked_leave}
+use Rattle.am_laws.proofs.Words.{Fetches, without_ballot, for_ballot, MayBeWelcomed, Change, refreshes, settles, numbers, stores, begins_list, departs}
+use Rattle.am_laws.proofs.Words.{promises, opens, looks, fetches, stores_view, asks_to_join, closes, Changes, unchanged, changed, or_first, or_second}
+use Rattle.am_laws.proofs.Words.{view_pushed, rests_refresh, rests_at_end, settle_is, decided_view}
 use Rattle.am_packet.specs.declared.packet.Packet.TheVariants as packet
 use Rattle.am_model.specs.declared.status.Status.TheVariants as status
 use Rattle.am_laws.proofs.ViewNames.{ViewNamed, HasNames, HeardNames, change_names, promised_named}
@@ -235,7 +235,8 @@ does_result m base v is other fit h =
       goes = λ t. goes_fit (trim_up_to m base) (View v) fit;
       log_ = λ t. t;
       balloted = record {
-        high = subst (λ (x : Stamp). stamp_lt m.core.promise x ≡ false) (sym same) (subst (λ (p : Stamp). stamp_lt p v.stamp ≡ false) (sym is) (not_above_itself v.stamp));
+        high = subst (λ (x : Stamp). stamp_lt m.core.promise x ≡ false) (sym same)
+            (subst (λ (p : Stamp). stamp_lt p v.stamp ≡ false) (sym is) (not_above_itself v.stamp));
         none = h.none;
         opened = subst (λ (x : Stamp). OpenBallot m.core.who m.core.promise x m.ballot) (sym same)
             (other_open m.core.who m.core.promise (view m) v.stamp m.ballot is other h.opened);

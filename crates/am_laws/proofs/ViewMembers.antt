@@ -1,8 +1,8 @@
 -- The members after a send, and after a View of some of them.
 use Rattle.am_laws.proofs.Words.{index_members, ◌≡◌, ◌⊎◌, inl, inr, ⊎_elim, ℕ, ◌<◌, ◌==◌, ◌&&◌, not, nat_lt, Bool, true, false, List, length, set, get_or}
 use Rattle.am_laws.proofs.Words.{slice_index, refl, sym, ap, ◌∙◌, arith, nat_tests, map-set, set-get_or, ext_get_or, length-map, Data, View, Row, Image}
-use Rattle.am_laws.proofs.Words.{GroupView, Stamp, place_of, life_of, name_at, is_blank, at_place, member_life, members_of, row_after_view, after, slice_index-by_place}
-use Rattle.am_laws.proofs.Words.{length-by_place, row_at, mod16, row_view, long_after, blank_joined, name_where, those, split}
+use Rattle.am_laws.proofs.Words.{GroupView, place_of, life_of, name_at, is_blank, at_place, member_life, members_of, row_after_view, after}
+use Rattle.am_laws.proofs.Words.{slice_index-by_place, length-by_place, row_at, mod16, row_view, long_after, blank_joined, name_where, those, split}
 
 -- ---- members, place by place
 

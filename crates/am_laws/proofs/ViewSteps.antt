@@ -1,6 +1,6 @@
 -- What one change of a node does to its view and to the entries of its list.
-use Rattle.am_laws.proofs.Words.{◌≡◌, ◌⊎◌, inl, inr, ⊎_elim, ℕ, zero, suc, ◌+◌, ◌-◌, ◌==◌, nat_le, true, false, List, [], ◌∷◌, length, Some, refl, sym, ap}
-use Rattle.am_laws.proofs.Words.{◌∙◌, subst, arith, GroupView, Stamp, Image, Entry, Data, Join, Leave, View, life_of, stamp_lt, Log, at_place, after, fits, entry_at}
+use Rattle.am_laws.proofs.Words.{◌≡◌, ◌⊎◌, inl, inr, ⊎_elim, ℕ, zero, suc, ◌+◌, ◌-◌, ◌==◌, nat_le, true, false, List, [], ◌∷◌, length, Some, refl, sym, ap, ◌∙◌}
+use Rattle.am_laws.proofs.Words.{subst, arith, GroupView, Stamp, Image, Entry, Data, Join, Leave, View, life_of, stamp_lt, Log, at_place, after, fits, entry_at}
 use Rattle.am_laws.proofs.Words.{told_by, with_entry, Node, top, image_of, view, push_entry, is_view, split, get_front, get_last, told_pushed, entry_is}
 use Rattle.am_laws.proofs.Stamps.{below, not_above}
 
@@ -44,7 +44,8 @@ after_view image number v = (refl, refl, refl)
 -- the last View stands at its number
 pub record Stood (log : Log) : Type 0 where
   pub names : List ℕ
-  pub there : entry_at log (told_by log).view_number ≡ Some (View (record { stamp = (told_by log).view; members = names; resilience = (told_by log).resilience }))
+  pub there : entry_at log (told_by log).view_number
+      ≡ Some (View (record { stamp = (told_by log).view; members = names; resilience = (told_by log).resilience }))
 
 -- what has become of a list: its entries stay, and its view stays, or is greater and stands in it
 pub record Goes (old new : Log) : Type 0 where
@@ -61,7 +62,8 @@ stood_on : (old new : Log) → ((number : ℕ) (x : Entry) → entry_at old numb
     → Stood old → Stood new
 stood_on old new stays same h = record {
   names = h.names;
-  there = ap (entry_at new) same.number ∙ stays (told_by old).view_number _ h.there ∙ (λ i. Some (View (record { stamp = sym same.view i; members = h.names; resilience = sym same.resilience i })));
+  there = ap (entry_at new) same.number ∙ stays (told_by old).view_number _ h.there
+      ∙ (λ i. Some (View (record { stamp = sym same.view i; members = h.names; resilience = sym same.resilience i })));
 }
 
 pub goes_then : (a b c : Log) → Goes a b → Goes b c → Goes a c

@@ -1,15 +1,15 @@
 -- A view is noted once, and its View stands at its number.
 use Rattle.am_laws.proofs.Words.{equals_itself, logged, stamp_itself, and_both, ◌≡◌, ◌⊎◌, inl, inr, ⊎_elim, ℕ, zero, suc, ◌<◌, ◌==◌, not, Bool, true, false}
 use Rattle.am_laws.proofs.Words.{if◌then◌else◌, List, [], ◌∷◌, ◌++◌, length, Some, slice_get, refl, sym, ap, ◌∙◌, subst, arith, All, nat_tests, All-nil}
-use Rattle.am_laws.proofs.Words.{All-cons, All-append, All-weaker, Stamp, View, Rules, MayFound, has, stamp_lt, stamp_eq, entry_at, fold, after, Packet}
-use Rattle.am_laws.proofs.Words.{Letter, Event, Node, image_of, view, set_at, is_member, founder, stranger, lowest_or_first, founders_view, has_log, Decided}
-use Rattle.am_laws.proofs.Words.{World, start, first_node, founders_decided, last_view, views_after, with_step, run, heard_by, split, Cause, Says, request}
-use Rattle.am_laws.proofs.Words.{LetterSays, actor, WasSentTo, IsCause, all_get, all_item, EachKeeps, StepsKeep, SameParts, law_keeps, runs_keep, sender_of}
-use Rattle.am_laws.proofs.Words.{stamp_of, ViewsHold, first_founder}
+use Rattle.am_laws.proofs.Words.{All-cons, All-append, All-weaker, Stamp, View, Rules, MayFound, has, stamp_lt, stamp_eq, entry_at, fold, after, Packet, Letter}
+use Rattle.am_laws.proofs.Words.{Event, Node, image_of, view, set_at, is_member, founder, stranger, lowest_or_first, founders_view, has_log, Decided, World}
+use Rattle.am_laws.proofs.Words.{start, first_node, founders_decided, last_view, views_after, with_step, run, heard_by, split, Cause, Says, request, LetterSays}
+use Rattle.am_laws.proofs.Words.{actor, WasSentTo, IsCause, all_get, all_item, EachKeeps, StepsKeep, SameParts, law_keeps, runs_keep, sender_of, stamp_of}
+use Rattle.am_laws.proofs.Words.{ViewsHold, first_founder}
 use Rattle.am_play.specs.World.{decides}
 use Rattle.am_laws.proofs.ViewNames.{ViewNamed, HasNames, HeardNames, PieceNamed, pieces_named}
-use Rattle.am_laws.proofs.{ViewChanges.Balloted, ViewChanges.Does, ViewChanges.changes_do, Named.AllNamed, Named.each_named, Named.few_names}
-use Rattle.am_laws.proofs.{Named.start_named, Stamps.at_most, Stamps.not_above, Stamps.not_above_itself, ViewSteps.Goes, ViewSteps.Stood, ViewSteps.SameView}
+use Rattle.am_laws.proofs.{ViewChanges.Balloted, ViewChanges.Does, ViewChanges.changes_do, Named.AllNamed, Named.each_named, Named.few_names, Named.start_named}
+use Rattle.am_laws.proofs.{Stamps.at_most, Stamps.not_above, Stamps.not_above_itself, ViewSteps.Goes, ViewSteps.Stood, ViewSteps.SameView}
 
 -- ---- what is so of a world
 

@@ -27,17 +27,17 @@ unfoldable pub use Rattle.am_laws.proofs.EffectWords.{fits, after, fold, pass_ov
 unfoldable pub use Rattle.am_laws.proofs.EffectWords.{give_up_row, reset_row, send_row, done_row, take_row, join_row, state_row, leave_row, ask_row, refresh}
 unfoldable pub use Rattle.am_laws.proofs.EffectWords.{lead, settle, refresh_at_end, finish, spread_row, bcast_row, order_row, accept_row, hold_row, tick_row}
 unfoldable pub use Rattle.am_laws.proofs.EffectWords.{step, hear, hear_refusal, row, request_row, ack_row, nack_row, join_ask_row, welcome_row, leave_ask_row}
-unfoldable pub use Rattle.am_laws.proofs.EffectWords.{gone_row, invite_row, vote_row, fetch_row, piece_row, result_row, hear_row, with_record}
-unfoldable pub use Rattle.am_laws.proofs.EffectWords.{with_step, happens, happen}
+unfoldable pub use Rattle.am_laws.proofs.EffectWords.{gone_row, invite_row, vote_row, fetch_row, piece_row, result_row, hear_row, with_record, with_step}
+unfoldable pub use Rattle.am_laws.proofs.EffectWords.{happens, happen}
 pub use Rattle.std.{proofs.Math.Seq.take-length, proofs.lemmas.Bool.cases_lt, proofs.lemmas.List.Folds.list_any-append, proofs.lemmas.List.Sums.sum_by-cons}
 pub use Rattle.std.{specs.List.count_by, specs.List.range_with_len}
 pub use Rattle.std.proofs.Common.{unwrap_or, filter, ⊎_elim, take, slice_index_or, map, set, length-drop, get_or}
 pub use Rattle.std.proofs.lemmas.List.{length-take, get_or-replicate, length-map, set-get_or, ext_get_or}
 pub use Rattle.std.proofs.lemmas.List.Elements.{All-map, All-set, All-weaker, All-replicate, All-get_or, All-from_get_or, All-filter}
 pub use Rattle.am_base.specs.declared.entry.GroupView.{GroupView}
-pub use Rattle.am_base.specs.{Names.names_of, Names.IsSet, Names.nobody, Names.name_at, Names.rank_of, Names.names_from, Founding.MayFound}
-pub use Rattle.am_base.specs.{Fronts.accept_front, Most.most_body, Most.most_number, Limits.IsNumber, Limits.IsReport, Limits.IsImage, Limits.IsEntry}
-pub use Rattle.am_base.specs.{Votes.Shown, Votes.vote_lt, Votes.all_names, Votes.better_of}
+pub use Rattle.am_base.specs.{Names.names_of, Names.IsSet, Names.nobody, Names.name_at, Names.rank_of, Names.names_from, Founding.MayFound, Fronts.accept_front}
+pub use Rattle.am_base.specs.{Most.most_body, Most.most_number, Limits.IsNumber, Limits.IsReport, Limits.IsImage, Limits.IsEntry, Votes.Shown, Votes.vote_lt}
+pub use Rattle.am_base.specs.{Votes.all_names, Votes.better_of}
 pub use Rattle.am_base.specs.Lists.{blank, blank_row, is_blank, row_after_view, image_at, members_at, with_entry}
 unfoldable pub use Rattle.am_base.specs.{Names.by_place, Votes.best_from}
 pub use Rattle.am_packet.specs.{Limits.IsPacket, Limits.HasEntryParts, Spelling.stamp_of, Spelling.sender_of}
@@ -64,13 +64,12 @@ pub use Rattle.am_play.proofs.Beginnings.{runs_begin}
 pub use Rattle.am_base.proofs.{Requests.has_in, Order.rank_same, Members.index_members}
 pub use Rattle.am_base.proofs.Rows.{and_right, In, mod16, long_after, set_keeps, row_view, Spares, in_after, and_left, blank_joined}
 pub use Rattle.am_meaning.proofs.{AcceptFronts.accept_front_is, Bytes.spelling_is_heard, Bytes.cut_is_heard}
-pub use Rattle.am_laws.proofs.{Nodes.Each, Nodes.each_node_keeps, Nodes.first_has, Statuses.logged, Statuses.asking_log, Rests.rests_refresh}
-pub use Rattle.am_laws.proofs.{Rests.settle_is, Rests.rests_at_end, Rests.with_fronts, Rests.refresh_is, Rests.passed, EffectRuns.EachKeeps, EffectRuns.runs_keep}
-pub use Rattle.am_laws.proofs.{EffectRuns.along, EffectRuns.StepsKeep, EffectRuns.SameParts, EffectRuns.law_keeps, Says.view_pushed, Says.told_pushed, Tests.equals_itself}
-pub use Rattle.am_laws.proofs.{Tests.or_first, Tests.or_second, Items.all_get, Items.all_item, Items.all_find, Items.get_front, Items.get_last}
-pub use Rattle.am_laws.proofs.{Events.events_have_effects, Hearing.other_heard, Resets.stamp_itself, Resets.same_stamp, Ballots.entry_is}
-pub use Rattle.am_laws.specs.{Changes.Numbers, Changes.Promises, Changes.overtaken as overtaken_by, Changes.Fetches, Changes.for_ballot}
-pub use Rattle.am_laws.specs.{Letters.MayWelcome}
+pub use Rattle.am_laws.proofs.{Nodes.Each, Nodes.each_node_keeps, Nodes.first_has, Statuses.logged, Statuses.asking_log, Rests.rests_refresh, Rests.settle_is}
+pub use Rattle.am_laws.proofs.{Rests.rests_at_end, Rests.with_fronts, Rests.refresh_is, Rests.passed, EffectRuns.EachKeeps, EffectRuns.runs_keep}
+pub use Rattle.am_laws.proofs.{EffectRuns.along, EffectRuns.StepsKeep, EffectRuns.SameParts, EffectRuns.law_keeps, Says.view_pushed, Says.told_pushed}
+pub use Rattle.am_laws.proofs.{Tests.equals_itself, Tests.or_first, Tests.or_second, Items.all_get, Items.all_item, Items.all_find, Items.get_front}
+pub use Rattle.am_laws.proofs.{Items.get_last, Events.events_have_effects, Hearing.other_heard, Resets.stamp_itself, Resets.same_stamp, Ballots.entry_is}
+pub use Rattle.am_laws.specs.{Changes.Numbers, Changes.Promises, Changes.overtaken as overtaken_by, Changes.Fetches, Changes.for_ballot, Letters.MayWelcome}
 pub use Rattle.am_laws.proofs.{Kept.HasItself, Kept.Keeps, Changes.itself, Changes.kept_change, BoundedRuns.kept_own}
 pub use Rattle.am_laws.specs.{Packets.Bounds, Packets.up, Packets.UpTo, Blank.BlankHolds, Begins.FrontBegins, GivenUp.OnlyStoppedGivenUp, Named.NamesHold}
 pub use Rattle.am_laws.specs.{Numbers.NumbersHold, Taken.TakenHolds, Views.ViewsHold}

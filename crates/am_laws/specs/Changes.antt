@@ -19,8 +19,7 @@ use Rattle.am_state.specs.Sends as own
 use Rattle.am_state.specs.Bodies.{keep_body}
 use Rattle.am_model.specs.declared.status.Status.TheVariants as status
 use Rattle.am_model.specs.Node.{Node, Ballot, top, image_of, view, own_row, others, is_member, is_sequencer, has_room, has_own_leave, is_within_bound}
-use Rattle.am_model.specs.Node.{report_fits}
-use Rattle.am_model.specs.Node.{with_report, push_entry, trim_up_to, waiting, unsettled_count}
+use Rattle.am_model.specs.Node.{report_fits, with_report, push_entry, trim_up_to, waiting, unsettled_count}
 use Rattle.am_model.specs.Refresh.{refresh, settle, refresh_at_end}
 use Rattle.am_model.specs.Ballots.{Verdict, with_promise, next_stamp, new_ballot}
 use Rattle.am_model.specs.Calls.{with_queued, is_unfinished}

@@ -1,5 +1,5 @@
 -- What a look at a ballot comes to, and what makes a node look.
-use Rattle.std.specs.Prelude.{◌≡◌, ℕ, ◌+◌, ◌-◌, max, Some, true, false, ◌==◌, nat_lt}
+use Rattle.std.specs.Prelude.{◌≡◌, ℕ, ◌+◌, ◌-◌, Some, true, false, ◌==◌, nat_lt}
 use Rattle.am_base.specs.declared.image.Vote.{Vote}
 use Rattle.am_base.specs.declared.name.Stamp.{Stamp}
 use Rattle.am_base.specs.declared.entry.Entry.{Entry}
@@ -9,8 +9,9 @@ use Rattle.am_base.specs.declared.event.NodeEvent.TheVariants.{Reset, GiveUp}
 use Rattle.am_base.specs.Names.{has, size}
 use Rattle.am_base.specs.Stamps.{stamp_lt, stamp_eq}
 use Rattle.am_packet.specs.declared.packet.Packet.TheVariants as packet
-use Rattle.am_model.specs.Node.{Node, Ballot, top, image_of, members, those, is_member, push_entry}
-use Rattle.am_model.specs.Ballots.{Verdict, need_of, best_of, is_waited_for, left_in, goes_on, ends, decided_view, restart_reports, trim_for, with_vote, without_voter}
+use Rattle.am_model.specs.Node.{Node, Ballot, top, members, those, is_member, push_entry}
+use Rattle.am_model.specs.Ballots.{Verdict, need_of, best_of, is_waited_for, left_in, goes_on, ends, decided_view, restart_reports, trim_for, with_vote}
+use Rattle.am_model.specs.Ballots.{without_voter}
 use Rattle.am_model.specs.Hearing.{hears_member, hears_sequencer}
 use Rattle.am_laws.specs.Causes.{Cause, calls, hears}
 

@@ -2,8 +2,8 @@
 use Rattle.std.specs.Prelude.{ℕ, ◌+◌, ◌≤◌, List, [], ◌∷◌, All}
 use Rattle.am_packet.specs.Spelling.{stamp_of}
 use Rattle.am_packet.specs.declared.packet.Packet.{Packet}
-use Rattle.am_packet.specs.declared.packet.Packet.TheVariants.{Request, Spread, Bcast, Order, Accept, Ack, Nack, Hold, Welcome, LeaveAsk, Gone, Vote}
-use Rattle.am_packet.specs.declared.packet.Packet.TheVariants.{Fetch, Piece, Result}
+use Rattle.am_packet.specs.declared.packet.Packet.TheVariants.{Request, Spread, Bcast, Order, Accept, Ack, Nack, Hold, Welcome, LeaveAsk, Gone, Vote, Fetch}
+use Rattle.am_packet.specs.declared.packet.Packet.TheVariants.{Piece, Result}
 
 -- the numbers of entries that it tells, but for that of a View
 abbrev pub numbers_of : Packet → List ℕ

@@ -1,10 +1,10 @@
 -- Ballots, on the kept end of a list as on all of it.
 use Rattle.am_model.proofs.EndWords.{Entry, ◌≡◌, ℕ, ◌+◌, ◌-◌, max, min, Bool, true, false, not, ◌&&◌, ◌==◌, nat_lt, if◌then◌else◌, List, [], Option, Some, None}
 use Rattle.am_model.proofs.EndWords.{unwrap_or, refl, ◌∙◌, ap, Vote, Stamp, View, Outcome, has, size, minus, without_name, names_of, Shown, best_vote, Log}
-use Rattle.am_model.proofs.EndWords.{members_of, with_entry, least_of, Letter, with_letter, Node, Ballot, top, image_of, those, is_member, push_entry, only_name}
-use Rattle.am_model.proofs.EndWords.{invite_of, result_of, Verdict, with_promise, best_of, has_voted, is_waited_for, left_in, taken_by, ends, restart_reports}
-use Rattle.am_model.proofs.EndWords.{decide_view, trim_for, decide, with_result, with_fetch, verdict_plan, next_stamp, new_ballot, begin, with_vote, newly_needed}
-use Rattle.am_model.proofs.EndWords.{keep_vote, without_voter, give_up, reset_row, give_up_of, give_up_row, decide_anew, with_log}
+use Rattle.am_model.proofs.EndWords.{members_of, with_entry, least_of, Letter, with_letter, Node, Ballot, top, image_of, those, is_member, push_entry}
+use Rattle.am_model.proofs.EndWords.{only_name, invite_of, result_of, Verdict, with_promise, best_of, has_voted, is_waited_for, left_in, taken_by, ends}
+use Rattle.am_model.proofs.EndWords.{restart_reports, decide_view, trim_for, decide, with_result, with_fetch, verdict_plan, next_stamp, new_ballot, begin}
+use Rattle.am_model.proofs.EndWords.{with_vote, newly_needed, keep_vote, without_voter, give_up, reset_row, give_up_of, give_up_row, decide_anew, with_log}
 use Rattle.am_base.specs.declared.outcome.Outcome.TheVariants as said
 use Rattle.am_model.proofs.Plans.{Says, Alike, same_others, says_fetch, alike, alike_if, alike_case, alike_quiet}
 use Rattle.am_model.proofs.Nodes.{Keeps, Whole, reads, keeps_pushed, keeps_trimmed}

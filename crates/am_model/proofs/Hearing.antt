@@ -1,15 +1,15 @@
 -- What a member does with packets, and a whole step, on the kept end of a list as on all of it.
 use Rattle.am_base.specs.declared.entry.GroupView.{GroupView}
-use Rattle.am_model.proofs.EndWords.{◌≡◌, ℕ, ◌+◌, ◌≤◌, max, Bool, true, false, not, ◌&&◌, ◌||◌, ◌==◌, nat_lt, nat_le, List, [], length, take, Option, Some, None}
-use Rattle.am_model.proofs.EndWords.{refl, sym, ap, subst, arith, Ok, Err, list_any, nat_tests, Vote, Stamp, Entry, View, Outcome, NodeEvent, without_name}
-use Rattle.am_model.proofs.EndWords.{names_of, stamp_lt, stamp_eq, Log, fits, row_of, members_of, with_entry, end-self, Packet, Read, reading, OwnSend, is_of}
-use Rattle.am_model.proofs.EndWords.{keep_body, Node, Ballot, image_of, view, only_name, is_member, has_own_leave, is_within_bound, waiting, push_entry}
-use Rattle.am_model.proofs.EndWords.{trim_up_to, Plan, ack_of, nack_of, fetch_of, piece_of, put_all, if_risen, spread_row, body_of, bodies_after, is_view}
-use Rattle.am_model.proofs.EndWords.{with_noted, acknowledges, store_fitting, store, receive_entry, bcast_row, data_of, order_row, accept_row, answer_hold}
-use Rattle.am_model.proofs.EndWords.{hold_row, with_promise, vote_of, invite_row, take_vote, vote_row, serve_pieces, fetch_row, is_view_past, push_fetched}
-use Rattle.am_model.proofs.EndWords.{catch_up, decide_anew, fetches_from, piece_promised, piece_for, piece_row, hears_result, result_row}
-use Rattle.am_model.proofs.EndWords.{reset_row, hears_member, hears_in_view, hears_as_sequencer, hears_sequencer, where_heard, passes, heard_row, hear_row, read_row, row, step}
-use Rattle.am_model.proofs.EndWords.{with_log, StepsAlike, EndsStepAlike, StepsKeepOrder}
+use Rattle.am_model.proofs.EndWords.{◌≡◌, ℕ, ◌+◌, ◌≤◌, max, Bool, true, false, not, ◌&&◌, ◌||◌, ◌==◌, nat_lt, nat_le, List, [], length, take, Option, Some}
+use Rattle.am_model.proofs.EndWords.{None, refl, sym, ap, subst, arith, Ok, Err, list_any, nat_tests, Vote, Stamp, Entry, View, Outcome, NodeEvent}
+use Rattle.am_model.proofs.EndWords.{without_name, names_of, stamp_lt, stamp_eq, Log, fits, row_of, members_of, with_entry, end-self, Packet, Read, reading}
+use Rattle.am_model.proofs.EndWords.{OwnSend, is_of, keep_body, Node, Ballot, image_of, view, only_name, is_member, has_own_leave, is_within_bound, waiting}
+use Rattle.am_model.proofs.EndWords.{push_entry, trim_up_to, Plan, ack_of, nack_of, fetch_of, piece_of, put_all, if_risen, spread_row, body_of, bodies_after}
+use Rattle.am_model.proofs.EndWords.{is_view, with_noted, acknowledges, store_fitting, store, receive_entry, bcast_row, data_of, order_row, accept_row}
+use Rattle.am_model.proofs.EndWords.{answer_hold, hold_row, with_promise, vote_of, invite_row, take_vote, vote_row, serve_pieces, fetch_row, is_view_past}
+use Rattle.am_model.proofs.EndWords.{push_fetched, catch_up, decide_anew, fetches_from, piece_promised, piece_for, piece_row, hears_result, result_row}
+use Rattle.am_model.proofs.EndWords.{reset_row, hears_member, hears_in_view, hears_as_sequencer, hears_sequencer, where_heard, passes, heard_row, hear_row}
+use Rattle.am_model.proofs.EndWords.{read_row, row, step, with_log, StepsAlike, EndsStepAlike, StepsKeepOrder}
 use Rattle.am_base.specs.declared.outcome.Outcome.TheVariants as said
 use Rattle.am_base.specs.declared.event.NodeEvent.TheVariants as does
 use Rattle.am_packet.specs.declared.kind.Gate.{Gate}

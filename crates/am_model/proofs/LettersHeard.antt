@@ -22,12 +22,10 @@ use Rattle.am_state.specs.declared.sender.OwnSend.{OwnSend}
 use Rattle.am_model.specs.Node.{Node, Ballot, top, image_of, others, only_name, push_entry, trim_up_to, waiting}
 use Rattle.am_model.specs.Refresh.{refresh_at_end}
 use Rattle.am_model.specs.Emit.{Plan, quiet, polling, numbering, tells_accepted, accept_of, ack_of, bcast_of, hold_of, piece_of, welcome_of, gone_of}
-use Rattle.am_model.specs.Emit.{entries_to_serve}
-use Rattle.am_model.specs.Emit.{put_all, with_accept, finish}
+use Rattle.am_model.specs.Emit.{entries_to_serve, put_all, with_accept, finish}
 use Rattle.am_model.specs.Sequencing.{row_at, number_data, answer_request, request_row, if_risen, ack_row, serve_again, nack_row}
 use Rattle.am_model.specs.Receiving.{spread_row, acknowledges, bodies_after, store_fitting, store, with_noted, receive_entry, bcast_row, data_of, body_of}
-use Rattle.am_model.specs.Receiving.{order_row}
-use Rattle.am_model.specs.Receiving.{answer_accept, accept_row, answer_hold, hold_row}
+use Rattle.am_model.specs.Receiving.{order_row, answer_accept, accept_row, answer_hold, hold_row}
 use Rattle.am_model.specs.Joining.{with_admitted, number_join, asks_to_join, join_ask_row, ask_next, welcome_row, may_go, let_go, and_gone, asks_to_leave}
 use Rattle.am_model.specs.Joining.{leave_ask_row, gone_row}
 use Rattle.am_model.specs.Ballots.{decide}

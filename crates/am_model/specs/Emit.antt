@@ -5,8 +5,7 @@ use Rattle.am_base.specs.declared.outcome.Outcome.{Outcome}
 use Rattle.am_base.specs.Lists.{image_at, row_of}
 use Rattle.am_packet.specs.declared.packet.Packet.{Packet}
 use Rattle.am_packet.specs.declared.packet.Packet.TheVariants as packet
-use Rattle.am_packet.specs.Boxes.{Letter}
-use Rattle.am_packet.specs.Boxes.{with_letter}
+use Rattle.am_packet.specs.Boxes.{Letter, with_letter}
 use Rattle.am_model.specs.declared.status.Status.TheVariants.{Departed}
 use Rattle.am_model.specs.Node.{Node, top, image_of, others, is_sequencer, push_entry, report_of, entries_above}
 use Rattle.am_model.specs.Refresh.{refresh_at_end}

@@ -177,8 +177,8 @@ entry_fails bytes at =
     (either (eqb (slice_index bytes at) 4) _ _ _ _ (guarded _ 10 _ _
     (in_turn (stamp_at bytes (at + 1)) (λ stamp. set_at bytes (at + 6) >>= λ members. resilience_at bytes (at + 16) >>= λ resilience. Ok
     (View (viewed stamp members resilience))) (number_field bytes (at + 1) ∷ []) _ (stamp_fails bytes (at + 1)) (λ stamp stamp-is.
-    in_turn (set_at bytes (at + 6)) (λ members. resilience_at bytes (at + 16) >>= λ resilience. Ok (View (viewed stamp members resilience))) (set_field bytes (at + 6)
-    ∷ []) _ (set_fails bytes (at + 6)) (λ members members-is.
+    in_turn (set_at bytes (at + 6)) (λ members. resilience_at bytes (at + 16) >>= λ resilience. Ok (View (viewed stamp members resilience)))
+    (set_field bytes (at + 6) ∷ []) _ (set_fails bytes (at + 6)) (λ members members-is.
     last (resilience_at bytes (at + 16)) (λ resilience. View (viewed stamp members resilience)) (resilience_field bytes (at + 16) ∷ [])
     (resilience_fails bytes (at + 16))))))
     (at, refl, refl))))

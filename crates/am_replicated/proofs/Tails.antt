@@ -1,11 +1,11 @@
 -- What the last Data of a member's place are, along a list that fits.
-use Rattle.am_replicated.proofs.Words.{◌≡◌, ℕ, ◌+◌, ◌-◌, ◌<◌, ◌≤◌, ◌==◌, true, List, [], ◌∷◌, ◌++◌, length, get_or, slice_get, Some, slice_index, refl, sym}
-use Rattle.am_replicated.proofs.Words.{ap, ◌∙◌, subst, arith, ⊎_elim, suc, append_assoc, append-nil, length-append, get_or-append_seam, eqb-true, eqb-false}
-use Rattle.am_replicated.proofs.Words.{cond-false, flat_map-append, get_or-range_with_len, range_with_len, split, place_of, life_of, Entry, Data, Join}
-use Rattle.am_replicated.proofs.Words.{Leave, View, Begins, IsGood, image_of, mem, begins_refl, begins_more, begins_trans, push_next, next_of, good_begins}
-use Rattle.am_replicated.proofs.Words.{last_fits, mem_between, own_request, and_left, same_name, low_or_above, requests_in_turn, part_count, part_of}
-use Rattle.am_replicated.proofs.Words.{sent_from, from_place, parts_from, from_place-more, sent_own, first_parts, first_parts-none, first_parts-of}
-use Rattle.am_replicated.proofs.Words.{all_first, sized, get_before, slice_get_within}
+use Rattle.am_replicated.proofs.Words.{◌≡◌, ℕ, ◌+◌, ◌-◌, ◌<◌, ◌≤◌, ◌==◌, true, List, [], ◌∷◌, ◌++◌, length, get_or, slice_get, Some, slice_index, refl, sym, ap}
+use Rattle.am_replicated.proofs.Words.{◌∙◌, subst, arith, ⊎_elim, suc, append_assoc, append-nil, length-append, get_or-append_seam, eqb-true, eqb-false}
+use Rattle.am_replicated.proofs.Words.{cond-false, flat_map-append, get_or-range_with_len, range_with_len, split, place_of, life_of, Entry, Data, Join, Leave}
+use Rattle.am_replicated.proofs.Words.{View, Begins, IsGood, image_of, mem, begins_refl, begins_more, begins_trans, push_next, next_of, good_begins, last_fits}
+use Rattle.am_replicated.proofs.Words.{mem_between, own_request, and_left, same_name, low_or_above, requests_in_turn, part_count, part_of, sent_from}
+use Rattle.am_replicated.proofs.Words.{from_place, parts_from, from_place-more, sent_own, first_parts, first_parts-none, first_parts-of, all_first, sized}
+use Rattle.am_replicated.proofs.Words.{get_before, slice_get_within}
 use Rattle.am_base.specs.Lists.{members_of, fits, request_in, requests_of}
 
 -- ---- one entry more

@@ -1,14 +1,13 @@
 -- The words of this crate's proofs, of the crates and definitions that they come from.
 pub use Rattle.std.{proofs.lemmas.Bool.cases_lt, proofs.lemmas.Bool.Decides.nat_tests, proofs.lemmas.List.get_or_past, proofs.lemmas.List.length-map}
 pub use Rattle.std.{specs.Option.IfSome}
-pub use Rattle.std.proofs.Common.{◌≡◌, ℕ, ◌<◌, ◌≤◌, List, Bool, true, false, not, nat_lt, ◌==◌, sym, ◌∙◌, ap, arith, ◌⊎◌, ⊎_elim, inl, inr, ◌+◌, [], ◌∷◌}
-pub use Rattle.std.proofs.Common.{◌&&◌, Some, refl, subst, length-append, ◌||◌, Option, None, option_map, slice_index, ◌-◌, max, if◌then◌else◌, unwrap_or}
-pub use Rattle.std.proofs.Common.{length, nat_le}
+pub use Rattle.std.proofs.Common.{◌≡◌, ℕ, ◌<◌, ◌≤◌, List, Bool, true, false, not, nat_lt, ◌==◌, sym, ◌∙◌, ap, arith, ◌⊎◌, ⊎_elim, inl, inr, ◌+◌, [], ◌∷◌, ◌&&◌}
+pub use Rattle.std.proofs.Common.{Some, refl, subst, length-append, ◌||◌, Option, None, option_map, slice_index, ◌-◌, max, if◌then◌else◌, unwrap_or, length}
+pub use Rattle.std.proofs.Common.{nat_le}
 pub use Rattle.am_base.specs.{declared.image.Vote.Vote, Votes.Shown, Votes.best_vote, Votes.better_of, Votes.all_names, Votes.vote_lt}
 pub use Rattle.am_base.specs.{declared.image.Image.Image, declared.name.Stamp.Stamp, declared.entry.Entry.Entry, declared.entry.GroupView.GroupView}
-pub use Rattle.am_base.specs.{Stamps.stamp_lt, Stamps.stamp_eq}
-pub use Rattle.am_base.specs.{declared.outcome.Outcome.TheVariants.Overtaken, declared.outcome.Outcome.Outcome, declared.image.Row.Row}
-pub use Rattle.am_base.specs.{declared.image.Report.Report, Founding.Rules}
+pub use Rattle.am_base.specs.{Stamps.stamp_lt, Stamps.stamp_eq, declared.outcome.Outcome.TheVariants.Overtaken, declared.outcome.Outcome.Outcome}
+pub use Rattle.am_base.specs.{declared.image.Row.Row, declared.image.Report.Report, Founding.Rules}
 pub use Rattle.am_base.specs.Names.{has, size, rank_of, name_at, is_within, by_place, names_of, place_of, life_of}
 pub use Rattle.am_base.specs.declared.entry.Entry.TheVariants.{Data, Join, Leave, View}
 pub use Rattle.am_base.specs.Lists.{Log, top_of, with_entry, members_of, blank_row, is_blank, at_place, member_life, row_after_view}

@@ -1,9 +1,10 @@
 -- What the parts of a node keep where its list is trimmed or gets one entry more.
-use Rattle.am_resetting.proofs.DecidingWords.{◌≡◌, ◌⊎◌, ⊎_elim, inl, inr, ℕ, ◌+◌, ◌≤◌, [], ◌∷◌, Bool, true, false, ◌==◌, ◌&&◌, nat_lt, Some, refl, sym, ap, subst, ◌∙◌}
-use Rattle.am_resetting.proofs.DecidingWords.{length-append, arith, nat_tests, Image, Stamp, Entry, Data, Join, Leave, View, has, stamp_lt, stamp_eq, Log, top_of}
-use Rattle.am_resetting.proofs.DecidingWords.{with_entry, after, fits, members_of, CoreState, Keeps, trim_to, end-top, end-told, told-push, stands_self, split}
-use Rattle.am_resetting.proofs.DecidingWords.{has_log, Node, Ballot, top, image_of, view, members, acts, is_member, is_sequencer, push_entry, IsKept, next_request}
-use Rattle.am_resetting.proofs.DecidingWords.{NodeKeeps, IsSteady, due_pushed, keeps_steady, over_own, IsTakenOut, IsUpTo, MayStore}
+use Rattle.am_resetting.proofs.DecidingWords.{◌≡◌, ◌⊎◌, ⊎_elim, inl, inr, ℕ, ◌+◌, ◌≤◌, [], ◌∷◌, Bool, true, false, ◌==◌, ◌&&◌, nat_lt, Some, refl, sym, ap}
+use Rattle.am_resetting.proofs.DecidingWords.{subst, ◌∙◌, length-append, arith, nat_tests, Image, Stamp, Entry, Data, Join, Leave, View, has, stamp_lt}
+use Rattle.am_resetting.proofs.DecidingWords.{stamp_eq, Log, top_of, with_entry, after, fits, members_of, CoreState, Keeps, trim_to, end-top, end-told}
+use Rattle.am_resetting.proofs.DecidingWords.{told-push, stands_self, split, has_log, Node, Ballot, top, image_of, view, members, acts, is_member, is_sequencer}
+use Rattle.am_resetting.proofs.DecidingWords.{push_entry, IsKept, next_request, NodeKeeps, IsSteady, due_pushed, keeps_steady, over_own, IsTakenOut, IsUpTo}
+use Rattle.am_resetting.proofs.DecidingWords.{MayStore}
 use Rattle.am_state.specs.Reports as reports
 use Rattle.am_resetting.proofs.{Orders.lt_not_eq, Views.view_has, Views.view_is, Views.view_stays_data, Views.view_stays_join, Views.view_stays_leave}
 

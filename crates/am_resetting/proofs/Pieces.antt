@@ -1,13 +1,13 @@
 -- What the rows of pieces and results come to.
-use Rattle.am_resetting.proofs.CatchingWords.{◌≡◌, ◌≢◌, ℕ, ◌+◌, ◌-◌, ◌<◌, ◌≤◌, max, Bool, true, false, not, ◌||◌, ◌&&◌, ◌==◌, if◌then◌else◌, List, Option, Some, None}
-use Rattle.am_resetting.proofs.CatchingWords.{refl, sym, ap, subst, ◌∙◌, arith, nat_tests, most_number, Stamp, Entry, GroupView, Data, Join, Leave, View}
-use Rattle.am_resetting.proofs.CatchingWords.{Image, Outcome, IsEntry}
-use Rattle.am_resetting.proofs.CatchingWords.{nobody, stamp_lt, stamp_eq, IsInOrder, told-push, split, has_log, Node, Ballot, top, image_of, view, acts, is_member}
-use Rattle.am_resetting.proofs.CatchingWords.{push_entry, trim_up_to, Plan, quiet, Verdict, with_promise, decide, is_view_past, push_fetched, catch_up, decide_anew}
-use Rattle.am_resetting.proofs.CatchingWords.{fetches_from, piece_promised, piece_for, piece_row, hears_result, result_row, IsEndOf, NodeKeeps, IsOwnBallot, IsSteady}
-use Rattle.am_resetting.proofs.CatchingWords.{unless, plan_of, FollowsAsView, ComesNext, IsBelow, IsUpTo, MayStore, IsTakenOut, Telling, ComesTo, Reply, Replies, own_steady}
-use Rattle.am_resetting.proofs.CatchingWords.{view_is, view_stays_data, view_stays_join, view_stays_leave, by_plan, if_no, lt_self, same_stamp, not-false}
-use Rattle.am_resetting.proofs.CatchingWords.{replies_quiet, replies_looked, replies_telling, replies_saying, quiet_of, saying_of, asking_of, IsPlain, IsTold, decide_with}
+use Rattle.am_resetting.proofs.CatchingWords.{◌≡◌, ◌≢◌, ℕ, ◌+◌, ◌-◌, ◌<◌, ◌≤◌, max, Bool, true, false, not, ◌||◌, ◌&&◌, ◌==◌, if◌then◌else◌, List, Option, Some}
+use Rattle.am_resetting.proofs.CatchingWords.{None, refl, sym, ap, subst, ◌∙◌, arith, nat_tests, most_number, Stamp, Entry, GroupView, Data, Join, Leave, View}
+use Rattle.am_resetting.proofs.CatchingWords.{Image, Outcome, IsEntry, nobody, stamp_lt, stamp_eq, IsInOrder, told-push, split, has_log, Node, Ballot, top}
+use Rattle.am_resetting.proofs.CatchingWords.{image_of, view, acts, is_member, push_entry, trim_up_to, Plan, quiet, Verdict, with_promise, decide, is_view_past}
+use Rattle.am_resetting.proofs.CatchingWords.{push_fetched, catch_up, decide_anew, fetches_from, piece_promised, piece_for, piece_row, hears_result, result_row}
+use Rattle.am_resetting.proofs.CatchingWords.{IsEndOf, NodeKeeps, IsOwnBallot, IsSteady, unless, plan_of, FollowsAsView, ComesNext, IsBelow, IsUpTo, MayStore}
+use Rattle.am_resetting.proofs.CatchingWords.{IsTakenOut, Telling, ComesTo, Reply, Replies, own_steady, view_is, view_stays_data, view_stays_join}
+use Rattle.am_resetting.proofs.CatchingWords.{view_stays_leave, by_plan, if_no, lt_self, same_stamp, not-false, replies_quiet, replies_looked, replies_telling}
+use Rattle.am_resetting.proofs.CatchingWords.{replies_saying, quiet_of, saying_of, asking_of, IsPlain, IsTold, decide_with}
 use Rattle.am_base.specs.declared.outcome.Outcome.TheVariants as said
 use Rattle.am_handlers.specs.declared.reply.Telling.TheVariants as tell
 

@@ -1,9 +1,9 @@
 -- What a look at a ballot comes to, from the end of a list as from all of it.
 use Rattle.am_resetting.proofs.DecidingWords.{◌≡◌, ℕ, ◌+◌, ◌-◌, ◌<◌, ◌≤◌, max, List, [], ◌∷◌, true, false, not, ◌==◌, nat_lt, if◌then◌else◌, Option, Some, None}
-use Rattle.am_resetting.proofs.DecidingWords.{unwrap_or, refl, sym, ap, subst, ◌∙◌, arith, IfSome, Image, Vote, Entry, View, Outcome, has, size, names_of, Shown}
-use Rattle.am_resetting.proofs.DecidingWords.{better_of, best_from, best_vote, all_names, vote_lt, Log, top_of, Stands, split, least_of, Node, Ballot, top}
-use Rattle.am_resetting.proofs.DecidingWords.{those, push_entry, trim_up_to, Verdict, own_vote, best_of, is_waited_for, left_in, taken_by, with_answer, with_end}
-use Rattle.am_resetting.proofs.DecidingWords.{goes_on, ends, decided_view, decide_view, trim_for, decide, IsEndOf, with_log, told_same, top_same}
+use Rattle.am_resetting.proofs.DecidingWords.{unwrap_or, refl, sym, ap, subst, ◌∙◌, arith, IfSome, Image, Vote, Entry, View, Outcome, has, size, names_of}
+use Rattle.am_resetting.proofs.DecidingWords.{Shown, better_of, best_from, best_vote, all_names, vote_lt, Log, top_of, Stands, split, least_of, Node, Ballot}
+use Rattle.am_resetting.proofs.DecidingWords.{top, those, push_entry, trim_up_to, Verdict, own_vote, best_of, is_waited_for, left_in, taken_by, with_answer}
+use Rattle.am_resetting.proofs.DecidingWords.{with_end, goes_on, ends, decided_view, decide_view, trim_for, decide, IsEndOf, with_log, told_same, top_same}
 use Rattle.am_resetting.proofs.DecidingWords.{own_vote_same, ComesTo}
 use Rattle.am_base.specs.declared.outcome.Outcome.TheVariants as said
 use Rattle.am_state.specs.Reports as reports

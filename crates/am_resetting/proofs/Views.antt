@@ -1,9 +1,8 @@
 -- What a View that fits does to the members and to the view.
-use Rattle.am_resetting.proofs.DecidingWords.{◌≡◌, ⊎_elim, ℕ, ◌<◌, ◌≤◌, List, length, true, false, ◌==◌, ◌&&◌, ◌||◌, nat_lt, nat_le, slice_index, refl, sym, ap, ◌∙◌}
-use Rattle.am_resetting.proofs.DecidingWords.{arith, nat_tests, cases_lt, get_or_past, length-map, Image, Row, GroupView, Data, Join, Leave, View, place_of}
-use Rattle.am_resetting.proofs.DecidingWords.{life_of, has}
-use Rattle.am_resetting.proofs.DecidingWords.{is_within, stamp_lt, blank_row, is_blank, at_place, member_life, members_of, row_after_view, after, fits}
-use Rattle.am_resetting.proofs.DecidingWords.{get_or-by_place, length-by_place, split, row_at, member_at, within_none, and_both}
+use Rattle.am_resetting.proofs.DecidingWords.{◌≡◌, ⊎_elim, ℕ, ◌<◌, ◌≤◌, List, length, true, false, ◌==◌, ◌&&◌, ◌||◌, nat_lt, nat_le, slice_index, refl, sym, ap}
+use Rattle.am_resetting.proofs.DecidingWords.{◌∙◌, arith, nat_tests, cases_lt, get_or_past, length-map, Image, Row, GroupView, Data, Join, Leave, View}
+use Rattle.am_resetting.proofs.DecidingWords.{place_of, life_of, has, is_within, stamp_lt, blank_row, is_blank, at_place, member_life, members_of}
+use Rattle.am_resetting.proofs.DecidingWords.{row_after_view, after, fits, get_or-by_place, length-by_place, split, row_at, member_at, within_none, and_both}
 
 -- the parts of a View that fits
 pub record FitsAsView (image : Image) (v : GroupView) : Type 0 where

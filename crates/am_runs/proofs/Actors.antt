@@ -1,17 +1,18 @@
 -- A step of any name, and of the first founder.
-use Rattle.am_runs.proofs.UnballotedWords.{◌≡◌, ◌≢◌, ⊎_elim, ℕ, zero, suc, ◌-◌, ◌≤◌, ◌==◌, true, false, List, [], ◌∷◌, ◌++◌, length, take, drop, None, refl, sym}
-use Rattle.am_runs.proofs.UnballotedWords.{ap, ◌∙◌, subst, append_assoc, append-nil, arith, All, nat_tests, take-append-le, length-take-le, All-weaker, Stamp}
-use Rattle.am_runs.proofs.UnballotedWords.{Entry, View, Outcome, Rules, Log, CoreState, Letter, Act, Event, Record, Departed, Node, view, set_at, has_log, Step}
-use Rattle.am_runs.proofs.UnballotedWords.{World, record_of, group_after, with_step, heard_by, split, Cause, hears, Change, refreshes, settles}
+use Rattle.am_runs.proofs.UnballotedWords.{◌≡◌, ◌≢◌, ⊎_elim, ℕ, zero, suc, ◌-◌, ◌≤◌, ◌==◌, true, false, List, [], ◌∷◌, ◌++◌, length, take, drop, None, refl}
+use Rattle.am_runs.proofs.UnballotedWords.{sym, ap, ◌∙◌, subst, append_assoc, append-nil, arith, All, nat_tests, take-append-le, length-take-le, All-weaker}
+use Rattle.am_runs.proofs.UnballotedWords.{Stamp, Entry, View, Outcome, Rules, Log, CoreState, Letter, Act, Event, Record, Departed, Node, view, set_at}
+use Rattle.am_runs.proofs.UnballotedWords.{has_log, Step, World, record_of, group_after, with_step, heard_by, split, Cause, hears, Change, refreshes, settles}
 use Rattle.am_runs.proofs.UnballotedWords.{numbers, stores, begins_list, opens, looks, fetches, stores_view, closes, LetterSays, Answers, WasQueued, AnswersAsk}
 use Rattle.am_runs.proofs.UnballotedWords.{Effect, actor, IsCause, all_item, rests_refresh, rests_closed, settle_is, Keeps, CauseSent, change_sent, AllSent}
 use Rattle.am_runs.proofs.UnballotedWords.{all_sent_more, after_step, cause_sent, logged}
 use Rattle.am_base.specs.declared.outcome.Outcome.TheVariants as said
 use Rattle.am_runs.proofs.Chains.{none_first, quietly, start_same, last_up, Gave, nothing, gave_change}
-use Rattle.am_runs.proofs.{UnballotedKept.first_of, UnballotedKept.NodeOk, UnballotedKept.ListOk, UnballotedKept.FrontsOk, UnballotedKept.LetterOk, UnballotedKept.PacketOk, UnballotedKept.CauseOk, Others.Heard}
-use Rattle.am_runs.proofs.{Others.looks_leave, Others.other_change, First.IsGroup, First.FirstBase, First.FirstOk, FirstChanges.first_change}
-use Rattle.am_runs.proofs.{FirstChanges.first_view, FirstChanges.not_welcomed, Says.Sends, Says.IsFirst, Says.Fetched, Says.letter_says, Worlds.AskedOk}
-use Rattle.am_runs.proofs.{Worlds.unique, Worlds.asked_more, Worlds.Kept, Worlds.WorldOk, Steps.not_asked, Goes.kept_step}
+use Rattle.am_runs.proofs.{UnballotedKept.first_of, UnballotedKept.NodeOk, UnballotedKept.ListOk, UnballotedKept.FrontsOk, UnballotedKept.LetterOk}
+use Rattle.am_runs.proofs.{UnballotedKept.PacketOk, UnballotedKept.CauseOk, Others.Heard, Others.looks_leave, Others.other_change, First.IsGroup}
+use Rattle.am_runs.proofs.{First.FirstBase, First.FirstOk, FirstChanges.first_change, FirstChanges.first_view, FirstChanges.not_welcomed, Says.Sends}
+use Rattle.am_runs.proofs.{Says.IsFirst, Says.Fetched, Says.letter_says, Worlds.AskedOk, Worlds.unique, Worlds.asked_more, Worlds.Kept, Worlds.WorldOk}
+use Rattle.am_runs.proofs.{Steps.not_asked, Goes.kept_step}
 
 -- ---- what makes a name do a step
 

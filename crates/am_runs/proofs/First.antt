@@ -1,7 +1,7 @@
 -- What each change of the first founder keeps, which is the sequencer as long as it is a member.
 use Rattle.am_runs.proofs.UnballotedWords.{◌≡◌, ℕ, ◌+◌, ◌≤◌, ◌==◌, true, false, List, [], ◌∷◌, ◌++◌, length, take, Some, slice_get, refl, sym, ap, ◌∙◌, subst}
-use Rattle.am_runs.proofs.UnballotedWords.{length-append, arith, All, flat_map-append, All-push, All-head, All-tail, Image, Entry, Data, Join, Leave, View, Rules}
-use Rattle.am_runs.proofs.UnballotedWords.{life_of, Log, blank, fold, after, fits, at_place, requests_of, request_in, Node, top, is_member, push_entry}
+use Rattle.am_runs.proofs.UnballotedWords.{length-append, arith, All, flat_map-append, All-push, All-head, All-tail, Image, Entry, Data, Join, Leave, View}
+use Rattle.am_runs.proofs.UnballotedWords.{Rules, life_of, Log, blank, fold, after, fits, at_place, requests_of, request_in, Node, top, is_member, push_entry}
 use Rattle.am_runs.proofs.UnballotedWords.{founders_view, founding_stamp, has_log, is_view, split, IsGood, image_of, mem, SmallName, good_push, get_last}
 use Rattle.am_state.specs.Sends as own
 use Rattle.am_model.specs.Node as nodes

@@ -2,20 +2,22 @@
 use Rattle.am_runs.proofs.UnballotedWords.{stamp_itself, ◌≡◌, ℕ, ◌+◌, ◌-◌, ◌<◌, ◌≤◌, max, min, ◌==◌, ◌&&◌, ◌||◌, not, nat_lt, true, false, if◌then◌else◌, List}
 use Rattle.am_runs.proofs.UnballotedWords.{[], length, map, Option, Some, None, refl, sym, ap, ◌∙◌, subst, append-nil, arith, nat_tests, Stamp, Report, Row}
 use Rattle.am_runs.proofs.UnballotedWords.{Image, Entry, Data, Join, Leave, Outcome, Rules, life_of, stamp_eq, Log, fits, at_place, row_of, requests_of, accept}
-use Rattle.am_runs.proofs.UnballotedWords.{pass_over, own_report, tell, go_on, let_go, OwnSend, Status, Node, top, view, is_member, is_asking, acts, is_sequencer}
-use Rattle.am_runs.proofs.UnballotedWords.{push_entry, waiting, founding_stamp, has_log, advance, lead, refresh, accepted_at, settle_at, settle_waiting, settle}
-use Rattle.am_runs.proofs.UnballotedWords.{refresh_at_end, is_view, hears_member, hears_in_view, hears_sequencer, split, and_both, image_of, mem, mem_in, in_mem}
-use Rattle.am_runs.proofs.UnballotedWords.{mem_push, request_within, next_in, Cause, Numbers, asked_send, own_send, asked_join, asked_leave, MayBeWelcomed}
-use Rattle.am_runs.proofs.UnballotedWords.{Change, refreshes, settles, numbers, notes, stores, begins_list, departs, promises, opens, looks, fetches, stores_view}
-use Rattle.am_runs.proofs.UnballotedWords.{queues, collects, takes, asks_to_join, closes, base_up, rests_refresh, settle_is, logged}
+use Rattle.am_runs.proofs.UnballotedWords.{pass_over, own_report, tell, go_on, let_go, OwnSend, Status, Node, top, view, is_member, is_asking, acts}
+use Rattle.am_runs.proofs.UnballotedWords.{is_sequencer, push_entry, waiting, founding_stamp, has_log, advance, lead, refresh, accepted_at, settle_at}
+use Rattle.am_runs.proofs.UnballotedWords.{settle_waiting, settle, refresh_at_end, is_view, hears_member, hears_in_view, hears_sequencer, split, and_both}
+use Rattle.am_runs.proofs.UnballotedWords.{image_of, mem, mem_in, in_mem, mem_push, request_within, next_in, Cause, Numbers, asked_send, own_send, asked_join}
+use Rattle.am_runs.proofs.UnballotedWords.{asked_leave, MayBeWelcomed, Change, refreshes, settles, numbers, notes, stores, begins_list, departs, promises}
+use Rattle.am_runs.proofs.UnballotedWords.{opens, looks, fetches, stores_view, queues, collects, takes, asks_to_join, closes, base_up, rests_refresh, settle_is}
+use Rattle.am_runs.proofs.UnballotedWords.{logged}
 use Rattle.am_state.specs.Sends as own
 use Rattle.am_model.specs.declared.status.Status.TheVariants as status
 use Rattle.am_model.specs.Node as nodes
 use Rattle.am_base.proofs.Rows as rows
-use Rattle.am_runs.proofs.{UnballotedKept.first_of, UnballotedKept.NodeOk, UnballotedKept.CauseOk, UnballotedKept.node_more, UnballotedChanges.found_at, UnballotedChanges.settle_ok, UnballotedChanges.queued_ok}
-use Rattle.am_runs.proofs.{UnballotedChanges.collected_ok, Others.same_node, Others.looks_leave, Others.promised_first, Others.with_status, Others.with_promise}
-use Rattle.am_runs.proofs.{Others.taken_ok, Turns.Turn, Turns.waiting_is, Turns.one_more, Turns.waiting_settled, Turns.collected_turn, First.group_view}
-use Rattle.am_runs.proofs.{First.base_as, First.OwnOk, First.FirstBase, First.FirstOk, First.first_told, First.first_push}
+use Rattle.am_runs.proofs.{UnballotedKept.first_of, UnballotedKept.NodeOk, UnballotedKept.CauseOk, UnballotedKept.node_more, UnballotedChanges.found_at}
+use Rattle.am_runs.proofs.{UnballotedChanges.settle_ok, UnballotedChanges.queued_ok, UnballotedChanges.collected_ok, Others.same_node, Others.looks_leave}
+use Rattle.am_runs.proofs.{Others.promised_first, Others.with_status, Others.with_promise, Others.taken_ok, Turns.Turn, Turns.waiting_is, Turns.one_more}
+use Rattle.am_runs.proofs.{Turns.waiting_settled, Turns.collected_turn, First.group_view, First.base_as, First.OwnOk, First.FirstBase, First.FirstOk}
+use Rattle.am_runs.proofs.{First.first_told, First.first_push}
 use Rattle.am_chain.proofs.Quiet.{leave_fits}
 use Rattle.am_laws.proofs.ViewChanges.{leads_member}
 use Rattle.am_laws.proofs.Counts.{over_acc}
@@ -314,7 +316,8 @@ first_change rules list acc c o m n w (looks b verdict over why look is) none h 
 first_change rules list acc c o m n w (fetches s v base number e is heard promise below from may) none h =
     absurd (not_fetched rules m v h.base (and_both (not (s == m.core.who)) (is_member m.status) heard).1 promise below)
 first_change rules list acc c o m n w (stores_view s base number v is heard own other promise below may) none h =
-    absurd (not_fetched rules m v.stamp h.base (and_both (not (s == m.core.who)) (is_member m.status) heard).1 (ap (stamp_eq v.stamp) promise ∙ stamp_itself v.stamp) below)
+    absurd (not_fetched rules m v.stamp h.base (and_both (not (s == m.core.who)) (is_member m.status) heard).1
+    (ap (stamp_eq v.stamp) promise ∙ stamp_itself v.stamp) below)
 first_change rules list acc c o m n w (queues body is says member stays few) none h =
     let b = h.base in
     let own_ = b.own in

@@ -1,9 +1,9 @@
 -- Where the number of a row's joining stands in the whole list.
 use Rattle.am_model.specs.Node.{founding_view}
 use Rattle.am_runs.proofs.UnballotedWords.{same_name, ◌≡◌, ◌≢◌, ◌⊎◌, ⊎_elim, inl, inr, ℕ, ◌+◌, ◌<◌, ◌==◌, true, false, List, [], ◌∷◌, ◌++◌, length, slice_index}
-use Rattle.am_runs.proofs.UnballotedWords.{Some, refl, sym, ap, ◌∙◌, subst, append_assoc, append-nil, arith, get_or-replicate, All, nat_tests, All-head, All-tail}
-use Rattle.am_runs.proofs.UnballotedWords.{Row, Image, Entry, Data, Join, Leave, View, Rules, has, place_of, life_of, blank, blank_row, fold, after, at_place}
-use Rattle.am_runs.proofs.UnballotedWords.{with_row, item_at, founders_view, founding_stamp, is_view, split, image_of, row_at, row_set, row_view, told_push}
+use Rattle.am_runs.proofs.UnballotedWords.{Some, refl, sym, ap, ◌∙◌, subst, append_assoc, append-nil, arith, get_or-replicate, All, nat_tests, All-head}
+use Rattle.am_runs.proofs.UnballotedWords.{All-tail, Row, Image, Entry, Data, Join, Leave, View, Rules, has, place_of, life_of, blank, blank_row, fold, after}
+use Rattle.am_runs.proofs.UnballotedWords.{at_place, with_row, item_at, founders_view, is_view, split, image_of, row_at, row_set, row_view, told_push}
 use Rattle.am_runs.proofs.UnballotedWords.{long_told, get_last}
 use Rattle.am_runs.proofs.{Lists.item_more, Lists.get_item, First.IsGroup}
 

@@ -3,15 +3,14 @@ use Rattle.am_runs.proofs.UnballotedWords.{◌≡◌, ◌≢◌, ℕ, ◌+◌, �
 use Rattle.am_runs.proofs.UnballotedWords.{Option, Some, None, slice_get, refl, sym, ap, ◌∙◌, subst, length-append, arith, All, nat_tests, Stamp, Image, Entry}
 use Rattle.am_runs.proofs.UnballotedWords.{Data, View, Outcome, Rules, has, CoreState, accept, pass_over, Record, item_at, Status, Node, Ballot, top, is_member}
 use Rattle.am_runs.proofs.UnballotedWords.{is_sequencer, push_entry, trim_up_to, founding_stamp, has_log, advance, refresh, Verdict, body_of, begin_list, split}
-use Rattle.am_runs.proofs.UnballotedWords.{and_both, Cause, BringsFronts, alone, Looks, finds_itself_out, Carries, whole_entry}
-use Rattle.am_runs.proofs.UnballotedWords.{by_number, Promises, invited, overtaken, told_result, Change, refreshes, settles, takes_report, admits, numbers}
-use Rattle.am_runs.proofs.UnballotedWords.{notes, stores, begins_list, departs, promises, opens, looks, fetches, stores_view, queues, collects, takes}
-use Rattle.am_runs.proofs.UnballotedWords.{asks_to_join, closes, WasSent, EntrySent, Keeps, MaySend, body_of_sent, all_item, logged, asking_log}
-use Rattle.am_runs.proofs.UnballotedWords.{asking}
+use Rattle.am_runs.proofs.UnballotedWords.{and_both, Cause, BringsFronts, alone, Looks, finds_itself_out, Carries, whole_entry, by_number, Promises, invited}
+use Rattle.am_runs.proofs.UnballotedWords.{overtaken, told_result, Change, refreshes, settles, takes_report, admits, numbers, notes, stores, begins_list}
+use Rattle.am_runs.proofs.UnballotedWords.{departs, promises, opens, looks, fetches, stores_view, queues, collects, takes, asks_to_join, closes, WasSent}
+use Rattle.am_runs.proofs.UnballotedWords.{EntrySent, Keeps, MaySend, body_of_sent, all_item, logged, asking_log, asking}
 use Rattle.am_model.specs.declared.status.Status.TheVariants as status
 use Rattle.am_runs.proofs.UnballotedKept.{first_of, ListOk, FrontsOk, fronts_ok, BeginsOk, StatusOk, SendOk, NodeOk, WelcomeOk, CauseOk}
-use Rattle.am_runs.proofs.{Lists.item_get, Lists.within_push, Lists.within_none, UnballotedChanges.leads_first, UnballotedChanges.advance_fronts, UnballotedChanges.settle_ok}
-use Rattle.am_runs.proofs.{UnballotedChanges.queued_ok, UnballotedChanges.collected_ok}
+use Rattle.am_runs.proofs.{Lists.item_get, Lists.within_push, Lists.within_none, UnballotedChanges.leads_first, UnballotedChanges.advance_fronts}
+use Rattle.am_runs.proofs.{UnballotedChanges.settle_ok, UnballotedChanges.queued_ok, UnballotedChanges.collected_ok}
 
 -- ---- parts
 

@@ -172,8 +172,11 @@ result_says rules list acc i m n number names h f t high named =
     let there : entry_at n.core.log number ≡ Some (founders_view rules) = entry_is n.core.log number 0 (omega arith)
     ∙ (ap (λ l. slice_get l 0) (sym f.list_) ∙ first) in
     let founders : rules.founders ≡ names = sym (ap viewed_by there) ∙ named in
-    let strong : (nodes.image_of n).resilience ≡ rules.resilience = ap (λ (x : Image). x.resilience) told_ ∙ v.resilience in
-    (stamp, get_item list number 0 (founders_view rules) (omega arith) first ∙ (λ j. Some (View (record { stamp = sym stamp j; members = founders j; resilience = sym strong j }))))
+    let strong : (nodes.image_of n).resilience ≡ rules.resilience = ap (λ (x : Image). x.resilience) told_ ∙ v.resilience in (
+      stamp,
+      get_item list number 0 (founders_view rules) (omega arith) first
+          ∙ (λ j. Some (View (record { stamp = sym stamp j; members = founders j; resilience = sym strong j }))),
+    )
 
 -- ---- each letter
 

@@ -22,11 +22,9 @@ use Rattle.am_model.specs.Emit.{Step}
 use Rattle.am_base.proofs.Greatest.{split}
 use Rattle.am_laws.specs.Causes.{Cause, calls, hears, BringsSend, by_request, by_spread}
 use Rattle.am_laws.specs.Looks.{Looks, decides}
-use Rattle.am_laws.specs.Changes.{Numbers, asked_send, own_send, Carries, whole_entry, by_number, Change, refreshes, settles}
-use Rattle.am_laws.specs.Changes.{numbers, keeps_body, stores, begins_list, looks, fetches}
-use Rattle.am_laws.specs.Changes.{stores_view, queues, collects, closes}
-use Rattle.am_laws.specs.Letters.{HasSend, EntryStands, Says, request, spread, bcast}
-use Rattle.am_laws.specs.Letters.{piece, LetterSays}
+use Rattle.am_laws.specs.Changes.{Numbers, asked_send, own_send, Carries, whole_entry, by_number, Change, refreshes, settles, numbers, keeps_body, stores}
+use Rattle.am_laws.specs.Changes.{begins_list, looks, fetches, stores_view, queues, collects, closes}
+use Rattle.am_laws.specs.Letters.{HasSend, EntryStands, Says, request, spread, bcast, piece, LetterSays}
 use Rattle.am_laws.specs.Effects.{Effect}
 use Rattle.am_laws.proofs.Items.{all_get, all_find}
 use Rattle.am_laws.proofs.EffectRuns.{along}

@@ -2,12 +2,12 @@
 use Rattle.am_model.specs.Node.{founding_view}
 use Rattle.am_runs.proofs.UnballotedWords.{◌≡◌, ℕ, ◌<◌, ◌≤◌, ◌==◌, nat_le, true, false, List, [], ◌∷◌, None, refl, ap, ◌∙◌, subst, arith, nat_tests, All-nil}
 use Rattle.am_runs.proofs.UnballotedWords.{Entry, Rules, MayFound, has, fold, AllFit, fits, top_of, CoreState, Event, Node, set_at, founder, stranger}
-use Rattle.am_runs.proofs.UnballotedWords.{founders_view, founding_stamp, World, start, record_of, with_record, with_step, run, NoBallot, split, actor, idles}
-use Rattle.am_runs.proofs.UnballotedWords.{stops, returns, steps, EachKeeps, runs_keep, IsGood, AllSmall, mem, viewed_mem, first_founder, AllSent, sent_start}
+use Rattle.am_runs.proofs.UnballotedWords.{founders_view, World, start, record_of, with_record, with_step, run, NoBallot, split, actor, idles, stops, returns}
+use Rattle.am_runs.proofs.UnballotedWords.{steps, EachKeeps, runs_keep, IsGood, AllSmall, mem, viewed_mem, first_founder, AllSent, sent_start}
 use Rattle.am_runs.proofs.SentRuns as sent
-use Rattle.am_runs.proofs.{Lists.within_all, Lists.within_none, UnballotedKept.first_of, UnballotedKept.FrontsOk, UnballotedKept.fronts_ok, UnballotedKept.NodeOk, First.FirstOk, Turns.Turn}
-use Rattle.am_runs.proofs.{Chains.none_first, Worlds.GivenOk, Worlds.begins_at, Worlds.Kept, Worlds.WorldOk, Goes.idle_ok, Actors.other_step}
-use Rattle.am_runs.proofs.{Actors.first_step}
+use Rattle.am_runs.proofs.{Lists.within_all, Lists.within_none, UnballotedKept.first_of, UnballotedKept.FrontsOk, UnballotedKept.fronts_ok}
+use Rattle.am_runs.proofs.{UnballotedKept.NodeOk, First.FirstOk, Turns.Turn, Chains.none_first, Worlds.GivenOk, Worlds.begins_at, Worlds.Kept, Worlds.WorldOk}
+use Rattle.am_runs.proofs.{Goes.idle_ok, Actors.other_step, Actors.first_step}
 
 -- ---- each event
 

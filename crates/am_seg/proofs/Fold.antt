@@ -1,6 +1,6 @@
 -- What an assembler has after a list is what the list's own places had sent.
-use Rattle.std.proofs.Common.{◌≡◌, ℕ, ◌<◌, List, [], ◌∷◌, ◌++◌, length, get_or, ◌==◌}
-use Rattle.std.proofs.Common.{Option, Some, None, refl, sym, ap, ◌∙◌, subst, arith, get_or-set_same, get_or-set_other, length-set}
+use Rattle.std.proofs.Common.{◌≡◌, ℕ, ◌<◌, List, [], ◌∷◌, ◌++◌, length, get_or, ◌==◌, Option, Some, None, refl, sym, ap, ◌∙◌, subst, arith, get_or-set_same}
+use Rattle.std.proofs.Common.{get_or-set_other, length-set}
 use Rattle.std.specs.Prelude.{fold, replicate}
 use Rattle.std.proofs.Math.ListN.{set}
 use Rattle.std.proofs.lemmas.Bool.{eqb-true, eqb-false, cond-true, cond-false}
@@ -14,8 +14,8 @@ use Rattle.am_base.specs.declared.entry.Entry.{Entry}
 use Rattle.am_base.specs.declared.entry.Entry.TheVariants.{Data, Join, Leave, View}
 use Rattle.am_seg.specs.declared.fed.Fed.TheVariants as feds
 use Rattle.am_seg.specs.Messages.{sent_from, from_place, last_of, message_of, message_at}
-use Rattle.am_seg.specs.Assembling.{Begun, Assembly, Taken, plain, passed, part, whole, taken_with, taken_at, begun_by}
-use Rattle.am_seg.specs.Assembling.{ended_by, fed_by, no_parts, after_entry, fed_with, assembled, MessagesAssemble}
+use Rattle.am_seg.specs.Assembling.{Begun, Assembly, Taken, plain, passed, part, whole, taken_with, taken_at, begun_by, ended_by, fed_by, no_parts, after_entry}
+use Rattle.am_seg.specs.Assembling.{fed_with, assembled, MessagesAssemble}
 use Rattle.am_seg.proofs.Ends.{from_place-more, sent_own, message_at-more, found}
 use Rattle.am_seg.proofs.Endings.{Ending, is_ending, unsnoc}
 use Rattle.am_seg.proofs.Assembles.{begun_next, begun_after, completes, ends_message}

@@ -1,11 +1,11 @@
 -- Where a node's list begins after a step: where it did, unless it was welcomed, and then it doesn't lead.
 use Rattle.am_base.specs.declared.entry.GroupView.{GroupView}
-use Rattle.am_stands.proofs.StepWords.{none_of_asking, not-true, same_stamp, ◌≡◌, ℕ, zero, suc, ◌+◌, ◌-◌, ◌<◌, ◌≤◌, ◌==◌, ◌||◌, not, nat_le, true, false, List, []}
-use Rattle.am_stands.proofs.StepWords.{◌∷◌, Some, slice_get, refl, sym, ap, ◌∙◌, subst, arith, nat_tests, Stamp, Image, Entry, View, Outcome, Rules, stamp_eq, Log}
-use Rattle.am_stands.proofs.StepWords.{top_of, told_by, entry_at, after, fold, view_grows, Node, Ballot, view, acts, is_member, is_asking, is_sequencer, Verdict}
-use Rattle.am_stands.proofs.StepWords.{is_view, split, and_both, Cause, Looks, finds_itself_out, Change, refreshes, settles, begins_list, promises, opens, looks}
-use Rattle.am_stands.proofs.StepWords.{stores_view, closes, Changes, unchanged, changed, rests_refresh, rests_closed, settle_is, along, HeardNames, HeardUsed}
-use Rattle.am_stands.proofs.StepWords.{Along, along_changes, view_its}
+use Rattle.am_stands.proofs.StepWords.{none_of_asking, not-true, same_stamp, ◌≡◌, ℕ, zero, suc, ◌+◌, ◌-◌, ◌<◌, ◌≤◌, ◌==◌, ◌||◌, not, nat_le, true, false, List}
+use Rattle.am_stands.proofs.StepWords.{[], ◌∷◌, Some, slice_get, refl, sym, ap, ◌∙◌, subst, arith, nat_tests, Stamp, Image, Entry, View, Outcome, Rules}
+use Rattle.am_stands.proofs.StepWords.{stamp_eq, Log, top_of, told_by, entry_at, after, fold, view_grows, Node, Ballot, view, acts, is_member, is_asking}
+use Rattle.am_stands.proofs.StepWords.{is_sequencer, Verdict, is_view, split, and_both, Cause, Looks, finds_itself_out, Change, refreshes, settles, begins_list}
+use Rattle.am_stands.proofs.StepWords.{promises, opens, looks, stores_view, closes, Changes, unchanged, changed, rests_refresh, rests_closed, settle_is, along}
+use Rattle.am_stands.proofs.StepWords.{HeardNames, HeardUsed, Along, along_changes, view_its}
 use Rattle.am_stands.proofs.Courses.{was_welcomed, both_ways, promise_brings, begin_brings}
 
 -- ---- along the changes

@@ -1,8 +1,8 @@
 -- What a node keeps, at the start.
 use Rattle.am_stands.proofs.Words.{◌≡◌, ℕ, ◌<◌, true, false, [], ◌∷◌, length, take, slice_index, refl, sym, ap, ◌∙◌, subst, arith, nat_tests, Rules, has}
-use Rattle.am_stands.proofs.Words.{place_of, life_of, fold, after, Begins, IsGood, mem, good_begins, begins_refl, begins_nil, Group, IsUp, chain_of, Kept}
-use Rattle.am_stands.proofs.Words.{Node, founder, stranger, founding_stamp, founders_view, lowest_or_first, first_node, split, first_member, Turn, NameStands}
-use Rattle.am_stands.proofs.Words.{Stands, GroupFor, NodeKeeps, StartKeeps, founding_view}
+use Rattle.am_stands.proofs.Words.{place_of, life_of, fold, after, Begins, IsGood, mem, good_begins, begins_refl, begins_nil, Group, IsUp, chain_of, Kept, Node}
+use Rattle.am_stands.proofs.Words.{founder, stranger, founders_view, lowest_or_first, first_node, split, first_member, Turn, NameStands, Stands, GroupFor}
+use Rattle.am_stands.proofs.Words.{NodeKeeps, StartKeeps, founding_view}
 use Rattle.am_play.specs.World.{start}
 use Rattle.am_stands.proofs.{Onward.group_kept, Refreshing.member_old, Trimming.trimmed_none}
 

@@ -4,8 +4,8 @@ use Rattle.am_stands.proofs.Words.{Some, slice_index, refl, sym, ap, ◌∙◌, 
 use Rattle.am_stands.proofs.Words.{is_within, members_of, all_at, Begins, BeginsBelow, IsGood, image_of, mem, view_of, key, begins_refl, begins_nil}
 use Rattle.am_stands.proofs.Words.{begins_more, begins_trans, begins_both, begins_take, below_of, below_length, length_push, mod16, good_begins, mem_between}
 use Rattle.am_stands.proofs.Words.{mem_viewed, key_by, view_up, Group, put, put2, opening, chain_of, IsUp, NoBetter, MayDecide, Voted, with_choice, choice_of}
-use Rattle.am_stands.proofs.Words.{own_stamp, longer, Kept, IsLawful, first_choice, start_kept, put_same, put_at, put2_cases, own_above, ballot_ok}
-use Rattle.am_stands.proofs.Words.{list_chain, group_low, NewView, OnBranch, on_chain, left_out, BranchesOk, MovesBranch, DecisionsAreNew, BranchesBegin}
+use Rattle.am_stands.proofs.Words.{own_stamp, longer, Kept, IsLawful, first_choice, start_kept, put_same, put_at, put2_cases, own_above, ballot_ok, list_chain}
+use Rattle.am_stands.proofs.Words.{group_low, NewView, OnBranch, on_chain, left_out, BranchesOk, MovesBranch, DecisionsAreNew, BranchesBegin}
 use Rattle.am_chain.specs.Group as groups
 use Rattle.am_chain.specs.Moves as group
 use Rattle.am_stands.proofs.LeftOut.{longer_chain, none_departed}

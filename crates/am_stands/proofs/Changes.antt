@@ -1,12 +1,12 @@
 -- The changes of a node that make no list longer, as moves of the group.
-use Rattle.am_stands.proofs.Words.{equals_itself, ◌≡◌, ◌≢◌, ℕ, ◌+◌, ◌<◌, ◌≤◌, ◌==◌, ◌||◌, not, Bool, true, false, List, ◌++◌, length, take, Option, Some}
-use Rattle.am_stands.proofs.Words.{None, refl, sym, ap, ◌∙◌, subst, arith, nat_tests, length-append, length-take, Stamp, Entry, Image, stamp_lt, has, Log}
-use Rattle.am_stands.proofs.Words.{blank, members_of, fold, image_of, mem, key, key_lt, Group, IsThere, IsUp, Move, IsAbove, MayDepart, with_node, own_stamp}
-use Rattle.am_stands.proofs.Words.{put_same, Status, Node, Ballot, members, is_member, is_asking, has_log, has_departed, is_unfinished, refresh, Verdict}
-use Rattle.am_stands.proofs.Words.{overtake, with_promise, next_stamp, hears_member, World, is_stopped, fold_append, split, and_both, Cause, hears, Balloting}
-use Rattle.am_stands.proofs.Words.{with_more, without_one, as_it_is, Looks, finds_itself_out, finds_too_few, finds_no_room, decides, Promises, invited}
-use Rattle.am_stands.proofs.Words.{overtaken_by, told_result, rests_refresh, logged, equal_stamps, NameStands, FrontsStand, StandsBut, within, GoneSays}
-use Rattle.am_stands.proofs.Words.{has_stopped, may_go, MoveOk, MayMove}
+use Rattle.am_stands.proofs.Words.{equals_itself, ◌≡◌, ◌≢◌, ℕ, ◌+◌, ◌<◌, ◌≤◌, ◌==◌, ◌||◌, not, Bool, true, false, List, ◌++◌, length, take, Option, Some, None}
+use Rattle.am_stands.proofs.Words.{refl, sym, ap, ◌∙◌, subst, arith, nat_tests, length-append, length-take, Stamp, Entry, Image, stamp_lt, has, Log, blank}
+use Rattle.am_stands.proofs.Words.{members_of, fold, image_of, mem, key, key_lt, Group, IsThere, IsUp, Move, IsAbove, MayDepart, with_node, own_stamp, put_same}
+use Rattle.am_stands.proofs.Words.{Status, Node, Ballot, members, is_member, is_asking, has_log, has_departed, is_unfinished, refresh, Verdict, overtake}
+use Rattle.am_stands.proofs.Words.{with_promise, next_stamp, hears_member, World, is_stopped, fold_append, split, and_both, Cause, hears, Balloting, with_more}
+use Rattle.am_stands.proofs.Words.{without_one, as_it_is, Looks, finds_itself_out, finds_too_few, finds_no_room, decides, Promises, invited, overtaken_by}
+use Rattle.am_stands.proofs.Words.{told_result, rests_refresh, logged, equal_stamps, NameStands, FrontsStand, StandsBut, within, GoneSays, has_stopped, may_go}
+use Rattle.am_stands.proofs.Words.{MoveOk, MayMove}
 use Rattle.am_chain.specs.Group as groups
 use Rattle.am_chain.specs.Moves as group
 use Rattle.am_model.specs.declared.status.Status.TheVariants as status

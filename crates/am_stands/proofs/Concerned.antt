@@ -1,8 +1,7 @@
 -- Who is concerned by a list with one entry more, and what is reported of it.
 use Rattle.am_stands.proofs.Words.{◌≡◌, ◌⊎◌, inl, inr, ⊎_elim, ℕ, ◌+◌, ◌<◌, ◌≤◌, List, [], ◌∷◌, ◌++◌, length, true, false, refl, sym, ap, ◌∙◌, subst, arith}
-use Rattle.am_stands.proofs.Words.{Entry, Join, View, Report, Image, place_of, life_of, Begins, NotView, image_of, mem, begins_refl, begins_more}
-use Rattle.am_stands.proofs.Words.{begins_trans, begins_pushed, length_push, row_at, In, told_push, long_told, mem_in, in_mem, is_view, after_same}
-use Rattle.am_stands.proofs.Words.{IsConcerned, Reporting}
+use Rattle.am_stands.proofs.Words.{Entry, Join, View, Report, Image, place_of, life_of, Begins, NotView, image_of, mem, begins_refl, begins_more, begins_trans}
+use Rattle.am_stands.proofs.Words.{begins_pushed, length_push, row_at, In, told_push, long_told, mem_in, in_mem, is_view, after_same, IsConcerned, Reporting}
 use Rattle.am_chain.specs.Group as groups
 use Rattle.am_stands.proofs.{Ends.taken_more, Joins.Becomes, Joins.stayed, Joins.joins, Joins.founds, Joins.became, Parts.number_low}
 

@@ -2,10 +2,10 @@
 use Rattle.am_stands.proofs.StepWords.{numbers_plain, ◌≡◌, ℕ, ◌≤◌, ◌==◌, ◌||◌, not, nat_lt, Bool, true, false, List, length, refl, sym, ap, ◌∙◌, subst, Report}
 use Rattle.am_stands.proofs.StepWords.{Stamp, Entry, Outcome, kind_of, Status, Node, Ballot, top, is_member, is_asking, is_sequencer, has_departed, World}
 use Rattle.am_stands.proofs.StepWords.{group_after, and_both, Cause, hears, by_request, BringsReport, with_send, BringsFronts, by_entry, with_number, alone}
-use Rattle.am_stands.proofs.StepWords.{MayLook, was_reset, was_fetched, Balloting, with_more, without_one, as_it_is, BeginsBy, by_reset}
-use Rattle.am_stands.proofs.StepWords.{Promises, invited, overtaken, told_result, Carries, whole_entry, by_number, Change, refreshes, settles, takes_report}
-use Rattle.am_stands.proofs.StepWords.{admits, numbers, keeps_body, notes, stores, begins_list, departs, promises, opens, looks, fetches, stores_view, queues}
-use Rattle.am_stands.proofs.StepWords.{collects, takes, asks_to_join, asks_to_leave, closes, IsPlain, settle_is, leads_pushed, after_change}
+use Rattle.am_stands.proofs.StepWords.{MayLook, was_reset, was_fetched, Balloting, with_more, without_one, as_it_is, BeginsBy, by_reset, Promises, invited}
+use Rattle.am_stands.proofs.StepWords.{overtaken, told_result, Carries, whole_entry, by_number, Change, refreshes, settles, takes_report, admits, numbers}
+use Rattle.am_stands.proofs.StepWords.{keeps_body, notes, stores, begins_list, departs, promises, opens, looks, fetches, stores_view, queues, collects, takes}
+use Rattle.am_stands.proofs.StepWords.{asks_to_join, asks_to_leave, closes, IsPlain, settle_is, leads_pushed, after_change}
 use Rattle.am_model.specs.declared.status.Status.TheVariants as status
 use Rattle.am_laws.specs.Looks.{was_handed}
 use Rattle.am_stands.specs.Keeping as plainly

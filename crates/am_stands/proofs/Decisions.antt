@@ -1,10 +1,10 @@
 -- A decision, as a move of the group.
-use Rattle.am_stands.proofs.Words.{◌≡◌, ⊎_elim, ℕ, ◌+◌, ◌==◌, max, true, false, List, [], ◌∷◌, ◌++◌, length, take, Some, slice_get, refl, sym, ap, ◌∙◌, subst}
-use Rattle.am_stands.proofs.Words.{arith, list_any, nat_tests, append_assoc, GroupView, Stamp, Image, Entry, View, stamp_eq, Log, key, Group, Views, put}
-use Rattle.am_stands.proofs.Words.{opening, with_choice, choice_of, put_same, Node, Ballot, view, members, push_entry, need_of, left_in, restart_reports}
-use Rattle.am_stands.proofs.Words.{with_end, Decided, World, last_view, whole, is_view_of, up_to_view, up_to_next, line_of, split, Cause, HasOpen, Balloting}
-use Rattle.am_stands.proofs.Words.{with_more, without_one, as_it_is, get_front, get_last, get_push, told_pushed, after_view, NameStands, NotedStands}
-use Rattle.am_stands.proofs.Words.{ViewsStand, StandsBut, within, MayMove, NeedsDecision, noting, decided_view}
+use Rattle.am_stands.proofs.Words.{◌≡◌, ⊎_elim, ℕ, ◌+◌, ◌==◌, true, false, List, [], ◌∷◌, ◌++◌, length, take, Some, slice_get, refl, sym, ap, ◌∙◌, subst, arith}
+use Rattle.am_stands.proofs.Words.{list_any, nat_tests, append_assoc, GroupView, Stamp, Image, Entry, View, stamp_eq, Log, key, Group, Views, put, opening}
+use Rattle.am_stands.proofs.Words.{with_choice, choice_of, put_same, Node, Ballot, view, members, push_entry, need_of, left_in, restart_reports, with_end}
+use Rattle.am_stands.proofs.Words.{Decided, World, last_view, whole, is_view_of, up_to_view, up_to_next, line_of, split, Cause, HasOpen, Balloting, with_more}
+use Rattle.am_stands.proofs.Words.{without_one, as_it_is, get_front, get_last, get_push, told_pushed, after_view, NameStands, NotedStands, ViewsStand}
+use Rattle.am_stands.proofs.Words.{StandsBut, within, MayMove, NeedsDecision, noting, decided_view}
 use Rattle.std.proofs.lemmas.List.{append-nil}
 use Rattle.am_chain.specs.Group as groups
 use Rattle.am_chain.specs.Moves as group

@@ -1,10 +1,10 @@
 -- A step of who had departed before it changes nothing that the group looks at.
-use Rattle.am_stands.proofs.StepWords.{◌≡◌, ℕ, ◌≤◌, ◌==◌, ◌||◌, not, max, true, false, refl, sym, ap, ◌∙◌, subst, arith, Stamp, Outcome, Status, Node, is_member}
-use Rattle.am_stands.proofs.StepWords.{is_asking, is_sequencer, has_log, has_departed, is_unfinished, hears_member, hears_asking, hears_in_view, hears_sequencer}
-use Rattle.am_stands.proofs.StepWords.{refresh, settle, refresh_at_end, split, and_both, Cause, Promises, invited, overtaken, told_result, Change}
-use Rattle.am_stands.proofs.StepWords.{settles, takes_report, admits, numbers, keeps_body, notes, stores, begins_list, promises, opens, fetches}
-use Rattle.am_stands.proofs.StepWords.{stores_view, queues, collects, takes, asks_to_join, asks_to_leave, IsPlain, Course, nothing_yet, used_report}
-use Rattle.am_stands.proofs.StepWords.{and_then, Deeds, plainly, looked, rests_at_end, with_sends, settle_is, leads_member, Unmoved, looked_open, advanced}
+use Rattle.am_stands.proofs.StepWords.{◌≡◌, ℕ, ◌≤◌, ◌==◌, ◌||◌, not, max, true, false, refl, sym, ap, ◌∙◌, subst, arith, Stamp, Outcome, Status, Node}
+use Rattle.am_stands.proofs.StepWords.{is_member, is_asking, is_sequencer, has_log, has_departed, is_unfinished, hears_member, hears_asking, hears_in_view}
+use Rattle.am_stands.proofs.StepWords.{hears_sequencer, refresh, settle, refresh_at_end, split, and_both, Cause, Promises, invited, overtaken, told_result}
+use Rattle.am_stands.proofs.StepWords.{Change, settles, takes_report, admits, numbers, keeps_body, notes, stores, begins_list, promises, opens, fetches}
+use Rattle.am_stands.proofs.StepWords.{stores_view, queues, collects, takes, asks_to_join, asks_to_leave, IsPlain, Course, nothing_yet, used_report, and_then}
+use Rattle.am_stands.proofs.StepWords.{Deeds, plainly, looked, rests_at_end, with_sends, settle_is, leads_member, Unmoved, looked_open, advanced}
 use Rattle.am_model.specs.declared.status.Status.TheVariants as status
 
 -- it is the same to the group, and to the application

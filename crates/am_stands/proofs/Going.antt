@@ -1,11 +1,11 @@
 -- The Gone that is sent is so: its name has stopped, or all who have to have stored its Leave.
-use Rattle.am_stands.proofs.Words.{only_is, split, ◌≡◌, ◌≢◌, ℕ, ◌+◌, ◌-◌, ◌<◌, ◌≤◌, ◌==◌, ◌&&◌, nat_lt, nat_le, true, false, List, [], ◌∷◌, ◌++◌, length}
-use Rattle.am_stands.proofs.Words.{take, set, get_or, slice_index, Option, Some, None, refl, sym, ap, ◌∙◌, subst, arith, nat_tests, length-set}
-use Rattle.am_stands.proofs.Words.{get_or-set_other, Entry, Leave, View, Image, place_of, life_of, name_at, has, without_name, top_of, members_of, members_at}
-use Rattle.am_stands.proofs.Words.{row_of, unions, unions_long, unions_most, unions_least, least_in, Begins, image_of, mem, begins_refl, begins_more}
-use Rattle.am_stands.proofs.Words.{begins_trans, begins_both, begins_take, length_push, length_take, mod16, good_begins, long_told, mem_between, leaver_out}
-use Rattle.am_stands.proofs.Words.{Group, IsThere, Node, is_sequencer, only_name, concerned_names, all_stored, World, and_both, NameStands, FrontsStand}
-use Rattle.am_stands.proofs.Words.{Trimmed, GoneSays, has_stopped, ReportsStand, LeftOut}
+use Rattle.am_stands.proofs.Words.{only_is, split, ◌≡◌, ◌≢◌, ℕ, ◌+◌, ◌-◌, ◌<◌, ◌≤◌, ◌==◌, ◌&&◌, nat_lt, nat_le, true, false, List, [], ◌∷◌, ◌++◌, length, take}
+use Rattle.am_stands.proofs.Words.{set, get_or, slice_index, Option, Some, None, refl, sym, ap, ◌∙◌, subst, arith, nat_tests, length-set, get_or-set_other}
+use Rattle.am_stands.proofs.Words.{Entry, Leave, View, Image, place_of, life_of, name_at, has, without_name, top_of, members_of, members_at, row_of, unions}
+use Rattle.am_stands.proofs.Words.{unions_long, unions_most, unions_least, least_in, Begins, image_of, mem, begins_refl, begins_more, begins_trans, begins_both}
+use Rattle.am_stands.proofs.Words.{begins_take, length_push, length_take, mod16, good_begins, long_told, mem_between, leaver_out, Group, IsThere, Node}
+use Rattle.am_stands.proofs.Words.{is_sequencer, only_name, concerned_names, all_stored, World, and_both, NameStands, FrontsStand, Trimmed, GoneSays}
+use Rattle.am_stands.proofs.Words.{has_stopped, ReportsStand, LeftOut}
 use Rattle.am_model.specs.Joining.{may_go}
 use Rattle.am_model.specs.Sequencing.{row_at}
 use Rattle.am_chain.specs.Group as groups

@@ -1,10 +1,10 @@
 -- What a change needs of the group, from what a letter says and what every run of the group keeps.
 use Rattle.am_stands.proofs.Words.{same_stamp, ◌≡◌, ◌≢◌, ℕ, suc, ◌+◌, ◌<◌, ◌==◌, ◌&&◌, not, nat_lt, List, length, true, false, Some, slice_get, refl, sym, ap}
-use Rattle.am_stands.proofs.Words.{◌∙◌, subst, arith, nat_tests, Entry, Data, View, GroupView, Stamp, Image, Report, has, stamp_eq, row_of, fits, members_of, OwnSend}
-use Rattle.am_stands.proofs.Words.{item_at, image_of, key, Group, IsUp, MayNumber, Kept, Node, view, is_member, acts, has_own_leave, body_of, hears_member}
-use Rattle.am_stands.proofs.Words.{hears_in_view, hears_sequencer, World, is_stopped, and_both, Cause, hears, MayStore, Numbers, asked_send, own_send}
-use Rattle.am_stands.proofs.Words.{asked_join, asked_leave, known_member, leave_fits, NameStands, within, line, IsDecided, EntrySays, OrderSays, LeaverSays}
-use Rattle.am_stands.proofs.Words.{of_view, before_it, ResultSays, BodiesAsked, SendsOnce, NamesNamed, NeedsNumber, IsOthers, NeedsEntry}
+use Rattle.am_stands.proofs.Words.{◌∙◌, subst, arith, nat_tests, Entry, Data, View, GroupView, Stamp, Image, Report, has, stamp_eq, row_of, fits, members_of}
+use Rattle.am_stands.proofs.Words.{OwnSend, item_at, image_of, key, Group, IsUp, MayNumber, Kept, Node, view, is_member, acts, has_own_leave, body_of}
+use Rattle.am_stands.proofs.Words.{hears_member, hears_in_view, hears_sequencer, World, is_stopped, and_both, Cause, hears, MayStore, Numbers, asked_send}
+use Rattle.am_stands.proofs.Words.{own_send, asked_join, asked_leave, known_member, leave_fits, NameStands, within, line, IsDecided, EntrySays, OrderSays}
+use Rattle.am_stands.proofs.Words.{LeaverSays, of_view, before_it, ResultSays, BodiesAsked, SendsOnce, NamesNamed, NeedsNumber, IsOthers, NeedsEntry}
 use Rattle.am_packet.specs.declared.packet.Packet.TheVariants as packet
 use Rattle.am_model.specs.Node as nodes
 use Rattle.am_stands.proofs.{Changes.told_whole, Changes.long_all, Changes.is_up, Entries.IsLeading, Growing.leads_line, Ongoing.is_ongoing}

@@ -6,8 +6,8 @@ use Rattle.am_stands.proofs.Words.{is_sequencer, acts, lowest_or_first, has_log,
 use Rattle.am_stands.proofs.Words.{is_stopped, split, and_both, Cause, hears, Balloting, Looks, decides, with_more, without_one, as_it_is, Numbers, MayStore}
 use Rattle.am_stands.proofs.Words.{MayBeWelcomed, Fetches, Promises, invited, overtaken, told_result, Carries, whole_entry, by_number, Change, begins_list}
 use Rattle.am_stands.proofs.Words.{looks, stores_view, looked_vote, told_used, OpenBallot, looked_at, MaySend, body_of_sent, NameStands, within, WasAsked}
-use Rattle.am_stands.proofs.Words.{BodiesAsked, WasBegun, MayMove, NeedsNumber, NeedsEntry, NeedsWelcome, Needs, NeedsLook, NeedsPiece, KeptWhole}
-use Rattle.am_stands.proofs.Words.{BallotStands, LastStands, Stepping}
+use Rattle.am_stands.proofs.Words.{BodiesAsked, WasBegun, MayMove, NeedsNumber, NeedsEntry, NeedsWelcome, Needs, NeedsLook, NeedsPiece, KeptWhole, BallotStands}
+use Rattle.am_stands.proofs.Words.{LastStands, Stepping}
 use Rattle.am_laws.specs.Changes.{numbers, stores, fetches, closes}
 use Rattle.am_packet.specs.declared.packet.Packet.TheVariants as packet
 use Rattle.am_model.specs.declared.status.Status.TheVariants as status

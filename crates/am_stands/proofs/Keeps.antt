@@ -3,14 +3,14 @@ use Rattle.am_stands.proofs.Words.{none_of_asking, or_second, same_stamp, ◌≡
 use Rattle.am_stands.proofs.Words.{if◌then◌else◌, Bool, true, false, List, [], ◌∷◌, ◌++◌, length, take, Option, Some, None, unwrap_or, refl, sym, ap, ◌∙◌}
 use Rattle.am_stands.proofs.Words.{subst, arith, append-nil, nat_tests, append_assoc, Entry, View, Image, Report, Vote, Stamp, Outcome, Rules, names_of}
 use Rattle.am_stands.proofs.Words.{stamp_lt, stamp_eq, fits, after, told_by, Packet, least_of, after_report, Begins, IsGood, key, good_begins, Group, opening}
-use Rattle.am_stands.proofs.Words.{Node, Ballot, view, acts, unsettled_count, is_member, is_asking, is_sequencer, push_entry, lowest_or_first, has_log}
-use Rattle.am_stands.proofs.Words.{Verdict, need_of, left_in, taken_by, is_unfinished, settle, World, is_stopped, split, and_both, Cause, hears, BringsSend}
-use Rattle.am_stands.proofs.Words.{by_request, by_spread, BringsReport, with_send, by_ack, by_nack, by_leave_ask, BringsFronts, with_entry, with_number}
-use Rattle.am_stands.proofs.Words.{alone, Balloting, Looks, finds_itself_out, waits, fetches_from_best, finds_too_few, finds_no_room, decides, HasLearned}
-use Rattle.am_stands.proofs.Words.{MayReport, Change, refreshes, settles, takes_report, admits, notes, begins_list, promises, opens, looks}
-use Rattle.am_stands.proofs.Words.{stores_view, queues, collects, asks_to_join, asks_to_leave, logged, settle_is, told_pushed, Along, told_used}
-use Rattle.am_stands.proofs.Words.{NameStands, within, Trimmed, VoteTells, AllShown, Grows, FetchesStand, ReportsStand, ReportsFresh, OpensStand, IsNew}
-use Rattle.am_stands.proofs.Words.{IsConcerned, Reporting, BallotStands, Ballots, GroupFor, HeardSo, IsPlain, NodeKeeps, OwnTurn, Stepping}
+use Rattle.am_stands.proofs.Words.{Node, Ballot, view, acts, unsettled_count, is_member, is_asking, is_sequencer, push_entry, lowest_or_first, has_log, Verdict}
+use Rattle.am_stands.proofs.Words.{need_of, left_in, taken_by, is_unfinished, settle, World, is_stopped, split, and_both, Cause, hears, BringsSend, by_request}
+use Rattle.am_stands.proofs.Words.{by_spread, BringsReport, with_send, by_ack, by_nack, by_leave_ask, BringsFronts, with_entry, with_number, alone, Balloting}
+use Rattle.am_stands.proofs.Words.{Looks, finds_itself_out, waits, fetches_from_best, finds_too_few, finds_no_room, decides, HasLearned, MayReport, Change}
+use Rattle.am_stands.proofs.Words.{refreshes, settles, takes_report, admits, notes, begins_list, promises, opens, looks, stores_view, queues, collects}
+use Rattle.am_stands.proofs.Words.{asks_to_join, asks_to_leave, logged, settle_is, told_pushed, Along, told_used, NameStands, within, Trimmed, VoteTells}
+use Rattle.am_stands.proofs.Words.{AllShown, Grows, FetchesStand, ReportsStand, ReportsFresh, OpensStand, IsNew, IsConcerned, Reporting, BallotStands, Ballots}
+use Rattle.am_stands.proofs.Words.{GroupFor, HeardSo, IsPlain, NodeKeeps, OwnTurn, Stepping}
 use Rattle.am_model.specs.Ballots.{overtake as overtaken_by}
 use Rattle.am_laws.specs.Changes.{numbers, stores, departs, fetches, closes}
 use Rattle.am_base.specs.declared.outcome.Outcome.TheVariants as said
@@ -18,8 +18,8 @@ use Rattle.am_packet.specs.declared.packet.Packet.TheVariants as packet
 use Rattle.am_model.specs.Node as nodes
 use Rattle.am_stands.specs.Letters as says
 use Rattle.am_stands.proofs.Keeping.{kept, old, up, good, known, looked_last, unfinished, sequencer_member, number_ok, other_heard}
-use Rattle.am_stands.proofs.Reporting.{reporting_grow, reporting_base, reporting_anew, reporting_admit, reporting_more, reporting_pushed, fits_new}
-use Rattle.am_stands.proofs.Reporting.{new_before, known_old, report_true, leaver_true}
+use Rattle.am_stands.proofs.Reporting.{reporting_grow, reporting_base, reporting_anew, reporting_admit, reporting_more, reporting_pushed, fits_new, new_before}
+use Rattle.am_stands.proofs.Reporting.{known_old, report_true, leaver_true}
 use Rattle.am_stands.proofs.{Carried.hears_in_view_member, Changes.member_stays, Changes.long_all, Onward.group_kept, Entries.key_stamp, Letters.all_stay}
 use Rattle.am_stands.proofs.{Letters.trimmed_stays, Requests.turn_grows, Requests.turn_queued, Requests.turn_collected, Requests.turn_settled, Sent.Speaks}
 use Rattle.am_stands.proofs.{Sent.Leading, Sent.leading, Shown.votes_grow, Trimming.trimmed_max, Trimming.TakenKnown, Trimming.votes_trim, Votes.best_shown}

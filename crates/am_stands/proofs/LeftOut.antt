@@ -1,10 +1,10 @@
 -- In every lawful run of the group, whom a View on the chain left out has stopped.
-use Rattle.am_stands.proofs.Words.{split, ◌≡◌, ⊎_elim, ℕ, List, [], ◌∷◌, ◌++◌, length, true, false, refl, sym, ap, ◌∙◌, subst, arith, Entry}
-use Rattle.am_stands.proofs.Words.{Leave, View, GroupView, Stamp, has, Begins, NotView, mem, view_of, key, begins_more, begins_trans, begins_length, begins_pushed}
-use Rattle.am_stands.proofs.Words.{length_push, good_begins, leaver_in, leaver_out, mem_between, mem_nil, Group, put, opening, chain_of, Move, MayDecide}
-use Rattle.am_stands.proofs.Words.{with_line, with_choice, choice_of, longer, numbers, stores, learns, begins, raises, fetches, gives_over, welcomes, asks}
-use Rattle.am_stands.proofs.Words.{departs, closes, stops, Kept, IsLawful, founded, more, start, first_stamp, put_same, put_at, list_chain, departed_in}
-use Rattle.am_stands.proofs.Words.{run_keeps, LeftOut, RunsLeaveOut, first_choice}
+use Rattle.am_stands.proofs.Words.{split, ◌≡◌, ⊎_elim, ℕ, List, [], ◌∷◌, ◌++◌, length, true, false, refl, sym, ap, ◌∙◌, subst, arith, Entry, Leave, View}
+use Rattle.am_stands.proofs.Words.{GroupView, has, Begins, NotView, mem, view_of, key, begins_more, begins_trans, begins_length, begins_pushed, length_push}
+use Rattle.am_stands.proofs.Words.{good_begins, leaver_in, leaver_out, mem_between, mem_nil, Group, put, opening, chain_of, Move, MayDecide, with_line}
+use Rattle.am_stands.proofs.Words.{with_choice, choice_of, longer, numbers, stores, learns, begins, raises, fetches, gives_over, welcomes, asks, departs}
+use Rattle.am_stands.proofs.Words.{closes, stops, Kept, IsLawful, founded, more, start, put_same, put_at, list_chain, departed_in, run_keeps, LeftOut}
+use Rattle.am_stands.proofs.Words.{RunsLeaveOut, first_choice}
 use Rattle.am_chain.specs.Group.{Leads}
 use Rattle.am_chain.specs.Moves.{decides}
 use Rattle.am_chain.specs.Group as groups

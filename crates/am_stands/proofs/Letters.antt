@@ -1,11 +1,11 @@
 -- What a letter says stays so as the group goes on.
 use Rattle.am_stands.proofs.Words.{◌≡◌, inl, inr, ⊎_elim, ℕ, zero, suc, ◌≤◌, List, ◌++◌, length, take, Bool, true, false, Some, slice_get, refl, sym, ap, ◌∙◌}
 use Rattle.am_stands.proofs.Words.{subst, arith, slice_get_within, Stamp, Report, Vote, Image, Entry, Data, View, has, Request, Spread, Bcast, Order, Accept}
-use Rattle.am_stands.proofs.Words.{Ack, Nack, Welcome, LeaveAsk, Gone, VoteOf, Fetch, Piece, Result, item_at, Record, Begins, image_of, mem, key}
-use Rattle.am_stands.proofs.Words.{begins_trans, begins_take, begins_both, begins_length, Group, Chosen, IsThere, World, get_front, line, AllShown, Trimmed}
-use Rattle.am_stands.proofs.Words.{SequencerSays, EntrySays, WasAsked, ReportSays, LeaverSays, of_view, before_it, WelcomeSays, WelcomeTo, has_begun}
-use Rattle.am_stands.proofs.Words.{has_gone, has_left, is_leaving, may_begin, GoneSays, has_stopped, may_go, VoteSays, own, tells, over_vote, FetchSays}
-use Rattle.am_stands.proofs.Words.{for_ballot, of_promise, PieceSays, of_line, of_shown, over, NewView, Grows, LettersStay}
+use Rattle.am_stands.proofs.Words.{Ack, Nack, Welcome, LeaveAsk, Gone, VoteOf, Fetch, Piece, Result, item_at, Record, Begins, image_of, mem, key, begins_trans}
+use Rattle.am_stands.proofs.Words.{begins_take, begins_both, begins_length, Group, Chosen, IsThere, World, get_front, line, AllShown, Trimmed, SequencerSays}
+use Rattle.am_stands.proofs.Words.{EntrySays, WasAsked, ReportSays, LeaverSays, of_view, before_it, WelcomeSays, WelcomeTo, has_begun, has_gone, has_left}
+use Rattle.am_stands.proofs.Words.{is_leaving, may_begin, GoneSays, has_stopped, may_go, VoteSays, own, tells, over_vote, FetchSays, for_ballot, of_promise}
+use Rattle.am_stands.proofs.Words.{PieceSays, of_line, of_shown, over, NewView, Grows, LettersStay}
 use Rattle.am_stands.proofs.Ends.{taken_more}
 
 -- ---- lists

@@ -1,7 +1,7 @@
 -- The line of a view, where its coordinator's list gets one entry more.
 use Rattle.am_stands.proofs.Words.{stamp_itself, same_stamp, ◌≡◌, ◌≢◌, ℕ, ◌+◌, Bool, true, false, if◌then◌else◌, List, [], ◌∷◌, ◌++◌, refl, ap, ◌∙◌, subst}
-use Rattle.am_stands.proofs.Words.{list_any, GroupView, Stamp, Entry, View, Image, blank, after, fold, Begins, view_of, is_view, is_view_of, up_to_view, up_to_next}
-use Rattle.am_stands.proofs.Words.{split, after_same, after_view}
+use Rattle.am_stands.proofs.Words.{list_any, GroupView, Stamp, Entry, View, Image, blank, after, fold, Begins, view_of, is_view, is_view_of, up_to_view}
+use Rattle.am_stands.proofs.Words.{up_to_next, split, after_same, after_view}
 
 -- ---- a View stands in a list, and another behind it
 

@@ -1,12 +1,12 @@
 -- Where a node's last ballot was decided and its promise is its own, it is that of the ballot, in every run.
 use Rattle.am_stands.proofs.StepWords.{Each, each_node_keeps, first_has, none_of_asking, ◌≡◌, inr, ⊎_elim, ℕ, ◌<◌, ◌==◌, ◌&&◌, ◌||◌, not, true, false, List}
-use Rattle.am_stands.proofs.StepWords.{Option, Some, None, sym, ap, ◌∙◌, subst, arith, nat_tests, Stamp, Outcome, Rules, MayFound, stamp_lt, no_stamp, Event, Node}
-use Rattle.am_stands.proofs.StepWords.{Ballot, is_member, is_asking, Verdict, overtake, World, start, run, split, and_both, Cause, Looks, waits}
-use Rattle.am_stands.proofs.StepWords.{fetches_from_best, finds_too_few, decides, Promises, invited, overtaken_by, told_result, Change, refreshes}
-use Rattle.am_stands.proofs.StepWords.{settles, begins_list, promises, opens, looks, closes, actor, rests_refresh, rests_closed, settle_is, along, EachKeeps}
-use Rattle.am_stands.proofs.StepWords.{runs_keep, equal_stamps, HasNames, HeardNames, change_names, promised_named, Balloted, change_does, looked_at, AllViews}
-use Rattle.am_stands.proofs.StepWords.{each_views, heard_names, views_start, AtMost, IsBegun, most_same, most_through, CauseBegun, Promised, promise_change}
-use Rattle.am_stands.proofs.StepWords.{AllBegun, cause_begun, each_keeps, start_begun, OwnDecided}
+use Rattle.am_stands.proofs.StepWords.{Option, Some, None, sym, ap, ◌∙◌, subst, arith, nat_tests, Stamp, Outcome, Rules, MayFound, stamp_lt, no_stamp, Event}
+use Rattle.am_stands.proofs.StepWords.{Node, Ballot, is_member, is_asking, Verdict, overtake, World, start, run, split, and_both, Cause, Looks, waits}
+use Rattle.am_stands.proofs.StepWords.{fetches_from_best, finds_too_few, decides, Promises, invited, overtaken_by, told_result, Change, refreshes, settles}
+use Rattle.am_stands.proofs.StepWords.{begins_list, promises, opens, looks, closes, actor, rests_refresh, rests_closed, settle_is, along, EachKeeps, runs_keep}
+use Rattle.am_stands.proofs.StepWords.{equal_stamps, HasNames, HeardNames, change_names, promised_named, Balloted, change_does, looked_at, AllViews, each_views}
+use Rattle.am_stands.proofs.StepWords.{heard_names, views_start, AtMost, IsBegun, most_same, most_through, CauseBegun, Promised, promise_change, AllBegun}
+use Rattle.am_stands.proofs.StepWords.{cause_begun, each_keeps, start_begun, OwnDecided}
 use Rattle.am_base.specs.declared.outcome.Outcome.TheVariants as said
 
 -- ---- by the parts of a node

@@ -1,10 +1,10 @@
 -- What a node tells of its list by numbers is what the whole list tells.
 use Rattle.am_stands.proofs.Words.{◌≡◌, ℕ, zero, suc, ◌+◌, ◌-◌, ◌<◌, ◌≤◌, true, false, List, [], ◌∷◌, ◌++◌, length, take, drop, Option, Some, None, slice_get}
-use Rattle.am_stands.proofs.Words.{refl, sym, ap, ◌∙◌, subst, arith, take-append-add, length-take, take-append-drop, Entry, View, Image}
-use Rattle.am_stands.proofs.Words.{IsSet, has, size, blank, fold, after, members_of, entry_at, image_at, members_at, counted_of, counted_at, need_at}
-use Rattle.am_stands.proofs.Words.{view_grows, IsGood, image_of, mem, resilience_of, Begins, begins_take, begins_push, length_take}
-use Rattle.am_stands.proofs.Words.{length_push, take_begins, good_begins, told_push, viewed_mem, how_many, counted_in, Node, is_view, World, fold_append}
-use Rattle.am_stands.proofs.Words.{split, entry_is, after_same, NameStands, IsConcerned}
+use Rattle.am_stands.proofs.Words.{refl, sym, ap, ◌∙◌, subst, arith, take-append-add, length-take, take-append-drop, Entry, View, Image, IsSet, has, size}
+use Rattle.am_stands.proofs.Words.{blank, fold, after, members_of, entry_at, image_at, members_at, counted_of, counted_at, need_at, view_grows, IsGood}
+use Rattle.am_stands.proofs.Words.{image_of, mem, resilience_of, Begins, begins_take, begins_push, length_take, length_push, take_begins, good_begins}
+use Rattle.am_stands.proofs.Words.{told_push, viewed_mem, how_many, counted_in, Node, is_view, World, fold_append, split, entry_is, after_same, NameStands}
+use Rattle.am_stands.proofs.Words.{IsConcerned}
 use Rattle.am_chain.specs.Group.{need_of}
 use Rattle.am_chain.specs.Group as groups
 use Rattle.am_stands.proofs.Counting.{names_few}

@@ -1,10 +1,10 @@
 -- What a node needs to store a Piece, from what the Piece says.
-use Rattle.am_stands.proofs.Words.{eqb-false, eqb-true, same_stamp, ◌≡◌, ◌≢◌, ℕ, suc, ◌<◌, ◌==◌, not, List, [], ◌∷◌, ◌++◌, length, true, false, Some}
-use Rattle.am_stands.proofs.Words.{slice_get, refl, sym, ap, ◌∙◌, subst, arith, max, list_any, append_assoc, Entry, View, Stamp, item_at, Begins, IsGood}
-use Rattle.am_stands.proofs.Words.{NotView, view_of, key, key_by, view_up, view_viewed, view_below, view_push, begins_more, begins_push, begins_length}
-use Rattle.am_stands.proofs.Words.{good_begins, Group, IsUp, Kept, Node, Ballot, view, is_member, is_unfinished, is_view, is_view_of, up_to_view, up_to_next}
-use Rattle.am_stands.proofs.Words.{World, Decided, is_stopped, split, HasOpen, MayStore, Fetches, without_ballot, NameStands, StandsBut, within, line}
-use Rattle.am_stands.proofs.Words.{IsDecided, PieceSays, ShownEntry, of_line, of_shown, over, LinesOpen, IsOthers, NeedsPiece, of_its_line, of_its_shown}
+use Rattle.am_stands.proofs.Words.{eqb-false, eqb-true, same_stamp, ◌≡◌, ◌≢◌, ℕ, suc, ◌<◌, ◌==◌, not, List, [], ◌∷◌, ◌++◌, length, true, false, Some, slice_get}
+use Rattle.am_stands.proofs.Words.{refl, sym, ap, ◌∙◌, subst, arith, max, list_any, append_assoc, Entry, View, Stamp, item_at, Begins, IsGood, NotView, view_of}
+use Rattle.am_stands.proofs.Words.{key, key_by, view_up, view_viewed, view_below, view_push, begins_more, begins_push, begins_length, good_begins, Group, IsUp}
+use Rattle.am_stands.proofs.Words.{Kept, Node, Ballot, view, is_member, is_unfinished, is_view, is_view_of, up_to_view, up_to_next, World, Decided, is_stopped}
+use Rattle.am_stands.proofs.Words.{split, HasOpen, MayStore, Fetches, without_ballot, NameStands, StandsBut, within, line, IsDecided, PieceSays, ShownEntry}
+use Rattle.am_stands.proofs.Words.{of_line, of_shown, over, LinesOpen, IsOthers, NeedsPiece, of_its_line, of_its_shown}
 use Rattle.std.proofs.Common.{length-append}
 use Rattle.am_laws.specs.Changes.{for_ballot}
 use Rattle.am_model.specs.Node as nodes

@@ -1,14 +1,15 @@
 -- What is reported to a node stays true through each of its changes.
 use Rattle.am_stands.proofs.Words.{◌≡◌, ◌≢◌, ◌⊎◌, inl, inr, ⊎_elim, ℕ, ◌+◌, ◌<◌, ◌≤◌, ◌==◌, ◌&&◌, max, not, nat_lt, Bool, true, false, List, [], ◌∷◌, ◌++◌}
 use Rattle.am_stands.proofs.Words.{length, take, slice_index, refl, sym, ap, ◌∙◌, subst, arith, nat_tests, Entry, Data, Join, Leave, View, Report, Row, Image}
-use Rattle.am_stands.proofs.Words.{GroupView, Stamp, place_of, life_of, is_blank, at_place, row_of, member_life, with_row, row_after_view, fits, after, after_report}
-use Rattle.am_stands.proofs.Words.{with_admitted, reports_from, Begins, IsGood, image_of, mem, view_of, key, begins_refl, begins_more, begins_trans}
-use Rattle.am_stands.proofs.Words.{begins_both, begins_length, begins_take, begins_pushed, length_push, length_take, take_begins, row_at, In, mod16, row_set}
-use Rattle.am_stands.proofs.Words.{row_view, blank_joined, good_begins, told_push, long_told, mem_in, in_mem, mem_between, mem_viewed, Group, opening}
-use Rattle.am_stands.proofs.Words.{is_view, split, after_same, line, IsDecided, ReportSays, LeaverSays, of_view, before_it, IsConcerned, Reporting, IsNew}
+use Rattle.am_stands.proofs.Words.{GroupView, Stamp, place_of, life_of, is_blank, at_place, row_of, member_life, with_row, row_after_view, fits, after}
+use Rattle.am_stands.proofs.Words.{after_report, with_admitted, reports_from, Begins, IsGood, image_of, mem, view_of, key, begins_refl, begins_more}
+use Rattle.am_stands.proofs.Words.{begins_trans, begins_both, begins_length, begins_take, begins_pushed, length_push, length_take, take_begins, row_at, In}
+use Rattle.am_stands.proofs.Words.{mod16, row_set, row_view, blank_joined, good_begins, told_push, long_told, mem_in, in_mem, mem_between, mem_viewed, Group}
+use Rattle.am_stands.proofs.Words.{opening, is_view, split, after_same, line, IsDecided, ReportSays, LeaverSays, of_view, before_it, IsConcerned, Reporting}
+use Rattle.am_stands.proofs.Words.{IsNew}
 use Rattle.am_chain.specs.Group as groups
-use Rattle.am_stands.proofs.{Concerned.reporting_joins, Joins.Becomes, Joins.stayed, Joins.joins, Joins.founds, Joins.became, Joins.blank_nil}
-use Rattle.am_stands.proofs.{Parts.number_low, Parts.view_its, Results.last_view_at}
+use Rattle.am_stands.proofs.{Concerned.reporting_joins, Joins.Becomes, Joins.stayed, Joins.joins, Joins.founds, Joins.became, Joins.blank_nil, Parts.number_low}
+use Rattle.am_stands.proofs.{Parts.view_its, Results.last_view_at}
 
 -- ---- reports, while names have no less
 

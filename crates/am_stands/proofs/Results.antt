@@ -1,8 +1,8 @@
 -- The Result that is sent is so: a sequencer's View stands in the line of its view.
 use Rattle.am_stands.proofs.Words.{◌≡◌, ℕ, suc, ◌+◌, ◌-◌, ◌<◌, ◌==◌, true, false, List, [], ◌∷◌, ◌++◌, length, Some, slice_get, refl, sym, ap, ◌∙◌, subst}
-use Rattle.am_stands.proofs.Words.{arith, list_any, nat_tests, Entry, View, Image, GroupView, Stamp, stamp_eq, after, fold, entry_at, item_at, Begins, IsGood, image_of}
-use Rattle.am_stands.proofs.Words.{view_of, key, next_of, told_push, view_viewed, Group, opening, Node, view, is_member, is_sequencer, is_view, viewed_by}
-use Rattle.am_stands.proofs.Words.{World, split, MayTell, leads, decided, after_same, after_view, ResultSays, OwnDecided}
+use Rattle.am_stands.proofs.Words.{arith, list_any, nat_tests, Entry, View, Image, GroupView, Stamp, stamp_eq, after, fold, entry_at, item_at, Begins, IsGood}
+use Rattle.am_stands.proofs.Words.{image_of, view_of, key, next_of, told_push, view_viewed, Group, opening, Node, view, is_member, is_sequencer, is_view}
+use Rattle.am_stands.proofs.Words.{viewed_by, World, split, MayTell, leads, decided, after_same, after_view, ResultSays, OwnDecided}
 use Rattle.am_base.proofs.Members.{fold_append}
 use Rattle.am_model.specs.Node as nodes
 use Rattle.am_stands.proofs.{Changes.told_all, Pieces.none_after, Sent.Speaks, Sent.leading, Parts.entry_whole}

@@ -1,7 +1,7 @@
 -- In every run of the group each decided stamp has a round, and each promise of a name with a log.
-use Rattle.am_stands.proofs.Words.{◌≡◌, ◌≢◌, ⊎_elim, ℕ, ◌+◌, ◌<◌, List, true, false, refl, sym, ap, ◌∙◌, subst, arith, nat_tests, Stamp, key, Group, put}
-use Rattle.am_stands.proofs.Words.{Move, own_stamp, numbers, stores, learns, begins, raises, fetches, gives_over, welcomes, asks, departs, closes, stops}
-use Rattle.am_stands.proofs.Words.{founded, more, start, first_stamp, put_cases, put_at, HasRound, RoundsOk, RunsHaveRounds}
+use Rattle.am_stands.proofs.Words.{◌≡◌, ◌≢◌, ⊎_elim, ℕ, ◌+◌, ◌<◌, List, true, false, refl, sym, ap, ◌∙◌, subst, arith, nat_tests, Stamp, key, Group, put, Move}
+use Rattle.am_stands.proofs.Words.{own_stamp, numbers, stores, learns, begins, raises, fetches, gives_over, welcomes, asks, departs, closes, stops, founded}
+use Rattle.am_stands.proofs.Words.{more, start, first_stamp, put_cases, put_at, HasRound, RoundsOk, RunsHaveRounds}
 use Rattle.am_chain.specs.Moves.{decides}
 use Rattle.am_chain.specs.Group as groups
 

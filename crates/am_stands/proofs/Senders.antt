@@ -1,10 +1,10 @@
 -- What is known of a name that sends, as it is after its step.
 use Rattle.am_stands.proofs.StepWords.{◌≡◌, ℕ, ◌<◌, ◌≤◌, ◌==◌, true, false, List, slice_get, sym, ap, ◌∙◌, subst, arith, All, list_any, All-nil, Stamp, Data}
 use Rattle.am_stands.proofs.StepWords.{Rules, entry_at, key, Group, IsThere, IsUp, chain_of, Kept, Node, view, image_of, is_sequencer, has_log, has_departed}
-use Rattle.am_stands.proofs.StepWords.{World, split, Cause, all_get, logged, OpenBallot, leads_member, IsNoted, AllViews, IsBegun, AllBegun, EntrySent, SendSent}
-use Rattle.am_stands.proofs.StepWords.{WasSent, NameStands, FrontsStand, Stands, WasAsked, AllShown, NamesNamed, OwnDecided, FetchesStand, NumbersStand}
-use Rattle.am_stands.proofs.StepWords.{ListBegins, LeaderStands, BallotStands, SendsStand, Sender, Stepping, front_named, rows_live, concerned_small, key_stamp}
-use Rattle.am_stands.proofs.StepWords.{kept, whole, Speaks, leading}
+use Rattle.am_stands.proofs.StepWords.{World, split, Cause, all_get, logged, OpenBallot, leads_member, IsNoted, AllViews, IsBegun, AllBegun, EntrySent}
+use Rattle.am_stands.proofs.StepWords.{SendSent, WasSent, NameStands, FrontsStand, Stands, WasAsked, AllShown, NamesNamed, OwnDecided, FetchesStand}
+use Rattle.am_stands.proofs.StepWords.{NumbersStand, ListBegins, LeaderStands, BallotStands, SendsStand, Sender, Stepping, front_named, rows_live}
+use Rattle.am_stands.proofs.StepWords.{concerned_small, key_stamp, kept, whole, Speaks, leading}
 use Rattle.am_packet.specs.declared.packet.Packet.TheVariants as packet
 use Rattle.am_stands.proofs.{Based.view_above, Starting.begun_stands}
 

@@ -1,12 +1,11 @@
 -- Each letter that is sent is so.
-use Rattle.am_stands.proofs.Words.{only_is, eqb-false, eqb-true, same_stamp, ◌≡◌, ◌≢◌, ℕ, ◌<◌, ◌≤◌, ◌==◌, ◌&&◌, ◌||◌, true, false, List, [], ◌∷◌, length}
-use Rattle.am_stands.proofs.Words.{take, refl, sym, ap, ◌∙◌, subst, arith, nat_tests, slice_get_within, Entry, Data, Image, Stamp, has, stamp_eq, no_stamp}
-use Rattle.am_stands.proofs.Words.{row_of, entry_at, image_at, fold, Packet, Begins, mem, view_of, key, good_begins, key_by, view_small, Group, IsThere}
-use Rattle.am_stands.proofs.Words.{opening, Status, Node, view, is_member, acts, is_sequencer, only_name, has_log, has_departed, own_vote, may_fetch}
-use Rattle.am_stands.proofs.Words.{viewed_by, World, split, and_both, Cause, hears, MayFetch, MayTell, leads, decided, request, spread, bcast, order, ack}
-use Rattle.am_stands.proofs.Words.{nack, welcome, leave_ask, gone, vote, fetch, piece, result, logged, IsDecided, AllShown}
-use Rattle.am_stands.proofs.Words.{FetchSays, PacketSays, ResultSays, none, Leads, KeptWhole, ListBegins, as_before, just_begun, Sender, ShowsMore, SaysSo}
-use Rattle.am_stands.proofs.Words.{SentSays}
+use Rattle.am_stands.proofs.Words.{only_is, eqb-false, eqb-true, same_stamp, ◌≡◌, ◌≢◌, ℕ, ◌<◌, ◌≤◌, ◌==◌, ◌&&◌, ◌||◌, true, false, List, [], ◌∷◌, length, take}
+use Rattle.am_stands.proofs.Words.{refl, sym, ap, ◌∙◌, subst, arith, nat_tests, slice_get_within, Entry, Data, Image, Stamp, has, stamp_eq, no_stamp, row_of}
+use Rattle.am_stands.proofs.Words.{entry_at, image_at, fold, Packet, Begins, mem, view_of, key, good_begins, key_by, view_small, Group, IsThere, opening}
+use Rattle.am_stands.proofs.Words.{Status, Node, view, is_member, acts, is_sequencer, only_name, has_log, has_departed, own_vote, may_fetch, viewed_by, World}
+use Rattle.am_stands.proofs.Words.{split, and_both, Cause, hears, MayFetch, MayTell, leads, decided, request, spread, bcast, order, ack, nack, welcome}
+use Rattle.am_stands.proofs.Words.{leave_ask, gone, vote, fetch, piece, result, logged, IsDecided, AllShown, FetchSays, PacketSays, ResultSays, none, Leads}
+use Rattle.am_stands.proofs.Words.{KeptWhole, ListBegins, as_before, just_begun, Sender, ShowsMore, SaysSo, SentSays}
 use Rattle.am_laws.specs.Letters.{for_ballot, of_promise, accept}
 use Rattle.am_packet.specs.declared.packet.Packet.TheVariants as packet
 use Rattle.am_chain.specs.Group as groups
@@ -14,9 +13,9 @@ use Rattle.am_model.specs.declared.status.Status.TheVariants as status
 use Rattle.am_model.specs.Node as nodes
 use Rattle.am_laws.specs.Letters as letters
 use Rattle.am_stands.specs.Letters as says
-use Rattle.am_stands.proofs.{Changes.told_all, Changes.long_all, Entries.key_stamp, Going.gone_says, Opens.list_opens, Results.tells_leads}
-use Rattle.am_stands.proofs.{Results.result_said, Sent.Speaks, Sent.leading, Sent.report_said, Sent.leaver_said, Sent.sequencer_said, Sent.entry_said}
-use Rattle.am_stands.proofs.{Sent.piece_said, Shown.PieceStands, Shown.vote_said, Shown.shown_said, Welcoming.is_welcomed, Welcoming.welcome_says}
+use Rattle.am_stands.proofs.{Changes.told_all, Changes.long_all, Entries.key_stamp, Going.gone_says, Opens.list_opens, Results.tells_leads, Results.result_said}
+use Rattle.am_stands.proofs.{Sent.Speaks, Sent.leading, Sent.report_said, Sent.leaver_said, Sent.sequencer_said, Sent.entry_said, Sent.piece_said}
+use Rattle.am_stands.proofs.{Shown.PieceStands, Shown.vote_said, Shown.shown_said, Welcoming.is_welcomed, Welcoming.welcome_says}
 
 -- ---- who acts
 

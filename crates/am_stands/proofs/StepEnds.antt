@@ -4,10 +4,11 @@ use Rattle.am_stands.proofs.StepWords.{true, false, List, [], ◌∷◌, ◌++�
 use Rattle.am_stands.proofs.StepWords.{Rules, Log, told_by, members_of, stamp_lt, stamp_eq, no_stamp, view_of, key, view_small, Group, IsUp, Node, top, view}
 use Rattle.am_stands.proofs.StepWords.{image_of, is_member, has_log, has_departed, refresh, settle, Decided, World, group_after, views_after, split, and_both}
 use Rattle.am_stands.proofs.StepWords.{Cause, settles, rests_refresh, leads_rests, settle_is, not_above_itself, IsNoted, SameView, Stood, Goes, CauseSent}
-use Rattle.am_stands.proofs.StepWords.{FrontsStand, Grows, Moves, Stepping, then_moves, key_stamp, view_whole, old, whole, grows_trans, list_opens, changes_go_on}
+use Rattle.am_stands.proofs.StepWords.{FrontsStand, Grows, Moves, Stepping, then_moves, key_stamp, view_whole, old, whole, grows_trans, list_opens}
+use Rattle.am_stands.proofs.StepWords.{changes_go_on}
 use Rattle.am_play.specs.World.{decides}
-use Rattle.am_stands.proofs.{Worlds.growing, Refreshed.refresh_on, Grown.accepted_twice, StepGoing.Grown, StepGoing.as_before, StepGoing.by_reports, Deeds.further}
-use Rattle.am_stands.proofs.{Deeds.Seen, Deeds.none_new, Deeds.one_new, Deeds.Done}
+use Rattle.am_stands.proofs.{Worlds.growing, Refreshed.refresh_on, Grown.accepted_twice, StepGoing.Grown, StepGoing.as_before, StepGoing.by_reports}
+use Rattle.am_stands.proofs.{Deeds.further, Deeds.Seen, Deeds.none_new, Deeds.one_new, Deeds.Done}
 
 -- ---- the group list at the end
 

@@ -1,12 +1,12 @@
 -- A ballot that its coordinator decides may be decided by the group's own test.
-use Rattle.am_stands.proofs.Words.{eq-eqb, eqb-true, ◌≡◌, ◌⊎◌, inl, inr, ⊎_elim, ℕ, zero, suc, ◌+◌, ◌<◌, ◌≤◌, ◌==◌, ◌&&◌, ◌||◌, not, max, nat_lt, is_some}
-use Rattle.am_stands.proofs.Words.{set, List, [], ◌∷◌, ◌++◌, length, Bool, true, false, Option, Some, None, slice_index, refl, sym, ap, ◌∙◌, subst, arith}
-use Rattle.am_stands.proofs.Words.{list_all, list_any, range_with_len, nat_tests, Entry, Vote, Image, Stamp, IsSet, place_of, life_of, name_at, by_place, has}
-use Rattle.am_stands.proofs.Words.{size, is_within, slice_index-by_place, stamp_lt, stamp_eq, vote_lt, member_life, members_of, Begins, image_of, mem}
-use Rattle.am_stands.proofs.Words.{view_of, resilience_of, key, key_lt, view_up, begins_trans, told_push, Group, IsThere, IsUp, MayDecide, Voted, Kept, Node}
-use Rattle.am_stands.proofs.Words.{Ballot, view, members, name_where, those, View, append_assoc, length-map, mod16, is_view_of, trim_for, own_vote, best_of}
-use Rattle.am_stands.proofs.Words.{need_of, has_voted, is_waited_for, left_in, World, best_vote_is, split, has_size, has_those, set_those, equal_stamps}
-use Rattle.am_stands.proofs.Words.{own_need, those_at, viewed_members, those_some, those_long, NameStands, within, told_pushed, VoteTells, AllShown, AllVoted}
+use Rattle.am_stands.proofs.Words.{eq-eqb, eqb-true, ◌≡◌, ◌⊎◌, inl, inr, ⊎_elim, ℕ, zero, suc, ◌+◌, ◌<◌, ◌≤◌, ◌==◌, ◌&&◌, ◌||◌, not, nat_lt, is_some, set, List}
+use Rattle.am_stands.proofs.Words.{[], ◌∷◌, ◌++◌, length, Bool, true, false, Option, Some, None, slice_index, refl, sym, ap, ◌∙◌, subst, arith, list_all}
+use Rattle.am_stands.proofs.Words.{list_any, range_with_len, nat_tests, Entry, Vote, Image, Stamp, IsSet, place_of, life_of, name_at, by_place, has, size}
+use Rattle.am_stands.proofs.Words.{is_within, slice_index-by_place, stamp_lt, stamp_eq, vote_lt, member_life, members_of, Begins, image_of, mem, view_of}
+use Rattle.am_stands.proofs.Words.{resilience_of, key, key_lt, view_up, begins_trans, told_push, Group, IsThere, IsUp, MayDecide, Voted, Kept, Node, Ballot}
+use Rattle.am_stands.proofs.Words.{view, members, name_where, those, View, append_assoc, length-map, mod16, is_view_of, trim_for, own_vote, best_of, need_of}
+use Rattle.am_stands.proofs.Words.{has_voted, is_waited_for, left_in, World, best_vote_is, split, has_size, has_those, set_those, equal_stamps, own_need}
+use Rattle.am_stands.proofs.Words.{those_at, viewed_members, those_some, those_long, NameStands, within, told_pushed, VoteTells, AllShown, AllVoted}
 use Rattle.am_stands.proofs.Words.{NeedsDecision, decided_view}
 use Rattle.am_model.specs.Node as nodes
 use Rattle.am_laws.specs.Looks as looks

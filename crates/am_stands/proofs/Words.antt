@@ -1,16 +1,16 @@
 -- The words of this crate's proofs, of the crates and definitions that they come from.
 pub use Rattle.am_laws.proofs.Words.{◌≡◌, ℕ, ◌+◌, ◌-◌, ◌<◌, ◌≤◌, ◌==◌, ◌&&◌, nat_le, Bool, true, false, List, [], length, take, refl, sym, ap, ◌∙◌, subst}
 pub use Rattle.am_laws.proofs.Words.{arith, ◌∷◌, slice_index, ◌⊎◌, inl, inr, ⊎_elim, ◌||◌, ◌++◌, Some, nat_lt, ◌≢◌, not, Option, slice_get, None, zero, suc}
-pub use Rattle.am_laws.proofs.Words.{if◌then◌else◌, max, set, get_or, unwrap_or, min, drop, map, option_map, cases_lt, nat_tests, length-map}
-pub use Rattle.am_laws.proofs.Words.{get_or-replicate, length-take, length-set, All-head, All-tail, All-nil, All-cons, All-append, All-take, list_any-append}
-pub use Rattle.am_laws.proofs.Words.{list_any, range_with_len, All, Entry, Report, Image, has, names_of, place_of, life_of, IsSet, name_at, size, names_from}
-pub use Rattle.am_laws.proofs.Words.{rank_of, by_place, Log, top_of, told_by, members_of, blank_row, blank, is_blank, at_place, member_life, row_after_view}
-pub use Rattle.am_laws.proofs.Words.{members_at, row_of, entry_at, image_at, accept_front, split, and_both, Rules, MayFound, Leave, View, Data, Join, Stamp}
-pub use Rattle.am_laws.proofs.Words.{stamp_eq, stamp_lt, Row, Outcome, Vote, NodeEvent, slice_index-by_place, vote_lt, Packet, stamp_of, unions, CoreState}
-pub use Rattle.am_laws.proofs.Words.{unions_most, member_at, unions_long, unions_least, least_of, least_taken, base_after, count_cons, least_in, OwnSend}
-pub use Rattle.am_laws.proofs.Words.{Event, Node, founder, stranger, founding_stamp, founders_view, lowest_or_first, view, acts, is_member, unsettled_count}
-pub use Rattle.am_laws.proofs.Words.{has_log, Ballot, members, is_asking, push_entry, set_at, is_sequencer, others, waiting, name_where, advance, accepted_at}
-pub use Rattle.am_laws.proofs.Words.{settle_at, settle_waiting, is_unfinished, join_by, state_by, leave_by, ask_of, give_up_of, hears_member, hears_in_view}
+pub use Rattle.am_laws.proofs.Words.{if◌then◌else◌, max, set, get_or, unwrap_or, min, drop, map, option_map, cases_lt, nat_tests, length-map, get_or-replicate}
+pub use Rattle.am_laws.proofs.Words.{length-take, length-set, All-head, All-tail, All-nil, All-cons, All-append, All-take, list_any-append, list_any}
+pub use Rattle.am_laws.proofs.Words.{range_with_len, All, Entry, Report, Image, has, names_of, place_of, life_of, IsSet, name_at, size, names_from, rank_of}
+pub use Rattle.am_laws.proofs.Words.{by_place, Log, top_of, told_by, members_of, blank_row, blank, is_blank, at_place, member_life, row_after_view, members_at}
+pub use Rattle.am_laws.proofs.Words.{row_of, entry_at, image_at, accept_front, split, and_both, Rules, MayFound, Leave, View, Data, Join, Stamp, stamp_eq}
+pub use Rattle.am_laws.proofs.Words.{stamp_lt, Row, Outcome, Vote, NodeEvent, slice_index-by_place, vote_lt, Packet, stamp_of, unions, CoreState, unions_most}
+pub use Rattle.am_laws.proofs.Words.{member_at, unions_long, unions_least, least_of, least_taken, base_after, count_cons, least_in, OwnSend, Event, Node}
+pub use Rattle.am_laws.proofs.Words.{founder, stranger, founding_stamp, founders_view, lowest_or_first, view, acts, is_member, unsettled_count, has_log, Ballot}
+pub use Rattle.am_laws.proofs.Words.{members, is_asking, push_entry, set_at, is_sequencer, others, waiting, name_where, advance, accepted_at, settle_at}
+pub use Rattle.am_laws.proofs.Words.{settle_waiting, is_unfinished, join_by, state_by, leave_by, ask_of, give_up_of, hears_member, hears_in_view}
 pub use Rattle.am_laws.proofs.Words.{hears_sequencer, hears_asking, Verdict, overtake, with_promise, next_stamp, need_of, left_in, restart_reports, taken_by}
 pub use Rattle.am_laws.proofs.Words.{own_vote, trim_for, Status, Step, Plan, quiet, is_view, body_of, begin_list, viewed_by, tick_by, first_founder, World}
 pub use Rattle.am_laws.proofs.Words.{first_node, is_stopped, Decided, group_after, last_view, views_after, current, lives_on, group_with, founders_decided}
@@ -49,10 +49,10 @@ pub use Rattle.am_play.specs.{Claims.line_of, Lawful.whole, Lawful.is_view_of}
 unfoldable pub use Rattle.am_play.specs.Claims.{up_to_next, up_to_view}
 pub use Rattle.am_base.specs.Whole.{Begins, image_of, IsGood, BeginsBelow, NotView}
 unfoldable pub use Rattle.am_base.specs.Whole.{mem, view_of, key, resilience_of}
-pub use Rattle.am_base.proofs.Prefixes.{begins_take, begins_trans, begins_both, begins_length, length_take, begins_refl, begins_nil, begins_more}
-pub use Rattle.am_base.proofs.Prefixes.{below_of, below_length, length_push, begins_pushed, take_begins, begins_same, begins_push, next_of}
-pub use Rattle.am_base.proofs.Members.{good_begins, mem_between, mem_viewed, long_told, told_push, mem_in, in_mem, leaver_out, last_fits, mem_nil}
-pub use Rattle.am_base.proofs.Members.{viewed_mem, was_begins, good_push, leaver_in, mem_push}
+pub use Rattle.am_base.proofs.Prefixes.{begins_take, begins_trans, begins_both, begins_length, length_take, begins_refl, begins_nil, begins_more, below_of}
+pub use Rattle.am_base.proofs.Prefixes.{below_length, length_push, begins_pushed, take_begins, begins_same, begins_push, next_of}
+pub use Rattle.am_base.proofs.Members.{good_begins, mem_between, mem_viewed, long_told, told_push, mem_in, in_mem, leaver_out, last_fits, mem_nil, viewed_mem}
+pub use Rattle.am_base.proofs.Members.{was_begins, good_push, leaver_in, mem_push}
 pub use Rattle.am_base.proofs.Rows.{low_or_above, row_at, row_set, same_name, Past, Was, past_after, not_both, view_parts}
 pub use Rattle.am_base.proofs.Order.{key_by, view_up, key_lt, view_small, view_viewed, view_push, view_below}
 pub use Rattle.am_meaning.proofs.BestVotes.{best_vote_is}
@@ -60,22 +60,20 @@ pub use Rattle.am_laws.proofs.{Resets.member_heard, Rests.leads_rests, Items.get
 pub use Rattle.am_laws.specs.Letters.{MayTell, MayFetch}
 pub use Rattle.am_laws.proofs.{LeaderRows.first_member, Stamps.equal_stamps, ViewSteps.after_same, ViewSteps.after_view, ViewChanges.numbers_plain}
 pub use Rattle.am_laws.proofs.{ViewChanges.OpenBallot, ViewChanges.looked_at, ViewChanges.none_of_asking, Taken.known_member, Taken.leave_fits}
-pub use Rattle.am_laws.proofs.{Taken.looked_vote, Taken.own_need, Taken.those_at, Trims.told_used, TakenRuns.Along, TakenRuns.along_changes}
-pub use Rattle.am_laws.proofs.{Named.change_named, ViewMembers.those_long, ViewMembers.viewed_members, ViewMembers.those_some, Limits.set_those}
+pub use Rattle.am_laws.proofs.{Taken.looked_vote, Taken.own_need, Taken.those_at, Trims.told_used, TakenRuns.Along, TakenRuns.along_changes, Named.change_named}
+pub use Rattle.am_laws.proofs.{ViewMembers.those_long, ViewMembers.viewed_members, ViewMembers.those_some, Limits.set_those}
 pub use Rattle.am_chain.specs.{Kept.Kept, Runs.IsLawful, Runs.first_choice, Runs.more, Runs.counts_for, Runs.founded, Runs.start, Runs.first_stamp}
-pub use Rattle.am_chain.specs.Group.{how_many, counted_in, IsHeld, MayAccept, Group, IsUp, chain_of, put2, opening, NoBetter, IsThere, Views, Chosen}
-pub use Rattle.am_chain.specs.Group.{IsOngoing}
-pub use Rattle.am_chain.specs.Moves.{MayDecide, Voted, with_choice, choice_of, own_stamp, longer, Move, IsAbove, MayDepart, with_node, with_line}
-pub use Rattle.am_chain.specs.Moves.{numbers, stores, accepts, learns, begins, raises, shows, serves, fetches, gives_over, welcomes, asks, departs}
-pub use Rattle.am_chain.specs.Moves.{closes, stops, MayNumber}
+pub use Rattle.am_chain.specs.Group.{how_many, counted_in, IsHeld, MayAccept, Group, IsUp, chain_of, put2, opening, NoBetter, IsThere, Views, Chosen, IsOngoing}
+pub use Rattle.am_chain.specs.Moves.{MayDecide, Voted, with_choice, choice_of, own_stamp, longer, Move, IsAbove, MayDepart, with_node, with_line, numbers}
+pub use Rattle.am_chain.specs.Moves.{stores, accepts, learns, begins, raises, shows, serves, fetches, gives_over, welcomes, asks, departs, closes, stops}
+pub use Rattle.am_chain.specs.Moves.{MayNumber}
 unfoldable pub use Rattle.am_chain.specs.Group.{put, count}
 pub use Rattle.am_chain.proofs.{Start.start_kept, Puts.put_same, Puts.put_at, Puts.put2_cases, Puts.count_below, Puts.count_within, Puts.put_other}
-pub use Rattle.am_chain.proofs.{Puts.put_cases, Nodes.own_above}
-pub use Rattle.am_chain.proofs.{Heart.ballot_ok, Heart.list_chain, Heart.departed_in, Decide.group_low, Runs.run_keeps}
+pub use Rattle.am_chain.proofs.{Puts.put_cases, Nodes.own_above, Heart.ballot_ok, Heart.list_chain, Heart.departed_in, Decide.group_low, Runs.run_keeps}
 pub use Rattle.am_chain.proofs.Turns.{request_within, next_in}
 pub use Rattle.am_runs.proofs.SentChanges.{MaySend, body_of_sent, CauseSent, change_sent}
-pub use Rattle.am_runs.proofs.{Turns.waiting_is, Turns.one_more, Turns.waiting_settled, Turns.collected_turn, Says.only_is}
-pub use Rattle.am_runs.proofs.{Actors.same_group as no_more_group, UnballotedChanges.found_at}
+pub use Rattle.am_runs.proofs.{Turns.waiting_is, Turns.one_more, Turns.waiting_settled, Turns.collected_turn, Says.only_is, Actors.same_group as no_more_group}
+pub use Rattle.am_runs.proofs.{UnballotedChanges.found_at}
 unfoldable pub use Rattle.am_runs.proofs.Turns.{Turn}
 pub use Rattle.am_stands.specs.{Growing.NewView, Growing.NameGrows, Growing.Grows, Growing.MovesGrow, Growing.LettersStay, Moving.NamesNamed, Moving.MoveOk}
 pub use Rattle.am_stands.specs.{Moving.Moves, Moving.none, Moving.moves, Moving.Leads, Moving.AllVoted, Lawful.IsNoStop, Lawful.RunsGoOn}
@@ -93,8 +91,8 @@ pub use Rattle.am_stands.specs.Steps.{of_shown as of_its_shown, after_change}
 pub use Rattle.am_stands.specs.Sending.{RowsLive, KeptWhole, ListBegins, as_before, just_begun, Sender, ShowsMore, SaysSo, SentSays, DepartedSilent}
 pub use Rattle.am_stands.specs.Letters.{GoneSays, has_stopped, may_go, Trimmed, line, IsDecided, EntrySays, OrderSays, LeaverSays, of_view, before_it}
 pub use Rattle.am_stands.specs.Letters.{ResultSays, WasAsked, VoteTells, AllShown, SequencerSays, ReportSays, WelcomeSays, WelcomeTo, has_begun, has_gone}
-pub use Rattle.am_stands.specs.Letters.{has_left, is_leaving, may_begin, VoteSays, own, tells, over as over_vote, FetchSays, for_ballot, of_promise}
-pub use Rattle.am_stands.specs.Letters.{PieceSays, of_line, of_shown, over, ShownEntry, PacketSays}
+pub use Rattle.am_stands.specs.Letters.{has_left, is_leaving, may_begin, VoteSays, own, tells, over as over_vote, FetchSays, for_ballot, of_promise, PieceSays}
+pub use Rattle.am_stands.specs.Letters.{of_line, of_shown, over, ShownEntry, PacketSays}
 pub use Rattle.am_stands.specs.Ends.{NeedsClose, after_closing, CloseStands, Accepts, no_more, rises, Learns, departed, bare, before_end, EndsStand, MayLearn}
 pub use Rattle.am_model.specs.Ballots.{decided_view}
 pub use Rattle.am_model.specs.Node.{founding_view}

@@ -10,8 +10,8 @@ use Rattle.am_base.specs.declared.entry.Entry.TheVariants.{Data, Leave, View}
 use Rattle.am_base.specs.Names.{has}
 use Rattle.am_base.specs.Lists.{members_of}
 use Rattle.am_packet.specs.declared.packet.Packet.{Packet}
-use Rattle.am_packet.specs.declared.packet.Packet.TheVariants.{Request, Spread, Bcast, Order, Accept, Ack, Nack, Welcome, LeaveAsk, Gone}
-use Rattle.am_packet.specs.declared.packet.Packet.TheVariants.{Vote as VoteOf, Fetch, Piece, Result}
+use Rattle.am_packet.specs.declared.packet.Packet.TheVariants.{Request, Spread, Bcast, Order, Accept, Ack, Nack, Welcome, LeaveAsk, Gone, Vote as VoteOf, Fetch}
+use Rattle.am_packet.specs.declared.packet.Packet.TheVariants.{Piece, Result}
 use Rattle.am_packet.specs.Boxes.{Letter}
 use Rattle.am_group.specs.Journals.{item_at}
 use Rattle.am_group.specs.declared.event.Record.{Record}

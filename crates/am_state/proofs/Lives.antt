@@ -13,8 +13,7 @@ use Rattle.am_base.specs.declared.entry.Entry.TheVariants.{Data, Join, Leave, Vi
 use Rattle.am_base.specs.Names.{place_of, life_of, has, union_of}
 use Rattle.am_base.specs.Stamps.{stamp_eq, no_stamp}
 use Rattle.am_base.specs.Lists.{Log, blank_row, is_blank, is_blank_row, at_place, member_life, members_of, members_at, row_after_view, with_row, after, fits}
-use Rattle.am_base.specs.Lists.{fold}
-use Rattle.am_base.specs.Lists.{AllFit, image_at, told_by, top_of}
+use Rattle.am_base.specs.Lists.{fold, AllFit, image_at, told_by, top_of}
 use Rattle.am_base.proofs.Places.{get_or-by_place, slice_index-by_place, length-by_place, by_place_all}
 use Rattle.am_base.specs.Limits.{IsImage}
 use Rattle.am_state.specs.Kept.{IsKept, above}

@@ -1,7 +1,7 @@
 -- What an entry of the group list makes of what is kept.
 use Rattle.am_base.specs.declared.entry.GroupView.{GroupView}
-use Rattle.am_watcher.proofs.WatchWords.{◌≡◌, ℕ, List, [], ◌∷◌, map, Option, Some, None, refl, ap, ◌∙◌, Stamp, Entry, Data, Join, Leave, View, Pending, Watching}
-use Rattle.am_watcher.proofs.WatchWords.{number_of, or_else, place_among, place_view, accept}
+use Rattle.am_watcher.proofs.WatchWords.{◌≡◌, ℕ, List, [], ◌∷◌, map, Option, Some, None, refl, ap, ◌∙◌, Stamp, Entry, Data, Join, Leave, View, Pending}
+use Rattle.am_watcher.proofs.WatchWords.{Watching, number_of, or_else, place_among, place_view, accept}
 
 or_none : (o : Option ℕ) → or_else o None ≡ o
 or_none None = refl

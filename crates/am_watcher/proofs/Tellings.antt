@@ -2,9 +2,9 @@
 use Rattle.am_watcher.proofs.WatchWords.{or-true, or-false, ◌≡◌, ℕ, ◌+◌, ◌-◌, ◌<◌, ◌≤◌, ◌&&◌, ◌||◌, ◌==◌, not, Bool, true, false, List, [], ◌∷◌, ◌++◌, length}
 use Rattle.am_watcher.proofs.WatchWords.{take, drop, map, get_or, if◌then◌else◌, Option, Some, None, refl, sym, ap, ◌∙◌, arith, get_or-drop, length-take}
 use Rattle.am_watcher.proofs.WatchWords.{take_more, take_all, length-drop, append-nil, Entry, Pending, stamp_eq, stamp_lt, Watching, note_entries, with_entry}
-use Rattle.am_watcher.proofs.WatchWords.{with_entries, with_decided, decides, new_pending, standing, accept, place_among, number_of, or_else, finish}
-use Rattle.am_watcher.proofs.WatchWords.{NodeEvent, is_member, DecidedView, Shown, Standing, begins, standing_after, stored_of, with_views, told_step}
-use Rattle.am_watcher.proofs.WatchWords.{entries_go_on, accepted_goes_on}
+use Rattle.am_watcher.proofs.WatchWords.{with_entries, with_decided, decides, new_pending, standing, accept, place_among, number_of, or_else, finish, NodeEvent}
+use Rattle.am_watcher.proofs.WatchWords.{is_member, DecidedView, Shown, Standing, begins, standing_after, stored_of, with_views, told_step, entries_go_on}
+use Rattle.am_watcher.proofs.WatchWords.{accepted_goes_on}
 
 -- nothing was stored, or one entry
 pub entries_none : (k : Watching) (name : ℕ) → with_entries k name [] ≡ k

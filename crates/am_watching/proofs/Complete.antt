@@ -46,7 +46,8 @@ pub each_kept : (k : Watching) (w : World) (group : List Entry) (vs : List Pendi
 each_kept k w group vs sees noted = each_of (IsNoted w group) (IsKept k w) (λ v h. record { is = complete_is k w group v sees h }) vs noted
 
 lost_is : (k : Watching) (w : World) (group : List Entry) (v : DecidedView) → Sees k w group → kept.is_lost k v ≡ law.is_lost w (decided_of v)
-lost_is k w group v sees = λ i name. ap (λ (m : Standing). (has v.view.members name || nat_lt v.number m.start) && not (has_departed m.status)) (sees.names name) i
+lost_is k w group v sees = λ i name.
+    ap (λ (m : Standing). (has v.view.members name || nat_lt v.number m.start) && not (has_departed m.status)) (sees.names name) i
 
 pub lawful_is : (k : Watching) (w : World) (group : List Entry) (v : DecidedView) → Sees k w group → kept.is_lawful k v ≡ law.is_lawful w (decided_of v)
 unfolding kept.is_lawful law.is_lawful

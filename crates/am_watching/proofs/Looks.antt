@@ -1,7 +1,7 @@
 -- The end of an event: where it is looked for a greater complete view, and where nothing changed that views ask for.
-use Rattle.am_watching.proofs.Words.{◌≡◌, ℕ, ◌+◌, Bool, true, false, ◌&&◌, if◌then◌else◌, List, [], ◌∷◌, length, map, filter, Option, Some, None, refl, sym}
-use Rattle.am_watching.proofs.Words.{ap, ◌∙◌, subst, Entry, stamp_lt, Decided, World, Watch, split, DecidedView, Pending, Watching, standing, greater}
-use Rattle.am_watching.proofs.Words.{greatest, is_above, end_event, look, pass, decided_of, comes_after, Each, Sees, IsNoted, WatchesUpTo, after}
+use Rattle.am_watching.proofs.Words.{◌≡◌, ℕ, ◌+◌, Bool, true, false, ◌&&◌, if◌then◌else◌, List, [], ◌∷◌, length, map, filter, Option, Some, None, refl, sym, ap}
+use Rattle.am_watching.proofs.Words.{◌∙◌, subst, Entry, stamp_lt, Decided, World, Watch, split, DecidedView, Pending, Watching, standing, greater, greatest}
+use Rattle.am_watching.proofs.Words.{is_above, end_event, look, pass, decided_of, comes_after, Each, Sees, IsNoted, WatchesUpTo, after}
 use Rattle.am_play.specs.Lawful as law
 use Rattle.am_watching.specs.Watching as kept
 use Rattle.am_watching.proofs.Folds.{IsUpTo, IsLeft, up_self, up_greatest, each_of, each_filter, map_filter, each_left, greatest_is, greatest_above}
@@ -69,7 +69,8 @@ left_over : (group : List Entry) (k : Watching) (s : Watch) (w : World) → IsRe
     ≡ filter (comes_after (law.greatest_complete w s.complete w.views).stamp) w.views
 left_over group k s w r =
     let best = greatest k k.complete k.pending in
-    let up : IsUpTo s.complete.stamp best.view.stamp = subst (λ (v : Decided). IsUpTo v.stamp best.view.stamp) r.complete (up_greatest k k.complete k.pending) in
+    let up : IsUpTo s.complete.stamp best.view.stamp = subst (λ (v : Decided). IsUpTo v.stamp best.view.stamp) r.complete
+    (up_greatest k k.complete k.pending) in
     map_filter (λ (v : Pending). decided_of v.decided) (comes_after best.view.stamp) k.pending
     ∙ ap (filter (comes_after best.view.stamp)) r.pending
     ∙ filter_above s.complete.stamp best.view.stamp w.views up

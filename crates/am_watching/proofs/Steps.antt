@@ -4,12 +4,11 @@ use Rattle.am_watching.proofs.Words.{if◌then◌else◌, List, [], ◌∷◌, �
 use Rattle.am_watching.proofs.Words.{slice_index_or, slice_set, refl, sym, ap, ◌∙◌, subst, inl, inr, arith, set-set, get_or-set_same, get_or-set_other}
 use Rattle.am_watching.proofs.Words.{length-set, length-append, length-replicate, get_or-replicate, append-nil, map-append, get_or_past, filter-append}
 use Rattle.am_watching.proofs.Words.{list_any-append, nat_tests, list_any, GroupView, Stamp, Entry, Data, Join, Leave, View, has, size, names_of, stamp_lt}
-use Rattle.am_watching.proofs.Words.{stamp_eq}
-use Rattle.am_watching.proofs.Words.{Node, view, is_member, set_at, has_departed, Decided, World, last_view, Watch, is_view_of, split, and_both, DecidedView}
-use Rattle.am_watching.proofs.Words.{Standing, Pending, Watching, blank_standing, standing, is_by, number_of, or_else, same_flag, is_alike, with_standing}
-use Rattle.am_watching.proofs.Words.{new_pending, decided_views, with_decided, with_entries, store_view, note_entries, note_entry, is_view, finish}
-use Rattle.am_watching.proofs.Words.{watch_step, pass, place_among, accept, standing_of, view_of, decided_of, has_in_list, comes_after, Each, Sees, IsNoted}
-use Rattle.am_watching.proofs.Words.{WatchesUpTo, Watches, after, IsNew, Steps, SteppedTo, SameBut, StepsAreWatched, StopsAreWatched, OthersAreWatched}
+use Rattle.am_watching.proofs.Words.{stamp_eq, Node, view, is_member, set_at, has_departed, Decided, World, last_view, Watch, is_view_of, split, and_both}
+use Rattle.am_watching.proofs.Words.{DecidedView, Standing, Pending, Watching, blank_standing, standing, is_by, number_of, or_else, same_flag, is_alike}
+use Rattle.am_watching.proofs.Words.{with_standing, new_pending, decided_views, with_decided, with_entries, store_view, note_entries, note_entry, is_view}
+use Rattle.am_watching.proofs.Words.{finish, watch_step, pass, place_among, accept, standing_of, view_of, decided_of, has_in_list, comes_after, Each, Sees}
+use Rattle.am_watching.proofs.Words.{IsNoted, WatchesUpTo, Watches, after, IsNew, Steps, SteppedTo, SameBut, StepsAreWatched, StopsAreWatched, OthersAreWatched}
 use Rattle.am_watching.proofs.Words.{EntriesGoOn, AcceptedGoesOn}
 use Rattle.am_play.specs.World as run
 use Rattle.am_watching.specs.Watching as kept
@@ -188,7 +187,8 @@ after_cases false c views d = append-nil (filter (comes_after c) views)
 
 pending_step : (k : Watching) (s : Watch) (w : World) (name : ℕ) (n : Node) (entries more : List Entry) → Watches k s → Steps s.world name n entries
     → SteppedTo s.world w name n more
-    → map (λ (p : Pending). decided_of p.decided) (k.pending ++ decided_views k name (standing_of n) (view_of n)) ≡ filter (comes_after s.complete.stamp) w.views
+    → map (λ (p : Pending). decided_of p.decided) (k.pending ++ decided_views k name (standing_of n) (view_of n))
+    ≡ filter (comes_after s.complete.stamp) w.views
 pending_step k s w name n entries more is steps to =
     let dec : Pending → Decided = λ p. decided_of p.decided in
     let m = s.world.nodes name in
@@ -292,7 +292,8 @@ complete_alike k name after v alike =
     λ i other. ap (λ from. is_by v.number_in_group from || slice_index_or v.stored other false) (alike other).from i in
     let lags : kept.lags j v.decided.view.stamp ≡ kept.lags k v.decided.view.stamp =
     λ i other. (ap (λ gone. not (kept.has_stopped k other) && (not gone && stamp_lt (standing j other).view v.decided.view.stamp)) (alike other).gone
-    ∙ ap (λ stamp. not (kept.has_stopped k other) && (not (has_departed (standing k other).status) && stamp_lt stamp v.decided.view.stamp)) (alike other).view) i in
+    ∙ ap (λ stamp. not (kept.has_stopped k other) && (not (has_departed (standing k other).status) && stamp_lt stamp v.decided.view.stamp))
+    (alike other).view) i in
     ap (λ (f : ℕ → Bool). nat_le need (count_by f names) && not (list_any (kept.lags j v.decided.view.stamp) names)) stored
     ∙ ap (λ (f : ℕ → Bool). nat_le need (count_by (kept.has_stored k v) names) && not (list_any f names)) lags
 

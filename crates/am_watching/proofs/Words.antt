@@ -6,12 +6,11 @@ pub use Rattle.std.proofs.Common.{◌≡◌, ℕ, ◌<◌, ◌≤◌, true, fals
 pub use Rattle.std.proofs.Common.{Bool, not, ◌&&◌, ◌||◌, ◌==◌, nat_le, nat_lt, List, take, count_by, slice_index_or, ◌∷◌, ◌++◌, filter, Option, Some, None}
 pub use Rattle.std.proofs.Common.{subst, drop, zero, suc, ◌≢◌, replicate, slice_set}
 pub use Rattle.std.proofs.lemmas.Bool.{cases_lt, le-leb, lt-leb, eqb-true, or_parts, not-true}
-pub use Rattle.std.proofs.lemmas.List.{get_or_past, take-append-le, append-nil, drop_more, at_drop_all, set-set, get_or-set_same, get_or-set_other}
-pub use Rattle.std.proofs.lemmas.List.{length-set, length-append, length-replicate, get_or-replicate, map-append}
+pub use Rattle.std.proofs.lemmas.List.{get_or_past, take-append-le, append-nil, drop_more, at_drop_all, set-set, get_or-set_same, get_or-set_other, length-set}
+pub use Rattle.std.proofs.lemmas.List.{length-append, length-replicate, get_or-replicate, map-append}
 pub use Rattle.am_base.specs.{Names.has, Names.place_of, Names.life_of, Names.size, Names.names_of, Names.names_from, Names.name_at, Names.rank_of}
 pub use Rattle.am_base.specs.{Founding.Rules, Founding.MayFound, Stamps.stamp_lt, Stamps.stamp_eq, declared.name.Stamp.Stamp, declared.entry.Entry.Entry}
-pub use Rattle.am_base.specs.{declared.entry.GroupView.GroupView}
-pub use Rattle.am_base.specs.{declared.outcome.Outcome.Outcome}
+pub use Rattle.am_base.specs.{declared.entry.GroupView.GroupView, declared.outcome.Outcome.Outcome}
 pub use Rattle.am_base.specs.declared.entry.Entry.TheVariants.{Data, Join, Leave, View}
 unfoldable pub use Rattle.am_base.specs.Lists.{fold}
 pub use Rattle.am_base.proofs.Greatest.{split, and_both}
@@ -23,9 +22,9 @@ pub use Rattle.am_play.specs.World.{first_node, World, lives_on, current, is_sto
 pub use Rattle.am_play.specs.Lawful.{is_view_of, Watch}
 unfoldable pub use Rattle.am_play.specs.{World.with_record, Lawful.watch}
 pub use Rattle.am_watching.specs.{declared.views.DecidedView.DecidedView, declared.views.Standing.Standing, declared.views.Pending.Pending}
-pub use Rattle.am_watching.specs.Watching.{blank_standing, standing, first_standing, first_view, first_watching, Watching, is_by, greater, is_above}
-pub use Rattle.am_watching.specs.Watching.{end_event, pass, or_else, same_flag, is_alike, with_standing, new_pending, decided_views, with_decided}
-pub use Rattle.am_watching.specs.Watching.{with_entries, store_view, note_entry, is_view, watch_step, place_among, accept}
+pub use Rattle.am_watching.specs.Watching.{blank_standing, standing, first_standing, first_view, first_watching, Watching, is_by, greater, is_above, end_event}
+pub use Rattle.am_watching.specs.Watching.{pass, or_else, same_flag, is_alike, with_standing, new_pending, decided_views, with_decided, with_entries}
+pub use Rattle.am_watching.specs.Watching.{store_view, note_entry, is_view, watch_step, place_among, accept}
 pub use Rattle.am_watching.specs.Watches.{standing_of, BeginningIsWatched, decided_of, Sees, IsNoted, after, additions, SameBut, SteppedTo, comes_after}
 pub use Rattle.am_watching.specs.Watches.{WatchesUpTo, view_of, has_in_list, Watches, IsNew, Steps, StepsAreWatched, StopsAreWatched, OthersAreWatched}
 pub use Rattle.am_watching.specs.Watches.{EntriesGoOn, AcceptedGoesOn}

@@ -28,7 +28,12 @@ begins before after = not (has_log before.status) && is_member after
 
 -- what its node shows after that: its list begins at its base, or where it began before
 abbrev pub standing_after : Standing → Shown → Standing
-standing_after before n = record { status = n.status; view = n.decided.view.stamp; start = n.start; from = if begins before n.status then n.base else before.from }
+standing_after before n = record {
+  status = n.status;
+  view = n.decided.view.stamp;
+  start = n.start;
+  from = if begins before n.status then n.base else before.from;
+}
 
 -- the entry of a Piece
 abbrev pub piece_in : Packet → Option Entry

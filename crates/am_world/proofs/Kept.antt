@@ -1,11 +1,11 @@
 -- A world's watcher keeps what is watched of its run.
 use Rattle.am_world.proofs.Words.{watch_push, equals_itself, ◌≡◌, ℕ, ◌+◌, ◌<◌, ◌≤◌, not, Bool, true, false, if◌then◌else◌, List, [], ◌∷◌, ◌++◌, length, drop}
 use Rattle.am_world.proofs.Words.{Ok, refl, sym, ap, ◌∙◌, subst, arith, length-append, Entry, Image, Outcome, NodeEvent, Rules, MayFound, place_of, Event}
-use Rattle.am_world.proofs.Words.{members_of, end-told, view, set_at, step, run, happens, with_step, current, is_stopped, Watch, watch_start, watch}
-use Rattle.am_world.proofs.Words.{watch_all, watch_run, IsEndOf, watched_is_run, Standing, Watching, first_watching, standing, watched_step, stop, pass}
-use Rattle.am_world.proofs.Words.{accept, Watches, Steps, SteppedTo, standing_of, view_of, additions, IsNew, watched_after, stepped_to, steps_are_watched}
-use Rattle.am_world.proofs.Words.{stop_is_watched, pass_is_watched, return_is_watched, beginning_is_kept, Play, replay, after_answer, comes, begins}
-use Rattle.am_world.proofs.Words.{standing_after, shown_of, stored_of, told_step, stops_by, IsWatched, actor, few_names, run_named}
+use Rattle.am_world.proofs.Words.{members_of, end-told, view, set_at, step, run, happens, with_step, current, is_stopped, Watch, watch_start, watch, watch_all}
+use Rattle.am_world.proofs.Words.{watch_run, IsEndOf, watched_is_run, Standing, Watching, first_watching, standing, watched_step, stop, pass, accept, Watches}
+use Rattle.am_world.proofs.Words.{Steps, SteppedTo, standing_of, view_of, additions, IsNew, watched_after, stepped_to, steps_are_watched, stop_is_watched}
+use Rattle.am_world.proofs.Words.{pass_is_watched, return_is_watched, beginning_is_kept, Play, replay, after_answer, comes, begins, standing_after, shown_of}
+use Rattle.am_world.proofs.Words.{stored_of, told_step, stops_by, IsWatched, actor, few_names, run_named}
 use Rattle.am_play.specs.World.{decides}
 use Rattle.am_watching.specs.Watches.{after}
 use Rattle.am_base.specs.declared.outcome.Outcome.TheVariants as said

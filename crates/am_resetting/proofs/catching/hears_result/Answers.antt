@@ -1,6 +1,5 @@
-use Rattle.am_resetting.proofs.CatchingWords.{Option, sym, ap, subst, ◌∙◌, Entry, View, node_of, end_self, only_name, push_entry, trim_up_to, telling, ack_of, IsEndOf}
-use Rattle.am_resetting.proofs.CatchingWords.{hears_result, unless_denied, plan_of, MayStore, Denial, by_plan, by_reply, saying_of}
-use Rattle.am_resetting.proofs.CatchingWords.{replies_telling}
+use Rattle.am_resetting.proofs.CatchingWords.{Option, sym, ap, subst, ◌∙◌, Entry, View, node_of, end_self, only_name, push_entry, trim_up_to, telling, ack_of}
+use Rattle.am_resetting.proofs.CatchingWords.{IsEndOf, hears_result, unless_denied, plan_of, MayStore, Denial, by_plan, by_reply, saying_of, replies_telling}
 use Rattle.am_base.specs.declared.outcome.Outcome.TheVariants as said
 use Rattle.am_handlers.specs.declared.reply.Telling.TheVariants as tell
 use Rattle.am_handlers.specs.declared.reply.Note.TheVariants as note

@@ -1,6 +1,6 @@
-use Rattle.am_resetting.proofs.DecidingWords.{◌≡◌, ◌+◌, ◌-◌, ◌≤◌, ℕ, List, length, true, Some, ap, sym, subst, ◌∙◌, arith, nat_tests, Entry, View, Stamp, Outcome}
-use Rattle.am_resetting.proofs.DecidingWords.{fits, size, has, stamp_lt, IsKept, reports_from, NodeKeeps, node_of, ballot_of, Node, Ballot, image_of, push_entry}
-use Rattle.am_resetting.proofs.DecidingWords.{with_end, decided_view, IsEndOf, has_size, IsTakenOut, MayBeView}
+use Rattle.am_resetting.proofs.DecidingWords.{◌≡◌, ◌+◌, ◌-◌, ◌≤◌, ℕ, List, length, true, Some, ap, sym, subst, ◌∙◌, arith, nat_tests, Entry, View, Stamp}
+use Rattle.am_resetting.proofs.DecidingWords.{Outcome, fits, size, has, stamp_lt, IsKept, reports_from, NodeKeeps, node_of, ballot_of, Node, Ballot, image_of}
+use Rattle.am_resetting.proofs.DecidingWords.{push_entry, with_end, decided_view, IsEndOf, has_size, IsTakenOut, MayBeView}
 use Rattle.am_resetting.proofs.{Orders.lt_self, Views.fits_view, Nodes.keeps_pushed, Nodes.taken_idle, Verdicts.decided_comes}
 use Rattle.am_resetting.proofs.deciding.push_view.Goals as goal
 
