@@ -9,6 +9,7 @@ use Rattle.am_headline.proofs.Words.{events_have_effects, all_get, senders_in_or
 use Rattle.am_headline.proofs.Words.{run_owned, IsNoted, nil_from_length, StandsAt, NameStands, NotedStands, told_all, group_kept, steps_move, Following}
 use Rattle.am_chain.specs.Kept as groups
 use Rattle.am_headline.specs.Lists.{LawfulListsFit}
+use Rattle.am_runs.proofs.Holds.{sends_stand_once}
 use Rattle.am_headline.proofs.{Lists.item_begins, Lists.item_back, Fold.Quiet, Fold.KeptBy, Fold.Became, Fold.Held, Begun.held, Greatest.unbroken, Told.Told}
 use Rattle.am_headline.proofs.{Told.Taking, Told.taking_in_group, Told.told_same, Told.told_idle, Told.told_step, Told.told_start, Moments.done_then}
 use Rattle.am_headline.proofs.{Moments.given_then}
@@ -184,10 +185,7 @@ module _ (rules : Rules) (may : MayFound rules) where
       let fit : AllFit blank 1 w.group = (group_good rules w h.to h.follows).fit in
       record {
         segment = segment_holds w h.is;
-        once = record {
-          each = λ k x at. (let a = all_get (StandsAt w.group (length w.group)) (accepted_sends w.records) k x h.is.accepted at in
-              send_stands_once w fit x.name x.req x.number a.0 a.1.there);
-        };
+        once = sends_stand_once w w.group (length w.group) fit h.is.accepted (λ number e at. at.there);
         kept = record { each = keeps_view events whole };
         sent = sent_holds rules events may;
         senders_order = senders_in_order w fit;
