@@ -25,7 +25,6 @@ use Rattle.am_script.specs.Seen.{seen, items_seen}
 use Rattle.am_script.specs.Values.{value_in, text_in, number_in, number_or, body_from}
 use Rattle.am_script.specs.Events.{kind_in, send_in, reset_in, act_in}
 use Rattle.am_script.specs.Founders.{founding_in}
-use Rattle.am_script.specs.Scripts.{behind}
 use Rattle.am_race_script.specs.Races.{is_call, call_keys_of, call_kind_in, call_as, call_from, calls_from, thread_keys, parts_of_thread, thread_from}
 use Rattle.am_race_script.specs.Races.{most_lost, most_repeated, most_turns, most_calls}
 use Rattle.am_race_script.specs.Races.{each_thread, threads_from, calls_of, records_of, of_right_size, race_keys, parts_of_race, race_from, race_document_from}
