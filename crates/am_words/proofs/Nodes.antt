@@ -1,5 +1,5 @@
 -- What may found a group, as a test.
-use Rattle.std.proofs.Common.{◌≡◌, ℕ, suc, ◌≤◌, List, [], ◌∷◌, length, drop, take, take_all, length-drop, ◌-◌, Bor, slice_index, slice_index_or, option_and_then, Bool, true, false, Option, Some, None, IsSome, IfSome, ◌↔◌, EachIndex, nat_le, refl, sym, ap, ◌∙◌, if◌then◌else◌, arith}
+use Rattle.std.proofs.Common.{◌≡◌, ℕ, ◌≤◌, List, [], ◌∷◌, length, drop, take, take_all, length-drop, ◌-◌, Bor, slice_index, slice_index_or, option_and_then, Bool, true, false, Option, Some, None, IsSome, IfSome, ◌↔◌, EachIndex, nat_le, refl, sym, ap, ◌∙◌, if◌then◌else◌, arith}
 use Rattle.std.specs.List.{list_all}
 use Rattle.std.proofs.lemmas.List.Sums.{AllPass-from_list_all, list_all-from_AllPass}
 use Rattle.std.proofs.lemmas.List.Elements.{All-get_or, All-from_get_or}
