@@ -4,7 +4,7 @@ use Rattle.am_runs.proofs.UnballotedWords.{deliveries, World, run, accepted_send
 use Rattle.am_runs.proofs.UnballotedWords.{senders_in_order, send_stands_once, bounded_holds, sent_holds, all_get}
 use Rattle.std.specs.List.{All}
 use Rattle.am_play.specs.Claims.{Once}
-use Rattle.am_runs.specs.Lists.{UnballotedListsFit}
+use Rattle.am_runs.specs.Lists.{ListFits, UnballotedListsFit}
 use Rattle.am_runs.proofs.{Lists.item_taken, UnballotedKept.first_of, UnballotedKept.At, Worlds.StandsAt, Worlds.Kept, Worlds.WorldOk, UnballotedRuns.world_ok}
 use Rattle.std.proofs.lemmas.List.{nil_from_length}
 
@@ -67,9 +67,10 @@ unballoted_holds rules events may none =
       bounded = bounded_holds rules events may;
     }
 
-pub unballoted_lists_fit : UnballotedListsFit
-unballoted_lists_fit rules events may none =
-    let w = run rules events in
-    let h = world_ok rules events may none in
+lists_fit : (rules : Rules) (w : World) → WorldOk rules w → ListFits w
+lists_fit rules w h =
     let m = w.nodes (first_of rules) in
     record { fits = group_fits rules w h; listed = λ name some. given_log rules m.core.log.entries m.core.acc w name h.kept some }
+
+pub unballoted_lists_fit : UnballotedListsFit
+unballoted_lists_fit rules events may none = lists_fit rules (run rules events) (world_ok rules events may none)
