@@ -70,13 +70,18 @@ class Data:
 
 
 @dataclass(frozen=True)
-class Join:
+class Named:
+    """What is said of a name."""
+
     name: Name
 
 
-@dataclass(frozen=True)
-class Leave:
-    name: Name
+class Join(Named):
+    """A name that joins."""
+
+
+class Leave(Named):
+    """A name that leaves."""
 
 
 @dataclass(frozen=True)
@@ -91,19 +96,17 @@ Entry = Data | Join | Leave | View
 
 
 @dataclass(frozen=True)
-class Numbered:
+class Numbered(Named):
     """An entry with its number at a name: a log line, or a take."""
 
-    name: Name
     number: int
     entry: Entry
 
 
 @dataclass(frozen=True)
-class Answer:
+class Answer(Named):
     """A send of a name that was answered as sent."""
 
-    name: Name
     request: int
     number: int
 

@@ -1,14 +1,15 @@
 -- The headline, of every run.
-use Rattle.am_headline.proofs.Words.{watch_push, ◌≡◌, ◌≢◌, ◌⊎◌, ⊎_elim, ℕ, ◌<◌, ◌≤◌, true, List, [], ◌∷◌, ◌++◌, length, take, Some, None, slice_get, refl, sym}
-use Rattle.am_headline.proofs.Words.{ap, ◌∙◌, subst, arith, append-nil, append_assoc, drop, take-append-drop, Entry, Rules, MayFound, stamp_lt, blank, AllFit}
-use Rattle.am_headline.proofs.Words.{Event, Record, deliveries, item_at, Begins, IsGood, view_of, key, key_lt, view_small, view_up, view_viewed, begins_both}
-use Rattle.am_headline.proofs.Words.{begins_take, begins_trans, length_take, length_push, good_begins, Group, opening, view, lowest_or_first, has_log}
-use Rattle.am_headline.proofs.Words.{accepted_sends, Decided, World, happens, run, Watch, watch_run, watch_start, broken_at, lawful_front, BeginsAt, Segment}
-use Rattle.am_headline.proofs.Words.{line_of, BecameComplete, KeepsView, Holds, HeadlineHolds, split, runs_begin, front_is_lawful, actor, IsIdle}
-use Rattle.am_headline.proofs.Words.{events_have_effects, all_get, senders_in_order, send_stands_once, bounded_holds, sent_holds, front_begins, few_names}
-use Rattle.am_headline.proofs.Words.{run_owned, IsNoted, nil_from_length, StandsAt, NameStands, NotedStands, told_all, group_kept, steps_move, Following}
+use Rattle.am_headline.proofs.Words.{watch_push, ◌≡◌, ◌≢◌, ◌⊎◌, ⊎_elim, ℕ, ◌<◌, ◌≤◌, true, List, [], ◌∷◌, ◌++◌, length, take, Some, None, slice_get, refl}
+use Rattle.am_headline.proofs.Words.{sym, ap, ◌∙◌, subst, arith, append-nil, append_assoc, drop, take-append-drop, Entry, Rules, MayFound, stamp_lt, blank}
+use Rattle.am_headline.proofs.Words.{AllFit, Event, Record, deliveries, item_at, Begins, IsGood, view_of, key, key_lt, view_small, view_up, view_viewed}
+use Rattle.am_headline.proofs.Words.{begins_both, begins_take, begins_trans, length_take, length_push, good_begins, Group, opening, view, lowest_or_first}
+use Rattle.am_headline.proofs.Words.{has_log, Decided, World, happens, run, Watch, watch_run, watch_start, broken_at, lawful_front, BeginsAt}
+use Rattle.am_headline.proofs.Words.{Segment, line_of, BecameComplete, KeepsView, Holds, HeadlineHolds, split, runs_begin, front_is_lawful, actor, IsIdle}
+use Rattle.am_headline.proofs.Words.{events_have_effects, all_get, senders_in_order, bounded_holds, sent_holds, front_begins, few_names}
+use Rattle.am_headline.proofs.Words.{run_owned, IsNoted, nil_from_length, NameStands, NotedStands, told_all, group_kept, steps_move, Following}
 use Rattle.am_chain.specs.Kept as groups
 use Rattle.am_headline.specs.Lists.{LawfulListsFit}
+use Rattle.am_runs.proofs.Holds.{sends_stand_once}
 use Rattle.am_headline.proofs.{Lists.item_begins, Lists.item_back, Fold.Quiet, Fold.KeptBy, Fold.Became, Fold.Held, Begun.held, Greatest.unbroken, Told.Told}
 use Rattle.am_headline.proofs.{Told.Taking, Told.taking_in_group, Told.told_same, Told.told_idle, Told.told_step, Told.told_start, Moments.done_then}
 use Rattle.am_headline.proofs.{Moments.given_then}
@@ -184,10 +185,7 @@ module _ (rules : Rules) (may : MayFound rules) where
       let fit : AllFit blank 1 w.group = (group_good rules w h.to h.follows).fit in
       record {
         segment = segment_holds w h.is;
-        once = record {
-          each = λ k x at. (let a = all_get (StandsAt w.group (length w.group)) (accepted_sends w.records) k x h.is.accepted at in
-              send_stands_once w fit x.name x.req x.number a.0 a.1.there);
-        };
+        once = sends_stand_once w w.group (length w.group) fit h.is.accepted (λ number e at. at.there);
         kept = record { each = keeps_view events whole };
         sent = sent_holds rules events may;
         senders_order = senders_in_order w fit;

@@ -23,12 +23,17 @@ use Rattle.am_headline.proofs.{OneStep.parts, OneStep.plain, Own.whole_item, Own
 
 -- ---- what is kept
 
-pub record NameTold (rules : Rules) (group : List Entry) (i : ℕ) (m : Node) : Type 0 where
+-- of a name alone, whatever the group lists
+pub record NameAlone (rules : Rules) (i : ℕ) (m : Node) : Type 0 where
   pub passed : m.core.taken < m.core.start - 1 → m.core.acc ≤ m.core.taken
   pub gone : has_departed m.status ≡ true → m.leaving ≡ true
   pub silent : m.leaving ≡ true → waiting m ≡ None
   pub founder : has rules.founders i ≡ true → has_log m.status ≡ true
   pub blank : has_log m.status ≡ false → (m.core.taken ≡ 0) × (m.core.start ≡ 0)
+
+pub record NameTold (rules : Rules) (group : List Entry) (i : ℕ) (m : Node) : Type 0 where
+  pub alone : NameAlone rules i m
+  pub open alone use *
   pub begins : has_log m.status ≡ true → BeginsOk rules group (length group) i m.core.start
   pub sends : All (SendOk group (length group) i) m.sends.queue
 
@@ -47,11 +52,7 @@ name_more : (rules : Rules) (group more : List Entry) (i : ℕ) (m : Node) → N
 name_more rules group more i m h =
     let long = length-append group more in
     record {
-      passed = h.passed;
-      gone = h.gone;
-      silent = h.silent;
-      founder = h.founder;
-      blank = h.blank;
+      alone = h.alone;
       begins = λ t. begins_more rules group more (length group) (length (group ++ more)) i m.core.start (omega arith) (h.begins t);
       sends = sends_more group more (length group) (length (group ++ more)) i m.sends.queue (omega arith) h.sends;
     }
@@ -314,11 +315,13 @@ module _ (rules : Rules) (events : List Event) (e : Event) (c : Cause) (step : S
 
   name_now : NameTold rules v.group i n
   name_now = record {
-    passed = inside.passed;
-    gone = inside.gone;
-    silent = inside.silent;
-    founder = λ y. logged_still inside.gave ((h.each i).founder y);
-    blank = λ none. (let b = blank_now none in (b.taken, b.start));
+    alone = record {
+      passed = inside.passed;
+      gone = inside.gone;
+      silent = inside.silent;
+      founder = λ y. logged_still inside.gave ((h.each i).founder y);
+      blank = λ none. (let b = blank_now none in (b.taken, b.start));
+    };
     begins = begins_now;
     sends = All-weaker (SendIn w.group i m n) (SendOk v.group (length v.group) i) (λ x. settled_stands x.req x.number) n.sends.queue inside.sends;
   }
@@ -440,22 +443,26 @@ module _ (rules : Rules) (events : List Event) (e : Event) (c : Cause) (step : S
 
 stranger_told : (rules : Rules) (i : ℕ) → has rules.founders i ≡ false → NameTold rules (founders_view rules ∷ []) i (stranger rules i)
 stranger_told rules i none = record {
-  passed = λ below. omega arith;
-  gone = λ t. absurd (cc);
-  silent = λ t. absurd (cc);
-  founder = λ t. absurd (cc);
-  blank = λ t. (refl, refl);
+  alone = record {
+    passed = λ below. omega arith;
+    gone = λ t. absurd (cc);
+    silent = λ t. absurd (cc);
+    founder = λ t. absurd (cc);
+    blank = λ t. (refl, refl);
+  };
   begins = λ t. absurd (cc);
   sends = All-nil _;
 }
 
 founder_told : (rules : Rules) (i : ℕ) → has rules.founders i ≡ true → NameTold rules (founders_view rules ∷ []) i (founder rules i)
 founder_told rules i there = record {
-  passed = λ below. absurd (omega arith);
-  gone = λ t. absurd (cc);
-  silent = λ t. absurd (cc);
-  founder = λ t. refl;
-  blank = λ t. absurd (cc);
+  alone = record {
+    passed = λ below. absurd (omega arith);
+    gone = λ t. absurd (cc);
+    silent = λ t. absurd (cc);
+    founder = λ t. refl;
+    blank = λ t. absurd (cc);
+  };
   begins = λ t. record { some = omega arith; founder = λ u. refl; joiner = λ none. absurd (cc) };
   sends = All-nil _;
 }

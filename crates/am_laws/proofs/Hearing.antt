@@ -72,19 +72,13 @@ row_read : (m : Node) (read : Read Packet) → HasEffect m (cause_of_read read) 
 row_read m (Ok p) = row_hear m p
 row_read m (Err refusal) = row_refuse m _
 
+ruleset asked = (row_send, row_done, row_take, row_join, row_state, row_leave, row_ask, row_give_up_row, row_tick)
+
 row_does : (m : Node) (event : NodeEvent) → HasEffect m (cause_of event) (row m event)
 unfolding row
-row_does m (does.Send body) = row_send m body
-row_does m (does.Done req) = row_done m req
-row_does m does.Take = row_take m
-row_does m does.Join = row_join m
-row_does m does.State = row_state m
-row_does m does.Leave = row_leave m
 row_does m (does.Reset least resilience) = row_reset m _ least resilience (by_reset least resilience)
-row_does m (does.Ask round) = row_ask m round
-row_does m (does.GiveUp name) = row_give_up_row m name
-row_does m does.Tick = row_tick m
 row_does m (does.Hear bytes) = row_read m (reading bytes)
+row_does m _ = search asked
 
 pub steps_have_effects : StepsHaveEffects
 unfolding step

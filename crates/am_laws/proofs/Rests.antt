@@ -175,7 +175,7 @@ rests_at_end m = subst (RestsWhole m) (sym (end_is m)) (rests_whole m (refresh m
 -- ---- its own Leave more
 
 -- a Leave changes no view
-view_left : (image : Image) (number name : ℕ) → (after image number (Leave name)).view ≡ image.view
+pub view_left : (image : Image) (number name : ℕ) → (after image number (Leave name)).view ≡ image.view
 unfolding after
 view_left image number name = split ((at_place image name).life == life_of name) (λ t. rw t refl) (λ f. rw f refl)
 

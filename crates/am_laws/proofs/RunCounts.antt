@@ -1,11 +1,11 @@
 -- How high all numbers of a run are, event by event.
-use Rattle.am_laws.proofs.Words.{equals_itself, ◌≡◌, inl, inr, ⊎_elim, ℕ, ◌+◌, ◌-◌, ◌≤◌, ◌==◌, max, min, Bool, true, if◌then◌else◌, List, [], ◌∷◌, length}
+use Rattle.am_laws.proofs.Words.{equals_itself, Report, OwnSend, false, ◌≡◌, inl, inr, ⊎_elim, ℕ, ◌+◌, ◌-◌, ◌≤◌, ◌==◌, max, min, Bool, true, if◌then◌else◌, List, [], ◌∷◌, length}
 use Rattle.am_laws.proofs.Words.{take, drop, Option, Some, None, refl, ap, ◌∙◌, subst, arith, length-append, length-drop, All, length-take, All-nil, All-head, All-tail}
 use Rattle.am_laws.proofs.Words.{All-append, All-weaker, Entry, Rules, has, row_of, Packet, Letter, Event, letter_at, Node, Ballot, top, image_of, set_at}
 use Rattle.am_laws.proofs.Words.{founder, stranger, Step, World, start, first_node, group_with, group_after, with_record, with_step, happens, happen, run}
 use Rattle.am_laws.proofs.Words.{heard_by, split, Cause, hears, MayWelcome, Says, welcome, LetterSays, Effect, actor, WasSentTo, IsCause, Happens, steps}
 use Rattle.am_laws.proofs.Words.{all_item, events_have_effects, Bounds, up, UpTo, NumbersHold}
-use Rattle.am_laws.proofs.{Counts.IsKnown, Counts.VotesKnown, Counts.leads, Counts.Low, Counts.Behind, Counts.low_more, Images.blank_up, Images.image_up}
+use Rattle.am_laws.proofs.{Counts.IsKnown, Counts.VotesKnown, Counts.leads, Counts.IsLow, Counts.Low, Counts.Behind, Counts.low_more, Images.blank_up, Images.image_up}
 use Rattle.am_laws.proofs.{ListImages.WelcomeUp, ListImages.ListUp, ListImages.changes_list, LetterCounts.Sends, LetterCounts.says_low}
 use Rattle.am_laws.proofs.{LetterCounts.welcome_low, EventCounts.actor_low}
 
@@ -213,27 +213,22 @@ counted_happen P Q keeps b w (e ∷ es) each h =
 
 -- ---- the start
 
-low_founder : (rules : Rules) (name : ℕ) → Low (record { lists = 1; rounds = 1; requests = 0 }) 1 (founder rules name)
-low_founder rules name = record {
+-- a node whose numbers are all alike, and at most 1
+low_begun : (n : ℕ) (next : Option OwnSend) (reports : ℕ → Report) (leads : Bool) → n ≤ 1 → ((name : ℕ) → (reports name).taken ≤ 1)
+    → IsLow (record { lists = 1; rounds = 1; requests = 0 }) 1 0 n n 0 n n 0 0 n false next reports None leads
+low_begun n next reports leads low told = record {
   counts = record { entries = omega arith; rounds = omega arith; sends = omega arith };
   order = record { given = omega arith; accepted = omega arith; kept = omega arith };
   within = record { listed = omega arith; began = omega arith; took = omega arith; trims = omega arith };
   quits = λ t. absurd (cc);
-  tells = record {
-    reported = λ other. split (has rules.founders other) (λ t. rw t (omega arith)) (λ f. rw f (omega arith));
-    votes = tt;
-    known = inl (omega arith, omega arith);
-  };
+  tells = record { reported = told; votes = tt; known = inl (omega arith, omega arith) };
 }
 
+low_founder : (rules : Rules) (name : ℕ) → Low (record { lists = 1; rounds = 1; requests = 0 }) 1 (founder rules name)
+low_founder rules name = low_begun 1 _ _ _ (omega arith) (λ other. split (has rules.founders other) (λ t. rw t (omega arith)) (λ f. rw f (omega arith)))
+
 low_stranger : (rules : Rules) (name : ℕ) → Low (record { lists = 1; rounds = 1; requests = 0 }) 1 (stranger rules name)
-low_stranger rules name = record {
-  counts = record { entries = omega arith; rounds = omega arith; sends = omega arith };
-  order = record { given = omega arith; accepted = omega arith; kept = omega arith };
-  within = record { listed = omega arith; began = omega arith; took = omega arith; trims = omega arith };
-  quits = λ t. absurd (cc);
-  tells = record { reported = λ other. omega arith; votes = tt; known = inl (omega arith, omega arith) };
-}
+low_stranger rules name = low_begun 0 _ _ _ (omega arith) (λ other. omega arith)
 
 pub first_of : (P : Node → Type 0) (rules : Rules) (name : ℕ) → P (founder rules name) → P (stranger rules name) → P (first_node rules name)
 first_of P rules name f g = split (has rules.founders name) (λ t. rw t f) (λ u. rw u g)

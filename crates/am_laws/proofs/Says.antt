@@ -6,7 +6,7 @@ use Rattle.am_laws.proofs.EffectWords.{is_sequencer, push_entry, waiting, entrie
 use Rattle.am_laws.proofs.EffectWords.{fold_append, split, Cause, HasSend, EntryStands, Says, request, spread, bcast, ack, nack}
 use Rattle.am_state.specs.Sends as own
 use Rattle.am_laws.proofs.{Items.find_get, Items.get_last, Items.get_take, Rests.Rests, Rests.RestsWhole, Rests.acts_rests, Rests.leads_rests}
-use Rattle.am_laws.proofs.{Rests.stands_rests, Plans.AllSay, Plans.none_says, Plans.and_says, Plans.Tells}
+use Rattle.am_laws.proofs.{Rests.stands_rests, Rests.view_left, Plans.AllSay, Plans.none_says, Plans.and_says, Plans.Tells}
 
 -- ---- a node's own sends
 
@@ -19,7 +19,7 @@ view_after : (image : Image) (number : ℕ) (e : Entry) → is_view e ≡ false 
 unfolding after
 view_after image number (Data from req body) f = split ((at_place image from).life == life_of from) (λ t. rw t refl) (λ g. rw g refl)
 view_after image number (Join name) f = refl
-view_after image number (Leave name) f = split ((at_place image name).life == life_of name) (λ t. rw t refl) (λ g. rw g refl)
+view_after image number (Leave name) f = view_left image number name
 view_after image number (View v) f = absurd (cc)
 
 -- what the list tells with an entry more

@@ -311,27 +311,21 @@ name_short_by false name is low =
           (47 ∷ decimal (life_of name)),
     ))
 
+-- a name and what stands behind it
+name_and_short : (name : ℕ) (behind : List ℕ) (rest : ℕ) → name < 256 → length behind ≤ rest → length (name_text name ++ behind) ≤ 5 + rest
+name_and_short name behind rest low few = omega (arith, name_short_by (life_of name == 1) name refl low, few, length-append (name_text name) behind)
+
 others_short : (names : List ℕ) → AreNames names → length (flat_map (λ name. codes "," ++ name_text name) names) ≤ 6 * length names
 unfolding AreNames
 others_short [] low = omega arith
 others_short (name ∷ names) low =
-    omega (
-      arith,
-      name_short_by (life_of name == 1) name refl low.0,
-      others_short names low.1,
-      length-append (44 ∷ name_text name) (flat_map (λ n. codes "," ++ name_text n) names),
-    )
+    omega (arith, name_and_short name (flat_map (λ n. codes "," ++ name_text n) names) (6 * length names) low.0 (others_short names low.1))
 
 list_short : (names : List ℕ) → AreNames names → length (list_text names) ≤ 6 * length names + 1
 unfolding AreNames
 list_short [] low = omega arith
 list_short (name ∷ names) low =
-    omega (
-      arith,
-      name_short_by (life_of name == 1) name refl low.0,
-      others_short names low.1,
-      length-append (name_text name) (flat_map (λ n. codes "," ++ name_text n) names),
-    )
+    omega (arith, name_and_short name (flat_map (λ n. codes "," ++ name_text n) names) (6 * length names) low.0 (others_short names low.1))
 
 few_names : (place : ℕ) (lives : List ℕ) → length (names_from place lives) ≤ length lives
 few_names place [] = omega arith

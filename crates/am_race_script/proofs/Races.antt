@@ -25,12 +25,11 @@ use Rattle.am_script.specs.Seen.{seen, items_seen}
 use Rattle.am_script.specs.Values.{value_in, text_in, number_in, number_or, body_from}
 use Rattle.am_script.specs.Events.{kind_in, send_in, reset_in, act_in}
 use Rattle.am_script.specs.Founders.{founding_in}
-use Rattle.am_script.specs.Scripts.{behind}
 use Rattle.am_race_script.specs.Races.{is_call, call_keys_of, call_kind_in, call_as, call_from, calls_from, thread_keys, parts_of_thread, thread_from}
 use Rattle.am_race_script.specs.Races.{most_lost, most_repeated, most_turns, most_calls}
 use Rattle.am_race_script.specs.Races.{each_thread, threads_from, calls_of, records_of, of_right_size, race_keys, parts_of_race, race_from, race_document_from}
 use Rattle.am_race_script.specs.Limits.{CallWithin, ThreadWithin, RaceWithin}
-use Rattle.am_script.proofs.Steps.{same_ok, ok_then, if_ok, object_ok, both, each_from_within, number_in_within, number_or_within}
+use Rattle.am_script.proofs.Steps.{answer_behind, same_ok, ok_then, if_ok, object_ok, both, each_from_within, number_in_within, number_or_within}
 use Rattle.am_script.proofs.Limits.{body_within, founding_within}
 
 -- ---- calls
@@ -192,10 +191,6 @@ race_within d plan h = object_ok race_keys key.Race d _ plan h (λ told. race_pa
 
 -- ---- what is read
 
-document_within : (d : Data) (plan : RacePlan) → race_document_from d ≡ Ok plan → RaceWithin plan
-unfolding race_document_from
-document_within d plan h = ok_then (behind key.Race d) race_from plan h (λ v there told. race_within v plan told)
-
 pub answer_within : (d : Data) (r : Result RacePlan ScriptRefusal) → Answers (race_document_from d) r → IfOk r RaceWithin
-answer_within d (Ok plan) is = document_within d plan is
-answer_within d (Err e) is = tt
+unfolding race_document_from
+answer_within d r is = answer_behind RaceWithin key.Race race_from race_within d r is

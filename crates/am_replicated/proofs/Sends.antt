@@ -28,25 +28,13 @@ given_piece rules events name may some =
 
 pub delivered_end : DeliveredMessagesEnd
 delivered_end rules events name may some =
-    let w = front_of rules events in
-    let piece = given_piece rules events name may some in (
-      piece.0,
-      record {
-        begins = piece.1;
-        ends = λ k from message ends. ends_in_list (deliveries w.records name) piece.0 w.group k from message piece.3 piece.2 ends;
-      },
-    )
+    let piece = given_piece rules events name may some in
+    (piece.0, record { begins = piece.1; ends = λ k from message. ends_in_list _ piece.0 _ k from message piece.3 piece.2 })
 
 pub whole_delivered : WholeMessagesAreDelivered
 whole_delivered rules events name may some =
-    let w = front_of rules events in
-    let piece = given_piece rules events name may some in (
-      piece.0,
-      record {
-        begins = piece.1;
-        ends = λ k from message ends low all. ends_in_piece (deliveries w.records name) piece.0 w.group k from message piece.3 piece.2 ends low all;
-      },
-    )
+    let piece = given_piece rules events name may some in
+    (piece.0, record { begins = piece.1; ends = λ k from message. ends_in_piece _ piece.0 _ k from message piece.3 piece.2 })
 
 -- ---- what was sent
 

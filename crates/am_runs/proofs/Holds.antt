@@ -2,7 +2,9 @@
 use Rattle.am_runs.proofs.UnballotedWords.{◌≡◌, ◌≢◌, ℕ, ◌+◌, true, List, [], Some, refl, sym, ◌∙◌, subst, arith, Entry, Data, Join, Rules, blank, AllFit, item_at}
 use Rattle.am_runs.proofs.UnballotedWords.{deliveries, World, run, accepted_sends, has_log, BeginsAt, UnballotedHolds, split, good_begins, begins_take}
 use Rattle.am_runs.proofs.UnballotedWords.{senders_in_order, send_stands_once, bounded_holds, sent_holds, all_get}
-use Rattle.am_runs.specs.Lists.{UnballotedListsFit}
+use Rattle.std.specs.List.{All}
+use Rattle.am_play.specs.Claims.{Once}
+use Rattle.am_runs.specs.Lists.{ListFits, UnballotedListsFit}
 use Rattle.am_runs.proofs.{Lists.item_taken, UnballotedKept.first_of, UnballotedKept.At, Worlds.StandsAt, Worlds.Kept, Worlds.WorldOk, UnballotedRuns.world_ok}
 use Rattle.std.proofs.lemmas.List.{nil_from_length}
 
@@ -34,6 +36,15 @@ group_fits rules w h =
     let m = w.nodes (first_of rules) in
     subst (AllFit blank 1) (sym h.kept.group) (good_begins (begins_take m.core.acc m.core.log.entries) h.first.base.good).fit
 
+-- where what is accepted stands in the group's list, each accepted send stands there once
+pub sends_stand_once : (w : World) (list : List Entry) (acc : ℕ) → AllFit blank 1 w.group → All (StandsAt list acc) (accepted_sends w.records)
+    → ((number : ℕ) (e : Entry) → At list acc number e → item_at w.group number ≡ Some e) → Once w
+sends_stand_once w list acc fit accepted there = record {
+  each = λ k s is.
+      let a = all_get (StandsAt list acc) (accepted_sends w.records) k s accepted is in
+      send_stands_once w fit s.name s.req s.number a.0 (there s.number (Data s.name s.req a.0) a.1);
+}
+
 pub unballoted_holds : UnballotedHolds
 unballoted_holds rules events may none =
     let w = run rules events in
@@ -50,19 +61,16 @@ unballoted_holds rules events may none =
           λ k number e is. (let g = (h.kept.given name).each k number e is in (g.0, in_group rules list acc w ((w.nodes name).core.start + k) e h.kept g.1)),
         );
       };
-      once = record {
-        each = λ k s is.
-            let a = all_get (StandsAt list acc) (accepted_sends w.records) k s h.kept.accepted is in
-            send_stands_once w fit s.name s.req s.number a.0 (in_group rules list acc w s.number (Data s.name s.req a.0) h.kept a.1);
-      };
+      once = sends_stand_once w list acc fit h.kept.accepted (λ number e at. in_group rules list acc w number e h.kept at);
       sent = sent_holds rules events may;
       senders_order = senders_in_order w fit;
       bounded = bounded_holds rules events may;
     }
 
-pub unballoted_lists_fit : UnballotedListsFit
-unballoted_lists_fit rules events may none =
-    let w = run rules events in
-    let h = world_ok rules events may none in
+lists_fit : (rules : Rules) (w : World) → WorldOk rules w → ListFits w
+lists_fit rules w h =
     let m = w.nodes (first_of rules) in
     record { fits = group_fits rules w h; listed = λ name some. given_log rules m.core.log.entries m.core.acc w name h.kept some }
+
+pub unballoted_lists_fit : UnballotedListsFit
+unballoted_lists_fit rules events may none = lists_fit rules (run rules events) (world_ok rules events may none)

@@ -1,5 +1,5 @@
 -- What is read was read step by step; numbers are within their limits.
-use Rattle.std.proofs.Common.{◌≡◌, ℕ, ◌+◌, ◌≤◌, List, [], All, Option, Some, None, Ok, Err, Bool, true, false, is_some, ◌&&◌, nat_le, refl, subst, cond}
+use Rattle.std.proofs.Common.{◌≡◌, ℕ, ◌+◌, ◌≤◌, List, [], All, Option, Some, None, Result, Ok, Err, IfOk, Bool, true, false, is_some, ◌&&◌, nat_le, refl, subst, cond}
 use Rattle.std.proofs.Common.{arith}
 use Rattle.std.specs.Option.{ok_or, option_map_or}
 use Rattle.std.specs.Prelude.{option_and_then}
@@ -11,7 +11,8 @@ use Rattle.am_script.specs.declared.key.Key.{Key}
 use Rattle.am_script.specs.declared.refusal.ScriptRefusal.{ScriptRefusal}
 use Rattle.am_script.specs.declared.refusal.ScriptRefusal.TheVariants.{BadValue}
 use Rattle.am_script.specs.Keys.{has_only, value_at}
-use Rattle.am_script.specs.Refusals.{Read, ◌>>=◌}
+use Rattle.am_script.specs.Refusals.{Read, ◌>>=◌, Answers}
+use Rattle.am_script.specs.Scripts.{behind}
 use Rattle.am_script.specs.Values.{object_with, each_from, value_in, number_from, number_in, number_or}
 
 pub same_ok : {A : Type 0} (x y : A) → (let r : Read A = Ok x in r) ≡ Ok y → x ≡ y
@@ -20,6 +21,12 @@ same_ok x y h = cc
 pub ok_then : {A B P : Type 0} (a : Read A) (f : A → Read B) (y : B) → (a >>= f) ≡ Ok y → ((x : A) → a ≡ Ok x → f x ≡ Ok y → P) → P
 ok_then (Ok x) f y h then = then x refl h
 ok_then (Err e) f y h then = cc
+
+-- what holds of all that may be read behind a document's one key holds of the answer
+pub answer_behind : {A : Type 0} (P : A → Type 0) (k : Key) (from : Data → Read A) → ((v : Data) (x : A) → from v ≡ Ok x → P x) → (d : Data)
+    (r : Result A ScriptRefusal) → Answers (behind k d >>= from) r → IfOk r P
+answer_behind P k from holds d (Ok x) is = ok_then (behind k d) from x is (λ v there told. holds v x told)
+answer_behind P k from holds d (Err e) is = tt
 
 pub if_ok : {A P : Type 0} (b : Bool) (a : Read A) (e : ScriptRefusal) (y : A) → cond b a (Err e) ≡ Ok y → (b ≡ true → a ≡ Ok y → P) → P
 if_ok true a e y h then = then refl h

@@ -21,7 +21,7 @@ use std::test::*;
 use std::thread::Threads;
 
 /// The race of these threads, each at a name with so many receives.
-fn plan_of(
+pub fn plan_of(
     alloc: Global,
     founders: u16,
     threads: &[(u8, u32)],

@@ -1,18 +1,16 @@
 ghost use Rattle.std.specs.Prelude.{◌≡◌};
 
+use crate::calls::plan_of;
 use am_base::NoMemory;
 use am_base::body::Body;
 use am_base::entry::Entry;
-use am_base::founding::Founding;
-use am_base::items::Items;
 use am_base::name::Name;
-use am_base::names::Names;
 use am_calls::caller::Caller;
 use am_calls::gate::{Gate, NoGate};
 use am_calls::job::{Job, let_do};
 use am_calls::kernels::Kernels;
 use am_calls::naming::Racing;
-use am_group::plan::{RacePlan, ThreadPlan};
+use am_group::plan::RacePlan;
 use am_races::answer::Answer;
 use std::alloc::Global;
 use std::sync::Wait;
@@ -65,34 +63,23 @@ impl Job for Echo {
     }
 }
 
-/// One caller does this at place 0; how many records it leaves.
+/// Each of a plan's callers does this at place 0; how many records they leave, none where they are too many.
 pub fn echo_twice<R: Threads + Wait + Sync>(
     rt: &R,
     alloc: Global,
-    founding: Founding,
+    plan: &RacePlan,
 ) -> Result<usize, NoMemory> {
-    let mut threads = Items::new(alloc);
-    let calls = Items::new(alloc);
-    threads.push(ThreadPlan {
-        node: Name::of_byte(0),
-        calls,
-    })?;
-    let plan = RacePlan {
-        founding,
-        seed_number: 1,
-        loss: 10,
-        repeat: 5,
-        turns: 200,
-        threads,
-    };
-    Ok(let_do(rt, alloc, &plan, &NoGate, &Echo)?.records().len())
+    if plan.threads.as_slice().len() > 16 {
+        return Ok(0);
+    }
+    Ok(let_do(rt, alloc, plan, &NoGate, &Echo)?.records().len())
 }
 
 // A send leaves its act and its check, and a receive its Take.
 #[test]
 fn one_that_founds_alone_echoes(rt: HostRuntime) -> Result<(), Fail> {
-    let founding = Founding::new(Names::of_mask(1), 0, 64, 256).ok_or("a founding")?;
-    let records = echo_twice(&rt, rt.alloc(), founding)?;
+    let plan = plan_of(rt.alloc(), 1, &[(0, 0)], 200)?;
+    let records = echo_twice(&rt, rt.alloc(), &plan)?;
     assert!(rt; records == 9);
     Ok(())
 }

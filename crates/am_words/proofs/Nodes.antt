@@ -1,7 +1,8 @@
 -- What may found a group, as a test.
-use Rattle.std.proofs.Common.{◌≡◌, ℕ, suc, ◌≤◌, List, [], ◌∷◌, length, drop, take, take_all, length-drop, ◌-◌, Bor, slice_index, slice_index_or, option_and_then, Bool, true, false, Option, Some, None, IsSome, IfSome, ◌↔◌, EachIndex, nat_le, refl, sym, ap, ◌∙◌, if◌then◌else◌, arith}
+use Rattle.std.proofs.Common.{◌≡◌, ℕ, ◌≤◌, List, [], ◌∷◌, length, drop, take, take_all, length-drop, ◌-◌, Bor, slice_index, slice_index_or, option_and_then, Bool, true, false, Option, Some, None, IsSome, IfSome, ◌↔◌, EachIndex, nat_le, refl, sym, ap, ◌∙◌, if◌then◌else◌, arith}
 use Rattle.std.specs.List.{list_all}
-use Rattle.std.proofs.lemmas.List.Folds.{list_all_at}
+use Rattle.std.proofs.lemmas.List.Sums.{AllPass-from_list_all, list_all-from_AllPass}
+use Rattle.std.proofs.lemmas.List.Elements.{All-get_or, All-from_get_or}
 use Rattle.std.proofs.lemmas.Bool.Decides.{nat_tests}
 use Rattle.am_base.specs.Names.{IsSet}
 use Rattle.am_base.specs.Founding.{Rules, MayFound, rules_of}
@@ -9,17 +10,25 @@ use Rattle.am_words.specs.declared.node.Options.{Options}
 use Rattle.am_words.specs.Nodes.{may_found, founding_of, put_option, options_from}
 use Rattle.am_words.proofs.Words.{texts, two_words}
 
-from_each : (set : List ℕ) → EachIndex set (λ place. slice_index set place ≤ 1) → list_all (λ life. nat_le life 1) set ≡ true
-from_each [] each = refl
-from_each (life ∷ lives) each = let h : life ≤ 1 = each 0 (omega arith) in let more = from_each lives (λ place within. each (suc place) (omega arith)) in
-    grind (arith, nat_tests)
+-- the same of each place, and of each element
+abbrev IsFirst : ℕ → Type 0
+IsFirst life = nat_le life 1 ≡ true
 
-to_each : (set : List ℕ) → list_all (λ life. nat_le life 1) set ≡ true → EachIndex set (λ place. slice_index set place ≤ 1)
-to_each set all = λ place within. grind (arith, nat_tests, list_all_at (λ life. nat_le life 1) set place 0 within)
+first_test : (life : ℕ) → life ≤ 1 → IsFirst life
+first_test life low = grind (arith, nat_tests)
+
+first_low : (life : ℕ) → IsFirst life → life ≤ 1
+first_low life is = grind (arith, nat_tests)
+
+all_first : (set : List ℕ) → EachIndex set (λ place. slice_index set place ≤ 1) → list_all (λ life. nat_le life 1) set ≡ true
+all_first set each = list_all-from_AllPass (λ life. nat_le life 1) set (All-from_get_or IsFirst set 0 (λ place within. first_test _ (each place within)))
+
+each_first : (set : List ℕ) → list_all (λ life. nat_le life 1) set ≡ true → EachIndex set (λ place. slice_index set place ≤ 1)
+each_first set all = λ place within. first_low _ (All-get_or IsFirst set place 0 within (AllPass-from_list_all (λ life. nat_le life 1) set all))
 
 test_of : (r : Rules) → MayFound r → may_found r ≡ true
 test_of r may =
-    let each = from_each r.founders may.first_lives in
+    let each = all_first r.founders may.first_lives in
     let some = may.somebody in
     let a = may.resilience_within in
     let b = may.window_least in
@@ -31,7 +40,7 @@ of_test : (r : Rules) → IsSet r.founders → may_found r ≡ true → MayFound
 of_test r set is = record {
   names = set;
   somebody = grind (arith, nat_tests);
-  first_lives = to_each r.founders (grind (arith, nat_tests));
+  first_lives = each_first r.founders (grind (arith, nat_tests));
   resilience_within = grind (arith, nat_tests);
   window_least = grind (arith, nat_tests);
   window_most = grind (arith, nat_tests);

@@ -1,6 +1,6 @@
 -- Lists of one, of five and of six words.
 use Rattle.std.proofs.Common.{◌≡◌, ◌≢◌, Option, Bool, true, false, if◌then◌else◌, codes, ℕ, zero, suc, ◌<◌, ◌≤◌, List, [], ◌∷◌, length, drop, map, Bor, Some, None, slice_index_or, option_map}
-use Rattle.std.proofs.Common.{subst, refl, sym, ap, arith}
+use Rattle.std.proofs.Common.{subst, refl, ap, arith}
 use Rattle.am_words.specs.declared.form.Form.TheVariants as form
 use Rattle.am_words.specs.declared.form.Numbers.{Numbers}
 use Rattle.am_words.specs.declared.node.NodeWords.{NodeWords}

@@ -1,5 +1,5 @@
 -- The options of the word node.
-use Rattle.std.specs.Prelude.{ℕ, List, [], ◌∷◌, codes, Option, Some, None, option_map, option_and_then, is_some, unwrap_or, Bool, ◌&&◌, nat_eq, nat_lt, nat_le, if◌then◌else◌}
+use Rattle.std.specs.Prelude.{ℕ, List, [], ◌∷◌, codes, Option, Some, None, option_map, option_and_then, unwrap_or, Bool, ◌&&◌, nat_eq, nat_lt, nat_le, if◌then◌else◌}
 use Rattle.std.specs.Cmp.Lexicographic.{pointwise}
 use Rattle.std.specs.List.{list_all}
 use Rattle.std.specs.Result.{result_ok}
@@ -16,20 +16,28 @@ same_text text other = pointwise nat_eq text other
 
 -- ---- with one option more, which wasn't there
 
+abbrev pub fresh : {A : Type 0} → Option A → A → Option (Option A)
+fresh None read = Some (Some read)
+fresh (Some there) read = None
+
+-- with what is read, where it wasn't there
+abbrev pub put : {A : Type 0} → Option A → Option A → (Option A → Options) → Option Options
+put read there with_it = option_and_then (λ new. option_map with_it (fresh there new)) read
+
 abbrev pub put_name : Options → List ℕ → Option Options
-put_name options value = if is_some options.name then None else option_map (λ name. record options { name = Some name }) (result_ok (name_of value))
+put_name options value = put (result_ok (name_of value)) options.name (λ name. record options { name = name })
 
 abbrev pub put_founders : Options → List ℕ → Option Options
-put_founders options value = if is_some options.founders then None else option_map (λ names. record options { founders = Some names }) (result_ok (names_of value))
+put_founders options value = put (result_ok (names_of value)) options.founders (λ names. record options { founders = names })
 
 abbrev pub put_resilience : Options → List ℕ → Option Options
-put_resilience options value = if is_some options.resilience then None else option_map (λ n. record options { resilience = Some n }) (result_ok (number_up_to 15 value))
+put_resilience options value = put (result_ok (number_up_to 15 value)) options.resilience (λ n. record options { resilience = n })
 
 abbrev pub put_window : Options → List ℕ → Option Options
-put_window options value = if is_some options.window then None else option_map (λ n. record options { window = Some n }) (result_ok (number_up_to most_window value))
+put_window options value = put (result_ok (number_up_to most_window value)) options.window (λ n. record options { window = n })
 
 abbrev pub put_pb_up_to : Options → List ℕ → Option Options
-put_pb_up_to options value = if is_some options.pb_up_to then None else option_map (λ n. record options { pb_up_to = Some n }) (result_ok (number_up_to most_body value))
+put_pb_up_to options value = put (result_ok (number_up_to most_body value)) options.pb_up_to (λ n. record options { pb_up_to = n })
 
 -- an option by its word
 abbrev pub put_option : Options → List ℕ → List ℕ → Option Options

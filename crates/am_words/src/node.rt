@@ -1,11 +1,11 @@
 ghost use Rattle.std.specs.Prelude.{◌≡◌, map};
-ghost use Rattle.am_words.specs.Nodes.{put_name, put_founders, put_resilience, put_window, put_pb_up_to, put_option, options_from, founding_of, node_with, node_of};
+ghost use Rattle.am_words.specs.Nodes.{fresh, put_option, options_from, founding_of, node_with, node_of};
 
 use am_base::founding::Founding;
 use am_base::name::Name;
 use am_base::names::Names;
 use am_fields::name::{name, names};
-use am_fields::number::number_up_to;
+use am_fields::number::number_up_to as up_to;
 
 /// The options of `node` that were read, each at most once.
 #[derive(Clone, Copy)]
@@ -17,96 +17,31 @@ pub struct Options {
     pub pb_up_to: Option<u16>,
 }
 
-/// With a name, where there was none.
-fn put_name(options: Options, value: &str) -> Option<Options>
-    ensures { result ≡ put_name options value.now }
+/// What was read of an option that wasn't there.
+fn fresh<T: Copy>(there: Option<T>, read: T) -> Option<Option<T>>
+    ensures { result ≡ fresh there read }
 {
-    if options.name.is_some() {
-        return None;
+    match there {
+        Some(_) => None,
+        None => Some(Some(read)),
     }
-    let name = name(value.as_bytes()).ok()?;
-    Some(Options {
-        name: Some(name),
-        ..options
-    })
-}
-
-/// With founders, where there were none.
-fn put_founders(options: Options, value: &str) -> Option<Options>
-    ensures { result ≡ put_founders options value.now }
-{
-    if options.founders.is_some() {
-        return None;
-    }
-    let founders = names(value.as_bytes()).ok()?;
-    Some(Options {
-        founders: Some(founders),
-        ..options
-    })
-}
-
-/// With a resilience, where there was none.
-fn put_resilience(options: Options, value: &str) -> Option<Options>
-    ensures { result ≡ put_resilience options value.now }
-{
-    if options.resilience.is_some() {
-        return None;
-    }
-    let number = number_up_to(value.as_bytes(), 15).ok()?;
-    Some(Options {
-        resilience: Some(number as u8),
-        ..options
-    })
-}
-
-/// With a window, where there was none.
-fn put_window(options: Options, value: &str) -> Option<Options>
-    ensures { result ≡ put_window options value.now }
-{
-    if options.window.is_some() {
-        return None;
-    }
-    let number = number_up_to(value.as_bytes(), 1008).ok()?;
-    Some(Options {
-        window: Some(number as u16),
-        ..options
-    })
-}
-
-/// With the greatest body that goes by the sequencer, where there was none.
-fn put_pb_up_to(options: Options, value: &str) -> Option<Options>
-    ensures { result ≡ put_pb_up_to options value.now }
-{
-    if options.pb_up_to.is_some() {
-        return None;
-    }
-    let number = number_up_to(value.as_bytes(), 1024).ok()?;
-    Some(Options {
-        pb_up_to: Some(number as u16),
-        ..options
-    })
 }
 
 /// With one option more; None where there is no such option, it is there already, or its value is none.
 fn put_option(options: Options, option: &str, value: &str) -> Option<Options>
     ensures { result ≡ put_option options option.now value.now }
 {
-    if option == "--name" {
-        return put_name(options, value);
+    let mut new = options;
+    let value = value.as_bytes();
+    match option {
+        "--name" => new.name = fresh(new.name, name(value).ok()?)?,
+        "--founders" => new.founders = fresh(new.founders, names(value).ok()?)?,
+        "--resilience" => new.resilience = fresh(new.resilience, up_to(value, 15).ok()? as u8)?,
+        "--window" => new.window = fresh(new.window, up_to(value, 1008).ok()? as u16)?,
+        "--pb-up-to" => new.pb_up_to = fresh(new.pb_up_to, up_to(value, 1024).ok()? as u16)?,
+        _ => return None,
     }
-    if option == "--founders" {
-        return put_founders(options, value);
-    }
-    if option == "--resilience" {
-        return put_resilience(options, value);
-    }
-    if option == "--window" {
-        return put_window(options, value);
-    }
-    if option == "--pb-up-to" {
-        return put_pb_up_to(options, value);
-    }
-    None
+    Some(new)
 }
 
 /// With what options in turn say, each a word with its value behind it.

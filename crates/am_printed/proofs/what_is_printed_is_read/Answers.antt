@@ -3,11 +3,4 @@ use Rattle.am_printed.proofs.Words.{stamp_again, body_again}
 use Rattle.am_printed.proofs.what_is_printed_is_read.Goals as goal
 
 pub returns : goal.returns
-returns c = record {
-  numbers = number_again;
-  names = name_again;
-  stamps = stamp_again;
-  sets = names_again;
-  bytes = hex_again;
-  bodies = body_again;
-}
+returns c = search (number_again, name_again, stamp_again, names_again, hex_again, body_again)
