@@ -1,20 +1,16 @@
-ghost use Rattle.std.specs.Prelude.{◌≡◌, ◌≤◌, IfOk, map, length};
-ghost use Rattle.am_races.specs.Lawful.{terms_of};
+ghost use Rattle.std.specs.Prelude.{◌≡◌, ◌≤◌, IfOk, length};
 ghost use Rattle.am_races.specs.Ran.{fresh_caller, fresh_callers, numbers_of, IsLeft};
-ghost use Rattle.am_wire.specs.Keys.{place_keys, caller_keys};
-ghost use Rattle.am_wire.specs.Passes.{fresh};
 
 use crate::caller::Caller;
 use crate::gate::Gate;
 use crate::kernels::Kernels;
-use crate::naming::{RaceLaw, Racing};
-use crate::race::terms_of;
+use crate::naming::Racing;
+use crate::outset::Outset;
 use am_base::NoMemory;
 use am_group::journal::Journal;
 use am_group::plan::RacePlan;
-use am_wire::wire::{Pass, Share, Wire};
 use std::alloc::Global;
-use std::marker::{Brand, PhantomData};
+use std::marker::Brand;
 use std::sync::Wait;
 use std::thread;
 use std::thread::Threads;
@@ -35,23 +31,7 @@ pub trait Job {
         ensures number { caller.new.number ≡ caller.old.number };
 }
 
-/// A caller does a job, once the others have begun too.
-fn one_does<R: Wait, N: Racing, G: Gate, J: Job>(
-    rt: &R,
-    kernels: &Kernels<N, G>,
-    job: &J,
-    mut caller: Caller<N>,
-) -> Caller<N>
-    requires fresh { caller ≡ fresh_caller caller.number }
-    ensures number { result.number ≡ caller.number }
-{
-    kernels.crowd.begin();
-    job.run(rt, kernels, &mut caller);
-    kernels.crowd.end();
-    caller
-}
-
-/// Each caller does a job, in a thread of its own.
+/// Each caller does a job, in a thread of its own, once the others have begun too.
 fn all_do<R: Threads + Wait + Sync, N: Racing + Send + Sync, G: Gate + Sync, J: Job + Sync>(
     rt: &R,
     kernels: &Kernels<N, G>,
@@ -64,10 +44,15 @@ fn all_do<R: Threads + Wait + Sync, N: Racing + Send + Sync, G: Gate + Sync, J: 
     let back = thread::map_vec(
         rt,
         callers,
-        &|caller: Caller<N>| -> Caller<N>
+        &|mut caller: Caller<N>| -> Caller<N>
             requires fresh { caller ≡ fresh_caller caller.number }
             ensures number { result.number ≡ caller.number }
-        { one_does(rt, kernels, job, caller) },
+        {
+            kernels.crowd.begin();
+            job.run(rt, kernels, &mut caller);
+            kernels.crowd.end();
+            caller
+        },
     )?;
     Ok(back)
 }
@@ -76,24 +61,16 @@ fn all_do<R: Threads + Wait + Sync, N: Racing + Send + Sync, G: Gate + Sync, J: 
 fn does_over<R: Threads + Wait + Sync, N: Racing + Send + Sync, G: Gate + Sync, J: Job + Sync>(
     rt: &R,
     alloc: Global,
-    plan: &RacePlan,
     gate: &G,
     job: &J,
-    wire: Wire<RaceLaw>,
-    passes: Vec<Pass>,
-    shares: Vec<Share>,
-    _of: PhantomData<N>,
+    outset: Outset,
 ) -> Result<Journal, NoMemory>
-    requires plan { plan.now ≡ N.plan }
-    requires few { length N.plan.threads ≤ 16 }
-    requires wire { wire ≡ record { id = N.wire; terms = terms_of N.plan } }
-    requires passes { passes.items ≡ map (fresh N.wire (terms_of N.plan)) place_keys }
-    requires shares { shares.items ≡ map (fresh N.wire (terms_of N.plan))
-        (caller_keys (length N.plan.threads)) }
+    requires plan { outset.plan.now ≡ N.plan }
+    requires wire { outset.wire.id ≡ N.wire }
     ensures founding { IfOk result (λ journal. journal.founding ≡ N.plan.founding) }
     ensures left { IfOk result (λ journal. IsLeft N.plan journal.records) }
 {
-    let (kernels, callers) = Kernels::<N, G>::start(alloc, plan, gate, wire, passes, shares)?;
+    let (kernels, callers) = Kernels::<N, G>::start(alloc, gate, outset)?;
     let callers = all_do(rt, &kernels, job, callers)?;
     Ok(kernels.finish(rt, callers))
 }
@@ -112,16 +89,5 @@ pub fn let_do<R: Threads + Wait + Sync, G: Gate + Sync, J: Job + Sync>(
     ensures founding { IfOk result (λ journal. journal.founding ≡ plan.now.founding) }
     ensures left { IfOk result (λ journal. IsLeft plan.now journal.records) }
 {
-    let (wire, passes, shares) = Wire::<RaceLaw>::start(alloc, &terms_of(plan))?;
-    does_over::<R, Brand, G, J>(
-        rt,
-        alloc,
-        plan,
-        gate,
-        job,
-        wire,
-        passes,
-        shares,
-        PhantomData,
-    )
+    does_over::<R, Brand, G, J>(rt, alloc, gate, job, Outset::of(alloc, plan)?)
 }

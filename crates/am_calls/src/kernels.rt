@@ -5,8 +5,7 @@ ghost use Rattle.am_base.specs.Names.{place_of};
 ghost use Rattle.am_group.specs.declared.event.Act.TheVariants as acts;
 ghost use Rattle.am_model.specs.Info.{info_of};
 ghost use Rattle.am_wire.specs.declared.rule.Key.TheVariants.{Caller as CallerKey};
-ghost use Rattle.am_wire.specs.Keys.{place_keys, caller_keys};
-ghost use Rattle.am_wire.specs.Passes.{Sees, fresh};
+ghost use Rattle.am_wire.specs.Passes.{Sees};
 ghost use Rattle.am_wire.specs.Seats.{GoesOn};
 ghost use Rattle.am_wire.specs.declared.wire.WireRefusal.TheVariants as refusals;
 ghost use Rattle.am_races.specs.Boxes.{node_by};
@@ -25,6 +24,7 @@ use crate::dealing::{all_places, boxes_of, callers_of, with_callers};
 use crate::gate::Gate;
 use crate::naming::{RaceLaw, Racing};
 use crate::node_box::{NodeBox, Visit};
+use crate::outset::Outset;
 use am_answers::outcomes::{answer_at_end, is_take, late_after, own_answer, request_in_call};
 use am_base::NoMemory;
 use am_base::body::{Body, SentBody};
@@ -33,17 +33,24 @@ use am_base::name::Name;
 use am_base::outcome::Outcome;
 use am_group::event::Act;
 use am_group::journal::Journal;
-use am_group::plan::RacePlan;
 use am_model::info::Info;
 use am_node::node::Node;
 use am_races::answer::Answer;
 use am_races::call::{Came, Looked, Tag};
-use am_wire::wire::{Pass, Share, Wire, WireRefusal};
+use am_wire::wire::{Wire, WireRefusal};
 use std::alloc::Global;
 use std::sync::{Mutex, Wait};
 
 /// How often a call without a turn to make looks at its node: as often as a journal has records.
 const MOST_RESTS: u32 = 100_000;
+
+/// A call on its way: its tag, the node that it is made at, and its own act.
+#[derive(Drop)]
+struct Call<'a> {
+    tag: Tag,
+    node: Name,
+    act: &'a Act,
+}
 
 /// The nodes of a race, each in its box under a lock, over one journal; its callers make blocking calls at them.
 #[derive(Drop)]
@@ -61,24 +68,22 @@ pub struct Kernels<'g, N: Racing, G: Gate> {
 }
 
 impl<'g, N: Racing, G: Gate> Kernels<'g, N, G> {
-    /// The nodes of a plan's founding, to which nothing has happened, and a caller for each of its threads. The wire, its
-    /// passes and its shares are fresh.
+    /// The nodes of a plan's founding, to which nothing has happened, and a caller for each of its threads.
     pub fn start(
         alloc: Global,
-        plan: &RacePlan,
         gate: &'g G,
-        wire: Wire<RaceLaw>,
-        passes: Vec<Pass>,
-        shares: Vec<Share>,
+        outset: Outset,
     ) -> Result<(Kernels<'g, N, G>, Vec<Caller<N>>), NoMemory>
-        requires plan { plan.now ≡ N.plan }
-        requires few { length N.plan.threads ≤ 16 }
-        requires wire { wire ≡ record { id = N.wire; terms = terms_of N.plan } }
-        requires passes { passes.items ≡ map (fresh N.wire (terms_of N.plan)) place_keys }
-        requires shares { shares.items ≡ map (fresh N.wire (terms_of N.plan))
-            (caller_keys (length N.plan.threads)) }
+        requires plan { outset.plan.now ≡ N.plan }
+        requires wire { outset.wire.id ≡ N.wire }
         ensures { IfOk result (λ r. r.1.items ≡ fresh_callers (length N.plan.threads)) }
     {
+        let Outset {
+            plan,
+            wire,
+            passes,
+            shares,
+        } = outset;
         let boxes = boxes_of(alloc, &plan.founding, passes)?;
         let callers = callers_of(alloc, plan, shares)?;
         let kernels = Kernels {
@@ -92,42 +97,37 @@ impl<'g, N: Racing, G: Gate> Kernels<'g, N, G> {
         Ok((kernels, callers))
     }
 
-    /// What a call of this tag looks at a node with.
-    fn visit<'a, R>(&'a self, rt: &'a R, tag: Tag) -> Visit<'a, R, G>
+    /// What a call looks at a node with.
+    fn visit<'a, R>(&'a self, rt: &'a R, call: &Call<'a>) -> Visit<'a, R, G>
         ensures wire { result.wire.now.id ≡ N.wire }
-        ensures tag { result.tag ≡ tag }
+        ensures tag { result.tag ≡ call.now.tag }
+        ensures act_ { result.act.now ≡ call.now.act.now }
     {
         Visit {
             rt,
             alloc: self.alloc,
             wire: &self.wire,
             gate: self.gate,
-            tag,
+            tag: call.tag,
+            act: call.act,
         }
     }
 
     /// The first look of a call that is no receive: its own act.
-    fn begin<R: Wait>(
-        &self,
-        rt: &R,
-        hand: &mut Hand,
-        tag: Tag,
-        node: Name,
-        act: &Act,
-    ) -> Result<Came, Answer>
-        requires hand { IsHand N.wire N.plan tag.caller hand.old.share hand.old.chooser }
-        requires call { is_call act.now ≡ true }
-        requires no_receive { is_take act.now ≡ false }
-        ensures hand { IsHand N.wire N.plan tag.caller hand.new.share hand.new.chooser }
-        ensures ok { IfOk result (λ came. Began
-            (place_of node) tag act.entry.now came hand.old.share.seen hand.new.share.seen) }
-        ensures err { IfErr result (WasRefused
-            (place_of node) tag.caller hand.old.share.seen hand.new.share.seen) }
+    fn begin<R: Wait>(&self, rt: &R, hand: &mut Hand, call: &Call) -> Result<Came, Answer>
+        requires hand { IsHand N.wire N.plan call.now.tag.caller hand.old.share hand.old.chooser }
+        requires call { is_call call.now.act.now ≡ true }
+        requires no_receive { is_take call.now.act.now ≡ false }
+        ensures hand { IsHand N.wire N.plan call.now.tag.caller hand.new.share hand.new.chooser }
+        ensures ok { IfOk result (λ came. Began (place_of call.now.node) call.now.tag
+            call.now.act.now came hand.old.share.seen hand.new.share.seen) }
+        ensures err { IfErr result (WasRefused (place_of call.now.node) call.now.tag.caller
+            hand.old.share.seen hand.new.share.seen) }
     {
         for _ in rt.forever() {
-            let mut guard = self.boxes[usize::from(node.place())].lock(rt);
-            if guard.name().place() == node.place() {
-                let begun = guard.begin(&self.visit(rt, tag), hand, act);
+            let mut guard = self.boxes[usize::from(call.node.place())].lock(rt);
+            if guard.name().place() == call.node.place() {
+                let begun = guard.begin(&self.visit(rt, call), hand);
                 self.crowd.stir();
                 return begun;
             }
@@ -141,35 +141,32 @@ impl<'g, N: Racing, G: Gate> Kernels<'g, N, G> {
         &self,
         rt: &R,
         hand: &mut Hand,
-        tag: Tag,
-        node: Name,
-        act: &Act,
+        call: &Call,
         came: &Option<Came>,
         has_turn: bool,
     ) -> Result<Looked, Answer>
-        requires hand { IsHand N.wire N.plan tag.caller hand.old.share hand.old.chooser }
-        requires came { IsCame act.now came.now
-            (own_of (of_call tag.caller tag.call hand.old.share.seen)) }
+        requires hand { IsHand N.wire N.plan call.now.tag.caller hand.old.share hand.old.chooser }
+        requires came { IsCame call.now.act.now came.now
+            (own_of (of_call call.now.tag.caller call.now.tag.call hand.old.share.seen)) }
         requires used { has_turn ≡ false → N.plan.turns ≤ count_by (λ r. is_turn_part r.by.part)
-            (of_call tag.caller tag.call hand.old.share.seen) }
-        ensures hand { IsHand N.wire N.plan tag.caller hand.new.share hand.new.chooser }
-        ensures ok { IfOk result (HasLooked
-            (place_of node) tag act.entry.now came.entry.now has_turn hand.old.share.seen
-            hand.new.share.seen) }
-        ensures err { IfErr result (WasRefused
-            (place_of node) tag.caller hand.old.share.seen hand.new.share.seen) }
+            (of_call call.now.tag.caller call.now.tag.call hand.old.share.seen) }
+        ensures hand { IsHand N.wire N.plan call.now.tag.caller hand.new.share hand.new.chooser }
+        ensures ok { IfOk result (HasLooked (place_of call.now.node) call.now.tag call.now.act.now
+            came.entry.now has_turn hand.old.share.seen hand.new.share.seen) }
+        ensures err { IfErr result (WasRefused (place_of call.now.node) call.now.tag.caller
+            hand.old.share.seen hand.new.share.seen) }
     {
-        let due = self.crowd.due(tag.caller);
+        let due = self.crowd.due(call.tag.caller);
         let mut rests = if has_turn { MOST_RESTS } else { 0 };
         for _ in rt.forever() {
             let round = self.crowd.round();
-            if self.crowd.due(tag.caller) != due {
+            if self.crowd.due(call.tag.caller) != due {
                 rests = 0;
             }
-            let mut guard = self.boxes[usize::from(node.place())].lock(rt);
-            if guard.name().place() == node.place() {
-                if rests == 0 || guard.has_to_do(rt, &self.wire, act, came) {
-                    let looked = guard.look(&self.visit(rt, tag), hand, act, came, has_turn);
+            let mut guard = self.boxes[usize::from(call.node.place())].lock(rt);
+            if guard.name().place() == call.node.place() {
+                if rests == 0 || guard.has_to_do(rt, &self.wire, call.act, came) {
+                    let looked = guard.look(&self.visit(rt, call), hand, came, has_turn);
                     self.crowd.stir();
                     return looked;
                 }
@@ -184,56 +181,50 @@ impl<'g, N: Racing, G: Gate> Kernels<'g, N, G> {
     }
 
     /// Looks at the node until the call has its answer.
-    fn go_on<R: Wait>(
-        &self,
-        rt: &R,
-        hand: &mut Hand,
-        tag: Tag,
-        node: Name,
-        act: &Act,
-        came: &Option<Came>,
-    ) -> Answer
-        requires hand { IsHand N.wire N.plan tag.caller hand.old.share hand.old.chooser }
-        requires begun { HasBegun act.now came.now
-            (of_call tag.caller tag.call hand.old.share.seen) }
-        ensures hand { IsHand N.wire N.plan tag.caller hand.new.share hand.new.chooser }
-        ensures made { Made N.plan node tag act.entry.now
-            (of_call tag.caller tag.call hand.old.share.seen) hand.old.share.seen
+    fn go_on<R: Wait>(&self, rt: &R, hand: &mut Hand, call: &Call, came: &Option<Came>) -> Answer
+        requires hand { IsHand N.wire N.plan call.now.tag.caller hand.old.share hand.old.chooser }
+        requires begun { HasBegun call.now.act.now came.now
+            (of_call call.now.tag.caller call.now.tag.call hand.old.share.seen) }
+        ensures hand { IsHand N.wire N.plan call.now.tag.caller hand.new.share hand.new.chooser }
+        ensures made { Made N.plan call.now.node call.now.tag call.now.act.now
+            (of_call call.now.tag.caller call.now.tag.call hand.old.share.seen) hand.old.share.seen
             hand.new.share.seen result }
     {
-        let request = request_in_call(act, came);
+        let request = request_in_call(call.act, came);
         let mut late = Answer::Late { turns: self.turns };
         for spent in 0..self.turns {
-            match self.look(rt, hand, tag, node, act, came, true) {
+            match self.look(rt, hand, call, came, true) {
                 Err(answer) => return answer,
-                Ok(Looked::End(outcome)) => return answer_at_end(act, request, &outcome, late),
+                Ok(Looked::End(outcome)) => {
+                    return answer_at_end(call.act, request, &outcome, late);
+                }
                 Ok(Looked::Turn(outcome)) => late = late_after(request, late, &outcome),
             }
         }
-        match self.look(rt, hand, tag, node, act, came, false) {
+        match self.look(rt, hand, call, came, false) {
             Err(answer) => answer,
-            Ok(Looked::End(outcome)) => answer_at_end(act, request, &outcome, late),
+            Ok(Looked::End(outcome)) => answer_at_end(call.act, request, &outcome, late),
             Ok(Looked::Turn(_)) => unreachable!(),
         }
     }
 
     /// Makes a call of which nothing is done yet.
-    fn do_call<R: Wait>(&self, rt: &R, hand: &mut Hand, tag: Tag, node: Name, act: &Act) -> Answer
-        requires hand { IsHand N.wire N.plan tag.caller hand.old.share hand.old.chooser }
-        requires call { is_call act.now ≡ true }
-        requires fresh { of_call tag.caller tag.call hand.old.share.seen ≡ [] }
-        ensures hand { IsHand N.wire N.plan tag.caller hand.new.share hand.new.chooser }
-        ensures made { Made N.plan node tag act.entry.now
+    fn do_call<R: Wait>(&self, rt: &R, hand: &mut Hand, call: &Call) -> Answer
+        requires hand { IsHand N.wire N.plan call.now.tag.caller hand.old.share hand.old.chooser }
+        requires call { is_call call.now.act.now ≡ true }
+        requires fresh { of_call call.now.tag.caller call.now.tag.call hand.old.share.seen ≡ [] }
+        ensures hand { IsHand N.wire N.plan call.now.tag.caller hand.new.share hand.new.chooser }
+        ensures made { Made N.plan call.now.node call.now.tag call.now.act.now
             [] hand.old.share.seen hand.new.share.seen result }
     {
-        if is_take(act) {
-            return self.go_on(rt, hand, tag, node, act, &None);
+        if is_take(call.act) {
+            return self.go_on(rt, hand, call, &None);
         }
-        match self.begin(rt, hand, tag, node, act) {
+        match self.begin(rt, hand, call) {
             Err(answer) => answer,
-            Ok(came) => match own_answer(act, &came.outcome) {
+            Ok(came) => match own_answer(call.act, &came.outcome) {
                 Some(answer) => answer,
-                None => self.go_on(rt, hand, tag, node, act, &Some(came)),
+                None => self.go_on(rt, hand, call, &Some(came)),
             },
         }
     }
@@ -246,7 +237,7 @@ impl<'g, N: Racing, G: Gate> Kernels<'g, N, G> {
         ensures { Called N.plan node act.now caller.old caller.new result }
     {
         let tag = caller.next_call();
-        let answer = self.do_call(rt, &mut caller.hand, tag, node, act);
+        let answer = self.do_call(rt, &mut caller.hand, &Call { tag, node, act });
         caller.count += 1;
         caller.calls.push(act);
         answer

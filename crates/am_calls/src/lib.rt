@@ -9,6 +9,7 @@ pub mod job;
 pub mod kernels;
 pub mod naming;
 pub mod node_box;
+pub mod outset;
 pub mod plans;
 pub mod race;
 pub mod ready;

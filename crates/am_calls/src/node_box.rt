@@ -75,7 +75,7 @@ impl<N: Racing> Model for NodeBox<N> {
 }
 
 /// What a look at a node is made with, besides its caller's hand: what waits, where its record's memory is from, the journal,
-/// what is done between the look and its act, and whose call it is.
+/// what is done between the look and its act, whose call it is, and the call's own act.
 #[derive(Drop)]
 pub struct Visit<'a, R, G> {
     pub rt: &'a R,
@@ -83,6 +83,7 @@ pub struct Visit<'a, R, G> {
     pub wire: &'a Wire<RaceLaw>,
     pub gate: &'a G,
     pub tag: Tag,
+    pub act: &'a Act,
 }
 
 fn answer_of(refusal: WireRefusal) -> Answer
@@ -204,17 +205,15 @@ impl<N: Racing> NodeBox<N> {
     /// Its node does an act of a caller, which both have then seen in the journal. Behind what both have seen it may do it, a turn
     /// is one of its call, and a call may end there that it ends. After a refusal of the journal the box is closed; where there was no memory for the record, all is
     /// as it was.
-    pub fn act<R: Wait>(
+    pub fn act<R: Wait, G: Gate>(
         &mut self,
-        rt: &R,
-        alloc: Global,
-        wire: &Wire<RaceLaw>,
+        visit: &Visit<R, G>,
         share: &mut Share,
         act: Act,
         letter: Option<&LetterCopy>,
         by: By,
     ) -> Result<Came, WireRefusal>
-        requires own { wire.now.id ≡ N.wire }
+        requires own { visit.now.wire.now.id ≡ N.wire }
         requires share { IsShareOf N.wire N.plan by.caller share.old }
         requires open_ { self.old.closed ≡ None }
         requires few { length self.old.seen ≤ most_events }
@@ -234,11 +233,11 @@ impl<N: Racing> NodeBox<N> {
         ensures spent { IfErr result (λ refusal. refusal ≡ refusals.Spent
             → length self.new.seen ≡ most_events) }
     {
-        let Ok(mut item) = blank(alloc, self.name, &act, by) else {
+        let Ok(mut item) = blank(visit.alloc, self.name, &act, by) else {
             return Err(WireRefusal::NoMemory);
         };
         let rooms = mem::replace(&mut self.rooms, Rooms::new());
-        let Ok(room) = room_for(alloc, rooms, &act, letter) else {
+        let Ok(room) = room_for(visit.alloc, rooms, &act, letter) else {
             return Err(WireRefusal::NoMemory);
         };
         let Room {
@@ -249,11 +248,11 @@ impl<N: Racing> NodeBox<N> {
         } = room;
         let outcome = step(&mut self.node, &mut out, &what, spare);
         let round = round_in(out.letters());
-        let (letters, rooms) = out.into_letters(alloc);
+        let (letters, rooms) = out.into_letters(visit.alloc);
         item.outcome = copy_into(&outcome, given);
         item.packets = letters;
         self.rooms = rooms;
-        match wire.commit(rt, &mut self.pass, share, item) {
+        match visit.wire.commit(visit.rt, &mut self.pass, share, item) {
             Ok(_number) => {
                 let heard = heard_by(&act);
                 self.last = last_after(self.last, heard);
@@ -317,26 +316,12 @@ impl<N: Racing> NodeBox<N> {
         let Ok(mut chooser) = hand.chooser.try_copy() else {
             return Err(Answer::NoMemory);
         };
-        let turn = self.turn(
-            visit.rt,
-            visit.wire,
-            &mut hand.share,
-            &mut chooser,
-            visit.tag,
-        );
+        let turn = self.turn(visit, &mut hand.share, &mut chooser);
         let by = visit.tag.with(Part::Turn(turn.lost));
         visit.gate.between(self.name, &by);
         let Turn { act, letter, .. } = turn;
         let share = &mut hand.share;
-        match self.act(
-            visit.rt,
-            visit.alloc,
-            visit.wire,
-            share,
-            act,
-            letter.as_ref(),
-            by,
-        ) {
+        match self.act(visit, share, act, letter.as_ref(), by) {
             Ok(came) => {
                 hand.chooser = chooser;
                 Ok(Looked::Turn(came.outcome))
@@ -368,7 +353,7 @@ impl<N: Racing> NodeBox<N> {
     {
         visit.gate.between(self.name, &by);
         let share = &mut hand.share;
-        match self.act(visit.rt, visit.alloc, visit.wire, share, act, None, by) {
+        match self.act(visit, share, act, None, by) {
             Ok(came) => Ok(came),
             Err(refusal) => Err(answer_of(refusal)),
         }
@@ -379,7 +364,6 @@ impl<N: Racing> NodeBox<N> {
         &mut self,
         visit: &Visit<R, G>,
         hand: &mut Hand,
-        act: &Act,
         came: &Option<Came>,
     ) -> Result<Looked, Answer>
         requires own { visit.now.wire.now.id ≡ N.wire }
@@ -388,13 +372,13 @@ impl<N: Racing> NodeBox<N> {
         requires due { is_due N.plan (node_by N.plan self.old.seen self.old.name)
             (of_call visit.now.tag.caller visit.now.tag.call self.old.seen) ≡ true }
         ensures hand { IsHand N.wire N.plan visit.now.tag.caller hand.new.share hand.new.chooser }
-        ensures ok { IfOk result (HasEnded N.plan self.old.name visit.now.tag act.entry.now
+        ensures ok { IfOk result (HasEnded N.plan self.old.name visit.now.tag visit.now.act.now
             came.entry.now hand.old.share.seen hand.new.share.seen) }
         ensures err { IfErr result (WasRefused self.old.name visit.now.tag.caller
             hand.old.share.seen hand.new.share.seen) }
     {
-        let last = end_act(act, came);
-        let part = end_part(act);
+        let last = end_act(visit.act, came);
+        let part = end_part(visit.act);
         match self.ask(visit, hand, last, visit.tag.with(part)) {
             Ok(came) => Ok(Looked::End(came.outcome)),
             Err(answer) => Err(answer),
@@ -406,20 +390,19 @@ impl<N: Racing> NodeBox<N> {
         &mut self,
         visit: &Visit<R, G>,
         hand: &mut Hand,
-        act: &Act,
     ) -> Result<Came, Answer>
         requires own { visit.now.wire.now.id ≡ N.wire }
         requires hand { IsHand N.wire N.plan visit.now.tag.caller hand.old.share hand.old.chooser }
-        requires call { is_call act.now ≡ true }
-        requires no_receive { is_take act.now ≡ false }
+        requires call { is_call visit.now.act.now ≡ true }
+        requires no_receive { is_take visit.now.act.now ≡ false }
         ensures hand { IsHand N.wire N.plan visit.now.tag.caller hand.new.share hand.new.chooser }
-        ensures ok { IfOk result (λ came. Began self.old.name visit.now.tag act.entry.now came
+        ensures ok { IfOk result (λ came. Began self.old.name visit.now.tag visit.now.act.now came
             hand.old.share.seen hand.new.share.seen) }
         ensures err { IfErr result (WasRefused self.old.name visit.now.tag.caller
             hand.old.share.seen hand.new.share.seen) }
     {
         self.meet_caller(visit.wire, hand, visit.tag)?;
-        let Ok(own) = act.try_copy() else {
+        let Ok(own) = visit.act.try_copy() else {
             return Err(Answer::NoMemory);
         };
         self.ask(visit, hand, own, visit.tag.with(Part::Call))
@@ -431,28 +414,27 @@ impl<N: Racing> NodeBox<N> {
         &mut self,
         visit: &Visit<R, G>,
         hand: &mut Hand,
-        act: &Act,
         came: &Option<Came>,
         has_turn: bool,
     ) -> Result<Looked, Answer>
         requires own { visit.now.wire.now.id ≡ N.wire }
         requires hand { IsHand N.wire N.plan visit.now.tag.caller hand.old.share hand.old.chooser }
-        requires came { IsCame act.now came.now
+        requires came { IsCame visit.now.act.now came.now
             (own_of (of_call visit.now.tag.caller visit.now.tag.call hand.old.share.seen)) }
         requires used { has_turn ≡ false → N.plan.turns ≤ count_by (λ r. is_turn_part r.by.part)
             (of_call visit.now.tag.caller visit.now.tag.call hand.old.share.seen) }
         ensures hand { IsHand N.wire N.plan visit.now.tag.caller hand.new.share hand.new.chooser }
-        ensures ok { IfOk result (HasLooked self.old.name visit.now.tag act.entry.now came.entry.now
+        ensures ok { IfOk result (HasLooked self.old.name visit.now.tag visit.now.act.now came.entry.now
             has_turn hand.old.share.seen hand.new.share.seen) }
         ensures err { IfErr result (WasRefused self.old.name visit.now.tag.caller
             hand.old.share.seen hand.new.share.seen) }
     {
         self.meet_caller(visit.wire, hand, visit.tag)?;
         if !has_turn {
-            return self.end(visit, hand, act, came);
+            return self.end(visit, hand, came);
         }
-        if self.is_ready(act, came) {
-            return self.end(visit, hand, act, came);
+        if self.is_ready(visit.act, came) {
+            return self.end(visit, hand, came);
         }
         self.spend(visit, hand)
     }

@@ -1,25 +1,22 @@
 ghost use Rattle.std.specs.List.{list_all};
 ghost use Rattle.std.specs.Prelude.{◌≡◌, ◌≤◌, true, IfOk, Some, map, length, slice_get, All};
 ghost use Rattle.am_base.specs.Most.{most_events};
-ghost use Rattle.am_races.specs.Lawful.{terms_of};
 ghost use Rattle.am_races.specs.Legal.{IsLegalWithTags};
 ghost use Rattle.am_races.specs.Plans.{calls_of, is_call, MayRace, ArePlayed};
-ghost use Rattle.am_wire.specs.Keys.{place_keys, caller_keys};
-ghost use Rattle.am_wire.specs.Passes.{fresh};
 ghost use Rattle.am_races.specs.Ran.{fresh_caller, fresh_callers, numbers_of, HasRun, ends_thread, first_refusal};
 
 use crate::caller::Caller;
 use crate::gate::Gate;
 use crate::kernels::Kernels;
-use crate::naming::{RaceLaw, Racing};
+use crate::naming::Racing;
+use crate::outset::Outset;
 use am_base::NoMemory;
 use am_group::journal::Journal;
 use am_group::plan::{RacePlan, ThreadPlan};
 use am_races::answer::Answer;
-use am_wire::Terms;
-use am_wire::wire::{Pass, Share, Wire, WireRefusal};
+use am_wire::wire::WireRefusal;
 use std::alloc::Global;
-use std::marker::{Brand, PhantomData};
+use std::marker::Brand;
 use std::sync::Wait;
 use std::thread;
 use std::thread::Threads;
@@ -94,26 +91,7 @@ fn make_calls<R: Wait, N: Racing, G: Gate>(
     }
 }
 
-/// The same, once the others have begun too.
-fn run<R: Wait, N: Racing, G: Gate>(
-    rt: &R,
-    kernels: &Kernels<N, G>,
-    threads: &[ThreadPlan],
-    caller: Caller<N>,
-) -> Ran<N>
-    requires plan { MayRace N.plan }
-    requires threads { threads.now ≡ N.plan.threads }
-    requires fresh { caller ≡ fresh_caller caller.number }
-    ensures number { result.caller.number ≡ caller.number }
-    ensures ran { HasRun N.plan result.caller result.refusal }
-{
-    kernels.crowd.begin();
-    let ran = make_calls(rt, kernels, threads, caller);
-    kernels.crowd.end();
-    ran
-}
-
-/// Each caller makes the calls of its thread, in a thread of its own.
+/// Each caller makes the calls of its thread, in a thread of its own, once the others have begun too.
 fn all_run<R: Threads + Wait + Sync, N: Racing + Send + Sync, G: Gate + Sync>(
     rt: &R,
     kernels: &Kernels<N, G>,
@@ -136,7 +114,12 @@ fn all_run<R: Threads + Wait + Sync, N: Racing + Send + Sync, G: Gate + Sync>(
             requires fresh { caller ≡ fresh_caller caller.number }
             ensures number { result.caller.number ≡ caller.number }
             ensures ran { HasRun N.plan result.caller result.refusal }
-        { run(rt, kernels, threads, caller) },
+        {
+            kernels.crowd.begin();
+            let ran = make_calls(rt, kernels, threads, caller);
+            kernels.crowd.end();
+            ran
+        },
     )?;
     Ok(ran)
 }
@@ -162,25 +145,19 @@ fn apart<N: Racing>(
 fn race_over<R: Threads + Wait + Sync, N: Racing + Send + Sync, G: Gate + Sync>(
     rt: &R,
     alloc: Global,
-    plan: &RacePlan,
     gate: &G,
-    wire: Wire<RaceLaw>,
-    passes: Vec<Pass>,
-    shares: Vec<Share>,
-    _of: PhantomData<N>,
+    outset: Outset,
 ) -> Result<Journal, NoMemory>
-    requires plan { plan.now ≡ N.plan }
+    requires plan { outset.plan.now ≡ N.plan }
+    requires wire { outset.wire.id ≡ N.wire }
     requires within { MayRace N.plan }
-    requires wire { wire ≡ record { id = N.wire; terms = terms_of N.plan } }
-    requires passes { passes.items ≡ map (fresh N.wire (terms_of N.plan)) place_keys }
-    requires shares { shares.items ≡ map (fresh N.wire (terms_of N.plan))
-        (caller_keys (length N.plan.threads)) }
     ensures founding { IfOk result (λ journal. journal.founding ≡ N.plan.founding) }
     ensures legal { IfOk result (λ journal. IsLegalWithTags N.plan
         (calls_of N.plan) journal.records) }
     ensures played { IfOk result (λ journal. ArePlayed N.plan journal.records) }
 {
-    let (kernels, callers) = Kernels::<N, G>::start(alloc, plan, gate, wire, passes, shares)?;
+    let plan = outset.plan;
+    let (kernels, callers) = Kernels::<N, G>::start(alloc, gate, outset)?;
     let ran = all_run(rt, &kernels, plan.threads.as_slice(), callers)?;
     let (callers, refusal) = apart(alloc, ran)?;
     let journal = kernels.finish(rt, callers);
@@ -188,21 +165,6 @@ fn race_over<R: Threads + Wait + Sync, N: Racing + Send + Sync, G: Gate + Sync>(
         None => Ok(journal),
         Some(WireRefusal::NoMemory) => Err(NoMemory),
         Some(WireRefusal::Spent) => unreachable!(),
-    }
-}
-
-/// What the wire of a plan is told.
-pub(crate) fn terms_of(plan: &RacePlan) -> Terms
-    requires { length plan.now.threads ≤ 16 }
-    ensures { result ≡ terms_of plan.now }
-{
-    Terms {
-        founding: plan.founding,
-        callers: plan.threads.as_slice().len() as u32,
-        seed: plan.seed_number,
-        loss: plan.loss,
-        repeat: plan.repeat,
-        turns: plan.turns,
     }
 }
 
@@ -221,6 +183,5 @@ pub fn race<R: Threads + Wait + Sync, G: Gate + Sync>(
         (calls_of plan.now) journal.records) }
     ensures played { IfOk result (λ journal. ArePlayed plan.now journal.records) }
 {
-    let (wire, passes, shares) = Wire::<RaceLaw>::start(alloc, &terms_of(plan))?;
-    race_over::<R, Brand, G>(rt, alloc, plan, gate, wire, passes, shares, PhantomData)
+    race_over::<R, Brand, G>(rt, alloc, gate, Outset::of(alloc, plan)?)
 }

@@ -11,14 +11,14 @@ ghost use Rattle.am_group.specs.declared.event.Act.TheVariants as acts;
 ghost use Rattle.am_races.specs.Lawful.{IsSent, plan_by, terms_of};
 ghost use Rattle.am_races.specs.Turns.{waits_in_vain, words_drawn, is_turn};
 
-use super::NodeBox;
+use super::{NodeBox, Visit};
 use crate::naming::{RaceLaw, Racing};
 use am_answers::acts::least_of_both;
 use am_base::name::Name;
 use am_chooser::chooser::{Choice, Chooser};
 use am_group::event::Act;
 use am_packet::letter::LetterCopy;
-use am_races::call::{Came, Tag};
+use am_races::call::Came;
 use am_wire::wire::{Share, Wire};
 use std::sync::Wait;
 
@@ -134,34 +134,33 @@ impl<N: Racing> NodeBox<N> {
     }
 
     /// What its node does at a turn of a caller's call, which isn't ready. Box and caller then see the same again.
-    pub(super) fn turn<R: Wait>(
+    pub(super) fn turn<R: Wait, G>(
         &mut self,
-        rt: &R,
-        wire: &Wire<RaceLaw>,
+        visit: &Visit<R, G>,
         share: &mut Share,
         chooser: &mut Chooser,
-        tag: Tag,
     ) -> Turn
-        requires own { wire.now.id ≡ N.wire }
+        requires own { visit.now.wire.now.id ≡ N.wire }
         requires open_ { self.old.closed ≡ None }
-        requires share { IsShareOf N.wire N.plan tag.caller share.old }
+        requires share { IsShareOf N.wire N.plan visit.now.tag.caller share.old }
         requires met { share.old.seen ≡ self.old.seen }
-        requires luck { chooser.old ≡ luck_after N.plan tag.caller
-            (words_drawn tag.caller self.old.seen) }
+        requires luck { chooser.old ≡ luck_after N.plan visit.now.tag.caller
+            (words_drawn visit.now.tag.caller self.old.seen) }
         requires unready { is_ready (node_by N.plan self.old.seen self.old.name)
-            (own_of (of_call tag.caller tag.call self.old.seen)) ≡ false }
+            (own_of (of_call visit.now.tag.caller visit.now.tag.call self.old.seen)) ≡ false }
         ensures looks { Looks self.old self.new }
         ensures share { Sees share.old share.new }
         ensures met { share.new.seen ≡ self.new.seen }
         ensures few { length self.new.seen ≤ most_events }
         ensures turn { is_turn (plan_by (terms_of N.plan)) self.new.seen
-            (event_at self.old.name result.act) (turn_by tag.caller tag.call result.lost) ≡ true }
+            (event_at self.old.name result.act)
+            (turn_by visit.now.tag.caller visit.now.tag.call result.lost) ≡ true }
         ensures hears { (number : ℕ) → result.act ≡ acts.Hear number
             → Hears self.new.seen self.new.name number result.letter }
         ensures drawn { chooser.new ≡ luck_behind chooser.old result.act result.lost }
     {
-        let turn = self.find(rt, wire, chooser);
-        wire.meet(&mut self.pass, share);
+        let turn = self.find(visit.rt, visit.wire, chooser);
+        visit.wire.meet(&mut self.pass, share);
         turn
     }
 

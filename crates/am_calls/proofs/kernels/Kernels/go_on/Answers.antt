@@ -16,23 +16,23 @@ some_told o some turns spent none = absurd (true≢false (sym some ∙ ap is_som
 pub loop-spent-init : goal.loop-spent-init
 loop-spent-init g c = (
   c.requires.hand,
-  subst (λ (t : ℕ). HasTurned g.N.Racing.plan c.args.node c.args.tag
-      (request_in_call c.args.act.now c.args.came.now) c.args.hand.now.share.seen c.args.hand.now.share.seen 0 (answer.Late t)) (sym c.args.self.now.turned)
-      (none_turned g.N.Racing.plan c.args.node c.args.tag (request_in_call c.args.act.now c.args.came.now) c.args.hand.now.share.seen
-      (not_grown (place_of c.args.node) c.args.tag c.args.hand.now.share.seen c.args.hand.now.share.seen
-      (nothing_since c.args.tag.caller c.args.hand.now.share.seen))),
+  subst (λ (t : ℕ). HasTurned g.N.Racing.plan c.args.call.now.node c.args.call.now.tag
+      (request_in_call c.args.call.now.act.now c.args.came.now) c.args.hand.now.share.seen c.args.hand.now.share.seen 0 (answer.Late t)) (sym c.args.self.now.turned)
+      (none_turned g.N.Racing.plan c.args.call.now.node c.args.call.now.tag (request_in_call c.args.call.now.act.now c.args.came.now) c.args.hand.now.share.seen
+      (not_grown (place_of c.args.call.now.node) c.args.call.now.tag c.args.hand.now.share.seen c.args.hand.now.share.seen
+      (nothing_since c.args.call.now.tag.caller c.args.hand.now.share.seen))),
 )
 
 pub loop-spent-preserved : goal.loop-spent-preserved
 loop-spent-preserved g c = (
   c.in-Ok-Turn.ensures.hand,
-  subst (λ (x : Answer). HasTurned g.N.Racing.plan c.args.node c.args.tag
-      (request_in_call c.args.act.now c.args.came.now) c.args.hand.now.share.seen c.look.new.hand.share.seen (c.loop-spent.spent + 1) x)
+  subst (λ (x : Answer). HasTurned g.N.Racing.plan c.args.call.now.node c.args.call.now.tag
+      (request_in_call c.args.call.now.act.now c.args.came.now) c.args.hand.now.share.seen c.look.new.hand.share.seen (c.loop-spent.spent + 1) x)
       (sym (c.late_after-late.ensures ∙ ap (λ (q : Option ℕ). late_after q c.loop-spent.late c.in-Ok-Turn.outcome) c.request_in_call-request.ensures))
-      (one_turned g.N.Racing.plan c.args.node c.args.tag (request_in_call c.args.act.now c.args.came.now) c.args.hand.now.share.seen
+      (one_turned g.N.Racing.plan c.args.call.now.node c.args.call.now.tag (request_in_call c.args.call.now.act.now c.args.came.now) c.args.hand.now.share.seen
       c.loop-spent.hand.share.seen c.look.new.hand.share.seen c.loop-spent.spent
       c.loop-spent.late c.in-Ok-Turn.outcome c.loop-spent.invariant.1
-      (subst (HasLooked (place_of c.args.node) c.args.tag c.args.act.now c.args.came.now true c.loop-spent.hand.share.seen c.look.new.hand.share.seen)
+      (subst (HasLooked (place_of c.args.call.now.node) c.args.call.now.tag c.args.call.now.act.now c.args.came.now true c.loop-spent.hand.share.seen c.look.new.hand.share.seen)
       c.in-Ok-Turn.field-0-is c.in-Ok-Turn.ensures.ok).1),
 )
 
@@ -44,28 +44,28 @@ look-requires-clause-used g c = λ none. absurd (true≢false none)
 
 pub look-requires-clause-came : goal.look-requires-clause-came
 look-requires-clause-came g c =
-    came_still g.N.Racing.plan c.args.node c.args.tag c.args.act.now c.args.came.now _ _ _ _ _ c.requires.begun c.loop-spent.invariant.1
+    came_still g.N.Racing.plan c.args.call.now.node c.args.call.now.tag c.args.call.now.act.now c.args.came.now _ _ _ _ _ c.requires.begun c.loop-spent.invariant.1
 
 pub returns-in-Err-clause-made : goal.returns-in-Err-clause-made
 returns-in-Err-clause-made g c =
-    refused_call g.N.Racing.plan c.args.node c.args.tag c.args.act.now c.args.came.now _ _ _ _ _ _ c.in-Err.answer c.requires.begun c.loop-spent.invariant.1
+    refused_call g.N.Racing.plan c.args.call.now.node c.args.call.now.tag c.args.call.now.act.now c.args.came.now _ _ _ _ _ _ c.in-Err.answer c.requires.begun c.loop-spent.invariant.1
     (subst (λ (t : ℕ). c.loop-spent.spent ≤ t) c.args.self.now.turned c.loop-spent.auto.spent-end) c.in-Err.ensures.err
 
 pub returns-in-Ok-End-clause-made : goal.returns-in-Ok-End-clause-made
 returns-in-Ok-End-clause-made g c =
-    subst (λ (x : Answer). Made g.N.Racing.plan c.args.node c.args.tag c.args.act.now
-    (of_call c.args.tag.caller c.args.tag.call c.args.hand.now.share.seen) c.args.hand.now.share.seen c.look.new.hand.share.seen x)
+    subst (λ (x : Answer). Made g.N.Racing.plan c.args.call.now.node c.args.call.now.tag c.args.call.now.act.now
+    (of_call c.args.call.now.tag.caller c.args.call.now.tag.call c.args.hand.now.share.seen) c.args.hand.now.share.seen c.look.new.hand.share.seen x)
     (sym (c.answer_at_end.ensures
-    ∙ ap (λ (q : Option ℕ). unwrap_or (told_at_end c.args.act.now c.in-Ok-End.outcome) (late_after q c.loop-spent.late c.in-Ok-End.outcome))
+    ∙ ap (λ (q : Option ℕ). unwrap_or (told_at_end c.args.call.now.act.now c.in-Ok-End.outcome) (late_after q c.loop-spent.late c.in-Ok-End.outcome))
     c.request_in_call-request.ensures))
-    (ended_call g.N.Racing.plan c.args.node c.args.tag c.args.act.now c.args.came.now _ _ _ c.loop-spent.spent c.loop-spent.late c.in-Ok-End.outcome
+    (ended_call g.N.Racing.plan c.args.call.now.node c.args.call.now.tag c.args.call.now.act.now c.args.came.now _ _ _ c.loop-spent.spent c.loop-spent.late c.in-Ok-End.outcome
     c.requires.begun c.loop-spent.invariant.1
     (subst (λ (t : ℕ). c.loop-spent.spent ≤ t) c.args.self.now.turned c.loop-spent.auto.spent-end)
-    (some_told (told_at_end c.args.act.now c.in-Ok-End.outcome)
-    ((subst (HasLooked (place_of c.args.node) c.args.tag c.args.act.now c.args.came.now true c.loop-spent.hand.share.seen c.look.new.hand.share.seen)
+    (some_told (told_at_end c.args.call.now.act.now c.in-Ok-End.outcome)
+    ((subst (HasLooked (place_of c.args.call.now.node) c.args.call.now.tag c.args.call.now.act.now c.args.came.now true c.loop-spent.hand.share.seen c.look.new.hand.share.seen)
     c.in-Ok-End.field-0-is c.in-Ok-End.ensures.ok).0 refl)
     g.N.Racing.plan.turns c.loop-spent.spent)
-    (subst (HasLooked (place_of c.args.node) c.args.tag c.args.act.now c.args.came.now true c.loop-spent.hand.share.seen c.look.new.hand.share.seen)
+    (subst (HasLooked (place_of c.args.call.now.node) c.args.call.now.tag c.args.call.now.act.now c.args.came.now true c.loop-spent.hand.share.seen c.look.new.hand.share.seen)
     c.in-Ok-End.field-0-is c.in-Ok-End.ensures.ok).1)
 
 pub look-requires-2-clause-hand : goal.look-requires-2-clause-hand
@@ -73,29 +73,29 @@ look-requires-2-clause-hand g c = c.loop-spent.invariant.0
 
 pub look-requires-2-clause-used : goal.look-requires-2-clause-used
 look-requires-2-clause-used g c = λ none.
-    turns_used g.N.Racing.plan c.args.node c.args.tag (request_in_call c.args.act.now c.args.came.now) _ _ c.loop-spent.spent c.loop-spent.late
+    turns_used g.N.Racing.plan c.args.call.now.node c.args.call.now.tag (request_in_call c.args.call.now.act.now c.args.came.now) _ _ c.loop-spent.spent c.loop-spent.late
     c.loop-spent.invariant.1 (subst (λ (t : ℕ). t ≤ c.loop-spent.spent) c.args.self.now.turned c.loop-spent-test.false)
 
 pub look-requires-2-clause-came : goal.look-requires-2-clause-came
 look-requires-2-clause-came g c =
-    came_still g.N.Racing.plan c.args.node c.args.tag c.args.act.now c.args.came.now _ _ _ _ _ c.requires.begun c.loop-spent.invariant.1
+    came_still g.N.Racing.plan c.args.call.now.node c.args.call.now.tag c.args.call.now.act.now c.args.came.now _ _ _ _ _ c.requires.begun c.loop-spent.invariant.1
 
 pub returns-in-Err-look-clause-made : goal.returns-in-Err-look-clause-made
 returns-in-Err-look-clause-made g c =
-    refused_call g.N.Racing.plan c.args.node c.args.tag c.args.act.now c.args.came.now _ _ _ _ _ _ c.in-Err-look.answer c.requires.begun
+    refused_call g.N.Racing.plan c.args.call.now.node c.args.call.now.tag c.args.call.now.act.now c.args.came.now _ _ _ _ _ _ c.in-Err-look.answer c.requires.begun
     c.loop-spent.invariant.1
     (subst (λ (t : ℕ). c.loop-spent.spent ≤ t) c.args.self.now.turned c.loop-spent.auto.spent-end) c.in-Err-look.ensures.err
 
 pub returns-in-Ok-End-look-clause-made : goal.returns-in-Ok-End-look-clause-made
 returns-in-Ok-End-look-clause-made g c =
-    subst (λ (x : Answer). Made g.N.Racing.plan c.args.node c.args.tag c.args.act.now
-    (of_call c.args.tag.caller c.args.tag.call c.args.hand.now.share.seen) c.args.hand.now.share.seen c.look-2.new.hand.share.seen x)
+    subst (λ (x : Answer). Made g.N.Racing.plan c.args.call.now.node c.args.call.now.tag c.args.call.now.act.now
+    (of_call c.args.call.now.tag.caller c.args.call.now.tag.call c.args.hand.now.share.seen) c.args.hand.now.share.seen c.look-2.new.hand.share.seen x)
     (sym (c.answer_at_end-in-Ok-End-look.ensures
-    ∙ ap (λ (q : Option ℕ). unwrap_or (told_at_end c.args.act.now c.in-Ok-End-look.outcome) (late_after q c.loop-spent.late c.in-Ok-End-look.outcome))
+    ∙ ap (λ (q : Option ℕ). unwrap_or (told_at_end c.args.call.now.act.now c.in-Ok-End-look.outcome) (late_after q c.loop-spent.late c.in-Ok-End-look.outcome))
     c.request_in_call-request.ensures))
-    (ended_call g.N.Racing.plan c.args.node c.args.tag c.args.act.now c.args.came.now _ _ _ c.loop-spent.spent c.loop-spent.late c.in-Ok-End-look.outcome
+    (ended_call g.N.Racing.plan c.args.call.now.node c.args.call.now.tag c.args.call.now.act.now c.args.came.now _ _ _ c.loop-spent.spent c.loop-spent.late c.in-Ok-End-look.outcome
     c.requires.begun c.loop-spent.invariant.1
     (subst (λ (t : ℕ). c.loop-spent.spent ≤ t) c.args.self.now.turned c.loop-spent.auto.spent-end)
     (λ none. subst (λ (t : ℕ). t ≤ c.loop-spent.spent) c.args.self.now.turned c.loop-spent-test.false)
-    (subst (HasLooked (place_of c.args.node) c.args.tag c.args.act.now c.args.came.now false c.loop-spent.hand.share.seen c.look-2.new.hand.share.seen)
+    (subst (HasLooked (place_of c.args.call.now.node) c.args.call.now.tag c.args.call.now.act.now c.args.came.now false c.loop-spent.hand.share.seen c.look-2.new.hand.share.seen)
     c.in-Ok-End-look.field-0-is c.in-Ok-End-look.ensures.ok).1)

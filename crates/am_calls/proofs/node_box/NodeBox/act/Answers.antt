@@ -15,7 +15,7 @@ pub commit-requires-clause-ready : goal.commit-requires-clause-ready
 commit-requires-clause-ready g c κs within =
     box_ready _ _ _ _ _ _ _ _ _ _ _ _ _ _ _ _ _
     (doing _ _ _ _ _ _ _ _ _ _ _ _ _ _ _ _ _ _ c.self.view_is c.self.invariant c.requires.open_ c.requires.share c.requires.met c.requires.may c.requires.timely
-    c.in-Ok-room_for.ensures.what c.step-outcome.ensures.steps) c.args.wire.now.id _ c.requires.own
+    c.in-Ok-room_for.ensures.what c.step-outcome.ensures.steps) c.args.visit.now.wire.now.id _ c.requires.own
     (filled c.in-Ok.ensures c.copy_into.ensures c.into_letters-letters.ensures)
     c.step-outcome.ensures.few
 

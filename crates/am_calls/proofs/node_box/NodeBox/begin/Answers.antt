@@ -13,7 +13,7 @@ use Rattle.am_races.proofs.Looking.{began_all, all_refused_since}
 use Rattle.am_calls.proofs.node_box.NodeBox.begin.Goals as goal
 
 pub ask-requires-clause-asks : goal.ask-requires-clause-asks
-ask-requires-clause-asks g c = ap is_asked c.in-Ok.ensures ∙ call_asks c.args.act.now c.requires.call
+ask-requires-clause-asks g c = ap is_asked c.in-Ok.ensures ∙ call_asks c.args.visit.now.act.now c.requires.call
 
 pub ask-requires-clause-due : goal.ask-requires-clause-due
 ask-requires-clause-due g c = λ end.
@@ -29,9 +29,9 @@ asked_as plan name name' a a' by by' old new (Ok came) n e b ok =
 
 pub returns-clause-ok : goal.returns-clause-ok
 returns-clause-ok g c =
-    began_all g.N.Racing.plan c.args.self.now.name c.args.visit.now.tag c.args.act.now c.args.hand.now.share.seen c.meet_caller.new.hand.share.seen
+    began_all g.N.Racing.plan c.args.self.now.name c.args.visit.now.tag c.args.visit.now.act.now c.args.hand.now.share.seen c.meet_caller.new.hand.share.seen
     c.ask.new.hand.share.seen c.ask.result c.meet_caller.ensures.goes
-    (asked_as g.N.Racing.plan c.args.self.now.name c.meet_caller.new.self.name c.args.act.now c.in-Ok.own (by_of c.args.visit.now.tag Call) c.with.result _ _
+    (asked_as g.N.Racing.plan c.args.self.now.name c.meet_caller.new.self.name c.args.visit.now.act.now c.in-Ok.own (by_of c.args.visit.now.tag Call) c.with.result _ _
     c.ask.result c.meet_caller.ensures.name c.in-Ok.ensures c.with.ensures c.ask.ensures.ok)
 
 pub returns-clause-err : goal.returns-clause-err

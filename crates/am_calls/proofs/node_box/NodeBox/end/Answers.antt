@@ -10,11 +10,11 @@ use Rattle.am_races.proofs.Looking.{end_done}
 use Rattle.am_calls.proofs.node_box.NodeBox.end.Goals as goal
 
 pub ask-requires-clause-asks : goal.ask-requires-clause-asks
-ask-requires-clause-asks g c = ap is_asked c.end_act-last.ensures ∙ end_asks c.args.act.now c.args.came.now
+ask-requires-clause-asks g c = ap is_asked c.end_act-last.ensures ∙ end_asks c.args.visit.now.act.now c.args.came.now
 
 pub ask-requires-clause-no_turn : goal.ask-requires-clause-no_turn
 ask-requires-clause-no_turn g c =
-    ap (λ (b : By). is_turn_part b.part) c.with.ensures ∙ ap is_turn_part c.end_part-part.ensures ∙ end_no_turn c.args.act.now
+    ap (λ (b : By). is_turn_part b.part) c.with.ensures ∙ ap is_turn_part c.end_part-part.ensures ∙ end_no_turn c.args.visit.now.act.now
 
 pub ask-requires-clause-due : goal.ask-requires-clause-due
 ask-requires-clause-due g c = λ end.
@@ -23,8 +23,8 @@ ask-requires-clause-due g c = λ end.
 
 pub returns-in-Ok-clause-ok : goal.returns-in-Ok-clause-ok
 returns-in-Ok-clause-ok g c =
-    end_done g.N.Racing.plan c.args.self.now.name c.args.visit.now.tag c.args.act.now c.args.came.now c.in-Ok.came _ _
+    end_done g.N.Racing.plan c.args.self.now.name c.args.visit.now.tag c.args.visit.now.act.now c.args.came.now c.in-Ok.came _ _
     (subst (λ (x : Act). Asked g.N.Racing.plan c.args.self.now.name x
-    (by_of c.args.visit.now.tag (end_part c.args.act.now)) c.in-Ok.came c.args.hand.now.share.seen c.ask.new.hand.share.seen) c.end_act-last.ensures
+    (by_of c.args.visit.now.tag (end_part c.args.visit.now.act.now)) c.in-Ok.came c.args.hand.now.share.seen c.ask.new.hand.share.seen) c.end_act-last.ensures
     (subst (λ (b : By). Asked g.N.Racing.plan c.args.self.now.name c.end_act-last.result b c.in-Ok.came c.args.hand.now.share.seen c.ask.new.hand.share.seen)
     (c.with.ensures ∙ ap (by_of c.args.visit.now.tag) c.end_part-part.ensures) c.in-Ok.ensures.ok))

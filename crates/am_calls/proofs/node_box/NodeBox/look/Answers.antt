@@ -10,7 +10,7 @@ use Rattle.am_calls.proofs.node_box.NodeBox.look.Goals as goal
 pub spend-requires-clause-unready : goal.spend-requires-clause-unready
 spend-requires-clause-unready g c =
     sym (c.is_ready.ensures.ready (own_of (of_call c.args.visit.now.tag.caller c.args.visit.now.tag.call c.meet_caller.new.self.seen))
-    (came_seen c.args.visit.now.tag c.args.act.now c.args.came.now c.args.hand.now.share.seen c.meet_caller.new.hand.share.seen c.meet_caller.new.self.seen
+    (came_seen c.args.visit.now.tag c.args.visit.now.act.now c.args.came.now c.args.hand.now.share.seen c.meet_caller.new.hand.share.seen c.meet_caller.new.self.seen
     c.meet_caller.ensures.goes c.in_ok-meet_caller.ensures.ok.same c.requires.came))
     ∙ c.if-is_ready.false
 
@@ -25,15 +25,15 @@ end-requires-then-is_ready-clause-due g c =
     ready_due g.N.Racing.plan (node_by g.N.Racing.plan c.meet_caller.new.self.seen c.meet_caller.new.self.name)
     (of_call c.args.visit.now.tag.caller c.args.visit.now.tag.call c.meet_caller.new.self.seen)
     (sym (c.is_ready.ensures.ready (own_of (of_call c.args.visit.now.tag.caller c.args.visit.now.tag.call c.meet_caller.new.self.seen))
-    (came_seen c.args.visit.now.tag c.args.act.now c.args.came.now c.args.hand.now.share.seen c.meet_caller.new.hand.share.seen c.meet_caller.new.self.seen
+    (came_seen c.args.visit.now.tag c.args.visit.now.act.now c.args.came.now c.args.hand.now.share.seen c.meet_caller.new.hand.share.seen c.meet_caller.new.self.seen
     c.meet_caller.ensures.goes c.in_ok-meet_caller.ensures.ok.same c.requires.came))
     ∙ c.if-is_ready.true)
 
 pub returns-then-not-has_turn-clause-ok : goal.returns-then-not-has_turn-clause-ok
 returns-then-not-has_turn-clause-ok g c =
-    subst (λ (n : ℕ). IfOk c.end.result (HasLooked n c.args.visit.now.tag c.args.act.now c.args.came.now c.args.has_turn c.args.hand.now.share.seen
+    subst (λ (n : ℕ). IfOk c.end.result (HasLooked n c.args.visit.now.tag c.args.visit.now.act.now c.args.came.now c.args.has_turn c.args.hand.now.share.seen
     c.end.new.hand.share.seen)) c.meet_caller.ensures.name
-    (last_looked g.N.Racing.plan c.meet_caller.new.self.name c.args.visit.now.tag c.args.act.now c.args.came.now c.args.has_turn c.args.hand.now.share.seen
+    (last_looked g.N.Racing.plan c.meet_caller.new.self.name c.args.visit.now.tag c.args.visit.now.act.now c.args.came.now c.args.has_turn c.args.hand.now.share.seen
     c.meet_caller.new.hand.share.seen c.end.new.hand.share.seen
     c.end.result c.if-not-has_turn.true c.meet_caller.ensures.goes c.end.ensures.ok)
 
@@ -46,15 +46,15 @@ returns-then-not-has_turn-clause-err g c =
 
 pub returns-then-is_ready-clause-ok : goal.returns-then-is_ready-clause-ok
 returns-then-is_ready-clause-ok g c =
-    subst (λ (n : ℕ). IfOk c.end-then-is_ready.result (HasLooked n c.args.visit.now.tag c.args.act.now c.args.came.now c.args.has_turn
+    subst (λ (n : ℕ). IfOk c.end-then-is_ready.result (HasLooked n c.args.visit.now.tag c.args.visit.now.act.now c.args.came.now c.args.has_turn
     c.args.hand.now.share.seen c.end-then-is_ready.new.hand.share.seen)) c.meet_caller.ensures.name
-    (ready_looked g.N.Racing.plan c.meet_caller.new.self.name c.args.visit.now.tag c.args.act.now c.args.came.now c.args.has_turn c.args.hand.now.share.seen
+    (ready_looked g.N.Racing.plan c.meet_caller.new.self.name c.args.visit.now.tag c.args.visit.now.act.now c.args.came.now c.args.has_turn c.args.hand.now.share.seen
     c.meet_caller.new.hand.share.seen c.end-then-is_ready.new.hand.share.seen
     c.end-then-is_ready.result
-    (subst (λ (rs : List Record). EndTells (node_by g.N.Racing.plan rs c.meet_caller.new.self.name) c.args.act.now c.args.came.now)
+    (subst (λ (rs : List Record). EndTells (node_by g.N.Racing.plan rs c.meet_caller.new.self.name) c.args.visit.now.act.now c.args.came.now)
     (sym c.in_ok-meet_caller.ensures.ok.same)
     (c.is_ready.ensures.told (own_of (of_call c.args.visit.now.tag.caller c.args.visit.now.tag.call c.meet_caller.new.self.seen))
-    (came_seen c.args.visit.now.tag c.args.act.now c.args.came.now c.args.hand.now.share.seen c.meet_caller.new.hand.share.seen c.meet_caller.new.self.seen
+    (came_seen c.args.visit.now.tag c.args.visit.now.act.now c.args.came.now c.args.hand.now.share.seen c.meet_caller.new.hand.share.seen c.meet_caller.new.self.seen
     c.meet_caller.ensures.goes c.in_ok-meet_caller.ensures.ok.same c.requires.came)
     c.if-is_ready.true))
     c.meet_caller.ensures.goes c.end-then-is_ready.ensures.ok)
@@ -68,9 +68,9 @@ returns-then-is_ready-clause-err g c =
 
 pub returns-clause-ok : goal.returns-clause-ok
 returns-clause-ok g c =
-    subst (λ (n : ℕ). IfOk c.spend.result (HasLooked n c.args.visit.now.tag c.args.act.now c.args.came.now c.args.has_turn c.args.hand.now.share.seen
+    subst (λ (n : ℕ). IfOk c.spend.result (HasLooked n c.args.visit.now.tag c.args.visit.now.act.now c.args.came.now c.args.has_turn c.args.hand.now.share.seen
     c.spend.new.hand.share.seen)) c.meet_caller.ensures.name
-    (turn_looked c.meet_caller.new.self.name c.args.visit.now.tag c.args.act.now c.args.came.now c.args.has_turn c.args.hand.now.share.seen
+    (turn_looked c.meet_caller.new.self.name c.args.visit.now.tag c.args.visit.now.act.now c.args.came.now c.args.has_turn c.args.hand.now.share.seen
     c.meet_caller.new.hand.share.seen c.spend.new.hand.share.seen
     c.spend.result c.if-not-has_turn.false c.meet_caller.ensures.goes c.spend.ensures.ok)
 
