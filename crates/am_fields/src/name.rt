@@ -61,13 +61,8 @@ pub fn stamp(word: &[u8]) -> Result<Stamp, FieldFault>
 {
     let (first, rest) = cut(word, b'.');
     let round = number(first)?;
-    match rest {
-        Some(rest) => {
-            let by = name(rest)?;
-            Ok(Stamp { round, by })
-        }
-        None => Err(FieldFault::Form),
-    }
+    let by = name(rest.ok_or(FieldFault::Form)?)?;
+    Ok(Stamp { round, by })
 }
 
 /// The set with the names of a text, of which each has this place or one above it, and above those before it.

@@ -1,11 +1,11 @@
 ghost use Rattle.std.specs.Prelude.{◌≡◌, ◌≤◌};
 ghost use Rattle.am_script.specs.Seen.{seen};
 ghost use Rattle.am_script.specs.Refusals.{Answers};
-ghost use Rattle.am_race_script.specs.Races.{is_call, call_keys_of, call_kind_in, call_as, call_from};
+ghost use Rattle.am_race_script.specs.Races.{is_call, call_keys_of, call_as, call_from};
 
 use am_group::event::Act;
 use am_script::event::{act, kind};
-use am_script::fields::{known, object};
+use am_script::fields::known;
 use am_script::key::Key;
 use am_script::kind::Kind;
 use am_script::refusal::{Read, ScriptRefusal};
@@ -33,18 +33,6 @@ fn call_keys(kind: Kind) -> &'static [Key]
     }
 }
 
-/// The kind of a call.
-#[tactic(auto, unfolding(crate::specs::Races::call_kind_in))]
-fn call_kind(call: &Value, place: u64) -> Read<Kind>
-    ensures { result ≡ call_kind_in place (seen call.now) }
-{
-    let kind = kind(call, place)?;
-    if !is_call(kind) {
-        return Err(ScriptRefusal::bad_value(Key::Do, place));
-    }
-    Ok(kind)
-}
-
 /// The act of a call of a kind.
 #[tactic(auto, unfolding(crate::specs::Races::call_as))]
 fn call_of_kind(alloc: Global, kind: Kind, call: &Value, place: u64, founding: u8) -> Read<Act>
@@ -56,12 +44,14 @@ fn call_of_kind(alloc: Global, kind: Kind, call: &Value, place: u64, founding: u
 }
 
 /// The act that a call tells, by its number over all threads and the founding's resilience.
-#[tactic(auto, unfolding(crate::specs::Races::call_from))]
+#[tactic(auto, using(am_script::proofs::Steps::object_then), unfolding(crate::specs::Races::call_from, crate::specs::Races::call_kind_in))]
 pub fn call(alloc: Global, value: &Value, place: u64, founding: u8) -> Read<Act>
     requires { founding ≤ 15 }
     ensures { Answers (call_from founding place (seen value.now)) result }
 {
-    object(value, Key::Calls, place)?;
-    let kind = call_kind(value, place)?;
+    let kind = kind(value, Key::Calls, place)?;
+    if !is_call(kind) {
+        return Err(ScriptRefusal::bad_value(Key::Do, place));
+    }
     call_of_kind(alloc, kind, value, place, founding)
 }

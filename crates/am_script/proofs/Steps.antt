@@ -13,7 +13,7 @@ use Rattle.am_script.specs.declared.refusal.ScriptRefusal.TheVariants.{BadValue}
 use Rattle.am_script.specs.Keys.{has_only, value_at}
 use Rattle.am_script.specs.Refusals.{Read, ◌>>=◌, Answers}
 use Rattle.am_script.specs.Scripts.{behind}
-use Rattle.am_script.specs.Values.{object_with, each_from, value_in, number_from, number_in, number_or}
+use Rattle.am_script.specs.Values.{of_object, object_with, each_from, value_in, number_from, number_in, number_or}
 
 pub same_ok : {A : Type 0} (x y : A) → (let r : Read A = Ok x in r) ≡ Ok y → x ≡ y
 same_ok x y h = cc
@@ -21,6 +21,15 @@ same_ok x y h = cc
 pub ok_then : {A B P : Type 0} (a : Read A) (f : A → Read B) (y : B) → (a >>= f) ≡ Ok y → ((x : A) → a ≡ Ok x → f x ≡ Ok y → P) → P
 ok_then (Ok x) f y h then = then x refl h
 ok_then (Err e) f y h then = cc
+
+-- an object's kind, and then what is read by it
+pub object_then : {A B : Type 0} (k : Key) (place : ℕ) (d : Data) (a : Read A) (f : A → Read B)
+    → of_object k place d (a >>= f) ≡ (of_object k place d a >>= f)
+object_then k place d a f = either (is_some (as_object d))
+  where
+    either : (b : Bool) → cond b (a >>= f) (Err (BadValue k place)) ≡ (cond b a (Err (BadValue k place)) >>= f)
+    either true = refl
+    either false = refl
 
 -- what holds of all that may be read behind a document's one key holds of the answer
 pub answer_behind : {A : Type 0} (P : A → Type 0) (k : Key) (from : Data → Read A) → ((v : Data) (x : A) → from v ≡ Ok x → P x) → (d : Data)

@@ -3,7 +3,7 @@ ghost use Rattle.std.specs.List.{list_all};
 ghost use Rattle.am_base.specs.Most.{most_number};
 ghost use Rattle.am_script.specs.Refusals.{Answers};
 ghost use Rattle.am_script.specs.Seen.{seen};
-ghost use Rattle.am_script.specs.Values.{is_digit, are_pairs, body_from, number_in};
+ghost use Rattle.am_script.specs.Values.{of_object, is_digit, are_pairs, body_from, number_in};
 ghost use Rattle.am_script.specs.Events.{kind_in, send_in, reset_in, give_up_in, cut_in, act_in, event_as, event_from};
 
 use crate::fields::{known, number_in, number_or, object, text_in};
@@ -17,12 +17,13 @@ use am_group::event::{Act, Event};
 use json::Value;
 use std::alloc::Global;
 
-/// The kind of an event or a call.
+/// The kind of an event or a call, which is an object; BadValue at the key that it stands at where it is none.
 #[tactic(auto, unfolding(crate::specs::Events::kind_in))]
-pub fn kind(event: &Value, place: u64) -> Read<Kind>
-    ensures { result ≡ kind_in place (seen event.now) }
+pub fn kind(value: &Value, at: Key, place: u64) -> Read<Kind>
+    ensures { result ≡ of_object at place (seen value.now) (kind_in place (seen value.now)) }
 {
-    let word = text_in(event, Key::Do, place)?;
+    object(value, at, place)?;
+    let word = text_in(value, Key::Do, place)?;
     match Kind::of(word) {
         Some(kind) => Ok(kind),
         None => Err(ScriptRefusal::bad_value(Key::Do, place)),
@@ -160,12 +161,11 @@ fn event_of_kind(alloc: Global, kind: Kind, event: &Value, place: u64, founding:
 
 /// The event that a value tells. A refusal but NoMemory is the first cause that it tells none. `place` is its number,
 /// `founding` the founding's resilience.
-#[tactic(auto, unfolding(crate::specs::Events::event_from))]
+#[tactic(auto, using(crate::proofs::Steps::object_then), unfolding(crate::specs::Events::event_from))]
 pub fn event(alloc: Global, value: &Value, place: u64, founding: u8) -> Read<Event>
     requires { founding ≤ 15 }
     ensures { Answers (event_from founding place (seen value.now)) result }
 {
-    object(value, Key::Events, place)?;
-    let kind = kind(value, place)?;
+    let kind = kind(value, Key::Events, place)?;
     event_of_kind(alloc, kind, value, place, founding)
 }
