@@ -8,7 +8,7 @@ use Rattle.am_scripted.proofs.Words.{accept_of, tells_accepted, with_accept, fin
 use Rattle.am_scripted.proofs.Words.{ballot_answer, request_in, invite_round, or_else_round, round_in}
 use Rattle.am_base.specs.Votes.{Shown, best_from, best_vote, all_names}
 use Rattle.am_model.specs.Ballots.{with_promise, next_stamp, new_ballot, own_vote, best_of, need_of, left_in, is_waited_for, Verdict, goes_on, ends}
-use Rattle.am_model.specs.Ballots.{trim_for, restart_reports, decide, verdict_plan, begin}
+use Rattle.am_model.specs.Ballots.{trim_for, restart_reports, decide, verdict_plan, begin, decided_view}
 use Rattle.am_model.specs.{Calls.would_emit, Calls.emit, Calls.with_queued, Calls.queue, Calls.send_row, Calls.reset_row}
 use Rattle.am_base.specs.declared.outcome.Outcome.TheVariants as said
 use Rattle.am_base.specs.declared.event.NodeEvent.TheVariants as does
@@ -162,7 +162,7 @@ begins m least resilience unanswered =
         (not ((best_of p b).by == p.core.who)) (nat_lt (size names) b.least) (nat_lt (q.core.rules.window + 16 - size names) (top q + 1 - q.core.base))
         (ends p b (said.NotIn (best_of p b).vote.view)) (goes_on p b (said.Waiting (those (is_waited_for p.core.who b) (need_of p b))))
         (goes_on p b (said.Fetching (best_of p b).by (top p + 1))) (ends p b (said.TooFew (size names) b.least)) (ends q b (said.Crowded q.core.base (top q)))
-        (ends (restart_reports (push_entry q (View b.stamp names (max b.resilience (image_of q).resilience)))) b (said.Decided (top q + 1) names))
+        (ends (restart_reports (push_entry q (View (decided_view q b names)))) b (said.Decided (top q + 1) names))
         h refl own refl refl refl
 
     self : is_waited_for m.core.who b m.core.who ≡ false
