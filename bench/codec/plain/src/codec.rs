@@ -69,8 +69,8 @@ pub struct Packet {
 pub enum Refusal {
     Short,
     BadMark,
-    /// A byte of the head that none may have: the version's or the kind's.
-    BadHead { at: u8, found: u8 },
+    BadVersion(u8),
+    BadKind(u8),
     BadLength { said: u32, found: u32 },
     BadField { at: u32 },
 }
@@ -281,11 +281,11 @@ pub fn decode(bytes: &[u8]) -> Result<Packet, Refusal> {
         return Err(Refusal::BadMark);
     }
     if bytes[2] != 3 {
-        return Err(Refusal::BadHead { at: 2, found: bytes[2] });
+        return Err(Refusal::BadVersion(bytes[2]));
     }
     let kind = bytes[3];
     if !(1..=18).contains(&kind) {
-        return Err(Refusal::BadHead { at: 3, found: kind });
+        return Err(Refusal::BadKind(kind));
     }
     let said = u16::from_be_bytes([bytes[10], bytes[11]]);
     if usize::from(said) != bytes.len() {
