@@ -2,7 +2,8 @@ ghost use Rattle.std.specs.Prelude.{◌≡◌, ℕ, ◌+◌, ◌≤◌, ◌<◌,
 ghost use Rattle.am_base.specs.Names.{names_of, name_at, size};
 ghost use Rattle.am_base.specs.Lists.{top_of, told_by};
 ghost use Rattle.am_base.specs.Fronts.{accept_front, is_held, counted_at};
-ghost use Rattle.am_state.specs.Reports.{reports_of, no_reports, after_report, with_admitted, reports_from, lesser, least_stored, least_taken};
+ghost use Rattle.am_state.specs.Reports.{reports_of, no_reports, after_report, with_admitted, reports_from, lesser, least_of, least_stored, least_taken};
+ghost use Rattle.am_parts.specs.Measures.{measured};
 
 use crate::log::Log;
 use crate::state::Core;
@@ -17,6 +18,25 @@ const NO_REPORT: Report = Report {
     stored: 0,
     taken: 0,
 };
+
+/// Which of a report's numbers is meant.
+#[derive(Clone, Copy)]
+enum Measure {
+    Stored,
+    Taken,
+}
+
+impl Measure {
+    /// That number of a report.
+    fn of(self, report: Report) -> u32
+        ensures { result ≡ measured self report }
+    {
+        match self {
+            Measure::Stored => report.stored,
+            Measure::Taken => report.taken,
+        }
+    }
+}
 
 /// What each of the 256 names has reported. Contracts see it as the list of the reports, by the names' bytes.
 #[derive(Drop)]
@@ -121,10 +141,11 @@ impl Fronts {
         }; 256];
     }
 
-    /// The least that the names of a set have taken; None exactly where the set is empty.
+    /// The least that the names of a set have of what a measure takes; None exactly where the set is empty.
     #[tactic(auto, using(am_state::proofs::ReportLaws::least_end))]
-    pub fn least_taken(&self, set: Names) -> Option<u32>
-        ensures { result ≡ least_taken (reports_of self.now) set }
+    fn least_by(&self, measure: Measure, set: Names) -> Option<u32>
+        ensures { result ≡ least_of (λ name. measured measure (reports_of self.now name))
+            (names_of set) }
     {
         let lives = set.each_life();
         let mut found = false;
@@ -132,29 +153,26 @@ impl Fronts {
         for place in 0..16usize {
             let life = lives[place];
             if 0 < life {
+                let number = measure.of(self.at(place, life));
                 found = true;
-                least = least.min(self.at(place, life).taken);
+                least = least.min(number);
             }
         }
         if found { Some(least) } else { None }
     }
 
+    /// The least that the names of a set have taken; None exactly where the set is empty.
+    pub fn least_taken(&self, set: Names) -> Option<u32>
+        ensures { result ≡ least_taken (reports_of self.now) set }
+    {
+        self.least_by(Measure::Taken, set)
+    }
+
     /// The least that the names of a set have stored; None exactly where the set is empty.
-    #[tactic(auto, using(am_state::proofs::ReportLaws::least_end))]
     pub fn least_stored(&self, set: Names) -> Option<u32>
         ensures { result ≡ least_stored (reports_of self.now) set }
     {
-        let lives = set.each_life();
-        let mut found = false;
-        let mut least = u32::MAX;
-        for place in 0..16usize {
-            let life = lives[place];
-            if 0 < life {
-                found = true;
-                least = least.min(self.at(place, life).stored);
-            }
-        }
-        if found { Some(least) } else { None }
+        self.least_by(Measure::Stored, set)
     }
 
     /// How many names a set has, and how many of them have stored up to a number.

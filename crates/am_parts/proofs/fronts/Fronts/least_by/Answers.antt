@@ -1,22 +1,22 @@
 use Rattle.std.proofs.Common.{ℕ, sym, ◌∙◌, ap, arith}
-use Rattle.am_base.specs.declared.image.Report.{Report}
 use Rattle.am_state.specs.Reports.{reports_of}
 use Rattle.am_state.proofs.ReportLaws.{so_far, least_past, least_found}
-use Rattle.am_parts.proofs.fronts.Fronts.least_taken.Goals.{then-life-gt0, else-life-gt0}
-use Rattle.am_parts.proofs.fronts.Fronts.least_taken.Goals as goal
+use Rattle.am_parts.specs.Measures.{measured}
+use Rattle.am_parts.proofs.fronts.Fronts.least_by.Goals.{then-life-gt0, else-life-gt0}
+use Rattle.am_parts.proofs.fronts.Fronts.least_by.Goals as goal
 
 pub loop-place-preserved : goal.loop-place-preserved
 loop-place-preserved c =
-    let number : ℕ → ℕ = λ name. (reports_of c.args.self.now name).taken in
+    let measure = c.args.measure in
+    let number : ℕ → ℕ = λ name. measured measure (reports_of c.args.self.now name) in
     let lives = c.each_life-lives.result in
     let place = c.loop-place.place in
     let found = c.loop-place.found in
     let least = c.loop-place.least in
-    let set = c.each_life-lives.ensures.set in
     elim c.if-life-gt0.branch [
       | then-life-gt0 w ↦
-          let is = ap (λ (r : Report). r.taken) (sym w.at.ensures) in
-          let more = least_found number found least lives place w.at.result.taken 4294967295 (omega arith) w.if-life-gt0.true c.loop-place.invariant.none is
+          let is = ap (measured measure) (sym w.at.ensures) ∙ sym w.of-number.ensures in
+          let more = least_found number found least lives place w.of-number.result 4294967295 (omega arith) w.if-life-gt0.true c.loop-place.invariant.none is
           (omega arith) in
           rw (w.found-is, w.least-is, w.min-least.ensures) (record {
             rest = sym more ∙ c.loop-place.invariant.rest;
