@@ -87,61 +87,55 @@ fn fetched_before(is_decided: bool, what: &NodeEvent) -> Option<Entry>
     if is_decided { entry_in(what) } else { None }
 }
 
+/// A step of a name: how it stood before and after, the view in which its list then ends, and what the step was of.
+#[derive(Clone, Copy)]
+struct Stepped<'a> {
+    name: Name,
+    before: &'a Standing,
+    after: &'a Standing,
+    view: &'a DecidedView,
+    what: &'a NodeEvent,
+}
+
 /// The watcher is told which Views a name stored in a step in which its view became another: what it fetched, where it then
 /// decided a view, and the last one.
 #[inline(never)]
-fn store_new_views(
-    watcher: &mut Watcher,
-    name: Name,
-    is_decided: bool,
-    view: &DecidedView,
-    what: &NodeEvent,
-)
-    ensures { watching_of watcher.new ≡ with_entries (watching_of watcher.old) name
-        ((if is_decided then one_of (entry_in what.now) else []) ++ last_view view.now ∷ []) }
+fn store_new_views(watcher: &mut Watcher, step: &Stepped<'_>, is_decided: bool)
+    ensures { watching_of watcher.new ≡ with_entries (watching_of watcher.old) step.now.name
+        ((if is_decided then one_of (entry_in step.now.what.now) else [])
+        ++ last_view step.now.view.now ∷ []) }
 {
-    let earlier = fetched_before(is_decided, what);
-    store_one(watcher, name, earlier);
-    watcher.store(name, &last_view(view));
+    let earlier = fetched_before(is_decided, step.what);
+    store_one(watcher, step.name, earlier);
+    watcher.store(step.name, &last_view(step.view));
 }
 
 /// The watcher is told which Views a name stored in a step.
-fn store_views(
-    watcher: &mut Watcher,
-    name: Name,
-    before: &Standing,
-    after: &Standing,
-    view: &DecidedView,
-    what: &NodeEvent,
-)
-    ensures { watching_of watcher.new ≡ with_entries (watching_of watcher.old) name
-        (stored_of name before.now after.now view.now what.now) }
+fn store_views(watcher: &mut Watcher, step: &Stepped<'_>)
+    ensures { watching_of watcher.new ≡ with_entries (watching_of watcher.old) step.now.name
+        (stored_of step.now.name step.now.before.now step.now.after.now step.now.view.now
+        step.now.what.now) }
 {
-    if begins(before, after.status) || is_same_stamp(&before.view, &after.view) {
+    if begins(step.before, step.after.status)
+        || is_same_stamp(&step.before.view, &step.after.view)
+    {
         return;
     }
-    store_new_views(watcher, name, decides(before, name, after), view, what);
+    store_new_views(watcher, step, decides(step.before, step.name, step.after));
 }
 
 /// The watcher is told which view a name decided in a step, and which Views it stored: none where its last View stayed.
-fn note_views(
-    watcher: &mut Watcher,
-    name: Name,
-    before: &Standing,
-    after: &Standing,
-    view: &DecidedView,
-    what: &NodeEvent,
-)
+fn note_views(watcher: &mut Watcher, step: &Stepped<'_>)
     requires room { HasRoom watcher.old }
-    requires before { before.now ≡ standing (watching_of watcher.old) name }
-    ensures { watching_of watcher.new ≡ with_views (watching_of watcher.old) name
-        before.now after.now view.now what.now }
+    requires before { step.now.before.now ≡ standing (watching_of watcher.old) step.now.name }
+    ensures { watching_of watcher.new ≡ with_views (watching_of watcher.old) step.now.name
+        step.now.before.now step.now.after.now step.now.view.now step.now.what.now }
 {
-    if is_same_stamp(&before.view, &after.view) {
+    if is_same_stamp(&step.before.view, &step.after.view) {
         return;
     }
-    watcher.decide(name, after, view);
-    store_views(watcher, name, before, after, view, what);
+    watcher.decide(step.name, step.after, step.view);
+    store_views(watcher, step);
 }
 
 /// The watcher is told how the group list goes on above a number.
@@ -200,7 +194,14 @@ impl Watcher {
     {
         let before = self.standing(name);
         let after = standing_after(&before, shown);
-        note_views(self, name, &before, &after, &shown.decided, what);
+        let step = Stepped {
+            name,
+            before: &before,
+            after: &after,
+            view: &shown.decided,
+            what,
+        };
+        note_views(self, &step);
         self.finish(name, &after);
         accept_above(self, group, known);
     }

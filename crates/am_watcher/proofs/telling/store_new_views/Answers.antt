@@ -4,6 +4,6 @@ use Rattle.am_watcher.proofs.telling.store_new_views.Goals as goal
 
 pub returns : goal.returns
 returns c =
-    c.store.ensures ∙ views_more (watching_of c.args.watcher.now) (watching_of c.store_one.new.watcher) c.args.name false false
-    (if c.args.is_decided then one_of (entry_in c.args.what.now) else []) (one_of c.fetched_before-earlier.result)
-    (last_view c.args.view.now) c.last_view.result refl refl c.fetched_before-earlier.ensures c.last_view.ensures c.store_one.ensures
+    c.store.ensures ∙ views_more (watching_of c.args.watcher.now) (watching_of c.store_one.new.watcher) c.args.step.now.name false false
+    (if c.args.is_decided then one_of (entry_in c.args.step.now.what.now) else []) (one_of c.fetched_before-earlier.result)
+    (last_view c.args.step.now.view.now) c.last_view.result refl refl c.fetched_before-earlier.ensures c.last_view.ensures c.store_one.ensures

@@ -7,20 +7,20 @@ use Rattle.am_watcher.proofs.telling.store_views.Goals as goal
 pub returns : goal.returns
 returns c =
     let k = watching_of c.args.watcher.now in
-    let found = one_of (entry_in c.args.what.now) in
-    let last = last_view c.args.view.now ∷ [] in
-    c.store_new_views.ensures ∙ ap (λ b. with_entries k c.args.name ((if b then found else []) ++ last)) c.decides.ensures
-    ∙ views_new k c.args.name (begins c.args.before.now c.args.after.now.status) (stamp_eq c.args.before.now.view c.args.after.now.view) _
+    let found = one_of (entry_in c.args.step.now.what.now) in
+    let last = last_view c.args.step.now.view.now ∷ [] in
+    c.store_new_views.ensures ∙ ap (λ b. with_entries k c.args.step.now.name ((if b then found else []) ++ last)) c.decides.ensures
+    ∙ views_new k c.args.step.now.name (begins c.args.step.now.before.now c.args.step.now.after.now.status) (stamp_eq c.args.step.now.before.now.view c.args.step.now.after.now.view) _
     (sym c.begins.ensures ∙ c.if-begins.false) (sym c.is_same_stamp.ensures ∙ c.if-is_same_stamp.false)
 
 pub returns-then-begins : goal.returns-then-begins
 returns-then-begins c =
     let k = watching_of c.args.watcher.now in
-    let begun = begins c.args.before.now c.args.after.now.status in
-    let same = stamp_eq c.args.before.now.view c.args.after.now.view in
-    let es = (if decides c.args.before.now c.args.name c.args.after.now then one_of (entry_in c.args.what.now) else []) ++ last_view c.args.view.now ∷ [] in
+    let begun = begins c.args.step.now.before.now c.args.step.now.after.now.status in
+    let same = stamp_eq c.args.step.now.before.now.view c.args.step.now.after.now.view in
+    let es = (if decides c.args.step.now.before.now c.args.step.now.name c.args.step.now.after.now then one_of (entry_in c.args.step.now.what.now) else []) ++ last_view c.args.step.now.view.now ∷ [] in
     elim c.then-begins.branch [
-      | then-begins-via-then-begins w ↦ views_none k c.args.name (begun || same) es (ap (λ b. b || same) (sym c.begins.ensures ∙ w.if-begins.true))
-      | then-begins-via-else-begins+then-is_same_stamp w ↦ views_none k c.args.name (begun || same) es
+      | then-begins-via-then-begins w ↦ views_none k c.args.step.now.name (begun || same) es (ap (λ b. b || same) (sym c.begins.ensures ∙ w.if-begins.true))
+      | then-begins-via-else-begins+then-is_same_stamp w ↦ views_none k c.args.step.now.name (begun || same) es
           (ap (λ b. b || same) (sym c.begins.ensures ∙ w.if-begins.false) ∙ sym w.is_same_stamp.ensures ∙ w.if-is_same_stamp.true)
     ]
