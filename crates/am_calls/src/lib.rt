@@ -1,6 +1,7 @@
 //! The calls of a race's threads, at their nodes.
 #![tactic(auto)]
 
+mod acts;
 pub mod caller;
 mod crowd;
 mod dealing;
@@ -9,6 +10,7 @@ pub mod job;
 pub mod kernels;
 pub mod naming;
 pub mod node_box;
+mod outcomes;
 pub mod outset;
 pub mod plans;
 pub mod race;

@@ -22,15 +22,15 @@ ghost use Rattle.am_races.specs.Turns.{is_due};
 
 mod finding;
 
+use crate::acts::{
+    Room, blank, copy_into, cursor_after, heard_by, last_after, lost_by, room_for, stops_by,
+};
 use crate::caller::Hand;
 use crate::gate::Gate;
 use crate::naming::{RaceLaw, Racing};
+use crate::outcomes::{is_take, request_in};
 use crate::ready::{is_ready_after, may_take, round_in};
 use crate::steps::step;
-use am_answers::acts::{
-    Room, blank, copy_into, cursor_after, heard_by, last_after, lost_by, room_for, stops_by,
-};
-use am_answers::outcomes::{is_take, request_in};
 use am_base::NoMemory;
 use am_base::name::Name;
 use am_group::event::{Act, By, Part, Record};

@@ -3,7 +3,7 @@ ghost use Rattle.am_model.specs.Node.{has_log, has_departed};
 ghost use Rattle.am_node.specs.Stands.{state_of};
 ghost use Rattle.am_races.specs.Ready.{invite_round, round_in, is_ended, is_sent, is_ready_after, may_take};
 
-use am_answers::outcomes::ballot_answer;
+use crate::outcomes::ballot_answer;
 use am_base::outcome::Outcome;
 use am_group::event::Act;
 use am_model::info::BallotEnd;

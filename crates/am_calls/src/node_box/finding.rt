@@ -12,8 +12,8 @@ ghost use Rattle.am_races.specs.Lawful.{IsSent, plan_by, terms_of};
 ghost use Rattle.am_races.specs.Turns.{waits_in_vain, words_drawn, is_turn};
 
 use super::{NodeBox, Visit};
+use crate::acts::least_of_both;
 use crate::naming::{RaceLaw, Racing};
-use am_answers::acts::least_of_both;
 use am_base::name::Name;
 use am_chooser::chooser::{Choice, Chooser};
 use am_group::event::Act;

@@ -8,7 +8,7 @@ use Rattle.am_model.specs.Node.{Node}
 use Rattle.am_model.specs.Step.{row, step}
 use Rattle.am_model.specs.Ends.{Does}
 use Rattle.am_model.proofs.Hearing.{ends_step_alike}
-use Rattle.am_example_node.specs.Members.{StepsBy}
+use Rattle.am_examples.specs.Members.{StepsBy}
 
 pub steps_by : (event : NodeEvent) (old new : Node) (outcome : Outcome) (out letters : List Letter) → IsInOrder old.core → Does (λ m. row m event) old outcome out new
     → letters ≡ out → StepsBy event old outcome letters new

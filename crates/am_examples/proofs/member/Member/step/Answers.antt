@@ -1,5 +1,5 @@
-use Rattle.am_example_node.proofs.Steps.{steps_by}
-use Rattle.am_example_node.proofs.Member.step.Goals as goal
+use Rattle.am_examples.proofs.Steps.{steps_by}
+use Rattle.am_examples.proofs.member.Member.step.Goals as goal
 
 pub returns-clause-does : goal.returns-clause-does
 returns-clause-does c =

@@ -8,7 +8,7 @@ use Rattle.am_model.specs.Node as model
 use Rattle.am_model.specs.Ends.{IsEndOf}
 use Rattle.am_model.specs.Step.{step}
 use Rattle.am_node.specs.Stands.{state_of}
-use Rattle.am_example_node.specs.declared.Member.{Member}
+use Rattle.am_examples.specs.declared.member.Member.{Member}
 
 -- the node that a member keeps the end of
 abbrev pub kept_by : Member → model.Node

@@ -1,11 +1,10 @@
 //! A node in a user's own loop: bytes come in, letters go out, time passes, and its numbers may come to an end.
-#![tactic(auto)]
 
 ghost use Rattle.std.specs.Prelude.{◌≡◌, ◌≢◌, ◌++◌, [], List, IfOk, IfErr, OnErr, OnOk, IsTrue, ◌↔◌, Ok, true};
 ghost use Rattle.am_base.specs.declared.event.NodeEvent.TheVariants as does;
 ghost use Rattle.am_model.specs.Nodes.{HasNumbersLeft};
 ghost use Rattle.am_play.specs.World.{first_node};
-ghost use Rattle.am_example_node.specs.Members.{kept_by, StepsBy, is_read};
+ghost use Rattle.am_examples.specs.Members.{kept_by, StepsBy, is_read};
 
 use am_base::NoMemory;
 use am_base::event::NodeEvent;
