@@ -32,7 +32,7 @@ use am_base::founding::Founding;
 use am_base::name::Name;
 use am_base::outcome::Outcome;
 use am_group::event::Act;
-use am_group::journal::Journal;
+use am_journal::journal::Journal;
 use am_model::info::Info;
 use am_node::node::Node;
 use am_races::answer::Answer;

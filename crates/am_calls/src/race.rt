@@ -11,7 +11,7 @@ use crate::kernels::Kernels;
 use crate::naming::Racing;
 use crate::outset::Outset;
 use am_base::NoMemory;
-use am_group::journal::Journal;
+use am_journal::journal::Journal;
 use am_group::plan::{RacePlan, ThreadPlan};
 use am_races::answer::Answer;
 use am_wire::wire::WireRefusal;

@@ -5,7 +5,7 @@ ghost use Rattle.am_chooser.specs.Choices.{progress_after};
 
 use crate::chooser::Choice;
 use am_base::name::Name;
-use am_group::journal::Journal;
+use am_journal::journal::Journal;
 
 /// How far a node has come with the letters for it: the number up to which each was heard or lost, 0 at first, and the
 /// last that it heard.

@@ -9,7 +9,7 @@ use am_base::founding::Founding;
 use am_base::name::Name;
 use am_base::names::Names;
 use am_group::event::{Act, Record};
-use am_group::journal::Journal;
+use am_journal::journal::Journal;
 use am_packet::letter::LetterCopy;
 use std::alloc::Global;
 use std::marker::Model;

@@ -17,7 +17,7 @@ use am_base::limits::MOST_EVENTS;
 use am_base::name::Name;
 use am_base::names::Names;
 use am_group::event::Record;
-use am_group::journal::Journal;
+use am_journal::journal::Journal;
 use am_packet::letter::LetterCopy;
 use atomic_table::{Badge, Seat, Table};
 use std::alloc::{AllocError, Global};
