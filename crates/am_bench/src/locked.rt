@@ -1,7 +1,7 @@
 use am_base::outcome::Outcome;
 use am_calls::ready::may_take;
 use am_chooser::chooser::Chooser;
-use am_chooser::progress::Progress;
+use am_sharing::progress::Progress;
 use am_group::event::{Act, Event};
 use am_group::plan::{RacePlan, ThreadPlan};
 use am_node::node::Node;
@@ -72,7 +72,7 @@ impl Whole {
     fn turn(&mut self, caller: &mut Caller<'_>) -> Result<(), WorldRefusal> {
         let node = caller.thread.node;
         let progress = self.progress[usize::from(node.place())];
-        let ahead = progress.ahead(self.world.journal(), node);
+        let ahead = self.world.journal().next_for(node, progress.cursor);
         let choice = caller.chooser.choose(ahead, progress.last);
         self.act(caller, choice.act())?;
         self.progress[usize::from(node.place())] = progress.after(choice);

@@ -14,7 +14,7 @@ use am_base::NoMemory;
 use am_journal::journal::Journal;
 use am_group::plan::{RacePlan, ThreadPlan};
 use am_races::answer::Answer;
-use am_wire::wire::WireRefusal;
+use am_sharing::terms::WireRefusal;
 use std::alloc::Global;
 use std::marker::Brand;
 use std::sync::Wait;
