@@ -1,5 +1,5 @@
 -- What is seen of a journal: how it begins, how it goes on, and by which law its records come.
-use Rattle.std.specs.Prelude.{◌≡◌, ℕ, ◌<◌, List, ◌∷◌, ◌++◌, length, take, nat_lt, if◌then◌else◌}
+use Rattle.std.specs.Prelude.{◌≡◌, ◌<◌, List, ◌∷◌, ◌++◌, length, take, nat_lt, if◌then◌else◌}
 use Rattle.am_group.specs.declared.event.Record.{Record}
 use Rattle.am_sharing.specs.declared.terms.Key.{Key}
 use Rattle.am_sharing.specs.Keys.{of_key, times}
