@@ -4,7 +4,7 @@ ghost use Rattle.am_base.specs.Most.{most_body};
 ghost use Rattle.am_base.specs.declared.outcome.Outcome.TheVariants as said;
 ghost use Rattle.am_play.specs.Claims.{heard_by};
 ghost use Rattle.am_group.specs.declared.event.Record.{Record};
-ghost use Rattle.am_wire.specs.Stops.{is_stop};
+ghost use Rattle.am_sharing.specs.Stops.{is_stop};
 ghost use Rattle.am_races.specs.Boxes.{what_of, IsLeastOf, InBoth};
 ghost use Rattle.am_races.specs.Turns.{lost_by, unless_nought, or_nought};
 

@@ -1,7 +1,7 @@
 ghost use Rattle.std.specs.Prelude.{◌≡◌, ◌<◌, [], ◌∷◌, length, nat_lt};
 ghost use Rattle.am_base.specs.Most.{most_word};
-ghost use Rattle.am_wire.specs.declared.rule.Key.TheVariants.{Caller as CallerKey};
-ghost use Rattle.am_wire.specs.Passes.{fresh};
+ghost use Rattle.am_sharing.specs.declared.terms.Key.TheVariants.{Caller as CallerKey};
+ghost use Rattle.am_sharing.specs.Passes.{fresh};
 ghost use Rattle.am_races.specs.Callings.{HasMade, luck_after};
 ghost use Rattle.am_races.specs.Lawful.{terms_of};
 

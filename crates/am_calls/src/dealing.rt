@@ -1,7 +1,7 @@
 ghost use Rattle.std.specs.Prelude.{◌≡◌, ◌<◌, ◌≤◌, [], ◌∷◌, IfOk, vec_len, map, length, All};
-ghost use Rattle.am_wire.specs.declared.rule.Key.TheVariants.{Place};
-ghost use Rattle.am_wire.specs.Keys.{place_keys, caller_keys};
-ghost use Rattle.am_wire.specs.Passes.{fresh};
+ghost use Rattle.am_sharing.specs.declared.terms.Key.TheVariants.{Place};
+ghost use Rattle.am_sharing.specs.Keys.{place_keys, caller_keys};
+ghost use Rattle.am_sharing.specs.Passes.{fresh};
 ghost use Rattle.am_races.specs.Lawful.{terms_of};
 ghost use Rattle.am_races.specs.Ran.{fresh_callers, HasPlaces, IsIn};
 

@@ -7,7 +7,7 @@ use crate::kernels::Kernels;
 use crate::naming::Racing;
 use crate::outset::Outset;
 use am_base::NoMemory;
-use am_group::journal::Journal;
+use am_journal::journal::Journal;
 use am_group::plan::RacePlan;
 use std::alloc::Global;
 use std::marker::Brand;

@@ -1,12 +1,12 @@
 ghost use Rattle.std.specs.Prelude.{◌≡◌, ◌≤◌, IfOk, map, length};
-ghost use Rattle.am_wire.specs.Keys.{place_keys, caller_keys};
-ghost use Rattle.am_wire.specs.Passes.{fresh};
+ghost use Rattle.am_sharing.specs.Keys.{place_keys, caller_keys};
+ghost use Rattle.am_sharing.specs.Passes.{fresh};
 ghost use Rattle.am_races.specs.Lawful.{terms_of};
 
 use crate::naming::RaceLaw;
 use am_base::NoMemory;
 use am_group::plan::RacePlan;
-use am_wire::Terms;
+use am_sharing::terms::Terms;
 use am_wire::wire::{Pass, Share, Wire};
 use std::alloc::Global;
 

@@ -1,36 +1,11 @@
 ghost use Rattle.std.specs.Prelude.{◌≡◌, IfOk};
-ghost use Rattle.am_chooser.specs.Choices.{act_of, turn_by, words_of, choice_of, luck_after};
+ghost use Rattle.am_sharing.specs.Choices.{turn_by, words_of, choice_of, luck_after};
 
 use am_base::NoMemory;
-use am_group::event::Act;
+use am_sharing::choice::Choice;
 use rand_pcg::Lcg64Xsh32;
 use rand_pcg::rand_core::utils::NextWord;
 use std::marker::Model;
-
-/// What a node does of which it is the turn.
-#[derive(Clone, Copy, PartialEq, Eq, Debug)]
-pub enum Choice {
-    /// Time passes: no letter is ahead.
-    Tick,
-    /// The letter of this number is lost, and time passes.
-    Lose(u32),
-    /// The letter of this number is heard.
-    Hear(u32),
-    /// The letter of this number, the last that was heard, is heard again.
-    Repeat(u32),
-}
-
-impl Choice {
-    /// What the node does.
-    pub fn act(self) -> Act
-        ensures { result ≡ act_of self }
-    {
-        match self {
-            Choice::Tick | Choice::Lose(_) => Act::Tick,
-            Choice::Hear(number) | Choice::Repeat(number) => Act::Hear(number),
-        }
-    }
-}
 
 /// What a word below 100 chooses where a letter is ahead.
 fn turn_by(loss: u32, repeat: u32, word: u32, ahead: u32, last: Option<u32>) -> Choice
@@ -55,7 +30,7 @@ pub struct Chooser {
 }
 
 impl Model for Chooser {
-    ghost use Rattle.am_chooser.specs.Choices.{Luck};
+    ghost use Rattle.am_sharing.specs.Choices.{Luck};
 
     ghost Value = { Luck };
 

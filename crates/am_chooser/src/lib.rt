@@ -1,5 +1,4 @@
-//! Turns by drawn words: which letter a node hears, loses or hears again, and how far it has come with the letters for it.
+//! Turns by drawn words: which letter a node hears, loses or hears again.
 #![tactic(auto)]
 
 pub mod chooser;
-pub mod progress;

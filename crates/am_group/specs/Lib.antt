@@ -2,4 +2,3 @@ pub mod Journals
 pub mod Addressed
 pub mod Deliveries
 pub mod Groups
-pub mod Asked

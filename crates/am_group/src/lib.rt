@@ -1,9 +1,5 @@
-//! What happened in a group: its events and what they ask, their records, the journal of a run, and what it gave each name.
+//! What happened in a group as plain data: its events and their records, and the plans of races.
 #![tactic(auto)]
 
-pub mod addressed;
-pub mod asked;
-pub mod delivered;
 pub mod event;
-pub mod journal;
 pub mod plan;

@@ -4,7 +4,7 @@ ghost use Rattle.am_group.specs.Deliveries.{given_to, deliveries};
 use am_base::NoMemory;
 use am_base::entry::Entry;
 use am_base::name::Name;
-use am_group::delivered::given_to;
+use am_journal::delivered::given_to;
 use am_group::event::Record;
 use std::alloc::Global;
 

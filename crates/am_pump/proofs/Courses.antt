@@ -12,7 +12,7 @@ use Rattle.am_group.specs.declared.event.Act.TheVariants as act
 use Rattle.am_play.specs.World as model
 use Rattle.am_play.specs.Play.{count_outcomes}
 use Rattle.am_play.proofs.Runs.{one_record_each}
-use Rattle.am_group.specs.Asked.{hears}
+use Rattle.am_journal.specs.Asked.{hears}
 use Rattle.am_pump.specs.declared.course.Counts.{Counts}
 use Rattle.am_pump.specs.declared.places.Places.{Places}
 use Rattle.am_watcher.specs.declared.watcher.Watcher.{Watcher}
@@ -20,7 +20,7 @@ use Rattle.am_pump.specs.Places.{Begins, Moves}
 use Rattle.am_pump.specs.Courses.{first_lives, no_flags, Stands, Counted, counts_after, bit, IsBelow, IsCalm}
 use Rattle.am_world.proofs.{Begins.first_run, Begins.lives_at, Begins.none_at, Comes.gone_now, Comes.happens_comes, Goes.play_more, Goes.pass_goes_on, Acts.act_goes_on, Acts.ready_at}
 use Rattle.am_laws.proofs.Fresh.{place_now}
-use Rattle.am_group.specs.declared.asked.Heard.{Heard}
+use Rattle.am_journal.specs.declared.asked.Heard.{Heard}
 use Rattle.am_world.proofs.Words.{IsPacket, same_Some}
 use Rattle.am_world.proofs.Heard.{found_packet}
 use Rattle.am_world.proofs.Words.{drop, slice_get, Entry, IsEndOf, state_of, shown_of, told_step}

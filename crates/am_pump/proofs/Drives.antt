@@ -3,8 +3,8 @@ use Rattle.am_pump.proofs.Words.{◌≡◌, ℕ, zero, suc, ◌+◌, ◌≤◌, 
 use Rattle.am_pump.proofs.Words.{World, is_sent, after, GeneratedRun, generated_rules, sent_by, first_drive}
 use Rattle.am_pump.proofs.Words.{after_turn, drive_once, drive, events_of_seed, Turn}
 use Rattle.am_pump.proofs.Words.{◌++◌, sym, subst, Event, Choice, IsDriven, IsCalm, drawn, next_place, next_turn, next_event}
-use Rattle.am_chooser.specs.declared.chooser.Choice.TheVariants as choice
-use Rattle.am_chooser.specs.Choices.{act_of}
+use Rattle.am_sharing.specs.declared.choice.Choice.TheVariants as choice
+use Rattle.am_sharing.specs.Choices.{act_of}
 use Rattle.am_pump.specs.declared.generator.Generator.{Generator}
 use Rattle.am_pump.specs.declared.generator.Turn.TheVariants as turn
 use Rattle.am_pump.specs.Generating.{act_at, choice_at}

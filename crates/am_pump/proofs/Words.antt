@@ -18,8 +18,8 @@ pub use Rattle.am_group.proofs.Places.{letters_more}
 pub use Rattle.am_group.proofs.Seen.{seen_more, seen_to, seen_all, few}
 pub use Rattle.am_play.specs.{World.World, World.record_of, Settle.event_at}
 pub use Rattle.am_world.specs.Runs.{Play, after, replay}
-pub use Rattle.am_chooser.specs.{Choices.draw, Choices.after_draw, Choices.Luck, Choices.choice_of, Choices.again, Choices.progress_after}
-pub use Rattle.am_chooser.specs.{declared.chooser.Choice.Choice, declared.progress.Progress.Progress}
+pub use Rattle.am_sharing.specs.{Choices.draw, Choices.after_draw, Choices.Luck, Choices.choice_of, Choices.again, Choices.progress_after}
+pub use Rattle.am_sharing.specs.{declared.choice.Choice.Choice, declared.progress.Progress.Progress}
 pub use Rattle.rand_pcg.specs.Lcg.{Lcg}
 pub use Rattle.am_pump.specs.{declared.generator.Turn.Turn, Counts.AreSeen, Counts.seen_after, Counts.AreSent, Counts.IsDriven}
 pub use Rattle.am_pump.specs.{Counts.Turned, Counts.Drew, Generating.drawn, Generating.next_place, Generating.next_turn, Generating.next_event}

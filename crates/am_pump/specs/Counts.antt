@@ -3,9 +3,9 @@ use Rattle.std.specs.Prelude.{◌≡◌, ℕ, ◌<◌, List, length, slice_index
 use Rattle.am_packet.specs.Boxes.{Letter}
 use Rattle.am_group.specs.Addressed.{IsSeen}
 use Rattle.am_play.specs.World.{World}
-use Rattle.am_chooser.specs.declared.chooser.Choice.{Choice}
-use Rattle.am_chooser.specs.declared.chooser.Choice.TheVariants as choice
-use Rattle.am_chooser.specs.declared.progress.Progress.{Progress}
+use Rattle.am_sharing.specs.declared.choice.Choice.{Choice}
+use Rattle.am_sharing.specs.declared.choice.Choice.TheVariants as choice
+use Rattle.am_sharing.specs.declared.progress.Progress.{Progress}
 use Rattle.am_group.specs.declared.event.Act.{Act}
 use Rattle.am_group.specs.declared.event.Event.{Event}
 use Rattle.am_world.specs.Runs.{replay}

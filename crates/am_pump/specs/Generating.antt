@@ -13,11 +13,11 @@ use Rattle.am_play.specs.World.{World}
 use Rattle.am_base.specs.Outcomes.{is_sent}
 use Rattle.am_play.specs.Settle.{event_at}
 use Rattle.am_world.specs.Runs.{Play, replay, after}
-use Rattle.am_chooser.specs.Choices.{words_of, draw, after_draw, Luck, choice_of, luck_after, act_of, progress_after}
-use Rattle.am_chooser.specs.declared.chooser.Choice.{Choice}
+use Rattle.am_sharing.specs.Choices.{words_of, draw, after_draw, Luck, choice_of, luck_after, act_of, progress_after}
+use Rattle.am_sharing.specs.declared.choice.Choice.{Choice}
 use Rattle.am_pump.specs.declared.generator.Turn.{Turn}
 use Rattle.am_pump.specs.declared.generator.Turn.TheVariants as turn
-use Rattle.am_chooser.specs.declared.progress.Progress.{Progress}
+use Rattle.am_sharing.specs.declared.progress.Progress.{Progress}
 
 -- the founders of generated runs are places 0 to 3
 abbrev pub generated_rules : Rules

@@ -1,6 +1,6 @@
 ghost use Rattle.std.specs.Prelude.{◌≡◌, ◌+◌, ◌<◌, ◌≤◌, length, IfOk};
 ghost use Rattle.am_base.specs.Most.{most_events};
-ghost use Rattle.am_chooser.specs.Choices.{draw, after_draw};
+ghost use Rattle.am_sharing.specs.Choices.{draw, after_draw};
 ghost use Rattle.am_pump.specs.Counts.{seen_after};
 ghost use Rattle.am_pump.specs.Generating.{most_drawn, turn_of, counting};
 
@@ -9,8 +9,9 @@ use crate::generate::founding;
 use am_base::NoMemory;
 use am_base::body::SentBody;
 use am_base::name::Name;
-use am_chooser::chooser::{Choice, Chooser};
-use am_chooser::progress::Progress;
+use am_chooser::chooser::Chooser;
+use am_sharing::choice::Choice;
+use am_sharing::progress::Progress;
 use am_group::event::{Act, Event};
 use am_world::world::WorldRefusal;
 use rand_pcg::Lcg64Xsh32;

@@ -13,7 +13,7 @@ use Rattle.am_races.proofs.{Knows.knows, Knows.name_now, Knows.told_more, Knows.
 use Rattle.am_races.proofs.{Acting.numbers_left, Acting.step_comes, Acting.Comes}
 use Rattle.am_base.specs.declared.outcome.Outcome.TheVariants as said
 use Rattle.am_group.specs.declared.event.Act.TheVariants as act
-use Rattle.am_wire.specs.declared.wire.WireRefusal.TheVariants as refusals
+use Rattle.am_sharing.specs.declared.terms.WireRefusal.TheVariants as refusals
 use Rattle.std.proofs.lemmas.Bool.{or_left}
 
 -- ---- records of a key

@@ -11,7 +11,7 @@ use Rattle.am_races.proofs.Words.{WireRefusal, Place, Caller, of_key, GoesOn, re
 use Rattle.am_races.proofs.{Apart.others_are_apart, Knows.knows, Knows.name_now, Nexts.nodes_stay, Nexts.stopped_in_more, Stays.next_stays}
 use Rattle.am_races.proofs.{Stays.first_apart, Boxing.Beyond, Boxing.beyond, Boxing.none_of, Boxing.own_key, Boxing.not_equal, Turning.ahead_is_sent}
 use Rattle.am_group.specs.declared.event.Act.TheVariants as act
-use Rattle.am_chooser.specs.declared.chooser.Choice.TheVariants as choice
+use Rattle.am_sharing.specs.declared.choice.Choice.TheVariants as choice
 use Rattle.std.proofs.lemmas.Bool.{and_parts, and_from, not-true, or_left}
 
 -- ---- what is known

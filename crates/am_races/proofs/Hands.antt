@@ -11,8 +11,8 @@ use Rattle.am_races.proofs.Words.{end_act, end_part, IsOwn, IsCame, luck_behind,
 use Rattle.am_races.proofs.{Acting.told_is_run, Acting.events_of, Boxing.same_closed, Knows.knows, Knows.name_now, Growing.one_grown, Growing.not_grown}
 use Rattle.am_races.proofs.{Requests.requests_once, Requests.Once, Telling.after_tells, Telling.take_tells}
 use Rattle.am_group.specs.declared.event.Act.TheVariants as act
-use Rattle.am_chooser.specs.declared.chooser.Choice.TheVariants as choice
-use Rattle.am_chooser.specs.Choices as pump
+use Rattle.am_sharing.specs.declared.choice.Choice.TheVariants as choice
+use Rattle.am_sharing.specs.Choices as pump
 
 -- ---- words
 

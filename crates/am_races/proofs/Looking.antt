@@ -8,7 +8,7 @@ use Rattle.am_races.proofs.Words.{ToldBy, EndTells, Grown, Asked, Began, Turned,
 use Rattle.am_races.proofs.{Growing.not_grown, Growing.call_grows, Hands.hand_share, Hands.hand_sees, Hands.hand_asks, Hands.hand_turns, Hands.may_turn}
 use Rattle.am_races.proofs.{Hands.used_due}
 use Rattle.am_group.specs.declared.event.Act.TheVariants as act
-use Rattle.am_wire.specs.declared.wire.WireRefusal.TheVariants as refusals
+use Rattle.am_sharing.specs.declared.terms.WireRefusal.TheVariants as refusals
 use Rattle.am_races.specs.declared.call.Looked.TheVariants as looked
 
 -- ---- what an act leaves to its caller

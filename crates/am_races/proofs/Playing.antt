@@ -7,7 +7,7 @@ use Rattle.am_races.proofs.Words.{WireRefusal, has_stopped, Answer, of_caller, o
 use Rattle.am_races.proofs.Words.{are_finished, Calling, Called, IsUnanswered, IsAnswer, of_next, calls_in, HasPlayed, HasRun, most_of, refusal_in}
 use Rattle.am_races.proofs.Words.{ends_thread, fresh_caller}
 use Rattle.am_races.proofs.Running.{next_call, calls_so_far}
-use Rattle.am_wire.specs.declared.wire.WireRefusal.TheVariants as refusals
+use Rattle.am_sharing.specs.declared.terms.WireRefusal.TheVariants as refusals
 use Rattle.am_races.specs.declared.answer.Answer.TheVariants as answer
 use Rattle.std.proofs.lemmas.Bool.{and_from}
 

@@ -7,7 +7,7 @@ use Rattle.am_races.proofs.Words.{has_stopped, rest_of, of_caller, are_finished,
 use Rattle.am_races.proofs.Words.{calls_in, calls_of, HasPlayed, HasRun, IsPlanned, EndsFor, first_refusal, fresh_callers, numbers_of, calls_made, calls_by}
 use Rattle.am_races.proofs.{Nexts.stopped_in_more, Counting.one_lacks, Joined.caller_at, Making.calls_longer}
 use Rattle.am_races.proofs.{Fresh.fresh_numbers, Running.called_numbers}
-use Rattle.am_wire.specs.declared.wire.WireRefusal.TheVariants as refusals
+use Rattle.am_sharing.specs.declared.terms.WireRefusal.TheVariants as refusals
 use Rattle.std.proofs.lemmas.Bool.{and_from, or_left}
 
 -- ---- one caller

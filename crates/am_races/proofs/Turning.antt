@@ -9,7 +9,7 @@ use Rattle.am_races.proofs.Words.{last_heard, unless_nought, or_nought, IsLawful
 use Rattle.am_races.proofs.Words.{GivesUp, Hears, heard_in, node_by, Choice, Luck, again, choice_of, Place, IsPacket, rest_of, goes_through, filter-append}
 use Rattle.am_races.proofs.{Knows.each_keeps, Boxing.place_last, Names.are_stopped, Nexts.item_more}
 use Rattle.am_group.specs.declared.event.Act.TheVariants as act
-use Rattle.am_chooser.specs.declared.chooser.Choice.TheVariants as choice
+use Rattle.am_sharing.specs.declared.choice.Choice.TheVariants as choice
 use Rattle.std.proofs.lemmas.Bool.{and_parts, and_from, false_from_ne_true}
 use Rattle.std.proofs.lemmas.Option.{IfSome_then}
 

@@ -14,11 +14,11 @@ pub use Rattle.std.proofs.{lemmas.List.Folds.list_any-append, lemmas.List.Folds.
 pub use Rattle.std.proofs.{lemmas.Nat.mul-le, lemmas.Option.none-some, lemmas.Option.slice_get_cases, lemmas.Option.slice_get-get_or, lemmas.Option.same_Some}
 pub use Rattle.std.specs.Prelude.{if◌then◌else◌, not, ◌==◌, ◌&&◌, ◌||◌, All, nat_lt, is_none, ◌⊎◌, fold, slice_index, slice_set, replicate, IfSome, IfNone}
 pub use Rattle.std.specs.{List.list_any, List.range_with_len, List.list_all, List.prefix_len, Option.option_or}
-pub use Rattle.am_wire.proofs.Views.{rest_of, times_cons, goes_through, starts_by, starts_through, times_append, goes_same}
-pub use Rattle.am_wire.specs.{Keys.is_of, Keys.of_key, Keys.times, Keys.same_key, Passes.Known, Passes.IsReady, Passes.Committed, Passes.Sees, Passes.fresh}
-pub use Rattle.am_wire.specs.{Passes.Joined, Passes.HasAll, Seats.Follows, Seats.GoesOn, Seats.StartsWith, Stops.has_stopped, Stops.is_stop, Stops.has_life}
-pub use Rattle.am_wire.specs.{Stops.with_stop, Stops.stopped_names, declared.rule.Key.Key, declared.rule.Key.TheVariants.Place}
-pub use Rattle.am_wire.specs.{declared.rule.Key.TheVariants.Caller, declared.rule.Terms.Terms, declared.wire.WireRefusal.WireRefusal}
+pub use Rattle.am_sharing.proofs.Sights.{rest_of, times_cons, goes_through, starts_by, starts_through, times_append, goes_same}
+pub use Rattle.am_sharing.specs.{Keys.is_of, Keys.of_key, Keys.times, Keys.same_key, Passes.Known, Passes.IsReady, Passes.Committed, Passes.Sees, Passes.fresh}
+pub use Rattle.am_sharing.specs.{Passes.Joined, Passes.HasAll, Sights.Follows, Sights.GoesOn, Sights.StartsWith, Stops.has_stopped, Stops.is_stop, Stops.has_life}
+pub use Rattle.am_sharing.specs.{Stops.with_stop, Stops.stopped_names, declared.terms.Key.Key, declared.terms.Key.TheVariants.Place}
+pub use Rattle.am_sharing.specs.{declared.terms.Key.TheVariants.Caller, declared.terms.Terms.Terms, declared.terms.WireRefusal.WireRefusal}
 pub use Rattle.atomic_table.specs.Seated.{TableId}
 pub use mathlib.Core.Logic.{dite}
 pub use native.Mathlib.Decide.{ℕ_discrete}
@@ -47,8 +47,8 @@ pub use Rattle.am_meaning.proofs.Bytes.{spelling_is_heard}
 pub use Rattle.am_laws.proofs.{Ballots.entry_is, EffectRuns.along, EffectRuns.EachKeeps, EffectRuns.runs_keep, Events.events_have_effects, Rests.refresh_is}
 pub use Rattle.am_laws.proofs.{RunCounts.numbers_hold}
 pub use Rattle.am_laws.specs.{Causes.Cause, Events.Happens, Events.idles, Events.stops, Events.returns, Events.steps, Events.actor}
-pub use Rattle.am_chooser.specs.Choices.{Luck, again, choice_of, act_of, words_of, draw, after_draw}
-pub use Rattle.am_chooser.specs.{declared.chooser.Choice.Choice}
+pub use Rattle.am_sharing.specs.Choices.{Luck, again, choice_of, act_of, words_of, draw, after_draw}
+pub use Rattle.am_sharing.specs.{declared.choice.Choice.Choice}
 pub use Rattle.am_races.specs.Answers.{is_take, is_end_of, or_else, late_after, late, is_end, ballot_answer, join_answer, leave_answer, left_answer}
 pub use Rattle.am_races.specs.Answers.{send_answer, take_answer, stop_answer, queued_request, request_in, request_of, request_by, put_off_in, answer_in}
 pub use Rattle.am_races.specs.Answers.{act_of_call, first_answer}
@@ -69,7 +69,7 @@ pub use Rattle.am_races.specs.{Laws.OthersAreApart, Laws.IsApart, Laws.IsLeft, L
 pub use Rattle.am_races.specs.{Plans.is_call, Plans.has_check, Plans.calls_in, Plans.MayRace, Plans.ArePlayed, Plans.calls_of, Ready.round_in}
 pub use Rattle.am_races.specs.{Ready.is_ready_after, Ready.may_take, Ready.is_sent, Ready.is_ended, Told.IsNext, Told.tells, declared.answer.Answer.Answer}
 pub use Rattle.am_races.specs.{declared.call.Came.Came, declared.call.Looked.Looked, declared.call.Tag.Tag}
-unfoldable pub use Rattle.am_wire.specs.Keys.{place_keys, caller_keys}
+unfoldable pub use Rattle.am_sharing.specs.Keys.{place_keys, caller_keys}
 unfoldable pub use Rattle.am_group.specs.Addressed.{next_for}
 unfoldable pub use Rattle.am_model.specs.{Emit.finish, Refresh.settle, Refresh.refresh_at_end, Step.step, Step.row}
 unfoldable pub use Rattle.am_play.specs.World.{with_record, with_step, happens, happen}

@@ -22,19 +22,19 @@ use Rattle.am_packet.specs.Boxes.{Letter}
 use Rattle.am_model.specs.Node.{Node}
 use Rattle.am_model.specs.Step.{row}
 use Rattle.am_model.specs.Ends.{IsEndOf, Does}
-use Rattle.am_wire.specs.declared.rule.Key.TheVariants.{Place, Caller}
-use Rattle.am_wire.specs.declared.wire.WireRefusal.{WireRefusal}
-use Rattle.am_wire.specs.declared.wire.WireRefusal.TheVariants as refusals
-use Rattle.am_wire.specs.Passes.{Known}
-use Rattle.am_wire.specs.Seats.{Follows, GoesOn}
-use Rattle.am_wire.specs.Stops.{has_stopped}
+use Rattle.am_sharing.specs.declared.terms.Key.TheVariants.{Place, Caller}
+use Rattle.am_sharing.specs.declared.terms.WireRefusal.{WireRefusal}
+use Rattle.am_sharing.specs.declared.terms.WireRefusal.TheVariants as refusals
+use Rattle.am_sharing.specs.Passes.{Known}
+use Rattle.am_sharing.specs.Sights.{Follows, GoesOn}
+use Rattle.am_sharing.specs.Stops.{has_stopped}
 use Rattle.am_races.specs.Answers.{is_end_of}
 use Rattle.am_races.specs.Told.{world_after}
 use Rattle.am_races.specs.Turns.{cursor, last_heard, is_waited, is_least, waits_in_vain, is_turn, may_end}
-use Rattle.am_chooser.specs.declared.chooser.Choice.{Choice}
-use Rattle.am_chooser.specs.declared.chooser.Choice.TheVariants as choice
+use Rattle.am_sharing.specs.declared.choice.Choice.{Choice}
+use Rattle.am_sharing.specs.declared.choice.Choice.TheVariants as choice
 use Rattle.am_base.specs.Names.{place_of, has}
-use Rattle.am_chooser.specs.Choices.{Luck, choice_of, act_of}
+use Rattle.am_sharing.specs.Choices.{Luck, choice_of, act_of}
 use Rattle.am_races.specs.Lawful.{IsLawful, is_of_race, plan_by, terms_of}
 use Rattle.am_races.specs.Tags.{is_turn_part}
 use Rattle.am_races.specs.declared.call.Came.{Came}

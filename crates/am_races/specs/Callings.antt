@@ -7,11 +7,11 @@ use Rattle.am_base.specs.Names.{place_of}
 use Rattle.am_group.specs.declared.event.Act.{Act}
 use Rattle.am_group.specs.declared.event.Record.{Record}
 use Rattle.am_group.specs.declared.plan.RacePlan.{RacePlan}
-use Rattle.am_chooser.specs.Choices.{Luck, words_of}
-use Rattle.am_wire.specs.declared.rule.Key.TheVariants.{Caller}
-use Rattle.am_wire.specs.Passes.{Known}
-use Rattle.am_wire.specs.Seats.{StartsWith}
-use Rattle.am_wire.specs.Stops.{has_stopped}
+use Rattle.am_sharing.specs.Choices.{Luck, words_of}
+use Rattle.am_sharing.specs.declared.terms.Key.TheVariants.{Caller}
+use Rattle.am_sharing.specs.Passes.{Known}
+use Rattle.am_sharing.specs.Sights.{StartsWith}
+use Rattle.am_sharing.specs.Stops.{has_stopped}
 use Rattle.am_races.specs.declared.answer.Answer.{Answer}
 use Rattle.am_races.specs.declared.answer.Answer.TheVariants as answer
 use Rattle.am_races.specs.Tags.{of_caller, of_call}

@@ -18,11 +18,11 @@ use Rattle.am_base.specs.declared.event.NodeEvent.{NodeEvent}
 use Rattle.am_play.specs.Claims.{heard_by}
 use Rattle.am_model.specs.Node.{Node}
 use Rattle.am_model.specs.Step.{step}
-use Rattle.am_chooser.specs.Choices.{Luck, after_draw}
-use Rattle.am_wire.specs.declared.rule.Key.TheVariants.{Caller}
-use Rattle.am_wire.specs.Passes.{Known}
-use Rattle.am_wire.specs.Seats.{StartsWith, GoesOn}
-use Rattle.am_wire.specs.Stops.{has_stopped}
+use Rattle.am_sharing.specs.Choices.{Luck, after_draw}
+use Rattle.am_sharing.specs.declared.terms.Key.TheVariants.{Caller}
+use Rattle.am_sharing.specs.Passes.{Known}
+use Rattle.am_sharing.specs.Sights.{StartsWith, GoesOn}
+use Rattle.am_sharing.specs.Stops.{has_stopped}
 use Rattle.am_races.specs.declared.answer.Answer.{Answer}
 use Rattle.am_races.specs.declared.answer.Answer.TheVariants as answer
 use Rattle.am_races.specs.declared.call.Tag.{Tag}

@@ -8,8 +8,8 @@ use Rattle.am_group.specs.declared.event.Act.TheVariants as act
 use Rattle.am_group.specs.declared.event.Record.{Record}
 use Rattle.am_group.specs.declared.plan.RacePlan.{RacePlan}
 use Rattle.am_group.specs.Deliveries.{name_of}
-use Rattle.am_wire.specs.declared.rule.Terms.{Terms}
-use Rattle.am_wire.specs.Stops.{has_stopped}
+use Rattle.am_sharing.specs.declared.terms.Terms.{Terms}
+use Rattle.am_sharing.specs.Stops.{has_stopped}
 use Rattle.am_races.specs.Told.{IsNext}
 use Rattle.am_races.specs.Tags.{is_turn_part}
 use Rattle.am_races.specs.Answers.{is_end}

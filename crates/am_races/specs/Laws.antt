@@ -7,11 +7,11 @@ use Rattle.am_group.specs.declared.event.Event.{Event}
 use Rattle.am_group.specs.declared.event.Record.{Record}
 use Rattle.am_group.specs.declared.plan.RacePlan.{RacePlan}
 use Rattle.am_play.specs.Legal.{IsLegal}
-use Rattle.am_wire.specs.declared.rule.Key.TheVariants.{Place, Caller}
-use Rattle.am_wire.specs.declared.rule.Terms.{Terms}
-use Rattle.am_wire.specs.Keys.{of_key}
-use Rattle.am_wire.specs.Seats.{Follows}
-use Rattle.am_wire.specs.Stops.{stopped_names, has_stopped}
+use Rattle.am_sharing.specs.declared.terms.Key.TheVariants.{Place, Caller}
+use Rattle.am_sharing.specs.declared.terms.Terms.{Terms}
+use Rattle.am_sharing.specs.Keys.{of_key}
+use Rattle.am_sharing.specs.Sights.{Follows}
+use Rattle.am_sharing.specs.Stops.{stopped_names, has_stopped}
 use Rattle.am_races.specs.Told.{world_after, IsNext}
 use Rattle.am_races.specs.Turns.{is_turn}
 use Rattle.am_races.specs.Lawful.{IsLawful}

@@ -9,7 +9,7 @@ use Rattle.am_group.specs.declared.plan.RacePlan.{RacePlan}
 use Rattle.am_group.specs.declared.plan.ThreadPlan.{ThreadPlan}
 use Rattle.am_group.specs.Deliveries.{name_of}
 use Rattle.am_play.specs.Legal.{IsLegal}
-use Rattle.am_wire.specs.Stops.{has_stopped}
+use Rattle.am_sharing.specs.Stops.{has_stopped}
 use Rattle.am_races.specs.Tags.{of_caller, is_turn_part}
 use Rattle.am_races.specs.Answers.{is_end}
 use Rattle.am_races.specs.Turns.{is_turn, may_end}

@@ -7,13 +7,13 @@ use Rattle.am_group.specs.declared.event.Act.{Act}
 use Rattle.am_group.specs.declared.event.Record.{Record}
 use Rattle.am_group.specs.declared.plan.RacePlan.{RacePlan}
 use Rattle.am_group.specs.declared.plan.ThreadPlan.{ThreadPlan}
-use Rattle.am_wire.specs.declared.wire.WireRefusal.{WireRefusal}
-use Rattle.am_wire.specs.declared.wire.WireRefusal.TheVariants as refusals
-use Rattle.am_wire.specs.declared.rule.Key.TheVariants.{Place, Caller}
-use Rattle.am_wire.specs.Keys.{times}
-use Rattle.am_wire.specs.Passes.{Known}
-use Rattle.am_wire.specs.Seats.{StartsWith, GoesOn}
-use Rattle.am_wire.specs.Stops.{has_stopped}
+use Rattle.am_sharing.specs.declared.terms.WireRefusal.{WireRefusal}
+use Rattle.am_sharing.specs.declared.terms.WireRefusal.TheVariants as refusals
+use Rattle.am_sharing.specs.declared.terms.Key.TheVariants.{Place, Caller}
+use Rattle.am_sharing.specs.Keys.{times}
+use Rattle.am_sharing.specs.Passes.{Known}
+use Rattle.am_sharing.specs.Sights.{StartsWith, GoesOn}
+use Rattle.am_sharing.specs.Stops.{has_stopped}
 use Rattle.am_races.specs.Tags.{of_caller}
 use Rattle.am_races.specs.declared.answer.Answer.{Answer}
 use Rattle.am_races.specs.declared.answer.Answer.TheVariants as answer

@@ -18,10 +18,10 @@ use Rattle.am_play.specs.Claims.{heard_by}
 use Rattle.am_model.specs.Node.{Node}
 use Rattle.am_play.specs.World.{World, current}
 use Rattle.am_model.specs.Info.{waited_for}
-use Rattle.am_chooser.specs.declared.chooser.Choice.{Choice}
-use Rattle.am_chooser.specs.declared.chooser.Choice.TheVariants as choice
-use Rattle.am_chooser.specs.Choices.{words_of, after_draw, choice_of}
-use Rattle.am_wire.specs.Stops.{has_stopped}
+use Rattle.am_sharing.specs.declared.choice.Choice.{Choice}
+use Rattle.am_sharing.specs.declared.choice.Choice.TheVariants as choice
+use Rattle.am_sharing.specs.Choices.{words_of, after_draw, choice_of}
+use Rattle.am_sharing.specs.Stops.{has_stopped}
 use Rattle.am_races.specs.Told.{world_after}
 use Rattle.am_races.specs.Tags.{of_place, of_caller, of_call, own_of, is_turn_part, up_to_last}
 use Rattle.am_races.specs.Ready.{is_ready}

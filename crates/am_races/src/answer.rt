@@ -4,7 +4,7 @@ ghost use Rattle.am_races.specs.Ran.{refusal_in};
 use am_base::entry::Entry;
 use am_base::name::Stamp;
 use am_base::names::Names;
-use am_wire::wire::WireRefusal;
+use am_sharing::terms::WireRefusal;
 
 /// What a blocking call answers.
 #[derive(Drop, Debug)]

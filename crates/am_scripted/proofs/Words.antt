@@ -7,7 +7,7 @@ pub use Rattle.std.proofs.lemmas.List.Elements.{All-nil, All-cons, All-map, All-
 pub use Rattle.std.proofs.{Math.Seq.drop-append_seam, lemmas.Bool.and_parts, lemmas.Bool.Decides.nat_tests, lemmas.List.length-append}
 pub use Rattle.std.proofs.{lemmas.List.length-map, lemmas.List.Concat.flat_map-append, lemmas.Option.none-some, lemmas.Option.slice_get_within}
 pub use Rattle.std.specs.{Option.ok_or, Option.option_map_or, Prelude.All}
-pub use Rattle.am_wire.specs.{Seats.Follows, Stops.has_stopped}
+pub use Rattle.am_sharing.specs.{Sights.Follows, Stops.has_stopped}
 pub use Rattle.hex.proofs.HexLemmas.{decode_of-ok}
 pub use Rattle.hex.specs.Hex.{IsBytes, decode_of}
 pub use Rattle.serde_json.specs.{Events.items_len, Find.as_array, Find.as_object}

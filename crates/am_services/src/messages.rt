@@ -8,7 +8,7 @@ ghost use Rattle.am_services.specs.Telling.{assembled_with, messages_told};
 
 use am_base::NoMemory;
 use am_base::name::Name;
-use am_group::delivered::given_to;
+use am_journal::delivered::given_to;
 use am_group::event::Record;
 use am_seg::assembler::Assembler;
 use am_seg::fed::Fed;

@@ -1,4 +1,5 @@
-use am_chooser::chooser::{Choice, Chooser};
+use am_chooser::chooser::Chooser;
+use am_sharing::choice::Choice;
 use std::test::*;
 
 /// The letter ahead, or 0, the last one that was heard, or 0, and what is chosen.

@@ -5,7 +5,7 @@ use am_base::name::Name;
 use am_base::names::Names;
 use am_base::outcome::Outcome;
 use am_group::event::{Act, By, Event, Record};
-use am_group::journal::Journal;
+use am_journal::journal::Journal;
 use am_letter::letter::letter_of;
 use am_list::group::Group;
 use am_packet::letter::Letter;

@@ -1,9 +1,9 @@
 -- What a commit leaves.
-use Rattle.am_wire.proofs.Words.{◌≡◌, ℕ, ◌+◌, ◌<◌, Bool, true, false, List, [], ◌∷◌, ◌++◌, length, take, drop, Result, Ok, Err, IfOk, OnOk, OnErr, sym, refl}
-use Rattle.am_wire.proofs.Words.{ap, ◌∙◌, subst, arith, eq-eqb, if◌then◌else◌, most_events, TableId, Record, Key, Place, Caller, Terms, View, WireRefusal}
-use Rattle.am_wire.proofs.Words.{same_key, times, Sat, view, GoesOn, Follows, IsIdle, HasTurn, Takes, Unites, Parts, Adds, Known, known_by, Sees, Committed}
-use Rattle.am_wire.proofs.{Views.times_append, Views.times_cons, Views.goes_through, Keeps.follows_more, Passing.Sits, Passing.goes_at, Passing.first_key}
-use Rattle.am_wire.proofs.{Passing.sees_by}
+use Rattle.am_wire.proofs.Words.{◌≡◌, ℕ, ◌+◌, ◌<◌, false, List, [], ◌∷◌, ◌++◌, length, take, drop, Result, Ok, Err, IfOk, OnOk, OnErr, sym, refl}
+use Rattle.am_wire.proofs.Words.{ap, ◌∙◌, subst, arith, most_events, TableId, Record, Key, Terms, View, WireRefusal}
+use Rattle.am_wire.proofs.Words.{times, Sat, view, GoesOn, Follows, IsIdle, HasTurn, Takes, Unites, Parts, Adds, Known, known_by, Sees, Committed}
+use Rattle.am_wire.proofs.Words.{times_append, goes_through}
+use Rattle.am_wire.proofs.{Keeps.follows_more, Passing.Sits, Passing.goes_at, Passing.first_key, Passing.sees_by}
 
 -- a seat of two passes has taken the slot
 pub record Holds (next : Terms → List Record → Record → Type 0) (p q : Known) (t : Sat) : Type 0 where

@@ -2,8 +2,7 @@
 use Rattle.am_wire.proofs.Words.{◌≡◌, ℕ, zero, suc, ◌+◌, ◌<◌, ◌≤◌, Bool, false, nat_lt, eqb, List, [], ◌∷◌, ◌++◌, length, map, take, drop, sym, refl, ap}
 use Rattle.am_wire.proofs.Words.{◌∙◌, arith, eq-eqb, ne_eqb, length-append, length-drop, if◌then◌else◌, range_with_len, lt-ltb, le-ltb, take-length}
 use Rattle.am_wire.proofs.Words.{length-take, length-map-range_with_len, dite, ℕ_discrete, TableId, Key, Place, Caller, Terms, same_key, times, is_key}
-use Rattle.am_wire.proofs.Words.{place_keys, caller_keys, all_keys, Sat, IsIdle, Parts, Known, fresh}
-use Rattle.am_wire.proofs.Views.{times_append, times_cons}
+use Rattle.am_wire.proofs.Words.{place_keys, caller_keys, all_keys, Sat, IsIdle, Parts, Known, fresh, times_append, times_cons}
 
 abbrev one : Bool → ℕ
 one b = if b then 1 else 0

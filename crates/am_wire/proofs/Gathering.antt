@@ -1,8 +1,7 @@
 -- Passes are joined one by one.
-use Rattle.am_wire.proofs.Words.{◌≡◌, ℕ, zero, suc, ◌<◌, ◌≤◌, List, [], ◌∷◌, ◌++◌, length, get_or, refl, ap, ◌∙◌, arith, true, All, sum_by, if◌then◌else◌}
-use Rattle.am_wire.proofs.Words.{map, sum_by-append, sum_by-cons, All-append, TableId, Key, Terms, times, is_key, all_keys, GoesOn, Known, fresh, Joined}
-use Rattle.am_wire.proofs.Words.{Gathered, HasAll}
-use Rattle.am_wire.proofs.{Views.times_append, Views.times_cons, Views.goes_through, Views.goes_same, Dealt.each_once}
+use Rattle.am_wire.proofs.Words.{◌≡◌, ℕ, zero, suc, ◌<◌, ◌≤◌, List, [], ◌∷◌, ◌++◌, length, get_or, refl, ap, arith, sum_by}
+use Rattle.am_wire.proofs.Words.{sum_by-append, sum_by-cons, All-append, Key, times, GoesOn, Known, Joined}
+use Rattle.am_wire.proofs.Words.{Gathered, times_append, goes_through}
 
 -- a key of one of several is one of all
 some_of_sum : (made : List Known) (key : Key) (k : ℕ) (d : Known) → k < length made → times key (get_or made k d).keys ≤ sum_by (λ q. times key q.keys) made

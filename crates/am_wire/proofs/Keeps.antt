@@ -5,8 +5,8 @@ use Rattle.am_wire.proofs.Words.{if◌then◌else◌, most_events, Option, none,
 use Rattle.am_wire.proofs.Words.{take-append_seam, drop-append_seam, All-append, step, keeps, takes, gives, stepped, Allows, put_back, rest, at_set, at_snoc}
 use Rattle.am_wire.proofs.Words.{at_longer, set_again, set_else, place_of, Record, Key, Place, Caller, Sight, Terms, View, is_of, of_key, times, is_key}
 use Rattle.am_wire.proofs.Words.{Page, view, StartsWith, Follows, Shown, Sat, standing, Fits, IsFree, IsTaken, Stands, IsIdle, HasTurn, take_step}
-use Rattle.am_wire.proofs.Words.{page_records, count_step, give_step}
-use Rattle.am_wire.proofs.Views.{rest_of, starts_by, starts_through, key_append, goes_same, stand_set, stand_one, stand_two}
+use Rattle.am_wire.proofs.Words.{page_records, count_step, give_step, rest_of, starts_by, starts_through, key_append, goes_same}
+use Rattle.am_wire.proofs.Views.{stand_set, stand_one, stand_two}
 
 abbrev pub page : Terms → List Record → Page
 page terms log = record { founding = terms.founding; records = log }

@@ -1,7 +1,7 @@
 -- What a pass tells of its seat.
-use Rattle.am_wire.proofs.Words.{◌≡◌, ◌<◌, ◌≤◌, false, List, [], ◌∷◌, ◌++◌, length, take, drop, sym, refl, ap, ◌∙◌, subst, arith, length-append, most_events}
-use Rattle.am_wire.proofs.Words.{TableId, Terms, View, Record, Key, Sat, view, longer, GoesOn, Follows, IsIdle, Takes, Unites, Parts, Known, known_by, Rests}
-use Rattle.am_wire.proofs.Words.{Sees, Joined}
+use Rattle.am_wire.proofs.Words.{◌≡◌, ◌<◌, ◌≤◌, List, [], ◌∷◌, ◌++◌, length, take, drop, sym, refl, ap, ◌∙◌, subst, arith, most_events}
+use Rattle.am_wire.proofs.Words.{TableId, Terms, View, Record, Key, Sat, longer, GoesOn, Follows, IsIdle, Unites, Parts, Known, known_by, Rests}
+use Rattle.am_wire.proofs.Words.{Sees}
 
 -- the seat of a pass between two calls
 pub record Sits (p : Known) (id : TableId) (m : Sat) : Type 0 where

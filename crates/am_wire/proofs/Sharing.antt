@@ -4,8 +4,9 @@ use Rattle.am_wire.proofs.Words.{sym, refl, ap, ◌∙◌, subst, inl, inr, arit
 use Rattle.am_wire.proofs.Words.{none, some, some-injective, some-ne-none, get_elem?, lt-ltb, take-append-drop, length-take, mod-lt, step, opening, keeps}
 use Rattle.am_wire.proofs.Words.{Allows, Splits, Joins, Final, Seen, rest, at_set, at_snoc, set_else, place_of, Record, Key, Place, Caller, Sight, Terms}
 use Rattle.am_wire.proofs.Words.{View, is_of, of_key, same_key, times, all_keys, Page, view, sight_of, no_terms, longer, StartsWith, GoesOn, Follows, Shown}
-use Rattle.am_wire.proofs.Words.{Sat, standing, Fits, Stands, Looks, look_step, Unites, HasAll}
-use Rattle.am_wire.proofs.Views.{rest_of, key_append, goes_same, times_append, times_cons, BothGo, both_go, stand_set, stand_last}
+use Rattle.am_wire.proofs.Words.{Sat, standing, Fits, Stands, Looks, look_step, Unites, HasAll, rest_of, key_append, goes_same, times_append, times_cons}
+use Rattle.am_wire.proofs.Words.{BothGo, both_go}
+use Rattle.am_wire.proofs.Views.{stand_set, stand_last}
 use Rattle.am_wire.proofs.Keeps.{page, same_count, kept_keys, nothing_there, none_older, unturned, turns_set, turns_last, turns_through, with_views, alone}
 use Rattle.am_wire.proofs.Keeps.{key_of_wire, follows_first}
 use Rattle.am_wire.proofs.{Dealt.each_once}

@@ -1,5 +1,3 @@
-pub mod Keys
-pub mod Stops
 pub mod Looks
 pub mod Seats
-pub mod Passes
+pub mod Wires

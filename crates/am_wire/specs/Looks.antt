@@ -1,5 +1,5 @@
 -- How far letters were looked through.
-use Rattle.std.specs.Prelude.{◌≡◌, ℕ, List, length, All}
+use Rattle.std.specs.Prelude.{◌≡◌, List, length, All}
 use Rattle.am_packet.specs.Boxes.{Letter}
 use Rattle.am_group.specs.Addressed.{IsSeen}
 use Rattle.am_wire.specs.declared.sheet.Look.{Look}

@@ -1,17 +1,18 @@
 -- The rule of the wire, and what its steps tell.
-use Rattle.std.specs.Prelude.{◌≡◌, ◌≢◌, ◌⊎◌, ℕ, ◌+◌, ◌*◌, ◌<◌, ◌≤◌, Bool, true, false, List, [], ◌∷◌, ◌++◌, length, take, drop, slice_index, nat_lt}
+use Rattle.std.specs.Prelude.{◌≡◌, ◌≢◌, ◌⊎◌, ℕ, ◌<◌, ◌≤◌, Bool, true, false, List, [], ◌∷◌, ◌++◌, length, take, drop, slice_index}
 use Rattle.std.specs.Prelude.{if◌then◌else◌, All, sum_by}
 use Rattle.am_base.specs.Most.{most_events}
+use Rattle.am_base.specs.Founding.{Rules}
 use mathlib.Core.Option.{none, some}
 use lib.ListN.{get_elem?}
 use Rattle.atomic_table.specs.Table.{State, Me, Step}
 use Rattle.am_group.specs.declared.event.Record.{Record}
-use Rattle.am_wire.specs.declared.rule.Key.{Key}
+use Rattle.am_sharing.specs.declared.terms.Key.{Key}
+use Rattle.am_sharing.specs.declared.terms.Terms.{Terms}
+use Rattle.am_sharing.specs.Keys.{times, is_key}
+use Rattle.am_sharing.specs.Sights.{GoesOn, Follows, longer}
 use Rattle.am_wire.specs.declared.rule.Sight.{Sight}
-use Rattle.am_wire.specs.declared.rule.Terms.{Terms}
 use Rattle.am_wire.specs.declared.rule.View.{View}
-use Rattle.am_wire.specs.Keys.{of_key, times, is_key}
-use Rattle.am_wire.specs.Stops.{Page}
 
 -- ---- views
 
@@ -25,24 +26,10 @@ sight_of v = record { keys = v.keys; seen = v.seen }
 abbrev pub no_terms : Terms
 no_terms = record { founding = record { founders = []; resilience = 0; window = 0; pb_up_to = 0 }; callers = 0; seed = 0; loss = 0; repeat = 0; turns = 0 }
 
--- the longer of two lists
-abbrev pub longer : List Record → List Record → List Record
-longer xs ys = if nat_lt (length xs) (length ys) then ys else xs
-
--- ---- journals
-
--- a journal begins with some records
-abbrev pub StartsWith : List Record → List Record → Type 0
-StartsWith log seen = take (length seen) log ≡ seen
-
--- a journal goes on from what was seen, with no record more of these keys
-pub record GoesOn (keys : List Key) (seen log : List Record) : Type 0 where
-  pub begins : StartsWith log seen
-  pub own : (key : Key) → 0 < times key keys → of_key key log ≡ of_key key seen
-
--- each record comes next behind those before it
-abbrev pub Follows : (List Record → Record → Type 0) → List Record → Type 0
-Follows next log = (before rest : List Record) (r : Record) → log ≡ before ++ r ∷ rest → next before r
+-- what lies in the slot: a founding, and what happened since
+pub record Page : Type 0 where
+  pub founding : Rules
+  pub records : List Record
 
 -- ---- the rule
 

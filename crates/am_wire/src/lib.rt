@@ -5,4 +5,4 @@ mod rule;
 mod sheet;
 pub mod wire;
 
-pub use rule::{Key, Law, Terms};
+pub use rule::Law;

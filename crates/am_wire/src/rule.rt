@@ -1,39 +1,21 @@
 //! The rule of the table on which a wire stands, and what its steps tell.
 ghost use Rattle.std.specs.Prelude.{[], ◌∷◌, ◌++◌, false, take, drop};
-ghost use Rattle.am_wire.specs.Keys.{all_keys};
-ghost use Rattle.am_wire.specs.Seats.{Stands, view, take_step, count_step, give_step, look_step, longer, no_terms};
+ghost use Rattle.am_sharing.specs.Keys.{all_keys};
+ghost use Rattle.am_sharing.specs.Sights.{longer};
+ghost use Rattle.am_wire.specs.Seats.{Stands, view, take_step, count_step, give_step, look_step, no_terms};
 
 use crate::sheet::Sheet;
-use am_base::founding::Founding;
 use am_group::event::Record;
+use am_sharing::terms::{Key, Terms};
 use atomic_table::{Join, Play, Split, TableRule};
 use std::collections::LinkedList;
 use std::marker::PhantomData;
-
-/// Whose records a pass knows, all of them: those done at a place, 0 to 15, or those of a caller.
-#[derive(Clone, Copy, PartialEq, Eq, Debug)]
-pub enum Key {
-    Place(u8),
-    Caller(u32),
-}
-
-/// What a wire is told once: how its group begins, how many callers there are, the numbers of their choosers (the seed, and
-/// how many of a hundred letters are lost and how many more repeated), and how many turns a call has.
-#[derive(Drop)]
-pub struct Terms {
-    pub founding: Founding,
-    pub callers: u32,
-    pub seed: u64,
-    pub loss: u32,
-    pub repeat: u32,
-    pub turns: u32,
-}
 
 /// Which record may come next behind others, by the terms of a wire. Each record of the wire's journal does.
 pub trait Law: Send + Sync {
     ghost use Rattle.std.specs.Prelude.{List};
     ghost use Rattle.am_group.specs.declared.event.Record.{Record};
-    ghost use Rattle.am_wire.specs.declared.rule.Terms.{Terms};
+    ghost use Rattle.am_sharing.specs.declared.terms.Terms.{Terms};
 
     ghost next: { Terms → List Record → Record → Type 0 };
 }

@@ -2,14 +2,14 @@ ghost use Rattle.std.specs.Prelude.{◌≡◌, ◌<◌, ◌≤◌, ◌++◌, ◌
 ghost use Rattle.am_base.specs.Most.{most_events};
 ghost use Rattle.am_group.specs.Addressed.{next_for};
 ghost use Rattle.am_group.specs.Journals.{letters_of, letter_at};
-ghost use Rattle.am_wire.specs.Stops.{is_stop, with_stop, stopped_names};
+ghost use Rattle.am_sharing.specs.Stops.{is_stop, with_stop, stopped_names};
 
 use am_base::NoMemory;
 use am_base::founding::Founding;
 use am_base::name::Name;
 use am_base::names::Names;
 use am_group::event::{Act, Record};
-use am_group::journal::Journal;
+use am_journal::journal::Journal;
 use am_packet::letter::LetterCopy;
 use std::alloc::Global;
 use std::marker::Model;
@@ -34,8 +34,9 @@ pub struct Sheet {
 impl Model for Sheet {
     ghost use Rattle.std.specs.Prelude.{◌≡◌};
     ghost use Rattle.am_group.specs.Journals.{letters_of};
+    ghost use Rattle.am_sharing.specs.Stops.{stopped_names};
     ghost use Rattle.am_wire.specs.Looks.{AreLooks};
-    ghost use Rattle.am_wire.specs.Stops.{Page, stopped_names};
+    ghost use Rattle.am_wire.specs.Seats.{Page};
 
     ghost Value = { Page };
 

@@ -3,22 +3,25 @@ ghost use Rattle.am_base.specs.Most.{most_events};
 ghost use Rattle.am_base.specs.Names.{place_of};
 ghost use Rattle.am_group.specs.Addressed.{next_for};
 ghost use Rattle.am_group.specs.Journals.{letters_of, letter_at};
-ghost use Rattle.am_wire.specs.declared.rule.Key.TheVariants.{Place, Caller};
-ghost use Rattle.am_wire.specs.declared.wire.WireRefusal.TheVariants as refusals;
-ghost use Rattle.am_wire.specs.Keys.{place_keys, caller_keys, all_keys, times};
-ghost use Rattle.am_wire.specs.Stops.{stopped_names};
-ghost use Rattle.am_wire.specs.Seats.{IsIdle, HasTurn, Takes, Unites, Parts, Adds, Follows, view, longer};
-ghost use Rattle.am_wire.specs.Passes.{Rests, HasAll, Sees, Joined, IsReady, Committed, Gathered, fresh, known_by};
+ghost use Rattle.am_sharing.specs.declared.terms.Key.TheVariants.{Place, Caller};
+ghost use Rattle.am_sharing.specs.declared.terms.WireRefusal.TheVariants as refusals;
+ghost use Rattle.am_sharing.specs.Keys.{place_keys, caller_keys, all_keys, times};
+ghost use Rattle.am_sharing.specs.Stops.{stopped_names};
+ghost use Rattle.am_sharing.specs.Sights.{Follows, longer};
+ghost use Rattle.am_sharing.specs.Passes.{HasAll, Sees, Joined, IsReady, Committed, Gathered, fresh};
+ghost use Rattle.am_wire.specs.Seats.{IsIdle, HasTurn, Takes, Unites, Parts, Adds, view};
+ghost use Rattle.am_wire.specs.Wires.{Rests, known_by};
 
-use crate::rule::{Count, FirstKey, Give, Law, Look, OneJournal, Take, Terms, Together, View};
+use crate::rule::{Count, FirstKey, Give, Law, Look, OneJournal, Take, Together, View};
 use crate::sheet::Sheet;
 use am_base::NoMemory;
 use am_base::limits::MOST_EVENTS;
 use am_base::name::Name;
 use am_base::names::Names;
 use am_group::event::Record;
-use am_group::journal::Journal;
+use am_journal::journal::Journal;
 use am_packet::letter::LetterCopy;
+use am_sharing::terms::{Terms, WireRefusal};
 use atomic_table::{Badge, Seat, Table};
 use std::alloc::{AllocError, Global};
 use std::marker::Model;
@@ -26,15 +29,6 @@ use std::sync::Wait;
 use std::{mem, thread};
 
 type TableSeat = Seat<Sheet, View>;
-
-/// Why a record was not added.
-#[derive(Clone, Copy, PartialEq, Eq, Debug)]
-pub enum WireRefusal {
-    /// There was no memory for it.
-    NoMemory,
-    /// The journal has 100,000 records.
-    Spent,
-}
 
 /// The one journal of a race, of which each pass has seen a beginning. Each of its records comes next behind those before it,
 /// by the law `L`. Contracts see it as which wire it is, and its terms.
@@ -45,7 +39,7 @@ pub struct Wire<L: Law> {
 
 impl<L: Law> Model for Wire<L> {
     ghost use Rattle.std.specs.Prelude.{◌≡◌};
-    ghost use Rattle.am_wire.specs.Passes.{Line};
+    ghost use Rattle.am_wire.specs.Wires.{Line};
 
     ghost Value = { Line };
 
@@ -62,7 +56,8 @@ pub struct Pass {
 }
 
 impl Model for Pass {
-    ghost use Rattle.am_wire.specs.Passes.{Known, known_by, Rests};
+    ghost use Rattle.am_sharing.specs.Passes.{Known};
+    ghost use Rattle.am_wire.specs.Wires.{known_by, Rests};
 
     ghost Value = { Known };
 

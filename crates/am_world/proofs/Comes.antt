@@ -5,7 +5,7 @@ use Rattle.am_world.proofs.Words.{IsPacket, spelling, Act, Event, letter_at, is_
 use Rattle.am_world.proofs.Words.{hears_letter, hear_cut, comes_back, lives_on, acts_as, happens, has_departed, spelling_is_heard, cut_is_heard, flag_of}
 use Rattle.am_world.proofs.Words.{if_running, first_bytes, gives_up, stops, returns, event_or_answer, SpellsPacket, after_answer, comes}
 use Rattle.am_laws.proofs.Fresh.{place_now, life_now}
-use Rattle.am_group.specs.Asked.{hears}
+use Rattle.am_journal.specs.Asked.{hears}
 use Rattle.am_base.specs.declared.outcome.Outcome.TheVariants as said
 use Rattle.am_base.specs.declared.event.NodeEvent.TheVariants as does
 use Rattle.am_group.specs.declared.event.Act.TheVariants as act

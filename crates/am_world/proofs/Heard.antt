@@ -3,7 +3,7 @@ use Rattle.am_world.proofs.Words.{◌≡◌, ℕ, ◌<◌, Bool, true, false, Li
 use Rattle.am_world.proofs.Words.{none-some, same_Some, on_ok_weaker, Rules, place_of, Entry, NodeEvent, Outcome, Letter, IsPacket, spelling, Act, Event}
 use Rattle.am_world.proofs.Words.{Record, is_for, letters_of, letter_at, current, happens, Node, Heard, flag_of, first_bytes, heard_of, event_or_answer}
 use Rattle.am_world.proofs.Words.{comes, SpellsPacket, Play, replay, play_of, IsRun}
-use Rattle.am_group.specs.Asked.{hears}
+use Rattle.am_journal.specs.Asked.{hears}
 use Rattle.am_base.specs.declared.event.NodeEvent.TheVariants as does
 use Rattle.am_base.specs.declared.outcome.Outcome.TheVariants as said
 use Rattle.am_group.specs.declared.event.Act.TheVariants as act

@@ -40,10 +40,10 @@ pub use Rattle.am_laws.proofs.{Named.few_names, Named.run_named, EventCounts.act
 pub use Rattle.am_laws.proofs.{RunCounts.numbers_hold}
 pub use Rattle.am_laws.proofs.Watched.{watch_push, stop_is_watched, pass_is_watched, return_is_watched, beginning_is_kept}
 pub use Rattle.am_watcher.specs.Watchers.{watching_of}
-pub use Rattle.am_group.specs.declared.asked.Heard.{Heard}
+pub use Rattle.am_journal.specs.declared.asked.Heard.{Heard}
 pub use Rattle.am_world.specs.Moves.{IsReadyAt, StepsAt, HasPlaceAt, IsReady}
 pub use Rattle.am_world.specs.Runs.{Play, replay, after, AreNodes, AreLives, AreFlags, IsRun, play_of, Answers, AreFirst, Shows}
-pub use Rattle.am_group.specs.Asked.{flag_of, if_running, first_bytes, gives_up, stops, returns, event_or_answer, SpellsPacket, heard_of}
+pub use Rattle.am_journal.specs.Asked.{flag_of, if_running, first_bytes, gives_up, stops, returns, event_or_answer, SpellsPacket, heard_of}
 pub use Rattle.am_world.specs.Asked.{comes, after_answer}
 pub use Rattle.am_watching.specs.Telling.{shown_of, begins, standing_after, stored_of, stops_by}
 unfoldable pub use Rattle.am_watching.specs.Telling.{told_step}

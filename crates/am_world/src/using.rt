@@ -12,7 +12,7 @@ ghost use Rattle.am_world.specs.declared.world.WorldRefusal.{WorldRefusal};
 use crate::world::{World, WorldRefusal};
 use am_base::entry::Entry;
 use am_base::name::Name;
-use am_group::delivered::given_to;
+use am_journal::delivered::given_to;
 use am_group::event::{Act, Event, Record};
 
 impl World {

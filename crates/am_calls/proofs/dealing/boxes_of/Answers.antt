@@ -1,8 +1,8 @@
 use Rattle.std.proofs.Common.{◌≡◌, ℕ, ◌<◌, length, sym, ◌∙◌, subst}
 use Rattle.std.proofs.lemmas.Iterator.Adapters.{YieldsList-from_vec}
 use Rattle.std.proofs.lemmas.Iterator.Consumers.{YieldsList-turn, YieldsList-end}
-use Rattle.am_wire.specs.declared.rule.Key.TheVariants.{Place}
-use Rattle.am_wire.specs.Passes.{fresh}
+use Rattle.am_sharing.specs.declared.terms.Key.TheVariants.{Place}
+use Rattle.am_sharing.specs.Passes.{fresh}
 use Rattle.am_races.specs.Lawful.{terms_of}
 use Rattle.am_races.proofs.Fresh.{pass_at, sixteen_passes}
 use Rattle.am_calls.proofs.dealing.boxes_of.Goals as goal

@@ -1,8 +1,8 @@
 use Rattle.std.proofs.Common.{ℕ, [], ◌∷◌, length, length-append, sym, ap, ◌∙◌, arith}
 use Rattle.std.proofs.lemmas.Iterator.Adapters.{YieldsList-from_vec}
 use Rattle.std.proofs.lemmas.Iterator.Consumers.{YieldsList-turn, YieldsList-end}
-use Rattle.am_wire.specs.declared.rule.Key.TheVariants.{Caller}
-use Rattle.am_wire.specs.Passes.{fresh}
+use Rattle.am_sharing.specs.declared.terms.Key.TheVariants.{Caller}
+use Rattle.am_sharing.specs.Passes.{fresh}
 use Rattle.am_races.specs.Lawful.{terms_of}
 use Rattle.am_races.specs.Ran.{fresh_caller, fresh_callers}
 use Rattle.am_races.proofs.Fresh.{share_at, many_shares, many_fresh, one_fresh}

@@ -1,6 +1,6 @@
 use Rattle.std.proofs.Common.{◌≡◌, length, Some, sym, ◌∙◌, subst}
-use Rattle.am_wire.specs.declared.wire.WireRefusal.{WireRefusal}
-use Rattle.am_wire.specs.declared.wire.WireRefusal.TheVariants as refusals
+use Rattle.am_sharing.specs.declared.terms.WireRefusal.{WireRefusal}
+use Rattle.am_sharing.specs.declared.terms.WireRefusal.TheVariants as refusals
 use Rattle.am_races.proofs.Raced.{run_numbers, run_did, run_planned, legal_as_planned, are_played, not_spent}
 use Rattle.am_calls.proofs.race.race_over.Goals as goal
 

@@ -1,9 +1,9 @@
 use Rattle.std.proofs.Common.{ℕ, ◌<◌, List, length, sym, ap, subst}
 use Rattle.std.specs.Prelude.{All}
 use Rattle.am_group.specs.declared.event.Record.{Record}
-use Rattle.am_wire.specs.declared.rule.Terms.{Terms}
-use Rattle.am_wire.specs.Passes.{HasAll}
-use Rattle.am_wire.specs.Seats.{Follows}
+use Rattle.am_sharing.specs.declared.terms.Terms.{Terms}
+use Rattle.am_sharing.specs.Passes.{HasAll}
+use Rattle.am_sharing.specs.Sights.{Follows}
 use Rattle.am_races.specs.Lawful.{IsLawful}
 use Rattle.am_races.specs.Legal.{IsLegalWithTags}
 use Rattle.am_races.specs.Ran.{EndsFor, calls_by}

@@ -1,6 +1,6 @@
 use Rattle.std.proofs.Common.{[], ◌∷◌, sym, subst}
-use Rattle.am_wire.specs.declared.rule.Key.TheVariants.{Caller}
-use Rattle.am_wire.specs.Seats.{GoesOn}
+use Rattle.am_sharing.specs.declared.terms.Key.TheVariants.{Caller}
+use Rattle.am_sharing.specs.Sights.{GoesOn}
 use Rattle.am_races.specs.Callings.{Calling, IsHand}
 use Rattle.am_races.proofs.Looking.{hand_meets, meets_goes}
 use Rattle.am_races.proofs.Making.{has_made_still}

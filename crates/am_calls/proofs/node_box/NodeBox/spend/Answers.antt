@@ -1,5 +1,5 @@
 use Rattle.std.proofs.Common.{ap, ◌∙◌}
-use Rattle.am_chooser.specs.Choices.{Luck}
+use Rattle.am_sharing.specs.Choices.{Luck}
 use Rattle.am_races.specs.Going.{luck_behind}
 use Rattle.am_races.proofs.Boxing.{still_runs}
 use Rattle.am_races.proofs.Hands.{turn_timely}

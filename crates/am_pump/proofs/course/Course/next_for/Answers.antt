@@ -1,4 +1,4 @@
-use Rattle.am_group.proofs.Search.{begins}
+use Rattle.am_journal.proofs.Search.{begins}
 use Rattle.am_pump.specs.Courses.{letters_sent}
 use Rattle.am_pump.proofs.course.Course.next_for.Goals as goal
 

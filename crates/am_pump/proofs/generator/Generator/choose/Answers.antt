@@ -1,6 +1,6 @@
 use Rattle.am_pump.proofs.Words.{◌≡◌, length, slice_index, slice_index_or, slice_set, ap, ◌∙◌, subst, next_for, replay, no_progress, progress_at, AreSeen}
 use Rattle.am_pump.proofs.Words.{choice_of, progress_after, seen_after}
-use Rattle.am_chooser.specs.Choices.{luck_after, act_of}
+use Rattle.am_sharing.specs.Choices.{luck_after, act_of}
 use Rattle.am_pump.proofs.Seen.{seen_on}
 use Rattle.am_pump.specs.Generating.{act_at, after_turn, choice_at}
 use Rattle.am_pump.proofs.generator.Generator.choose.Goals as goal

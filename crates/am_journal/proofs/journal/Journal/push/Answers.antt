@@ -1,7 +1,7 @@
 use Rattle.std.proofs.Common.{◌≡◌, ◌<◌, length, ap, rules}
 use Rattle.am_base.specs.Most.{most_events}
-use Rattle.am_group.proofs.Places.{places_more}
-use Rattle.am_group.proofs.journal.Journal.push.Goals as goal
+use Rattle.am_journal.proofs.Places.{places_more}
+use Rattle.am_journal.proofs.journal.Journal.push.Goals as goal
 
 pub invariant_of-self : goal.invariant_of-self
 invariant_of-self c =

@@ -1,15 +1,15 @@
 ghost use Rattle.std.specs.Prelude.{◌≡◌, ◌||◌, ℕ, List, [], Some, None, IfOk, length, take, Ok, Err};
 ghost use Rattle.am_base.specs.declared.event.NodeEvent.TheVariants as does;
 ghost use Rattle.am_base.specs.Names.{life_of};
-ghost use Rattle.am_group.specs.Asked as asks;
-ghost use Rattle.am_group.specs.Asked.{flag_of, if_running, first_bytes, heard_of};
+ghost use Rattle.am_journal.specs.Asked as asks;
+ghost use Rattle.am_journal.specs.Asked.{flag_of, if_running, first_bytes, heard_of};
 
-use crate::event::Act;
 use am_base::NoMemory;
 use am_base::body::SentBody;
 use am_base::event::NodeEvent;
 use am_base::name::Name;
 use am_base::outcome::Outcome;
+use am_group::event::Act;
 use std::alloc::Global;
 
 /// Whether a name has stopped.

@@ -1,11 +1,7 @@
 ghost use Rattle.std.specs.Prelude.{◌≡◌, None};
-ghost use Rattle.am_group.specs.Addressed.{next_for};
-ghost use Rattle.am_group.specs.Journals.{letters_of};
-ghost use Rattle.am_chooser.specs.Choices.{progress_after};
+ghost use Rattle.am_sharing.specs.Choices.{progress_after};
 
-use crate::chooser::Choice;
-use am_base::name::Name;
-use am_group::journal::Journal;
+use crate::choice::Choice;
 
 /// How far a node has come with the letters for it: the number up to which each was heard or lost, 0 at first, and the
 /// last that it heard.
@@ -25,13 +21,6 @@ impl Progress {
             cursor: 0,
             last: None,
         }
-    }
-
-    /// The least letter above the cursor that is for this name.
-    pub fn ahead(self, journal: &Journal, name: Name) -> Option<u32>
-        ensures { result ≡ next_for (letters_of journal.now.records) name self.cursor }
-    {
-        journal.next_for(name, self.cursor)
     }
 
     /// How far it is after a choice: a letter that is heard or lost moves the cursor, and one that is repeated nothing.

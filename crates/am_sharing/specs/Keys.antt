@@ -3,8 +3,8 @@ use Rattle.std.specs.Prelude.{ℕ, List, ◌++◌, map, Bool, false, ◌==◌, n
 use Rattle.std.specs.List.{range_with_len}
 use Rattle.am_base.specs.Names.{place_of}
 use Rattle.am_group.specs.declared.event.Record.{Record}
-use Rattle.am_wire.specs.declared.rule.Key.{Key}
-use Rattle.am_wire.specs.declared.rule.Key.TheVariants.{Place, Caller}
+use Rattle.am_sharing.specs.declared.terms.Key.{Key}
+use Rattle.am_sharing.specs.declared.terms.Key.TheVariants.{Place, Caller}
 
 -- whether a record was done at a place, or by a caller
 abbrev pub is_of : Key → Record → Bool
@@ -24,7 +24,7 @@ same_key _ _ = false
 abbrev pub times : Key → List Key → ℕ
 times key keys = count_by (same_key key) keys
 
--- a wire has sixteen places, and so many callers
+-- a journal has sixteen places, and so many callers
 abbrev pub is_key : ℕ → Key → Bool
 is_key callers (Place place) = nat_lt place 16
 is_key callers (Caller caller) = nat_lt caller callers

@@ -4,9 +4,9 @@ use Rattle.rand_pcg.specs.Lcg.{Lcg, started, increment_of}
 use Rattle.rand_pcg.specs.Pcg.{multiplier_64, pcg32}
 use Rattle.am_group.specs.declared.event.Act.{Act}
 use Rattle.am_group.specs.declared.event.Act.TheVariants as act
-use Rattle.am_chooser.specs.declared.chooser.Choice.{Choice}
-use Rattle.am_chooser.specs.declared.chooser.Choice.TheVariants as choice
-use Rattle.am_chooser.specs.declared.progress.Progress.{Progress}
+use Rattle.am_sharing.specs.declared.choice.Choice.{Choice}
+use Rattle.am_sharing.specs.declared.choice.Choice.TheVariants as choice
+use Rattle.am_sharing.specs.declared.progress.Progress.{Progress}
 
 -- ---- words
 

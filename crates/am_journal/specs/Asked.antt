@@ -12,7 +12,7 @@ use Rattle.am_group.specs.declared.event.Act.{Act}
 use Rattle.am_group.specs.declared.event.Act.TheVariants as act
 use Rattle.am_group.specs.Journals.{letter_at}
 use Rattle.am_group.specs.Addressed.{is_for}
-use Rattle.am_group.specs.declared.asked.Heard.{Heard}
+use Rattle.am_journal.specs.declared.asked.Heard.{Heard}
 
 -- whether a name has stopped, by the flags of all names
 abbrev pub flag_of : List Bool → ℕ → Bool

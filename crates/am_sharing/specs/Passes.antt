@@ -1,20 +1,14 @@
--- Wires and passes as contracts see them.
-use Rattle.std.specs.Prelude.{◌≡◌, ℕ, ◌+◌, ◌*◌, ◌<◌, ◌≤◌, List, [], ◌∷◌, ◌++◌, length, true, false, All, sum_by}
+-- What a pass to a shared journal knows of it.
+use Rattle.std.specs.Prelude.{◌≡◌, ℕ, ◌+◌, ◌<◌, ◌≤◌, List, [], ◌∷◌, ◌++◌, length, true, All, sum_by}
 use Rattle.am_base.specs.Most.{most_events}
+use Rattle.am_base.specs.Names.{place_of}
 use Rattle.atomic_table.specs.Seated.{TableId}
 use Rattle.am_group.specs.declared.event.Record.{Record}
-use Rattle.am_base.specs.Names.{place_of}
-use Rattle.am_wire.specs.declared.rule.Key.{Key}
-use Rattle.am_wire.specs.declared.rule.Key.TheVariants.{Place, Caller}
-use Rattle.am_wire.specs.declared.rule.Terms.{Terms}
-use Rattle.am_wire.specs.declared.rule.View.{View}
-use Rattle.am_wire.specs.Keys.{times, is_key}
-use Rattle.am_wire.specs.Seats.{GoesOn, Follows, longer, no_terms}
-
--- a wire: which one it is, and its terms
-pub record Line : Type 0 where
-  pub id : TableId
-  pub terms : Terms
+use Rattle.am_sharing.specs.declared.terms.Key.{Key}
+use Rattle.am_sharing.specs.declared.terms.Key.TheVariants.{Place, Caller}
+use Rattle.am_sharing.specs.declared.terms.Terms.{Terms}
+use Rattle.am_sharing.specs.Keys.{times, is_key}
+use Rattle.am_sharing.specs.Sights.{GoesOn, Follows, longer}
 
 -- a pass: of which wire it is, by which terms, whose records it knows, and what it has seen of the journal
 pub record Known : Type 0 where
@@ -26,19 +20,6 @@ pub record Known : Type 0 where
 -- a pass with one key, which has seen nothing
 abbrev pub fresh : TableId → Terms → Key → Known
 fresh wire terms key = record { wire = wire; terms = terms; keys = key ∷ []; seen = [] }
-
--- the pass of the one seat
-abbrev pub known_by : TableId → List View → Known
-known_by wire [] = record { wire = wire; terms = no_terms; keys = []; seen = [] }
-known_by wire (v ∷ vs) = record { wire = wire; terms = v.terms; keys = v.keys; seen = v.seen }
-
--- there is one seat, between two calls, and it has a key
-pub record Rests (views : List View) : Type 0 where
-  pub its : View
-  pub one : views ≡ its ∷ []
-  pub turn : its.turn ≡ false
-  pub older : its.older ≡ []
-  pub keyed : 0 < length its.keys
 
 -- a pass has each key of a wire
 abbrev pub HasAll : ℕ → List Key → Type 0

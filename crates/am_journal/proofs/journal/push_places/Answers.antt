@@ -1,6 +1,6 @@
 use Rattle.std.proofs.Common.{◌∙◌, append_assoc, refl, arith}
-use Rattle.am_group.proofs.Places.{places_next}
-use Rattle.am_group.proofs.journal.push_places.Goals as goal
+use Rattle.am_journal.proofs.Places.{places_next}
+use Rattle.am_journal.proofs.journal.push_places.Goals as goal
 
 pub loop-index-preserved : goal.loop-index-preserved
 loop-index-preserved c = record {

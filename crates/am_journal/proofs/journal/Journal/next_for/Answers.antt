@@ -1,7 +1,7 @@
 use Rattle.std.proofs.Common.{◌∙◌, sym, arith}
 use Rattle.am_group.specs.Journals.{letters_of}
-use Rattle.am_group.proofs.Search.{begins, none_there, found_there, passed_there, past_all}
-use Rattle.am_group.proofs.journal.Journal.next_for.Goals as goal
+use Rattle.am_journal.proofs.Search.{begins, none_there, found_there, passed_there, past_all}
+use Rattle.am_journal.proofs.journal.Journal.next_for.Goals as goal
 
 pub loop-number-init : goal.loop-number-init
 loop-number-init c = begins (letters_of c.args.self.now.records) c.args.node c.args.after

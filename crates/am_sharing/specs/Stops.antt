@@ -1,17 +1,11 @@
--- What lies in the slot, and which names stopped in it.
+-- Which names stopped in a journal.
 use Rattle.std.specs.Prelude.{ℕ, List, Bool, true, false, ◌&&◌, nat_lt, nat_le, ◌==◌, if◌then◌else◌, fold}
 use Rattle.std.specs.List.{list_any}
-use Rattle.am_base.specs.Founding.{Rules}
 use Rattle.am_base.specs.Names.{nobody, with_name}
 use Rattle.am_group.specs.declared.event.Act.{Act}
 use Rattle.am_group.specs.declared.event.Act.TheVariants as act
 use Rattle.am_group.specs.declared.event.Record.{Record}
 use Rattle.am_group.specs.Deliveries.{name_of}
-
--- a founding, and what happened since
-pub record Page : Type 0 where
-  pub founding : Rules
-  pub records : List Record
 
 abbrev pub is_stop : Act → Bool
 is_stop act.Stop = true

@@ -1,13 +1,14 @@
 ghost use Rattle.std.specs.Prelude.{◌≡◌, ◌+◌, ◌*◌, ◌<◌, ◌≤◌, ◌++◌, ◌∷◌, [], length, OnOk, IfOk, true, vec_len, vec_capacity, slice_get};
 ghost use Rattle.std.specs.Option.{option_copied};
 ghost use Rattle.am_base.specs.Most.{most_events};
-ghost use Rattle.am_group.specs.Journals.{letters_of, letter_at, letter_of, item_at, places_of, the_record};
+ghost use Rattle.am_group.specs.Journals.{letters_of, letter_at, item_at, the_record};
+ghost use Rattle.am_journal.specs.Places.{letter_of, places_of};
 
-use crate::event::{By, Event, Part, Record};
 use am_base::NoMemory;
 use am_base::founding::Founding;
 use am_base::items::Items;
 use am_base::outcome::Outcome;
+use am_group::event::{By, Event, Part, Record};
 use am_packet::letter::Letter;
 use std::alloc::Global;
 use std::marker::Model;
@@ -28,7 +29,7 @@ pub struct Journal {
 }
 
 impl Model for Journal {
-    ghost use Rattle.am_group.specs.Journals.{History, ArePlaces, has_spare};
+    ghost use Rattle.am_journal.specs.Places.{History, ArePlaces, has_spare};
     ghost use Rattle.std.specs.Prelude.{vec_len, vec_capacity};
 
     ghost Value = { History };

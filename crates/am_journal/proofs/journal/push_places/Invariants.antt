@@ -1,6 +1,6 @@
 use Rattle.std.proofs.Common.{◌≡◌, ◌+◌, ◌++◌, vec_len, vec_capacity}
-use Rattle.am_group.specs.Journals.{places_of}
-use Rattle.am_group.proofs.journal.push_places.Given as goal
+use Rattle.am_journal.specs.Places.{places_of}
+use Rattle.am_journal.proofs.journal.push_places.Given as goal
 
 abbrev pub invariant-loop-index : goal.invariant-loop-index
 invariant-loop-index l = record {

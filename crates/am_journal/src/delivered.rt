@@ -2,10 +2,10 @@ ghost use Rattle.std.specs.Prelude.{◌≡◌, ◌==◌};
 ghost use Rattle.std.specs.Option.{option_to_list};
 ghost use Rattle.am_group.specs.Deliveries.{name_of, given_to};
 
-use crate::event::Record;
 use am_base::entry::EntryRef;
 use am_base::name::Name;
 use am_base::outcome::Outcome;
+use am_group::event::Record;
 
 /// Whether a record is of this name: of its place and its life.
 fn is_of(item: &Record, node: Name) -> bool
