@@ -8,7 +8,7 @@ ghost use Rattle.am_model.specs.Step.{read_row};
 
 use crate::gate::is_heard;
 use am_acting::hearing::{on_gone, on_hold, on_spread};
-use am_base::name::{Name, Stamp};
+use am_base::name::Name;
 use am_base::outcome::Outcome;
 use am_handlers::parts::Parts;
 use am_handlers::reply::{Reply, quiet};
@@ -31,18 +31,6 @@ fn told(sender: Name, base: u32, acc: u32, number: u32) -> Told
         sender,
         base,
         acc,
-        number,
-    }
-}
-
-/// What a packet tells of an entry of a view's list beside the entry.
-fn arrival(from: Name, stamp: Stamp, base: u32, number: u32) -> Arrival
-    ensures { result ≡ record { from = from; stamp = stamp; base = base; number = number } }
-{
-    Arrival {
-        from,
-        stamp,
-        base,
         number,
     }
 }
@@ -159,7 +147,12 @@ fn heard_row<'a>(parts: &mut Parts, packet: &Packet<'a>) -> Reply<'a>
             number,
             entry,
         } => {
-            let piece = arrival(*sender, *stamp, *base, *number);
+            let piece = Arrival {
+                from: *sender,
+                stamp: *stamp,
+                base: *base,
+                number: *number,
+            };
             on_piece(parts, &piece, entry)
         }
         Packet::Result {
@@ -168,7 +161,12 @@ fn heard_row<'a>(parts: &mut Parts, packet: &Packet<'a>) -> Reply<'a>
             number,
             view,
         } => {
-            let last = arrival(*sender, view.stamp, *base, *number);
+            let last = Arrival {
+                from: *sender,
+                stamp: view.stamp,
+                base: *base,
+                number: *number,
+            };
             on_result(parts, &last, view)
         }
         Packet::HandOver { .. } => on_hand_over(parts),

@@ -21,14 +21,14 @@ use Rattle.am_script.specs.Scripts.{script_of, reading}
 use Rattle.am_race_script.specs.Races.{race_reading}
 use Rattle.am_script.specs.Limits.{ActWithin, EventWithin, IsWithin}
 use Rattle.am_race_script.specs.Limits.{CallWithin, ThreadWithin, RaceWithin}
-use Rattle.am_scripted.specs.Bodies.{ThreadOfBytes}
-use Rattle.am_scripted.proofs.Bodies.{plays_are_of_bytes, races_are_of_bytes}
-use Rattle.am_scripted.specs.RacedBodies.{HasBody, ThreadHasBodies}
-use Rattle.am_scripted.proofs.RacedBodies.{races_have_planned_bodies}
-use Rattle.am_scripted.proofs.Scripts.{races_have_scripts}
-use Rattle.am_audited.specs.Claims.{ReadsAs, AgreesAs, IsOfOneList}
-use Rattle.am_audited.proofs.Agree.{runs_have_their_texts, lawful_texts_agree}
-use Rattle.am_audited.proofs.Scripts.{scripts_are_passed_over}
+use Rattle.am_written.specs.Bodies.{ThreadOfBytes}
+use Rattle.am_written.proofs.Bodies.{plays_are_of_bytes, races_are_of_bytes}
+use Rattle.am_written.specs.RacedBodies.{HasBody, ThreadHasBodies}
+use Rattle.am_written.proofs.RacedBodies.{races_have_planned_bodies}
+use Rattle.am_written.proofs.RacedScripts.{races_have_scripts}
+use Rattle.am_written.specs.Claims.{ReadsAs, AgreesAs, IsOfOneList}
+use Rattle.am_written.proofs.Agree.{runs_have_their_texts, lawful_texts_agree}
+use Rattle.am_written.proofs.Scripts.{scripts_are_passed_over}
 use Rattle.am_player.specs.Runs.{done_of}
 use Rattle.am_sim.specs.Racing.{events_of, race_text, IsRaced, IsReadAgain}
 

@@ -28,7 +28,7 @@ use Rattle.am_audit.specs.Lines.{Reading, read_text}
 use Rattle.am_audit.specs.Verdicts.{verdict_of, verdict_line, is_right}
 use Rattle.am_replicated.specs.AssembledClaims.{front_of, Delivered}
 use Rattle.am_replicated.specs.Claims.{ReplicaHolds}
-use Rattle.am_audited.specs.Claims.{ReadsAs, AgreesAs, IsOfOneList}
+use Rattle.am_written.specs.Claims.{ReadsAs, AgreesAs, IsOfOneList}
 use Rattle.am_lines.specs.Speaking.{spoken}
 use Rattle.am_words.specs.Forms.{form_of}
 use Rattle.am_words.specs.declared.form.Form.{Form}

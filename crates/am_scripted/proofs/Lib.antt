@@ -1,8 +1,0 @@
-mod Words
-pub mod Bodies
-mod Own
-pub mod Planned
-pub mod RacedBodies
-mod Told
-mod Letters
-pub mod Scripts

@@ -1,3 +1,0 @@
-pub mod Bodies
-pub mod RacedBodies
-pub mod Scripts
