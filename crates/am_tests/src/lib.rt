@@ -9,8 +9,6 @@ mod directories;
 #[cfg(test)]
 mod groups;
 #[cfg(test)]
-mod letters;
-#[cfg(test)]
 mod packets;
 #[cfg(test)]
 mod schedules;

@@ -7,5 +7,3 @@ mod calls;
 mod echoes;
 #[cfg(test)]
 mod examples;
-#[cfg(test)]
-mod settlings;
