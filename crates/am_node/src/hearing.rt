@@ -115,13 +115,16 @@ fn heard_row<'a>(parts: &mut Parts, packet: &Packet<'a>) -> Reply<'a>
             join,
             image,
         } => {
-            let told = Welcome {
-                sender: *sender,
-                stamp: *stamp,
-                base: *base,
-                join: *join,
-            };
-            on_welcome(parts, &told, image)
+            on_welcome(
+                parts,
+                &Welcome {
+                    sender: *sender,
+                    stamp: *stamp,
+                    base: *base,
+                    join: *join,
+                },
+                image,
+            )
         }
         Packet::LeaveAsk {
             sender,
