@@ -1,5 +1,5 @@
 -- What stopped names have is on the chain, or was left out of it; so a decision finds what each of its members has.
-use Rattle.am_stands.proofs.Words.{low_or_above, split, ◌≡◌, ◌⊎◌, inl, inr, ⊎_elim, ℕ, ◌<◌, ◌≤◌, ◌==◌, ◌||◌, List, [], ◌∷◌, ◌++◌, length, take, true, false}
+use Rattle.am_stands.proofs.Words.{low_or_above, split, ◌≡◌, ◌⊎◌, inl, inr, either, ℕ, ◌<◌, ◌≤◌, ◌==◌, ◌||◌, List, [], ◌∷◌, ◌++◌, length, take, true, false}
 use Rattle.am_stands.proofs.Words.{Some, slice_index, refl, sym, ap, ◌∙◌, subst, arith, nat_tests, Entry, Leave, View, GroupView, Stamp, place_of, life_of, has}
 use Rattle.am_stands.proofs.Words.{is_within, members_of, all_at, Begins, BeginsBelow, IsGood, image_of, mem, view_of, key, begins_refl, begins_nil}
 use Rattle.am_stands.proofs.Words.{begins_more, begins_trans, begins_both, begins_take, below_of, below_length, length_push, mod16, good_begins, mem_between}
@@ -25,15 +25,12 @@ within_has members all j within in_ =
 
 -- a list that is no better, on one branch, is no longer
 vote_low : (v list branch : List Entry) → IsGood branch → Begins v branch → Begins list branch → NoBetter v list → length v ≤ length list
-vote_low v list branch good h begins worse = ⊎_elim
-    (λ (l : length v ≤ length list). l)
-    (λ (l : length list < length v).
-    let up = view_up (good_begins h good) (begins_both begins h (omega arith)) in
-    ⊎_elim
-    (λ (x : key (view_of v) < key (view_of list)). absurd (omega arith))
-    (λ (x : (key (view_of v) ≡ key (view_of list)) × (length v ≤ length list)). x.1)
-    worse)
-    (low_or_above (length v) (length list))
+vote_low v list branch good h begins worse = either (low_or_above (length v) (length list))
+    (λ l. l)
+    (λ l. let up = view_up (good_begins h good) (begins_both begins h (omega arith)) in
+    either worse
+    (λ x. absurd (omega arith))
+    (λ x. x.1))
 
 module _ (s : Group) (k : Kept s) (lawful : IsLawful s) (c : ℕ) (v : GroupView) (d : MayDecide s c v) (b : BranchesOk s)
     (voted : (j : ℕ) → has v.members j ≡ true → (j ≡ c) ⊎ Voted s (key (s.node c).promise) j (s.node c).list) where
@@ -53,14 +50,11 @@ module _ (s : Group) (k : Kept s) (lawful : IsLawful s) (c : ℕ) (v : GroupView
   -- on one branch with the coordinator's list, a name of the View has no more
   low_on : (j : ℕ) (branch : List Entry) → has v.members j ≡ true → (s.node j).departed ≡ false → IsGood branch → Begins chosen branch
       → Begins (s.node j).list branch → Begins (s.node j).list chosen
-  low_on j branch in_ stays good mine its = ⊎_elim
-      (λ (z : j ≡ c). subst (λ x. Begins (s.node x).list chosen) (sym z) (begins_refl chosen))
-      (λ (z : Voted s (key (s.node c).promise) j chosen).
-      let shown = k.shown (key (s.node c).promise) j z.vote z.is in
+  low_on j branch in_ stays good mine its = either (voted j in_)
+      (λ z. subst (λ x. Begins (s.node x).list chosen) (sym z) (begins_refl chosen))
+      (λ z. let shown = k.shown (key (s.node c).promise) j z.vote z.is in
       let low = vote_low z.vote chosen branch good (begins_trans shown.list its) mine z.worse in
-      begins_both its mine (⊎_elim (λ (y : length (s.node j).list ≤ length z.vote). omega arith) (λ (y : length (s.node j).list ≤ length chosen). y)
-      (b.short c j z.vote d.up d.ballot z.is stays)))
-      (voted j in_)
+      begins_both its mine (either (b.short c j z.vote d.up d.ballot z.is stays) (λ y. omega arith) (λ y. y)))
 
   stays_in : (j : ℕ) → has v.members j ≡ true → (s.node j).departed ≡ false
   stays_in j in_ = split (s.node j).departed (λ t. absurd (none_departed s k lawful c v d j (in_chosen j in_) t)) (λ f. f)
@@ -71,17 +65,14 @@ module _ (s : Group) (k : Kept s) (lawful : IsLawful s) (c : ℕ) (v : GroupView
     where
       by_branch : OnBranch s j → Begins (s.node j).list chosen
       by_branch (on_chain its) = low_on j (chain_of s.views) in_ (stays_in j in_) k.views.good chain its
-      by_branch (left_out a u branch part mine its good member out) = ⊎_elim
-          (λ (z : length (a ++ View u ∷ []) ≤ length chosen).
-          absurd (let inside = begins_both part chain z in
+      by_branch (left_out a u branch part mine its good member out) = either (low_or_above (length (a ++ View u ∷ [])) (length chosen))
+          (λ z. absurd (let inside = begins_both part chain z in
           let fine = good_begins chain k.views.good in
           let there = mem_between j fine (begins_more a (View u ∷ [])) inside member (in_chosen j in_) in
           let has_it = mem_viewed a u j there in cc))
-          (λ (z : length chosen < length (a ++ View u ∷ [])).
-          (let more = length_push a (View u) in
+          (λ z. (let more = length_push a (View u) in
           let below = begins_both chain (begins_trans (begins_more a (View u ∷ [])) part) (omega arith) in
           low_on j branch in_ (stays_in j in_) good (begins_trans below mine) its))
-          (low_or_above (length (a ++ View u ∷ [])) (length chosen))
 
   new_view : NewView s (with_choice s c v) (key (s.node c).promise)
   new_view =
@@ -109,14 +100,12 @@ module _ (s : Group) (k : Kept s) (lawful : IsLawful s) (c : ℕ) (v : GroupView
   ended_in : (j : ℕ) (branch : List Entry) → (s.node j).departed ≡ false → IsGood branch → Begins chosen branch → Begins (s.node j).list branch
       → mem chosen j ≡ false → Begins (s.node j).list chosen
   ended_in j branch stays good mine its none = split (s.node j).has_log
-      (λ log. ⊎_elim
-      (λ (z : length (s.node j).list ≤ length chosen). begins_both its mine z)
-      (λ (z : length chosen < length (s.node j).list).
-      absurd (let joined = (k.each j).joined log in
+      (λ log. either (low_or_above (length (s.node j).list) (length chosen))
+      (λ z. begins_both its mine z)
+      (λ z. absurd (let joined = (k.each j).joined log in
       let front = begins_trans (begins_take (s.node j).start s.group) (group_low s k lawful c v d) in
       let there = b.own j stays (take (s.node j).start s.group) chosen (below_of (begins_both mine its (omega arith)) z) front joined.member in
-      cc))
-      (low_or_above (length (s.node j).list) (length chosen)))
+      cc)))
       (λ f. subst (λ l. Begins l chosen) (sym ((k.each j).blank f)) (begins_nil chosen))
 
   -- on one branch with it
@@ -133,23 +122,18 @@ module _ (s : Group) (k : Kept s) (lawful : IsLawful s) (c : ℕ) (v : GroupView
       ⊎ ((a : List Entry) × (u : GroupView) × (branch : List Entry)
       × Begins (a ++ View u ∷ []) (chain_of (with_choice s c v).views)
       × Begins a branch × Begins (s.node j).list branch × IsGood branch × (mem a j ≡ true) × (has u.members j ≡ false))
-  after_choice j stays (on_chain its) = ⊎_elim
-      (λ (z : Begins (s.node j).list chosen). inl (on_new z))
-      (λ (z : (mem chosen j ≡ true) × (has v.members j ≡ false)). inr
+  after_choice j stays (on_chain its) = either (beside j (chain_of s.views) stays k.views.good chain its)
+      (λ z. inl (on_new z))
+      (λ z. inr
       (chosen, (choice_of (s.node c) v).view, chain_of s.views, viewed, chain, its, k.views.good, z.0, z.1))
-      (beside j (chain_of s.views) stays k.views.good chain its)
-  after_choice j stays (left_out a u branch part mine its good member out) = ⊎_elim
-      (λ (z : length (a ++ View u ∷ []) ≤ length chosen).
-      inr (a, u, branch, on_new (begins_both part chain z), mine, its, good, member, out))
-      (λ (z : length chosen < length (a ++ View u ∷ [])).
-      (let more = length_push a (View u) in
+  after_choice j stays (left_out a u branch part mine its good member out) = either (low_or_above (length (a ++ View u ∷ [])) (length chosen))
+      (λ z. inr (a, u, branch, on_new (begins_both part chain z), mine, its, good, member, out))
+      (λ z. (let more = length_push a (View u) in
       let below = begins_trans (begins_both chain (begins_trans (begins_more a (View u ∷ [])) part) (omega arith)) mine in
-      ⊎_elim
-      (λ (y : Begins (s.node j).list chosen). inl (on_new y))
-      (λ (y : (mem chosen j ≡ true) × (has v.members j ≡ false)). inr
-      (chosen, (choice_of (s.node c) v).view, branch, viewed, below, its, good, y.0, y.1))
-      (beside j branch stays good below its)))
-      (low_or_above (length (a ++ View u ∷ [])) (length chosen))
+      either (beside j branch stays good below its)
+      (λ y. inl (on_new y))
+      (λ y. inr
+      (chosen, (choice_of (s.node c) v).view, branch, viewed, below, its, good, y.0, y.1))))
 
 -- ---- each move
 
@@ -167,28 +151,20 @@ branches_of : (s t : Group) → Kept t → ((j : ℕ) → Steady (s.node j) (t.n
     → ((j : ℕ) → (s.node j).departed ≡ false → OnBranch s j → (t.node j).list ≡ (s.node j).list → OnBranch t j)
     → Opened s t → BranchesOk s → BranchesOk t
 branches_of s t k steady moved opened b = record {
-  branch = λ j stays. ⊎_elim
-      (λ (up : IsUp (t.node j)). on_chain ((k.each j).list up))
-      (λ (z : ((t.node j).list ≡ (s.node j).list) × ((s.node j).departed ≡ false)). moved j z.1 (b.branch j z.1) z.0)
-      (steady j stays);
-  own = λ j stays. ⊎_elim
-      (λ (up : IsUp (t.node j)). (k.each j).own up)
-      (λ (z : ((t.node j).list ≡ (s.node j).list) × ((s.node j).departed ≡ false)).
-      subst (λ l. (a d : List Entry) → BeginsBelow d l → Begins a d → mem a j ≡ true → mem d j ≡ true) (sym z.0) (b.own j z.1))
-      (steady j stays);
-  short = λ c j list up ballot shown stays. ⊎_elim
-      (λ (own_up : IsUp (t.node j)). k.short c j list up ballot shown own_up)
-      (λ (z : ((t.node j).list ≡ (s.node j).list) × ((s.node j).departed ≡ false)). ⊎_elim
-      (λ (y : length (t.node j).list ≤ length list). inl y)
-      (λ (y : IsUp (s.node c) × ((s.node c).ballot ≡ true) × (s.shown (key (s.node c).promise) j ≡ Some list)
-      × (length (s.node c).list ≤ length (t.node c).list)).
-      (let same = ap length z.0 in
-      ⊎_elim
-      (λ (x : length (s.node j).list ≤ length list). inl (omega arith))
-      (λ (x : length (s.node j).list ≤ length (s.node c).list). inr (omega arith))
-      (b.short c j list y.0 y.1 y.2 z.1)))
-      (opened c j list up ballot shown))
-      (steady j stays);
+  branch = λ j stays. either (steady j stays)
+      (λ up. on_chain ((k.each j).list up))
+      (λ z. moved j z.1 (b.branch j z.1) z.0);
+  own = λ j stays. either (steady j stays)
+      (λ up. (k.each j).own up)
+      (λ z. subst (λ l. (a d : List Entry) → BeginsBelow d l → Begins a d → mem a j ≡ true → mem d j ≡ true) (sym z.0) (b.own j z.1));
+  short = λ c j list up ballot shown stays. either (steady j stays)
+      (λ own_up. k.short c j list up ballot shown own_up)
+      (λ z. either (opened c j list up ballot shown)
+      (λ y. inl y)
+      (λ y. (let same = ap length z.0 in
+      either (b.short c j list y.0 y.1 y.2 z.1)
+      (λ x. inl (omega arith))
+      (λ x. inr (omega arith)))));
 }
 
 -- on a chain that goes on
@@ -266,17 +242,12 @@ begun_open s i k few c j list = put_at (λ x (m : groups.Node). IsUp m → m.bal
 
 -- a list that is shown now
 shown_open : (s : Group) (i : ℕ) → Opened s (record s { shown = put2 s.shown (key (s.node i).promise) i (Some (s.node i).list) })
-shown_open s i c j list up ballot is = ⊎_elim
-    (λ (z : (key (s.node c).promise ≡ key (s.node i).promise) × (j ≡ i)
-    × (put2 s.shown (key (s.node i).promise) i (Some (s.node i).list) (key (s.node c).promise) j ≡ Some (s.node i).list)).
-    (let same : Some (s.node i).list ≡ Some list = sym z.2 ∙ is in
+shown_open s i c j list up ballot is = either (put2_cases s.shown (key (s.node i).promise) i (Some (s.node i).list) (key (s.node c).promise) j)
+    (λ z. (let same : Some (s.node i).list ≡ Some list = sym z.2 ∙ is in
     let its : (s.node i).list ≡ list = cc in
     let long = ap (λ x. length (s.node x).list) z.1 ∙ ap length its in
     inl (omega arith)))
-    (λ (z : ((key (s.node c).promise ≡ key (s.node i).promise) × (j ≡ i) → ⊥)
-    × (put2 s.shown (key (s.node i).promise) i (Some (s.node i).list) (key (s.node c).promise) j ≡ s.shown (key (s.node c).promise) j)).
-    inr (up, ballot, sym z.1 ∙ is, omega arith))
-    (put2_cases s.shown (key (s.node i).promise) i (Some (s.node i).list) (key (s.node c).promise) j)
+    (λ z. inr (up, ballot, sym z.1 ∙ is, omega arith))
 
 choice_branches : (s : Group) (k : Kept s) (lawful : IsLawful s) (c : ℕ) (v : GroupView) (d : MayDecide s c v)
     → ((j : ℕ) → has v.members j ≡ true → (j ≡ c) ⊎ Voted s (key (s.node c).promise) j (s.node c).list) → Kept (with_choice s c v) → BranchesOk s
@@ -286,12 +257,9 @@ choice_branches s k lawful c v d voted kept b =
     let n : groups.Node = record (s.node c) { list = opening (choice_of (s.node c) v); ballot = false } in
     branches_of s t kept
     (λ j. steady_put s c n (λ stays. inl (up_as (s.node c) n refl refl refl d.up)) j)
-    (λ j stays old same. ⊎_elim
-    (λ (z : Begins (s.node j).list (chain_of t.views)). on_chain (subst (λ l. Begins l (chain_of t.views)) (sym same) z))
-    (λ (z : (a : List Entry) × (u : GroupView) × (branch : List Entry) × Begins (a ++ View u ∷ []) (chain_of t.views)
-    × Begins a branch × Begins (s.node j).list branch × IsGood branch × (mem a j ≡ true) × (has u.members j ≡ false)).
-    left_out z.0 z.1 z.2 z.3 z.4 (subst (λ l. Begins l z.2) (sym same) z.5) z.6 z.7 z.8)
-    (after_choice s k lawful c v d b voted j stays old))
+    (λ j stays old same. either (after_choice s k lawful c v d b voted j stays old)
+    (λ z. on_chain (subst (λ l. Begins l (chain_of t.views)) (sym same) z))
+    (λ z. left_out z.0 z.1 z.2 z.3 z.4 (subst (λ l. Begins l z.2) (sym same) z.5) z.6 z.7 z.8))
     (λ x j list. put_at (λ y (m : groups.Node). IsUp m → m.ballot ≡ true → s.shown (key m.promise) j ≡ Some list
     → (length (put s.node c n j).list ≤ length list)
     ⊎ (IsUp (s.node y) × ((s.node y).ballot ≡ true) × (s.shown (key (s.node y).promise) j ≡ Some list) × (length (s.node y).list ≤ length m.list))) s.node c n

@@ -1,5 +1,5 @@
 -- Who is concerned by a list with one entry more, and what is reported of it.
-use Rattle.am_stands.proofs.Words.{◌≡◌, ◌⊎◌, inl, inr, ⊎_elim, ℕ, ◌+◌, ◌<◌, ◌≤◌, List, [], ◌∷◌, ◌++◌, length, true, false, refl, sym, ap, ◌∙◌, subst, arith}
+use Rattle.am_stands.proofs.Words.{◌≡◌, ◌⊎◌, inl, inr, either, ℕ, ◌+◌, ◌<◌, ◌≤◌, List, [], ◌∷◌, ◌++◌, length, true, false, refl, sym, ap, ◌∙◌, subst, arith}
 use Rattle.am_stands.proofs.Words.{Entry, Join, View, Report, Image, place_of, life_of, Begins, NotView, image_of, mem, begins_refl, begins_more, begins_trans}
 use Rattle.am_stands.proofs.Words.{begins_pushed, length_push, row_at, In, told_push, long_told, mem_in, in_mem, is_view, after_same, IsConcerned, Reporting}
 use Rattle.am_chain.specs.Group as groups
@@ -27,13 +27,11 @@ pub concerned_push : (list : List Entry) (e : Entry) (name : ℕ) → NotView e 
 concerned_push list e name plain h =
     let same : (image_of (list ++ e ∷ [])).view_number ≡ (image_of list).view_number =
     ap (λ (i : Image). i.view_number) (told_push list e) ∙ (after_same (image_of list) (1 + length list) e (no_view e plain)).number in
-    ⊎_elim
-    (λ (z : Begins h.upto list). inl (record { upto = h.upto; begins = z; from = omega arith; member = h.member }))
-    (λ (z : h.upto ≡ list ++ e ∷ []). ⊎_elim
-    (λ (m : mem list name ≡ true). inl (record { upto = list; begins = begins_refl list; from = number_low list; member = m }))
-    (λ (j : e ≡ Join name). inr j)
-    (mem_back list e name plain (subst (λ l. mem l name ≡ true) z h.member)))
-    (begins_pushed e h.begins)
+    either (begins_pushed e h.begins)
+    (λ z. inl (record { upto = h.upto; begins = z; from = omega arith; member = h.member }))
+    (λ z. either (mem_back list e name plain (subst (λ l. mem l name ≡ true) z h.member))
+    (λ m. inl (record { upto = list; begins = begins_refl list; from = number_low list; member = m }))
+    (λ j. inr j))
 
 -- ---- reports
 
@@ -55,19 +53,17 @@ pub reporting_joins : (node after_ : ℕ → groups.Node) (list : List Entry) (e
     → ((i : ℕ) → Begins (node i).list (after_ i).list) → ((i : ℕ) → e ≡ Join i → (reports i).stored ≤ base)
     → Reporting node list base reports → Reporting after_ (list ++ e ∷ []) base reports
 reporting_joins node after_ list e base reports before grow fresh r = reporting_on node after_ list e base reports
-    (λ name above concerned. ⊎_elim
-    (λ (z : IsConcerned list name). z)
-    (λ (z : (e ≡ Join name) ⊎ (list ≡ [])). absurd (⊎_elim
-    (λ (y : e ≡ Join name). (let low = fresh name y in let x : ⊥ = omega arith in x))
-    (λ (y : list ≡ []). (let low = r.within name in let none = ap length y in let x : ⊥ = omega arith in x))
-    z))
-    (before name concerned))
+    (λ name above concerned. either (before name concerned)
+    (λ z. z)
+    (λ z. absurd (either z
+    (λ y. (let low = fresh name y in let x : ⊥ = omega arith in x))
+    (λ y. (let low = r.within name in let none = ap length y in let x : ⊥ = omega arith in x)))))
     grow r
 
 pub reporting_push : (node after_ : ℕ → groups.Node) (list : List Entry) (e : Entry) (base : ℕ) (reports : ℕ → Report) → NotView e
     → ((i : ℕ) → Begins (node i).list (after_ i).list) → ((i : ℕ) → e ≡ Join i → (reports i).stored ≤ base)
     → Reporting node list base reports → Reporting after_ (list ++ e ∷ []) base reports
-reporting_push node after_ list e base reports plain = reporting_joins node after_ list e base reports (λ name concerned. ⊎_elim
-    (λ (z : IsConcerned list name). inl z)
-    (λ (z : e ≡ Join name). inr (inl z))
-    (concerned_push list e name plain concerned))
+reporting_push node after_ list e base reports plain = reporting_joins node after_ list e base reports (λ name concerned.
+    either (concerned_push list e name plain concerned)
+    (λ z. inl z)
+    (λ z. inr (inl z)))

@@ -114,9 +114,6 @@ module _ (v : World) (i : ℕ) (n : Node) (s : Group) (h : MayLetGo v i n s) (na
   has_stored_it j member there stays =
       let last = member_at_end j member there stays in
       let long = long_all v i n (s.node i) h.speaks.stands in
-      let kept = h.kept in
-      let base = h.base in
-      let within = h.within in
       let more = length_push before (Leave name) in
       let in_all = concerned_has v i n (s.node i) j h.speaks.stands (omega arith) h.within
       (λ k from to. member_between j member last k (omega arith) (omega arith)) in
@@ -125,9 +122,6 @@ module _ (v : World) (i : ℕ) (n : Node) (s : Group) (h : MayLetGo v i n s) (na
       let stored = stored_by n (without_name (concerned_names n) name) left j (without_long (concerned_names n) name ∙ size_all) others all in
       let no_more = h.reports.within j in
       let fronts = (h.speaks.kept.each i).fronts in
-      let told_ = fronts.told in
-      let given = fronts.acc in
-      let acc = h.fronts.acc in
       split (nat_lt n.core.base (n.reports j).stored)
       (λ t.
       let above : n.core.base < (n.reports j).stored = grind (arith, nat_tests) in
@@ -162,9 +156,6 @@ gone_said v i n s name h may =
         → LeavesAt (s.node i).list name (row_at n name).left → GoneSays s (row_at n name).left name
     by_kind low all (by_leave before size part) =
         let fronts = (h.speaks.kept.each i).fronts in
-        let told_ = fronts.told in
-        let given = fronts.acc in
-        let acc = h.fronts.acc in
         let more = length_push before (Leave name) in
         letters.may_go before size
         (begins_both part chained.group_in (omega arith))

@@ -1,5 +1,5 @@
 -- With each move a group goes on as letters need it.
-use Rattle.am_stands.proofs.Words.{split, ◌≡◌, inl, inr, ⊎_elim, ℕ, ◌==◌, List, [], ◌∷◌, ◌++◌, length, take, true, false, Some, refl, sym, ap, ◌∙◌, subst}
+use Rattle.am_stands.proofs.Words.{split, ◌≡◌, inl, inr, either, ℕ, ◌==◌, List, [], ◌∷◌, ◌++◌, length, take, true, false, Some, refl, sym, ap, ◌∙◌, subst}
 use Rattle.am_stands.proofs.Words.{arith, nat_tests, GroupView, Entry, Leave, Begins, view_of, key, begins_refl, begins_nil, begins_more, begins_trans}
 use Rattle.am_stands.proofs.Words.{begins_both, begins_take, length_take, Group, put, put2, opening, MayAccept, with_node, with_line, with_choice, choice_of}
 use Rattle.am_stands.proofs.Words.{longer, numbers, stores, accepts, learns, begins, raises, shows, serves, fetches, gives_over, welcomes, asks, departs}
@@ -133,11 +133,9 @@ moves_grow s t (shows i there small other begun none) k new = record {
   lines = λ x d. begins_refl (s.views.line x);
   decided = λ x d. (d, refl);
   new = λ x d. inl d;
-  shown = λ x j list is. ⊎_elim
-      (λ (z : (x ≡ key (s.node i).promise) × (j ≡ i) × (put2 s.shown (key (s.node i).promise) i (Some (s.node i).list) x j ≡ Some (s.node i).list)).
-      (let same : s.shown (key (s.node i).promise) i ≡ Some list = (λ q. s.shown (sym z.0 q) (sym z.1 q)) ∙ is in absurd (cc)))
-      (λ (z : ((x ≡ key (s.node i).promise) × (j ≡ i) → ⊥) × (put2 s.shown (key (s.node i).promise) i (Some (s.node i).list) x j ≡ s.shown x j)). z.1 ∙ is)
-      (put2_cases s.shown (key (s.node i).promise) i (Some (s.node i).list) x j);
+  shown = λ x j list is. either (put2_cases s.shown (key (s.node i).promise) i (Some (s.node i).list) x j)
+      (λ z. (let same : s.shown (key (s.node i).promise) i ≡ Some list = (λ q. s.shown (sym z.0 q) (sym z.1 q)) ∙ is in absurd (cc)))
+      (λ z. z.1 ∙ is);
   served = λ x j is. is;
 }
 moves_grow s t (serves i list up shown others) k new = record {
@@ -147,10 +145,9 @@ moves_grow s t (serves i list up shown others) k new = record {
   decided = λ x d. (d, refl);
   new = λ x d. inl d;
   shown = λ x j l is. is;
-  served = λ x j is. ⊎_elim
-      (λ (z : (x ≡ key (s.node i).promise) × (j ≡ i) × (put2 s.served (key (s.node i).promise) i true x j ≡ true)). z.2)
-      (λ (z : ((x ≡ key (s.node i).promise) × (j ≡ i) → ⊥) × (put2 s.served (key (s.node i).promise) i true x j ≡ s.served x j)). z.1 ∙ is)
-      (put2_cases s.served (key (s.node i).promise) i true x j);
+  served = λ x j is. either (put2_cases s.served (key (s.node i).promise) i true x j)
+      (λ z. z.2)
+      (λ z. z.1 ∙ is);
 }
 moves_grow s t (fetches i h list e up ballot served shown next) k new = node_grows s i (longer (s.node i) e) (longer_name (s.node i) e)
 moves_grow s t (decides i v may) k new = decision_grows s i v new.0 new.1

@@ -106,7 +106,6 @@ module _ (w : World) (s : Group) (name heard : ℕ) (x : Node) (k : Kept s) (h :
   unfolding mem
   counts =
       let may = (h.leads t).0 in
-      let top_ = may.within in
       let more : nodes.top p ≡ nodes.top x + 1 = (let z = length-append x.core.log.entries (e ∷ []) in omega arith) in
       record {
         good = good_push a.list (Leave name) may.good (leave_fits (image_of a.list) name member) tt;
@@ -154,7 +153,6 @@ module _ (w : World) (s : Group) (name heard : ℕ) (x : Node) (k : Kept s) (h :
       let upto = max g acc in
       let size_ = ap length h.group in
       let some = begins_length begins in
-      let low = h.acc in
       let rises = held.rises in
       let high = held.within in
       let n = after_closing x in

@@ -25,7 +25,6 @@ pub follower_learns : (v : World) (name heard : ℕ) (n : Node) (s : Group) (gro
     → IsUp (s.node name) → Begins s.group group → Word s name heard → Learns s name n heard → MayLearn s name n group
 follower_learns v name heard n s group k old up grows word f =
     let ok = k.each name in
-    let fronts = ok.fronts in
     let more = begins_length grows in
     let low = word_group s name heard word in
     let told = f.told in

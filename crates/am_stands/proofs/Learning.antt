@@ -69,17 +69,12 @@ module _ (w : World) (s : Group) (name heard : ℕ) (x : Node) (k : Kept s) (h :
   follows : is_sequencer x ≡ false → AcceptsAndLearns w s name y
   follows f =
       let fronts = (k.each name).fronts in
-      let told_ = fronts.told in
       let heard_ = word_group s name heard h.word in
       let size = ap length h.group in
       let told = h.follows f in
-      let acc = h.acc in
       let up_to = h.up_to in
       let given = h.given in
-      let within_ = h.within in
       let is = advanced x f in
-      let its_told = is.0 in
-      let its_acc = is.1 in
       let same_top = ap top_of (rests_refresh x).log in
       let same = no_more_group w.group y (omega arith) in
       let grows : Begins w.group (group_after w.group y) = subst (Begins w.group) (sym same) (begins_refl w.group) in
@@ -105,8 +100,6 @@ module _ (w : World) (s : Group) (name heard : ℕ) (x : Node) (k : Kept s) (h :
       (record { reports = counts.1; own = own; blank = λ j. (k.each j).blank }) in
       let g = length w.group in
       let size = ap length h.group in
-      let rises_ = held.rises in
-      let high = held.within in
       let some = begins_length begins in
       let all = max g y.core.acc in
       let is : group_after w.group y ≡ take all a.list = grown_after w.group (take all a.list) y (leads_rests (rests_refresh x).rests ∙ t)
@@ -114,8 +107,6 @@ module _ (w : World) (s : Group) (name heard : ℕ) (x : Node) (k : Kept s) (h :
       let long : length (take all a.list) ≡ all = length_take all a.list (omega arith) in
       let long_after = ap length is in
       let fronts = (k.each name).fronts in
-      let told_ = fronts.told in
-      let acc = h.acc in
       let up_to = h.up_to in
       let its_told = told_after x t h.within in
       let grows : Begins w.group (group_after w.group y) = subst (Begins w.group) (sym is) (begins_both begins (begins_take all a.list) (omega arith)) in
@@ -130,7 +121,6 @@ module _ (w : World) (s : Group) (name heard : ℕ) (x : Node) (k : Kept s) (h :
           up = up;
           told = omega arith;
           before = λ z d above. absurd (let most = k.views.order z d in
-              let now = l.current in
               let promised : key a.promise ≡ key x.core.promise = ap key h.stands.promise in
               omega arith);
           up_to = omega arith;

@@ -1,5 +1,5 @@
 -- In every lawful run of the group, whom a View on the chain left out has stopped.
-use Rattle.am_stands.proofs.Words.{split, ◌≡◌, ⊎_elim, ℕ, List, [], ◌∷◌, ◌++◌, length, true, false, refl, sym, ap, ◌∙◌, subst, arith, Entry, Leave, View}
+use Rattle.am_stands.proofs.Words.{split, ◌≡◌, either, ℕ, List, [], ◌∷◌, ◌++◌, length, true, false, refl, sym, ap, ◌∙◌, subst, arith, Entry, Leave, View}
 use Rattle.am_stands.proofs.Words.{GroupView, has, Begins, NotView, mem, view_of, key, begins_more, begins_trans, begins_length, begins_pushed, length_push}
 use Rattle.am_stands.proofs.Words.{good_begins, leaver_in, leaver_out, mem_between, mem_nil, Group, put, opening, chain_of, Move, MayDecide, with_line}
 use Rattle.am_stands.proofs.Words.{with_choice, choice_of, longer, numbers, stores, learns, begins, raises, fetches, gives_over, welcomes, asks, departs}
@@ -29,11 +29,9 @@ is_no_view _ v plain same = cc
 
 line_left : (s t : Group) (e : Entry) → ((j : ℕ) → (s.node j).stopped ≡ true → (t.node j).stopped ≡ true) → NotView e
     → chain_of t.views ≡ chain_of s.views ++ e ∷ [] → LeftOut s → LeftOut t
-line_left s t e stays plain chain h a v name part member out = ⊎_elim
-    (λ (z : Begins (a ++ View v ∷ []) (chain_of s.views)). stays name (h a v name z member out))
-    (λ (z : a ++ View v ∷ [] ≡ chain_of s.views ++ e ∷ []).
-    absurd (is_no_view e v plain (same_from_push a (chain_of s.views) (View v) e z).1))
-    (begins_pushed e (subst (Begins (a ++ View v ∷ [])) chain part))
+line_left s t e stays plain chain h a v name part member out = either (begins_pushed e (subst (Begins (a ++ View v ∷ [])) chain part))
+    (λ z. stays name (h a v name z member out))
+    (λ z. absurd (is_no_view e v plain (same_from_push a (chain_of s.views) (View v) e z).1))
 
 -- the chain of who numbers
 pub longer_chain : (s : Group) (i : ℕ) (b : groups.Node) (e : Entry) → Kept s → Leads i (s.node i) → b.list ≡ (s.node i).list ++ e ∷ []
@@ -63,11 +61,9 @@ choice_left s k lawful c v d h a u name part member out =
     let all = opening (choice_of (s.node c) v) in
     let is : chain_of (with_choice s c v).views ≡ all = put_same s.views.line (key (s.node c).promise) all in
     let stays = put_stops s c (record (s.node c) { list = all; ballot = false }) (λ t. t) in
-    ⊎_elim
-    (λ (z : Begins (a ++ View u ∷ []) old).
-    stays name (h a u name (begins_trans z (list_chain s k lawful c v d)) member out))
-    (λ (z : a ++ View u ∷ [] ≡ old ++ e ∷ []).
-    (let last = (same_from_push a old (View u) e z).1 in
+    either (begins_pushed e (subst (Begins (a ++ View u ∷ [])) is part))
+    (λ z. stays name (h a u name (begins_trans z (list_chain s k lawful c v d)) member out))
+    (λ z. (let last = (same_from_push a old (View u) e z).1 in
     let its : u.members ≡ v.members = ap (λ x. names_of_view x) last in
     let one = length_push a (View u) in
     let two = length_push old e in
@@ -79,7 +75,6 @@ choice_left s k lawful c v d h a u name part member out =
     (λ goes. split (s.node name).departed
     (λ gone. absurd (none_departed s k lawful c v d name here gone))
     (λ there. absurd (let in_ = d.all name here (record { goes = goes; stays = there }) in let o = ap (λ set. has set name) its ∙ in_ in cc))))))
-    (begins_pushed e (subst (Begins (a ++ View u ∷ [])) is part))
   where
     names_of_view : Entry → List ℕ
     names_of_view (View seen) = seen.members
@@ -117,13 +112,12 @@ moves_left s t _ k law h = same_left s t (λ j z. z) refl h
 -- ---- each run
 
 start_left : (founders : List ℕ) (first resilience : ℕ) → LeftOut (start founders first resilience)
-start_left founders first resilience a v name part member out = ⊎_elim
-    (λ (low : Begins (a ++ View v ∷ []) []). absurd (let long = begins_length low in let one = length_push a (View v) in omega arith))
-    (λ (all : a ++ View v ∷ [] ≡ [] ++ View (first_choice founders first resilience).view ∷ []).
-    absurd (let long = ap length all in
+start_left founders first resilience a v name part member out = either
+    (begins_pushed {b = []} (View (first_choice founders first resilience).view) part)
+    (λ low. absurd (let long = begins_length low in let one = length_push a (View v) in omega arith))
+    (λ all. absurd (let long = ap length all in
     let one = length_push a (View v) in
     mem_nil name (subst (λ l. mem l name ≡ true) (nothing a (omega arith)) member)))
-    (begins_pushed (View (first_choice founders first resilience).view) part)
   where
     nothing : (l : List Entry) → length l ≡ 0 → l ≡ []
     nothing [] none = refl

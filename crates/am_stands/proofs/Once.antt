@@ -1,5 +1,5 @@
 -- A request of a name stands for one body, in every run.
-use Rattle.am_stands.proofs.StepWords.{idle_queues, ◌≡◌, ⊎_elim, ℕ, ◌+◌, ◌≤◌, List, [], refl, sym, ap, subst, arith, Outcome, Rules, Act, Event, Node, Ballot}
+use Rattle.am_stands.proofs.StepWords.{idle_queues, ◌≡◌, either, ℕ, ◌+◌, ◌≤◌, List, [], refl, sym, ap, subst, arith, Outcome, Rules, Act, Event, Node, Ballot}
 use Rattle.am_stands.proofs.StepWords.{set_at, Verdict, Step, World, start, record_of, with_record, with_step, run, split, Cause, calls, Looks, finds_itself_out}
 use Rattle.am_stands.proofs.StepWords.{Change, refreshes, settles, looks, queues, collects, closes, Answers, WasQueued, AnswersAsk, Effect, actor, IsCall, IsCause}
 use Rattle.am_stands.proofs.StepWords.{idles, stops, returns, steps, rests_refresh, rests_closed, settle_is, along, EachKeeps, runs_keep, after_step, AskedOk}
@@ -39,10 +39,9 @@ asked_step w e c s h cause effect =
     let m = w.nodes i in
     asked_more w.records w.nodes i s.node (record_of w e s.outcome s.letters) refl
     (along (λ x. m.sends.last ≤ x.sends.last) (λ x y. last_kept m.sends.last x y) effect.changes (omega arith))
-    (λ req body is. ⊎_elim
-    (λ (x : WasQueued m s.node req). (let next = x.next in let more = x.more in (next, omega arith)))
-    (λ (x : AnswersAsk m c (said.Queued req)). absurd (no_ask w i e.act c body x.round is.asked x.asked cause))
-    (subst (Answers m c s.node) is.answered effect.answer)) h
+    (λ req body is. either (subst (Answers m c s.node) is.answered effect.answer)
+    (λ x. (let next = x.next in let more = x.more in (next, omega arith)))
+    (λ x. absurd (no_ask w i e.act c body x.round is.asked x.asked cause))) h
 
 -- ---- runs
 

@@ -128,7 +128,6 @@ module _ (rules : Rules) (w : World) (name : ℕ) (c : Cause) (x : Node) (s : Gr
     comes =
         let own = (k.each name).fronts in
         let acc_ = f.acc here in
-        let most = own.acc in
         record {
           so = record {
             who = h.who;
@@ -180,8 +179,6 @@ module _ (rules : Rules) (w : World) (name : ℕ) (c : Cause) (x : Node) (s : Gr
     member_refreshed =
         let l = learns.learns in
         let on = goes_on rules.founders (lowest_or_first rules.founders) rules.resilience s next h.group path in
-        let most = l.told in
-        let given = l.given in
         record {
           changed = record {
             to = next;

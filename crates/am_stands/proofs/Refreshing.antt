@@ -1,5 +1,5 @@
 -- What a node keeps, through a refresh: what it accepts then is accepted in the group before, and what it trims was taken by all who need it.
-use Rattle.am_stands.proofs.Words.{◌≡◌, ⊎_elim, ℕ, ◌+◌, ◌≤◌, ◌==◌, true, false, List, length, refl, sym, ap, ◌∙◌, subst, arith, nat_tests, Entry, Image}
+use Rattle.am_stands.proofs.Words.{◌≡◌, either, ℕ, ◌+◌, ◌≤◌, ◌==◌, true, false, List, length, refl, sym, ap, ◌∙◌, subst, arith, nat_tests, Entry, Image}
 use Rattle.am_stands.proofs.Words.{Report, Rules, told_by, accept, pass_over, after_report, own_report, tell, go_on, let_go, IsGood, image_of, mem, mem_in}
 use Rattle.am_stands.proofs.Words.{Group, Kept, Node, is_member, is_sequencer, lowest_or_first, has_log, is_unfinished, advance, lead, refresh, World, split}
 use Rattle.am_stands.proofs.Words.{Cause, rests_refresh, refresh_is, leads_rests, Along, NameStands, within, Trimmed, Grows, OpensStand, ReportsFresh}
@@ -35,7 +35,7 @@ follow_follows x f = rw f refl
 pub member_old : (list : List Entry) (name : ℕ) → mem list name ≡ true → IsNew (image_of list) name → ⊥
 member_old list name member new =
     let k = mem_in list name member in
-    ⊎_elim (λ z. omega arith) (λ z. omega arith) new
+    either new (λ z. omega arith) (λ z. omega arith)
 
 -- ---- a refresh, where the group has accepted what it accepts
 
@@ -97,10 +97,6 @@ module _ (rules : Rules) (w v : World) (name : ℕ) (c : Cause) (x : Node) (s t 
     fronts_in =
         let a = later.owned.fronts in
         let b = h.along.owned.fronts in
-        let given = a.given in
-        let accepted = a.accepted in
-        let given_ = b.given in
-        let accepted_ = b.accepted in
         let top_ : nodes.top y ≡ nodes.top x = ap (λ l. l.start + length l.entries) log in
         (omega arith, omega arith)
 
@@ -123,9 +119,7 @@ module _ (rules : Rules) (w v : World) (name : ℕ) (c : Cause) (x : Node) (s t 
     refreshed : Refreshed (within v name y) name x y t
     refreshed =
         let f = later.owned.fronts in
-        let kept_ = f.kept in
         let base = f.base in
-        let given = f.given in
         let up = is_up v name y (t.node name) now.runs member_y now.stands in
         record {
           is = is;

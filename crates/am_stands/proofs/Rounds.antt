@@ -1,5 +1,5 @@
 -- In every run of the group each decided stamp has a round, and each promise of a name with a log.
-use Rattle.am_stands.proofs.Words.{◌≡◌, ◌≢◌, ⊎_elim, ℕ, ◌+◌, ◌<◌, List, true, false, refl, sym, ap, ◌∙◌, subst, arith, nat_tests, Stamp, key, Group, put, Move}
+use Rattle.am_stands.proofs.Words.{◌≡◌, ◌≢◌, either, ℕ, ◌+◌, ◌<◌, List, true, false, refl, sym, ap, ◌∙◌, subst, arith, nat_tests, Stamp, key, Group, put, Move}
 use Rattle.am_stands.proofs.Words.{own_stamp, numbers, stores, learns, begins, raises, fetches, gives_over, welcomes, asks, departs, closes, stops, founded}
 use Rattle.am_stands.proofs.Words.{more, start, first_stamp, put_cases, put_at, HasRound, RoundsOk, RunsHaveRounds}
 use Rattle.am_chain.specs.Moves.{decides}
@@ -26,11 +26,9 @@ choice_rounds : (s t : Group) (i : ℕ) (b : groups.Node) → t.node ≡ put s.n
 choice_rounds s t i b node decided promise log h =
     let mine = h.promised i log in
     record {
-      decided = λ x d. ⊎_elim
-          (λ (z : (x ≡ key (s.node i).promise) × (put s.views.decided (key (s.node i).promise) true x ≡ true)). subst HasRound (sym z.0) mine)
-          (λ (z : (x ≢ key (s.node i).promise) × (put s.views.decided (key (s.node i).promise) true x ≡ s.views.decided x)).
-          h.decided x (sym z.1 ∙ ap (λ f. f x) (sym decided) ∙ d))
-          (put_cases s.views.decided (key (s.node i).promise) true x);
+      decided = λ x d. either (put_cases s.views.decided (key (s.node i).promise) true x)
+          (λ z. subst HasRound (sym z.0) mine)
+          (λ z. h.decided x (sym z.1 ∙ ap (λ f. f x) (sym decided) ∙ d));
       promised = λ j. subst (λ (f : ℕ → groups.Node). (f j).has_log ≡ true → HasRound (key (f j).promise)) (sym node)
           (put_at (λ k (m : groups.Node). m.has_log ≡ true → HasRound (key m.promise)) s.node i b
           (λ t. subst (λ (u : Stamp). HasRound (key u)) (sym promise) mine) (λ k other. h.promised k) j);

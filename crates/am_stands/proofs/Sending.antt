@@ -220,7 +220,6 @@ sent_says v i c m n s to p h (nack _ a) = so v i c m n s h to _
     (subst (λ j. says.ReportSays s j n.core.promise (nodes.report_of n)) (sym h.who) (reports v i c m n s h a))
 sent_says v i c m n s to p h (welcome name t may) =
     let good = good_begins ((h.group.kept.each i).list (speaks_leading v i c m n s h t).up) h.group.kept.views.good in
-    let base = h.numbers.base in
     let is = is_welcomed v i m n (s.node i) name h.stands good h.lives (start_leading v i c m n s h t) h.numbers.accepted may in
     so v i c m n s h (only_name name) _ (
       h.trimmed,

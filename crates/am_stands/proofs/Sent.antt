@@ -1,5 +1,5 @@
 -- What a sender says is so.
-use Rattle.am_stands.proofs.Words.{same_stamp, ◌≡◌, ⊎_elim, ℕ, suc, ◌+◌, ◌<◌, ◌≤◌, ◌==◌, List, [], ◌∷◌, ◌++◌, length, take, true, Some, slice_get, sym, ap}
+use Rattle.am_stands.proofs.Words.{same_stamp, ◌≡◌, either, ℕ, suc, ◌+◌, ◌<◌, ◌≤◌, ◌==◌, List, [], ◌∷◌, ◌++◌, length, take, true, Some, slice_get, sym, ap}
 use Rattle.am_stands.proofs.Words.{◌∙◌, subst, arith, cases_lt, length-take, nat_tests, Entry, Stamp, Image, stamp_eq, item_at, Begins, IsGood, view_of, key}
 use Rattle.am_stands.proofs.Words.{begins_trans, take_begins, begins_refl, Group, IsUp, chain_of, Kept, Node, view, is_member, acts, is_sequencer, World}
 use Rattle.am_stands.proofs.Words.{split, and_both, NameStands, FrontsStand, line, IsDecided, SequencerSays, EntrySays, ReportSays, LeaverSays, of_view}
@@ -26,12 +26,11 @@ promise_line v i n s h d =
     let same : a.promise ≡ n.core.promise = h.stands.promise in
     let decided : s.views.decided (key a.promise) ≡ true = ap (λ (u : Stamp). s.views.decided (key u)) same ∙ d in
     let most = h.kept.views.order (key a.promise) decided in
-    subst (λ (u : Stamp). Begins a.list (line s u)) same (⊎_elim
-    (λ (below : key a.promise < key s.views.current). (let late = ok.late h.up below in
+    subst (λ (u : Stamp). Begins a.list (line s u)) same (either (cases_lt (key a.promise) (key s.views.current))
+    (λ below. (let late = ok.late h.up below in
     begins_trans late.list (late.lines (key a.promise) decided (omega arith))))
-    (λ (above : key s.views.current ≤ key a.promise). (let keys : key s.views.current ≡ key a.promise = omega arith in
-    subst (λ x. Begins a.list (s.views.line x)) keys (ok.list h.up)))
-    (cases_lt (key a.promise) (key s.views.current)))
+    (λ above. (let keys : key s.views.current ≡ key a.promise = omega arith in
+    subst (λ x. Begins a.list (s.views.line x)) keys (ok.list h.up))))
 
 all_taken : (list : List Entry) (n : ℕ) → n ≡ length list → take n list ≡ list
 all_taken list n is = ap (λ k. take k list) is ∙ take_begins (begins_refl list)

@@ -1,5 +1,5 @@
 -- What is known where a step begins: what the run keeps, with the step's record.
-use Rattle.am_stands.proofs.StepWords.{◌≡◌, ⊎_elim, ℕ, zero, suc, ◌<◌, ◌≤◌, ◌==◌, true, false, List, Some, slice_get, slice_index, get_or-set_same, refl, sym, ap}
+use Rattle.am_stands.proofs.StepWords.{◌≡◌, either, ℕ, zero, suc, ◌<◌, ◌≤◌, ◌==◌, true, false, List, Some, slice_get, slice_index, get_or-set_same, refl, sym, ap}
 use Rattle.am_stands.proofs.StepWords.{◌∙◌, subst, arith, All, nat_tests, Stamp, NodeEvent, GiveUp, Rules, MayFound, place_of, life_of, nobody, with_name, has}
 use Rattle.am_stands.proofs.StepWords.{no_stamp, Packet, Letter, goes_to_any, Act, Event, Record, item_at, key, begins_refl, Group, Node, set_at, has_departed}
 use Rattle.am_stands.proofs.StepWords.{Step, World, start, is_stopped, run, heard_by, split, Cause, calls, hears, Effect, actor, WasSentTo, IsCall, IsCause}
@@ -51,10 +51,9 @@ pub begun_stands : (w : World) (s : Group) (v : Stamp) → Stands w s → ((i : 
     → WasBegun s v
 begun_stands w s v h named small is = record {
   small = small;
-  begun = subst (λ (u : Stamp). key v ≤ key u) (sym (h.each v.by small).promise) (⊎_elim
-      (λ (z : v ≡ no_stamp). subst (λ (u : Stamp). key u ≤ key (w.nodes v.by).core.promise) (sym z) (none_key _))
-      (λ (z : AtMost v (w.nodes v.by).core.promise). not_above_key v (w.nodes v.by).core.promise small (named v.by small) z)
-      is);
+  begun = subst (λ (u : Stamp). key v ≤ key u) (sym (h.each v.by small).promise) (either is
+      (λ z. subst (λ (u : Stamp). key u ≤ key (w.nodes v.by).core.promise) (sym z) (none_key _))
+      (λ z. not_above_key v (w.nodes v.by).core.promise small (named v.by small) z));
 }
 
 -- only a joiner's asking goes to any life, and says nothing

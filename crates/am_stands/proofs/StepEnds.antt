@@ -1,5 +1,5 @@
 -- The end of a step: the refresh, what of it settles a send, and what the step noted.
-use Rattle.am_stands.proofs.StepWords.{nothing_viewed, member_stays, not-true, logged, stamp_itself, same_stamp, ◌≡◌, ◌≢◌, ⊎_elim, ℕ, ◌<◌, ◌≤◌, ◌==◌, ◌&&◌, not}
+use Rattle.am_stands.proofs.StepWords.{nothing_viewed, member_stays, not-true, logged, stamp_itself, same_stamp, ◌≡◌, ◌≢◌, either, ℕ, ◌<◌, ◌≤◌, ◌==◌, ◌&&◌, not}
 use Rattle.am_stands.proofs.StepWords.{true, false, List, [], ◌∷◌, ◌++◌, slice_get, Some, refl, sym, ap, ◌∙◌, subst, arith, nat_tests, Stamp, Entry, Outcome}
 use Rattle.am_stands.proofs.StepWords.{Rules, Log, told_by, members_of, stamp_lt, stamp_eq, no_stamp, view_of, key, view_small, Group, IsUp, Node, top, view}
 use Rattle.am_stands.proofs.StepWords.{image_of, is_member, has_log, has_departed, refresh, settle, Decided, World, group_after, views_after, split, and_both}
@@ -94,9 +94,9 @@ none_decided rules w name c m n t group h goes log_ there noted is member own di
       log = mine.log_ ∙ log_ had;
       there = record { goes = mine.stopped ∙ h.runs; stays = mine.departed ∙ there (member_stays m.status member) };
     } in
-    ⊎_elim
-    (λ (same : SameView (image_of n) (image_of m)). (let z : stamp_eq (view m) (view n) ≡ true = ap (stamp_eq (view m)) same.view
-    ∙ stamp_itself (view m) in cc)) (λ (k : (stamp_lt (view m) (view n) ≡ true) × Stood n.core.log). (
+    either (goes had).view
+    (λ same. (let z : stamp_eq (view m) (view n) ≡ true = ap (stamp_eq (view m)) same.view
+    ∙ stamp_itself (view m) in cc)) (λ k. (
     let viewed : view_of (t.node name).list ≡ view n = view_whole (further w group w.views) name n (t.node name) mine in
     let g = whole rules (further w group w.views) name c n t h in
     let some : (t.node name).list ≢ [] = λ none. (let z : view n ≡ no_stamp = sym viewed ∙ ap view_of none ∙ nothing_viewed in
@@ -110,7 +110,6 @@ none_decided rules w name c m n t group h goes log_ there noted is member own di
     let low : stamp_lt (view m) (view n) ≡ false = ap (stamp_lt (view m)) (sym same) ∙ subst (λ (i : Node). stamp_lt (view i) was.view.stamp ≡ false)
     (ap w.nodes by ∙ is) d.low in
     cc))
-    (goes had).view
 
 pub views_end : (rules : Rules) (w : World) (name : ℕ) (c : Cause) (m n : Node) (t : Group) (group : List Entry) (views : List Decided)
     → Stepping rules (further w group views) name c n t → (has_log m.status ≡ true → Goes m.core.log n.core.log)

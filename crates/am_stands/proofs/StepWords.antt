@@ -1,6 +1,6 @@
 -- The words of this crate's proofs, of the crates and definitions that they come from.
 pub use Rattle.am_stands.proofs.Words.{◌≡◌, List, ℕ, zero, suc, ◌+◌, ◌-◌, ◌<◌, ◌≤◌, ◌==◌, ◌||◌, not, nat_le, true, false, [], ◌∷◌, Some, slice_get, refl, sym}
-pub use Rattle.am_stands.proofs.Words.{ap, ◌∙◌, subst, arith, nat_lt, Bool, length, ◌⊎◌, inl, inr, ⊎_elim, max, ◌++◌, ◌≢◌, ◌&&◌, take, drop, append-nil}
+pub use Rattle.am_stands.proofs.Words.{ap, ◌∙◌, subst, arith, nat_lt, Bool, length, ◌⊎◌, inl, inr, either, max, ◌++◌, ◌≢◌, ◌&&◌, take, drop, append-nil}
 pub use Rattle.am_stands.proofs.Words.{Option, None, if◌then◌else◌, slice_index, not-true, nat_tests, length-take, All-nil, All-append, All-cons, All-head}
 pub use Rattle.am_stands.proofs.Words.{All-tail, list_any-append, list_any, All, Rules, MayFound, Stamp, Image, Entry, View, Leave, Data, Outcome, stamp_eq}
 pub use Rattle.am_stands.proofs.Words.{stamp_lt, no_stamp, Log, top_of, told_by, entry_at, after, members_of, split, and_both, size, place_of, life_of, has}

@@ -1,5 +1,5 @@
 -- One change of a step after another, while none is a refresh: what is known within the step stays known.
-use Rattle.am_stands.proofs.Words.{◌≡◌, ⊎_elim, ℕ, ◌<◌, ◌≤◌, List, [], length, Some, slice_get, refl, sym, ap, subst, arith, append-nil, Outcome, Stamp}
+use Rattle.am_stands.proofs.Words.{◌≡◌, either, ℕ, ◌<◌, ◌≤◌, List, [], length, Some, slice_get, refl, sym, ap, subst, arith, append-nil, Outcome, Stamp}
 use Rattle.am_stands.proofs.Words.{Rules, view_small, Group, Node, Ballot, view, lowest_or_first, Verdict, Decided, World, last_view, Cause, Looks}
 use Rattle.am_stands.proofs.Words.{finds_itself_out, waits, fetches_from_best, finds_too_few, finds_no_room, decides, Change, refreshes, settles, begins_list}
 use Rattle.am_stands.proofs.Words.{looks, unchanged, changed, get_push, settle_is, stamp_of, change_named, Along, along_changes, CauseSent, change_sent}
@@ -35,10 +35,9 @@ looked_noted (waits a e) w small h = h
 looked_noted (fetches_from_best a e f) w small h = h
 looked_noted (finds_too_few a e) w small h = h
 looked_noted (finds_no_room a) w small h = h
-looked_noted {v = v} (decides may) w small h = λ k d is. ⊎_elim
-    (λ (z : slice_get w.views k ≡ Some d). h k d z)
-    (λ (z : (k ≡ length w.views) × (last_view v.node ≡ d)). subst (λ (q : Decided). q.stamp.by < 256) z.1 small)
-    (get_push w.views (last_view v.node) k d is)
+looked_noted {v = v} (decides may) w small h = λ k d is. either (get_push w.views (last_view v.node) k d is)
+    (λ z. h k d z)
+    (λ z. subst (λ (q : Decided). q.stamp.by < 256) z.1 small)
 
 noted_next : {c : Cause} {o : Outcome} {x y : Node} (z : Change c o x y) (w : World) → (view y).by < 256
     → ((k : ℕ) (d : Decided) → slice_get w.views k ≡ Some d → d.stamp.by < 256)

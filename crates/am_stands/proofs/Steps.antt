@@ -1,5 +1,5 @@
 -- Each step of a name of a run is moves of the group that stands for it.
-use Rattle.am_stands.proofs.StepWords.{same_group, member_stays, stamp_itself, same_stamp, ◌≡◌, ⊎_elim, Option, None, ℕ, ◌<◌, ◌≤◌, ◌==◌, not, nat_lt, true, false}
+use Rattle.am_stands.proofs.StepWords.{same_group, member_stays, stamp_itself, same_stamp, ◌≡◌, either, Option, None, ℕ, ◌<◌, ◌≤◌, ◌==◌, not, nat_lt, true, false}
 use Rattle.am_stands.proofs.StepWords.{List, [], Some, slice_get, refl, sym, ap, ◌∙◌, subst, arith, All, nat_tests, Stamp, NodeEvent, Outcome, Entry, Leave, Rules}
 use Rattle.am_stands.proofs.StepWords.{MayFound, Log, told_by, size, stamp_lt, stamp_eq, Letter, Event, Group, Departed, Node, Ballot, view, acts, is_member}
 use Rattle.am_stands.proofs.StepWords.{others, is_sequencer, push_entry, has_departed, is_unfinished, Step, hears_member, refresh, settle, refresh_at_end, Decided}
@@ -163,9 +163,6 @@ module _ (rules : Rules) (events : List Event) (e : Event) (c : Cause) (s : Grou
       let closed = h.gone name few left in
       let r = rests_step m x gone closed deeds in
       let k = (numbers_hold rules events).each name in
-      let low = r.low in
-      let told_ = k.told in
-      let acc_ = k.acc in
       let group_ : group_after w.group n ≡ w.group = same_group w.group n (omega arith) in
       let views_ : views_after w.views m n ≡ w.views = stranger_views w.views m n (ap is_member gone) in
       let begun = recorded w (after_step w e step) in
@@ -208,8 +205,8 @@ module _ (rules : Rules) (events : List Event) (e : Event) (c : Cause) (s : Grou
         (λ vs. Stepping rules (further begun (group_after w.group n) vs) name c n a.to) same_views a.goes in
         let stands = ended_stands w e name step a.to goes.stands a.fronts in
         let land = landed rules w e name step s a.to h a.path stands (λ d. ended_keeps rules w e name c step a.to goes) (λ d. absurd (both_ways _ d there)) in
-        let sender_is : effect.sender ≡ n = is_sender n effect.sender effect.is (⊎_elim (λ (z : n.status ≡ effect.sender.status). z)
-        (λ (z : n.status ≡ Departed). absurd (both_ways _ (ap has_departed z) there)) effect.stays) in
+        let sender_is : effect.sender ≡ n = is_sender n effect.sender effect.is (either effect.stays (λ z. z)
+        (λ z. absurd (both_ways _ (ap has_departed z) there))) in
         let says = subst (λ k. All (letters.LetterSays m c k) sent) sender_is effect.letters in
         let after = owns_next rules w e v (steps c step runs cause effect) (run_owns rules events may) in
         let mine : NameStands v name n (a.to.node name) = subst (λ k. NameStands v name k (a.to.node name)) (is_node step) (stands.each name few) in

@@ -1,5 +1,5 @@
 -- A ballot that its coordinator decides may be decided by the group's own test.
-use Rattle.am_stands.proofs.Words.{eq-eqb, eqb-true, ◌≡◌, ◌⊎◌, inl, inr, ⊎_elim, ℕ, zero, suc, ◌+◌, ◌<◌, ◌≤◌, ◌==◌, ◌&&◌, ◌||◌, not, nat_lt, is_some, set, List}
+use Rattle.am_stands.proofs.Words.{eq-eqb, eqb-true, ◌≡◌, ◌⊎◌, inl, inr, either, ℕ, zero, suc, ◌+◌, ◌<◌, ◌≤◌, ◌==◌, ◌&&◌, ◌||◌, not, nat_lt, is_some, set, List}
 use Rattle.am_stands.proofs.Words.{[], ◌∷◌, ◌++◌, length, Bool, true, false, Option, Some, None, slice_index, refl, sym, ap, ◌∙◌, subst, arith, list_all}
 use Rattle.am_stands.proofs.Words.{list_any, range_with_len, nat_tests, Entry, Vote, Image, Stamp, IsSet, place_of, life_of, name_at, by_place, has, size}
 use Rattle.am_stands.proofs.Words.{is_within, slice_index-by_place, stamp_lt, stamp_eq, vote_lt, member_life, members_of, Begins, image_of, mem, view_of}
@@ -55,10 +55,9 @@ unfolding best_of
 best_low x b own none small views j vote few is =
     let best = best_vote_is b.votes x.core.who (own_vote x) small views in
     let by : (best_of x b).by ≡ x.core.who = grind (arith, nat_tests) in
-    let shown : (best_of x b).vote ≡ own_vote x = ⊎_elim
-    (λ (z : ((best_of x b).by ≡ x.core.who) × ((best_of x b).vote ≡ own_vote x)). z.1)
-    (λ (z : b.votes (best_of x b).by ≡ Some (best_of x b).vote). absurd (let y : b.votes x.core.who ≡ Some (best_of x b).vote = ap b.votes (sym by) ∙ z in cc))
-    best.shown in
+    let shown : (best_of x b).vote ≡ own_vote x = either best.shown
+    (λ z. z.1)
+    (λ z. absurd (let y : b.votes x.core.who ≡ Some (best_of x b).vote = ap b.votes (sym by) ∙ z in cc)) in
     ap (λ (v : Vote). vote_lt v vote) (sym shown) ∙ best.above_all j vote few is
 
 -- ---- who is needed
@@ -92,11 +91,10 @@ is_some_of : (test : ℕ → Bool) (names : List ℕ) (place : ℕ) → place < 
 is_some_of test names place low =
     let life = slice_index (those test names) place in
     let all = slice_index names place in
-    ⊎_elim
-    (λ (z : slice_index (those test names) place ≡ 0). (let t : (life == 0) ≡ true = grind (arith, nat_tests) in rw t refl))
-    (λ (z : slice_index (those test names) place ≡ slice_index names place). (let t : (life == all) ≡ true = grind (arith, nat_tests) in
+    either (those_some test names place low)
+    (λ z. (let t : (life == 0) ≡ true = grind (arith, nat_tests) in rw t refl))
+    (λ z. (let t : (life == all) ≡ true = grind (arith, nat_tests) in
     or_true (life == 0) (life == all) t))
-    (those_some test names place low)
   where
     or_true : (a b : Bool) → b ≡ true → (a || b) ≡ true
     or_true true b t = refl
@@ -133,14 +131,12 @@ other_voted w name x b s j h may needed stays other =
     let order = vote_low (own_vote x) vote.0 h.view_ (h.views j vote.0 vote.1) low in
     let seen : key vote.0.view ≡ key (view_of tells.list) = ap key tells.view in
     let mine : key (view x) ≡ key (view_of a.list) = ap (λ (i : Image). key i.view) (sym told_is) in
-    let top = tells.top in
     record {
       vote = tells.list;
       is = ap (λ (u : Stamp). s.shown (key u) j) (sym stamp) ∙ tells.shown;
-      worse = ⊎_elim
-          (λ (z : key vote.0.view < key (view x)). inl (omega arith))
-          (λ (z : (key vote.0.view ≡ key (view x)) × (vote.0.top ≤ nodes.top x)). (let y = z.0 in let u = z.1 in inr (omega arith, omega arith)))
-          order;
+      worse = either order
+          (λ z. inl (omega arith))
+          (λ z. (let y = z.0 in let u = z.1 in inr (omega arith, omega arith)));
     }
 
 -- ---- the group's own test
@@ -213,9 +209,8 @@ view_members x b long need =
     let names = left_in b (need_of x b) in
     let before = trim_for x b names in
     let some : (place : ℕ) → place < 16 → (slice_index names place ≡ 0) ⊎ (slice_index names place ≡ slice_index (members x) place) =
-    λ place low. ⊎_elim (λ (z : slice_index names place ≡ 0). inl z)
-    (λ (z : slice_index names place ≡ slice_index (need_of x b) place). inr (z ∙ ap (λ set. slice_index set place) need))
-    (those_some test (need_of x b) place low) in
+    λ place low. either (those_some test (need_of x b) place low) (λ z. inl z)
+    (λ z. inr (z ∙ ap (λ set. slice_index set place) need)) in
     ap members_of (told_pushed before (View (decided_view x b names)))
     ∙ viewed_members (nodes.image_of x) (nodes.top x + 1) (decided_view x b names) long (omega arith) (those_long test (need_of x b)) some
 
@@ -253,11 +248,9 @@ decision_needs w name x b s k h own set may =
 pub best_shown : (w : World) (name : ℕ) (x : Node) (b : Ballot) (s : Group) → Kept s → BallotKnown w name x b s → ((best_of x b).by == x.core.who) ≡ false
     → nat_lt 0 (size (those (is_waited_for x.core.who b) (need_of x b))) ≡ false → AllShown s b.stamp (best_of x b).by
 unfolding best_of mem
-best_shown w name x b s k h other none = ⊎_elim
-    (λ (z : ((best_of x b).by ≡ x.core.who) × ((best_of x b).vote ≡ own_vote x)). absurd
-    (let t : ((best_of x b).by == x.core.who) ≡ true = eq-eqb (best_of x b).by x.core.who z.0 in cc))
-    (λ (z : b.votes (best_of x b).by ≡ Some (best_of x b).vote).
-    (let best = h.votes (best_of x b).by (best_of x b).vote z in
+best_shown w name x b s k h other none = either (best_vote_is b.votes x.core.who (own_vote x) h.view_ h.views).shown
+    (λ z. absurd (let t : ((best_of x b).by == x.core.who) ≡ true = eq-eqb (best_of x b).by x.core.who z.0 in cc))
+    (λ z. (let best = h.votes (best_of x b).by (best_of x b).vote z in
     let by : b.stamp.by ≡ name = ap (λ (u : Stamp). u.by) (h.stamp ∙ sym h.stands.promise) ∙ ((k.each name).ballot h.up h.ballot).by in
     record {
       list = best.list;
@@ -271,4 +264,3 @@ best_shown w name x b s k h other none = ⊎_elim
           let tells = h.votes j vote.0 vote.1 in
           inr (tells.list, tells.shown)));
     }))
-    (best_vote_is b.votes x.core.who (own_vote x) h.view_ h.views).shown
