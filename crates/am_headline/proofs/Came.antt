@@ -1,7 +1,7 @@
 -- How a name comes to act in a view: it did before, it decided it, or a letter of the view's own name told it, whose base it had taken.
 use Rattle.am_model.specs.Ballots.{decided_view}
 use Rattle.am_base.specs.declared.entry.GroupView.{GroupView}
-use Rattle.am_headline.proofs.RepairedWords.{numbers_plain, stamp_by, other_asks, other_heard, stamp_itself, same_stamp, ◌≡◌, ⊎_elim, ℕ, ◌<◌, ◌≤◌, ◌==◌, ◌&&◌}
+use Rattle.am_headline.proofs.RepairedWords.{numbers_plain, stamp_by, other_asks, other_heard, stamp_itself, same_stamp, ◌≡◌, either, ℕ, ◌<◌, ◌≤◌, ◌==◌, ◌&&◌}
 use Rattle.am_headline.proofs.RepairedWords.{true, false, [], refl, sym, ap, ◌∙◌, subst, arith, nat_tests, Entry, View, Image, Stamp, Outcome, Rules, stamp_lt}
 use Rattle.am_headline.proofs.RepairedWords.{stamp_eq, Log, blank, fold, told_by, Node, Ballot, view, acts, is_member, push_entry, trim_up_to, has_log, Verdict}
 use Rattle.am_headline.proofs.RepairedWords.{with_promise, next_stamp, trim_for, left_in, need_of, is_view, split, Cause, hears, Looks, fetches_from_best}
@@ -152,10 +152,9 @@ blank_low v = grind (arith, nat_tests)
 pub view_rises : {c : Cause} {o : Outcome} (x y : Node) → Blanked x → HeardNames c → HasNames x → Balloted x → Change c o x y
     → stamp_lt (view y) (view x) ≡ false
 view_rises x y blank heard names k z = split (has_log x.status)
-    (λ t. ⊎_elim
-    (λ (same : SameView (told_by y.core.log) (told_by x.core.log)). ap (λ u. stamp_lt u (view x)) same.view ∙ not_above_itself (view x))
-    (λ (up : (stamp_lt (view x) (view y) ≡ true) × Stood y.core.log). not_above (view x) (view y) up.0)
-    ((change_does heard x y z names k).goes t).view)
+    (λ t. either ((change_does heard x y z names k).goes t).view
+    (λ same. ap (λ u. stamp_lt u (view x)) same.view ∙ not_above_itself (view x))
+    (λ up. not_above (view x) (view y) up.0))
     (λ f. subst (λ (l : Log). stamp_lt (view y) (told_by l).view ≡ false) (sym (blank f).blank_) (blank_low (view y)))
 
 came_along : (rules : Rules) {c : Cause} {o : Outcome} (m x n : Node) → HeardNames c → HeardUsed c → Changes c o x n → Along rules x

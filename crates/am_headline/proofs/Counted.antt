@@ -63,7 +63,6 @@ stays_member s q list n name k left leads is low high view_ leaves h = split (me
     let there : Begins (e.before ++ Leave name ∷ []) list = subst (λ x. Begins (e.before ++ x ∷ []) list) by e.within in
     let asked = left.asked e.before name (subst (Begins (e.before ++ Leave name ∷ [])) is there) in
     let size = begins_length at.begins_ in
-    let near = at.near in
     let part = subst (λ l. mem l name ≡ true) (sym (take_begins at.begins_)) at.member in
     by_gone e.before good there (omega arith) (left.gone name (leaves (length at.upto) (omega arith) (omega arith) part asked))))
   where
@@ -172,9 +171,7 @@ module _ (rules : Rules) (events : List Event) (place : ℕ) (may : MayFound rul
     start_low : m.core.log.start < number
     start_low =
         let num = (numbers_hold rules events).each q in
-        let a = num.kept in
         let b = taken_holds rules events q may few in
-        let c = num.given in
         omega arith
 
     -- who is leaving and was a member since what is accepted has departed
@@ -185,9 +182,7 @@ module _ (rules : Rules) (events : List Event) (place : ℕ) (may : MayFound rul
         (λ d. d)
         (λ d. absurd (
         let num = (numbers_hold rules events).each q in
-        let a = num.kept in
         let b = taken_holds rules events q may few in
-        let c = num.given in
         let none = repair.nobody_leaves name t d at front within_ in
         let same : image_at m.core.log at ≡ image_of (take at list) = image_whole w q at m (s.node q) stands (omega arith) in
         let there : has (members_at m.core.log at) name ≡ true = ap (λ (g : Image). has (members_of g) name) same ∙ member in

@@ -42,7 +42,6 @@ hears_members r q i l who other =
 pub is_known : (m : Node) (i : ℕ) → IsUsed (image_of m) → has (members m) i ≡ true → is_unknown m i ≡ false
 is_known m i used there =
     let k = has_in (image_of m) i used.places there in
-    let life = k.is in
     let same : ((at_place (image_of m) i).life == life_of i) ≡ true = grind (arith, nat_tests) in
     rw same (grind (arith, nat_tests))
 
@@ -297,7 +296,6 @@ first_wave_accepts rules r i after w low h poll there other stored =
     hits = record {
       keeps = λ p n u late within k.
           (let grow = (grow_goes rules r u (event_at p (act.Hear n)) (hears_ p n (omega arith)) k.0).stored i there in
-          let far = k.1 in
           (fine_goes rules r u (event_at p (act.Hear n)) (hears_ p n (omega arith)) k.0, omega arith, stays_goes w u (event_at p (act.Hear n)) k.2));
       hits = λ u k. front_hear rules r i poll.sent.number poll.letter poll.base poll.acc poll.high u k.0 there other
           (k.2.letters poll.sent.number poll.letter poll.sent.there) poll.sent.meant poll.is poll.told k.1;

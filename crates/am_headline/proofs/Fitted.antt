@@ -1,5 +1,5 @@
 -- Up to its lawful front each node of a run has room for a View that leaves somebody out.
-use Rattle.am_headline.proofs.Words.{eqb-true, not_view, same_stamp, low_or_above, ◌≡◌, ◌⊎◌, ⊎_elim, inl, inr, ℕ, zero, suc, ◌+◌, ◌-◌, ◌<◌, ◌≤◌, ◌==◌, true}
+use Rattle.am_headline.proofs.Words.{eqb-true, not_view, same_stamp, low_or_above, ◌≡◌, ◌⊎◌, either, inl, inr, ℕ, zero, suc, ◌+◌, ◌-◌, ◌<◌, ◌≤◌, ◌==◌, true}
 use Rattle.am_headline.proofs.Words.{false, List, [], ◌∷◌, ◌++◌, length, take, Some, slice_get, refl, sym, ap, ◌∙◌, subst, arith, length-map, Entry, Data, View}
 use Rattle.am_headline.proofs.Words.{GroupView, Stamp, Rules, MayFound, has, size, top_of, told_by, member_life, members_of, members_at, CoreState, stamp_eq}
 use Rattle.am_headline.proofs.Words.{Packet, Letter, Event, item_at, Begins, view_of, key, key_by, view_push, view_viewed, long_told, begins_both}
@@ -74,8 +74,6 @@ module _ (rules : Rules) (events : List Event) (e : Event) (c : Cause) (step : S
   fits_line number base u x row log up above st line its =
       let mine = stored_list w v s t i m n row base number x stands_m stands_n group_grows log st in
       let long = long_all w i m (s.node i) stands_m in
-      let next = st.next in
-      let low = st.base_ in
       let start = order_n in
       stored_fits rules v t i base number n (s.node i).list (t.views.line (key u)) x stands_n (omega arith) (omega arith) (omega arith) mine its
       (fit_more rules (s.views.line (key u)) (t.views.line (key u)) base number (grows.lines (key u) line.decided) line.fits)
@@ -116,7 +114,6 @@ module _ (rules : Rules) (events : List Event) (e : Event) (c : Cause) (step : S
         by_way (too_short log up) = fits_still number log up above within
         by_way (whole_packet same) =
             let r = row_ends m p in
-            let low = r.base in
             let base = ap (λ (x : Node). x.core.base) same in
             f (ap (λ (x : Node). x.core.log) same ∙ r.log) (omega arith)
 
@@ -217,7 +214,6 @@ module _ (rules : Rules) (events : List Event) (e : Event) (c : Cause) (step : S
         let part : Begins (s.node i).list list = begins_both mine chain (let z = within.1 in omega arith) in
         let its = begins_push x part (next_item list at) in
         let goes = stored_list w v s t i m n row base number x stands_m stands_n group_grows log st in
-        let low = st.base_ in
         let start = order_n in
         stored_fits rules v t i base number n (s.node i).list list x stands_n (omega arith) number_is (omega arith) goes its fit
 
@@ -266,7 +262,7 @@ module _ (rules : Rules) (events : List Event) (e : Event) (c : Cause) (step : S
         let used = heard_used rules w e c owned cause in
         let all = fitting_changes rules c step.outcome m n names used effect.changes (each_along rules w i few owned)
         (λ k high low. inl ((h.nodes i).each k high low)) number above within in
-        ⊎_elim (λ (f : FitsAt rules n number). f) (λ (b : BringsEntry c number). by_packet number b above within) all);
+        either all (λ f. f) (λ b. by_packet number b above within));
   }
     where
       by_packet : (number : ℕ) → BringsEntry c number → n.core.base < number → number ≤ top n → FitsAt rules n number
@@ -308,13 +304,12 @@ module _ (rules : Rules) (events : List Event) (e : Event) (c : Cause) (step : S
           → LineFits rules t n.core.promise n.core.base number
       own_line within long d = record {
         decided = d;
-        fits = ⊎_elim
-            (λ (low : number ≤ n.core.base). fit_low rules (t.views.line (key n.core.promise)) n.core.base number low long)
-            (λ (above : n.core.base < number). subst (λ (y : Stamp). FitIn rules (t.views.line (key y)) n.core.base number) stands_n.promise
+        fits = either (low_or_above number n.core.base)
+            (λ low. fit_low rules (t.views.line (key n.core.promise)) n.core.base number low long)
+            (λ above. subst (λ (y : Stamp). FitIn rules (t.views.line (key y)) n.core.base number) stands_n.promise
             (fit_more rules (t.node i).list (t.views.line (key (t.node i).promise)) n.core.base number
             (promised_line t i kept_t (up_n stays number above within) (ap (λ y. t.views.decided (key y)) stands_n.promise ∙ d))
-            (own_fit number above within)))
-            (low_or_above number n.core.base);
+            (own_fit number above within)));
       }
 
   -- a list that it showed
@@ -325,11 +320,10 @@ module _ (rules : Rules) (events : List Event) (e : Event) (c : Cause) (step : S
       let low = item_within list number en at in
       let long = begins_length begins in
       let all = long_all v i n (t.node i) stands_n in
-      ⊎_elim
-      (λ (below : number ≤ n.core.base). fit_low rules list n.core.base number below low.1)
-      (λ (above : n.core.base < number). fit_less rules list (t.node i).list n.core.base number begins low.1
-      (own_fit number above (let z = low.1 in omega arith)))
-      (low_or_above number n.core.base))
+      either (low_or_above number n.core.base)
+      (λ below. fit_low rules list n.core.base number below low.1)
+      (λ above. fit_less rules list (t.node i).list n.core.base number begins low.1
+      (own_fit number above (let z = low.1 in omega arith))))
 
   who_x : x.core.who ≡ i
   who_x = sym (ap (λ (q : CoreState). q.who) core_x) ∙ (lists_go_on rules events e c step may runs cause effect).own
@@ -375,11 +369,10 @@ module _ (rules : Rules) (events : List Event) (e : Event) (c : Cause) (step : S
   unfolding with_step
   fitted_step = record {
     nodes = λ j. split (j == i) (λ y. rw y node_now) (λ f. rw f (h.nodes j));
-    letters = λ k l at. ⊎_elim
-        (λ (was : slice_get w.letters k ≡ Some l). packet_on rules s t l.packet grows (h.letters k l was))
-        (λ (now : (j : ℕ) × (slice_get step.letters j ≡ Some l)).
-        packet_sent (sender_there now.0 l now.1) l.to l.packet (all_get (LetterSays m c x) step.letters now.0 l effect.letters now.1).says (new.letters k l at))
-        (get_either w.letters step.letters k l at);
+    letters = λ k l at. either (get_either w.letters step.letters k l at)
+        (λ was. packet_on rules s t l.packet grows (h.letters k l was))
+        (λ now. packet_sent (sender_there now.0 l now.1) l.to l.packet (all_get (LetterSays m c x) step.letters now.0 l effect.letters now.1).says
+        (new.letters k l at));
   }
 
 -- ---- up to the lawful front

@@ -1,7 +1,7 @@
 -- Who left: whose Leave stands on the chain asked to leave, and who departed has its Leave accepted, unless nobody is left.
 use Rattle.am_base.specs.declared.entry.GroupView.{GroupView}
 use Rattle.am_chain.specs.Runs.{first_choice}
-use Rattle.am_headline.proofs.RepairedWords.{same_from_push, ◌≡◌, ◌⊎◌, ⊎_elim, inl, inr, ℕ, ◌+◌, ◌<◌, ◌≤◌, List, [], ◌∷◌, ◌++◌, length, true, false, refl, sym}
+use Rattle.am_headline.proofs.RepairedWords.{same_from_push, ◌≡◌, ◌⊎◌, either, inl, inr, ℕ, ◌+◌, ◌<◌, ◌≤◌, List, [], ◌∷◌, ◌++◌, length, true, false, refl, sym}
 use Rattle.am_headline.proofs.RepairedWords.{subst, arith, Entry, Leave, View, Image, place_of, life_of, Begins, IsGood, mem, view_of, key, In, row_at, ap, ◌∙◌}
 use Rattle.am_headline.proofs.RepairedWords.{begins_refl, begins_more, begins_trans, begins_both, begins_same, begins_length, begins_pushed, length_push}
 use Rattle.am_headline.proofs.RepairedWords.{good_begins, told_push, long_told, mem_in, in_mem, mem_between, leaver_in, leaver_out, Group, put, opening, Leads}
@@ -62,10 +62,9 @@ asked_same s t chain leaving h a j begins_ = leaving j (h a j (subst (Begins (a 
 -- it gets an entry
 asked_more : (s t : Group) (e : Entry) → chain_of t.views ≡ chain_of s.views ++ e ∷ [] → ((j : ℕ) → (s.node j).leaving ≡ true → (t.node j).leaving ≡ true)
     → ((j : ℕ) → e ≡ Leave j → (s.node j).leaving ≡ true) → LeavesAsked s → LeavesAsked t
-asked_more s t e chain leaving new h a j begins_ = leaving j (⊎_elim
-    (λ (old : Begins (a ++ Leave j ∷ []) (chain_of s.views)). h a j old)
-    (λ (now : a ++ Leave j ∷ [] ≡ chain_of s.views ++ e ∷ []). new j (sym (same_from_push a (chain_of s.views) (Leave j) e now).1))
-    (begins_pushed e (subst (Begins (a ++ Leave j ∷ [])) chain begins_)))
+asked_more s t e chain leaving new h a j begins_ = leaving j (either (begins_pushed e (subst (Begins (a ++ Leave j ∷ [])) chain begins_))
+    (λ old. h a j old)
+    (λ now. new j (sym (same_from_push a (chain_of s.views) (Leave j) e now).1)))
 
 -- the chain of a sequencer's group, with an entry more
 chain_more : (s : Group) (i : ℕ) (list : List Entry) → Kept s → Leads i (s.node i)
@@ -94,10 +93,10 @@ asked_move s t (decides i v may) k h = λ a j begins_.
     (let m = s.node i in
     let all = opening (choice_of m v) in
     let is : chain_of t.views ≡ all = put_same s.views.line (key m.promise) all in
-    put_leaving s i (record m { list = all; ballot = false }) (λ z. z) j (⊎_elim
-    (λ (old : Begins (a ++ Leave j ∷ []) m.list). h a j (begins_trans old ((k.each i).list may.up)))
-    (λ (now : a ++ Leave j ∷ [] ≡ all). absurd (let e = (same_from_push a m.list (Leave j) (View (choice_of m v).view) now).1 in cc))
-    (begins_pushed (View (choice_of m v).view) (subst (Begins (a ++ Leave j ∷ [])) is begins_))))
+    put_leaving s i (record m { list = all; ballot = false }) (λ z. z) j
+    (either (begins_pushed (View (choice_of m v).view) (subst (Begins (a ++ Leave j ∷ [])) is begins_))
+    (λ old. h a j (begins_trans old ((k.each i).list may.up)))
+    (λ now. absurd (let e = (same_from_push a m.list (Leave j) (View (choice_of m v).view) now).1 in cc))))
 asked_move s t (stores i e up decided other stays next) k h = asked_same s t refl (put_leaving s i (longer (s.node i) e) (λ z. z)) h
 asked_move s t (learns i told_ acc up rises within before up_to given low) k h = asked_same s t refl (put_leaving s i _ (λ z. z)) h
 asked_move s t (begins i few up stays member) k h = asked_same s t refl (put_leaving s i _ (λ z. z)) h
@@ -118,10 +117,9 @@ put_gone s i m d = put_at (λ k n. n.departed ≡ true → ((s.node k).departed 
     (λ k other z. inl z) d
 
 not_now : (s : Group) (i : ℕ) (m : groups.Node) (d : ℕ) → m.departed ≡ (s.node i).departed → (put s.node i m d).departed ≡ true → (s.node d).departed ≡ true
-not_now s i m d same t = ⊎_elim
-    (λ (a : (s.node d).departed ≡ true). a)
-    (λ (a : (d ≡ i) × (m.departed ≡ true)). ap (λ k. (s.node k).departed) a.0 ∙ sym same ∙ a.1)
-    (put_gone s i m d t)
+not_now s i m d same t = either (put_gone s i m d t)
+    (λ a. a)
+    (λ a. ap (λ k. (s.node k).departed) a.0 ∙ sym same ∙ a.1)
 
 -- the chain stays, and more is accepted
 gone_same : (s t : Group) → chain_of t.views ≡ chain_of s.views → Begins s.group t.group → (d : ℕ) → GoneBy s d → GoneBy t d
@@ -146,23 +144,21 @@ gone_decided s t i v k kt up member is group d gone (accepted before h) = accept
 gone_decided s t i v k kt up member is group d gone (last before chain none) = absurd (
     let m = s.node i in
     let there = kt.there d gone in
-    let part : Begins (there.0 ++ Leave d ∷ []) m.list = ⊎_elim
-    (λ (old : Begins (there.0 ++ Leave d ∷ []) m.list). old)
-    (λ (now : there.0 ++ Leave d ∷ [] ≡ opening (choice_of m v)).
-    absurd (let e = (same_from_push there.0 m.list (Leave d) (View (choice_of m v).view) now).1 in cc))
-    (begins_pushed (View (choice_of m v).view) (subst (Begins (there.0 ++ Leave d ∷ [])) is there.1)) in
+    let part : Begins (there.0 ++ Leave d ∷ []) m.list =
+    either (begins_pushed (View (choice_of m v).view) (subst (Begins (there.0 ++ Leave d ∷ [])) is there.1))
+    (λ old. old)
+    (λ now. absurd (let e = (same_from_push there.0 m.list (Leave d) (View (choice_of m v).view) now).1 in cc)) in
     let on = (k.each i).list up in
     let long_a = length_push there.0 (Leave d) in
     let long_b = length_push before (Leave d) in
     let whole = ap length chain in
     let short = begins_length on in
     let low = begins_length part in
-    ⊎_elim
-    (λ (less : length there.0 < length before). once (chain_of s.views) there.0 before d k.views.good (begins_trans part on)
+    either (two (length there.0) (length before))
+    (λ less. once (chain_of s.views) there.0 before d k.views.good (begins_trans part on)
     (subst (Begins (before ++ Leave d ∷ [])) (sym chain) (begins_refl (before ++ Leave d ∷ []))) less)
-    (λ (all : length before ≤ length there.0). (let same : m.list ≡ chain_of s.views = begins_same on (omega arith) in
-    none i (subst (λ l. mem l i ≡ true) same member)))
-    (two (length there.0) (length before)))
+    (λ all. (let same : m.list ≡ chain_of s.views = begins_same on (omega arith) in
+    none i (subst (λ l. mem l i ≡ true) same member))))
   where
     two : (a b : ℕ) → (a < b) ⊎ (b ≤ a)
     two a b = grind arith
@@ -175,21 +171,19 @@ gone_move s t (closes i n leads leaving alone may) k kt h = λ d gone.
     (let m = record (longer (s.node i) (Leave i)) { departed = true } in
     let ok = (k.each i).leads leads in
     let is : chain_of t.views ≡ (s.node i).list ++ Leave i ∷ [] = chain_more s i ((s.node i).list ++ Leave i ∷ []) k leads in
-    ⊎_elim
-    (λ (old : (s.node d).departed ≡ true). gone_led s t i k leads (moves_grow s t (closes i n leads leaving alone may) k tt).group d (h d old))
-    (λ (now : (d ≡ i) × (m.departed ≡ true)). subst (GoneBy t) (sym now.0) (last (s.node i).list is (λ j member.
+    either (put_gone s i m d gone)
+    (λ old. gone_led s t i k leads (moves_grow s t (closes i n leads leaving alone may) k tt).group d (h d old))
+    (λ now. subst (GoneBy t) (sym now.0) (last (s.node i).list is (λ j member.
     (let before = none_more (s.node i).list i j (subst (λ l. mem l j ≡ true) is member) in
     let same = alone j before in
     leaver_out (s.node i).list i (subst IsGood is kt.good) (subst (λ x. mem ((s.node i).list ++ Leave i ∷ []) x ≡ true) same (subst (λ l. mem l j ≡ true) is
-    member))))))
-    (put_gone s i m d gone))
+    member)))))))
 gone_move s t (decides i v may) k kt h = λ d gone.
     gone_decided s t i v k kt may.up may.needed (put_same s.views.line (key (s.node i).promise) (opening (choice_of (s.node i) v)))
     (begins_refl s.group) d gone (h d (not_now s i _ d refl gone))
-gone_move s t (departs i before may) k kt h = λ d gone. ⊎_elim
-    (λ (old : (s.node d).departed ≡ true). gone_same s t refl (begins_refl s.group) d (h d old))
-    (λ (now : (d ≡ i) × (true ≡ true)). subst (GoneBy t) (sym now.0) (accepted before may.accepted))
-    (put_gone s i (record (s.node i) { departed = true }) d gone)
+gone_move s t (departs i before may) k kt h = λ d gone. either (put_gone s i (record (s.node i) { departed = true }) d gone)
+    (λ old. gone_same s t refl (begins_refl s.group) d (h d old))
+    (λ now. subst (GoneBy t) (sym now.0) (accepted before may.accepted))
 gone_move s t (stores i e up decided other stays next) k kt h = λ d gone. gone_same s t refl (begins_refl s.group) d
     (h d (not_now s i (longer (s.node i) e) d refl gone))
 gone_move s t (learns i told_ acc up rises within before up_to given low) k kt h = λ d gone. gone_same s t refl (begins_refl s.group) d
@@ -211,10 +205,9 @@ pub record AllLeft (s : Group) : Type 0 where
   pub gone : AllGone s
 
 nil_none : (a : List Entry) (e x : Entry) → Begins (a ++ x ∷ []) (e ∷ []) → x ≡ e
-nil_none a e x h = ⊎_elim
-    (λ (z : Begins (a ++ x ∷ []) []). absurd (let l = begins_length z in let k = length_push a x in omega arith))
-    (λ (z : a ++ x ∷ [] ≡ [] ++ e ∷ []). (same_from_push a [] x e z).1)
-    (begins_pushed e h)
+nil_none a e x h = either (begins_pushed {b = []} e h)
+    (λ z. absurd (let l = begins_length z in let k = length_push a x in omega arith))
+    (λ z. (same_from_push a [] x e z).1)
 
 pub runs_left : (founders : List ℕ) (first resilience : ℕ) (s : Group) → Run founders first resilience s → AllLeft s
 runs_left founders first resilience s (founded may) = record {

@@ -217,7 +217,6 @@ second_wave_serves rules r i after stored w low x there other =
     low_taken : taken i ≤ stored
     low_taken =
         let fronts = (x.fine.laws.each i (few_members rules r w i x.fine there)).fronts in
-        let given = fronts.given in let accepted = fronts.accepted in let at = x.stored_ in
         omega arith
 
     tells : x.asked.report.taken ≤ taken i

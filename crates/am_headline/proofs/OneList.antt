@@ -3,7 +3,7 @@ use Rattle.am_headline.proofs.RepairedWords.{member_stays, same_stamp, ◌≡◌
 use Rattle.am_headline.proofs.RepairedWords.{arith, nat_tests, Rules, MayFound, place_of, life_of, Event, Begins, IsGood, mem, view_of, begins_take}
 use Rattle.am_headline.proofs.RepairedWords.{begins_trans, Group, IsUp, Leads, chain_of, Kept, Node, acts, view, is_member, lowest_or_first, whole, broken_at}
 use Rattle.am_headline.proofs.RepairedWords.{MayRepair, World, current, is_stopped, run, split, and_both, front_is_lawful, logged, names_hold, Following}
-use Rattle.am_headline.proofs.RepairedWords.{told_all, group_kept, steps_move, KeptBy, held, IsOneList, RepairableIsOneList, lawful_front, inl, ⊎_elim, has}
+use Rattle.am_headline.proofs.RepairedWords.{told_all, group_kept, steps_move, KeptBy, held, IsOneList, RepairableIsOneList, lawful_front, inl, either, has}
 use Rattle.am_headline.proofs.RepairedWords.{members, run_owned, in_mem, In, mem_in, row_at, Past, was_begins}
 use Rattle.am_stands.specs.States.{OwnDecided}
 use Rattle.am_stands.proofs.Results.{tells_leads}
@@ -109,10 +109,9 @@ module _ (rules : Rules) (w : World) (s : Group) (place : ℕ) (old : Following 
   was_member name low member runs none =
       let joined = (kept.each name).joined (up name low member runs).log in
       let front = begins_trans (begins_take (s.node name).start s.group) kept.group in
-      ⊎_elim
-      (λ (x : In (row_at (image_of (chain_of s.views)) (place_of name)) (life_of name)). absurd (let t = in_mem (chain_of s.views) name x in cc))
-      (λ (x : Past (row_at (image_of (chain_of s.views)) (place_of name)) (life_of name)). is_past_by (image_of (chain_of s.views)) name x)
-      (was_begins name kept.views.good front (inl (mem_in (take (s.node name).start s.group) name joined.member)))
+      either (was_begins name kept.views.good front (inl (mem_in (take (s.node name).start s.group) name joined.member)))
+      (λ x. absurd (let t = in_mem (chain_of s.views) name x in cc))
+      (λ x. is_past_by (image_of (chain_of s.views)) name x)
 
   pub one_list : ((name : ℕ) → (w.nodes name).core.who ≡ name) → ((name : ℕ) → is_member (w.nodes name).status ≡ true → name < 256)
       → ((name : ℕ) → name < 256 → OwnDecided (w.nodes name)) → IsOneList w (w.nodes q)

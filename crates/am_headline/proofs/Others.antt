@@ -1,5 +1,5 @@
 -- While another name steps, a sequencer that runs still trimmed no more than its members have taken.
-use Rattle.am_headline.proofs.RepairedWords.{item_get, eqb-true, equals_itself, ◌≡◌, ⊎_elim, ℕ, ◌<◌, ◌≤◌, ◌==◌, true, false, List, sym, ap, ◌∙◌, subst, arith}
+use Rattle.am_headline.proofs.RepairedWords.{item_get, eqb-true, equals_itself, ◌≡◌, either, ℕ, ◌<◌, ◌≤◌, ◌==◌, true, false, List, sym, ap, ◌∙◌, subst, arith}
 use Rattle.am_headline.proofs.RepairedWords.{Stamp, Rules, Letter, Event, Group, Node, view, acts, is_sequencer, has_log, Step, is_stopped, run, heard_by}
 use Rattle.am_headline.proofs.RepairedWords.{split, and_both, Cause, actor, WasSentTo, IsCause, parts, plain, Rises}
 use Rattle.am_packet.specs.declared.packet.Packet.TheVariants as packet
@@ -115,14 +115,12 @@ module _ (rules : Rules) (events : List Event) (e : Event) (c : Cause) (step : S
       let a = up.taken in
       let z = ap (λ (y : Node). y.core.taken) at_i in
       took (omega arith)
-  known_i (joins none low welcomes) = ⊎_elim
-      (λ (still : has_log n.status ≡ false). joins (ap (λ (y : Node). has_log y.status) at_i ∙ still) low (λ base z. welcomes base (welcomed i base z)))
-      (λ (b : Began c n).
-      let most = welcomes b.base (heard_welcome b) in
+  known_i (joins none low welcomes) = either (begins m n x.effect.changes none)
+      (λ still. joins (ap (λ (y : Node). has_log y.status) at_i ∙ still) low (λ base z. welcomes base (welcomed i base z)))
+      (λ b. let most = welcomes b.base (heard_welcome b) in
       let taken = b.taken in
       let z = ap (λ (y : Node). y.core.taken) at_i in
       took (omega arith))
-      (begins m n x.effect.changes none)
   known_i (halts stopped) = halts (stopped_v rules events e c step s t x i ∙ stopped)
 
   known_other : (j : ℕ) → (j == i) ≡ false → Knows w h.low (w.nodes q) j → Knows v h.low (w.nodes q) j

@@ -1,5 +1,5 @@
 -- A sequencer's step in its view keeps what is known of what was taken.
-use Rattle.am_headline.proofs.RepairedWords.{eqb-true, ◌≡◌, ◌⊎◌, inl, inr, ⊎_elim, ℕ, ◌<◌, ◌≤◌, ◌==◌, max, true, false, List, Some, slice_get, refl, sym, ap, ◌∙◌}
+use Rattle.am_headline.proofs.RepairedWords.{eqb-true, ◌≡◌, ◌⊎◌, inl, inr, either, ℕ, ◌<◌, ◌≤◌, ◌==◌, max, true, false, List, Some, slice_get, refl, sym, ap, ◌∙◌}
 use Rattle.am_headline.proofs.RepairedWords.{subst, arith, Join, Stamp, Rules, stamp_lt, fits, top_of, Letter, Event, Group, Node, image_of, view, acts, is_sequencer}
 use Rattle.am_headline.proofs.RepairedWords.{has_log, Step, World, is_stopped, run, split, Cause, hears, actor, WasSentTo, IsCause, all_get, not_above_itself, GoesSo}
 use Rattle.am_headline.proofs.RepairedWords.{run_goes, parts, plain, NoJoin, Rises, run_told, cause_taken}
@@ -45,8 +45,6 @@ module _ (rules : Rules) (events : List Event) (e : Event) (c : Cause) (step : S
       let blank = (laws.blanks.each j few none).blank_ in
       let size = ap top_of blank in
       let fronts = (laws.each j few).fronts in
-      let given = fronts.given in
-      let accepted = fronts.accepted in
       omega arith
 
   -- a Welcome that was sent before, or now
@@ -90,7 +88,7 @@ module _ (rules : Rules) (events : List Event) (e : Event) (c : Cause) (step : S
       (all_get GoesSo w.letters h_.number h_.letter (run_goes rules events) h_.there))) h in omega arith)))
 
   knows_n : (j : ℕ) → j < 256 → (j == i) ≡ false → Knows v was.low n j
-  knows_n j few other = ⊎_elim joined plainly (join_or_none c)
+  knows_n j few other = either (join_or_none c) joined plainly
     where
       own : (j == m.core.who) ≡ false
       own = ap (λ k. j == k) (trims.who_w rules events e c step s t x i) ∙ other
@@ -124,8 +122,8 @@ module _ (rules : Rules) (events : List Event) (e : Event) (c : Cause) (step : S
       let is_ = eqb-true j i u in
       let own = ((trims.laws_v rules events e c step s t x).each j few).fronts.base in
       let base = ap (λ k. (v.nodes k).core.base) is_ ∙ ap (λ (y : Node). y.core.base) here in
-      let up = rises.base in
       let low = was.base in
+      let up = rises.base in
       omega arith)
       (λ f.
       let node = there j f in

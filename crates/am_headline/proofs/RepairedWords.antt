@@ -1,6 +1,6 @@
 -- The words of this crate's proofs, of the crates and definitions that they come from.
 pub use Rattle.am_headline.proofs.Words.{◌≡◌, ℕ, ◌==◌, ◌&&◌, ◌||◌, not, nat_lt, nat_le, Bool, true, false, if◌then◌else◌, Some, refl, sym, ap, ◌∙◌, subst}
-pub use Rattle.am_headline.proofs.Words.{arith, ◌⊎◌, inl, inr, ⊎_elim, ◌≤◌, ◌<◌, max, List, [], ◌≢◌, zero, suc, ◌+◌, ◌∷◌, ◌++◌, length, slice_index}
+pub use Rattle.am_headline.proofs.Words.{arith, ◌⊎◌, inl, inr, either, ◌≤◌, ◌<◌, max, List, [], ◌≢◌, zero, suc, ◌+◌, ◌∷◌, ◌++◌, length, slice_index}
 pub use Rattle.am_headline.proofs.Words.{slice_get, take, None, ◌-◌, drop, length-append, append_assoc, eqb-true, nat_tests, take-append-drop, take_all}
 pub use Rattle.am_headline.proofs.Words.{All-nil, All-cons, All-append, All-weaker, slice_get-get_or, Stamp, Join, Data, Leave, View, Outcome, Row, life_of}
 pub use Rattle.am_headline.proofs.Words.{IsSet, has, place_of, name_at, names_from, names_of, Log, blank, told_by, members_of, top_of, split, and_both, Image}

@@ -114,7 +114,6 @@ round_stores rules r i stored w low there other h = elim (cases_lt (top (w.nodes
       (record { fine = asked.fine; stored_ = (let same = asked.stored_ in omega arith) }) in
       let stores = third_wave_stores rules r i (length b.letters) have c (omega arith) lc serving.fine serving.served_ kept.stored_ there other in
       let more = last_waves r (HasStored rules r i (min (have + 8) r.high)) (stored_stable rules r i (min (have + 8) r.high) there) w low stores in
-      let got = more.stored_ in
       record { fine = more.fine; stored_ = omega arith })
   | inr all ↦
       (let kept = round_keeps r (HasStored rules r i r.high) (stored_stable rules r i r.high there) w low (record { fine = h.fine; stored_ = all }) in

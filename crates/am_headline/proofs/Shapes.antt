@@ -1,6 +1,6 @@
 -- What moves keep of each list, whoever has stopped or departed: it is a good one, on the line of a decided view; and each decided view has
 -- a set of names.
-use Rattle.am_headline.proofs.Words.{up_as, ◌≡◌, ◌≢◌, ◌⊎◌, ⊎_elim, inl, inr, ℕ, ◌≤◌, List, length, Some, [], true, refl, sym, ap, ◌∙◌, subst, Entry, Leave}
+use Rattle.am_headline.proofs.Words.{up_as, ◌≡◌, ◌≢◌, ◌⊎◌, either, inl, inr, ℕ, ◌≤◌, List, length, Some, [], true, refl, sym, ap, ◌∙◌, subst, Entry, Leave}
 use Rattle.am_headline.proofs.Words.{IsSet, item_at, Begins, IsGood, view_of, key, begins_refl, begins_trans, good_begins, Group, Chosen, IsUp, put, chain_of}
 use Rattle.am_headline.proofs.Words.{Move, with_node, choice_of, longer, learns, begins, raises, gives_over, welcomes, asks, stops, Kept, put_cases, put_same}
 use Rattle.am_headline.proofs.Words.{MoveOk, Moves, none, moves, Grows, GroupOk, group_kept, move_on, departs}
@@ -28,10 +28,9 @@ pub data ListGoes (s t : Group) (i : ℕ) : Type 0 where
   gone : Begins (t.node i).list (chain_of t.views) → ListGoes s t i
 
 put_goes : (s t : Group) (i : ℕ) (m : groups.Node) → t.node ≡ put s.node i m → ((t.node i ≡ m) → ListGoes s t i) → (j : ℕ) → ListGoes s t j
-put_goes s t i m is own j = ⊎_elim
-    (λ (c : (j ≡ i) × (put s.node i m j ≡ m)). subst (ListGoes s t) (sym c.0) (own (ap (λ f. f i) is ∙ put_same s.node i m)))
-    (λ (c : (j ≢ i) × (put s.node i m j ≡ s.node j)). same (ap (λ (a : groups.Node). a.list) (ap (λ f. f j) is ∙ c.1)))
-    (put_cases s.node i m j)
+put_goes s t i m is own j = either (put_cases s.node i m j)
+    (λ c. subst (ListGoes s t) (sym c.0) (own (ap (λ f. f i) is ∙ put_same s.node i m)))
+    (λ c. same (ap (λ (a : groups.Node). a.list) (ap (λ f. f j) is ∙ c.1)))
 
 -- its list stays, or it is up with another
 list_stays : (s t : Group) (i : ℕ) (m : groups.Node) → t.node ≡ put s.node i m → m.list ≡ (s.node i).list → (j : ℕ) → ListGoes s t j
@@ -139,19 +138,15 @@ shaped_moves founders first resilience s t g (moves {t = u} move ok rest) h =
 
 pub shaped_stop : (s : Group) (i : ℕ) → Shaped s → Shaped (with_node s i (record (s.node i) { stopped = true }))
 shaped_stop s i h = record {
-  lines = λ j. ⊎_elim
-      (λ (c : (j ≡ i) × (put s.node i (record (s.node i) { stopped = true }) j ≡ record (s.node i) { stopped = true })). of_node j (s.node i).list
+  lines = λ j. either (put_cases s.node i (record (s.node i) { stopped = true }) j)
+      (λ c. of_node j (s.node i).list
       (ap (λ (a : groups.Node). a.list) c.1) (ap (λ k. (s.node k).list) c.0))
-      (λ (c : (j ≢ i) × (put s.node i (record (s.node i) { stopped = true }) j ≡ s.node j)). of_node j (s.node j).list
-      (ap (λ (a : groups.Node). a.list) c.1) refl)
-      (put_cases s.node i (record (s.node i) { stopped = true }) j);
+      (λ c. of_node j (s.node j).list
+      (ap (λ (a : groups.Node). a.list) c.1) refl);
   sets = h.sets;
-  good = λ j. ⊎_elim
-      (λ (c : (j ≡ i) × (put s.node i (record (s.node i) { stopped = true }) j ≡ record (s.node i) { stopped = true })).
-      subst IsGood (sym (ap (λ (a : groups.Node). a.list) c.1)) (h.good i))
-      (λ (c : (j ≢ i) × (put s.node i (record (s.node i) { stopped = true }) j ≡ s.node j)).
-      subst IsGood (sym (ap (λ (a : groups.Node). a.list) c.1)) (h.good j))
-      (put_cases s.node i (record (s.node i) { stopped = true }) j);
+  good = λ j. either (put_cases s.node i (record (s.node i) { stopped = true }) j)
+      (λ c. subst IsGood (sym (ap (λ (a : groups.Node). a.list) c.1)) (h.good i))
+      (λ c. subst IsGood (sym (ap (λ (a : groups.Node). a.list) c.1)) (h.good j));
 }
   where
     of_node : (j : ℕ) (list : List Entry) → (put s.node i (record (s.node i) { stopped = true }) j).list ≡ list → (s.node j).list ≡ list

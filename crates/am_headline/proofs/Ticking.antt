@@ -101,7 +101,6 @@ ticks_poll rules r X i accepted w b h x there other =
     keeps p u k =
         let e = event_at p act.Tick in
         let more = letters_more u e in
-        let low = k.2 in
         (fine_goes rules r u e (our_ticks p) k.0, b.keeps u e (our_ticks p) k.0 k.1, omega arith)
 
     hits : Hits P (Polled r i (length w.letters) accepted) act.Tick (place_of r.by)
@@ -170,8 +169,6 @@ ticks_report rules r i w h there other far =
     keeps p u k =
         let e = event_at p act.Tick in
         let more = letters_more u e in
-        let low = k.2 in
-        let high = k.1 in
         let grow = (grow_goes rules r u e (our_ticks p) k.0).stored i there in
         (fine_goes rules r u e (our_ticks p) k.0, omega arith, omega arith)
 

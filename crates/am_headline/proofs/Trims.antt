@@ -1,5 +1,5 @@
 -- What a sequencer trimmed, its members have taken: what a run keeps of it, with the group that follows.
-use Rattle.am_headline.proofs.RepairedWords.{item_get, ◌≡◌, ⊎_elim, ℕ, ◌<◌, ◌≤◌, ◌==◌, max, true, false, List, [], ◌++◌, Some, slice_get, refl, sym, ap, ◌∙◌}
+use Rattle.am_headline.proofs.RepairedWords.{item_get, ◌≡◌, either, ℕ, ◌<◌, ◌≤◌, ◌==◌, max, true, false, List, [], ◌++◌, Some, slice_get, refl, sym, ap, ◌∙◌}
 use Rattle.am_headline.proofs.RepairedWords.{subst, arith, All, All-nil, All-append, All-weaker, slice_get-get_or, Entry, Image, Stamp, Rules, Packet, Letter}
 use Rattle.am_headline.proofs.RepairedWords.{Event, key, key_by, Group, Node, view, acts, is_member, is_sequencer, has_log, Step, World, is_stopped, with_step}
 use Rattle.am_headline.proofs.RepairedWords.{run, heard_by, and_both, Cause, LetterSays, WasSentTo, IsCause, steps, all_get, logged, heard_names, HeardNames}
@@ -87,11 +87,10 @@ module _ (rules : Rules) (events : List Event) (e : Event) (c : Cause) (step : S
   letters_v = refl
 
   sent_now : All (Sent w m n c) step.letters
-  sent_now = ⊎_elim
-      (λ (none : step.letters ≡ []). subst (All (Sent w m n c)) (sym none) (All-nil (Sent w m n c)))
-      (λ (same : x.effect.sender ≡ n). All-weaker (LetterSays m c x.effect.sender) (Sent w m n c)
+  sent_now = either (sent_by rules events e c step s x.effect x.is few x.old)
+      (λ none. subst (All (Sent w m n c)) (sym none) (All-nil (Sent w m n c)))
+      (λ same. All-weaker (LetterSays m c x.effect.sender) (Sent w m n c)
       (λ l says. now (subst (λ y. LetterSays m c y l) same says)) step.letters x.effect.letters)
-      (sent_by rules events e c step s x.effect x.is few x.old)
 
   -- each letter
   pub letter_v : (k : ℕ) (l : Letter) → slice_get v.letters k ≡ Some l → Sent w m n c l

@@ -1,5 +1,5 @@
 -- A View that leaves somebody out always fits: what each run keeps of it up to its lawful front.
-use Rattle.am_headline.proofs.Words.{◌≡◌, ◌≢◌, ◌⊎◌, ⊎_elim, ℕ, ◌+◌, ◌-◌, ◌<◌, ◌≤◌, true, List, [], ◌∷◌, ◌++◌, length, take, Some, refl, sym, ap, ◌∙◌, subst}
+use Rattle.am_headline.proofs.Words.{◌≡◌, ◌≢◌, ◌⊎◌, either, ℕ, ◌+◌, ◌-◌, ◌<◌, ◌≤◌, true, List, [], ◌∷◌, ◌++◌, length, take, Some, refl, sym, ap, ◌∙◌, subst}
 use Rattle.am_headline.proofs.Words.{append_assoc, arith, Entry, Image, Stamp, Rules, size, members_of, Packet, item_at, Begins, view_of, key, begins_trans}
 use Rattle.am_headline.proofs.Words.{begins_length, length_push, Group, IsUp, Kept, Node, top, World, NameStands, LinesOpen, Grows, long_all, taken_more}
 use Rattle.am_headline.proofs.Words.{image_whole}
@@ -99,14 +99,11 @@ packet_on rules s t _ g h = tt
 -- who is up is on the line of its promise, where that was decided
 pub promised_line : (t : Group) (i : ℕ) → Kept t → IsUp (t.node i) → t.views.decided (key (t.node i).promise) ≡ true
     → Begins (t.node i).list (t.views.line (key (t.node i).promise))
-promised_line t i k up d = ⊎_elim
-    (λ (late : key (t.node i).promise < key t.views.current).
-    (let l = (k.each i).late up late in begins_trans l.list (l.lines (key (t.node i).promise) d (omega arith))))
-    (λ (now : key t.views.current ≤ key (t.node i).promise).
-    (let most = k.views.order (key (t.node i).promise) d in
+promised_line t i k up d = either (two (key (t.node i).promise) (key t.views.current))
+    (λ late. (let l = (k.each i).late up late in begins_trans l.list (l.lines (key (t.node i).promise) d (omega arith))))
+    (λ now. (let most = k.views.order (key (t.node i).promise) d in
     let same : key t.views.current ≡ key (t.node i).promise = omega arith in
     subst (λ x. Begins (t.node i).list (t.views.line x)) same ((k.each i).list up)))
-    (two (key (t.node i).promise) (key t.views.current))
   where
     two : (a b : ℕ) → (a < b) ⊎ (b ≤ a)
     two a b = grind arith
