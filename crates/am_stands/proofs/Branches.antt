@@ -61,18 +61,17 @@ module _ (s : Group) (k : Kept s) (lawful : IsLawful s) (c : ℕ) (v : GroupView
 
   -- each name of the View has a beginning of what is chosen
   members_low : (j : ℕ) → has v.members j ≡ true → Begins (s.node j).list chosen
-  members_low j in_ = by_branch (b.branch j (stays_in j in_))
-    where
-      by_branch : OnBranch s j → Begins (s.node j).list chosen
-      by_branch (on_chain its) = low_on j (chain_of s.views) in_ (stays_in j in_) k.views.good chain its
-      by_branch (left_out a u branch part mine its good member out) = either (low_or_above (length (a ++ View u ∷ [])) (length chosen))
-          (λ z. absurd (let inside = begins_both part chain z in
-          let fine = good_begins chain k.views.good in
-          let there = mem_between j fine (begins_more a (View u ∷ [])) inside member (in_chosen j in_) in
-          let has_it = mem_viewed a u j there in cc))
-          (λ z. (let more = length_push a (View u) in
-          let below = begins_both chain (begins_trans (begins_more a (View u ∷ [])) part) (omega arith) in
-          low_on j branch in_ (stays_in j in_) good (begins_trans below mine) its))
+  members_low j in_ = elim (b.branch j (stays_in j in_)) [
+    | on_chain its ↦ low_on j (chain_of s.views) in_ (stays_in j in_) k.views.good chain its
+    | left_out a u branch part mine its good member out ↦ either (low_or_above (length (a ++ View u ∷ [])) (length chosen))
+        (λ z. absurd (let inside = begins_both part chain z in
+        let fine = good_begins chain k.views.good in
+        let there = mem_between j fine (begins_more a (View u ∷ [])) inside member (in_chosen j in_) in
+        let has_it = mem_viewed a u j there in cc))
+        (λ z. (let more = length_push a (View u) in
+        let below = begins_both chain (begins_trans (begins_more a (View u ∷ [])) part) (omega arith) in
+        low_on j branch in_ (stays_in j in_) good (begins_trans below mine) its))
+  ]
 
   new_view : NewView s (with_choice s c v) (key (s.node c).promise)
   new_view =
@@ -142,10 +141,17 @@ abbrev Steady : groups.Node → groups.Node → Type 0
 Steady m n = n.departed ≡ false → IsUp n ⊎ ((n.list ≡ m.list) × (m.departed ≡ false))
 
 -- what is shown to an open ballot is all that its voter has, or the ballot was open and this was shown to it
-abbrev Opened : Group → Group → Type 0
-Opened s t = (c k : ℕ) (list : List Entry) → IsUp (t.node c) → (t.node c).ballot ≡ true → t.shown (key (t.node c).promise) k ≡ Some list
+abbrev OpenedAs : Group → Group → ℕ → ℕ → List Entry → groups.Node → Type 0
+OpenedAs s t c k list m = IsUp m → m.ballot ≡ true → t.shown (key m.promise) k ≡ Some list
     → (length (t.node k).list ≤ length list)
-    ⊎ (IsUp (s.node c) × ((s.node c).ballot ≡ true) × (s.shown (key (s.node c).promise) k ≡ Some list) × (length (s.node c).list ≤ length (t.node c).list))
+    ⊎ (IsUp (s.node c) × ((s.node c).ballot ≡ true) × (s.shown (key (s.node c).promise) k ≡ Some list) × (length (s.node c).list ≤ length m.list))
+
+abbrev Opened : Group → Group → Type 0
+Opened s t = (c k : ℕ) (list : List Entry) → OpenedAs s t c k list (t.node c)
+
+-- a name that has an open ballot then had it
+abbrev HadBallot : groups.Node → groups.Node → Type 0
+HadBallot m n = IsUp n → n.ballot ≡ true → IsUp m × (m.ballot ≡ true) × (n.promise ≡ m.promise) × (length m.list ≤ length n.list)
 
 branches_of : (s t : Group) → Kept t → ((j : ℕ) → Steady (s.node j) (t.node j))
     → ((j : ℕ) → (s.node j).departed ≡ false → OnBranch s j → (t.node j).list ≡ (s.node j).list → OnBranch t j)
@@ -174,26 +180,23 @@ still_on s t chain j stays (on_chain its) same = on_chain (subst (λ l. Begins l
 still_on s t chain j stays (left_out a v branch part mine its good member out) same =
     left_out a v branch (begins_trans part chain) mine (subst (λ l. Begins l branch) (sym same) its) good member out
 
+same_chain : (s : Group) → Begins (chain_of s.views) (chain_of s.views)
+same_chain s = begins_refl (chain_of s.views)
+
 -- a move of one name
 record OneName (s t : Group) (i : ℕ) (n : groups.Node) : Type 0 where
   node : t.node ≡ put s.node i n
   shown : t.shown ≡ s.shown
   chain : Begins (chain_of s.views) (chain_of t.views)
   steady : Steady (s.node i) n
-  -- where it has an open ballot then, it had it
-  opened : IsUp n → n.ballot ≡ true → IsUp (s.node i) × ((s.node i).ballot ≡ true) × (n.promise ≡ (s.node i).promise) × (length (s.node i).list ≤ length n.list)
+  opened : HadBallot (s.node i) n
 
 steady_put : (s : Group) (i : ℕ) (n : groups.Node) → Steady (s.node i) n → (j : ℕ) → Steady (s.node j) (put s.node i n j)
 steady_put s i n h j = put_at (λ k (m : groups.Node). Steady (s.node k) m) s.node i n h (λ k other stays. inr (refl, stays)) j
 
 opened_put : (s t : Group) (i : ℕ) (n : groups.Node) → OneName s t i n → Opened s t
-opened_put s t i n h c k list = subst (λ (f : ℕ → groups.Node). IsUp (f c) → (f c).ballot ≡ true → t.shown (key (f c).promise) k ≡ Some list
-    → (length (t.node k).list ≤ length list)
-    ⊎ (IsUp (s.node c) × ((s.node c).ballot ≡ true) × (s.shown (key (s.node c).promise) k ≡ Some list) × (length (s.node c).list ≤ length (f c).list)))
-    (sym h.node)
-    (put_at (λ j (m : groups.Node). IsUp m → m.ballot ≡ true → t.shown (key m.promise) k ≡ Some list
-    → (length (t.node k).list ≤ length list)
-    ⊎ (IsUp (s.node j) × ((s.node j).ballot ≡ true) × (s.shown (key (s.node j).promise) k ≡ Some list) × (length (s.node j).list ≤ length m.list))) s.node i n
+opened_put s t i n h c k list = subst (λ (f : ℕ → groups.Node). OpenedAs s t c k list (f c)) (sym h.node)
+    (put_at (λ j m. OpenedAs s t j k list m) s.node i n
     (λ up ballot shown. (let o = h.opened up ballot in
     inr (o.0, o.1, ap (λ (u : Stamp). s.shown (key u) k) (sym o.2) ∙ ap (λ f. f (key n.promise) k) (sym h.shown) ∙ shown, o.3)))
     (λ j other up ballot shown. inr (up, ballot, ap (λ f. f (key (s.node j).promise) k) (sym h.shown) ∙ shown, omega arith)) c)
@@ -203,25 +206,22 @@ one_name s t i n k h b = branches_of s t k
     (λ j. subst (λ (f : ℕ → groups.Node). Steady (s.node j) (f j)) (sym h.node) (steady_put s i n h.steady j))
     (still_on s t h.chain) (opened_put s t i n h) b
 
+-- and one that leaves the chain as it was
+own_move : (s : Group) (i : ℕ) (n : groups.Node) → Kept (group.with_node s i n) → Steady (s.node i) n → HadBallot (s.node i) n → BranchesOk s
+    → BranchesOk (group.with_node s i n)
+own_move s i n k steady opened b =
+    one_name s (group.with_node s i n) i n k (record { node = refl; shown = refl; chain = same_chain s; steady = steady; opened = opened }) b
+
 -- and one that changes no name
 no_name : (s t : Group) → Kept t → t.node ≡ s.node → t.views ≡ s.views → t.shown ≡ s.shown → BranchesOk s → BranchesOk t
 no_name s t k node views shown b = branches_of s t k
     (λ j. subst (λ (f : ℕ → groups.Node). Steady (s.node j) (f j)) (sym node) (λ stays. inr (refl, stays)))
     (still_on s t (subst (λ v. Begins (chain_of s.views) (chain_of v)) (sym views) (begins_refl (chain_of s.views))))
-    (λ c k list. subst (λ (f : ℕ → groups.Node). IsUp (f c) → (f c).ballot ≡ true → t.shown (key (f c).promise) k ≡ Some list
-    → (length (t.node k).list ≤ length list)
-    ⊎ (IsUp (s.node c) × ((s.node c).ballot ≡ true) × (s.shown (key (s.node c).promise) k ≡ Some list) × (length (s.node c).list ≤ length (f c).list)))
-    (sym node)
+    (λ c k list. subst (λ (f : ℕ → groups.Node). OpenedAs s t c k list (f c)) (sym node)
     (λ up ballot is. inr (up, ballot, ap (λ f. f (key (s.node c).promise) k) (sym shown) ∙ is, omega arith))) b
 
 pub up_as : (m n : groups.Node) → n.has_log ≡ m.has_log → n.stopped ≡ m.stopped → n.departed ≡ m.departed → IsUp m → IsUp n
 up_as m n log stopped departed up = record { log = log ∙ up.log; there = record { goes = stopped ∙ up.there.goes; stays = departed ∙ up.there.stays } }
-
-same_chain : (s : Group) → Begins (chain_of s.views) (chain_of s.views)
-same_chain s = begins_refl (chain_of s.views)
-
-more_list : (a : List Entry) (e : Entry) → length a ≤ length (a ++ e ∷ [])
-more_list a e = (let z = length_push a e in omega arith)
 
 -- a new ballot's stamp is above all that was shown to its name
 none_shown : (s : Group) (i j : ℕ) (list : List Entry) → Kept s → i < 256 → s.shown (key (own_stamp i (s.node i))) j ≡ Some list → ⊥
@@ -233,10 +233,9 @@ none_shown s i j list k few is =
     omega arith
 
 begun_open : (s : Group) (i : ℕ) → Kept s → i < 256 → Opened s (group.with_node s i (record (s.node i) { promise = own_stamp i (s.node i); ballot = true }))
-begun_open s i k few c j list = put_at (λ x (m : groups.Node). IsUp m → m.ballot ≡ true → s.shown (key m.promise) j ≡ Some list
-    → (length (put s.node i (record (s.node i) { promise = own_stamp i (s.node i); ballot = true }) j).list ≤ length list)
-    ⊎ (IsUp (s.node x) × ((s.node x).ballot ≡ true) × (s.shown (key (s.node x).promise) j ≡ Some list) × (length (s.node x).list ≤ length m.list))) s.node i
-    (record (s.node i) { promise = own_stamp i (s.node i); ballot = true })
+begun_open s i k few c j list =
+    let n : groups.Node = record (s.node i) { promise = own_stamp i (s.node i); ballot = true } in
+    put_at (λ x m. OpenedAs s (group.with_node s i n) x j list m) s.node i n
     (λ up ballot is. absurd (none_shown s i j list k few is))
     (λ x other up ballot is. inr (up, ballot, is, omega arith)) c
 
@@ -260,9 +259,7 @@ choice_branches s k lawful c v d voted kept b =
     (λ j stays old same. either (after_choice s k lawful c v d b voted j stays old)
     (λ z. on_chain (subst (λ l. Begins l (chain_of t.views)) (sym same) z))
     (λ z. left_out z.0 z.1 z.2 z.3 z.4 (subst (λ l. Begins l z.2) (sym same) z.5) z.6 z.7 z.8))
-    (λ x j list. put_at (λ y (m : groups.Node). IsUp m → m.ballot ≡ true → s.shown (key m.promise) j ≡ Some list
-    → (length (put s.node c n j).list ≤ length list)
-    ⊎ (IsUp (s.node y) × ((s.node y).ballot ≡ true) × (s.shown (key (s.node y).promise) j ≡ Some list) × (length (s.node y).list ≤ length m.list))) s.node c n
+    (λ x j list. put_at (λ y m. OpenedAs s t y j list m) s.node c n
     (λ up ballot is. absurd (cc))
     (λ y other up ballot is. inr (up, ballot, is, omega arith)) x) b
 
@@ -274,7 +271,7 @@ longer_name s t i e node shown chain up = record {
   shown = shown;
   chain = chain;
   steady = λ stays. inl (up_as (s.node i) (longer (s.node i) e) refl refl refl up);
-  opened = λ z ballot. (up, ballot, refl, more_list (s.node i).list e);
+  opened = λ z ballot. (up, ballot, refl, (let z = length_push (s.node i).list e in omega arith));
 }
 
 pub moves_branch : MovesBranch
@@ -282,59 +279,25 @@ moves_branch s t (group.numbers i e leads fit may) voted k law kt b = one_name s
     (subst (Begins (chain_of s.views)) (sym (longer_chain s i (longer (s.node i) e) e k leads refl)) (begins_more (chain_of s.views) (e ∷ []))) leads.up) b
 moves_branch s t (group.stores i e up decided other stays next) voted k law kt b = one_name s t i (longer (s.node i) e) kt
     (longer_name s t i e refl refl (same_chain s) up) b
-moves_branch s t (group.learns i told acc up rises within before up_to given low) voted k law kt b = one_name s t i
-    (record (s.node i) { told = told; acc = acc }) kt (record {
-      node = refl;
-      shown = refl;
-      chain = same_chain s;
-      steady = λ z. inl (up_as (s.node i) _ refl refl refl up);
-      opened = λ z ballot. (up, ballot, refl, omega arith);
-    }) b
+moves_branch s t (group.learns i told acc up rises within before up_to given low) voted k law kt b =
+    own_move s i _ kt (λ z. inl (up_as (s.node i) _ refl refl refl up)) (λ z ballot. (up, ballot, refl, omega arith)) b
 moves_branch s t (group.begins i few up stays member) voted k law kt b = branches_of s t kt
     (λ j. steady_put s i (record (s.node i) { promise = own_stamp i (s.node i); ballot = true }) (λ z. inl (up_as (s.node i) _ refl refl refl up)) j)
     (still_on s t (same_chain s)) (begun_open s i k few) b
-moves_branch s t (group.raises i stamp there above) voted k law kt b = one_name s t i (record (s.node i) { promise = stamp; ballot = false }) kt (record {
-  node = refl;
-  shown = refl;
-  chain = same_chain s;
-  steady = λ z. inr (refl, there.stays);
-  opened = λ z ballot. absurd (cc);
-}) b
+moves_branch s t (group.raises i stamp there above) voted k law kt b = own_move s i _ kt (λ z. inr (refl, there.stays)) (λ z ballot. absurd (cc)) b
 moves_branch s t (group.shows i there small other begun none) voted k law kt b = branches_of s t kt (λ j stays. inr (refl, stays))
     (still_on s t (same_chain s)) (shown_open s i) b
 moves_branch s t (group.fetches i f list e up ballot served shown next) voted k law kt b = one_name s t i (longer (s.node i) e) kt
     (longer_name s t i e refl refl (same_chain s) up) b
 moves_branch s t (group.decides i v may) voted k law kt b = choice_branches s k law i v may voted.1 kt b
-moves_branch s t (group.gives_over i) voted k law kt b = one_name s t i (record (s.node i) { ballot = false }) kt (record {
-  node = refl;
-  shown = refl;
-  chain = same_chain s;
-  steady = λ z. inr (refl, z);
-  opened = λ z ballot. absurd (cc);
-}) b
+moves_branch s t (group.gives_over i) voted k law kt b = own_move s i _ kt (λ z. inr (refl, z)) (λ z ballot. absurd (cc)) b
 moves_branch s t (group.welcomes j stamp base join may) voted k law kt b =
-    let n : groups.Node = record (s.node j) { list = take base s.group; has_log = true; start = join; promise = stamp; told = base; acc = base } in
-    one_name s t j n kt (record {
-      node = refl;
-      shown = refl;
-      chain = same_chain s;
-      steady = λ z. inl (record { log = refl; there = record { goes = may.there.goes; stays = z } });
-      opened = λ z ballot. absurd (let none = may.no_ballot in cc);
-    }) b
-moves_branch s t (group.asks i up none) voted k law kt b = one_name s t i (record (s.node i) { leaving = true }) kt (record {
-  node = refl;
-  shown = refl;
-  chain = same_chain s;
-  steady = λ z. inl (up_as (s.node i) _ refl refl refl up);
-  opened = λ z ballot. absurd (cc);
-}) b
-moves_branch s t (group.departs i before may) voted k law kt b = one_name s t i (record (s.node i) { departed = true }) kt (record {
-  node = refl;
-  shown = refl;
-  chain = same_chain s;
-  steady = λ z. absurd (cc);
-  opened = λ z ballot. absurd (let y = z.there.stays in cc);
-}) b
+    own_move s j _ kt (λ z. inl (record { log = refl; there = record { goes = may.there.goes; stays = z } }))
+    (λ z ballot. absurd (let none = may.no_ballot in cc)) b
+moves_branch s t (group.asks i up none) voted k law kt b =
+    own_move s i _ kt (λ z. inl (up_as (s.node i) _ refl refl refl up)) (λ z ballot. absurd (cc)) b
+moves_branch s t (group.departs i before may) voted k law kt b =
+    own_move s i _ kt (λ z. absurd (cc)) (λ z ballot. absurd (let y = z.there.stays in cc)) b
 moves_branch s t (group.closes i n leads leaving alone may) voted k law kt b = one_name s t i (record (longer (s.node i) (Leave i)) { departed = true }) kt
     (record {
       node = refl;
@@ -344,13 +307,7 @@ moves_branch s t (group.closes i n leads leaving alone may) voted k law kt b = o
       steady = λ z. absurd (cc);
       opened = λ z ballot. absurd (let y = z.there.stays in cc);
     }) b
-moves_branch s t (group.stops i) voted k law kt b = one_name s t i (record (s.node i) { stopped = true }) kt (record {
-  node = refl;
-  shown = refl;
-  chain = same_chain s;
-  steady = λ z. inr (refl, z);
-  opened = λ z ballot. absurd (let y = z.there.goes in cc);
-}) b
+moves_branch s t (group.stops i) voted k law kt b = own_move s i _ kt (λ z. inr (refl, z)) (λ z ballot. absurd (let y = z.there.goes in cc)) b
 moves_branch s t _ voted k law kt b = no_name s t kt refl refl refl b
 
 -- ---- what a decision finds

@@ -86,9 +86,6 @@ pub record Stays (c : Cause) (x y : Node) : Type 0 where
 stays_same : {c : Cause} (x y : Node) → y.status ≡ x.status → Stays c x y
 stays_same x y is = record { there = λ f. ap has_departed is ∙ f; gone = λ t. is; member = λ f t. ap is_member (sym is) ∙ t }
 
-not_gone : (t : Status) → t ≡ status.Stranger → has_departed t ≡ true → ⊥
-not_gone t is gone = (let z = sym gone ∙ ap has_departed is in cc)
-
 pub stays : {c : Cause} {o : Outcome} (x y : Node) (z : Change c o x y) → IsPlain z → Stays c x y
 stays x y refreshes p = absurd p
 stays x y settles p = stays_same x y (ap (λ (n : Node). n.status) (settle_is x))
@@ -99,7 +96,7 @@ stays x y (begins_list from v base join image is says_ may) p = record {
 }
 stays x y (departs from v number is heard leaves) p = absurd p
 stays x y (looks b verdict over why look is) p = absurd p
-stays x y (asks_to_join is was) p = record { there = λ f. refl; gone = λ t. absurd (not_gone x.status was t); member = λ f t. absurd (cc) }
+stays x y (asks_to_join is was) p = record { there = λ f. refl; gone = λ t. absurd (let z = sym t ∙ ap has_departed was in cc); member = λ f t. absurd (cc) }
 stays x y (closes leads leaves alone_ room) p = absurd p
 stays x y _ p = stays_same x y refl
 

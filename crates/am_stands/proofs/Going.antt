@@ -147,22 +147,20 @@ gone_said v i n s name h may =
     let low : (row_at n name).left ≤ n.core.acc = (let z = rest.0 in grind (arith, nat_tests)) in
     let same : (row_of (image_of list) name).left ≡ (row_at n name).left = ap (λ (g : Image). (row_of g name).left) (told_all v i n (s.node i) h.speaks.stands)
     in
-    by_kind low rest.1 (subst (LeavesAt list name) same (leaves_at list name (omega arith)))
+    elim (subst (LeavesAt list name) same (leaves_at list name (omega arith))) [
+      | by_leave before size part ↦
+          let fronts = (h.speaks.kept.each i).fronts in
+          let more = length_push before (Leave name) in
+          letters.may_go before size
+          (begins_both part chained.group_in (omega arith))
+          (has_stored_it v i n s h name (row_at n name).left before size part low rest.1)
+      | by_view before w size member out part ↦
+          has_stopped (h.left_out before w name
+          (subst (Begins (before ++ View w ∷ [])) chained.chain part) member out)
+    ]
   where
     chained : OnChain s (s.node i).list
     chained = on_chain v i n s h.speaks h.leads
-
-    by_kind : (row_at n name).left ≤ n.core.acc → all_stored n (without_name (concerned_names n) name) (row_at n name).left ≡ true
-        → LeavesAt (s.node i).list name (row_at n name).left → GoneSays s (row_at n name).left name
-    by_kind low all (by_leave before size part) =
-        let fronts = (h.speaks.kept.each i).fronts in
-        let more = length_push before (Leave name) in
-        letters.may_go before size
-        (begins_both part chained.group_in (omega arith))
-        (has_stored_it v i n s h name (row_at n name).left before size part low all)
-    by_kind low all (by_view before w size member out part) =
-        has_stopped (h.left_out before w name
-        (subst (Begins (before ++ View w ∷ [])) chained.chain part) member out)
 
 -- to the leaver alone
 pub gone_says : (v : World) (i : ℕ) (n : Node) (s : Group) (name : ℕ) → MayLetGo v i n s → may_go n name ≡ true → (j : ℕ) → has (only_name name) j ≡ true

@@ -19,18 +19,26 @@ longer_name a e = record { list = begins_more a.list (e ∷ []); log = λ z. z; 
 put_grows : (s : Group) (i : ℕ) (b : groups.Node) → NameGrows (s.node i) b → (j : ℕ) → NameGrows (s.node j) (put s.node i b j)
 put_grows s i b h j = put_at (λ k n. NameGrows (s.node k) n) s.node i b h (λ k other. same_name (s.node k)) j
 
+-- where no view is decided, no choice changes, and what was shown and served stays
+grows_by : (s t : Group) → ((i : ℕ) → NameGrows (s.node i) (t.node i)) → Begins s.group t.group
+    → ((x : ℕ) → Begins (s.views.line x) (t.views.line x)) → t.views.decided ≡ s.views.decided → t.views.chosen ≡ s.views.chosen
+    → ((x j : ℕ) (list : List Entry) → s.shown x j ≡ Some list → t.shown x j ≡ Some list) → ((x j : ℕ) → s.served x j ≡ true → t.served x j ≡ true) → Grows s t
+grows_by s t each group lines decided chosen shown served = record {
+  each = each;
+  group = group;
+  lines = λ x d. lines x;
+  decided = λ x d. (ap (λ f. f x) decided ∙ d, ap (λ f. f x) chosen);
+  new = λ x d. inl (ap (λ f. f x) (sym decided) ∙ d);
+  shown = shown;
+  served = served;
+}
+
 -- where names alone change, or nothing
 pub grows_names : (s t : Group) → ((i : ℕ) → NameGrows (s.node i) (t.node i)) → t.group ≡ s.group → t.views.line ≡ s.views.line
     → t.views.decided ≡ s.views.decided → t.views.chosen ≡ s.views.chosen → t.shown ≡ s.shown → t.served ≡ s.served → Grows s t
-grows_names s t each group line decided chosen shown served = record {
-  each = each;
-  group = subst (Begins s.group) (sym group) (begins_refl s.group);
-  lines = λ x d. subst (Begins (s.views.line x)) (ap (λ f. f x) (sym line)) (begins_refl (s.views.line x));
-  decided = λ x d. (ap (λ f. f x) decided ∙ d, ap (λ f. f x) chosen);
-  new = λ x d. inl (ap (λ f. f x) (sym decided) ∙ d);
-  shown = λ x j list is. ap (λ f. f x j) shown ∙ is;
-  served = λ x j is. ap (λ f. f x j) served ∙ is;
-}
+grows_names s t each group line decided chosen shown served = grows_by s t each (subst (Begins s.group) (sym group) (begins_refl s.group))
+    (λ x. subst (Begins (s.views.line x)) (ap (λ f. f x) (sym line)) (begins_refl (s.views.line x))) decided chosen
+    (λ x j list is. ap (λ f. f x j) shown ∙ is) (λ x j is. ap (λ f. f x j) served ∙ is)
 
 -- a move of one node alone
 pub node_grows : (s : Group) (i : ℕ) (b : groups.Node) → NameGrows (s.node i) b → Grows s (with_node s i b)
@@ -50,15 +58,9 @@ line_grows s i b list chain grows x = put_at (λ y l. Begins (s.views.line y) l)
     (subst (λ l. Begins l list) (sym chain) grows) (λ y other. begins_refl (s.views.line y)) x
 
 number_grows : (s : Group) (i : ℕ) (e : Entry) → Kept s → Leads i (s.node i) → Grows s (with_line s i (longer (s.node i) e))
-number_grows s i e k leads = record {
-  each = put_grows s i (longer (s.node i) e) (longer_name (s.node i) e);
-  group = begins_refl s.group;
-  lines = λ x d. line_grows s i (longer (s.node i) e) ((s.node i).list ++ e ∷ []) (leads_line s i k leads) (begins_more (s.node i).list (e ∷ [])) x;
-  decided = λ x d. (d, refl);
-  new = λ x d. inl d;
-  shown = λ x j list is. is;
-  served = λ x j is. is;
-}
+number_grows s i e k leads = grows_by s _ (put_grows s i (longer (s.node i) e) (longer_name (s.node i) e)) (begins_refl s.group)
+    (line_grows s i (longer (s.node i) e) ((s.node i).list ++ e ∷ []) (leads_line s i k leads) (begins_more (s.node i).list (e ∷ []))) refl refl
+    (λ x j list is. is) (λ x j is. is)
 
 -- what is accepted stands in what may be accepted
 accepted_grows : (s : Group) (node : ℕ → groups.Node) (list : List Entry) (n : ℕ) → Begins s.group list → MayAccept node list (length s.group) n
@@ -98,15 +100,8 @@ decision_grows s i v fresh new = record {
 pub moves_grow : MovesGrow
 moves_grow s t (numbers i e leads fit may) k new = number_grows s i e k leads
 moves_grow s t (stores i e up decided other stays next) k new = node_grows s i (longer (s.node i) e) (longer_name (s.node i) e)
-moves_grow s t (accepts i n leads may) k new = record {
-  each = λ j. same_name (s.node j);
-  group = accepted_grows s s.node (s.node i).list n (group_in s i k leads) may;
-  lines = λ x d. begins_refl (s.views.line x);
-  decided = λ x d. (d, refl);
-  new = λ x d. inl d;
-  shown = λ x j list is. is;
-  served = λ x j is. is;
-}
+moves_grow s t (accepts i n leads may) k new = grows_by s t (λ j. same_name (s.node j))
+    (accepted_grows s s.node (s.node i).list n (group_in s i k leads) may) (λ x. begins_refl (s.views.line x)) refl refl (λ x j list is. is) (λ x j is. is)
 moves_grow s t (learns i told acc up rises within before up_to given low) k new = node_grows s i (record (s.node i) { told = told; acc = acc })
     (record { list = begins_refl (s.node i).list; log = λ z. z; promise = omega arith; stopped = λ z. z; departed = λ z. z; leaving = λ z. z })
 moves_grow s t (begins i few up stays member) k new = node_grows s i _
@@ -127,28 +122,15 @@ moves_grow s t (raises i stamp there above) k new = node_grows s i _
       departed = λ z. z;
       leaving = λ z. z;
     })
-moves_grow s t (shows i there small other begun none) k new = record {
-  each = λ j. same_name (s.node j);
-  group = begins_refl s.group;
-  lines = λ x d. begins_refl (s.views.line x);
-  decided = λ x d. (d, refl);
-  new = λ x d. inl d;
-  shown = λ x j list is. either (put2_cases s.shown (key (s.node i).promise) i (Some (s.node i).list) x j)
-      (λ z. (let same : s.shown (key (s.node i).promise) i ≡ Some list = (λ q. s.shown (sym z.0 q) (sym z.1 q)) ∙ is in absurd (cc)))
-      (λ z. z.1 ∙ is);
-  served = λ x j is. is;
-}
-moves_grow s t (serves i list up shown others) k new = record {
-  each = λ j. same_name (s.node j);
-  group = begins_refl s.group;
-  lines = λ x d. begins_refl (s.views.line x);
-  decided = λ x d. (d, refl);
-  new = λ x d. inl d;
-  shown = λ x j l is. is;
-  served = λ x j is. either (put2_cases s.served (key (s.node i).promise) i true x j)
-      (λ z. z.2)
-      (λ z. z.1 ∙ is);
-}
+moves_grow s t (shows i there small other begun none) k new = grows_by s t (λ j. same_name (s.node j)) (begins_refl s.group)
+    (λ x. begins_refl (s.views.line x)) refl refl
+    (λ x j list is. either (put2_cases s.shown (key (s.node i).promise) i (Some (s.node i).list) x j)
+    (λ z. (let same : s.shown (key (s.node i).promise) i ≡ Some list = (λ q. s.shown (sym z.0 q) (sym z.1 q)) ∙ is in absurd (cc)))
+    (λ z. z.1 ∙ is))
+    (λ x j is. is)
+moves_grow s t (serves i list up shown others) k new = grows_by s t (λ j. same_name (s.node j)) (begins_refl s.group)
+    (λ x. begins_refl (s.views.line x)) refl refl (λ x j l is. is)
+    (λ x j is. either (put2_cases s.served (key (s.node i).promise) i true x j) (λ z. z.2) (λ z. z.1 ∙ is))
 moves_grow s t (fetches i h list e up ballot served shown next) k new = node_grows s i (longer (s.node i) e) (longer_name (s.node i) e)
 moves_grow s t (decides i v may) k new = decision_grows s i v new.0 new.1
 moves_grow s t (gives_over i) k new = node_grows s i _
@@ -167,24 +149,13 @@ moves_grow s t (asks i up none) k new = node_grows s i _
     (record { list = begins_refl (s.node i).list; log = λ z. z; promise = omega arith; stopped = λ z. z; departed = λ z. z; leaving = λ z. refl })
 moves_grow s t (departs i before may) k new = node_grows s i _
     (record { list = begins_refl (s.node i).list; log = λ z. z; promise = omega arith; stopped = λ z. z; departed = λ z. refl; leaving = λ z. z })
-moves_grow s t (closes i n leads leaving alone may) k new = record {
-  each = put_grows s i (record (longer (s.node i) (Leave i)) { departed = true })
-      (record {
-        list = begins_more (s.node i).list (Leave i ∷ []);
-        log = λ z. z;
-        promise = omega arith;
-        stopped = λ z. z;
-        departed = λ z. refl;
-        leaving = λ z. z;
-      });
-  group = accepted_grows s (put s.node i (longer (s.node i) (Leave i))) ((s.node i).list ++ Leave i ∷ []) n
-      (begins_trans (group_in s i k leads) (begins_more (s.node i).list (Leave i ∷ []))) may;
-  lines = λ x d. line_grows s i (longer (s.node i) (Leave i)) ((s.node i).list ++ Leave i ∷ []) (leads_line s i k leads)
-      (begins_more (s.node i).list (Leave i ∷ [])) x;
-  decided = λ x d. (d, refl);
-  new = λ x d. inl d;
-  shown = λ x j list is. is;
-  served = λ x j is. is;
-}
+moves_grow s t (closes i n leads leaving alone may) k new =
+    let m = s.node i in
+    let more = begins_more m.list (Leave i ∷ []) in
+    grows_by s t
+    (put_grows s i (record (longer m (Leave i)) { departed = true })
+    (record { list = more; log = λ z. z; promise = omega arith; stopped = λ z. z; departed = λ z. refl; leaving = λ z. z }))
+    (accepted_grows s (put s.node i (longer m (Leave i))) (m.list ++ Leave i ∷ []) n (begins_trans (group_in s i k leads) more) may)
+    (line_grows s i (longer m (Leave i)) (m.list ++ Leave i ∷ []) (leads_line s i k leads) more) refl refl (λ x j list is. is) (λ x j is. is)
 moves_grow s t (stops i) k new = node_grows s i _
     (record { list = begins_refl (s.node i).list; log = λ z. z; promise = omega arith; stopped = λ z. refl; departed = λ z. z; leaving = λ z. z })

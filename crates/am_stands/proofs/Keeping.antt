@@ -159,18 +159,17 @@ module _ (rules : Rules) (w : World) (name : ℕ) (c : Cause) (x : Node) (s : Gr
   welcome_ok from v base join image is may =
       let k = h.heard (packet.Welcome from v base join image) is in
       let blank_ = asking_blank x.status may.no_member (and_both (not (from == x.core.who)) (is_member x.status || is_asking x.status) may.asks).1 in
-      by_kind blank_.0 blank_.1 (k.says.1 name k.addressed)
-    where
-      by_kind : has_log x.status ≡ false → has_departed x.status ≡ false → says.WelcomeTo s from v base join image name → NeedsWelcome s name v base join image
-      by_kind none stays (says.has_begun t) = absurd (let f = old.log_ ∙ none in cc)
-      by_kind none stays (says.has_gone t) = absurd (let f = old.stopped ∙ h.runs in cc)
-      by_kind none stays (says.has_left t) = absurd (let f = old.departed ∙ stays in cc)
-      by_kind none stays (says.is_leaving t) = absurd (let log = h.keeps.leaves (sym old.leaving ∙ t) in cc)
-      by_kind none stays (says.may_begin t) =
-          welcome_needs w name from base join x v image s kept h.who h.runs h.along.names.promise_ (h.names.stamps (packet.Welcome from v base join image) is)
-          (split x.leaving (λ u. absurd (let log = h.keeps.leaves u in cc)) (λ f. f))
-          (split (is_unfinished x.ballot) (λ u. absurd (let z = (h.keeps.opens u).0 in let y = may.no_member in cc)) (λ f. f))
-          old may t
+      elim (k.says.1 name k.addressed) [
+        | says.has_begun t ↦ absurd (let f = old.log_ ∙ blank_.0 in cc)
+        | says.has_gone t ↦ absurd (let f = old.stopped ∙ h.runs in cc)
+        | says.has_left t ↦ absurd (let f = old.departed ∙ blank_.1 in cc)
+        | says.is_leaving t ↦ absurd (let log = h.keeps.leaves (sym old.leaving ∙ t) in cc)
+        | says.may_begin t ↦
+            welcome_needs w name from base join x v image s kept h.who h.runs h.along.names.promise_ (h.names.stamps (packet.Welcome from v base join image) is)
+            (split x.leaving (λ u. absurd (let log = h.keeps.leaves u in cc)) (λ f. f))
+            (split (is_unfinished x.ballot) (λ u. absurd (let z = (h.keeps.opens u).0 in let y = may.no_member in cc)) (λ f. f))
+            old may t
+      ]
 
   pub looks_own : (b : Ballot) → Balloting c x b → x.core.promise.by ≡ name
   looks_own b why = (let o = (looked_at x b why h.along.balloted).open_ in ap (λ (u : Stamp). u.by) o.promised ∙ o.own ∙ h.who)

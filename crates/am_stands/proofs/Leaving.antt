@@ -164,21 +164,18 @@ leaves_more a b name left h (by_view before v size member out part) = by_view be
 left_push : (a : List Entry) (e : Entry) (name : ℕ) → LeftBy a name → LeftBy (a ++ e ∷ []) name
 left_push a e name h = λ some.
     let row = ap (λ (i : Image). (row_of i name).left) (told_push a e) in
-    by_kind row some (entry_left (image_of a) (1 + length a) e name (long_told a))
-  where
-    by_kind : (row_of (image_of (a ++ e ∷ [])) name).left ≡ (row_of (after (image_of a) (1 + length a) e) name).left
-        → 0 < (row_of (image_of (a ++ e ∷ [])) name).left
-        → Leaves (image_of a) (1 + length a) e name → LeavesAt (a ++ e ∷ []) name (row_of (image_of (a ++ e ∷ [])) name).left
-    by_kind row some (stayed same) =
-        let is = row ∙ same in
-        subst (LeavesAt (a ++ e ∷ []) name) (sym is) (leaves_more a (a ++ e ∷ []) name _ (begins_more a (e ∷ [])) (h (omega arith)))
-    by_kind row some (leaves its same) =
-        let is = row ∙ same in
-        by_leave a (omega arith) (subst (λ x. Begins (a ++ x ∷ []) (a ++ e ∷ [])) its (begins_refl (a ++ e ∷ [])))
-    by_kind row some (left_out v its out in_ same) =
-        let is = row ∙ same in
-        by_view a v (omega arith) (in_mem a name in_) out (subst (λ x. Begins (a ++ x ∷ []) (a ++ e ∷ [])) its (begins_refl (a ++ e ∷ [])))
-    by_kind row some (none same) = absurd (let is = row ∙ same in omega arith)
+    elim (entry_left (image_of a) (1 + length a) e name (long_told a)) [
+      | stayed same ↦
+          let is = row ∙ same in
+          subst (LeavesAt (a ++ e ∷ []) name) (sym is) (leaves_more a (a ++ e ∷ []) name _ (begins_more a (e ∷ [])) (h (omega arith)))
+      | leaves its same ↦
+          let is = row ∙ same in
+          by_leave a (omega arith) (subst (λ x. Begins (a ++ x ∷ []) (a ++ e ∷ [])) its (begins_refl (a ++ e ∷ [])))
+      | left_out v its out in_ same ↦
+          let is = row ∙ same in
+          by_view a v (omega arith) (in_mem a name in_) out (subst (λ x. Begins (a ++ x ∷ []) (a ++ e ∷ [])) its (begins_refl (a ++ e ∷ [])))
+      | none same ↦ absurd (let is = row ∙ same in omega arith)
+    ]
 
 left_walk : (a es : List Entry) (name : ℕ) → LeftBy a name → LeftBy (a ++ es) name
 left_walk a [] name h = subst (λ l. LeftBy l name) (sym (append-nil a)) h

@@ -69,13 +69,10 @@ none_asked rules = record {
   asked = record { low = λ k r name req body there is. absurd (cc); once = λ k l r s name req body other a b is also. absurd (cc) };
 }
 
-run_once : (rules : Rules) (events : List Event) → AllAsked (run rules events)
-run_once rules events = runs_keep AllAsked asked_next (start rules) events (none_asked rules)
-
 pub step_once : (rules : Rules) (events : List Event) (e : Event) (c : Cause) (s : Step) → IsCause (run rules events) (actor (run rules events) e) e.act c
     → Effect ((run rules events).nodes (actor (run rules events) e)) c s → SendsOnce (record (run rules events) { records = after_step (run rules events) e s })
 step_once rules events e c s cause effect =
     let w = run rules events in
-    let z = asked_step w e c s (run_once rules events).asked cause effect in
+    let z = asked_step w e c s (runs_keep AllAsked asked_next (start rules) events (none_asked rules)).asked cause effect in
     λ name req a b p q. (unique (after_step w e s) (set_at w.nodes (actor w e) s.node) z).one name req a b
     (record { index = p.index; send = p.done; there = p.there; is = p.is }) (record { index = q.index; send = q.done; there = q.there; is = q.is })

@@ -29,9 +29,6 @@ still_decided v (Some a) b number names is answer = split (not a.is_over && stam
     let said_ : said.Overtaken v ≡ said.Decided number names = ap (λ (x : Ballot). x.answer) same ∙ answer in cc))
     (λ f. rw f at is)
 
-none_least : (p : Stamp) → AtMost no_stamp p
-none_least p = grind (arith, nat_tests)
-
 -- ---- a change
 
 -- what is known along a step
@@ -48,7 +45,7 @@ promise_owns nodes i c x v names begun why low is h b number all at answer mine 
     let who = h.promised.who in
     let small : v.by < 256 = promised_named c x v why names in
     let most : AtMost v x.core.promise = either is
-    (λ z. subst (λ (u : Stamp). AtMost u x.core.promise) (sym z) (none_least x.core.promise))
+    (λ z. subst (λ (u : Stamp). AtMost u x.core.promise) (sym z) (grind (arith, nat_tests)))
     (λ z. most_through v (nodes i).core.promise x.core.promise
     (subst (λ k. AtMost v (nodes k).core.promise) (mine ∙ who) z) h.promised.up) in
     let same : v ≡ x.core.promise = equal_stamps v x.core.promise small h.named.promise_ low most in

@@ -65,9 +65,6 @@ module _ (rules : Rules) (w v : World) (name : ℕ) (c : Cause) (x : Node) (s t 
   ballots_y : Ballots w t y.ballot
   ballots_y = subst (Ballots w t) (sym (rests_refresh x).rests.ballot) (ballots_grow w s t x.ballot g h.keeps.ballots)
 
-  sends_y : y.sends ≡ x.sends
-  sends_y = ap (λ (n : Node). n.sends) (refresh_is x)
-
   opens_y : OpensStand y
   opens_y open_ = (let o = k.opens (sym (ap is_unfinished (rests_refresh x).rests.ballot) ∙ open_) in
       (ap is_member (rests_refresh x).rests.status ∙ o.0, (rests_refresh x).rests.leaving ∙ o.1))
@@ -110,21 +107,15 @@ module _ (rules : Rules) (w v : World) (name : ℕ) (c : Cause) (x : Node) (s t 
     reports_led = (let low = fronts_in in subst (Reporting t.node (t.node name).list x.core.base) (sym reports_are)
         (own_more y.core.taken (after_report x.reports x.core.who (nodes.report_of x)) low.0 (own_more x.core.taken x.reports low.1 reports_grow)))
 
-    leads_y : is_sequencer y ≡ true
-    leads_y = leads_rests (rests_refresh x).rests ∙ leads
-
-    member_y : is_member y.status ≡ true
-    member_y = ap is_member (rests_refresh x).rests.status ∙ sequencer_member rules w name c x s h leads
-
     refreshed : Refreshed (within v name y) name x y t
     refreshed =
         let f = later.owned.fronts in
         let base = f.base in
-        let up = is_up v name y (t.node name) now.runs member_y now.stands in
+        let up = is_up v name y (t.node name) now.runs (ap is_member (rests_refresh x).rests.status ∙ sequencer_member rules w name c x s h leads) now.stands in
         record {
           is = is;
           speaks = record { kept = kept_t; stands = now.stands; up = up; who = who ∙ h.who };
-          leads = leads_y;
+          leads = leads_rests (rests_refresh x).rests ∙ leads;
           start = omega arith;
           base = omega arith;
           within = f.accepted;
@@ -174,7 +165,7 @@ module _ (rules : Rules) (w v : World) (name : ℕ) (c : Cause) (x : Node) (s t 
     fresh = fresh_y;
     trimmed = trimmed_y;
     turn = subst (λ q. OwnTurn q (t.node name).list y.sends) (sym who) (subst (λ l. OwnTurn x.core.who l y.sends) (sym now.list)
-        (subst (OwnTurn x.core.who (s.node name).list) (sym sends_y) k.turn));
+        (subst (OwnTurn x.core.who (s.node name).list) (sym (ap (λ (n : Node). n.sends) (refresh_is x))) k.turn));
     leaves = λ u. (ap has_log (rests_refresh x).rests.status ∙ k.leaves (sym (rests_refresh x).rests.leaving ∙ u));
   }
 

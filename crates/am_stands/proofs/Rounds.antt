@@ -9,9 +9,6 @@ some_round : (round by : ℕ) → 0 < round → HasRound (key (record { round = 
 unfolding key
 some_round round by some = omega arith
 
-own_round : (i : ℕ) (m : groups.Node) → HasRound (key (own_stamp i m))
-own_round i m = some_round (m.promise.round + 1) i (omega arith)
-
 -- a move of one node
 put_rounds : (s t : Group) (i : ℕ) (b : groups.Node) → t.node ≡ put s.node i b → t.views.decided ≡ s.views.decided
     → (b.has_log ≡ true → HasRound (key b.promise)) → RoundsOk s → RoundsOk t
@@ -44,7 +41,7 @@ pub moves_rounds : (s t : Group) → Move s t → RoundsOk s → RoundsOk t
 moves_rounds s t (numbers i e leads fit may) h = put_rounds s t i _ refl refl (h.promised i) h
 moves_rounds s t (stores i e up decided other stays next) h = put_rounds s t i _ refl refl (h.promised i) h
 moves_rounds s t (learns i told acc up rises within before up_to given low) h = put_rounds s t i _ refl refl (h.promised i) h
-moves_rounds s t (begins i few up stays member) h = put_rounds s t i _ refl refl (λ log. own_round i (s.node i)) h
+moves_rounds s t (begins i few up stays member) h = put_rounds s t i _ refl refl (λ log. some_round ((s.node i).promise.round + 1) i (omega arith)) h
 moves_rounds s t (raises i stamp there above) h =
     put_rounds s t i (record (s.node i) { promise = stamp; ballot = false }) refl refl
     (λ log. (let old = h.promised i log in let up = above.greater in omega arith)) h

@@ -83,18 +83,16 @@ module _ (v : World) (i : ℕ) (c : Cause) (m n : Node) (s : Group) (h : Sender 
 
   -- who leads, or heard a Fetch, hasn't just begun its list
   start_leading : is_sequencer n ≡ true → n.core.log.start ≤ m.core.base
-  start_leading t = by_start h.start
-    where
-      by_start : ListBegins c m n → n.core.log.start ≤ m.core.base
-      by_start (as_before low) = low
-      by_start (just_begun follows asked) = absurd (let z = sym t ∙ follows in cc)
+  start_leading t = elim h.start [
+    | as_before low ↦ low
+    | just_begun follows asked ↦ absurd (let z = sym t ∙ follows in cc)
+  ]
 
   start_asked : (from stored : ℕ) (u : Stamp) → c ≡ hears (packet.Fetch from u stored) → n.core.log.start ≤ m.core.base
-  start_asked from stored u is = by_start h.start
-    where
-      by_start : ListBegins c m n → n.core.log.start ≤ m.core.base
-      by_start (as_before low) = low
-      by_start (just_begun follows asked) = absurd (asked from stored u is)
+  start_asked from stored u is = elim h.start [
+    | as_before low ↦ low
+    | just_begun follows asked ↦ absurd (asked from stored u is)
+  ]
 
   numbered : (number : ℕ) (e : Entry) → is_sequencer n ≡ true → letters.EntryStands n.core.log m.core.base number e
       → says.EntrySays s i n.core.promise n.core.acc number e
@@ -113,7 +111,10 @@ module _ (v : World) (i : ℕ) (c : Cause) (m n : Node) (s : Group) (h : Sender 
   told_result : (number : ℕ) (names : List ℕ) → number ≡ (nodes.image_of n).view_number → viewed_by (entry_at n.core.log number) ≡ names → MayTell n
       → n.core.promise.by ≡ i → ResultSays s i number (record { stamp = n.core.promise; members = names; resilience = (nodes.image_of n).resilience })
   told_result number names is viewed may mine =
-      let member = logged_member (tells_log may) in
+      let member = logged_member (elim may [
+        | leads t ↦ logged n.status (acting_member n (leading_acts n t))
+        | decided b number names there answer at ↦ h.ballots.blank b there
+      ]) in
       let t = tells_leads n member may h.ballots.own (mine ∙ sym h.who) in
       let l = leading v i n s (speaks_leading t) t in
       let noted = h.views.decided (key n.core.promise) l.decided in
@@ -123,10 +124,6 @@ module _ (v : World) (i : ℕ) (c : Cause) (m n : Node) (s : Group) (h : Sender 
       (subst (λ (u : Stamp). (s.views.chosen (key u)).stamp ≡ u) same k.stamp)
       (subst (λ (u : Stamp). Begins (opening (s.views.chosen (key u))) (s.views.line (key u))) same k.opens)
       (h.leader t).viewed is viewed
-    where
-      tells_log : MayTell n → has_log n.status ≡ true
-      tells_log (leads t) = logged n.status (acting_member n (leading_acts n t))
-      tells_log (decided b number names there answer at) = h.ballots.blank b there
 
   -- what is sent of its list
   piece_log : (number : ℕ) (e : Entry) → letters.EntryStands n.core.log m.core.base number e → is_member n.status ≡ true

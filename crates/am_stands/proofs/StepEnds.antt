@@ -78,9 +78,6 @@ ended_on rules w name c o m x s sent d =
 
 -- ---- what was noted
 
-none_below : (a : Stamp) → stamp_lt a no_stamp ≡ false
-none_below a = grind (arith, nat_tests)
-
 -- a step that noted no view decided none
 none_decided : (rules : Rules) (w : World) (name : ℕ) (c : Cause) (m n : Node) (t : Group) (group : List Entry)
     → Stepping rules (further w group w.views) name c n t → (has_log m.status ≡ true → Goes m.core.log n.core.log)
@@ -100,7 +97,7 @@ none_decided rules w name c m n t group h goes log_ there noted is member own di
     let viewed : view_of (t.node name).list ≡ view n = view_whole (further w group w.views) name n (t.node name) mine in
     let g = whole rules (further w group w.views) name c n t h in
     let some : (t.node name).list ≢ [] = λ none. (let z : view n ≡ no_stamp = sym viewed ∙ ap view_of none ∙ nothing_viewed in
-    let low : stamp_lt (view m) (view n) ≡ false = ap (stamp_lt (view m)) z ∙ none_below (view m) in let up_ = k.0 in cc) in
+    let low : stamp_lt (view m) (view n) ≡ false = ap (stamp_lt (view m)) z ∙ (grind (arith, nat_tests)) in let up_ = k.0 in cc) in
     let opens = list_opens t name g.kept g.opens up some in
     let was = h.stands.views.decided (key (view n)) (ap (λ (u : Stamp). t.views.decided (key u)) (sym viewed) ∙ opens.decided) in
     let small : (view n).by < 256 = subst (λ (u : Stamp). u.by < 256) viewed (view_small (t.node name).list h.keeps.good) in

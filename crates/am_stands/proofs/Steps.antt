@@ -77,9 +77,6 @@ quiet_views views m n same =
     let t : stamp_eq (view m) (view n) ≡ true = ap (stamp_eq (view m)) same ∙ stamp_itself (view m) in
     split (is_member m.status) (λ a. split ((view n).by == n.core.who) (λ b. rw (a, b, t) refl) (λ b. rw (a, b) refl)) (λ a. rw a refl)
 
-stranger_views : (views : List Decided) (m n : Node) → is_member m.status ≡ false → views_after views m n ≡ views
-stranger_views views m n f = rw f refl
-
 seen_none : (w : World) (m n : Node) (views : List Decided) → view n ≡ view m → Seen w m n views → views ≡ w.views
 seen_none w m n views same (none_new is) = is
 seen_none w m n views same (one_new d is) = absurd (let z : stamp_lt (view m) (view m) ≡ true = ap (stamp_lt (view m)) (sym same) ∙ d.above in
@@ -164,7 +161,7 @@ module _ (rules : Rules) (events : List Event) (e : Event) (c : Cause) (s : Grou
       let r = rests_step m x gone closed deeds in
       let k = (numbers_hold rules events).each name in
       let group_ : group_after w.group n ≡ w.group = same_group w.group n (omega arith) in
-      let views_ : views_after w.views m n ≡ w.views = stranger_views w.views m n (ap is_member gone) in
+      let views_ : views_after w.views m n ≡ w.views = rw (ap is_member gone) refl in
       let begun = recorded w (after_step w e step) in
       let stands = same_stands begun name m n s r.same (stands_but w (after_step w e step) name s h.stands) in
       let there : StandsBut name (within (at_end w e name step) name n) s =
