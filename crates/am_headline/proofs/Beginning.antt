@@ -17,7 +17,6 @@ born : (rules : Rules) (w : World) (name : ℕ) → AllOwned rules w → w.lives
 born rules w name laws low a =
     let is = laws.blanks.base.named.unborn name low in
     let t : acts (stranger rules name) ≡ true = subst (λ (m : Node). acts m ≡ true) is a in
-    let member = (acting (stranger rules name) t).0 in
     cc
 
 pub few_acting : (rules : Rules) (w : World) (name : ℕ) → AllOwned rules w → acts (w.nodes name) ≡ true → name < 256
@@ -50,7 +49,6 @@ member_stays w place name may low there = false_from_ne_true (w.nodes name).leav
 there_now : (rules : Rules) (w : World) (name : ℕ) → AllOwned rules w → OldStopped w → acts (w.nodes name) ≡ true → is_stopped w name ≡ false
     → IsThere w name
 there_now rules w name laws old a runs =
-    let least = old.born (place_of name) in
     record {
       current_ = elim (cases_lt (w.lives (place_of name)) (life_of name)) [
         | inl low ↦ absurd (born rules w name laws low a)
@@ -139,7 +137,6 @@ follows_first rules w place name b there =
 apart_first : (rules : Rules) (w : World) (place name : ℕ) → Begun rules w place → (let q = current w place in has (members (w.nodes q)) name ≡ false
     → is_stopped w name ≡ false → has_departed (w.nodes name).status ≡ false → (w.nodes name).leaving ≡ false → IsApart (repair_of w q) (w.nodes name))
 apart_first rules w place name b none goes there stays =
-    let q = current w place in
     let m = w.nodes name in
     let no_member = false_from_ne_true (is_member m.status) (λ t. (let in_ = b.agree.alone name t goes stays in cc)) in
     elim (cases_lt name 256) [

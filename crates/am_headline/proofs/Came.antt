@@ -86,14 +86,15 @@ fetched_view : (x : Node) (s : ℕ) (v : Stamp) (base : ℕ) (e : Entry) → Fet
     → acts (push_entry (trim_up_to x base) e) ≡ true → (view (push_entry (trim_up_to x base) e) ≡ v) × (v.by ≡ s)
 fetched_view x s v base (View w) why promise is t =
     let last = view_last (trim_up_to x base) w in
-    let at : w.stamp ≡ v = sym ((acting (push_entry (trim_up_to x base) (View w)) t).1 ∙ last) ∙ sym promise in
-    (last ∙ at, by_name why at)
-  where
-    by_name : Fetches x s v (View w) → w.stamp ≡ v → v.by ≡ s
-    by_name (without_ballot none from past) at = stamp_by v s from
-    by_name (for_ballot b open_ from past) at =
-        let u : stamp_eq w.stamp v ≡ true = ap (stamp_eq w.stamp) (sym at) ∙ stamp_itself w.stamp in
-        absurd (split (stamp_lt v w.stamp) (λ y. let p = rw y at past in cc) (λ y. let p = rw (y, u) at past in cc))
+    let at : w.stamp ≡ v = sym ((acting (push_entry (trim_up_to x base) (View w)) t).1 ∙ last) ∙ sym promise in (
+      last ∙ at,
+      elim why [
+        | without_ballot none from past ↦ stamp_by v s from
+        | for_ballot b open_ from past ↦
+            let u : stamp_eq w.stamp v ≡ true = ap (stamp_eq w.stamp) (sym at) ∙ stamp_itself w.stamp in
+            absurd (split (stamp_lt v w.stamp) (λ y. let p = rw y at past in cc) (λ y. let p = rw (y, u) at past in cc))
+      ],
+    )
 fetched_view x s v base _ why promise is t = absurd (cc)
 
 came_change : (c : Cause) (o : Outcome) (m x y : Node) → HeardNames c → HasNames x → HasNames y → Balloted x → stamp_lt (view x) (view m) ≡ false

@@ -82,9 +82,6 @@ heard_cause w u high after k name h skips late within _ is = tt
 asked_goes : (r : Repair) (i after stored : ℕ) (w : World) (e : Event) → Asked r i after stored w → Asked r i after stored (happens w e)
 asked_goes r i after stored w e h = record { letter = h.letter; sent = sent_goes w e after r.by h.letter h.sent; asks = h.asks }
 
-same_nack : (n : Node) (s : ℕ) (v : Stamp) → n.core.who ≡ s → n.core.promise ≡ v → nack_of n ≡ Nack s v (report_of n)
-same_nack n s v a b = cc
-
 -- what a member's node is after an event
 pub record IsMember (r : Repair) (i : ℕ) (n : Node) : Type 0 where
   pub who : n.core.who ≡ i
@@ -133,7 +130,7 @@ asked_hear rules r i after stored k l base acc high u h there other late low at 
           (only_has r.by) low;
       asks = record {
         report = report_of n;
-        is = same_nack n i r.view mine.who mine.promise;
+        is = cc;
         fits = mine.given;
         exact = asks.stored ∙ at;
       };
@@ -201,8 +198,6 @@ report_calm r w p s v report (spread s_ v_ report_ req body) h = h
 pub report_fits_list : (r : Repair) (u : World) (i : ℕ) (report : Report) → Calm r u → has r.members i ≡ true → (i == r.by) ≡ false → ReportIs r u i report
     → report.taken ≤ report.stored → report_fits (u.nodes r.by) report ≡ true
 report_fits_list r u i report h there other is fits =
-    let stored = is.stored there in
-    let within = (h.follows i there other).within in
     let a : nat_le report.taken report.stored ≡ true = grind (arith, nat_tests) in
     let b : nat_le report.stored (top (u.nodes r.by)) ≡ true = grind (arith, nat_tests) in
     and_from _ _ a b

@@ -108,63 +108,52 @@ module _ (rules : Rules) (events : List Event) (e : Event) (c : Cause) (step : S
 
     -- nothing was stored, or the row tells it
     by_row : ((n.core.log ≡ row.core.log) → row.core.base ≤ n.core.base → FitsAt rules n number) → FitsAt rules n number
-    by_row f = by_way (heard_as w e step p (sent_so p heard_) runs is)
-      where
-        by_way : HeardAs m n p → FitsAt rules n number
-        by_way (too_short log up) = fits_still number log up above within
-        by_way (whole_packet same) =
-            let r = row_ends m p in
-            let base = ap (λ (x : Node). x.core.base) same in
-            f (ap (λ (x : Node). x.core.log) same ∙ r.log) (omega arith)
+    by_row f = elim (heard_as w e step p (sent_so p heard_) runs is) [
+      | too_short log up ↦ fits_still number log up above within
+      | whole_packet same ↦
+          let r = row_ends m p in
+          let base = ap (λ (x : Node). x.core.base) same in
+          f (ap (λ (x : Node). x.core.log) same ∙ r.log) (omega arith)
+    ]
 
   fits_bcast : (from : ℕ) (u : Stamp) (base acc number : ℕ) (x : Entry) → c ≡ hears (packet.Bcast from u base acc number x) → n.core.base < number
       → number ≤ top n → FitsAt rules n number
   fits_bcast from u base acc number x heard_ above within =
       let p = packet.Bcast from u base acc number x in
       let line = packet_fits p (sent_so p heard_) in
-      by_row p heard_ number above within (λ log up. by_way line log up (bcast_does m from u base acc number x))
-    where
-      by_way : LineFits rules s u base number → n.core.log ≡ (rows.hear_row m (packet.Bcast from u base acc number x)).node.core.log
-          → (rows.hear_row m (packet.Bcast from u base acc number x)).node.core.base ≤ n.core.base
-          → Does m (rows.hear_row m (packet.Bcast from u base acc number x)).node base number x (InView m from u x) → FitsAt rules n number
-      by_way line log up (done.nothing same low) = fits_still number (log ∙ same) (omega arith) above within
-      by_way line log up (done.one why st) =
-          let r = (rows.hear_row m (packet.Bcast from u base acc number x)).node in
-          fits_line number base u x r log up above st line (on_last base number u x r log st (plain_view from u x why))
+      by_row p heard_ number above within (λ log up. elim (bcast_does m from u base acc number x) [
+        | done.nothing same low ↦ fits_still number (log ∙ same) (omega arith) above within
+        | done.one why st ↦
+            let r = (rows.hear_row m (packet.Bcast from u base acc number x)).node in
+            fits_line number base u x r log up above st line (on_last base number u x r log st (plain_view from u x why))
+      ])
 
   fits_order : (from : ℕ) (u : Stamp) (base acc number by req : ℕ) → c ≡ hears (packet.Order from u base acc number by req) → n.core.base < number
       → number ≤ top n → FitsAt rules n number
   fits_order from u base acc number by req heard_ above within =
       let p = packet.Order from u base acc number by req in
       let line = packet_fits p (sent_so p heard_) in
-      by_row p heard_ number above within (λ log up. by_way line log up (order_does m from u base acc number by req))
-    where
-      by_way : LineFits rules s u base number → n.core.log ≡ (rows.hear_row m (packet.Order from u base acc number by req)).node.core.log
-          → (rows.hear_row m (packet.Order from u base acc number by req)).node.core.base ≤ n.core.base
-          → OrderDoes m (rows.hear_row m (packet.Order from u base acc number by req)).node from u base number by req → FitsAt rules n number
-      by_way line log up (done.nothing same low) = fits_still number (log ∙ same) (omega arith) above within
-      by_way line log up (done.one body why st) =
-          let r = (rows.hear_row m (packet.Order from u base acc number by req)).node in
-          let x = Data by req body in
-          fits_line number base u x r log up above st line (on_last base number u x r log st (plain_view from u x why))
+      by_row p heard_ number above within (λ log up. elim (order_does m from u base acc number by req) [
+        | done.nothing same low ↦ fits_still number (log ∙ same) (omega arith) above within
+        | done.one body why st ↦
+            let r = (rows.hear_row m (packet.Order from u base acc number by req)).node in
+            let x = Data by req body in
+            fits_line number base u x r log up above st line (on_last base number u x r log st (plain_view from u x why))
+      ])
 
   fits_result : (from : ℕ) (base number : ℕ) (u : GroupView) → c ≡ hears (packet.Result from base number u)
       → n.core.base < number → number ≤ top n → FitsAt rules n number
   fits_result from base number u heard_ above within =
       let p = packet.Result from base number u in
       let line = packet_fits p (sent_so p heard_) in
-      by_row p heard_ number above within (λ log up. by_way line log up (result_does m from base number u))
-    where
-      by_way : (u.stamp.by ≡ from → LineFits rules s u.stamp base number) → n.core.log ≡ (rows.hear_row m (packet.Result from base number u)).node.core.log
-          → (rows.hear_row m (packet.Result from base number u)).node.core.base ≤ n.core.base
-          → Does m (rows.hear_row m (packet.Result from base number u)).node base number (View u) (Viewing m from u.stamp)
-          → FitsAt rules n number
-      by_way line log up (done.nothing same low) = fits_still number (log ∙ same) (omega arith) above within
-      by_way line log up (done.one why st) =
-          let r = (rows.hear_row m (packet.Result from base number u)).node in
-          let x = View u in
-          fits_line number base u.stamp x r log up above st (line (eqb-true u.stamp.by from why.by))
-          (on_last base number u.stamp x r log st (view_viewed (s.node i).list u))
+      by_row p heard_ number above within (λ log up. elim (result_does m from base number u) [
+        | done.nothing same low ↦ fits_still number (log ∙ same) (omega arith) above within
+        | done.one why st ↦
+            let r = (rows.hear_row m (packet.Result from base number u)).node in
+            let x = View u in
+            fits_line number base u.stamp x r log up above st (line (eqb-true u.stamp.by from why.by))
+            (on_last base number u.stamp x r log st (view_viewed (s.node i).list u))
+      ])
 
   -- ---- a Piece
 
@@ -243,14 +232,11 @@ module _ (rules : Rules) (events : List Event) (e : Event) (c : Cause) (step : S
   fits_piece from u base number x heard_ above within =
       let p = packet.Piece from u base number x in
       let line = packet_fits p (sent_so p heard_) in
-      by_row p heard_ number above within (λ log up. by_way line log up (piece_does m from u base number x))
-    where
-      by_way : PieceFits rules s from u base number x → n.core.log ≡ (rows.hear_row m (packet.Piece from u base number x)).node.core.log
-          → (rows.hear_row m (packet.Piece from u base number x)).node.core.base ≤ n.core.base
-          → Does m (rows.hear_row m (packet.Piece from u base number x)).node base number x (Piecewise m from u) → FitsAt rules n number
-      by_way line log up (done.nothing same low) = fits_still number (log ∙ same) (omega arith) above within
-      by_way line log up (done.one why st) =
-          piece_so from u base number x (rows.hear_row m (packet.Piece from u base number x)).node log up above why st line why.how
+      by_row p heard_ number above within (λ log up. elim (piece_does m from u base number x) [
+        | done.nothing same low ↦ fits_still number (log ∙ same) (omega arith) above within
+        | done.one why st ↦
+            piece_so from u base number x (rows.hear_row m (packet.Piece from u base number x)).node log up above why st line why.how
+      ])
 
   -- ---- the node
 
@@ -343,14 +329,13 @@ module _ (rules : Rules) (events : List Event) (e : Event) (c : Cause) (step : S
   packet_sent stays to p (order _ number from req u report body heard_ leads at) h_ =
       let says_ = h_.1.entry in
       sent_line stays number at.within (item_within (t.views.line (key x.core.promise)) number (Data from req h_.1.body) says_.stands).1 says_.sequencer.decided
-  packet_sent stays to p (piece from u stored number en heard_ may_ at) h_ = by_piece_says h_.1
-    where
-      by_piece_says : PieceSays t x.core.who x.core.promise number en → PieceFits rules t x.core.who x.core.promise x.core.base number en
-      by_piece_says (says.of_line by d there) =
-          of_line (sent_line stays number at.within (item_within (t.views.line (key x.core.promise)) number en there).1 d) there
-      by_piece_says (says.of_shown so) = of_shown so.list so.shown so.served so.stands
-          (shown_fit so.list x.core.promise number en (ap (λ k. t.shown (key x.core.promise) k) (sym who_x) ∙ so.shown) so.stands)
-      by_piece_says (says.over other d) = over other d
+  packet_sent stays to p (piece from u stored number en heard_ may_ at) h_ = elim h_.1 [
+    | says.of_line by d there ↦
+        of_line (sent_line stays number at.within (item_within (t.views.line (key x.core.promise)) number en there).1 d) there
+    | says.of_shown so ↦ of_shown so.list so.shown so.served so.stands
+        (shown_fit so.list x.core.promise number en (ap (λ k. t.shown (key x.core.promise) k) (sym who_x) ∙ so.shown) so.stands)
+    | says.over other d ↦ over other d
+  ]
   packet_sent stays to p (result _ number names is_ viewed may_) h_ = λ by.
       (let says_ = h_.1 by in
       let same : nodes.image_of x ≡ image_of (t.node i).list = ap (λ (q : CoreState). told_by q.log) (sym core_x) ∙ sym (told_all v i n (t.node i) stands_n) in

@@ -308,7 +308,6 @@ module _ (group : List Entry) (i : ℕ) (c : Cause) (o : Outcome) (m : Node) whe
   inside_took : (x : Node) (e : Entry) → o ≡ said.Took (x.core.taken + 1) e → is_member x.status ≡ true → (x.core.taken == x.core.acc) ≡ false
       → Inside group i c o m x → Inside group i c o m (record x { core = record (x.core) { taken = x.core.taken + 1 } })
   inside_took x e says member some h =
-      let y = record x { core = record (x.core) { taken = x.core.taken + 1 } } in
       let less : x.core.taken < x.core.acc = grind (arith, nat_tests) in
       record {
         gave = gave_taken m x e h.taken h.passed member some says h.gave;

@@ -73,16 +73,15 @@ welcome_says rules w s i number l from v base join image h anys few runs asks at
     let any : l.any ≡ false = all_get AnyLetter w.letters there.0 l anys there.1 ∙ ap goes_to_any is in
     let among : has l.to i ≡ true = rw any at for_ in
     let says = subst (λ p. PacketSays w s l.to p) is (h.letters there.0 l there.1) in
-    by_kind (says.1 i among)
-  where
-    by_kind : WelcomeTo s from v base join image i → WelcomeSays s from v base join image i
-    by_kind (has_begun t) = absurd (let a = (h.stands.each i few).log_ in let b = asking_log (w.nodes i).status asks in cc)
-    by_kind (has_gone t) = absurd (let a = (h.stands.each i few).stopped in cc)
-    by_kind (has_left t) = absurd (let a = (h.stands.each i few).departed in let b = asking_stays (w.nodes i).status asks in cc)
-    by_kind (is_leaving t) = absurd (let a = (h.stands.each i few).leaving in
-        let b = (h.nodes i few (asking_stays (w.nodes i).status asks)).leaves (sym a ∙ t) in
-        let d = asking_log (w.nodes i).status asks in cc)
-    by_kind (may_begin says) = says
+    elim (says.1 i among) [
+      | has_begun t ↦ absurd (let a = (h.stands.each i few).log_ in let b = asking_log (w.nodes i).status asks in cc)
+      | has_gone t ↦ absurd (let a = (h.stands.each i few).stopped in cc)
+      | has_left t ↦ absurd (let a = (h.stands.each i few).departed in let b = asking_stays (w.nodes i).status asks in cc)
+      | is_leaving t ↦ absurd (let a = (h.stands.each i few).leaving in
+          let b = (h.nodes i few (asking_stays (w.nodes i).status asks)).leaves (sym a ∙ t) in
+          let d = asking_log (w.nodes i).status asks in cc)
+      | may_begin says ↦ says
+    ]
 
 pub welcome_joins : (rules : Rules) (w : World) (s : Group) (i number : ℕ) (l : Letter) (from : ℕ) (v : Stamp) (base join : ℕ) (image : Image)
     → Following rules w s → IsGood w.group → Opens rules w.group

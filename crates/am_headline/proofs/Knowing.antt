@@ -41,8 +41,6 @@ join_back : (image : Image) (n name i : ℕ) → length image.rows ≡ 16 → (i
 unfolding after
 join_back image n name i long other h = either (row_set image name (place_of i) (record { life = life_of name; joined = n; left = 0; last = 0 }) long)
     (λ x. absurd (
-    let is = (subst (λ y. In y (life_of i)) x.1 h).is in
-    let same : i ≡ name = omega arith in
     let z : ⊥ = grind (arith, nat_tests) in z))
     (λ x. subst
     (λ y. In y (life_of i)) x.1 h)

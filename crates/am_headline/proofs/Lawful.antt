@@ -53,7 +53,6 @@ count_listed p q n (x ∷ names) h =
     let other : (x == j) ≡ false = split (x == j)
     (λ y. absurd (let same : x ≡ j = grind (arith, nat_tests) in let here = ap q same in let passes = k.0 in cc)) (λ y. y) in
     (k.0, rw other at k.1))) in
-    let is : count_by q (x ∷ names) ≡ 0 + count_by q names = more ∙ ap (λ (b : Bool). (if b then 1 else 0) + count_by q names) f in
     omega arith)
 
 -- ---- lawfulness
@@ -73,7 +72,6 @@ counts_too w s v j h noted few t =
     (λ a. (let there : has v.members j ≡ true = ap (λ l. has l j) (sym noted.members) ∙ a in rw there refl))
     (λ a. (let b = and_both (s.node j).has_log (nat_lt (length (opening ch)) (s.node j).start) a in
     let log : has_log (w.nodes j).status ≡ true = sym mine.log_ ∙ b.0 in
-    let start_ = mine.start log in
     let since : nat_lt v.number (w.nodes j).core.start ≡ true = grind (arith, nat_tests) in
     split (has v.members j) (λ y. rw y refl) (λ y. rw (y, since) refl)))
 

@@ -23,7 +23,6 @@ lawful_events rules events lawful = subst (λ es. broken_at rules es ≡ None) l
 pub small_name : (rules : Rules) (events : List Event) (place : ℕ) → MayFound rules → place < 16 → current (run rules events) place < 256
 small_name rules events place may low =
     let most = (names_hold rules events may).most place in
-    let least = (names_hold rules events may).least place in
     omega arith
 
 -- a life beyond the sixteenth is nobody's
@@ -33,7 +32,6 @@ member_small rules events name may member = split (nat_lt name 256)
     (λ f. absurd (
     let high : 256 ≤ name = grind (arith, nat_tests) in
     let most = (names_hold rules events may).most (place_of name) in
-    let life : 16 < life_of name = omega arith in
     let none = (names_hold rules events may).unborn name (omega arith) in
     let z = ap (λ (m : Node). is_member m.status) none in cc))
 

@@ -77,26 +77,24 @@ move_goes s t _ k = λ j. same refl
 -- ---- what is kept
 
 lines_on : (s t : Group) → Kept t → Grows s t → ((i : ℕ) → ListGoes s t i) → Shaped s → (i : ℕ) → (t.node i).list ≢ [] → OnLine t (t.node i).list
-lines_on s t k g each h i some = by_way (each i)
-  where
-    by_way : ListGoes s t i → OnLine t (t.node i).list
-    by_way (same is) =
-        let o = h.lines i (λ none_. some (is ∙ none_)) in
-        record {
-          view = o.view;
-          decided = (g.decided o.view o.decided).0;
-          line = begins_trans (subst (λ l. Begins l (s.views.line o.view)) (sym is) o.line) (g.lines o.view o.decided);
-        }
-    by_way (up there) = record { view = key t.views.current; decided = k.views.now; line = (k.each i).list there }
-    by_way (gone on) = record { view = key t.views.current; decided = k.views.now; line = on }
+lines_on s t k g each h i some = elim (each i) [
+  | same is ↦
+      let o = h.lines i (λ none_. some (is ∙ none_)) in
+      record {
+        view = o.view;
+        decided = (g.decided o.view o.decided).0;
+        line = begins_trans (subst (λ l. Begins l (s.views.line o.view)) (sym is) o.line) (g.lines o.view o.decided);
+      }
+  | up there ↦ record { view = key t.views.current; decided = k.views.now; line = (k.each i).list there }
+  | gone on ↦ record { view = key t.views.current; decided = k.views.now; line = on }
+]
 
 good_on : (s t : Group) → Kept t → ((i : ℕ) → ListGoes s t i) → Shaped s → (i : ℕ) → IsGood (t.node i).list
-good_on s t k each h i = by_way (each i)
-  where
-    by_way : ListGoes s t i → IsGood (t.node i).list
-    by_way (same is) = subst IsGood (sym is) (h.good i)
-    by_way (up there) = good_begins ((k.each i).list there) k.views.good
-    by_way (gone on) = good_begins on k.views.good
+good_on s t k each h i = elim (each i) [
+  | same is ↦ subst IsGood (sym is) (h.good i)
+  | up there ↦ good_begins ((k.each i).list there) k.views.good
+  | gone on ↦ good_begins on k.views.good
+]
 
 sets_on : (s t : Group) (move : Move s t) → MoveOk move → Shaped s → (x : ℕ) → t.views.decided x ≡ true → IsSet (t.views.chosen x).members
 sets_on s t (decides i v may) ok h x d =

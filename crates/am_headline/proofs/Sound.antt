@@ -43,14 +43,10 @@ use Rattle.am_headline.proofs.OneStep.{run_push}
 
 -- ---- entries
 
-asked_so : (records : List Record) (from req : ℕ) (body : List ℕ) → WasSent records from req body → All IsSound records → IsBytes body
-    × (length body ≤ most_body)
-asked_so records from req body was sound = subst AsksBytes was.is.asked (all_get IsSound records was.index was.send sound was.there).asks
-
 sayable : (records : List Record) (b : Bounds) (e : Entry) → AreNumbers b → All IsSound records → EntryWithin b e → EntryNamed e → EntrySent records e
     → IsSayable e
 sayable records b (Data from req body) small sound within named sent =
-    let asked = asked_so records from req body sent sound in
+    let asked = subst AsksBytes sent.is.asked (all_get IsSound records sent.index sent.send sound sent.there).asks in
     (named, omega arith, asked.0, asked.1)
 sayable records b (View v) small sound within named sent =
     (named, omega arith, within.1, within.2)

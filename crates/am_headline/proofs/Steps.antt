@@ -371,7 +371,6 @@ gone_step : (r : Repair) (w : World) (e : Event) (s : Step) → Calm r w → (k 
     → has r.members (actor w e) ≡ false → has_departed (w.nodes (actor w e)).status ≡ true → StepKeeps r w (with_step w e (actor w e) s) (actor w e) s
 gone_step r w e s h k other none gone =
     let still = k.still gone in
-    let status = ap has_departed still.status ∙ gone in
     elsewhere_step r w e s h other none (still.who ∙ h.who (actor w e)) (λ here. absurd (cc))
     (λ i l there. absurd (let nothing = ap (λ ls. slice_get ls i) still.letters in cc))
 

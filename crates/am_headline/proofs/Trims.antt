@@ -140,9 +140,8 @@ module _ (rules : Rules) (events : List Event) (e : Event) (c : Cause) (step : S
 -- who acts in the sequencer's view has taken what it trimmed
 pub settled_trims : (w : World) (q j : ℕ) → Settles w q → j < 256 → (j == q) ≡ false → acts (w.nodes j) ≡ true → view (w.nodes j) ≡ view (w.nodes q)
     → is_stopped w j ≡ false → (w.nodes q).core.base ≤ ((w.nodes q).reports j).taken → (w.nodes q).core.base ≤ (w.nodes j).core.taken
-settled_trims w q j h few other act same goes known = by_kind (h.knows j few other)
-  where
-    by_kind : Knows w h.low (w.nodes q) j → (w.nodes q).core.base ≤ (w.nodes j).core.taken
-    by_kind (took most) = let a = h.acting j few act same in omega arith
-    by_kind (joins none low welcomes) = absurd (let t = logged (w.nodes j).status (and_both (is_member (w.nodes j).status) _ act).0 in cc)
-    by_kind (halts t) = absurd (cc)
+settled_trims w q j h few other act same goes known = elim (h.knows j few other) [
+  | took most ↦ let a = h.acting j few act same in omega arith
+  | joins none low welcomes ↦ absurd (let t = logged (w.nodes j).status (and_both (is_member (w.nodes j).status) _ act).0 in cc)
+  | halts t ↦ absurd (cc)
+]

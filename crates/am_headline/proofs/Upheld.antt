@@ -109,7 +109,6 @@ departed_low m n letters (at_end {x = x} deeds) was none_ = (rests_step m x was 
 departed_low m n letters (let_go s v number is heard_ leaves) was none_ = absurd (let a = (and_both _ (is_member m.status) heard_).1 in cc)
 departed_low m n letters (closing {x = x} ev call course leads leaves alone room same_) was none_ = absurd (
     let r = rests_course m x was course in
-    let a = (and_both (is_member x.status) _ (and_both _ _ leads).0).0 in
     let b = r.status ∙ was in cc)
 
 -- ---- a step
