@@ -40,7 +40,6 @@ based_change rules m x y (begins_list s v base join image is says may) a h =
     let none = a.blanked (none_of_asking x.status may.no_member asks.1) in
     let empty = ap top_of none.blank_ in
     let before = bare_before m x (omega arith) h in
-    let other = not-true (s == x.core.who) asks.0 in
     was_bare (ap was_welcomed is) (grind (arith, nat_tests)) (omega arith)
 based_change rules m x y (promises v low why) a h = based_other m x y refl refl (promise_brings v why).welcomes h
 based_change rules m x y (opens least resilience by may) a h = based_other m x y refl refl (begin_brings by).welcomes h
@@ -67,7 +66,6 @@ bare_follows n other = split (is_sequencer n)
     let a = and_both (acts n) ((view n).by == n.core.who) t in
     let b = and_both (is_member n.status) (stamp_eq n.core.promise (view n)) a.0 in
     let same = ap (λ (u : Stamp). u.by == n.core.who) (same_stamp n.core.promise (view n) b.1) in
-    let z : (n.core.promise.by == n.core.who) ≡ true = same ∙ a.1 in
     cc))
     (λ f. f)
 

@@ -15,12 +15,9 @@ use Rattle.am_stands.proofs.LeftOut.{longer_chain, none_departed}
 -- each name of the View is a member of what is chosen
 within_has : (members all : List ℕ) (j : ℕ) → is_within members all ≡ true → has members j ≡ true → has all j ≡ true
 within_has members all j within in_ =
-    let test : (place : ℕ) → _ = λ place. (slice_index members place == 0) || (slice_index members place == slice_index all place) in
     let place = mod16 j in
     let at = all_at (λ place. (slice_index members place == 0) || (slice_index members place == slice_index all place)) 0 16 (place_of j) (omega arith)
     (omega arith) within in
-    let its : slice_index members (place_of j) ≡ life_of j = grind (arith, nat_tests) in
-    let same : slice_index all (place_of j) ≡ life_of j = grind (arith, nat_tests) in
     grind (arith, nat_tests)
 
 -- a list that is no better, on one branch, is no longer

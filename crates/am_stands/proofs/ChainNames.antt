@@ -123,7 +123,6 @@ concerned_small v i x a h k low j in_ =
     let most = unions_most log x.core.acc (top_of log - x.core.acc) (place_of j) 16 place (λ n from upto.
     (let is = ap (λ (g : Image). members_of g) (image_whole v i n x a h (omega arith)) in
     let set = members_named (take n a.list) (All-take NamesNamed n a.list k) in
-    let its = set.lives (place_of j) (omega arith) in
     let same = ap (λ m. slice_index m (place_of j)) is in
     omega arith)) in
     let at : slice_index (concerned_names x) (place_of j) ≡ life_of j = grind (arith, nat_tests) in

@@ -122,7 +122,6 @@ pub key_stamp : (a b : Stamp) → a.by < 256 → b.by < 256 → key a ≡ key b 
 unfolding key
 key_stamp a b h k same =
     let by = key_by a b h k same in
-    let rank = ap rank_of by in
     let round : a.round ≡ b.round = omega arith in
     λ i. record { round = round i; by = by i }
 

@@ -60,7 +60,6 @@ stored_by : (n : Node) (names : List ℕ) (number j : ℕ) → length names ≡ 
 stored_by n names number j long in_ all =
     let f : ℕ → ℕ = λ name. (n.reports name).stored in
     let at : slice_index names (place_of j) ≡ life_of j = grind (arith, nat_tests) in
-    let place = mod16 j in
     let found = least_in f names 0 (place_of j) (omega arith) (omega arith) in
     let name : name_at (0 + place_of j) (slice_index names (place_of j)) ≡ j = omega arith in
     let is = ap f name in

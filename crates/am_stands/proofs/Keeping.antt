@@ -78,7 +78,6 @@ module _ (rules : Rules) (w : World) (name : ℕ) (c : Cause) (x : Node) (s : Gr
         given = k.given;
         names = λ j vote. split (j == from)
             (λ t. λ at. (let its : j ≡ from = grind (arith, nat_tests) in
-            let some : Some shown ≡ Some vote = rw t at at in
             let is_vote : shown ≡ vote = cc in
             (subst (λ z. z < 256) (sym its) small, subst (λ (z : Vote). z.view.by < 256) is_vote named)))
             (λ f. λ at. k.names j vote (rw f at at));

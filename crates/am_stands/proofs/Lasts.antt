@@ -17,7 +17,6 @@ use Rattle.am_stands.proofs.{Growing.leads_line, Sent.Speaks, Sent.leading, Acce
 -- who is left without one name
 left_alone : (names : List ℕ) (who j : ℕ) → length names ≡ 16 → has names who ≡ true → has names j ≡ true → size (set names (place_of who) 0) ≡ 0 → j ≡ who
 left_alone names who j long mine its none =
-    let place = mod16 j in
     let at : slice_index names (place_of j) ≡ life_of j = grind (arith, nat_tests) in
     let own : slice_index names (place_of who) ≡ life_of who = grind (arith, nat_tests) in
     split (place_of j == place_of who)

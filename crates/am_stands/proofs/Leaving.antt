@@ -98,7 +98,6 @@ out_of r given life u same = split (nat_lt 0 r.joined && (r.left == 0))
     ))
     (λ f. absurd (
     let is : member_life r ≡ 0 = rw f refl in
-    let here : (nat_lt 0 0 && not (0 == given)) ≡ true = subst (λ k. (nat_lt 0 k && not (k == given)) ≡ true) is u in
     cc))
 
 view_left : (image : Image) (n : ℕ) (v : GroupView) (name : ℕ) → Leaves image n (View v) name

@@ -65,9 +65,6 @@ choice_left s k lawful c v d h a u name part member out =
     (λ z. stays name (h a u name (begins_trans z (list_chain s k lawful c v d)) member out))
     (λ z. (let last = (same_from_push a old (View u) e z).1 in
     let its : u.members ≡ v.members = ap (λ x. names_of_view x) last in
-    let one = length_push a (View u) in
-    let two = length_push old e in
-    let long = ap length z in
     let front : a ≡ old = same_front a old (View u) e z in
     let here = subst (λ l. mem l name ≡ true) front member in
     stays name (split (s.node name).stopped

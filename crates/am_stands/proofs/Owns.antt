@@ -75,7 +75,6 @@ change_owns nodes i c o x y names begun settles h = same_owning x y (ap (λ (n :
 change_owns nodes i c o x y names begun (begins_list s v base join image is says may) h = λ b number all at answer mine. absurd (
     let asks = and_both (not (s == x.core.who)) (is_member x.status || is_asking x.status) may.asks in
     let none = h.balloted.none (none_of_asking x.status may.no_member asks.1) in
-    let z = sym none ∙ at in
     cc)
 change_owns nodes i c o x y names begun (promises v low why) h = promise_owns nodes i c x v names begun why low (raised why) h
   where

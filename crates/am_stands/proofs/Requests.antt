@@ -71,7 +71,6 @@ own_fits v i x a h good member k q is last =
     let same = waiting_is k.next k.next x.sends.last x.sends.queue q k.turn is in
     let next = next_in a.list who good.fit in
     let in_ = mem_in a.list who member in
-    let row = next.own in_.joined in_.is in
     let here : (nodes.own_row x).last ≡ (row_at (image_of a.list) (place_of who)).last =
     ap (λ (r : Row). r.last) (ap (λ (g : Image). row_of g who) (sym told_is) ∙ member_row a.list who member) in
     let above : (nodes.own_row x).last < q.req = grind (arith, nat_tests) in

@@ -48,7 +48,6 @@ module _ (rules : Rules) (w v : World) (name : ℕ) (c : Cause) (m n : Node) (t 
 
   leader : is_sequencer n ≡ true → LeaderStands t name n
   leader u =
-      let f = h.along.owned.fronts in
       record { names = concerned_small v name n (t.node name) mine named (omega arith); reports = h.keeps.reports; viewed = viewed u }
 
   ballots : BallotStands t name n

@@ -43,7 +43,6 @@ acts_decided v i n s g h t =
     let promise = same_stamp n.core.promise (view n) acting.1 in
     let viewed : view_of (s.node i).list ≡ n.core.promise = ap (λ (x : Image). x.view) (told_all v i n (s.node i) h.stands) ∙ sym promise in
     let mine : key (s.node i).promise ≡ key n.core.promise = ap key h.stands.promise in
-    let round = g.rounds.promised i h.up.log in
     let some = some_list (s.node i).list n.core.promise viewed (omega arith) in
     ap (λ (u : Stamp). s.views.decided (key u)) (sym viewed) ∙ (list_opens s i g.kept g.opens h.up some).decided
 

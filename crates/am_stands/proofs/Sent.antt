@@ -129,7 +129,6 @@ list_item v i n a base number e h low at =
     let start_ = n.core.log.start in
     let front = take start_ v.group in
     let long : length front ≡ start_ = (let b = h.begins.within in let c = length-take start_ v.group in omega arith) in
-    let number_ : number ≡ start_ + at.index + 1 = at.at low in
     let is : number ≡ suc (length front + at.index) = omega arith in
     ap (item_at a.list) is ∙ ap (λ l. slice_get l (length front + at.index)) h.list ∙ whole_item front n.core.log.entries at.index e at.there
 

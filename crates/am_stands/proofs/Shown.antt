@@ -31,7 +31,6 @@ looked_votes c x b s (without_one old name is o other) own_ fresh heard h = λ j
     (λ f. λ at. kept_votes x old s o h j vote (rw f at at))
 looked_votes c x b s (with_more old from v shown is heard_ low high o same stays) own_ fresh heard h = λ j vote. split (j == from)
     (λ t. λ at. (let is_from : j ≡ from = grind (arith, nat_tests) in
-    let some : Some shown ≡ Some vote = rw t at at in
     let is_vote : shown ≡ vote = cc in
     let other = (and_both (not (from == x.core.who)) (is_member x.status) heard_).0 in
     subst (λ k. VoteTells s k old.stamp vote) (sym is_from)

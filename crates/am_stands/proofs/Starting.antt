@@ -63,7 +63,6 @@ any_says w s to _ t = absurd (cc)
 
 only_has : (name : ℕ) → has (with_name nobody name) name ≡ true
 only_has name =
-    let is : slice_index (with_name nobody name) (place_of name) ≡ life_of name = get_or-set_same nobody (place_of name) (life_of name) 0 (omega arith) in
     grind (arith, nat_tests)
 
 was_sent : (w : World) (name : ℕ) (a : Act) (c : Cause) (p : Packet) → IsCause w name a c → c ≡ hears p → WasSentTo w name a p

@@ -23,7 +23,6 @@ trimmed_none s = record { accepted = omega arith; stored = λ j there stays memb
 least_low : (f : ℕ → ℕ) (names : List ℕ) (j : ℕ) → length names ≡ 16 → slice_index names (place_of j) ≡ life_of j
     → (x : ℕ) × (least_of f (names_of names) ≡ Some x) × (x ≤ f j)
 least_low f names j long at =
-    let place = mod16 j in
     let found = least_in f names 0 (place_of j) (omega arith) (omega arith) in
     let name : name_at (0 + place_of j) (slice_index names (place_of j)) ≡ j = omega arith in
     let is = ap f name in

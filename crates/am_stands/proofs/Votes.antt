@@ -42,7 +42,6 @@ vote_low own vote small few low =
     (λ f.
     let same : vote.view ≡ own.view = equal_stamps vote.view own.view few small f a in
     let t : stamp_eq own.view vote.view ≡ true = subst (λ u. stamp_eq own.view u ≡ true) (sym same) (itself own.view) in
-    let top : nat_lt own.top vote.top ≡ false = rw t at rest in
     inr (ap key same, grind (arith, nat_tests)))
   where
     itself : (v : Stamp) → stamp_eq v v ≡ true
@@ -71,7 +70,6 @@ voted who j b waits stays other = split (is_some (b.votes j))
     (λ t. t)
     (λ f. absurd (
     let v : has_voted who b j ≡ false = rw (other, f) refl in
-    let z : (not (has_voted who b j) && not (b.given_up j)) ≡ true = rw (v, stays) refl in
     cc))
 
 pub not_waited : (x : Node) (b : Ballot) (j : ℕ) → nat_lt 0 (size (those (is_waited_for x.core.who b) (need_of x b))) ≡ false → has (need_of x b) j ≡ true
