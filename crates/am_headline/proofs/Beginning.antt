@@ -7,7 +7,7 @@ use Rattle.am_headline.specs.Claim.{IsOut}
 use Rattle.am_model.specs.declared.status.Status.TheVariants as status
 use Rattle.am_headline.proofs.{Nodes.acting, Nodes.leading, Nodes.no_open, Going.member_there, Schedules.letter_within, Fine.Fine, Fine.IsThere}
 use Rattle.am_headline.proofs.{Repaired.AllStored, Repaired.all_catch_up, OldLives.OldStopped, OldLives.old_lives, Leavers.Leaves, Leavers.run_leaves}
-use Rattle.am_stands.proofs.Statuses.{bare_status}
+use Rattle.am_stands.proofs.Courses.{bare_status}
 use Rattle.am_stands.proofs.Sending.{member_of}
 
 -- ---- who is there

@@ -6,7 +6,7 @@ use Rattle.am_headline.proofs.RepairedWords.{MayRepair, World, current, is_stopp
 use Rattle.am_headline.proofs.RepairedWords.{told_all, group_kept, steps_move, KeptBy, held, IsOneList, RepairableIsOneList, lawful_front, inl, either, has}
 use Rattle.am_headline.proofs.RepairedWords.{members, run_owned, in_mem, In, mem_in, row_at, Past, was_begins}
 use Rattle.am_stands.specs.States.{OwnDecided}
-use Rattle.am_stands.proofs.Results.{tells_leads}
+use Rattle.am_stands.proofs.Sending.{tells_leads}
 use Rattle.am_stands.proofs.Owns.{run_owns}
 use Rattle.am_headline.specs.Calm.{is_past}
 use Rattle.am_headline.proofs.{RepairLists.is_past_by, Beginning.member_runs}

@@ -43,7 +43,7 @@ pub use Rattle.am_laws.proofs.{ViewSteps.Stood, ViewSteps.view_last, Named.names
 pub use Rattle.am_chain.specs.Group.{Leads, current_of}
 pub use Rattle.am_stands.proofs.{ChainNames.counts_names, Parts.stood, Parts.counted_whole, Entries.key_stamp, Sent.leading, Sent.Leading}
 pub use Rattle.am_stands.proofs.{Growing.moves_grow}
-pub use Rattle.am_stands.proofs.{Any.GoesSo, Any.run_goes, Starting.item_get, Departed.rests_step, Departed.rests_course}
+pub use Rattle.am_stands.proofs.{Starting.GoesSo, Starting.run_goes, Starting.item_get, Departed.rests_step, Departed.rests_course}
 pub use Rattle.am_headline.proofs.{Ways.Kind, Ways.kind_of, Begun.held, OneStep.parts, OneStep.plain, OneStep.OneStep, Fold.KeptBy, Fold.Quiet}
 pub use Rattle.am_headline.proofs.{Shapes.ListGoes, Shapes.same, Shapes.up, Shapes.gone, Shapes.list_moves}
 pub use Rattle.am_headline.proofs.{Nodes.acting, Nodes.alike_refresh, Nodes.alike_settle, Nodes.view_alike, Nodes.acts_alike, Nodes.Alike}

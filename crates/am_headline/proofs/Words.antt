@@ -74,6 +74,6 @@ pub use Rattle.am_stands.proofs.{Events.stop_stands, Events.return_stands, Joins
 pub use Rattle.am_stands.proofs.{Joins.blank_nil, Counting.count_up_to, Counting.names_pass, Counting.names_few, Counting.name_small, Opens.runs_open}
 pub use Rattle.am_stands.proofs.{Opens.moves_open, Growing.same_name, Growing.grows_names, Growing.node_grows}
 pub use Rattle.am_stands.specs.Branches.{ChainNamed}
-pub use Rattle.am_stands.proofs.{StepSilent.departed_quiet, Statuses.departed_is, Steps.steps_move, Steps.deeds_there}
+pub use Rattle.am_stands.proofs.{StepSilent.departed_quiet, Courses.departed_is, Steps.steps_move, Steps.deeds_there}
 pub use Rattle.am_model.specs.Ballots.{decided_view}
 pub use Rattle.am_model.specs.Node.{founding_view}

@@ -7,7 +7,7 @@ use Rattle.am_stands.proofs.StepWords.{decides, looks, Course, nothing_yet, used
 use Rattle.am_stands.proofs.StepWords.{not_above, SameView, Stood, view_last, changes_do, looked_at, CauseSent, after_look, Stepping, looked_open}
 use Rattle.am_stands.proofs.StepWords.{changes_go_on}
 use Rattle.am_stands.proofs.{Worlds.growing, Refreshed.Fronted, Refreshed.Changed, Refreshed.then_changed, Courses.was_welcomed, Courses.look_brings}
-use Rattle.am_stands.proofs.{Courses.both_ways, Courses.stays, Fronts.fronts_next, StepGoing.Grown, StepGoing.as_before, StepGoing.by_reports}
+use Rattle.am_stands.proofs.{Courses.both_ways, Courses.stays, StepGoing.fronts_next, StepGoing.Grown, StepGoing.as_before, StepGoing.by_reports}
 use Rattle.am_stands.proofs.{StepGoing.going_on}
 
 -- with these views

@@ -7,7 +7,8 @@ use Rattle.am_stands.proofs.Words.{is_stopped, split, and_both, Cause, hears, Ba
 use Rattle.am_stands.proofs.Words.{MayBeWelcomed, Fetches, Promises, invited, overtaken, told_result, Carries, whole_entry, by_number, Change, begins_list}
 use Rattle.am_stands.proofs.Words.{looks, stores_view, looked_vote, told_used, OpenBallot, looked_at, MaySend, body_of_sent, NameStands, within, WasAsked}
 use Rattle.am_stands.proofs.Words.{BodiesAsked, WasBegun, MayMove, NeedsNumber, NeedsEntry, NeedsWelcome, Needs, NeedsLook, NeedsPiece, KeptWhole, BallotStands}
-use Rattle.am_stands.proofs.Words.{LastStands, Stepping}
+use Rattle.am_stands.proofs.Words.{LastStands, Stepping, ◌≤◌, take, stamp_lt, begins_trans, begins_take, begins_length, length_take, take_begins, key_lt}
+use Rattle.am_stands.proofs.Words.{equal_stamps, WelcomeSays}
 use Rattle.am_laws.specs.Changes.{numbers, stores, fetches, closes}
 use Rattle.am_packet.specs.declared.packet.Packet.TheVariants as packet
 use Rattle.am_model.specs.declared.status.Status.TheVariants as status
@@ -15,8 +16,63 @@ use Rattle.am_runs.proofs.SentKept as sent
 use Rattle.am_stands.specs.Letters as says
 use Rattle.am_stands.proofs.{Changes.looked_open, Changes.own_name, Changes.is_up, Changes.told_whole, ChainNames.front_named, ChainNames.members_named}
 use Rattle.am_stands.proofs.{Entries.is_leading, Entries.view_whole, Heard.bcast_needs, Heard.order_needs, Heard.result_needs, Heard.number_needs}
-use Rattle.am_stands.proofs.{Onward.group_kept, Onward.group_whole, Pieces.piece_needs, Requests.own_fits, Shown.looked_votes, Votes.BallotKnown}
-use Rattle.am_stands.proofs.{Votes.decision_needs, Votes.undecided, Welcomes.welcome_needs}
+use Rattle.am_stands.proofs.{Onward.group_kept, Onward.group_whole, Pieces.piece_needs, Heard.own_fits, Shown.looked_votes, Votes.BallotKnown}
+use Rattle.am_stands.proofs.{Votes.decision_needs, Votes.undecided}
+use Rattle.am_stands.proofs.Changes.{is_there}
+
+-- ---- a joiner may begin where a Welcome says
+
+-- ---- a joiner
+
+none_of_asking : (t : Status) → is_member t ≡ false → (is_member t || is_asking t) ≡ true → (has_log t ≡ false) × (has_departed t ≡ false)
+none_of_asking status.Asking f h = (refl, refl)
+none_of_asking _ f h = absurd (cc)
+
+pub not_above_key : (u v : Stamp) → u.by < 256 → v.by < 256 → stamp_lt v u ≡ false → key u ≤ key v
+not_above_key u v small few low = split (stamp_lt u v)
+    (λ t. let z = key_lt u v small few t in omega arith)
+    (λ f. let same = ap key (equal_stamps u v small few f low) in omega arith)
+
+pub welcome_needs : (w : World) (name from base join : ℕ) (x : Node) (v : Stamp) (image : Image) (s : Group) → Kept s → x.core.who ≡ name
+    → is_stopped w name ≡ false → x.core.promise.by < 256 → v.by < 256 → x.leaving ≡ false → is_unfinished x.ballot ≡ false
+    → NameStands (within w name x) name x (s.node name) → MayBeWelcomed x from v base join image → WelcomeSays s from v base join image name
+    → NeedsWelcome s name v base join image
+welcome_needs w name from base join x v image s k who runs small few stays no_ballot old may says =
+    let a = s.node name in
+    let asks = and_both (not (from == x.core.who)) (is_member x.status || is_asking x.status) may.asks in
+    let none = none_of_asking x.status may.no_member asks.1 in
+    let ok = k.each name in
+    let below = says.above in
+    let low = says.accepted in
+    let no_log_ : a.has_log ≡ false = old.log_ ∙ none.0 in
+    record {
+      may = record {
+        there = is_there w name x a runs none.1 old;
+        no_log = no_log_;
+        staying = old.leaving ∙ stays;
+        no_ballot = old.ballot ∙ no_ballot;
+        decided = says.decided;
+        small = few;
+        other = λ same. (let other = asks.0 in
+            let z : (from == x.core.who) ≡ true = grind (arith, nat_tests) in
+            let y : not true ≡ true = subst (λ b. not b ≡ true) z other in
+            absurd (cc));
+        promise = subst (λ (u : Stamp). key u ≤ key v) (sym old.promise) (not_above_key x.core.promise v small few may.promise);
+        accepted = low;
+        joined = says.joined;
+        above = λ l h member. (let in_base = begins_length h in
+            let base_long = length_take base s.group (omega arith) in
+            says.first l (begins_trans h (begins_take base s.group)) (omega arith) member);
+        below = says.above;
+        later = λ y d up. (let h = says.later y d up in
+            let long = length_take join s.group low in
+            let same : take join (s.views.chosen y).before ≡ take join s.group = ap (λ n. take n (s.views.chosen y).before) (sym long) ∙ take_begins h in
+            subst (λ l. mem l name ≡ true) (sym same) says.joined);
+      };
+      blank = ok.blank no_log_;
+      within = omega arith;
+      image_ = says.image_;
+    }
 
 -- ---- a node
 

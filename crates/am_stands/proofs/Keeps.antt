@@ -21,7 +21,7 @@ use Rattle.am_stands.proofs.Keeping.{kept, old, up, good, known, looked_last, un
 use Rattle.am_stands.proofs.Reporting.{reporting_grow, reporting_base, reporting_anew, reporting_admit, reporting_more, reporting_pushed, fits_new, new_before}
 use Rattle.am_stands.proofs.Reporting.{known_old, report_true, leaver_true}
 use Rattle.am_stands.proofs.{Carried.hears_in_view_member, Changes.member_stays, Changes.long_all, Onward.group_kept, Entries.key_stamp, Letters.all_stay}
-use Rattle.am_stands.proofs.{Letters.trimmed_stays, Requests.turn_grows, Requests.turn_queued, Requests.turn_collected, Requests.turn_settled, Sent.Speaks}
+use Rattle.am_stands.proofs.{Letters.trimmed_stays, Heard.turn_grows, Heard.turn_queued, Heard.turn_collected, Heard.turn_settled, Sent.Speaks}
 use Rattle.am_stands.proofs.{Sent.Leading, Sent.leading, Shown.votes_grow, Trimming.trimmed_max, Trimming.TakenKnown, Trimming.votes_trim, Votes.best_shown}
 
 -- ---- what stays, as the group goes on

@@ -9,7 +9,7 @@ use Rattle.am_stands.proofs.Words.{leads_pushed, view_pushed, leave_fits, NameSt
 use Rattle.am_stands.proofs.Words.{ComesTo, ClosingAccepts}
 use Rattle.am_chain.specs.Group as groups
 use Rattle.am_model.specs.Node as nodes
-use Rattle.am_stands.proofs.{Changes.same_name, Changes.told_all, Changes.is_up, Changes.unmoved_refresh, Concerned.reporting_push, Entries.name_longer}
+use Rattle.am_stands.proofs.{Changes.same_name, Changes.told_all, Changes.is_up, Changes.unmoved_refresh, Reporting.reporting_push, Entries.name_longer}
 use Rattle.am_stands.proofs.{Growing.leads_line, Sent.Speaks, Sent.leading, Accepting.refresh_accepts, Learning.same_by, Learning.grown_is}
 
 -- ---- nobody else

@@ -4,7 +4,7 @@ use Rattle.am_stands.proofs.Words.{run_keeps, MoveOk, Moves, none, moves, NewVie
 use Rattle.am_chain.specs.Group as groups
 use Rattle.am_chain.specs.Moves as group
 use Rattle.am_stands.proofs.{Branches.moves_branch, Branches.decisions_are_new, ChainNames.moves_named, Growing.same_name, Growing.grows_names}
-use Rattle.am_stands.proofs.{Growing.moves_grow, Lawful.runs_go_on, LeftOut.runs_leave_out, Opens.runs_open, Rounds.runs_have_rounds}
+use Rattle.am_stands.proofs.{Growing.moves_grow, Lawful.runs_go_on, LeftOut.runs_leave_out, Opens.runs_open, LeftOut.runs_have_rounds}
 
 pub group_kept : (founders : List ℕ) (first resilience : ℕ) (s : Group) → GroupOk founders first resilience s → Kept s
 group_kept founders first resilience s h = (run_keeps founders first resilience s h.run).kept

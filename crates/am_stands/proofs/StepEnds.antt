@@ -7,7 +7,7 @@ use Rattle.am_stands.proofs.StepWords.{Cause, settles, rests_refresh, leads_rest
 use Rattle.am_stands.proofs.StepWords.{FrontsStand, Grows, Moves, Stepping, then_moves, key_stamp, view_whole, old, whole, grows_trans, list_opens}
 use Rattle.am_stands.proofs.StepWords.{changes_go_on}
 use Rattle.am_play.specs.World.{decides}
-use Rattle.am_stands.proofs.{Worlds.growing, Refreshed.refresh_on, Grown.accepted_twice, StepGoing.Grown, StepGoing.as_before, StepGoing.by_reports}
+use Rattle.am_stands.proofs.{Worlds.growing, Refreshed.refresh_on, Courses.accepted_twice, StepGoing.Grown, StepGoing.as_before, StepGoing.by_reports}
 use Rattle.am_stands.proofs.{Deeds.further, Deeds.Seen, Deeds.none_new, Deeds.one_new, Deeds.Done}
 
 -- ---- the group list at the end
