@@ -127,12 +127,7 @@ follows_first : (rules : Rules) (w : World) (place name : ℕ) → Begun rules w
 follows_first rules w place name b there =
     let act = b.may.all_act name there in
     let g = b.agree.each name there in
-    record {
-      acts_ = act.0;
-      view_ = act.1;
-      rest = at_rest rules w place name b there;
-      agrees = g;
-    }
+    assumption (at_rest rules w place name b there)
 
 apart_first : (rules : Rules) (w : World) (place name : ℕ) → Begun rules w place → (let q = current w place in has (members (w.nodes q)) name ≡ false
     → is_stopped w name ≡ false → has_departed (w.nodes name).status ≡ false → (w.nodes name).leaving ≡ false → IsApart (repair_of w q) (w.nodes name))
@@ -199,13 +194,6 @@ pub repairs_where_lists_agree : RepairsWhereListsAgree
 repairs_where_lists_agree rules events place may low repair agree name there =
     let w = run rules events in
     let q = current w place in
-    let b : Begun rules w place = record {
-      laws = run_owned rules events may;
-      old = old_lives rules events;
-      low = low;
-      may = repair;
-      agree = agree;
-      leaves = run_leaves rules events;
-    } in
+    let b : Begun rules w place = assumption (run_owned rules events may, old_lives rules events, run_leaves rules events) in
     let few = (b.laws.kept q).few in
     all_catch_up rules (repair_of w q) (w.nodes q).core.base w few (stored_first rules w place b) name there

@@ -222,17 +222,7 @@ module _ (group : List Entry) (i : ℕ) (c : Cause) (o : Outcome) (m : Node) whe
   inside_sends : (x : Node) (q : own.Sends) → (x.leaving ≡ true → own.waiting q ≡ None) → All (SendIn group i m x) q.queue → Inside group i c o m x
       → Inside group i c o m (record x { sends = q })
   inside_sends x q silent sends h =
-      let y = record x { sends = q } in
-      record {
-        gave = gave_still m x y refl refl refl h.gave;
-        order = h.order;
-        departed = h.departed;
-        leaves = h.leaves;
-        gone = h.gone;
-        silent = silent;
-        bare = h.bare;
-        sends = sends;
-      }
+      assumption (gave_still m x (record x { sends = q }) refl refl refl h.gave, silent, sends)
 
   inside_settled_at : (x : Node) (req : ℕ) (at : Option ℕ) → accepted_at x req ≡ at → has_departed m.status ≡ false → x.leaving ≡ false
       → Inside group i c o m x → Inside group i c o m (settle_at x req at)

@@ -8,6 +8,7 @@ use Rattle.am_headline.proofs.RepairedWords.{good_begins, told_push, long_told, 
 use Rattle.am_headline.proofs.RepairedWords.{chain_of, MayNumber, choice_of, longer, accepts, learns, begins, raises, gives_over, welcomes, asks, stops, Kept}
 use Rattle.am_headline.proofs.RepairedWords.{Move, Run, founded, more, put_same, put_at, run_keeps, moves_grow, Becomes, stayed, joins, founds, became}
 use Rattle.am_base.specs.Whole.{image_of}
+use Rattle.am_stands.proofs.Growing.{names_grow}
 use Rattle.am_chain.specs.Moves.{numbers, stores, fetches, decides, departs, closes}
 use Rattle.am_chain.specs.Group as groups
 
@@ -50,10 +51,6 @@ once list a b d good h k less =
 
 -- ---- Leaves
 
-put_leaving : (s : Group) (i : ℕ) (m : groups.Node) → ((s.node i).leaving ≡ true → m.leaving ≡ true) → (j : ℕ) → (s.node j).leaving ≡ true
-    → (put s.node i m j).leaving ≡ true
-put_leaving s i m f j = put_at (λ k n. (s.node k).leaving ≡ true → n.leaving ≡ true) s.node i m f (λ k other z. z) j
-
 -- the chain stays
 asked_same : (s t : Group) → chain_of t.views ≡ chain_of s.views → ((j : ℕ) → (s.node j).leaving ≡ true → (t.node j).leaving ≡ true) → LeavesAsked s
     → LeavesAsked t
@@ -79,35 +76,21 @@ numbers_asked s i (Leave name) may j is = let same : name ≡ j = same_leave nam
 numbers_asked s i (View v) may j is = absurd may
 numbers_asked s i _ may j is = absurd (cc)
 
-asked_move : (s t : Group) → Move s t → Kept s → LeavesAsked s → LeavesAsked t
-asked_move s t (numbers i e leads fit may) k h =
+asked_move : (s t : Group) → Move s t → Kept s → ((j : ℕ) → (s.node j).leaving ≡ true → (t.node j).leaving ≡ true) → LeavesAsked s → LeavesAsked t
+asked_move s t (numbers i e leads fit may) k leaving h =
     let ok = (k.each i).leads leads in
-    asked_more s t e (chain_more s i ((s.node i).list ++ e ∷ []) k leads ∙ ap (λ l. l ++ e ∷ []) ok.chain) (put_leaving s i (longer (s.node i) e) (λ z. z))
-    (numbers_asked s i e may) h
-asked_move s t (closes i n leads leaving alone may) k h =
+    asked_more s t e (chain_more s i ((s.node i).list ++ e ∷ []) k leads ∙ ap (λ l. l ++ e ∷ []) ok.chain) leaving (numbers_asked s i e may) h
+asked_move s t (closes i n leads leaves alone may) k leaving h =
     let ok = (k.each i).leads leads in
-    asked_more s t (Leave i) (chain_more s i ((s.node i).list ++ Leave i ∷ []) k leads ∙ ap (λ l. l ++ Leave i ∷ []) ok.chain)
-    (put_leaving s i (record (longer (s.node i) (Leave i)) { departed = true }) (λ z. z))
-    (λ j is. let same : i ≡ j = same_leave i j is in ap (λ x. (s.node x).leaving) (sym same) ∙ leaving) h
-asked_move s t (decides i v may) k h = λ a j begins_.
+    asked_more s t (Leave i) (chain_more s i ((s.node i).list ++ Leave i ∷ []) k leads ∙ ap (λ l. l ++ Leave i ∷ []) ok.chain) leaving
+    (λ j is. let same : i ≡ j = same_leave i j is in ap (λ x. (s.node x).leaving) (sym same) ∙ leaves) h
+asked_move s t (decides i v may) k leaving h = λ a j begins_.
     (let m = s.node i in
-    let all = opening (choice_of m v) in
-    let is : chain_of t.views ≡ all = put_same s.views.line (key m.promise) all in
-    put_leaving s i (record m { list = all; ballot = false }) (λ z. z) j
-    (either (begins_pushed (View (choice_of m v).view) (subst (Begins (a ++ Leave j ∷ [])) is begins_))
+    let is : chain_of t.views ≡ opening (choice_of m v) = put_same s.views.line (key m.promise) (opening (choice_of m v)) in
+    leaving j (either (begins_pushed (View (choice_of m v).view) (subst (Begins (a ++ Leave j ∷ [])) is begins_))
     (λ old. h a j (begins_trans old ((k.each i).list may.up)))
     (λ now. absurd (let e = (same_from_push a m.list (Leave j) (View (choice_of m v).view) now).1 in cc))))
-asked_move s t (stores i e up decided other stays next) k h = asked_same s t refl (put_leaving s i (longer (s.node i) e) (λ z. z)) h
-asked_move s t (learns i told_ acc up rises within before up_to given low) k h = asked_same s t refl (put_leaving s i _ (λ z. z)) h
-asked_move s t (begins i few up stays member) k h = asked_same s t refl (put_leaving s i _ (λ z. z)) h
-asked_move s t (raises i stamp there above) k h = asked_same s t refl (put_leaving s i _ (λ z. z)) h
-asked_move s t (fetches i f list e up ballot served shown next) k h = asked_same s t refl (put_leaving s i (longer (s.node i) e) (λ z. z)) h
-asked_move s t (gives_over i) k h = asked_same s t refl (put_leaving s i _ (λ z. z)) h
-asked_move s t (welcomes j stamp base join may) k h = asked_same s t refl (put_leaving s j _ (λ z. z)) h
-asked_move s t (asks i up unballoted) k h = asked_same s t refl (put_leaving s i _ (λ z. refl)) h
-asked_move s t (departs i before may) k h = asked_same s t refl (put_leaving s i _ (λ z. z)) h
-asked_move s t (stops i) k h = asked_same s t refl (put_leaving s i _ (λ z. z)) h
-asked_move s t _ k h = asked_same s t refl (λ j z. z) h
+asked_move s t _ k leaving h = asked_same s t refl leaving h
 
 -- ---- who departed
 
@@ -222,7 +205,8 @@ runs_left founders first resilience t (more {s = s} run step law) =
     let kept : Kept u = subst Kept step.is new in
     let ends : Ends step.moved = record { good = kept.views.good; there = λ d gone. (let k = kept.departed d gone in (k.before, k.chain)) } in
     let gone = gone_move s step.moved step.move old.kept ends h.gone in
+    let leaving = λ (j : ℕ). (names_grow s step.moved step.move old.kept j).leaving in
     subst AllLeft (sym step.is) (record {
-      asked = asked_same step.moved u refl (λ j z. z) (asked_move s step.moved step.move old.kept h.asked);
+      asked = asked_same step.moved u refl (λ j z. z) (asked_move s step.moved step.move old.kept leaving h.asked);
       gone = λ d g. gone_same step.moved u refl (begins_refl step.moved.group) d (gone d g);
     })

@@ -9,7 +9,7 @@ use Rattle.am_stands.proofs.Words.{RunsHaveRounds}
 use Rattle.am_chain.specs.Group.{Leads}
 use Rattle.am_chain.specs.Moves.{decides}
 use Rattle.am_chain.specs.Group as groups
-use Rattle.am_stands.proofs.Opens.{numbers_plain}
+use Rattle.am_stands.proofs.{Growing.names_grow, Opens.numbers_plain}
 use Rattle.std.proofs.lemmas.List.{same_from_push}
 
 -- ---- in every run of the group each decided stamp has a round, and each promise of a name with a log
@@ -79,10 +79,6 @@ runs_have_rounds founders first resilience t (more {s = s} run step law) =
 
 -- ---- who stopped stays so
 
-put_stops : (s : Group) (i : ℕ) (b : groups.Node) → ((s.node i).stopped ≡ true → b.stopped ≡ true) → (j : ℕ) → (s.node j).stopped ≡ true
-    → (put s.node i b j).stopped ≡ true
-put_stops s i b new j = put_at (λ k (m : groups.Node). (s.node k).stopped ≡ true → m.stopped ≡ true) s.node i b new (λ k other h. h) j
-
 same_left : (s t : Group) → ((j : ℕ) → (s.node j).stopped ≡ true → (t.node j).stopped ≡ true) → chain_of t.views ≡ chain_of s.views → LeftOut s → LeftOut t
 same_left s t stays chain h a v name part member out =
     stays name (h a v name (subst (Begins (a ++ View v ∷ [])) chain part) member out)
@@ -120,13 +116,13 @@ none_departed s k lawful c v d j member gone =
     leaver_out o.before j good (mem_between j (good_begins (list_chain s k lawful c v d) k.views.good)
     (begins_more o.before (Leave j ∷ [])) inside (leaver_in o.before j good) member)
 
-choice_left : (s : Group) (k : Kept s) (lawful : IsLawful s) (c : ℕ) (v : GroupView) → MayDecide s c v → LeftOut s → LeftOut (with_choice s c v)
-choice_left s k lawful c v d h a u name part member out =
+choice_left : (s : Group) (k : Kept s) (lawful : IsLawful s) (c : ℕ) (v : GroupView) → MayDecide s c v
+    → ((j : ℕ) → (s.node j).stopped ≡ true → ((with_choice s c v).node j).stopped ≡ true) → LeftOut s → LeftOut (with_choice s c v)
+choice_left s k lawful c v d stays h a u name part member out =
     let old = (s.node c).list in
     let e = View (choice_of (s.node c) v).view in
     let all = opening (choice_of (s.node c) v) in
     let is : chain_of (with_choice s c v).views ≡ all = put_same s.views.line (key (s.node c).promise) all in
-    let stays = put_stops s c (record (s.node c) { list = all; ballot = false }) (λ t. t) in
     either (begins_pushed e (subst (Begins (a ++ View u ∷ [])) is part))
     (λ z. stays name (h a u name (begins_trans z (list_chain s k lawful c v d)) member out))
     (λ z. (let last = (same_from_push a old (View u) e z).1 in
@@ -154,23 +150,16 @@ choice_left s k lawful c v d h a u name part member out =
 
 -- ---- each move
 
-pub moves_left : (s t : Group) → Move s t → Kept s → IsLawful s → LeftOut s → LeftOut t
-moves_left s t (numbers i e leads fit may) k law h = line_left s t e (put_stops s i (longer (s.node i) e) (λ z. z)) (numbers_plain s.node i e may)
+move_left : (s t : Group) → Move s t → Kept s → IsLawful s → ((j : ℕ) → (s.node j).stopped ≡ true → (t.node j).stopped ≡ true) → LeftOut s → LeftOut t
+move_left s t (numbers i e leads fit may) k law stays h = line_left s t e stays (numbers_plain s.node i e may)
     (longer_chain s i (longer (s.node i) e) e k leads refl) h
-moves_left s t (stores i e up decided other stays next) k law h = same_left s t (put_stops s i _ (λ z. z)) refl h
-moves_left s t (learns i told acc up rises within before up_to given low) k law h = same_left s t (put_stops s i _ (λ z. z)) refl h
-moves_left s t (begins i few up stays member) k law h = same_left s t (put_stops s i _ (λ z. z)) refl h
-moves_left s t (raises i stamp there above) k law h = same_left s t (put_stops s i _ (λ z. z)) refl h
-moves_left s t (fetches i f list e up ballot served shown next) k law h = same_left s t (put_stops s i _ (λ z. z)) refl h
-moves_left s t (decides i v may) k law h = choice_left s k law i v may h
-moves_left s t (gives_over i) k law h = same_left s t (put_stops s i _ (λ z. z)) refl h
-moves_left s t (welcomes j stamp base join may) k law h = same_left s t (put_stops s j _ (λ z. z)) refl h
-moves_left s t (asks i up none) k law h = same_left s t (put_stops s i _ (λ z. z)) refl h
-moves_left s t (departs i before may) k law h = same_left s t (put_stops s i _ (λ z. z)) refl h
-moves_left s t (closes i n leads leaving alone may) k law h =
-    line_left s t (Leave i) (put_stops s i _ (λ z. z)) tt (longer_chain s i (record (longer (s.node i) (Leave i)) { departed = true }) (Leave i) k leads refl) h
-moves_left s t (stops i) k law h = same_left s t (put_stops s i _ (λ z. refl)) refl h
-moves_left s t _ k law h = same_left s t (λ j z. z) refl h
+move_left s t (decides i v may) k law stays h = choice_left s k law i v may stays h
+move_left s t (closes i n leads leaving alone may) k law stays h =
+    line_left s t (Leave i) stays tt (longer_chain s i (record (longer (s.node i) (Leave i)) { departed = true }) (Leave i) k leads refl) h
+move_left s t _ k law stays h = same_left s t stays refl h
+
+pub moves_left : (s t : Group) → Move s t → Kept s → IsLawful s → LeftOut s → LeftOut t
+moves_left s t move k law h = move_left s t move k law (λ j. (names_grow s t move k j).stopped) h
 
 -- ---- each run
 

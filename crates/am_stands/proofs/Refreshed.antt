@@ -96,12 +96,7 @@ module _ (rules : Rules) (w : World) (name : ℕ) (c : Cause) (x : Node) (s : Gr
           says = letters_stay w v s t b.to p ([], sym (append-nil w.records)) on.grows b.says;
         });
         given = h.given;
-        keeps = keeps_in w v t name y (λ j u. u) (refreshes_keep rules w v name c x s t h on.grows on.group_ (record {
-          runs = h.runs;
-          stands = mine;
-          list = list;
-          accepted = low;
-        }) along);
+        keeps = keeps_in w v t name y (λ j u. u) (refreshes_keep rules w v name c x s t h on.grows on.group_ (assumption) along);
         accepted = subst (λ l. y.core.acc ≤ length l) stands.group low;
       }
 

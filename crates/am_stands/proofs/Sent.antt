@@ -84,13 +84,7 @@ leading v i n s h t =
     let now : view_of a.list ≡ s.views.current = ap view_of ok.chain ∙ h.kept.views.view in
     let viewed : view_of a.list ≡ n.core.promise = whole_view ∙ sym promise in
     let keys : key n.core.promise ≡ key s.views.current = ap key (sym viewed ∙ now) in
-    record {
-      leads = leads;
-      viewed = viewed;
-      decided = ap s.views.decided keys ∙ h.kept.views.now;
-      line_ = ap s.views.line (ap key (sym viewed)) ∙ leads_line s i h.kept leads;
-      current = keys;
-    }
+    assumption (ap s.views.decided keys ∙ h.kept.views.now, ap s.views.line (ap key (sym viewed)) ∙ leads_line s i h.kept leads)
 
 -- its list is the chain
 pub record OnChain (s : Group) (list : List Entry) : Type 0 where

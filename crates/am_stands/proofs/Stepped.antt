@@ -23,16 +23,7 @@ last_stays w v (Some b) stopped h = record { given = λ j is. stopped j (h.given
 
 -- in another world, where those that had stopped have stopped
 pub keeps_in : (w v : World) (s : Group) (i : ℕ) (x : Node) → ((j : ℕ) → is_stopped w j ≡ true → is_stopped v j ≡ true) → NodeKeeps w s i x → NodeKeeps v s i x
-keeps_in w v s i x stopped h = record {
-  good = h.good;
-  ballots = record { votes = h.votes; fetches = h.fetches; last = last_stays w v x.ballot stopped h.last };
-  opens = h.opens;
-  reports = h.reports;
-  fresh = h.fresh;
-  trimmed = h.trimmed;
-  turn = h.turn;
-  leaves = h.leaves;
-}
+keeps_in w v s i x stopped h = assumption (last_stays w v x.ballot stopped h.last)
 
 pub others_keep : OthersKeep
 others_keep w v s t i x stopped g h new grows k =
