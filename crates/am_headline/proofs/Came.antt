@@ -101,12 +101,8 @@ came_change : (c : Cause) (o : Outcome) (m x y : Node) → HeardNames c → HasN
     → Change c o x y → (acts x ≡ true → Came c m x) → acts y ≡ true → Came c m y
 came_change c o m x y heard names after k low refreshes h t = let s = stays_alike x y (alike_refresh x) in came_on c m x y s (h (s.acts_ t))
 came_change c o m x y heard names after k low settles h t = let s = stays_alike x y (alike_settle x) in came_on c m x y s (h (s.acts_ t))
-came_change c o m x y heard names after k low (admits s v is leads fit) h t = came_on c m x y (plain_stay x y refl refl refl refl (omega arith)) (h t)
 came_change c o m x y heard names after k low (numbers e leads room why) h t =
     let s = stays_pushed x y e (numbers_plain c x e why) refl refl refl refl (omega arith) in came_on c m x y s (h (s.acts_ t))
-came_change c o m x y heard names after k low (keeps_body s v report req body is heard_) h t = came_on c m x y
-    (plain_stay x y refl refl refl refl (omega arith)) (h t)
-came_change c o m x y heard names after k low (notes s v base acc brings heard_) h t = came_on c m x y (plain_stay x y refl refl refl refl (omega arith)) (h t)
 came_change c o m x y heard names after k low (stores s v base acc number e carries heard_ plain may) h t =
     let s_ = stays_pushed x y e plain refl refl refl refl (omega arith) in came_on c m x y s_ (h (s_.acts_ t))
 came_change c o m x y heard names after k low (begins_list s v base join image is says may) h t =
@@ -132,7 +128,6 @@ came_change c o m x y heard names after k low (fetches s v base number e is hear
 came_change c o m x y heard names after k low (stores_view s base number v is heard_ own_ other promise below may) h t =
     told_so s v.stamp base (subst (λ z. Tells z s v.stamp base) (sym is) (by_result s base number v)) (view_last (trim_up_to x base) v)
     (stamp_by v.stamp s own_) (other_heard x s heard_) may.taken
-came_change c o m x y heard names after k low (collects req is) h t = came_on c m x y (plain_stay x y refl refl refl refl (omega arith)) (h t)
 came_change c o m x y heard names after k low (takes e is says member some there) h t =
     came_on c m x y (record { who = refl; view_ = refl; acts_ = λ a. a; taken = omega arith }) (h t)
 came_change c o m x y heard names after k low (asks_to_join is was) h t = absurd (cc)

@@ -6,7 +6,7 @@ use Rattle.am_headline.proofs.RepairedWords.{Begins, IsGood, mem, view_of, key, 
 use Rattle.am_headline.proofs.RepairedWords.{ends_of, Group, Leads, counted_in, opening, chain_of, current_of, Kept, Node, top, told_at, members}
 use Rattle.am_headline.proofs.RepairedWords.{lowest_or_first, MayRepair, lawful_front, has_departed, take, World, current, run, fold_append, split, names_hold}
 use Rattle.am_headline.proofs.RepairedWords.{numbers_hold, taken_holds, after_view, NameStands, NamesNamed, Following, told_all, long_all, counts_names}
-use Rattle.am_headline.proofs.RepairedWords.{name_small, group_kept, stood, counted_whole, steps_move, held}
+use Rattle.am_headline.proofs.RepairedWords.{name_small, group_kept, stood, counted_whole, steps_move, held, eqb-true}
 use Rattle.am_base.specs.Whole.{image_of}
 use Rattle.am_headline.proofs.{Left.AllLeft, Left.GoneBy, Left.accepted, Left.last, Left.once, Left.runs_left, OneList.lawful_events, OneList.small_name}
 use Rattle.am_headline.proofs.OneList.{leader_runs}
@@ -27,12 +27,9 @@ leaves_last list before name (Data from req body) good within view_ is none =
 leaves_last list before name (Join joiner) good within view_ is none =
     absurd (let z = mem_push before (Join joiner) name (good_begins within good) tt is in cc)
 leaves_last list before name (Leave leaver) good within view_ is none = split (leaver == name)
-    (λ t. ap (λ k. Leave k) (same leaver name t))
+    (λ t. ap (λ k. Leave k) (eqb-true leaver name t))
     (λ f. absurd (let z = mem_push before (Leave leaver) name (good_begins within good) (other leaver name f) is in cc))
   where
-    same : (a b : ℕ) → (a == b) ≡ true → a ≡ b
-    same a b t = grind (arith, nat_tests)
-
     other : (a b : ℕ) → (a == b) ≡ false → a ≢ b
     other a b f = λ u. grind (arith, nat_tests)
 leaves_last list before name (View v) good within view_ is none = absurd (

@@ -7,7 +7,7 @@ use Rattle.am_headline.proofs.Words.{in_viewed, Node, Ballot, top, image_of, has
 use Rattle.am_headline.proofs.Words.{Looks, decides, Carries, whole_entry, by_number, Change, refreshes, settles, numbers, stores, begins_list, looks, fetches}
 use Rattle.am_headline.proofs.Words.{stores_view, closes, Changes, unchanged, changed, rests_refresh, rests_at_end, settle_is, told_pushed, change_blank}
 use Rattle.am_headline.proofs.Words.{HeardUsed, change_owned, Along, Fronts, told_used, HeardNames, change_names, change_does, those_long, kept_change}
-use Rattle.am_headline.proofs.Words.{decided_view}
+use Rattle.am_headline.proofs.Words.{decided_view, low_or_above}
 use Rattle.am_packet.specs.declared.packet.Packet.TheVariants as packet
 
 -- ---- how many names
@@ -87,7 +87,7 @@ push_fits : (rules : Rules) (c : Cause) (x y : Node) (e : Entry) → y.core.log 
 push_fits rules c x y e log up new h number above within =
     let long = length-append x.core.log.entries (e ∷ []) in
     let t = ap top_of log in
-    either (two number (top x))
+    either (low_or_above number (top x))
     (λ low. either (h number (omega arith) low)
     (λ a. inl (
     let same : members_at y.core.log number ≡ members_at x.core.log number = ap (λ (l : Log). members_at l number) log
@@ -96,9 +96,6 @@ push_fits rules c x y e log up new h number above within =
     (λ a. inr a))
     (λ high. (let is : top x + 1 ≡ number = omega arith in
     subst (λ k. FitsAt rules y k ⊎ BringsEntry c k) is new))
-  where
-    two : (a b : ℕ) → (a ≤ b) ⊎ (b < a)
-    two a b = grind arith
 
 -- there are at most sixteen members after an entry
 few_members : (x : Node) (e : Entry) → Fronts x → size (members_at (with_entry x.core.log e) (top x + 1)) ≤ 16

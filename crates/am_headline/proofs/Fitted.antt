@@ -8,7 +8,7 @@ use Rattle.am_headline.proofs.Words.{founders_view, has_departed, Step, hears_me
 use Rattle.am_headline.proofs.Words.{lawful_front, World, start, with_step, run, split, and_both, front_is_lawful, Cause, hears, Says, bcast, order, piece}
 use Rattle.am_headline.proofs.Words.{result, LetterSays, IsCause, WasSentTo, all_get, logged, numbers_hold, each_along, heard_used, run_owned, heard_names}
 use Rattle.am_headline.proofs.Words.{lists_go_on, item_get, item_within, PacketSays, PieceSays, told_all, long_all, number_low, departed_silent, departed_quiet}
-use Rattle.am_headline.proofs.Words.{departed_is, steps_move}
+use Rattle.am_headline.proofs.Words.{departed_is, steps_move, member_stays}
 use Rattle.am_base.specs.Whole.{image_of}
 use Rattle.am_packet.specs.declared.packet.Packet.TheVariants as packet
 use Rattle.am_model.specs.declared.status.Status.TheVariants as status
@@ -162,10 +162,6 @@ module _ (rules : Rules) (events : List Event) (e : Event) (c : Cause) (step : S
     log = stands_m.log_ ∙ logged m.status member;
     there = record { goes = stands_m.stopped ∙ runs; stays = stands_m.departed ∙ member_stays m.status member };
   }
-    where
-      member_stays : (x : Status) → is_member x ≡ true → has_departed x ≡ false
-      member_stays status.Departed z = absurd (cc)
-      member_stays _ z = refl
 
   module _ (from : ℕ) (u : Stamp) (base number : ℕ) (x : Entry) (row : Node) (log : n.core.log ≡ row.core.log) (up : row.core.base ≤ n.core.base)
       (above : n.core.base < number) (why : Piecewise m from u) (st : Stores m row base number x) where

@@ -1,6 +1,6 @@
 -- Up to its lawful front each run has a group that follows it, whose marks are the views that became complete.
 use Rattle.am_headline.proofs.Words.{watch_push, ◌≡◌, ◌⊎◌, either, inl, inr, ℕ, ◌<◌, ◌≤◌, ◌==◌, ◌&&◌, ◌||◌, Bool, true, false, List, [], ◌∷◌, ◌++◌, length}
-use Rattle.am_headline.proofs.Words.{Some, None, slice_get, refl, sym, ap, ◌∙◌, subst, arith, length-append, Contains, not, list_any, nat_tests}
+use Rattle.am_headline.proofs.Words.{Some, None, slice_get, refl, sym, ap, ◌∙◌, subst, arith, length-append, Contains, not, list_any, nat_tests, low_or_above}
 use Rattle.am_headline.proofs.Words.{take-append-le, take_all, list_any-append, slice_get-get_or, Rules, MayFound, Event, Record, Outcome, key, Group}
 use Rattle.am_headline.proofs.Words.{how_many, Move, Completes, counts_for, Node, lowest_or_first, Step, Decided, World, start, current, is_stopped}
 use Rattle.am_headline.proofs.Words.{views_after, with_record, with_step, lives_on, happens, run, is_complete, is_lawful, Watch, watch_start, watch_run}
@@ -15,6 +15,7 @@ use Rattle.am_headline.proofs.Ready.{ready_given, ready_halted, stays_follows, g
 use Rattle.am_headline.proofs.Greatest.{Passing, any_passing, passing_any, Small, IsGreatest, greatest_is, unbroken, watch_complete}
 use Rattle.am_headline.proofs.{Shapes.Shaped, Shapes.shaped_moves, OneStep.OneStep, OneStep.run_push, Marks.Known, Marks.completes, Lawful.or_cases}
 use Rattle.am_headline.proofs.{Lawful.lawful_group}
+use Rattle.std.proofs.lemmas.Bool.{or_right}
 
 -- ---- the marks
 
@@ -72,11 +73,7 @@ mark rules old new s t ready same tied small stay best lawful = record {
     passing k d there done =
         let own : (key d.stamp == key d.stamp) ≡ true = grind (arith, nat_tests) in
         let some = passing_any (λ x. (key x.stamp == key d.stamp) && is_complete v x) v.views k d there (rw (own, done) refl) in
-        or_true (t.views.complete (key d.stamp)) _ some
-      where
-        or_true : (a b : Bool) → b ≡ true → (a || b) ≡ true
-        or_true true b h = refl
-        or_true false b h = h
+        or_right (t.views.complete (key d.stamp)) _ some
 
     here : marks_now v t (key new.complete.stamp) ≡ true
     here = either greatest.is
@@ -294,13 +291,10 @@ module _ (P : World → Group → Type 0) (rules : Rules) (keeps : KeptBy P rule
       became_now : (rules : Rules) (events : List Event) (e : Event) (d : Decided) (marks : ℕ → Bool) {R : Type 0} → (Became (run rules events) h.to d → R)
           → ((k : ℕ) → slice_get (run rules (events ++ e ∷ [])).views k ≡ Some d → is_complete (run rules (events ++ e ∷ [])) d ≡ true → R)
           → (BecameComplete rules events d → Became (run rules events) h.to d) → BecameComplete rules (events ++ e ∷ []) d → R
-      became_now rules events e d marks stay all before (k, among, done) = either (two k (length events))
+      became_now rules events e d marks stay all before (k, among, done) = either (low_or_above k (length events))
           (λ low. (let same = take-append-le k events (e ∷ []) low in
           stay (before (k, subst (λ l. Contains (run rules l).views d) same among, subst (λ l. is_complete (run rules l) d ≡ true) same done))))
           (λ high. (let long = length-append events (e ∷ []) in
           let same = take_all k (events ++ e ∷ []) (omega arith) in
           let at = get_of (run rules (events ++ e ∷ [])).views d (subst (λ l. Contains (run rules l).views d) same among) in
           all at.0 at.1 (subst (λ l. is_complete (run rules l) d ≡ true) same done)))
-        where
-          two : (a b : ℕ) → (a ≤ b) ⊎ (b < a)
-          two a b = grind arith

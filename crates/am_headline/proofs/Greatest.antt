@@ -1,7 +1,7 @@
 -- The greatest complete view of a watched run, and the marks of the group.
 use Rattle.am_headline.proofs.Words.{◌≡◌, ◌⊎◌, either, inl, inr, ℕ, zero, suc, ◌+◌, ◌<◌, ◌≤◌, Bool, true, false, List, [], ◌∷◌, Option, Some, None, slice_get}
 use Rattle.am_headline.proofs.Words.{refl, sym, ap, ◌∙◌, subst, arith, list_any, stamp_lt, Event, key, key_lt, lt_key, Decided, World, happens, is_complete}
-use Rattle.am_headline.proofs.Words.{is_lawful, Watch, watch, greater_complete, greatest_complete, broken_now, split}
+use Rattle.am_headline.proofs.Words.{is_lawful, Watch, watch, greater_complete, greatest_complete, broken_now, split, low_or_above}
 
 -- ---- one item that passes
 
@@ -61,12 +61,9 @@ greater_is w best v small few = split (stamp_lt best.stamp v.stamp)
     one v d k at = let same = only v d k at in subst (λ (x : Decided). key x.stamp ≤ key v.stamp) same (omega arith)
 
     not_above : (best v : Decided) → best.stamp.by < 256 → v.stamp.by < 256 → stamp_lt best.stamp v.stamp ≡ false → key v.stamp ≤ key best.stamp
-    not_above best v small few f = either (two (key v.stamp) (key best.stamp))
+    not_above best v small few f = either (low_or_above (key v.stamp) (key best.stamp))
         (λ le. le)
         (λ lt. absurd (let t = lt_key best.stamp v.stamp small few lt in cc))
-      where
-        two : (a b : ℕ) → (a ≤ b) ⊎ (b < a)
-        two a b = grind arith
 
 small_either : (w : World) (best v : Decided) → best.stamp.by < 256 → v.stamp.by < 256 → (greater_complete w best v).stamp.by < 256
 small_either w best v small few = split (stamp_lt best.stamp v.stamp)

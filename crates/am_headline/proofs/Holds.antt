@@ -13,6 +13,7 @@ use Rattle.am_runs.proofs.Holds.{sends_stand_once}
 use Rattle.am_headline.proofs.{Lists.item_begins, Lists.item_back, Fold.Quiet, Fold.KeptBy, Fold.Became, Fold.Held, Begun.held, Greatest.unbroken, Told.Told}
 use Rattle.am_headline.proofs.{Told.Taking, Told.taking_in_group, Told.told_same, Told.told_idle, Told.told_step, Told.told_start, Moments.done_then}
 use Rattle.am_headline.proofs.{Moments.given_then}
+use Rattle.am_stands.proofs.Words.{cases_lt}
 
 -- ---- the group list
 
@@ -56,7 +57,7 @@ module _ (rules : Rules) (w : World) (s : Group) (d : Decided) (f : Following ru
   -- what a name with a lower view accepted of its list lies below the View
   below : (list group : List Entry) (acc number : ℕ) → IsGood list → Begins (take acc list) group → acc ≤ length list → Begins group w.group
       → number ≤ acc → key (view_of list) < key d.stamp → number < d.number
-  below list group acc number good delivered within grows low less = either (two number d.number)
+  below list group acc number good delivered within grows low less = either (cases_lt number d.number)
       (λ fine. fine)
       (λ high. absurd (
       let open_ = opening (s.views.chosen (key d.stamp)) in
@@ -69,9 +70,6 @@ module _ (rules : Rules) (w : World) (s : Group) (d : Decided) (f : Following ru
       let viewed : view_of open_ ≡ d.stamp = view_viewed (s.views.chosen (key d.stamp)).before _ ∙ noted.stamp in
       let same = ap key viewed in
       let z : ⊥ = omega arith in z))
-    where
-      two : (a b : ℕ) → (a < b) ⊎ (b ≤ a)
-      two a b = grind arith
 
 -- of an entry that was given before
 number_below : (rules : Rules) (w : World) (s : Group) (d : Decided) (f : Following rules w s) (became : Became w s d) (v : World) (r : Group) (i number : ℕ)

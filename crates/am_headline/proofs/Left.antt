@@ -11,6 +11,7 @@ use Rattle.am_base.specs.Whole.{image_of}
 use Rattle.am_stands.proofs.Growing.{names_grow}
 use Rattle.am_chain.specs.Moves.{numbers, stores, fetches, decides, departs, closes}
 use Rattle.am_chain.specs.Group as groups
+use Rattle.am_stands.proofs.Words.{cases_lt}
 
 -- ---- what is kept
 
@@ -137,14 +138,11 @@ gone_decided s t i v k kt up member is group d gone (last before chain none) = a
     let whole = ap length chain in
     let short = begins_length on in
     let low = begins_length part in
-    either (two (length there.0) (length before))
+    either (cases_lt (length there.0) (length before))
     (λ less. once (chain_of s.views) there.0 before d k.views.good (begins_trans part on)
     (subst (Begins (before ++ Leave d ∷ [])) (sym chain) (begins_refl (before ++ Leave d ∷ []))) less)
     (λ all. (let same : m.list ≡ chain_of s.views = begins_same on (omega arith) in
     none i (subst (λ l. mem l i ≡ true) same member))))
-  where
-    two : (a b : ℕ) → (a < b) ⊎ (b ≤ a)
-    two a b = grind arith
 
 gone_move : (s t : Group) → Move s t → Kept s → Ends t → AllGone s → AllGone t
 gone_move s t (numbers i e leads fit may) k kt h = λ d gone. gone_led s t i k leads (begins_refl s.group) d

@@ -162,12 +162,11 @@ heard_report (by_leave_ask s v report) = (_, refl)
 -- what the reports of a wave tell was taken by the wave's beginning
 wave_tells : (rules : Rules) (r : Repair) (w u : World) (after k name : ℕ) → Fine rules r w → Stays w u → r.sent ≤ after → after < k → k ≤ length w.letters
     → (c : Cause) → IsCause u name (act.Hear k) c → TellsTaken r (λ i. (w.nodes i).core.taken) c
-wave_tells rules r w u after k name h stays low late within (calls event) is s v report brings there = absurd (let heard = (heard_report brings).1 in cc)
 wave_tells rules r w u after k name h stays low late within (hears p) is s v report brings there =
     let letter = letter_is w u k is.letter stays (omega arith) within is.there in
     let calm = subst (IsCalm r w) is.is (h.calm.letters k is.letter (omega arith) letter) in
     (told_taken r w (hears p) s v report brings calm).taken there
-wave_tells rules r w u after k name h stays low late within refuses is s v report brings there = absurd (let heard = (heard_report brings).1 in cc)
+wave_tells rules r w u after k name h stays low late within _ is s v report brings there = absurd (let heard = (heard_report brings).1 in cc)
 
 -- the second wave's end
 pub record IsServing (rules : Rules) (r : Repair) (i after stored : ℕ) (u : World) : Type 0 where

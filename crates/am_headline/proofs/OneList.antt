@@ -4,7 +4,7 @@ use Rattle.am_headline.proofs.RepairedWords.{arith, nat_tests, Rules, MayFound, 
 use Rattle.am_headline.proofs.RepairedWords.{begins_trans, Group, IsUp, Leads, chain_of, Kept, Node, acts, view, is_member, lowest_or_first, whole, broken_at}
 use Rattle.am_headline.proofs.RepairedWords.{MayRepair, World, current, is_stopped, run, split, and_both, front_is_lawful, logged, names_hold, Following}
 use Rattle.am_headline.proofs.RepairedWords.{told_all, group_kept, steps_move, KeptBy, held, IsOneList, RepairableIsOneList, lawful_front, inl, either, has}
-use Rattle.am_headline.proofs.RepairedWords.{members, run_owned, in_mem, In, mem_in, row_at, Past, was_begins}
+use Rattle.am_headline.proofs.RepairedWords.{members, run_owned, in_mem, In, mem_in, row_at, Past, was_begins, eqb-true}
 use Rattle.am_stands.specs.States.{OwnDecided}
 use Rattle.am_stands.proofs.Sending.{tells_leads}
 use Rattle.am_stands.proofs.Owns.{run_owns}
@@ -79,10 +79,7 @@ module _ (rules : Rules) (w : World) (s : Group) (place : ℕ) (old : Following 
   sequencer =
       let a = and_both (acts (w.nodes q)) ((view (w.nodes q)).by == (w.nodes q).core.who) may.leads in
       let b = and_both (is_member (w.nodes q).status) _ a.0 in
-      (b.0, same_stamp (w.nodes q).core.promise (view (w.nodes q)) b.1, same_number (view (w.nodes q)).by (w.nodes q).core.who a.1)
-    where
-      same_number : (a b : ℕ) → (a == b) ≡ true → a ≡ b
-      same_number a b t = grind (arith, nat_tests)
+      (b.0, same_stamp (w.nodes q).core.promise (view (w.nodes q)) b.1, eqb-true (view (w.nodes q)).by (w.nodes q).core.who a.1)
 
   viewed : view_of (s.node q).list ≡ view (w.nodes q)
   unfolding view_of

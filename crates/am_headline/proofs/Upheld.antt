@@ -13,6 +13,7 @@ use Rattle.am_headline.proofs.RepairedWords.{gone, list_moves, Kind, kind_of}
 use Rattle.am_chain.specs.Group as groups
 use Rattle.am_model.specs.declared.status.Status.TheVariants as status
 use Rattle.am_headline.proofs.Ways as ways
+use Rattle.am_headline.proofs.Words.{low_or_above}
 
 -- ---- a name's list has what was accepted
 
@@ -181,7 +182,7 @@ module _ (rules : Rules) (events : List Event) (e : Event) (c : Cause) (step : S
       let acc_ = acc_low in
       let begins_ = grown_begins w v s t i n stands_n old.stands.group group_grows (part_t stays) adds_.begins (omega arith) is_ in
       let same_group : t.group ≡ v.group = new.stands.group in
-      either (two (length v.group) (length (current_of t.views).before))
+      either (low_or_above (length v.group) (length (current_of t.views).before))
       (λ low. omega arith)
       (λ above. (let ch = current_of t.views in
       let open_ = opening ch in
@@ -203,9 +204,6 @@ module _ (rules : Rules) (events : List Event) (e : Event) (c : Cause) (step : S
       let mine_by : i ≡ t.views.current.by = sym (ap (λ u. u.by) viewed ∙ own ∙ adds_.own) ∙ by in
       let there : n.core.acc ≡ (v.nodes t.views.current.by).core.acc = ap (λ (x : Node). x.core.acc) (sym node_v) ∙ ap (λ k. (v.nodes k).core.acc) mine_by in
       omega arith))
-    where
-      two : (a b : ℕ) → (a ≤ b) ⊎ (b < a)
-      two a b = grind arith
 
   grown_low : (g : List Entry) → length (group_with g n.core) ≤ max (length g) n.core.acc
   grown_low g =
@@ -215,7 +213,7 @@ module _ (rules : Rules) (events : List Event) (e : Event) (c : Cause) (step : S
       omega arith
 
   pub upheld_step : Upheld v t
-  upheld_step = either (two (length v.group) (length w.group))
+  upheld_step = either (low_or_above (length v.group) (length w.group))
       (λ low. still low)
       (λ more. split ((view n).by == n.core.who)
       (λ u.
@@ -225,9 +223,6 @@ module _ (rules : Rules) (events : List Event) (e : Event) (c : Cause) (step : S
       let most = grown_low w.group in
       adds more is_ own (omega arith))
       (λ f. absurd (let size = ap length (group_v ∙ ap (λ b. if b then group_with w.group n.core else w.group) f) in omega arith)))
-    where
-      two : (a b : ℕ) → (a ≤ b) ⊎ (b < a)
-      two a b = grind arith
 
 -- ---- in every run
 

@@ -4,7 +4,7 @@ use Rattle.am_stands.proofs.Words.{arith, nat_tests, GroupView, Entry, Leave, Be
 use Rattle.am_stands.proofs.Words.{begins_both, begins_take, length_take, Group, put, put2, opening, MayAccept, with_node, with_line, with_choice, choice_of}
 use Rattle.am_stands.proofs.Words.{longer, numbers, stores, accepts, learns, begins, raises, shows, serves, fetches, gives_over, welcomes, asks, departs}
 use Rattle.am_stands.proofs.Words.{closes, stops, Kept, own_above, put_at, put2_cases, NameGrows, NewView, Grows, MovesGrow}
-use Rattle.am_stands.proofs.Words.{◌≤◌, View, Move, own_stamp}
+use Rattle.am_stands.proofs.Words.{◌≤◌, View, Move, own_stamp, begins_length}
 use Rattle.am_stands.specs.Growing.{DecidesNew}
 use Rattle.am_chain.specs.Group.{Leads}
 use Rattle.am_chain.specs.Moves.{decides}
@@ -61,6 +61,11 @@ line_grows : (s : Group) (i : ℕ) (b : groups.Node) (list : List Entry) → s.v
     → Begins (s.node i).list list → (x : ℕ) → Begins (s.views.line x) (put s.views.line (key (view_of (s.node i).list)) list x)
 line_grows s i b list chain grows x = put_at (λ y l. Begins (s.views.line y) l) s.views.line (key (view_of (s.node i).list)) list
     (subst (λ l. Begins l list) (sym chain) grows) (λ y other. begins_refl (s.views.line y)) x
+
+-- what begins the empty list is empty
+pub nil_begun : (l : List Entry) → Begins l [] → l ≡ []
+nil_begun [] low = refl
+nil_begun (e ∷ es) low = absurd (let long = begins_length low in omega arith)
 
 -- what is accepted stands in what may be accepted
 accepted_grows : (s : Group) (node : ℕ → groups.Node) (list : List Entry) (n : ℕ) → Begins s.group list → MayAccept node list (length s.group) n

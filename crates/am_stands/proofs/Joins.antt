@@ -6,6 +6,7 @@ use Rattle.am_stands.proofs.Words.{after, Begins, IsGood, image_of, mem, begins_
 use Rattle.am_stands.proofs.Words.{and_left, row_at, row_view, In, Past, Was, mod16, row_set, blank_joined, past_after, not_both, view_parts, good_begins}
 use Rattle.am_stands.proofs.Words.{told_push, last_fits, long_told, mem_in, in_mem, mem_nil, viewed_mem, was_begins, is_view}
 use Rattle.am_stands.proofs.Ends.{taken_more}
+use Rattle.am_stands.proofs.Growing.{nil_begun}
 
 -- ---- a Join
 
@@ -173,10 +174,6 @@ joins_push a e name good h = λ in_.
     by_kind here row (became (image_of a) (1 + length a) e name (long_told a) (omega arith)
     (subst (λ (i : Image). In (row_at i (place_of name)) (life_of name)) (told_push a e) in_))
   where
-    nothing : (b : List Entry) → Begins b [] → b ≡ []
-    nothing [] low = refl
-    nothing (x ∷ xs) low = absurd (let long = begins_length low in omega arith)
-
     by_kind : mem (a ++ e ∷ []) name ≡ true → (row_at (image_of (a ++ e ∷ [])) (place_of name)).joined ≡
         (row_at (after (image_of a) (1 + length a) e) (place_of name)).joined
         → Becomes (image_of a) (1 + length a) e name → JoinsAt (a ++ e ∷ []) name (row_at (image_of (a ++ e ∷ [])) (place_of name)).joined
@@ -188,7 +185,7 @@ joins_push a e name good h = λ in_.
         let nil = blank_nil a (good_begins (begins_more a (e ∷ [])) good) blank_ in
         let at : (row_at (image_of (a ++ e ∷ [])) (place_of name)).joined ≡ 1 + length a = (let z = ap length nil in omega (arith, row ∙ same)) in
         subst (JoinsAt (a ++ e ∷ []) name) (sym at)
-        (joins_now a e name here (λ b begins member. mem_nil name (subst (λ l. mem l name ≡ true) (nothing b (subst (Begins b) nil begins)) member)))
+        (joins_now a e name here (λ b begins member. mem_nil name (subst (λ l. mem l name ≡ true) (nil_begun b (subst (Begins b) nil begins)) member)))
 
 joins_walk : (a es : List Entry) (name : ℕ) → IsGood (a ++ es) → JoinsBy a name → JoinsBy (a ++ es) name
 joins_walk a [] name good h = subst (λ l. JoinsBy l name) (sym (all_of a)) h

@@ -6,7 +6,7 @@ use Rattle.am_stands.proofs.Words.{begins_refl, begins_more, begins_trans, begin
 use Rattle.am_stands.proofs.Words.{Group, put, MayAccept, longer, Kept, put_same, put_at, Node, view, others, is_member, is_sequencer, push_entry, refresh}
 use Rattle.am_stands.proofs.Words.{refresh_at_end, Decided, World, group_with, group_after, views_after, some_size, rests_refresh, settle_is, leads_rests}
 use Rattle.am_stands.proofs.Words.{leads_pushed, view_pushed, leave_fits, NameStands, within, NeedsClose, after_closing, CountsNames, MayCount, CountsAmong}
-use Rattle.am_stands.proofs.Words.{ComesTo, ClosingAccepts}
+use Rattle.am_stands.proofs.Words.{ComesTo, ClosingAccepts, stamp_itself}
 use Rattle.am_chain.specs.Group as groups
 use Rattle.am_model.specs.Node as nodes
 use Rattle.am_stands.proofs.{Changes.same_name, Changes.told_all, Changes.is_up, Changes.unmoved_refresh, Reporting.reporting_push, Entries.name_longer}
@@ -56,14 +56,11 @@ up_to_group node list from g to low some may =
 
 no_decision : (views : List Decided) (m n : Node) → view m ≡ view n → views_after views m n ≡ views
 no_decision views m n same =
-    let t : stamp_eq (view m) (view n) ≡ true = subst (λ u. stamp_eq (view m) u ≡ true) same (itself (view m)) in
+    let t : stamp_eq (view m) (view n) ≡ true = subst (λ u. stamp_eq (view m) u ≡ true) same (stamp_itself (view m)) in
     let f : (is_member m.status && (((view n).by == n.core.who) && not (stamp_eq (view m) (view n)))) ≡ false = rw t
     (both_false (is_member m.status) ((view n).by == n.core.who)) in
     rw f refl
   where
-    itself : (v : Stamp) → stamp_eq v v ≡ true
-    itself v = grind (arith, nat_tests)
-
     both_false : (a b : Bool) → (a && (b && not true)) ≡ false
     both_false true true = refl
     both_false true false = refl

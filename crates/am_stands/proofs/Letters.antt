@@ -25,6 +25,11 @@ part_stays a b n l h low k = subst (λ x. Begins x l) (sym (taken_more n a b h l
 part_begins : (a b : List Entry) (n : ℕ) → Begins a b → Begins (take n a) b
 part_begins a b n h = begins_trans (begins_take n a) h
 
+-- what ends stays ended, so what hasn't ended hadn't
+no_more : (a b : Bool) → (a ≡ true → b ≡ true) → b ≡ false → a ≡ false
+no_more true b f k = absurd (let z = f refl in cc)
+no_more false b f k = refl
+
 -- ---- of a group
 
 module _ (w v : World) (s t : Group) (g : Grows s t) (more : (rest : List Record) × (v.records ≡ w.records ++ rest)) where
@@ -36,10 +41,6 @@ module _ (w v : World) (s t : Group) (g : Grows s t) (more : (rest : List Record
     goes = no_more (s.node i).stopped (t.node i).stopped (g.each i).stopped h.goes;
     stays = no_more (s.node i).departed (t.node i).departed (g.each i).departed h.stays;
   }
-    where
-      no_more : (a b : Bool) → (a ≡ true → b ≡ true) → b ≡ false → a ≡ false
-      no_more true b f k = absurd (let z = f refl in cc)
-      no_more false b f k = refl
 
   asked_stays : (name req : ℕ) (body : List ℕ) → WasAsked w name req body → WasAsked v name req body
   asked_stays name req body h = record {
@@ -57,13 +58,9 @@ module _ (w v : World) (s t : Group) (g : Grows s t) (more : (rest : List Record
       record {
         accepted = omega arith;
         stored = λ j there stays member. subst (λ l. Begins l (t.node j).list) (sym same)
-            (begins_trans (h.stored j (there_before j there) (not_before (s.node j).leaving (t.node j).leaving (g.each j).leaving stays)
+            (begins_trans (h.stored j (there_before j there) (no_more (s.node j).leaving (t.node j).leaving (g.each j).leaving stays)
             (subst (λ l. mem l j ≡ true) same member)) (g.each j).list);
       }
-    where
-      not_before : (a b : Bool) → (a ≡ true → b ≡ true) → b ≡ false → a ≡ false
-      not_before true b f k = absurd (let z = f refl in cc)
-      not_before false b f k = refl
 
   pub sequencer_stays : (i : ℕ) (u : Stamp) (acc : ℕ) → SequencerSays s i u acc → SequencerSays t i u acc
   sequencer_stays i u acc h =
@@ -144,12 +141,8 @@ module _ (w v : World) (s t : Group) (g : Grows s t) (more : (rest : List Record
   gone_stays : (number name : ℕ) → GoneSays s number name → GoneSays t number name
   gone_stays number name (has_stopped h) = has_stopped ((g.each name).stopped h)
   gone_stays number name (may_go before is accepted stored) = may_go before is (begins_trans accepted g.group)
-      (λ j member there stays. begins_trans (stored j member (there_before j there) (not_yet (s.node j).leaving (t.node j).leaving (g.each j).leaving stays))
+      (λ j member there stays. begins_trans (stored j member (there_before j there) (no_more (s.node j).leaving (t.node j).leaving (g.each j).leaving stays))
       (g.each j).list)
-    where
-      not_yet : (a b : Bool) → (a ≡ true → b ≡ true) → b ≡ false → a ≡ false
-      not_yet true b f k = absurd (let z = f refl in cc)
-      not_yet false b f k = refl
 
   vote_stays : (i : ℕ) (u : Stamp) (shown : Vote) → VoteSays s i u shown → VoteSays t i u shown
   vote_stays i u shown (own h) = own h

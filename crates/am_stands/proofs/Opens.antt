@@ -3,11 +3,11 @@ use Rattle.am_stands.proofs.Words.{◌≡◌, ◌≢◌, either, ℕ, ◌==◌, 
 use Rattle.am_stands.proofs.Words.{GroupView, Stamp, Begins, NotView, view_of, key, view_viewed, view_push, begins_refl, begins_more, begins_trans}
 use Rattle.am_stands.proofs.Words.{begins_pushed, begins_length, Group, put, opening, IsUp, Move, MayNumber, MayDecide, with_line, with_choice, choice_of}
 use Rattle.am_stands.proofs.Words.{longer, numbers, closes, Kept, founded, more, start, first_stamp, put_same, put_other, put_cases, put_at, run_keeps}
-use Rattle.am_stands.proofs.Words.{LineOpens, LinesOpen, RunsOpen, first_choice}
+use Rattle.am_stands.proofs.Words.{LineOpens, LinesOpen, RunsOpen, first_choice, equals_itself}
 use Rattle.am_chain.specs.Group.{Leads}
 use Rattle.am_chain.specs.Moves.{decides}
 use Rattle.am_chain.specs.Group as groups
-use Rattle.am_stands.proofs.Growing.{leads_line}
+use Rattle.am_stands.proofs.Growing.{leads_line, nil_begun}
 
 -- ---- an entry more of a sequencer
 
@@ -90,19 +90,12 @@ moves_open s t _ k h = same_lines s t refl refl h
 
 start_opens : (founders : List ℕ) (first resilience : ℕ) → LinesOpen (start founders first resilience)
 start_opens founders first resilience x list d some part = either (begins_pushed (View (first_choice founders first resilience).view) part)
-    (λ low. absurd (some (nothing list low)))
+    (λ low. absurd (some (nil_begun list low)))
     (λ all. (let same : view_of list ≡ first_stamp first = ap view_of all ∙ view_viewed [] (first_choice founders first resilience).view in
     record {
-      decided = ap (λ (u : Stamp). key u == key (first_stamp first)) same ∙ itself (key (first_stamp first));
+      decided = ap (λ (u : Stamp). key u == key (first_stamp first)) same ∙ equals_itself (key (first_stamp first));
       line_ = subst (Begins list) all (begins_refl list);
     }))
-  where
-    itself : (n : ℕ) → (n == n) ≡ true
-    itself n = grind (arith, nat_tests)
-
-    nothing : (l : List Entry) → Begins l [] → l ≡ []
-    nothing [] low = refl
-    nothing (e ∷ es) low = absurd (let long = begins_length low in omega arith)
 
 pub runs_open : RunsOpen
 runs_open founders first resilience s (founded may) = start_opens founders first resilience

@@ -6,7 +6,7 @@ use Rattle.am_stands.proofs.Words.{after_report, with_admitted, reports_from, Be
 use Rattle.am_stands.proofs.Words.{begins_trans, begins_both, begins_length, begins_take, begins_pushed, length_push, length_take, take_begins, row_at, In}
 use Rattle.am_stands.proofs.Words.{mod16, row_set, row_view, blank_joined, good_begins, told_push, long_told, mem_in, in_mem, mem_between, mem_viewed, Group}
 use Rattle.am_stands.proofs.Words.{opening, is_view, split, after_same, line, IsDecided, ReportSays, LeaverSays, of_view, before_it, IsConcerned, Reporting}
-use Rattle.am_stands.proofs.Words.{IsNew, NotView}
+use Rattle.am_stands.proofs.Words.{IsNew, NotView, low_or_above}
 use Rattle.am_chain.specs.Group as groups
 use Rattle.am_stands.proofs.{Joins.Becomes, Joins.stayed, Joins.joins, Joins.founds, Joins.became, Joins.blank_nil, Parts.number_low, Parts.view_its}
 use Rattle.am_stands.proofs.{Sending.last_view_at, Ends.taken_more}
@@ -130,15 +130,12 @@ reporting_more node list base who report reports low took its r = record {
       subst (λ k. Begins (take k list) (node name).list) (sym is)
       (subst (λ k. Begins (take (reports k).stored list) (node name).list) same
       (r.true_ name few concerned (let z = ap (λ k. (reports k).stored) same in omega arith)))) in
-      rw t (λ above. either (two (max old report.stored) old)
+      rw t (λ above. either (low_or_above (max old report.stored) old)
       (λ z. both z above)
       (λ z. (let is : max old report.stored ≡ report.stored = omega arith in
       subst (λ k. Begins (take k list) (node name).list) (sym is) (subst (λ k. Begins (take report.stored list) (node k).list) (sym same) here))))))
       (λ f. rw f (r.true_ name few concerned));
 }
-  where
-    two : (a b : ℕ) → (a ≤ b) ⊎ (b < a)
-    two a b = grind arith
 
 -- ---- an entry more
 

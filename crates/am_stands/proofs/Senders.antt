@@ -52,8 +52,6 @@ based_change rules m x y (begins_list s v base join image is says may) a h =
 based_change rules m x y (promises v low why) a h = based_other m x y refl refl (promise_brings v why).welcomes h
 based_change rules m x y (opens least resilience by may) a h = based_other m x y refl refl (begin_brings by).welcomes h
 based_change rules m x y (looks b verdict over why look is) a h = looked_based m x look h
-based_change rules m x y (stores_view s base number v is heard own other promise below may) a h = based_same m x y refl refl refl
-    (omega arith) h
 based_change rules m x y (closes leads leaves alone room) a h = let r = rests_closed x in based_same m x y r.start r.promise r.who r.acc h
 based_change rules m x y _ a h = based_same m x y refl refl refl (omega arith) h
 

@@ -7,7 +7,7 @@ use Rattle.am_stands.proofs.Words.{split, and_both, Cause, hears, MayFetch, MayT
 use Rattle.am_stands.proofs.Words.{leave_ask, gone, vote, fetch, piece, result, logged, IsDecided, AllShown, FetchSays, PacketSays, ResultSays, none, Leads}
 use Rattle.am_stands.proofs.Words.{KeptWhole, ListBegins, as_before, just_begun, Sender, ShowsMore, SaysSo, SentSays, suc, ◌+◌, ◌-◌, ◌++◌, Some, slice_get}
 use Rattle.am_stands.proofs.Words.{list_any, View, GroupView, after, item_at, IsGood, image_of, next_of, told_push, view_viewed, is_view, after_same}
-use Rattle.am_stands.proofs.Words.{after_view, OwnDecided}
+use Rattle.am_stands.proofs.Words.{after_view, OwnDecided, stamp_itself}
 use Rattle.am_laws.specs.Letters.{for_ballot, of_promise, accept}
 use Rattle.am_packet.specs.declared.packet.Packet.TheVariants as packet
 use Rattle.am_chain.specs.Group as groups
@@ -58,11 +58,8 @@ tells_leads n member (leads t) told mine = t
 tells_leads n member (decided b number names there answer at) told mine =
     let same : view n ≡ n.core.promise = at ∙ sym (told b number names there answer mine) in
     let own : ((view n).by == n.core.who) ≡ true = (let z = ap (λ (u : Stamp). u.by) same ∙ mine in grind (arith, nat_tests)) in
-    let acting : stamp_eq n.core.promise (view n) ≡ true = subst (λ u. stamp_eq n.core.promise u ≡ true) (sym same) (itself n.core.promise) in
+    let acting : stamp_eq n.core.promise (view n) ≡ true = subst (λ u. stamp_eq n.core.promise u ≡ true) (sym same) (stamp_itself n.core.promise) in
     rw (member, acting, own) refl
-  where
-    itself : (v : Stamp) → stamp_eq v v ≡ true
-    itself v = grind (arith, nat_tests)
 
 -- ---- the letter
 
@@ -239,16 +236,13 @@ module _ (v : World) (i : ℕ) (c : Cause) (m n : Node) (s : Group) (h : Sender 
         };
       })
     where
-      itself : (x : Stamp) → stamp_eq x x ≡ true
-      itself x = grind (arith, nat_tests)
-
       leads_own : is_member n.status ≡ true → view n ≡ n.core.promise → n.core.promise.by ≡ n.core.who → is_sequencer n ≡ true
       leads_own member viewed mine =
-          let a : stamp_eq n.core.promise (view n) ≡ true = subst (λ x. stamp_eq n.core.promise x ≡ true) (sym viewed) (itself n.core.promise) in
+          let a : stamp_eq n.core.promise (view n) ≡ true = subst (λ x. stamp_eq n.core.promise x ≡ true) (sym viewed) (stamp_itself n.core.promise) in
           let b : ((view n).by == n.core.who) ≡ true = (let z = ap (λ (x : Stamp). x.by) viewed ∙ mine in grind (arith, nat_tests)) in
           rw (member, a, b) refl
 
-      -- nobody fetches from itself
+      -- nobody fetches from stamp_itself
       not_itself : (from : ℕ) (to : List ℕ) → n.core.promise.by ≡ from → has to i ≡ true → FetchSays s from n.core.promise to → from ≢ i
       not_itself from to by in_ (says.for_ballot own all) same =
           let known = all i in_ in

@@ -7,10 +7,11 @@ use Rattle.am_stands.proofs.Words.{resilience_of, key, key_lt, view_up, begins_t
 use Rattle.am_stands.proofs.Words.{view, members, name_where, those, View, append_assoc, length-map, mod16, is_view_of, trim_for, own_vote, best_of, need_of}
 use Rattle.am_stands.proofs.Words.{has_voted, is_waited_for, left_in, World, best_vote_is, split, has_size, has_those, set_those, equal_stamps, own_need}
 use Rattle.am_stands.proofs.Words.{those_at, viewed_members, those_some, those_long, NameStands, within, told_pushed, VoteTells, AllShown, AllVoted}
-use Rattle.am_stands.proofs.Words.{NeedsDecision, decided_view}
+use Rattle.am_stands.proofs.Words.{NeedsDecision, decided_view, stamp_itself, not-true}
 use Rattle.am_model.specs.Node as nodes
 use Rattle.am_laws.specs.Looks as looks
 use Rattle.am_stands.proofs.{Lines.HasViewOf, Lines.viewed_as, Changes.told_whole, Changes.long_all}
+use Rattle.std.proofs.lemmas.Bool.{or_right}
 
 -- ---- what is known of a ballot
 
@@ -41,11 +42,8 @@ vote_low own vote small few low =
     (λ t. inl (key_lt vote.view own.view few small t))
     (λ f.
     let same : vote.view ≡ own.view = equal_stamps vote.view own.view few small f a in
-    let t : stamp_eq own.view vote.view ≡ true = subst (λ u. stamp_eq own.view u ≡ true) (sym same) (itself own.view) in
+    let t : stamp_eq own.view vote.view ≡ true = subst (λ u. stamp_eq own.view u ≡ true) (sym same) (stamp_itself own.view) in
     inr (ap key same, grind (arith, nat_tests)))
-  where
-    itself : (v : Stamp) → stamp_eq v v ≡ true
-    itself v = grind (arith, nat_tests)
 
 best_low : (x : Node) (b : Ballot) → ((best_of x b).by == x.core.who) ≡ true → b.votes x.core.who ≡ None → (view x).by < 256
     → ((j : ℕ) (vote : Vote) → b.votes j ≡ Some vote → vote.view.by < 256)
@@ -92,11 +90,7 @@ is_some_of test names place low =
     either (those_some test names place low)
     (λ z. (let t : (life == 0) ≡ true = grind (arith, nat_tests) in rw t refl))
     (λ z. (let t : (life == all) ≡ true = grind (arith, nat_tests) in
-    or_true (life == 0) (life == all) t))
-  where
-    or_true : (a b : Bool) → b ≡ true → (a || b) ≡ true
-    or_true true b t = refl
-    or_true false b t = t
+    or_right (life == 0) (life == all) t))
 
 -- who is among those of a set that pass is in the set, and passes
 those_in : (test : ℕ → Bool) (names : List ℕ) (j : ℕ) → has (those test names) j ≡ true → (has names j ≡ true) × (test j ≡ true)
@@ -219,11 +213,7 @@ all_voted w name x b s h may j in_ =
     let both = those_in (λ k. not (b.given_up k)) (need_of x b) j in_ in
     split (j == x.core.who)
     (λ t. inl (eqb-true j x.core.who t ∙ h.who))
-    (λ f. inr (other_voted w name x b s j h may both.0 (not_false_of (b.given_up j) both.1) f))
-  where
-    not_false_of : (b : Bool) → not b ≡ true → b ≡ false
-    not_false_of true h = absurd (cc)
-    not_false_of false h = refl
+    (λ f. inr (other_voted w name x b s j h may both.0 (not-true (b.given_up j) both.1) f))
 
 pub decision_needs : (w : World) (name : ℕ) (x : Node) (b : Ballot) (s : Group) → Kept s → BallotKnown w name x b s → x.core.promise.by ≡ name
     → IsSet (members x) → looks.MayDecide x b → NeedsDecision s name x b
