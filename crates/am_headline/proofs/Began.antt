@@ -1,5 +1,5 @@
 -- What rises in a step, and that a list begins by a Welcome alone, whose base was taken.
-use Rattle.am_headline.proofs.RepairedWords.{◌≡◌, ◌⊎◌, inl, inr, ⊎_elim, ℕ, ◌≤◌, false, refl, sym, ap, ◌∙◌, subst, arith, Image, Stamp, Outcome, Rules, has_log, Node}
+use Rattle.am_headline.proofs.RepairedWords.{◌≡◌, ◌⊎◌, inl, inr, either, ℕ, ◌≤◌, false, refl, sym, ap, ◌∙◌, subst, arith, Image, Stamp, Outcome, Rules, has_log, Node}
 use Rattle.am_headline.proofs.RepairedWords.{Cause, hears, Changes, unchanged, changed, rests_refresh, rests_closed, settle_is, logged, HeardNames, HeardUsed, Along}
 use Rattle.am_headline.proofs.RepairedWords.{along_changes, Rises, rises_change, Kind, kind_of}
 use Rattle.am_packet.specs.declared.packet.Packet.TheVariants as packet
@@ -35,11 +35,8 @@ pub record Began (c : Cause) (y : Node) : Type 0 where
 abbrev pub Blank : Cause → Node → Type 0
 Blank c y = (has_log y.status ≡ false) ⊎ Began c y
 
-began_up : (c : Cause) (x y : Node) → x.core.taken ≤ y.core.taken → Began c x → Began c y
-began_up c x y up b = record { welcome = b.welcome; taken = let t = b.taken in omega arith }
-
 on : (c : Cause) (x y : Node) → x.core.taken ≤ y.core.taken → (has_log x.status ≡ false → has_log y.status ≡ false) → Blank c x → Blank c y
-on c x y up none h = ⊎_elim (λ (f : has_log x.status ≡ false). inl (none f)) (λ (b : Began c x). inr (began_up c x y up b)) h
+on c x y up none h = either h (λ f. inl (none f)) (λ b. inr (record { welcome = b.welcome; taken = let t = b.taken in omega arith }))
 
 blank_kind : (c : Cause) (o : Outcome) (x y : Node) → Kind c o x y → Blank c x → Blank c y
 blank_kind c o x y (ways.alike a) h = let t = a.taken in on c x y (omega arith) (λ f. ap has_log a.status ∙ f) h

@@ -7,7 +7,7 @@ use Rattle.am_headline.specs.Claim.{IsOut}
 use Rattle.am_model.specs.declared.status.Status.TheVariants as status
 use Rattle.am_headline.proofs.{Nodes.acting, Nodes.leading, Nodes.no_open, Going.member_there, Schedules.letter_within, Fine.Fine, Fine.IsThere}
 use Rattle.am_headline.proofs.{Repaired.AllStored, Repaired.all_catch_up, OldLives.OldStopped, OldLives.old_lives, Leavers.Leaves, Leavers.run_leaves}
-use Rattle.am_stands.proofs.Statuses.{bare_status}
+use Rattle.am_stands.proofs.Courses.{bare_status}
 use Rattle.am_stands.proofs.Sending.{member_of}
 
 -- ---- who is there
@@ -17,7 +17,6 @@ born : (rules : Rules) (w : World) (name : ℕ) → AllOwned rules w → w.lives
 born rules w name laws low a =
     let is = laws.blanks.base.named.unborn name low in
     let t : acts (stranger rules name) ≡ true = subst (λ (m : Node). acts m ≡ true) is a in
-    let member = (acting (stranger rules name) t).0 in
     cc
 
 pub few_acting : (rules : Rules) (w : World) (name : ℕ) → AllOwned rules w → acts (w.nodes name) ≡ true → name < 256
@@ -50,7 +49,6 @@ member_stays w place name may low there = false_from_ne_true (w.nodes name).leav
 there_now : (rules : Rules) (w : World) (name : ℕ) → AllOwned rules w → OldStopped w → acts (w.nodes name) ≡ true → is_stopped w name ≡ false
     → IsThere w name
 there_now rules w name laws old a runs =
-    let least = old.born (place_of name) in
     record {
       current_ = elim (cases_lt (w.lives (place_of name)) (life_of name)) [
         | inl low ↦ absurd (born rules w name laws low a)
@@ -129,17 +127,11 @@ follows_first : (rules : Rules) (w : World) (place name : ℕ) → Begun rules w
 follows_first rules w place name b there =
     let act = b.may.all_act name there in
     let g = b.agree.each name there in
-    record {
-      acts_ = act.0;
-      view_ = act.1;
-      rest = at_rest rules w place name b there;
-      agrees = g;
-    }
+    assumption (at_rest rules w place name b there)
 
 apart_first : (rules : Rules) (w : World) (place name : ℕ) → Begun rules w place → (let q = current w place in has (members (w.nodes q)) name ≡ false
     → is_stopped w name ≡ false → has_departed (w.nodes name).status ≡ false → (w.nodes name).leaving ≡ false → IsApart (repair_of w q) (w.nodes name))
 apart_first rules w place name b none goes there stays =
-    let q = current w place in
     let m = w.nodes name in
     let no_member = false_from_ne_true (is_member m.status) (λ t. (let in_ = b.agree.alone name t goes stays in cc)) in
     elim (cases_lt name 256) [
@@ -202,13 +194,6 @@ pub repairs_where_lists_agree : RepairsWhereListsAgree
 repairs_where_lists_agree rules events place may low repair agree name there =
     let w = run rules events in
     let q = current w place in
-    let b : Begun rules w place = record {
-      laws = run_owned rules events may;
-      old = old_lives rules events;
-      low = low;
-      may = repair;
-      agree = agree;
-      leaves = run_leaves rules events;
-    } in
+    let b : Begun rules w place = assumption (run_owned rules events may, old_lives rules events, run_leaves rules events) in
     let few = (b.laws.kept q).few in
     all_catch_up rules (repair_of w q) (w.nodes q).core.base w few (stored_first rules w place b) name there

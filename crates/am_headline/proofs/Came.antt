@@ -1,7 +1,7 @@
 -- How a name comes to act in a view: it did before, it decided it, or a letter of the view's own name told it, whose base it had taken.
 use Rattle.am_model.specs.Ballots.{decided_view}
 use Rattle.am_base.specs.declared.entry.GroupView.{GroupView}
-use Rattle.am_headline.proofs.RepairedWords.{numbers_plain, stamp_by, other_asks, other_heard, stamp_itself, same_stamp, ◌≡◌, ⊎_elim, ℕ, ◌<◌, ◌≤◌, ◌==◌, ◌&&◌}
+use Rattle.am_headline.proofs.RepairedWords.{numbers_plain, stamp_by, other_asks, other_heard, stamp_itself, same_stamp, ◌≡◌, either, ℕ, ◌<◌, ◌≤◌, ◌==◌, ◌&&◌}
 use Rattle.am_headline.proofs.RepairedWords.{true, false, [], refl, sym, ap, ◌∙◌, subst, arith, nat_tests, Entry, View, Image, Stamp, Outcome, Rules, stamp_lt}
 use Rattle.am_headline.proofs.RepairedWords.{stamp_eq, Log, blank, fold, told_by, Node, Ballot, view, acts, is_member, push_entry, trim_up_to, has_log, Verdict}
 use Rattle.am_headline.proofs.RepairedWords.{with_promise, next_stamp, trim_for, left_in, need_of, is_view, split, Cause, hears, Looks, fetches_from_best}
@@ -86,26 +86,23 @@ fetched_view : (x : Node) (s : ℕ) (v : Stamp) (base : ℕ) (e : Entry) → Fet
     → acts (push_entry (trim_up_to x base) e) ≡ true → (view (push_entry (trim_up_to x base) e) ≡ v) × (v.by ≡ s)
 fetched_view x s v base (View w) why promise is t =
     let last = view_last (trim_up_to x base) w in
-    let at : w.stamp ≡ v = sym ((acting (push_entry (trim_up_to x base) (View w)) t).1 ∙ last) ∙ sym promise in
-    (last ∙ at, by_name why at)
-  where
-    by_name : Fetches x s v (View w) → w.stamp ≡ v → v.by ≡ s
-    by_name (without_ballot none from past) at = stamp_by v s from
-    by_name (for_ballot b open_ from past) at =
-        let u : stamp_eq w.stamp v ≡ true = ap (stamp_eq w.stamp) (sym at) ∙ stamp_itself w.stamp in
-        absurd (split (stamp_lt v w.stamp) (λ y. let p = rw y at past in cc) (λ y. let p = rw (y, u) at past in cc))
+    let at : w.stamp ≡ v = sym ((acting (push_entry (trim_up_to x base) (View w)) t).1 ∙ last) ∙ sym promise in (
+      last ∙ at,
+      elim why [
+        | without_ballot none from past ↦ stamp_by v s from
+        | for_ballot b open_ from past ↦
+            let u : stamp_eq w.stamp v ≡ true = ap (stamp_eq w.stamp) (sym at) ∙ stamp_itself w.stamp in
+            absurd (split (stamp_lt v w.stamp) (λ y. let p = rw y at past in cc) (λ y. let p = rw (y, u) at past in cc))
+      ],
+    )
 fetched_view x s v base _ why promise is t = absurd (cc)
 
 came_change : (c : Cause) (o : Outcome) (m x y : Node) → HeardNames c → HasNames x → HasNames y → Balloted x → stamp_lt (view x) (view m) ≡ false
     → Change c o x y → (acts x ≡ true → Came c m x) → acts y ≡ true → Came c m y
 came_change c o m x y heard names after k low refreshes h t = let s = stays_alike x y (alike_refresh x) in came_on c m x y s (h (s.acts_ t))
 came_change c o m x y heard names after k low settles h t = let s = stays_alike x y (alike_settle x) in came_on c m x y s (h (s.acts_ t))
-came_change c o m x y heard names after k low (admits s v is leads fit) h t = came_on c m x y (plain_stay x y refl refl refl refl (omega arith)) (h t)
 came_change c o m x y heard names after k low (numbers e leads room why) h t =
     let s = stays_pushed x y e (numbers_plain c x e why) refl refl refl refl (omega arith) in came_on c m x y s (h (s.acts_ t))
-came_change c o m x y heard names after k low (keeps_body s v report req body is heard_) h t = came_on c m x y
-    (plain_stay x y refl refl refl refl (omega arith)) (h t)
-came_change c o m x y heard names after k low (notes s v base acc brings heard_) h t = came_on c m x y (plain_stay x y refl refl refl refl (omega arith)) (h t)
 came_change c o m x y heard names after k low (stores s v base acc number e carries heard_ plain may) h t =
     let s_ = stays_pushed x y e plain refl refl refl refl (omega arith) in came_on c m x y s_ (h (s_.acts_ t))
 came_change c o m x y heard names after k low (begins_list s v base join image is says may) h t =
@@ -131,7 +128,6 @@ came_change c o m x y heard names after k low (fetches s v base number e is hear
 came_change c o m x y heard names after k low (stores_view s base number v is heard_ own_ other promise below may) h t =
     told_so s v.stamp base (subst (λ z. Tells z s v.stamp base) (sym is) (by_result s base number v)) (view_last (trim_up_to x base) v)
     (stamp_by v.stamp s own_) (other_heard x s heard_) may.taken
-came_change c o m x y heard names after k low (collects req is) h t = came_on c m x y (plain_stay x y refl refl refl refl (omega arith)) (h t)
 came_change c o m x y heard names after k low (takes e is says member some there) h t =
     came_on c m x y (record { who = refl; view_ = refl; acts_ = λ a. a; taken = omega arith }) (h t)
 came_change c o m x y heard names after k low (asks_to_join is was) h t = absurd (cc)
@@ -152,10 +148,9 @@ blank_low v = grind (arith, nat_tests)
 pub view_rises : {c : Cause} {o : Outcome} (x y : Node) → Blanked x → HeardNames c → HasNames x → Balloted x → Change c o x y
     → stamp_lt (view y) (view x) ≡ false
 view_rises x y blank heard names k z = split (has_log x.status)
-    (λ t. ⊎_elim
-    (λ (same : SameView (told_by y.core.log) (told_by x.core.log)). ap (λ u. stamp_lt u (view x)) same.view ∙ not_above_itself (view x))
-    (λ (up : (stamp_lt (view x) (view y) ≡ true) × Stood y.core.log). not_above (view x) (view y) up.0)
-    ((change_does heard x y z names k).goes t).view)
+    (λ t. either ((change_does heard x y z names k).goes t).view
+    (λ same. ap (λ u. stamp_lt u (view x)) same.view ∙ not_above_itself (view x))
+    (λ up. not_above (view x) (view y) up.0))
     (λ f. subst (λ (l : Log). stamp_lt (view y) (told_by l).view ≡ false) (sym (blank f).blank_) (blank_low (view y)))
 
 came_along : (rules : Rules) {c : Cause} {o : Outcome} (m x n : Node) → HeardNames c → HeardUsed c → Changes c o x n → Along rules x

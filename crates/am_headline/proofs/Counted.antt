@@ -6,7 +6,7 @@ use Rattle.am_headline.proofs.RepairedWords.{Begins, IsGood, mem, view_of, key, 
 use Rattle.am_headline.proofs.RepairedWords.{ends_of, Group, Leads, counted_in, opening, chain_of, current_of, Kept, Node, top, told_at, members}
 use Rattle.am_headline.proofs.RepairedWords.{lowest_or_first, MayRepair, lawful_front, has_departed, take, World, current, run, fold_append, split, names_hold}
 use Rattle.am_headline.proofs.RepairedWords.{numbers_hold, taken_holds, after_view, NameStands, NamesNamed, Following, told_all, long_all, counts_names}
-use Rattle.am_headline.proofs.RepairedWords.{name_small, group_kept, stood, counted_whole, steps_move, held}
+use Rattle.am_headline.proofs.RepairedWords.{name_small, group_kept, stood, counted_whole, steps_move, held, eqb-true}
 use Rattle.am_base.specs.Whole.{image_of}
 use Rattle.am_headline.proofs.{Left.AllLeft, Left.GoneBy, Left.accepted, Left.last, Left.once, Left.runs_left, OneList.lawful_events, OneList.small_name}
 use Rattle.am_headline.proofs.OneList.{leader_runs}
@@ -27,12 +27,9 @@ leaves_last list before name (Data from req body) good within view_ is none =
 leaves_last list before name (Join joiner) good within view_ is none =
     absurd (let z = mem_push before (Join joiner) name (good_begins within good) tt is in cc)
 leaves_last list before name (Leave leaver) good within view_ is none = split (leaver == name)
-    (λ t. ap (λ k. Leave k) (same leaver name t))
+    (λ t. ap (λ k. Leave k) (eqb-true leaver name t))
     (λ f. absurd (let z = mem_push before (Leave leaver) name (good_begins within good) (other leaver name f) is in cc))
   where
-    same : (a b : ℕ) → (a == b) ≡ true → a ≡ b
-    same a b t = grind (arith, nat_tests)
-
     other : (a b : ℕ) → (a == b) ≡ false → a ≢ b
     other a b f = λ u. grind (arith, nat_tests)
 leaves_last list before name (View v) good within view_ is none = absurd (
@@ -63,17 +60,15 @@ stays_member s q list n name k left leads is low high view_ leaves h = split (me
     let there : Begins (e.before ++ Leave name ∷ []) list = subst (λ x. Begins (e.before ++ x ∷ []) list) by e.within in
     let asked = left.asked e.before name (subst (Begins (e.before ++ Leave name ∷ [])) is there) in
     let size = begins_length at.begins_ in
-    let near = at.near in
     let part = subst (λ l. mem l name ≡ true) (sym (take_begins at.begins_)) at.member in
-    by_gone e.before good there (omega arith) (left.gone name (leaves (length at.upto) (omega arith) (omega arith) part asked))))
-  where
-    by_gone : (before : List Entry) → IsGood list → Begins (before ++ Leave name ∷ []) list → n ≤ length before + 1 → GoneBy s name → ⊥
-    by_gone before good there far (accepted earlier begins_) =
-        let size = begins_length begins_ in
-        let long = length_push earlier (Leave name) in
-        let on : Begins (earlier ++ Leave name ∷ []) list = subst (Begins (earlier ++ Leave name ∷ [])) (sym is) (begins_trans begins_ k.group) in
-        once list earlier before name good on there (omega arith)
-    by_gone before good there far (last earlier chain none) = none q ((k.each q).leads leads).member
+    elim (left.gone name (leaves (length at.upto) (omega arith) (omega arith) part asked)) [
+      | accepted earlier begins_ ↦
+          let size = begins_length begins_ in
+          let long = length_push earlier (Leave name) in
+          let on : Begins (earlier ++ Leave name ∷ []) list = subst (Begins (earlier ++ Leave name ∷ [])) (sym is) (begins_trans begins_ k.group) in
+          once list earlier e.before name good on there (omega arith)
+      | last earlier chain none ↦ none q ((k.each q).leads leads).member
+    ]))
 
 -- ---- all the names of a set
 
@@ -91,11 +86,9 @@ all_from P from (suc b ∷ lives) h = All-cons P (name_at from (suc b)) (names_f
 
 all_names : (P : ℕ → Type 0) (set : List ℕ) → IsSet set → ((name : ℕ) → has set name ≡ true → P name) → All P (names_of set)
 all_names P set is h = all_from P 0 set (λ k low some.
-    let small : k < 16 = omega arith in
     let life = slice_index set k in
     let name = name_at (0 + k) life in
     let place : place_of name ≡ k = omega arith in
-    let its : life_of name ≡ life = omega arith in
     let there : has set name ≡ true = (let at : slice_index set (place_of name) ≡ life = ap (slice_index set) place in grind (arith, nat_tests)) in
     h name there)
 
@@ -120,9 +113,6 @@ module _ (rules : Rules) (events : List Event) (place : ℕ) (may : MayFound rul
     few : q < 256
     few = small_name rules events place may low
 
-    own : m.core.who ≡ q
-    own = (names_hold rules events may).who q
-
     kept : Kept s
     kept = group_kept rules.founders (lowest_or_first rules.founders) rules.resilience s old.group
 
@@ -130,7 +120,7 @@ module _ (rules : Rules) (events : List Event) (place : ℕ) (may : MayFound rul
     stands = old.stands.each q few
 
     leads : Leads q (s.node q)
-    leads = leading rules w s place old repair few (leader_runs rules events place may low repair) own
+    leads = leading rules w s place old repair few (leader_runs rules events place may low repair) ((names_hold rules events may).who q)
 
     is : list ≡ chain_of s.views
     is = ((kept.each q).leads leads).chain
@@ -138,17 +128,12 @@ module _ (rules : Rules) (events : List Event) (place : ℕ) (may : MayFound rul
     numbered : (image_of list).view_number ≡ (told_at m).view_number
     numbered = ap (λ (g : Image). g.view_number) (told_all w q m (s.node q) stands)
 
-    viewed : view_of list ≡ s.views.current
-    viewed = ap view_of is ∙ kept.views.view
-
     -- what the group accepted lies below the number
     behind : length s.group < number
     behind =
         let ch = current_of s.views in
-        let good : IsGood list = subst IsGood (sym is) kept.views.good in
-        let stamp = kept.views.stamps (key s.views.current) kept.views.now in
         let opens : Begins (opening ch) list = subst (Begins (opening ch)) (sym is) kept.views.opens in
-        let by : s.views.current.by ≡ q = ap (λ u. u.by) (sym viewed) ∙ leads.by in
+        let by : s.views.current.by ≡ q = ap (λ u. u.by) (sym (ap view_of is ∙ kept.views.view)) ∙ leads.by in
         let acc = ap (λ k. (w.nodes k).core.acc) by in
         let size = ap length old.stands.group in
         let reach = reached ch.before opens in
@@ -172,9 +157,7 @@ module _ (rules : Rules) (events : List Event) (place : ℕ) (may : MayFound rul
     start_low : m.core.log.start < number
     start_low =
         let num = (numbers_hold rules events).each q in
-        let a = num.kept in
         let b = taken_holds rules events q may few in
-        let c = num.given in
         omega arith
 
     -- who is leaving and was a member since what is accepted has departed
@@ -185,12 +168,9 @@ module _ (rules : Rules) (events : List Event) (place : ℕ) (may : MayFound rul
         (λ d. d)
         (λ d. absurd (
         let num = (numbers_hold rules events).each q in
-        let a = num.kept in
         let b = taken_holds rules events q may few in
-        let c = num.given in
         let none = repair.nobody_leaves name t d at front within_ in
         let same : image_at m.core.log at ≡ image_of (take at list) = image_whole w q at m (s.node q) stands (omega arith) in
-        let there : has (members_at m.core.log at) name ≡ true = ap (λ (g : Image). has (members_of g) name) same ∙ member in
         cc))
 
     each : (name : ℕ) → name < 256 → has (counted_at m.core.log number) name ≡ true → has (members m) name ≡ true

@@ -26,7 +26,6 @@ module _ (rules : Rules) (events : List Event) (e : Event) (c : Cause) (step : S
       let by : was.view.stamp.by ≡ i = ap (λ (u : Stamp). u.by) same ∙ own in
       let low : stamp_lt (view m) (view n) ≡ false = ap (stamp_lt (view m)) (sym same)
       ∙ subst (λ (y : Node). stamp_lt (view y) was.view.stamp ≡ false) (ap w.nodes by) noted.low in
-      let up = above in
       cc
 
   -- so no letter told it

@@ -1,5 +1,5 @@
 -- The end of a step, for who follows and for who leads.
-use Rattle.am_headline.proofs.RepairWords.{end_core, not-true, same_stamp, ◌≡◌, inl, inr, ⊎_elim, ℕ, ◌<◌, ◌≤◌, ◌==◌, not, max, min, nat_le, true, false, List, []}
+use Rattle.am_headline.proofs.RepairWords.{end_core, not-true, same_stamp, ◌≡◌, inl, inr, either, ℕ, ◌<◌, ◌≤◌, ◌==◌, not, max, min, nat_le, true, false, List, []}
 use Rattle.am_headline.proofs.RepairWords.{◌∷◌, refl, sym, ap, ◌∙◌, subst, arith, cases_lt, nat_tests, All-weaker, Stamp, Report, Outcome, size, names_of, counted_at}
 use Rattle.am_headline.proofs.RepairWords.{is_held, accept_front, Packet, letter_to, CoreState, accept, pass_over, own_report, tell, go_on, let_go, Node, top}
 use Rattle.am_headline.proofs.RepairWords.{image_of, view, acts, is_member, is_sequencer, report_of, lead, refresh, refresh_at_end, telling, finish, hears_member}
@@ -79,11 +79,10 @@ lead_front m = refl
 
 has_stored : (m : Node) (high number name : ℕ) → high ≤ top m → number ≤ high → HasReported m high name → nat_le number (own_reports m name).stored ≡ true
 unfolding own_reports
-has_stored m high number name stored within h = ⊎_elim
-    (λ (own : name ≡ m.core.who). let t : (name == m.core.who) ≡ true = grind (arith, nat_tests) in rw t
+has_stored m high number name stored within h = either h
+    (λ own. let t : (name == m.core.who) ≡ true = grind (arith, nat_tests) in rw t
     (let z : number ≤ max (m.reports name).stored (top m) = omega arith in grind (arith, nat_tests)))
-    (λ (told_ : high ≤ (m.reports name).stored). let up = (raise_up m.reports m.core.who (report_of m) name).stored in grind (arith, nat_tests))
-    h
+    (λ told_. let up = (raise_up m.reports m.core.who (report_of m) name).stored in grind (arith, nat_tests))
 
 all_hold : (m : Node) (high number : ℕ) → HasReports m high → m.core.acc < number → number ≤ high → (image_of m).view_number ≤ number
     → is_held (own_reports m) m.core.log number ≡ true
@@ -95,14 +94,12 @@ all_hold m high number h low within view =
     grind (arith, nat_tests)
 
 all_satisfied : (m : Node) (high : ℕ) → HasReports m high → AllSatisfied (own_reports m) m.core.log m.core.acc high
-all_satisfied m high h n low within = ⊎_elim
-    (λ (above : (image_of m).view_number ≤ n). above_view (own_reports m) m.core.log high n above ∙ all_hold m high n h low within above)
-    (λ (below : n < (image_of m).view_number).
-    let reached = h.view in
+all_satisfied m high h n low within = either (elim (cases_lt n (image_of m).view_number) [ inl a ↦ inr a | inr b ↦ inl b ])
+    (λ above. above_view (own_reports m) m.core.log high n above ∙ all_hold m high n h low within above)
+    (λ below. let reached = h.view in
     let v : nat_le (image_of m).view_number high ≡ true = grind (arith, nat_tests) in
     let held = all_hold m high (image_of m).view_number h (omega arith) reached (omega arith) in
     below_view (own_reports m) m.core.log high n below ∙ rw (v, held) refl)
-    (elim (cases_lt n (image_of m).view_number) [ inl a ↦ inr a | inr b ↦ inl b ])
 
 pub fronts_rise : FrontsRise
 unfolding refresh

@@ -24,8 +24,6 @@ grow_goes rules r w e is h = ours_grow rules r w e is h.laws h.calm
 pub few_members : (rules : Rules) (r : Repair) (w : World) (i : ℕ) → Fine rules r w → has r.members i ≡ true → i < 256
 few_members rules r w i h there =
     let at = h.calm.current_ i there in
-    let most = h.laws.blanks.base.named.most (place_of i) in
-    let least = h.laws.blanks.base.named.least (place_of i) in
     omega arith
 
 -- ---- letters only go on

@@ -42,7 +42,6 @@ hears_members r q i l who other =
 pub is_known : (m : Node) (i : ℕ) → IsUsed (image_of m) → has (members m) i ≡ true → is_unknown m i ≡ false
 is_known m i used there =
     let k = has_in (image_of m) i used.places there in
-    let life = k.is in
     let same : ((at_place (image_of m) i).life == life_of i) ≡ true = grind (arith, nat_tests) in
     rw same (grind (arith, nat_tests))
 
@@ -82,9 +81,6 @@ heard_cause w u high after k name h skips late within _ is = tt
 
 asked_goes : (r : Repair) (i after stored : ℕ) (w : World) (e : Event) → Asked r i after stored w → Asked r i after stored (happens w e)
 asked_goes r i after stored w e h = record { letter = h.letter; sent = sent_goes w e after r.by h.letter h.sent; asks = h.asks }
-
-same_nack : (n : Node) (s : ℕ) (v : Stamp) → n.core.who ≡ s → n.core.promise ≡ v → nack_of n ≡ Nack s v (report_of n)
-same_nack n s v a b = cc
 
 -- what a member's node is after an event
 pub record IsMember (r : Repair) (i : ℕ) (n : Node) : Type 0 where
@@ -134,7 +130,7 @@ asked_hear rules r i after stored k l base acc high u h there other late low at 
           (only_has r.by) low;
       asks = record {
         report = report_of n;
-        is = same_nack n i r.view mine.who mine.promise;
+        is = cc;
         fits = mine.given;
         exact = asks.stored ∙ at;
       };
@@ -202,8 +198,6 @@ report_calm r w p s v report (spread s_ v_ report_ req body) h = h
 pub report_fits_list : (r : Repair) (u : World) (i : ℕ) (report : Report) → Calm r u → has r.members i ≡ true → (i == r.by) ≡ false → ReportIs r u i report
     → report.taken ≤ report.stored → report_fits (u.nodes r.by) report ≡ true
 report_fits_list r u i report h there other is fits =
-    let stored = is.stored there in
-    let within = (h.follows i there other).within in
     let a : nat_le report.taken report.stored ≡ true = grind (arith, nat_tests) in
     let b : nat_le report.stored (top (u.nodes r.by)) ≡ true = grind (arith, nat_tests) in
     and_from _ _ a b
@@ -297,7 +291,6 @@ first_wave_accepts rules r i after w low h poll there other stored =
     hits = record {
       keeps = λ p n u late within k.
           (let grow = (grow_goes rules r u (event_at p (act.Hear n)) (hears_ p n (omega arith)) k.0).stored i there in
-          let far = k.1 in
           (fine_goes rules r u (event_at p (act.Hear n)) (hears_ p n (omega arith)) k.0, omega arith, stays_goes w u (event_at p (act.Hear n)) k.2));
       hits = λ u k. front_hear rules r i poll.sent.number poll.letter poll.base poll.acc poll.high u k.0 there other
           (k.2.letters poll.sent.number poll.letter poll.sent.there) poll.sent.meant poll.is poll.told k.1;

@@ -1,5 +1,5 @@
 -- How far above its base a name's entries lie, by the members at each: within a step.
-use Rattle.am_headline.proofs.Words.{◌≡◌, ◌⊎◌, ⊎_elim, inl, inr, ℕ, suc, ◌+◌, ◌-◌, ◌<◌, ◌≤◌, ◌==◌, ◌&&◌, not, nat_lt, Bool, true, if◌then◌else◌, List, [], ◌∷◌}
+use Rattle.am_headline.proofs.Words.{◌≡◌, ◌⊎◌, either, inl, inr, ℕ, suc, ◌+◌, ◌-◌, ◌<◌, ◌≤◌, ◌==◌, ◌&&◌, not, nat_lt, Bool, true, if◌then◌else◌, List, [], ◌∷◌}
 use Rattle.am_headline.proofs.Words.{length, slice_index, refl, sym, ap, ◌∙◌, subst, length-append, arith, nat_tests, length-map, get_or-map}
 use Rattle.am_headline.proofs.Words.{count_by-le-length, Entry, Leave, View, Image, Row, GroupView, Stamp, Outcome, Rules, size, Log, blank_row, member_life}
 use Rattle.am_headline.proofs.Words.{members_of, members_at, image_at, top_of, with_entry, after, image-push, image-top, count_cons, In, row_at, long_after}
@@ -7,7 +7,7 @@ use Rattle.am_headline.proofs.Words.{in_viewed, Node, Ballot, top, image_of, has
 use Rattle.am_headline.proofs.Words.{Looks, decides, Carries, whole_entry, by_number, Change, refreshes, settles, numbers, stores, begins_list, looks, fetches}
 use Rattle.am_headline.proofs.Words.{stores_view, closes, Changes, unchanged, changed, rests_refresh, rests_at_end, settle_is, told_pushed, change_blank}
 use Rattle.am_headline.proofs.Words.{HeardUsed, change_owned, Along, Fronts, told_used, HeardNames, change_names, change_does, those_long, kept_change}
-use Rattle.am_headline.proofs.Words.{decided_view}
+use Rattle.am_headline.proofs.Words.{decided_view, low_or_above}
 use Rattle.am_packet.specs.declared.packet.Packet.TheVariants as packet
 
 -- ---- how many names
@@ -77,10 +77,9 @@ Fitting rules c x = (number : ℕ) → x.core.base < number → number ≤ top x
 same_fits : (rules : Rules) (c : Cause) (x y : Node) → y.core.log ≡ x.core.log → x.core.base ≤ y.core.base → Fitting rules c x → Fitting rules c y
 same_fits rules c x y log up h number above within =
     let t = ap top_of log in
-    ⊎_elim
-    (λ (a : FitsAt rules x number). inl (let same = ap (λ (l : Log). size (members_at l number)) log in omega arith))
-    (λ (a : BringsEntry c number). inr a)
-    (h number (omega arith) (omega arith))
+    either (h number (omega arith) (omega arith))
+    (λ a. inl (let same = ap (λ (l : Log). size (members_at l number)) log in omega arith))
+    (λ a. inr a)
 
 -- with one entry more
 push_fits : (rules : Rules) (c : Cause) (x y : Node) (e : Entry) → y.core.log ≡ with_entry x.core.log e → x.core.base ≤ y.core.base
@@ -88,20 +87,15 @@ push_fits : (rules : Rules) (c : Cause) (x y : Node) (e : Entry) → y.core.log 
 push_fits rules c x y e log up new h number above within =
     let long = length-append x.core.log.entries (e ∷ []) in
     let t = ap top_of log in
-    ⊎_elim
-    (λ (low : number ≤ top x). ⊎_elim
-    (λ (a : FitsAt rules x number). inl (
+    either (low_or_above number (top x))
+    (λ low. either (h number (omega arith) low)
+    (λ a. inl (
     let same : members_at y.core.log number ≡ members_at x.core.log number = ap (λ (l : Log). members_at l number) log
     ∙ ap members_of (image-push x.core.log e number low) in
     let sizes = ap size same in omega arith))
-    (λ (a : BringsEntry c number). inr a)
-    (h number (omega arith) low))
-    (λ (high : top x < number). (let is : top x + 1 ≡ number = omega arith in
+    (λ a. inr a))
+    (λ high. (let is : top x + 1 ≡ number = omega arith in
     subst (λ k. FitsAt rules y k ⊎ BringsEntry c k) is new))
-    (two number (top x))
-  where
-    two : (a b : ℕ) → (a ≤ b) ⊎ (b < a)
-    two a b = grind arith
 
 -- there are at most sixteen members after an entry
 few_members : (x : Node) (e : Entry) → Fronts x → size (members_at (with_entry x.core.log e) (top x + 1)) ≤ 16

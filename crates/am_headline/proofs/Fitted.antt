@@ -1,5 +1,5 @@
 -- Up to its lawful front each node of a run has room for a View that leaves somebody out.
-use Rattle.am_headline.proofs.Words.{eqb-true, not_view, same_stamp, low_or_above, ◌≡◌, ◌⊎◌, ⊎_elim, inl, inr, ℕ, zero, suc, ◌+◌, ◌-◌, ◌<◌, ◌≤◌, ◌==◌, true}
+use Rattle.am_headline.proofs.Words.{eqb-true, not_view, same_stamp, low_or_above, ◌≡◌, ◌⊎◌, either, inl, inr, ℕ, zero, suc, ◌+◌, ◌-◌, ◌<◌, ◌≤◌, ◌==◌, true}
 use Rattle.am_headline.proofs.Words.{false, List, [], ◌∷◌, ◌++◌, length, take, Some, slice_get, refl, sym, ap, ◌∙◌, subst, arith, length-map, Entry, Data, View}
 use Rattle.am_headline.proofs.Words.{GroupView, Stamp, Rules, MayFound, has, size, top_of, told_by, member_life, members_of, members_at, CoreState, stamp_eq}
 use Rattle.am_headline.proofs.Words.{Packet, Letter, Event, item_at, Begins, view_of, key, key_by, view_push, view_viewed, long_told, begins_both}
@@ -8,7 +8,7 @@ use Rattle.am_headline.proofs.Words.{founders_view, has_departed, Step, hears_me
 use Rattle.am_headline.proofs.Words.{lawful_front, World, start, with_step, run, split, and_both, front_is_lawful, Cause, hears, Says, bcast, order, piece}
 use Rattle.am_headline.proofs.Words.{result, LetterSays, IsCause, WasSentTo, all_get, logged, numbers_hold, each_along, heard_used, run_owned, heard_names}
 use Rattle.am_headline.proofs.Words.{lists_go_on, item_get, item_within, PacketSays, PieceSays, told_all, long_all, number_low, departed_silent, departed_quiet}
-use Rattle.am_headline.proofs.Words.{departed_is, steps_move}
+use Rattle.am_headline.proofs.Words.{departed_is, steps_move, member_stays}
 use Rattle.am_base.specs.Whole.{image_of}
 use Rattle.am_packet.specs.declared.packet.Packet.TheVariants as packet
 use Rattle.am_model.specs.declared.status.Status.TheVariants as status
@@ -74,8 +74,6 @@ module _ (rules : Rules) (events : List Event) (e : Event) (c : Cause) (step : S
   fits_line number base u x row log up above st line its =
       let mine = stored_list w v s t i m n row base number x stands_m stands_n group_grows log st in
       let long = long_all w i m (s.node i) stands_m in
-      let next = st.next in
-      let low = st.base_ in
       let start = order_n in
       stored_fits rules v t i base number n (s.node i).list (t.views.line (key u)) x stands_n (omega arith) (omega arith) (omega arith) mine its
       (fit_more rules (s.views.line (key u)) (t.views.line (key u)) base number (grows.lines (key u) line.decided) line.fits)
@@ -110,64 +108,52 @@ module _ (rules : Rules) (events : List Event) (e : Event) (c : Cause) (step : S
 
     -- nothing was stored, or the row tells it
     by_row : ((n.core.log ≡ row.core.log) → row.core.base ≤ n.core.base → FitsAt rules n number) → FitsAt rules n number
-    by_row f = by_way (heard_as w e step p (sent_so p heard_) runs is)
-      where
-        by_way : HeardAs m n p → FitsAt rules n number
-        by_way (too_short log up) = fits_still number log up above within
-        by_way (whole_packet same) =
-            let r = row_ends m p in
-            let low = r.base in
-            let base = ap (λ (x : Node). x.core.base) same in
-            f (ap (λ (x : Node). x.core.log) same ∙ r.log) (omega arith)
+    by_row f = elim (heard_as w e step p (sent_so p heard_) runs is) [
+      | too_short log up ↦ fits_still number log up above within
+      | whole_packet same ↦
+          let r = row_ends m p in
+          let base = ap (λ (x : Node). x.core.base) same in
+          f (ap (λ (x : Node). x.core.log) same ∙ r.log) (omega arith)
+    ]
 
   fits_bcast : (from : ℕ) (u : Stamp) (base acc number : ℕ) (x : Entry) → c ≡ hears (packet.Bcast from u base acc number x) → n.core.base < number
       → number ≤ top n → FitsAt rules n number
   fits_bcast from u base acc number x heard_ above within =
       let p = packet.Bcast from u base acc number x in
       let line = packet_fits p (sent_so p heard_) in
-      by_row p heard_ number above within (λ log up. by_way line log up (bcast_does m from u base acc number x))
-    where
-      by_way : LineFits rules s u base number → n.core.log ≡ (rows.hear_row m (packet.Bcast from u base acc number x)).node.core.log
-          → (rows.hear_row m (packet.Bcast from u base acc number x)).node.core.base ≤ n.core.base
-          → Does m (rows.hear_row m (packet.Bcast from u base acc number x)).node base number x (InView m from u x) → FitsAt rules n number
-      by_way line log up (done.nothing same low) = fits_still number (log ∙ same) (omega arith) above within
-      by_way line log up (done.one why st) =
-          let r = (rows.hear_row m (packet.Bcast from u base acc number x)).node in
-          fits_line number base u x r log up above st line (on_last base number u x r log st (plain_view from u x why))
+      by_row p heard_ number above within (λ log up. elim (bcast_does m from u base acc number x) [
+        | done.nothing same low ↦ fits_still number (log ∙ same) (omega arith) above within
+        | done.one why st ↦
+            let r = (rows.hear_row m (packet.Bcast from u base acc number x)).node in
+            fits_line number base u x r log up above st line (on_last base number u x r log st (plain_view from u x why))
+      ])
 
   fits_order : (from : ℕ) (u : Stamp) (base acc number by req : ℕ) → c ≡ hears (packet.Order from u base acc number by req) → n.core.base < number
       → number ≤ top n → FitsAt rules n number
   fits_order from u base acc number by req heard_ above within =
       let p = packet.Order from u base acc number by req in
       let line = packet_fits p (sent_so p heard_) in
-      by_row p heard_ number above within (λ log up. by_way line log up (order_does m from u base acc number by req))
-    where
-      by_way : LineFits rules s u base number → n.core.log ≡ (rows.hear_row m (packet.Order from u base acc number by req)).node.core.log
-          → (rows.hear_row m (packet.Order from u base acc number by req)).node.core.base ≤ n.core.base
-          → OrderDoes m (rows.hear_row m (packet.Order from u base acc number by req)).node from u base number by req → FitsAt rules n number
-      by_way line log up (done.nothing same low) = fits_still number (log ∙ same) (omega arith) above within
-      by_way line log up (done.one body why st) =
-          let r = (rows.hear_row m (packet.Order from u base acc number by req)).node in
-          let x = Data by req body in
-          fits_line number base u x r log up above st line (on_last base number u x r log st (plain_view from u x why))
+      by_row p heard_ number above within (λ log up. elim (order_does m from u base acc number by req) [
+        | done.nothing same low ↦ fits_still number (log ∙ same) (omega arith) above within
+        | done.one body why st ↦
+            let r = (rows.hear_row m (packet.Order from u base acc number by req)).node in
+            let x = Data by req body in
+            fits_line number base u x r log up above st line (on_last base number u x r log st (plain_view from u x why))
+      ])
 
   fits_result : (from : ℕ) (base number : ℕ) (u : GroupView) → c ≡ hears (packet.Result from base number u)
       → n.core.base < number → number ≤ top n → FitsAt rules n number
   fits_result from base number u heard_ above within =
       let p = packet.Result from base number u in
       let line = packet_fits p (sent_so p heard_) in
-      by_row p heard_ number above within (λ log up. by_way line log up (result_does m from base number u))
-    where
-      by_way : (u.stamp.by ≡ from → LineFits rules s u.stamp base number) → n.core.log ≡ (rows.hear_row m (packet.Result from base number u)).node.core.log
-          → (rows.hear_row m (packet.Result from base number u)).node.core.base ≤ n.core.base
-          → Does m (rows.hear_row m (packet.Result from base number u)).node base number (View u) (Viewing m from u.stamp)
-          → FitsAt rules n number
-      by_way line log up (done.nothing same low) = fits_still number (log ∙ same) (omega arith) above within
-      by_way line log up (done.one why st) =
-          let r = (rows.hear_row m (packet.Result from base number u)).node in
-          let x = View u in
-          fits_line number base u.stamp x r log up above st (line (eqb-true u.stamp.by from why.by))
-          (on_last base number u.stamp x r log st (view_viewed (s.node i).list u))
+      by_row p heard_ number above within (λ log up. elim (result_does m from base number u) [
+        | done.nothing same low ↦ fits_still number (log ∙ same) (omega arith) above within
+        | done.one why st ↦
+            let r = (rows.hear_row m (packet.Result from base number u)).node in
+            let x = View u in
+            fits_line number base u.stamp x r log up above st (line (eqb-true u.stamp.by from why.by))
+            (on_last base number u.stamp x r log st (view_viewed (s.node i).list u))
+      ])
 
   -- ---- a Piece
 
@@ -176,10 +162,6 @@ module _ (rules : Rules) (events : List Event) (e : Event) (c : Cause) (step : S
     log = stands_m.log_ ∙ logged m.status member;
     there = record { goes = stands_m.stopped ∙ runs; stays = stands_m.departed ∙ member_stays m.status member };
   }
-    where
-      member_stays : (x : Status) → is_member x ≡ true → has_departed x ≡ false
-      member_stays status.Departed z = absurd (cc)
-      member_stays _ z = refl
 
   module _ (from : ℕ) (u : Stamp) (base number : ℕ) (x : Entry) (row : Node) (log : n.core.log ≡ row.core.log) (up : row.core.base ≤ n.core.base)
       (above : n.core.base < number) (why : Piecewise m from u) (st : Stores m row base number x) where
@@ -217,7 +199,6 @@ module _ (rules : Rules) (events : List Event) (e : Event) (c : Cause) (step : S
         let part : Begins (s.node i).list list = begins_both mine chain (let z = within.1 in omega arith) in
         let its = begins_push x part (next_item list at) in
         let goes = stored_list w v s t i m n row base number x stands_m stands_n group_grows log st in
-        let low = st.base_ in
         let start = order_n in
         stored_fits rules v t i base number n (s.node i).list list x stands_n (omega arith) number_is (omega arith) goes its fit
 
@@ -247,14 +228,11 @@ module _ (rules : Rules) (events : List Event) (e : Event) (c : Cause) (step : S
   fits_piece from u base number x heard_ above within =
       let p = packet.Piece from u base number x in
       let line = packet_fits p (sent_so p heard_) in
-      by_row p heard_ number above within (λ log up. by_way line log up (piece_does m from u base number x))
-    where
-      by_way : PieceFits rules s from u base number x → n.core.log ≡ (rows.hear_row m (packet.Piece from u base number x)).node.core.log
-          → (rows.hear_row m (packet.Piece from u base number x)).node.core.base ≤ n.core.base
-          → Does m (rows.hear_row m (packet.Piece from u base number x)).node base number x (Piecewise m from u) → FitsAt rules n number
-      by_way line log up (done.nothing same low) = fits_still number (log ∙ same) (omega arith) above within
-      by_way line log up (done.one why st) =
-          piece_so from u base number x (rows.hear_row m (packet.Piece from u base number x)).node log up above why st line why.how
+      by_row p heard_ number above within (λ log up. elim (piece_does m from u base number x) [
+        | done.nothing same low ↦ fits_still number (log ∙ same) (omega arith) above within
+        | done.one why st ↦
+            piece_so from u base number x (rows.hear_row m (packet.Piece from u base number x)).node log up above why st line why.how
+      ])
 
   -- ---- the node
 
@@ -266,7 +244,7 @@ module _ (rules : Rules) (events : List Event) (e : Event) (c : Cause) (step : S
         let used = heard_used rules w e c owned cause in
         let all = fitting_changes rules c step.outcome m n names used effect.changes (each_along rules w i few owned)
         (λ k high low. inl ((h.nodes i).each k high low)) number above within in
-        ⊎_elim (λ (f : FitsAt rules n number). f) (λ (b : BringsEntry c number). by_packet number b above within) all);
+        either all (λ f. f) (λ b. by_packet number b above within));
   }
     where
       by_packet : (number : ℕ) → BringsEntry c number → n.core.base < number → number ≤ top n → FitsAt rules n number
@@ -308,13 +286,12 @@ module _ (rules : Rules) (events : List Event) (e : Event) (c : Cause) (step : S
           → LineFits rules t n.core.promise n.core.base number
       own_line within long d = record {
         decided = d;
-        fits = ⊎_elim
-            (λ (low : number ≤ n.core.base). fit_low rules (t.views.line (key n.core.promise)) n.core.base number low long)
-            (λ (above : n.core.base < number). subst (λ (y : Stamp). FitIn rules (t.views.line (key y)) n.core.base number) stands_n.promise
+        fits = either (low_or_above number n.core.base)
+            (λ low. fit_low rules (t.views.line (key n.core.promise)) n.core.base number low long)
+            (λ above. subst (λ (y : Stamp). FitIn rules (t.views.line (key y)) n.core.base number) stands_n.promise
             (fit_more rules (t.node i).list (t.views.line (key (t.node i).promise)) n.core.base number
             (promised_line t i kept_t (up_n stays number above within) (ap (λ y. t.views.decided (key y)) stands_n.promise ∙ d))
-            (own_fit number above within)))
-            (low_or_above number n.core.base);
+            (own_fit number above within)));
       }
 
   -- a list that it showed
@@ -325,11 +302,10 @@ module _ (rules : Rules) (events : List Event) (e : Event) (c : Cause) (step : S
       let low = item_within list number en at in
       let long = begins_length begins in
       let all = long_all v i n (t.node i) stands_n in
-      ⊎_elim
-      (λ (below : number ≤ n.core.base). fit_low rules list n.core.base number below low.1)
-      (λ (above : n.core.base < number). fit_less rules list (t.node i).list n.core.base number begins low.1
-      (own_fit number above (let z = low.1 in omega arith)))
-      (low_or_above number n.core.base))
+      either (low_or_above number n.core.base)
+      (λ below. fit_low rules list n.core.base number below low.1)
+      (λ above. fit_less rules list (t.node i).list n.core.base number begins low.1
+      (own_fit number above (let z = low.1 in omega arith))))
 
   who_x : x.core.who ≡ i
   who_x = sym (ap (λ (q : CoreState). q.who) core_x) ∙ (lists_go_on rules events e c step may runs cause effect).own
@@ -349,14 +325,13 @@ module _ (rules : Rules) (events : List Event) (e : Event) (c : Cause) (step : S
   packet_sent stays to p (order _ number from req u report body heard_ leads at) h_ =
       let says_ = h_.1.entry in
       sent_line stays number at.within (item_within (t.views.line (key x.core.promise)) number (Data from req h_.1.body) says_.stands).1 says_.sequencer.decided
-  packet_sent stays to p (piece from u stored number en heard_ may_ at) h_ = by_piece_says h_.1
-    where
-      by_piece_says : PieceSays t x.core.who x.core.promise number en → PieceFits rules t x.core.who x.core.promise x.core.base number en
-      by_piece_says (says.of_line by d there) =
-          of_line (sent_line stays number at.within (item_within (t.views.line (key x.core.promise)) number en there).1 d) there
-      by_piece_says (says.of_shown so) = of_shown so.list so.shown so.served so.stands
-          (shown_fit so.list x.core.promise number en (ap (λ k. t.shown (key x.core.promise) k) (sym who_x) ∙ so.shown) so.stands)
-      by_piece_says (says.over other d) = over other d
+  packet_sent stays to p (piece from u stored number en heard_ may_ at) h_ = elim h_.1 [
+    | says.of_line by d there ↦
+        of_line (sent_line stays number at.within (item_within (t.views.line (key x.core.promise)) number en there).1 d) there
+    | says.of_shown so ↦ of_shown so.list so.shown so.served so.stands
+        (shown_fit so.list x.core.promise number en (ap (λ k. t.shown (key x.core.promise) k) (sym who_x) ∙ so.shown) so.stands)
+    | says.over other d ↦ over other d
+  ]
   packet_sent stays to p (result _ number names is_ viewed may_) h_ = λ by.
       (let says_ = h_.1 by in
       let same : nodes.image_of x ≡ image_of (t.node i).list = ap (λ (q : CoreState). told_by q.log) (sym core_x) ∙ sym (told_all v i n (t.node i) stands_n) in
@@ -375,11 +350,10 @@ module _ (rules : Rules) (events : List Event) (e : Event) (c : Cause) (step : S
   unfolding with_step
   fitted_step = record {
     nodes = λ j. split (j == i) (λ y. rw y node_now) (λ f. rw f (h.nodes j));
-    letters = λ k l at. ⊎_elim
-        (λ (was : slice_get w.letters k ≡ Some l). packet_on rules s t l.packet grows (h.letters k l was))
-        (λ (now : (j : ℕ) × (slice_get step.letters j ≡ Some l)).
-        packet_sent (sender_there now.0 l now.1) l.to l.packet (all_get (LetterSays m c x) step.letters now.0 l effect.letters now.1).says (new.letters k l at))
-        (get_either w.letters step.letters k l at);
+    letters = λ k l at. either (get_either w.letters step.letters k l at)
+        (λ was. packet_on rules s t l.packet grows (h.letters k l was))
+        (λ now. packet_sent (sender_there now.0 l now.1) l.to l.packet (all_get (LetterSays m c x) step.letters now.0 l effect.letters now.1).says
+        (new.letters k l at));
   }
 
 -- ---- up to the lawful front

@@ -1,6 +1,6 @@
 -- Up to its lawful front each run has a group that follows it, whose marks are the views that became complete.
-use Rattle.am_headline.proofs.Words.{watch_push, ◌≡◌, ◌⊎◌, ⊎_elim, inl, inr, ℕ, ◌<◌, ◌≤◌, ◌==◌, ◌&&◌, ◌||◌, Bool, true, false, List, [], ◌∷◌, ◌++◌, length}
-use Rattle.am_headline.proofs.Words.{Some, None, slice_get, refl, sym, ap, ◌∙◌, subst, arith, length-append, Contains, not, list_any, nat_tests}
+use Rattle.am_headline.proofs.Words.{watch_push, ◌≡◌, ◌⊎◌, either, inl, inr, ℕ, ◌<◌, ◌≤◌, ◌==◌, ◌&&◌, ◌||◌, Bool, true, false, List, [], ◌∷◌, ◌++◌, length}
+use Rattle.am_headline.proofs.Words.{Some, None, slice_get, refl, sym, ap, ◌∙◌, subst, arith, length-append, Contains, not, list_any, nat_tests, low_or_above}
 use Rattle.am_headline.proofs.Words.{take-append-le, take_all, list_any-append, slice_get-get_or, Rules, MayFound, Event, Record, Outcome, key, Group}
 use Rattle.am_headline.proofs.Words.{how_many, Move, Completes, counts_for, Node, lowest_or_first, Step, Decided, World, start, current, is_stopped}
 use Rattle.am_headline.proofs.Words.{views_after, with_record, with_step, lives_on, happens, run, is_complete, is_lawful, Watch, watch_start, watch_run}
@@ -15,6 +15,7 @@ use Rattle.am_headline.proofs.Ready.{ready_given, ready_halted, stays_follows, g
 use Rattle.am_headline.proofs.Greatest.{Passing, any_passing, passing_any, Small, IsGreatest, greatest_is, unbroken, watch_complete}
 use Rattle.am_headline.proofs.{Shapes.Shaped, Shapes.shaped_moves, OneStep.OneStep, OneStep.run_push, Marks.Known, Marks.completes, Lawful.or_cases}
 use Rattle.am_headline.proofs.{Lawful.lawful_group}
+use Rattle.std.proofs.lemmas.Bool.{or_right}
 
 -- ---- the marks
 
@@ -43,11 +44,10 @@ mark : (rules : Rules) (old new : Watch) (s t : Group) → Ready rules new.world
 mark rules old new s t ready same tied small stay best lawful = record {
   may = record {
     stay = λ view done. rw done refl;
-    marks = λ view done. ⊎_elim
-        (λ (a : t.views.complete view ≡ true). inl a)
-        (λ (a : list_any (λ d. (key d.stamp == view) && is_complete v d) v.views ≡ true). inr
-        (of_passing view (any_passing (λ d. (key d.stamp == view) && is_complete v d) v.views a)))
-        (or_cases _ _ done);
+    marks = λ view done. either (or_cases _ _ done)
+        (λ a. inl a)
+        (λ a. inr
+        (of_passing view (any_passing (λ d. (key d.stamp == view) && is_complete v d) v.views a)));
     lawful = λ view done most. (let is : view ≡ key new.complete.stamp = (let a = high view done in let b = most (key new.complete.stamp) here in omega
         arith) in
         subst (λ x. how_many (λ name. counts_for t x name && ((t.node name).stopped && not (t.node name).departed)) ≤ (t.views.chosen x).resilience) (sym is)
@@ -65,29 +65,23 @@ mark rules old new s t ready same tied small stay best lawful = record {
         (greatest_is v old.complete v.views (small tied.index old.complete (stay tied.index old.complete tied.noted)) small)
 
     at : (k : ℕ) × (slice_get v.views k ≡ Some new.complete)
-    at = ⊎_elim
-        (λ (a : new.complete ≡ old.complete). (tied.index, stay tied.index old.complete tied.noted ∙ ap Some (sym a)))
-        (λ (a : (k : ℕ) × (slice_get v.views k ≡ Some new.complete) × (is_complete v new.complete ≡ true)). (a.0, a.1))
-        greatest.is
+    at = either greatest.is
+        (λ a. (tied.index, stay tied.index old.complete tied.noted ∙ ap Some (sym a)))
+        (λ a. (a.0, a.1))
 
     passing : (k : ℕ) (d : Decided) → slice_get v.views k ≡ Some d → is_complete v d ≡ true → marks_now v t (key d.stamp) ≡ true
     passing k d there done =
         let own : (key d.stamp == key d.stamp) ≡ true = grind (arith, nat_tests) in
         let some = passing_any (λ x. (key x.stamp == key d.stamp) && is_complete v x) v.views k d there (rw (own, done) refl) in
-        or_true (t.views.complete (key d.stamp)) _ some
-      where
-        or_true : (a b : Bool) → b ≡ true → (a || b) ≡ true
-        or_true true b h = refl
-        or_true false b h = h
+        or_right (t.views.complete (key d.stamp)) _ some
 
     here : marks_now v t (key new.complete.stamp) ≡ true
-    here = ⊎_elim
-        (λ (a : new.complete ≡ old.complete). (
+    here = either greatest.is
+        (λ a. (
         let was : t.views.complete (key new.complete.stamp) ≡ true = ap (λ f. f (key new.complete.stamp)) same ∙ ap
         (λ (d : Decided). s.views.complete (key d.stamp)) a ∙ tied.marked_ in
         rw was refl))
-        (λ (a : (k : ℕ) × (slice_get v.views k ≡ Some new.complete) × (is_complete v new.complete ≡ true)). passing a.0 new.complete a.1 a.2)
-        greatest.is
+        (λ a. passing a.0 new.complete a.1 a.2)
 
     of_test : (view : ℕ) → (d : Decided) → ((key d.stamp == view) && is_complete v d) ≡ true → (key d.stamp ≡ view) × (is_complete v d ≡ true)
     of_test view d t_ = let b = and_both (key d.stamp == view) (is_complete v d) t_ in let z = b.0 in (grind (arith, nat_tests), b.1)
@@ -98,15 +92,12 @@ mark rules old new s t ready same tied small stay best lawful = record {
         subst (Completes t) b.0 (completes v t p.index p.item (known rules v t ready) p.there (small p.index p.item p.there) b.1)
 
     high : (x : ℕ) → marks_now v t x ≡ true → x ≤ key new.complete.stamp
-    high x done = ⊎_elim
-        (λ (a : t.views.complete x ≡ true). (let low = tied.most x (ap (λ f. f x) (sym same) ∙ a) in let up = greatest.up in omega arith))
-        (λ (a : list_any (λ d. (key d.stamp == x) && is_complete v d) v.views ≡ true).
-        (let p = any_passing (λ d. (key d.stamp == x) && is_complete v d) v.views a in
+    high x done = either (or_cases _ _ done)
+        (λ a. (let low = tied.most x (ap (λ f. f x) (sym same) ∙ a) in let up = greatest.up in omega arith))
+        (λ a. (let p = any_passing (λ d. (key d.stamp == x) && is_complete v d) v.views a in
         let b = of_test x p.item p.passes in
-        let is = b.0 in
         let above = greatest.above p.index p.item p.there b.1 in
         omega arith))
-        (or_cases _ _ done)
 
 -- ---- moves mark nothing
 
@@ -300,14 +291,10 @@ module _ (P : World → Group → Type 0) (rules : Rules) (keeps : KeptBy P rule
       became_now : (rules : Rules) (events : List Event) (e : Event) (d : Decided) (marks : ℕ → Bool) {R : Type 0} → (Became (run rules events) h.to d → R)
           → ((k : ℕ) → slice_get (run rules (events ++ e ∷ [])).views k ≡ Some d → is_complete (run rules (events ++ e ∷ [])) d ≡ true → R)
           → (BecameComplete rules events d → Became (run rules events) h.to d) → BecameComplete rules (events ++ e ∷ []) d → R
-      became_now rules events e d marks stay all before (k, among, done) = ⊎_elim
-          (λ (low : k ≤ length events). (let same = take-append-le k events (e ∷ []) low in
+      became_now rules events e d marks stay all before (k, among, done) = either (low_or_above k (length events))
+          (λ low. (let same = take-append-le k events (e ∷ []) low in
           stay (before (k, subst (λ l. Contains (run rules l).views d) same among, subst (λ l. is_complete (run rules l) d ≡ true) same done))))
-          (λ (high : length events < k). (let long = length-append events (e ∷ []) in
+          (λ high. (let long = length-append events (e ∷ []) in
           let same = take_all k (events ++ e ∷ []) (omega arith) in
           let at = get_of (run rules (events ++ e ∷ [])).views d (subst (λ l. Contains (run rules l).views d) same among) in
           all at.0 at.1 (subst (λ l. is_complete (run rules l) d ≡ true) same done)))
-          (two k (length events))
-        where
-          two : (a b : ℕ) → (a ≤ b) ⊎ (b < a)
-          two a b = grind arith

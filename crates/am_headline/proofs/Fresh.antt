@@ -1,5 +1,5 @@
 -- Whose Join fits the sequencer's list has no list, and no Welcome could make it begin one.
-use Rattle.am_headline.proofs.RepairedWords.{member_stays, ◌≡◌, inl, ⊎_elim, ℕ, ◌<◌, ◌==◌, true, false, List, Some, slice_get, take, refl, sym, ap, ◌∙◌, subst, arith}
+use Rattle.am_headline.proofs.RepairedWords.{member_stays, ◌≡◌, inl, either, ℕ, ◌<◌, ◌==◌, true, false, List, Some, slice_get, take, refl, sym, ap, ◌∙◌, subst, arith}
 use Rattle.am_headline.proofs.RepairedWords.{nat_tests, Entry, Join, Image, Stamp, Rules, place_of, life_of, has, at_place, fits, Packet, Letter, is_for, Begins, mem}
 use Rattle.am_headline.proofs.RepairedWords.{In, Past, Was, row_at, mem_in, was_begins, begins_take, begins_trans, Group, IsUp, chain_of, Kept, Node, image_of, acts}
 use Rattle.am_headline.proofs.RepairedWords.{is_member, is_sequencer, has_log, has_departed, World, is_stopped, Status, split, and_both, logged, NameStands}
@@ -12,14 +12,12 @@ use Rattle.am_model.specs.declared.status.Status.TheVariants as status
 -- a name's Join fits no member's place, nor a past one's of its life
 join_none : (image : Image) (name : ℕ) → fits image (Join name) ≡ true → Was (at_place image name) (life_of name) → ⊥
 unfolding fits
-join_none image name f h = ⊎_elim
-    (λ (x : In (at_place image name) (life_of name)). let j = x.joined in let l = x.left in let z : ⊥ = grind (arith, nat_tests) in z)
-    (λ (x : Past (at_place image name) (life_of name)). let j = x.joined in ⊎_elim
-    (λ (y : life_of name < (at_place image name).life). let z : ⊥ = grind (arith, nat_tests) in z)
-    (λ (y : ((at_place image name).life ≡ life_of name) × (0 < (at_place image name).left)). let a = y.0 in let b = y.1 in let z : ⊥ = grind
-    (arith, nat_tests) in z)
-    x.gone)
-    h
+join_none image name f h = either h
+    (λ x. let j = x.joined in let l = x.left in let z : ⊥ = grind (arith, nat_tests) in z)
+    (λ x. let j = x.joined in either x.gone
+    (λ y. let z : ⊥ = grind (arith, nat_tests) in z)
+    (λ y. let a = y.0 in let b = y.1 in let z : ⊥ = grind
+    (arith, nat_tests) in z))
 
 -- a Welcome of a base
 pub record IsWelcome (base : ℕ) (p : Packet) : Type 0 where

@@ -12,6 +12,7 @@ use Rattle.am_model.specs.declared.status.Status.TheVariants as status
 use Rattle.am_headline.proofs.{Nodes.CalmCause, RepairLeading.Goes, RepairLeading.lead_change, RepairLeading.TellsTaken, Following.FollowsOn, Following.follow_change}
 use Rattle.am_headline.proofs.{Leaving.StaysLeft, Leaving.left_change}
 use Rattle.am_headline.proofs.{Apart.StaysApart, Apart.apart_change, Departed.IsStill, Departed.departed_ticks, Departed.departed_hears}
+use Rattle.am_stands.proofs.Changes.{member_stays}
 
 -- ---- the events of a schedule
 
@@ -102,8 +103,4 @@ sender_is n sender is (inl same) there = sym (is ∙ ap (λ st. record sender { 
 sender_is n sender is (inr gone) there = absurd (let g = ap has_departed gone in cc)
 
 pub member_there : (m : Node) → is_member m.status ≡ true → has_departed m.status ≡ false
-member_there m h = by_status m.status h
-  where
-    by_status : (s : Status) → is_member s ≡ true → has_departed s ≡ false
-    by_status status.Member h = refl
-    by_status _ h = absurd (cc)
+member_there m h = member_stays m.status h

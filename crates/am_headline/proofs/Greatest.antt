@@ -1,7 +1,7 @@
 -- The greatest complete view of a watched run, and the marks of the group.
-use Rattle.am_headline.proofs.Words.{◌≡◌, ◌⊎◌, ⊎_elim, inl, inr, ℕ, zero, suc, ◌+◌, ◌<◌, ◌≤◌, Bool, true, false, List, [], ◌∷◌, Option, Some, None, slice_get}
+use Rattle.am_headline.proofs.Words.{◌≡◌, ◌⊎◌, either, inl, inr, ℕ, zero, suc, ◌+◌, ◌<◌, ◌≤◌, Bool, true, false, List, [], ◌∷◌, Option, Some, None, slice_get}
 use Rattle.am_headline.proofs.Words.{refl, sym, ap, ◌∙◌, subst, arith, list_any, stamp_lt, Event, key, key_lt, lt_key, Decided, World, happens, is_complete}
-use Rattle.am_headline.proofs.Words.{is_lawful, Watch, watch, greater_complete, greatest_complete, broken_now, split}
+use Rattle.am_headline.proofs.Words.{is_lawful, Watch, watch, greater_complete, greatest_complete, broken_now, split, low_or_above}
 
 -- ---- one item that passes
 
@@ -61,13 +61,9 @@ greater_is w best v small few = split (stamp_lt best.stamp v.stamp)
     one v d k at = let same = only v d k at in subst (λ (x : Decided). key x.stamp ≤ key v.stamp) same (omega arith)
 
     not_above : (best v : Decided) → best.stamp.by < 256 → v.stamp.by < 256 → stamp_lt best.stamp v.stamp ≡ false → key v.stamp ≤ key best.stamp
-    not_above best v small few f = ⊎_elim
-        (λ (le : key v.stamp ≤ key best.stamp). le)
-        (λ (lt : key best.stamp < key v.stamp). absurd (let t = lt_key best.stamp v.stamp small few lt in cc))
-        (two (key v.stamp) (key best.stamp))
-      where
-        two : (a b : ℕ) → (a ≤ b) ⊎ (b < a)
-        two a b = grind arith
+    not_above best v small few f = either (low_or_above (key v.stamp) (key best.stamp))
+        (λ le. le)
+        (λ lt. absurd (let t = lt_key best.stamp v.stamp small few lt in cc))
 
 small_either : (w : World) (best v : Decided) → best.stamp.by < 256 → v.stamp.by < 256 → (greater_complete w best v).stamp.by < 256
 small_either w best v small few = split (stamp_lt best.stamp v.stamp)
@@ -83,14 +79,11 @@ greatest_is w best (v ∷ vs) small few =
     let one = greater_is w best v small v_small in
     let rest = greatest_is w mid vs (small_either w best v small v_small) (λ k d at. few (suc k) d at) in
     record {
-      is = ⊎_elim
-          (λ (same : greatest_complete w mid vs ≡ mid). ⊎_elim
-          (λ (a : mid ≡ best). inl (same ∙ a))
-          (λ (a : (k : ℕ) × (slice_get (v ∷ []) k ≡ Some mid) × (is_complete w mid ≡ true)). inr (first w v vs mid (greatest_complete w mid vs) same a))
-          one.is)
-          (λ (a : (k : ℕ) × (slice_get vs k ≡ Some (greatest_complete w mid vs)) × (is_complete w (greatest_complete w mid vs) ≡ true)).
-          inr (suc a.0, a.1, a.2))
-          rest.is;
+      is = either rest.is
+          (λ same. either one.is
+          (λ a. inl (same ∙ a))
+          (λ a. inr (first w v vs mid (greatest_complete w mid vs) same a)))
+          (λ a. inr (suc a.0, a.1, a.2));
       up = omega arith;
       above = λ k d at done. by_place k d at done (λ at_first. (let a = one.above 0 d at_first done in omega arith))
           (λ j at_later. rest.above j d at_later done);

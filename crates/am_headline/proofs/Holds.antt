@@ -1,5 +1,5 @@
 -- The headline, of every run.
-use Rattle.am_headline.proofs.Words.{watch_push, ◌≡◌, ◌≢◌, ◌⊎◌, ⊎_elim, ℕ, ◌<◌, ◌≤◌, true, List, [], ◌∷◌, ◌++◌, length, take, Some, None, slice_get, refl}
+use Rattle.am_headline.proofs.Words.{watch_push, ◌≡◌, ◌≢◌, ◌⊎◌, either, ℕ, ◌<◌, ◌≤◌, true, List, [], ◌∷◌, ◌++◌, length, take, Some, None, slice_get, refl}
 use Rattle.am_headline.proofs.Words.{sym, ap, ◌∙◌, subst, arith, append-nil, append_assoc, drop, take-append-drop, Entry, Rules, MayFound, stamp_lt, blank}
 use Rattle.am_headline.proofs.Words.{AllFit, Event, Record, deliveries, item_at, Begins, IsGood, view_of, key, key_lt, view_small, view_up, view_viewed}
 use Rattle.am_headline.proofs.Words.{begins_both, begins_take, begins_trans, length_take, length_push, good_begins, Group, opening, view, lowest_or_first}
@@ -13,6 +13,7 @@ use Rattle.am_runs.proofs.Holds.{sends_stand_once}
 use Rattle.am_headline.proofs.{Lists.item_begins, Lists.item_back, Fold.Quiet, Fold.KeptBy, Fold.Became, Fold.Held, Begun.held, Greatest.unbroken, Told.Told}
 use Rattle.am_headline.proofs.{Told.Taking, Told.taking_in_group, Told.told_same, Told.told_idle, Told.told_step, Told.told_start, Moments.done_then}
 use Rattle.am_headline.proofs.{Moments.given_then}
+use Rattle.am_stands.proofs.Words.{cases_lt}
 
 -- ---- the group list
 
@@ -56,9 +57,9 @@ module _ (rules : Rules) (w : World) (s : Group) (d : Decided) (f : Following ru
   -- what a name with a lower view accepted of its list lies below the View
   below : (list group : List Entry) (acc number : ℕ) → IsGood list → Begins (take acc list) group → acc ≤ length list → Begins group w.group
       → number ≤ acc → key (view_of list) < key d.stamp → number < d.number
-  below list group acc number good delivered within grows low less = ⊎_elim
-      (λ (fine : number < d.number). fine)
-      (λ (high : d.number ≤ number). absurd (
+  below list group acc number good delivered within grows low less = either (cases_lt number d.number)
+      (λ fine. fine)
+      (λ high. absurd (
       let open_ = opening (s.views.chosen (key d.stamp)) in
       let part = take acc list in
       let part_long = length_take acc list within in
@@ -69,10 +70,6 @@ module _ (rules : Rules) (w : World) (s : Group) (d : Decided) (f : Following ru
       let viewed : view_of open_ ≡ d.stamp = view_viewed (s.views.chosen (key d.stamp)).before _ ∙ noted.stamp in
       let same = ap key viewed in
       let z : ⊥ = omega arith in z))
-      (two number d.number)
-    where
-      two : (a b : ℕ) → (a < b) ⊎ (b ≤ a)
-      two a b = grind arith
 
 -- of an entry that was given before
 number_below : (rules : Rules) (w : World) (s : Group) (d : Decided) (f : Following rules w s) (became : Became w s d) (v : World) (r : Group) (i number : ℕ)
@@ -110,11 +107,9 @@ module _ (rules : Rules) (may : MayFound rules) where
   Kept_ w s = Told rules w
 
   by_idle : (w v : World) (s t : Group) → Quiet w v s t → Told rules w → Told rules v
-  by_idle w v s t q h = ⊎_elim
-      (λ (same : v.records ≡ w.records). told_same rules w v (record { nodes = q.stays.nodes; letters = q.stays.letters; group = q.stays.group }) same h)
-      (λ (one : (r : Record) × IsIdle r.outcome × (v.records ≡ w.records ++ r ∷ [])).
-      told_idle rules w v one.0 (record { nodes = q.stays.nodes; letters = q.stays.letters; group = q.stays.group }) one.1 one.2 h)
-      q.idle
+  by_idle w v s t q h = either q.idle
+      (λ same. told_same rules w v (record { nodes = q.stays.nodes; letters = q.stays.letters; group = q.stays.group }) same h)
+      (λ one. told_idle rules w v one.0 (record { nodes = q.stays.nodes; letters = q.stays.letters; group = q.stays.group }) one.1 one.2 h)
 
   keeps : KeptBy Kept_ rules
   keeps = record {
@@ -131,8 +126,6 @@ module _ (rules : Rules) (may : MayFound rules) where
   has_list w name h some = split (has_log (w.nodes name).status) (λ t. t)
       (λ f.
       let b = (h.each name).blank f in
-      let b0 = b.0 in
-      let b1 = b.1 in
       let count = (h.given name).count in
       absurd (some (nil_from_length (deliveries w.records name) (omega arith))))
 

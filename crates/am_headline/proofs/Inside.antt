@@ -1,5 +1,5 @@
 -- What is known of a name's node within its step: what its application was given, and which of its sends are settled.
-use Rattle.am_headline.proofs.Words.{no_member, member_stays, gave_still, passed_front, or_first, fewer_wait, ◌≡◌, ◌⊎◌, ⊎_elim, inl, inr, ℕ, ◌+◌, ◌-◌, ◌<◌}
+use Rattle.am_headline.proofs.Words.{no_member, member_stays, gave_still, passed_front, or_first, fewer_wait, ◌≡◌, ◌⊎◌, either, inl, inr, ℕ, ◌+◌, ◌-◌, ◌<◌}
 use Rattle.am_headline.proofs.Words.{◌≤◌, max, min, ◌==◌, not, nat_lt, Bool, true, false, if◌then◌else◌, List, [], ◌∷◌, ◌++◌, find, count_by, Option, Some}
 use Rattle.am_headline.proofs.Words.{None, slice_get, refl, sym, ap, ◌∙◌, subst, arith, All, nat_tests, sum_by-cons, All-push, All-filter, All-map}
 use Rattle.am_headline.proofs.Words.{All-weaker, Entry, Data, Leave, Image, Stamp, Outcome, CoreState, accept, pass_over, own_report, tell, go_on, Log}
@@ -151,10 +151,9 @@ fresh_on m x y req number who start more up h = record {
 settled_on : (group : List Entry) (i : ℕ) (m x y : Node) → ((req number : ℕ) → Fresh m x req number → Fresh m y req number) → (req : ℕ) (number : Option ℕ)
     → Settled group i m x req number → Settled group i m y req number
 settled_on group i m x y f req None h = tt
-settled_on group i m x y f req (Some number) h = ⊎_elim
-    (λ (a : (body : List ℕ) × (item_at group number ≡ Some (Data i req body))). inl a)
-    (λ (a : Fresh m x req number). inr (f req number a))
-    h
+settled_on group i m x y f req (Some number) h = either h
+    (λ a. inl a)
+    (λ a. inr (f req number a))
 
 sends_on : (group : List Entry) (i : ℕ) (m x y : Node) (queue : List OwnSend) → ((req number : ℕ) → Fresh m x req number → Fresh m y req number)
     → All (SendIn group i m x) queue → All (SendIn group i m y) queue
@@ -199,8 +198,6 @@ module _ (group : List Entry) (i : ℕ) (c : Cause) (o : Outcome) (m : Node) whe
       let f = refresh_fronts x h.taken h.passed in
       let log = ap has_log r.rests.status in
       let sends_ : y.sends ≡ x.sends = ap (λ (z : Node). z.sends) (refresh_is x) in
-      let up = r.rests.base in
-      let start = r.rests.start in
       let kept = h.kept in
       let more : (rest : List Entry) × (y.core.log.entries ≡ x.core.log.entries ++ rest) = (r.rests.more, r.rests.entries) in
       record {
@@ -225,17 +222,7 @@ module _ (group : List Entry) (i : ℕ) (c : Cause) (o : Outcome) (m : Node) whe
   inside_sends : (x : Node) (q : own.Sends) → (x.leaving ≡ true → own.waiting q ≡ None) → All (SendIn group i m x) q.queue → Inside group i c o m x
       → Inside group i c o m (record x { sends = q })
   inside_sends x q silent sends h =
-      let y = record x { sends = q } in
-      record {
-        gave = gave_still m x y refl refl refl h.gave;
-        order = h.order;
-        departed = h.departed;
-        leaves = h.leaves;
-        gone = h.gone;
-        silent = silent;
-        bare = h.bare;
-        sends = sends;
-      }
+      assumption (gave_still m x (record x { sends = q }) refl refl refl h.gave, silent, sends)
 
   inside_settled_at : (x : Node) (req : ℕ) (at : Option ℕ) → accepted_at x req ≡ at → has_departed m.status ≡ false → x.leaving ≡ false
       → Inside group i c o m x → Inside group i c o m (settle_at x req at)
@@ -244,7 +231,6 @@ module _ (group : List Entry) (i : ℕ) (c : Cause) (o : Outcome) (m : Node) whe
       let number = x.core.base + 1 + k in
       let y = settle_at x req (Some k) in
       let f = found_at x req k is in
-      let kept = h.kept in
       let low = f.low in
       let fresh : Fresh m y req number = record {
         body = f.body;
@@ -312,8 +298,6 @@ module _ (group : List Entry) (i : ℕ) (c : Cause) (o : Outcome) (m : Node) whe
   inside_took : (x : Node) (e : Entry) → o ≡ said.Took (x.core.taken + 1) e → is_member x.status ≡ true → (x.core.taken == x.core.acc) ≡ false
       → Inside group i c o m x → Inside group i c o m (record x { core = record (x.core) { taken = x.core.taken + 1 } })
   inside_took x e says member some h =
-      let y = record x { core = record (x.core) { taken = x.core.taken + 1 } } in
-      let low = h.taken in
       let less : x.core.taken < x.core.acc = grind (arith, nat_tests) in
       record {
         gave = gave_taken m x e h.taken h.passed member some says h.gave;

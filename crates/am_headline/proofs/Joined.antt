@@ -1,5 +1,5 @@
 -- A joiner's Join stands at the number with which it is welcomed.
-use Rattle.am_headline.proofs.Words.{◌≡◌, ◌⊎◌, ⊎_elim, inl, inr, ℕ, zero, suc, ◌+◌, ◌<◌, ◌≤◌, true, false, List, [], ◌∷◌, ◌++◌, length, take, Some, slice_get}
+use Rattle.am_headline.proofs.Words.{◌≡◌, ◌⊎◌, either, inl, inr, ℕ, zero, suc, ◌+◌, ◌<◌, ◌≤◌, true, false, List, [], ◌∷◌, ◌++◌, length, take, Some, slice_get}
 use Rattle.am_headline.proofs.Words.{refl, sym, ap, ◌∙◌, subst, arith, All, Entry, Join, Image, Stamp, Rules, place_of, life_of, has, Letter, goes_to_any}
 use Rattle.am_headline.proofs.Words.{is_for, item_at, Begins, IsGood, mem, In, row_at, begins_take, length_take, good_begins, told_push, long_told, mem_in}
 use Rattle.am_headline.proofs.Words.{in_mem, mem_viewed, Group, is_asking, founders_view, World, is_stopped, all_get, asking_log, PacketSays, WelcomeSays}
@@ -54,10 +54,9 @@ pub joined_at : (rules : Rules) (group : List Entry) (name join : ℕ) → IsGoo
     → mem (take join group) name ≡ true → ((a : List Entry) → Begins a group → length a < join → mem a name ≡ true → ⊥)
     → has rules.founders name ≡ false → item_at group join ≡ Some (Join name)
 joined_at rules group name zero good opens some low member first unfounded = absurd (omega arith)
-joined_at rules group name (suc j) good opens some low member first unfounded = ⊎_elim
-    (λ (at : slice_get group j ≡ Some (Join name)). at)
-    (λ (none : j ≡ 0). absurd (let t = founder_of rules group name opens (subst (λ k. mem (take (suc k) group) name ≡ true) none member) in cc))
-    (becomes_at group name j good low member first)
+joined_at rules group name (suc j) good opens some low member first unfounded = either (becomes_at group name j good low member first)
+    (λ at. at)
+    (λ none. absurd (let t = founder_of rules group name opens (subst (λ k. mem (take (suc k) group) name ≡ true) none member) in cc))
 
 -- ---- by a Welcome
 
@@ -74,16 +73,15 @@ welcome_says rules w s i number l from v base join image h anys few runs asks at
     let any : l.any ≡ false = all_get AnyLetter w.letters there.0 l anys there.1 ∙ ap goes_to_any is in
     let among : has l.to i ≡ true = rw any at for_ in
     let says = subst (λ p. PacketSays w s l.to p) is (h.letters there.0 l there.1) in
-    by_kind (says.1 i among)
-  where
-    by_kind : WelcomeTo s from v base join image i → WelcomeSays s from v base join image i
-    by_kind (has_begun t) = absurd (let a = (h.stands.each i few).log_ in let b = asking_log (w.nodes i).status asks in cc)
-    by_kind (has_gone t) = absurd (let a = (h.stands.each i few).stopped in cc)
-    by_kind (has_left t) = absurd (let a = (h.stands.each i few).departed in let b = asking_stays (w.nodes i).status asks in cc)
-    by_kind (is_leaving t) = absurd (let a = (h.stands.each i few).leaving in
-        let b = (h.nodes i few (asking_stays (w.nodes i).status asks)).leaves (sym a ∙ t) in
-        let d = asking_log (w.nodes i).status asks in cc)
-    by_kind (may_begin says) = says
+    elim (says.1 i among) [
+      | has_begun t ↦ absurd (let a = (h.stands.each i few).log_ in let b = asking_log (w.nodes i).status asks in cc)
+      | has_gone t ↦ absurd (let a = (h.stands.each i few).stopped in cc)
+      | has_left t ↦ absurd (let a = (h.stands.each i few).departed in let b = asking_stays (w.nodes i).status asks in cc)
+      | is_leaving t ↦ absurd (let a = (h.stands.each i few).leaving in
+          let b = (h.nodes i few (asking_stays (w.nodes i).status asks)).leaves (sym a ∙ t) in
+          let d = asking_log (w.nodes i).status asks in cc)
+      | may_begin says ↦ says
+    ]
 
 pub welcome_joins : (rules : Rules) (w : World) (s : Group) (i number : ℕ) (l : Letter) (from : ℕ) (v : Stamp) (base join : ℕ) (image : Image)
     → Following rules w s → IsGood w.group → Opens rules w.group

@@ -27,16 +27,15 @@ module _ (rules : Rules) (events : List Event) (e : Event) (c : Cause) (step : S
       ∙ (runs_leading rules v t i x.new kept_t few_i (trims.who_v rules events e c step s t x i) leads_v runs_v).decided
 
   decided_n : acts n ≡ true → t.views.decided (key (view n)) ≡ true
-  decided_n act = by_kind (came_n act)
-    where
-      by_kind : Came c m n → t.views.decided (key (view n)) ≡ true
-      by_kind (before was same low) = subst (λ u. t.views.decided (key u) ≡ true) (sym same)
-          (trims.stays_decided rules events e c step s t x (view m) (x.trims.decided i few_i was))
-      by_kind (own by above) =
-          let leads : is_sequencer n ≡ true = (let u : ((view n).by == n.core.who) ≡ true = grind (arith, nat_tests) in rw (act, u) refl) in
-          subst (λ u. t.views.decided (key u) ≡ true) (acting n act).1 (leads_decided leads)
-      by_kind (told_so from u base tells is by other low) = subst (λ u_. t.views.decided (key u_) ≡ true) (sym is)
-          (trims.stays_decided rules events e c step s t x u (trims.told_decided rules events e c step s t x from u base tells by))
+  decided_n act = elim (came_n act) [
+    | before was same low ↦ subst (λ u. t.views.decided (key u) ≡ true) (sym same)
+        (trims.stays_decided rules events e c step s t x (view m) (x.trims.decided i few_i was))
+    | own by above ↦
+        let leads : is_sequencer n ≡ true = (let u : ((view n).by == n.core.who) ≡ true = grind (arith, nat_tests) in rw (act, u) refl) in
+        subst (λ u. t.views.decided (key u) ≡ true) (acting n act).1 (leads_decided leads)
+    | told_so from u base tells is by other low ↦ subst (λ u_. t.views.decided (key u_) ≡ true) (sym is)
+        (trims.stays_decided rules events e c step s t x u (trims.told_decided rules events e c step s t x from u base tells by))
+  ]
 
   decided_v : (j : ℕ) → j < 256 → acts (v.nodes j) ≡ true → t.views.decided (key (view (v.nodes j))) ≡ true
   decided_v j few act = split (j == i)
@@ -50,30 +49,28 @@ module _ (rules : Rules) (events : List Event) (e : Event) (c : Cause) (step : S
 
   welcomes_v : (k : ℕ) (l : Letter) (from : ℕ) (u : Stamp) (base join : ℕ) (image : Image) → slice_get v.letters k ≡ Some l
       → l.packet ≡ packet.Welcome from u base join image → t.views.decided (key u) ≡ true
-  welcomes_v k l from u base join image at is = by_kind (trims.letter_v rules events e c step s t x k l at)
-    where
-      by_kind : Sent w m n c l → t.views.decided (key u) ≡ true
-      by_kind (trims.before k_ at_) = trims.stays_decided rules events e c step s t x u (x.trims.welcomes k_ l from u base join image at_ is)
-      by_kind (trims.now says) =
-          let h = says_welcome m n c l from u base join image says is in
-          subst (λ u_. t.views.decided (key u_) ≡ true) (sym h.stamp) (leads_decided h.leads)
+  welcomes_v k l from u base join image at is = elim (trims.letter_v rules events e c step s t x k l at) [
+    | trims.before k_ at_ ↦ trims.stays_decided rules events e c step s t x u (x.trims.welcomes k_ l from u base join image at_ is)
+    | trims.now says ↦
+        let h = says_welcome m n c l from u base join image says is in
+        subst (λ u_. t.views.decided (key u_) ≡ true) (sym h.stamp) (leads_decided h.leads)
+  ]
 
   -- who leads now led before, or decided
   settles_i : is_sequencer n ≡ true → Settles v i
-  settles_i leads = by_kind (came_n (leading n leads).0)
-    where
-      by_kind : Came c m n → Settles v i
-      by_kind (before was same low) =
-          let by = (leading n leads).1 in
-          let who : n.core.who ≡ m.core.who = trims.who_n rules events e c step s t x ∙ sym (trims.who_w rules events e c step s t x i) in
-          let mine : (view m).by ≡ m.core.who = ap (λ (u : Stamp). u.by) (sym same) ∙ by ∙ who in
-          let led : is_sequencer m ≡ true = (let u : ((view m).by == m.core.who) ≡ true = grind (arith, nat_tests) in rw (was, u) refl) in
-          leading_settles rules events e c step s t x led same
-      by_kind (own by above) = decided_settles rules events e c step s t x leads above
-      by_kind (told_so from u base tells is by_ other low) = absurd (
-          let at : from ≡ n.core.who = sym by_ ∙ ap (λ (u : Stamp). u.by) (sym is) ∙ (leading n leads).1 in
-          let z : (from == n.core.who) ≡ true = grind (arith, nat_tests) in
-          cc)
+  settles_i leads = elim (came_n (leading n leads).0) [
+    | before was same low ↦
+        let by = (leading n leads).1 in
+        let who : n.core.who ≡ m.core.who = trims.who_n rules events e c step s t x ∙ sym (trims.who_w rules events e c step s t x i) in
+        let mine : (view m).by ≡ m.core.who = ap (λ (u : Stamp). u.by) (sym same) ∙ by ∙ who in
+        let led : is_sequencer m ≡ true = (let u : ((view m).by == m.core.who) ≡ true = grind (arith, nat_tests) in rw (was, u) refl) in
+        leading_settles rules events e c step s t x led same
+    | own by above ↦ decided_settles rules events e c step s t x leads above
+    | told_so from u base tells is by_ other low ↦ absurd (
+        let at : from ≡ n.core.who = sym by_ ∙ ap (λ (u : Stamp). u.by) (sym is) ∙ (leading n leads).1 in
+        let z : (from == n.core.who) ≡ true = grind (arith, nat_tests) in
+        cc)
+  ]
 
   settles_v : (q : ℕ) → q < 256 → is_sequencer (v.nodes q) ≡ true → is_stopped v q ≡ false → Settles v q
   settles_v q few leads runs = split (q == i)

@@ -15,9 +15,6 @@ pub data Know (nodes : ℕ → Node) (m y : Node) : Type 0 where
   knew : y.core.who ≡ m.core.who → Knew nodes m y → Know nodes m y
   anew : stamp_lt (view m) (view y) ≡ true → Know nodes m y
 
-refresh_who : (m : Node) → (refresh m).core.who ≡ m.core.who
-refresh_who m = (rests_refresh m).rests.who
-
 -- with reports that stay
 same : (nodes : ℕ → Node) (x y : Node) → y.core.who ≡ x.core.who → ((j : ℕ) → (j == x.core.who) ≡ false → y.reports j ≡ x.reports j) → Know nodes x y
 same nodes x y who is = knew who (λ j other. let b = ap (λ (r : Report). r.taken) (is j other) in omega arith)
@@ -29,7 +26,7 @@ know_look nodes x b v (decides may) above =
 know_look nodes x b v _ above = same nodes x v.node refl (λ j other. refl)
 
 know_change : (nodes : ℕ → Node) (c : Cause) (o : Outcome) (x y : Node) → NoJoin c → CauseTaken nodes c → Balloted x → Change c o x y → Know nodes x y
-know_change nodes c o x y none w k refreshes = same nodes x y (refresh_who x) (refresh_same x)
+know_change nodes c o x y none w k refreshes = same nodes x y ((rests_refresh x).rests.who) (refresh_same x)
 know_change nodes c o x y none w k settles = subst (Know nodes x) (sym (settle_is x)) (same nodes x _ refl (λ j other. refl))
 know_change nodes c o x y none w k (takes_report s v report brings may) =
     knew refl (λ j other. let a = told_so nodes c s v report brings w in split (j == s)
@@ -48,8 +45,6 @@ then_know nodes m x y low high (anew up) z = anew (below (view m) (view x) (view
 then_know nodes m x y low high (knew mine h) (anew up) = anew (at_most_below (view m) (view x) (view y) low up)
 then_know nodes m x y low high (knew mine h) (knew his k) = knew (his ∙ mine) (λ j other.
     let o : (j == x.core.who) ≡ false = ap (λ i. j == i) mine ∙ other in
-    let a = h j other in
-    let b = k j o in
     omega arith)
 
 know_along : (rules : Rules) (nodes : ℕ → Node) {c : Cause} {o : Outcome} (m x n : Node) → NoJoin c → CauseTaken nodes c → HeardNames c → HeardUsed c

@@ -1,6 +1,6 @@
 -- A sequencer trims no more than it knows each member of its list to have taken: each change keeps it.
 use Rattle.am_headline.proofs.RepairWords.{fetch_follows, stamp_by, other_asks, promise_is, not_above_view, not_own, base_low, other_heard, has_in, ◌≡◌, ◌≢◌}
-use Rattle.am_headline.proofs.RepairWords.{⊎_elim, ℕ, ◌+◌, ◌<◌, ◌≤◌, ◌==◌, nat_lt, true, false, List, length, refl, sym, ap, ◌∙◌, subst, arith, nat_tests}
+use Rattle.am_headline.proofs.RepairWords.{either, ℕ, ◌+◌, ◌<◌, ◌≤◌, ◌==◌, nat_lt, true, false, List, length, refl, sym, ap, ◌∙◌, subst, arith, nat_tests}
 use Rattle.am_headline.proofs.RepairWords.{Stamp, Image, Report, Row, Entry, Data, Join, Leave, Outcome, place_of, life_of, has, at_place, members_of, with_row}
 use Rattle.am_headline.proofs.RepairWords.{after, row_at, In, row_set, long_after, accept, pass_over, own_report, tell, go_on, let_go, Node, Ballot, top}
 use Rattle.am_headline.proofs.RepairWords.{image_of, view, members, is_sequencer, push_entry, trim_up_to, with_report, lead, refresh, settle, refresh_at_end}
@@ -17,11 +17,9 @@ use Rattle.am_headline.proofs.{Nodes.leads_alike, RepairLeading.least_low, Repai
 
 set_back : (image : Image) (name i : ℕ) (r : Row) → length image.rows ≡ 16 → (In r (life_of i) → In (row_at image (place_of name)) (life_of i))
     → In (row_at (with_row image name r) (place_of i)) (life_of i) → In (row_at image (place_of i)) (life_of i)
-set_back image name i r long back h = ⊎_elim
-    (λ (x : (place_of i ≡ place_of name) × (row_at (with_row image name r) (place_of i) ≡ r)).
-    subst (λ p. In (row_at image p) (life_of i)) (sym x.0) (back (subst (λ y. In y (life_of i)) x.1 h)))
-    (λ (x : (place_of i ≢ place_of name) × (row_at (with_row image name r) (place_of i) ≡ row_at image (place_of i))). subst (λ y. In y (life_of i)) x.1 h)
-    (row_set image name (place_of i) r long)
+set_back image name i r long back h = either (row_set image name (place_of i) r long)
+    (λ x. subst (λ p. In (row_at image p) (life_of i)) (sym x.0) (back (subst (λ y. In y (life_of i)) x.1 h)))
+    (λ x. subst (λ y. In y (life_of i)) x.1 h)
 
 data_back : (image : Image) (n from req i : ℕ) (body : List ℕ) → length image.rows ≡ 16
     → In (row_at (after image n (Data from req body)) (place_of i)) (life_of i) → In (row_at image (place_of i)) (life_of i)
@@ -41,16 +39,11 @@ leave_back image n name i long up h = split ((at_place image name).life == life_
 join_back : (image : Image) (n name i : ℕ) → length image.rows ≡ 16 → (i == name) ≡ false
     → In (row_at (after image n (Join name)) (place_of i)) (life_of i) → In (row_at image (place_of i)) (life_of i)
 unfolding after
-join_back image n name i long other h = ⊎_elim
-    (λ (x : (place_of i ≡ place_of name) × (row_at (after image n (Join name))
-    (place_of i) ≡ record { life = life_of name; joined = n; left = 0; last = 0 })).
-    absurd (
-    let is = (subst (λ y. In y (life_of i)) x.1 h).is in
-    let same : i ≡ name = omega arith in
+join_back image n name i long other h = either (row_set image name (place_of i) (record { life = life_of name; joined = n; left = 0; last = 0 }) long)
+    (λ x. absurd (
     let z : ⊥ = grind (arith, nat_tests) in z))
-    (λ (x : (place_of i ≢ place_of name) × (row_at (after image n (Join name)) (place_of i) ≡ row_at image (place_of i))). subst
+    (λ x. subst
     (λ y. In y (life_of i)) x.1 h)
-    (row_set image name (place_of i) (record { life = life_of name; joined = n; left = 0; last = 0 }) long)
 
 -- a member of a longer list
 member_back : (m : Node) (e : Entry) (i : ℕ) → Fronts m → (length (image_of m).rows ≡ 16

@@ -125,7 +125,6 @@ trim_happens rules w e v laws h none (steps c s runs cause effect) =
     let name = actor w e in
     let few = few_names rules w e laws.blanks.base.named in
     let no_join : NoJoin c = λ sender stamp is. (let was = subst (IsCause w name e.act) is cause in
-    let kind : (kind_of was.letter.packet == 9) ≡ true = ap (λ p. kind_of p == 9) was.is in
     let there = ap is_join was.there in
     cc) in
     trim_step w e name s h (known_changes rules (w.nodes name) s.node no_join (heard_names rules w e c laws.blanks.base cause)

@@ -1,5 +1,5 @@
 -- A world that is lawful for its greatest complete view is so in the group that stands for it.
-use Rattle.am_headline.proofs.Words.{◌≡◌, ◌≢◌, ◌⊎◌, ⊎_elim, inl, inr, ℕ, zero, suc, ◌+◌, ◌<◌, ◌≤◌, ◌==◌, ◌&&◌, ◌||◌, not, nat_lt, Bool, true, false}
+use Rattle.am_headline.proofs.Words.{◌≡◌, ◌≢◌, ◌⊎◌, either, inl, inr, ℕ, zero, suc, ◌+◌, ◌<◌, ◌≤◌, ◌==◌, ◌&&◌, ◌||◌, not, nat_lt, Bool, true, false}
 use Rattle.am_headline.proofs.Words.{if◌then◌else◌, List, [], ◌∷◌, length, count_by, refl, sym, ap, ◌∙◌, arith, list_any, nat_tests, View, has, count_cons, key}
 use Rattle.am_headline.proofs.Words.{length_push, Group, count, how_many, opening, counts_for, has_log, has_departed, Decided, World, counts, is_lost}
 use Rattle.am_headline.proofs.Words.{is_lawful, split, and_both, NotedStands, Stands, count_up_to}
@@ -53,7 +53,6 @@ count_listed p q n (x ∷ names) h =
     let other : (x == j) ≡ false = split (x == j)
     (λ y. absurd (let same : x ≡ j = grind (arith, nat_tests) in let here = ap q same in let passes = k.0 in cc)) (λ y. y) in
     (k.0, rw other at k.1))) in
-    let is : count_by q (x ∷ names) ≡ 0 + count_by q names = more ∙ ap (λ (b : Bool). (if b then 1 else 0) + count_by q names) f in
     omega arith)
 
 -- ---- lawfulness
@@ -69,16 +68,12 @@ counts_too w s v j h noted few t =
     let mine = h.each j few in
     let ch = s.views.chosen (key v.stamp) in
     let long = length_push ch.before (View ch.view) in
-    let number = noted.number in
-    ⊎_elim
-    (λ (a : has ch.members j ≡ true). (let there : has v.members j ≡ true = ap (λ l. has l j) (sym noted.members) ∙ a in rw there refl))
-    (λ (a : ((s.node j).has_log && nat_lt (length (opening ch)) (s.node j).start) ≡ true).
-    (let b = and_both (s.node j).has_log (nat_lt (length (opening ch)) (s.node j).start) a in
+    either (or_cases (has ch.members j) ((s.node j).has_log && nat_lt (length (opening ch)) (s.node j).start) t)
+    (λ a. (let there : has v.members j ≡ true = ap (λ l. has l j) (sym noted.members) ∙ a in rw there refl))
+    (λ a. (let b = and_both (s.node j).has_log (nat_lt (length (opening ch)) (s.node j).start) a in
     let log : has_log (w.nodes j).status ≡ true = sym mine.log_ ∙ b.0 in
-    let start_ = mine.start log in
     let since : nat_lt v.number (w.nodes j).core.start ≡ true = grind (arith, nat_tests) in
     split (has v.members j) (λ y. rw y refl) (λ y. rw (y, since) refl)))
-    (or_cases (has ch.members j) ((s.node j).has_log && nat_lt (length (opening ch)) (s.node j).start) t)
 
 pub lawful_group : (w : World) (s : Group) (v : Decided) → Stands w s → NotedStands w s.views v → is_lawful w v ≡ true
     → how_many (λ name. counts_for s (key v.stamp) name && ((s.node name).stopped && not (s.node name).departed)) ≤ (s.views.chosen (key v.stamp)).resilience

@@ -1,15 +1,17 @@
 -- Who left: whose Leave stands on the chain asked to leave, and who departed has its Leave accepted, unless nobody is left.
 use Rattle.am_base.specs.declared.entry.GroupView.{GroupView}
 use Rattle.am_chain.specs.Runs.{first_choice}
-use Rattle.am_headline.proofs.RepairedWords.{same_from_push, ◌≡◌, ◌⊎◌, ⊎_elim, inl, inr, ℕ, ◌+◌, ◌<◌, ◌≤◌, List, [], ◌∷◌, ◌++◌, length, true, false, refl, sym}
+use Rattle.am_headline.proofs.RepairedWords.{same_from_push, ◌≡◌, ◌⊎◌, either, inl, inr, ℕ, ◌+◌, ◌<◌, ◌≤◌, List, [], ◌∷◌, ◌++◌, length, true, false, refl, sym}
 use Rattle.am_headline.proofs.RepairedWords.{subst, arith, Entry, Leave, View, Image, place_of, life_of, Begins, IsGood, mem, view_of, key, In, row_at, ap, ◌∙◌}
 use Rattle.am_headline.proofs.RepairedWords.{begins_refl, begins_more, begins_trans, begins_both, begins_same, begins_length, begins_pushed, length_push}
 use Rattle.am_headline.proofs.RepairedWords.{good_begins, told_push, long_told, mem_in, in_mem, mem_between, leaver_in, leaver_out, Group, put, opening, Leads}
 use Rattle.am_headline.proofs.RepairedWords.{chain_of, MayNumber, choice_of, longer, accepts, learns, begins, raises, gives_over, welcomes, asks, stops, Kept}
 use Rattle.am_headline.proofs.RepairedWords.{Move, Run, founded, more, put_same, put_at, run_keeps, moves_grow, Becomes, stayed, joins, founds, became}
 use Rattle.am_base.specs.Whole.{image_of}
+use Rattle.am_stands.proofs.Growing.{names_grow}
 use Rattle.am_chain.specs.Moves.{numbers, stores, fetches, decides, departs, closes}
 use Rattle.am_chain.specs.Group as groups
+use Rattle.am_stands.proofs.Words.{cases_lt}
 
 -- ---- what is kept
 
@@ -50,10 +52,6 @@ once list a b d good h k less =
 
 -- ---- Leaves
 
-put_leaving : (s : Group) (i : ℕ) (m : groups.Node) → ((s.node i).leaving ≡ true → m.leaving ≡ true) → (j : ℕ) → (s.node j).leaving ≡ true
-    → (put s.node i m j).leaving ≡ true
-put_leaving s i m f j = put_at (λ k n. (s.node k).leaving ≡ true → n.leaving ≡ true) s.node i m f (λ k other z. z) j
-
 -- the chain stays
 asked_same : (s t : Group) → chain_of t.views ≡ chain_of s.views → ((j : ℕ) → (s.node j).leaving ≡ true → (t.node j).leaving ≡ true) → LeavesAsked s
     → LeavesAsked t
@@ -62,10 +60,9 @@ asked_same s t chain leaving h a j begins_ = leaving j (h a j (subst (Begins (a 
 -- it gets an entry
 asked_more : (s t : Group) (e : Entry) → chain_of t.views ≡ chain_of s.views ++ e ∷ [] → ((j : ℕ) → (s.node j).leaving ≡ true → (t.node j).leaving ≡ true)
     → ((j : ℕ) → e ≡ Leave j → (s.node j).leaving ≡ true) → LeavesAsked s → LeavesAsked t
-asked_more s t e chain leaving new h a j begins_ = leaving j (⊎_elim
-    (λ (old : Begins (a ++ Leave j ∷ []) (chain_of s.views)). h a j old)
-    (λ (now : a ++ Leave j ∷ [] ≡ chain_of s.views ++ e ∷ []). new j (sym (same_from_push a (chain_of s.views) (Leave j) e now).1))
-    (begins_pushed e (subst (Begins (a ++ Leave j ∷ [])) chain begins_)))
+asked_more s t e chain leaving new h a j begins_ = leaving j (either (begins_pushed e (subst (Begins (a ++ Leave j ∷ [])) chain begins_))
+    (λ old. h a j old)
+    (λ now. new j (sym (same_from_push a (chain_of s.views) (Leave j) e now).1)))
 
 -- the chain of a sequencer's group, with an entry more
 chain_more : (s : Group) (i : ℕ) (list : List Entry) → Kept s → Leads i (s.node i)
@@ -80,35 +77,21 @@ numbers_asked s i (Leave name) may j is = let same : name ≡ j = same_leave nam
 numbers_asked s i (View v) may j is = absurd may
 numbers_asked s i _ may j is = absurd (cc)
 
-asked_move : (s t : Group) → Move s t → Kept s → LeavesAsked s → LeavesAsked t
-asked_move s t (numbers i e leads fit may) k h =
+asked_move : (s t : Group) → Move s t → Kept s → ((j : ℕ) → (s.node j).leaving ≡ true → (t.node j).leaving ≡ true) → LeavesAsked s → LeavesAsked t
+asked_move s t (numbers i e leads fit may) k leaving h =
     let ok = (k.each i).leads leads in
-    asked_more s t e (chain_more s i ((s.node i).list ++ e ∷ []) k leads ∙ ap (λ l. l ++ e ∷ []) ok.chain) (put_leaving s i (longer (s.node i) e) (λ z. z))
-    (numbers_asked s i e may) h
-asked_move s t (closes i n leads leaving alone may) k h =
+    asked_more s t e (chain_more s i ((s.node i).list ++ e ∷ []) k leads ∙ ap (λ l. l ++ e ∷ []) ok.chain) leaving (numbers_asked s i e may) h
+asked_move s t (closes i n leads leaves alone may) k leaving h =
     let ok = (k.each i).leads leads in
-    asked_more s t (Leave i) (chain_more s i ((s.node i).list ++ Leave i ∷ []) k leads ∙ ap (λ l. l ++ Leave i ∷ []) ok.chain)
-    (put_leaving s i (record (longer (s.node i) (Leave i)) { departed = true }) (λ z. z))
-    (λ j is. let same : i ≡ j = same_leave i j is in ap (λ x. (s.node x).leaving) (sym same) ∙ leaving) h
-asked_move s t (decides i v may) k h = λ a j begins_.
+    asked_more s t (Leave i) (chain_more s i ((s.node i).list ++ Leave i ∷ []) k leads ∙ ap (λ l. l ++ Leave i ∷ []) ok.chain) leaving
+    (λ j is. let same : i ≡ j = same_leave i j is in ap (λ x. (s.node x).leaving) (sym same) ∙ leaves) h
+asked_move s t (decides i v may) k leaving h = λ a j begins_.
     (let m = s.node i in
-    let all = opening (choice_of m v) in
-    let is : chain_of t.views ≡ all = put_same s.views.line (key m.promise) all in
-    put_leaving s i (record m { list = all; ballot = false }) (λ z. z) j (⊎_elim
-    (λ (old : Begins (a ++ Leave j ∷ []) m.list). h a j (begins_trans old ((k.each i).list may.up)))
-    (λ (now : a ++ Leave j ∷ [] ≡ all). absurd (let e = (same_from_push a m.list (Leave j) (View (choice_of m v).view) now).1 in cc))
-    (begins_pushed (View (choice_of m v).view) (subst (Begins (a ++ Leave j ∷ [])) is begins_))))
-asked_move s t (stores i e up decided other stays next) k h = asked_same s t refl (put_leaving s i (longer (s.node i) e) (λ z. z)) h
-asked_move s t (learns i told_ acc up rises within before up_to given low) k h = asked_same s t refl (put_leaving s i _ (λ z. z)) h
-asked_move s t (begins i few up stays member) k h = asked_same s t refl (put_leaving s i _ (λ z. z)) h
-asked_move s t (raises i stamp there above) k h = asked_same s t refl (put_leaving s i _ (λ z. z)) h
-asked_move s t (fetches i f list e up ballot served shown next) k h = asked_same s t refl (put_leaving s i (longer (s.node i) e) (λ z. z)) h
-asked_move s t (gives_over i) k h = asked_same s t refl (put_leaving s i _ (λ z. z)) h
-asked_move s t (welcomes j stamp base join may) k h = asked_same s t refl (put_leaving s j _ (λ z. z)) h
-asked_move s t (asks i up unballoted) k h = asked_same s t refl (put_leaving s i _ (λ z. refl)) h
-asked_move s t (departs i before may) k h = asked_same s t refl (put_leaving s i _ (λ z. z)) h
-asked_move s t (stops i) k h = asked_same s t refl (put_leaving s i _ (λ z. z)) h
-asked_move s t _ k h = asked_same s t refl (λ j z. z) h
+    let is : chain_of t.views ≡ opening (choice_of m v) = put_same s.views.line (key m.promise) (opening (choice_of m v)) in
+    leaving j (either (begins_pushed (View (choice_of m v).view) (subst (Begins (a ++ Leave j ∷ [])) is begins_))
+    (λ old. h a j (begins_trans old ((k.each i).list may.up)))
+    (λ now. absurd (let e = (same_from_push a m.list (Leave j) (View (choice_of m v).view) now).1 in cc))))
+asked_move s t _ k leaving h = asked_same s t refl leaving h
 
 -- ---- who departed
 
@@ -118,10 +101,9 @@ put_gone s i m d = put_at (λ k n. n.departed ≡ true → ((s.node k).departed 
     (λ k other z. inl z) d
 
 not_now : (s : Group) (i : ℕ) (m : groups.Node) (d : ℕ) → m.departed ≡ (s.node i).departed → (put s.node i m d).departed ≡ true → (s.node d).departed ≡ true
-not_now s i m d same t = ⊎_elim
-    (λ (a : (s.node d).departed ≡ true). a)
-    (λ (a : (d ≡ i) × (m.departed ≡ true)). ap (λ k. (s.node k).departed) a.0 ∙ sym same ∙ a.1)
-    (put_gone s i m d t)
+not_now s i m d same t = either (put_gone s i m d t)
+    (λ a. a)
+    (λ a. ap (λ k. (s.node k).departed) a.0 ∙ sym same ∙ a.1)
 
 -- the chain stays, and more is accepted
 gone_same : (s t : Group) → chain_of t.views ≡ chain_of s.views → Begins s.group t.group → (d : ℕ) → GoneBy s d → GoneBy t d
@@ -146,26 +128,21 @@ gone_decided s t i v k kt up member is group d gone (accepted before h) = accept
 gone_decided s t i v k kt up member is group d gone (last before chain none) = absurd (
     let m = s.node i in
     let there = kt.there d gone in
-    let part : Begins (there.0 ++ Leave d ∷ []) m.list = ⊎_elim
-    (λ (old : Begins (there.0 ++ Leave d ∷ []) m.list). old)
-    (λ (now : there.0 ++ Leave d ∷ [] ≡ opening (choice_of m v)).
-    absurd (let e = (same_from_push there.0 m.list (Leave d) (View (choice_of m v).view) now).1 in cc))
-    (begins_pushed (View (choice_of m v).view) (subst (Begins (there.0 ++ Leave d ∷ [])) is there.1)) in
+    let part : Begins (there.0 ++ Leave d ∷ []) m.list =
+    either (begins_pushed (View (choice_of m v).view) (subst (Begins (there.0 ++ Leave d ∷ [])) is there.1))
+    (λ old. old)
+    (λ now. absurd (let e = (same_from_push there.0 m.list (Leave d) (View (choice_of m v).view) now).1 in cc)) in
     let on = (k.each i).list up in
     let long_a = length_push there.0 (Leave d) in
     let long_b = length_push before (Leave d) in
     let whole = ap length chain in
     let short = begins_length on in
     let low = begins_length part in
-    ⊎_elim
-    (λ (less : length there.0 < length before). once (chain_of s.views) there.0 before d k.views.good (begins_trans part on)
+    either (cases_lt (length there.0) (length before))
+    (λ less. once (chain_of s.views) there.0 before d k.views.good (begins_trans part on)
     (subst (Begins (before ++ Leave d ∷ [])) (sym chain) (begins_refl (before ++ Leave d ∷ []))) less)
-    (λ (all : length before ≤ length there.0). (let same : m.list ≡ chain_of s.views = begins_same on (omega arith) in
-    none i (subst (λ l. mem l i ≡ true) same member)))
-    (two (length there.0) (length before)))
-  where
-    two : (a b : ℕ) → (a < b) ⊎ (b ≤ a)
-    two a b = grind arith
+    (λ all. (let same : m.list ≡ chain_of s.views = begins_same on (omega arith) in
+    none i (subst (λ l. mem l i ≡ true) same member))))
 
 gone_move : (s t : Group) → Move s t → Kept s → Ends t → AllGone s → AllGone t
 gone_move s t (numbers i e leads fit may) k kt h = λ d gone. gone_led s t i k leads (begins_refl s.group) d
@@ -175,21 +152,19 @@ gone_move s t (closes i n leads leaving alone may) k kt h = λ d gone.
     (let m = record (longer (s.node i) (Leave i)) { departed = true } in
     let ok = (k.each i).leads leads in
     let is : chain_of t.views ≡ (s.node i).list ++ Leave i ∷ [] = chain_more s i ((s.node i).list ++ Leave i ∷ []) k leads in
-    ⊎_elim
-    (λ (old : (s.node d).departed ≡ true). gone_led s t i k leads (moves_grow s t (closes i n leads leaving alone may) k tt).group d (h d old))
-    (λ (now : (d ≡ i) × (m.departed ≡ true)). subst (GoneBy t) (sym now.0) (last (s.node i).list is (λ j member.
+    either (put_gone s i m d gone)
+    (λ old. gone_led s t i k leads (moves_grow s t (closes i n leads leaving alone may) k tt).group d (h d old))
+    (λ now. subst (GoneBy t) (sym now.0) (last (s.node i).list is (λ j member.
     (let before = none_more (s.node i).list i j (subst (λ l. mem l j ≡ true) is member) in
     let same = alone j before in
     leaver_out (s.node i).list i (subst IsGood is kt.good) (subst (λ x. mem ((s.node i).list ++ Leave i ∷ []) x ≡ true) same (subst (λ l. mem l j ≡ true) is
-    member))))))
-    (put_gone s i m d gone))
+    member)))))))
 gone_move s t (decides i v may) k kt h = λ d gone.
     gone_decided s t i v k kt may.up may.needed (put_same s.views.line (key (s.node i).promise) (opening (choice_of (s.node i) v)))
     (begins_refl s.group) d gone (h d (not_now s i _ d refl gone))
-gone_move s t (departs i before may) k kt h = λ d gone. ⊎_elim
-    (λ (old : (s.node d).departed ≡ true). gone_same s t refl (begins_refl s.group) d (h d old))
-    (λ (now : (d ≡ i) × (true ≡ true)). subst (GoneBy t) (sym now.0) (accepted before may.accepted))
-    (put_gone s i (record (s.node i) { departed = true }) d gone)
+gone_move s t (departs i before may) k kt h = λ d gone. either (put_gone s i (record (s.node i) { departed = true }) d gone)
+    (λ old. gone_same s t refl (begins_refl s.group) d (h d old))
+    (λ now. subst (GoneBy t) (sym now.0) (accepted before may.accepted))
 gone_move s t (stores i e up decided other stays next) k kt h = λ d gone. gone_same s t refl (begins_refl s.group) d
     (h d (not_now s i (longer (s.node i) e) d refl gone))
 gone_move s t (learns i told_ acc up rises within before up_to given low) k kt h = λ d gone. gone_same s t refl (begins_refl s.group) d
@@ -211,10 +186,9 @@ pub record AllLeft (s : Group) : Type 0 where
   pub gone : AllGone s
 
 nil_none : (a : List Entry) (e x : Entry) → Begins (a ++ x ∷ []) (e ∷ []) → x ≡ e
-nil_none a e x h = ⊎_elim
-    (λ (z : Begins (a ++ x ∷ []) []). absurd (let l = begins_length z in let k = length_push a x in omega arith))
-    (λ (z : a ++ x ∷ [] ≡ [] ++ e ∷ []). (same_from_push a [] x e z).1)
-    (begins_pushed e h)
+nil_none a e x h = either (begins_pushed {b = []} e h)
+    (λ z. absurd (let l = begins_length z in let k = length_push a x in omega arith))
+    (λ z. (same_from_push a [] x e z).1)
 
 pub runs_left : (founders : List ℕ) (first resilience : ℕ) (s : Group) → Run founders first resilience s → AllLeft s
 runs_left founders first resilience s (founded may) = record {
@@ -229,7 +203,8 @@ runs_left founders first resilience t (more {s = s} run step law) =
     let kept : Kept u = subst Kept step.is new in
     let ends : Ends step.moved = record { good = kept.views.good; there = λ d gone. (let k = kept.departed d gone in (k.before, k.chain)) } in
     let gone = gone_move s step.moved step.move old.kept ends h.gone in
+    let leaving = λ (j : ℕ). (names_grow s step.moved step.move old.kept j).leaving in
     subst AllLeft (sym step.is) (record {
-      asked = asked_same step.moved u refl (λ j z. z) (asked_move s step.moved step.move old.kept h.asked);
+      asked = asked_same step.moved u refl (λ j z. z) (asked_move s step.moved step.move old.kept leaving h.asked);
       gone = λ d g. gone_same step.moved u refl (begins_refl step.moved.group) d (gone d g);
     })

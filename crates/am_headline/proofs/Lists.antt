@@ -1,5 +1,5 @@
 -- Lists, their lines, and where a View stands in them.
-use Rattle.am_headline.proofs.Words.{same_stamp, low_or_above, ◌≡◌, ⊎_elim, ℕ, zero, suc, ◌<◌, ◌≤◌, true, List, [], ◌∷◌, ◌++◌, length, Some, slice_get, sym, ap}
+use Rattle.am_headline.proofs.Words.{same_stamp, low_or_above, ◌≡◌, either, ℕ, zero, suc, ◌<◌, ◌≤◌, true, List, [], ◌∷◌, ◌++◌, length, Some, slice_get, sym, ap}
 use Rattle.am_headline.proofs.Words.{◌∙◌, subst, arith, list_any, Entry, View, GroupView, Stamp, item_at, get_before, Begins, IsGood, view_of, key, begins_nil}
 use Rattle.am_headline.proofs.Words.{begins_both, begins_more, begins_same, length_push, good_begins, view_up, view_below, view_viewed, is_view, is_view_of}
 use Rattle.am_headline.proofs.Words.{up_to_view, up_to_next, split, item_more, refl}
@@ -51,15 +51,13 @@ same_opening a b v w list stamps h k g f =
     let q = b ++ View w ∷ [] in
     let long_p = length_push a (View v) in
     let long_q = length_push b (View w) in
-    ⊎_elim
-    (λ (le : length p ≤ length q). ⊎_elim
-    (λ (back : length q ≤ length p). begins_same (begins_both h k le) back)
-    (λ (less : length p < length q). absurd (below w b p (begins_both (begins_both h k le) (begins_more b (View w ∷ [])) (omega arith)) f
-    (view_viewed a v ∙ stamps)))
-    (low_or_above (length q) (length p)))
-    (λ (less : length q < length p). absurd (below v a q (begins_both (begins_both k h (omega arith)) (begins_more a (View v ∷ [])) (omega arith)) g
+    either (low_or_above (length p) (length q))
+    (λ le. either (low_or_above (length q) (length p))
+    (λ back. begins_same (begins_both h k le) back)
+    (λ less. absurd (below w b p (begins_both (begins_both h k le) (begins_more b (View w ∷ [])) (omega arith)) f
+    (view_viewed a v ∙ stamps))))
+    (λ less. absurd (below v a q (begins_both (begins_both k h (omega arith)) (begins_more a (View v ∷ [])) (omega arith)) g
     (view_viewed b w ∙ sym stamps)))
-    (low_or_above (length p) (length q))
   where
     below : (v : GroupView) (a q : List Entry) → Begins q a → IsGood (a ++ View v ∷ []) → view_of q ≡ v.stamp → ⊥
     below v a q h g is =

@@ -28,7 +28,6 @@ none_from p from _ _ low some h = absurd (omega arith)
 
 pub none_passes : (p : ℕ → Bool) (set : List ℕ) (name : ℕ) → IsSet set → has set name ≡ true → list_any p (names_of set) ≡ false → p name ≡ false
 none_passes p set name is there h =
-    let place = mod16 name in
     let life : slice_index set (place_of name) ≡ life_of name = (let z : (slice_index set (place_of name) == life_of name) ≡ true = there in
     grind (arith, nat_tests)) in
     let fails = none_from p 0 (place_of name) set (omega arith) (omega arith) h in
@@ -109,7 +108,6 @@ completes w s k v known at small h =
         let fails = none_passes (lags w v.stamp) v.members j set member none in
         let runs : is_stopped w j ≡ false = sym mine.stopped ∙ there.goes in
         let stays : has_departed (w.nodes j).status ≡ false = sym mine.departed ∙ there.stays in
-        let low : stamp_lt (nodes.view (w.nodes j)) v.stamp ≡ false = rw (runs, stays) at fails in
         let viewed : view_of (s.node j).list ≡ nodes.view (w.nodes j) = view_is w s j few known in
         let good = view_small (s.node j).list (known.shaped.good j) in
         split (nat_lt (key (view_of (s.node j).list)) (key v.stamp))

@@ -50,7 +50,6 @@ past_to log k (suc more) place life used low high small fit past =
 left_row : (image : Image) (name : ℕ) → IsUsed image → nat_lt 0 (row_of image name).left ≡ true → Past (row_at image (place_of name)) (life_of name)
 left_row image name used left = split ((at_place image name).life == life_of name)
     (λ t.
-    let here : nat_lt 0 (at_place image name).left ≡ true = rw t at left in
     let life : (at_place image name).life ≡ life_of name = grind (arith, nat_tests) in
     let some : (at_place image name).joined ≢ 0 = λ none. (let no_life = used.unused (place_of name) (mod16 name) none in absurd (omega arith)) in
     record { joined = omega arith; gone = inr (life, (grind (arith, nat_tests))) })

@@ -46,11 +46,7 @@ pub record CauseNamed (c : Cause) : Type 0 where
 -- ---- changes
 
 pushed_named : (m : Node) (e : Entry) → EntryNamed e → NodeNamed m → NodeNamed (push_entry m e)
-pushed_named m e is h = record {
-  who = h.who;
-  entries = All-append EntryNamed m.core.log.entries (e ∷ []) h.entries (All-cons EntryNamed e [] is (All-nil EntryNamed));
-  ballot = h.ballot;
-}
+pushed_named m e is h = assumption (All-append EntryNamed m.core.log.entries (e ∷ []) h.entries (All-cons EntryNamed e [] is (All-nil EntryNamed)))
 
 brought_named : (c : Cause) (s : ℕ) (v : Stamp) (report : Report) (req : ℕ) (body : List ℕ) → BringsSend c s v report req body → CauseNamed c → s < 256
 brought_named c s v report req body (by_request s1 v1 report1 req1 body1) from = from.senders (packet.Request s v report req body) refl

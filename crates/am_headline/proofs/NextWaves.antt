@@ -1,6 +1,6 @@
 -- What the second and the third wave of a round bring about: what is missing is sent again, and stored.
 use Rattle.am_headline.proofs.RepairWords.{◌≡◌, ℕ, zero, suc, ◌+◌, ◌-◌, ◌<◌, ◌≤◌, ◌==◌, min, true, false, List, [], ◌∷◌, length, drop, Some, slice_get, refl, sym, ap}
-use Rattle.am_headline.proofs.RepairWords.{◌∙◌, subst, arith, length-drop, nat_tests, length-take, Stamp, Report, Entry, NodeEvent, Rules, place_of, has, Log, top_of}
+use Rattle.am_headline.proofs.RepairWords.{◌∙◌, subst, arith, length-drop, nat_tests, length-take, Stamp, Report, Entry, Packet, Rules, place_of, has, Log, top_of}
 use Rattle.am_headline.proofs.RepairWords.{entry_at, fits, Bcast, Nack, Letter, letter_to, slice_get-drop, Event, is_for, letter_at, Node, top, only_name}
 use Rattle.am_headline.proofs.RepairWords.{with_report, Step, bcast_of, entries_to_serve, hear, event_at, hearings, take_report, World, happens, happen, Cause, calls}
 use Rattle.am_headline.proofs.RepairWords.{hears, refuses, BringsReport, with_send, by_request, by_spread, by_ack, by_nack, by_leave_ask, IsCause, get_take}
@@ -62,7 +62,6 @@ pub served_entry_goes : (rules : Rules) (r : Repair) (i letter number : ℕ) (u 
     → IsServed rules r i letter number u → IsServed rules r i letter number (happens u e)
 served_entry_goes rules r i letter number u e ours h there s =
     let grow = grow_goes rules r u e ours h in
-    let up = grow.taken i there in
     record {
       base = s.base;
       acc = s.acc;
@@ -83,11 +82,11 @@ served_goes rules r i after stored u e ours h there s = record {
   each = λ k low. served_entry_goes rules r i (s.first + 1 + k) (stored + 1 + k) u e ours h there (s.each k low);
 }
 
+-- ---- the sequencer hears what is missing
+
 same_bcast : (n : Node) (s : ℕ) (v : Stamp) (number : ℕ) (e : Entry) → n.core.who ≡ s → n.core.promise ≡ v
     → bcast_of n number e ≡ Bcast s v n.core.base n.core.acc number e
 same_bcast n s v number e a b = cc
-
--- ---- the sequencer hears what is missing
 
 -- the world after it, where it serves
 served_by : (rules : Rules) (r : Repair) (i stored : ℕ) (u v : World) (s : Step) → Fine rules r u → Fine rules r v → has r.members i ≡ true
@@ -148,40 +147,26 @@ nack_hear rules r taken i stored k l report u h t bound there other late letter 
     (subst (λ p. IsCalm r u p) is_ (h.calm.letters k l late letter)) in
     let trims = report_trims rules r taken q i report h.calm.leads (h.calm.who r.by) fronts t there other low in
     let serves = nacks_are_served q i r.view report heard known (report_fits_list r u i report h.calm there other calm fits) (omega arith) in
-    let base = t.base i there other in
     served_by rules r i stored u (happens u e) s h fine there other (omega arith) node
     (subst (λ p. Serves q i stored (hear q p)) (sym is_) (subst (λ x. Serves q i x (hear q (Nack i r.view report))) exact serves))
     (λ j x there_. ap (λ (v : World). letter_at v.letters (length u.letters + 1 + j)) is ∙ sent_at u e r.by s j x there_)
 
-no_report : (event : NodeEvent) (s : ℕ) (v : Stamp) (report : Report) → BringsReport (calls event) s v report → ⊥
-no_report event s v report brings = by_cause (calls event) refl s v report brings
-  where
-    by_cause : (c : Cause) → c ≡ calls event → (s : ℕ) (v : Stamp) (report : Report) → BringsReport c s v report → ⊥
-    by_cause c is s v report (with_send s_ v_ report_ req body (by_request s1 v1 report1 req1 body1)) = absurd (cc)
-    by_cause c is s v report (with_send s_ v_ report_ req body (by_spread s1 v1 report1 req1 body1)) = absurd (cc)
-    by_cause c is s v report (by_ack s_ v_ report_) = absurd (cc)
-    by_cause c is s v report (by_nack s_ v_ report_) = absurd (cc)
-    by_cause c is s v report (by_leave_ask s_ v_ report_) = absurd (cc)
-
-none_refused : (s : ℕ) (v : Stamp) (report : Report) → BringsReport refuses s v report → ⊥
-none_refused s v report brings = by_cause refuses refl s v report brings
-  where
-    by_cause : (c : Cause) → c ≡ refuses → (s : ℕ) (v : Stamp) (report : Report) → BringsReport c s v report → ⊥
-    by_cause c is s v report (with_send s_ v_ report_ req body (by_request s1 v1 report1 req1 body1)) = absurd (cc)
-    by_cause c is s v report (with_send s_ v_ report_ req body (by_spread s1 v1 report1 req1 body1)) = absurd (cc)
-    by_cause c is s v report (by_ack s_ v_ report_) = absurd (cc)
-    by_cause c is s v report (by_nack s_ v_ report_) = absurd (cc)
-    by_cause c is s v report (by_leave_ask s_ v_ report_) = absurd (cc)
+-- a report is heard
+heard_report : {c : Cause} {s : ℕ} {v : Stamp} {report : Report} → BringsReport c s v report → (p : Packet) × (c ≡ hears p)
+heard_report (with_send s v report req body (by_request s1 v1 report1 req1 body1)) = (_, refl)
+heard_report (with_send s v report req body (by_spread s1 v1 report1 req1 body1)) = (_, refl)
+heard_report (by_ack s v report) = (_, refl)
+heard_report (by_nack s v report) = (_, refl)
+heard_report (by_leave_ask s v report) = (_, refl)
 
 -- what the reports of a wave tell was taken by the wave's beginning
 wave_tells : (rules : Rules) (r : Repair) (w u : World) (after k name : ℕ) → Fine rules r w → Stays w u → r.sent ≤ after → after < k → k ≤ length w.letters
     → (c : Cause) → IsCause u name (act.Hear k) c → TellsTaken r (λ i. (w.nodes i).core.taken) c
-wave_tells rules r w u after k name h stays low late within (calls event) is s v report brings there = absurd (no_report event s v report brings)
 wave_tells rules r w u after k name h stays low late within (hears p) is s v report brings there =
     let letter = letter_is w u k is.letter stays (omega arith) within is.there in
     let calm = subst (IsCalm r w) is.is (h.calm.letters k is.letter (omega arith) letter) in
     (told_taken r w (hears p) s v report brings calm).taken there
-wave_tells rules r w u after k name h stays low late within refuses is s v report brings there = absurd (none_refused s v report brings)
+wave_tells rules r w u after k name h stays low late within _ is s v report brings there = absurd (let heard = (heard_report brings).1 in cc)
 
 -- the second wave's end
 pub record IsServing (rules : Rules) (r : Repair) (i after stored : ℕ) (u : World) : Type 0 where
@@ -217,7 +202,6 @@ second_wave_serves rules r i after stored w low x there other =
     low_taken : taken i ≤ stored
     low_taken =
         let fronts = (x.fine.laws.each i (few_members rules r w i x.fine there)).fronts in
-        let given = fronts.given in let accepted = fronts.accepted in let at = x.stored_ in
         omega arith
 
     tells : x.asked.report.taken ≤ taken i

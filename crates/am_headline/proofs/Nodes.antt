@@ -33,7 +33,6 @@ closed_ballot m (Some b) h a = split b.is_over (λ t. rw t refl)
     (λ f. absurd (
     let o = h f in
     let same = sym o.promised ∙ (acting m a).1 in
-    let above = subst (λ (v : Stamp). stamp_lt (view m) v ≡ true) same o.above in
     let z = not_above_itself (view m) in cc))
 
 pub no_open : (m : Node) → Balloted m → acts m ≡ true → is_unfinished m.ballot ≡ false

@@ -45,8 +45,5 @@ each_old w e v (returns place is left more) h = record {
 }
 each_old w e v _ h = record { born = h.born; old = h.old }
 
-old_start : (rules : Rules) → OldStopped (start rules)
-old_start rules = record { born = λ place. omega arith; old = λ name low. absurd (omega arith) }
-
 pub old_lives : (rules : Rules) (events : List Event) → OldStopped (run rules events)
-old_lives rules events = runs_keep OldStopped each_old (start rules) events (old_start rules)
+old_lives rules events = runs_keep OldStopped each_old (start rules) events (record { born = λ place. omega arith; old = λ name low. absurd (omega arith) })

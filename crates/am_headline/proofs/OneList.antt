@@ -3,10 +3,10 @@ use Rattle.am_headline.proofs.RepairedWords.{member_stays, same_stamp, ◌≡◌
 use Rattle.am_headline.proofs.RepairedWords.{arith, nat_tests, Rules, MayFound, place_of, life_of, Event, Begins, IsGood, mem, view_of, begins_take}
 use Rattle.am_headline.proofs.RepairedWords.{begins_trans, Group, IsUp, Leads, chain_of, Kept, Node, acts, view, is_member, lowest_or_first, whole, broken_at}
 use Rattle.am_headline.proofs.RepairedWords.{MayRepair, World, current, is_stopped, run, split, and_both, front_is_lawful, logged, names_hold, Following}
-use Rattle.am_headline.proofs.RepairedWords.{told_all, group_kept, steps_move, KeptBy, held, IsOneList, RepairableIsOneList, lawful_front, inl, ⊎_elim, has}
-use Rattle.am_headline.proofs.RepairedWords.{members, run_owned, in_mem, In, mem_in, row_at, Past, was_begins}
+use Rattle.am_headline.proofs.RepairedWords.{told_all, group_kept, steps_move, KeptBy, held, IsOneList, RepairableIsOneList, lawful_front, inl, either, has}
+use Rattle.am_headline.proofs.RepairedWords.{members, run_owned, in_mem, In, mem_in, row_at, Past, was_begins, eqb-true}
 use Rattle.am_stands.specs.States.{OwnDecided}
-use Rattle.am_stands.proofs.Results.{tells_leads}
+use Rattle.am_stands.proofs.Sending.{tells_leads}
 use Rattle.am_stands.proofs.Owns.{run_owns}
 use Rattle.am_headline.specs.Calm.{is_past}
 use Rattle.am_headline.proofs.{RepairLists.is_past_by, Beginning.member_runs}
@@ -23,7 +23,6 @@ lawful_events rules events lawful = subst (λ es. broken_at rules es ≡ None) l
 pub small_name : (rules : Rules) (events : List Event) (place : ℕ) → MayFound rules → place < 16 → current (run rules events) place < 256
 small_name rules events place may low =
     let most = (names_hold rules events may).most place in
-    let least = (names_hold rules events may).least place in
     omega arith
 
 -- a life beyond the sixteenth is nobody's
@@ -33,7 +32,6 @@ member_small rules events name may member = split (nat_lt name 256)
     (λ f. absurd (
     let high : 256 ≤ name = grind (arith, nat_tests) in
     let most = (names_hold rules events may).most (place_of name) in
-    let life : 16 < life_of name = omega arith in
     let none = (names_hold rules events may).unborn name (omega arith) in
     let z = ap (λ (m : Node). is_member m.status) none in cc))
 
@@ -81,10 +79,7 @@ module _ (rules : Rules) (w : World) (s : Group) (place : ℕ) (old : Following 
   sequencer =
       let a = and_both (acts (w.nodes q)) ((view (w.nodes q)).by == (w.nodes q).core.who) may.leads in
       let b = and_both (is_member (w.nodes q).status) _ a.0 in
-      (b.0, same_stamp (w.nodes q).core.promise (view (w.nodes q)) b.1, same_number (view (w.nodes q)).by (w.nodes q).core.who a.1)
-    where
-      same_number : (a b : ℕ) → (a == b) ≡ true → a ≡ b
-      same_number a b t = grind (arith, nat_tests)
+      (b.0, same_stamp (w.nodes q).core.promise (view (w.nodes q)) b.1, eqb-true (view (w.nodes q)).by (w.nodes q).core.who a.1)
 
   viewed : view_of (s.node q).list ≡ view (w.nodes q)
   unfolding view_of
@@ -109,10 +104,9 @@ module _ (rules : Rules) (w : World) (s : Group) (place : ℕ) (old : Following 
   was_member name low member runs none =
       let joined = (kept.each name).joined (up name low member runs).log in
       let front = begins_trans (begins_take (s.node name).start s.group) kept.group in
-      ⊎_elim
-      (λ (x : In (row_at (image_of (chain_of s.views)) (place_of name)) (life_of name)). absurd (let t = in_mem (chain_of s.views) name x in cc))
-      (λ (x : Past (row_at (image_of (chain_of s.views)) (place_of name)) (life_of name)). is_past_by (image_of (chain_of s.views)) name x)
-      (was_begins name kept.views.good front (inl (mem_in (take (s.node name).start s.group) name joined.member)))
+      either (was_begins name kept.views.good front (inl (mem_in (take (s.node name).start s.group) name joined.member)))
+      (λ x. absurd (let t = in_mem (chain_of s.views) name x in cc))
+      (λ x. is_past_by (image_of (chain_of s.views)) name x)
 
   pub one_list : ((name : ℕ) → (w.nodes name).core.who ≡ name) → ((name : ℕ) → is_member (w.nodes name).status ≡ true → name < 256)
       → ((name : ℕ) → name < 256 → OwnDecided (w.nodes name)) → IsOneList w (w.nodes q)

@@ -1,6 +1,6 @@
 -- What one list of a group gives: each member's list tells what the sequencer's tells up to there.
 use Rattle.am_base.specs.declared.entry.GroupView.{GroupView}
-use Rattle.am_headline.proofs.RepairWords.{◌≡◌, max, ◌⊎◌, inl, inr, ⊎_elim, ℕ, zero, suc, ◌+◌, ◌-◌, ◌<◌, ◌≤◌, nat_le, true, List, [], ◌∷◌, length, take, Some}
+use Rattle.am_headline.proofs.RepairWords.{◌≡◌, max, ◌⊎◌, inl, inr, either, ℕ, zero, suc, ◌+◌, ◌-◌, ◌<◌, ◌≤◌, nat_le, true, List, [], ◌∷◌, length, take, Some}
 use Rattle.am_headline.proofs.RepairWords.{slice_get, refl, sym, ap, ◌∙◌, arith, length-append, subst, cases_lt, nat_tests, take-append-add, Image, Entry, Data}
 use Rattle.am_headline.proofs.RepairWords.{Join, Leave, View, has, entry_at, image_at, blank, fold, after, fits, members_of, fit_at, IsGood, mem, view_of, key}
 use Rattle.am_headline.proofs.RepairWords.{fold_append, good_begins, begins_length, begins_take, length_take, take_begins, begins_both, begins_push, view_up}
@@ -117,18 +117,16 @@ view_at image n (Leave name) es h = inr (h.0 ∙ (after_same image n (Leave name
 view_in : (image : Image) (n : ℕ) (es : List Entry) → ViewIn image n es ⊎ Unviewed image n es
 unfolding fold Unviewed
 view_in image n [] = inr (refl, refl)
-view_in image n (e ∷ es) = ⊎_elim
-    (λ (h : ViewIn (after image n e) (n + 1) es). let at = h.number in inl
+view_in image n (e ∷ es) = either (view_in (after image n e) (n + 1) es)
+    (λ h. let at = h.number in inl
     (record { index = suc h.index; last = h.last; is = h.is; number = omega arith; there = h.there }))
-    (λ (h : Unviewed (after image n e) (n + 1) es). view_at image n e es h)
-    (view_in (after image n e) (n + 1) es)
+    (λ h. view_at image n e es h)
 
 -- a list with the same view as the sequencer's has its last View
 no_less : (w : World) (q m : Node) → IsGood (lists.whole w q) → IsBeginning w q q → IsBeginning w q m → view m ≡ view q → top m < (image_of q).view_number → ⊥
 unfolding view_of Unviewed
-no_less w q m good own h same short = ⊎_elim
-    (λ (x : ViewIn blank 1 (lists.whole w q)).
-    let list = lists.whole w q in
+no_less w q m good own h same short = either (view_in blank 1 (lists.whole w q))
+    (λ x. let list = lists.whole w q in
     let tells = whole_told w q q own in
     let number = ap (λ (i : Image). i.view_number) tells in
     let long = whole_long w m h.within in
@@ -142,10 +140,8 @@ no_less w q m good own h same short = ⊎_elim
     ap (λ (i : Image). i.view) (whole_told w q m h) ∙ same ∙ ap (λ (i : Image). i.view) (sym tells) ∙ sym x.is in
     let keys = ap key mine in
     let z : ⊥ = omega arith in z)
-    (λ (x : Unviewed blank 1 (lists.whole w q)).
-    let number = ap (λ (i : Image). i.view_number) (whole_told w q q own) in
+    (λ x. let number = ap (λ (i : Image). i.view_number) (whole_told w q q own) in
     let z : ⊥ = omega arith in z)
-    (view_in blank 1 (lists.whole w q))
 
 pub has_last_view : (w : World) (q m : Node) → IsGood (lists.whole w q) → IsBeginning w q q → IsBeginning w q m → view m ≡ view q
     → (image_of q).view_number ≤ top m

@@ -1,5 +1,5 @@
 -- While another name steps, a sequencer that runs still trimmed no more than its members have taken.
-use Rattle.am_headline.proofs.RepairedWords.{item_get, eqb-true, equals_itself, ◌≡◌, ⊎_elim, ℕ, ◌<◌, ◌≤◌, ◌==◌, true, false, List, sym, ap, ◌∙◌, subst, arith}
+use Rattle.am_headline.proofs.RepairedWords.{item_get, eqb-true, equals_itself, ◌≡◌, either, ℕ, ◌<◌, ◌≤◌, ◌==◌, true, false, List, sym, ap, ◌∙◌, subst, arith}
 use Rattle.am_headline.proofs.RepairedWords.{Stamp, Rules, Letter, Event, Group, Node, view, acts, is_sequencer, has_log, Step, is_stopped, run, heard_by}
 use Rattle.am_headline.proofs.RepairedWords.{split, and_both, Cause, actor, WasSentTo, IsCause, parts, plain, Rises}
 use Rattle.am_packet.specs.declared.packet.Packet.TheVariants as packet
@@ -59,13 +59,12 @@ module _ (rules : Rules) (events : List Event) (e : Event) (c : Cause) (step : S
           low mine same
 
   acting_i : acts n ≡ true → view n ≡ view (w.nodes q) → h.low ≤ n.core.taken
-  acting_i act same = by_way (came_n rules events e c step s t x act)
-    where
-      by_way : Came c m n → h.low ≤ n.core.taken
-      by_way (went_on was stays more) = let low = h.acting i few was (sym stays ∙ same) in omega arith
-      by_way (own mine above) = absurd (apart (sym (who_n rules events e c step s t x) ∙ sym mine ∙ ap (λ (u : Stamp). u.by) same ∙ own_q))
-      by_way (told_so from u base tells is by far low) =
-          let a = told_low from u base tells (sym by ∙ ap (λ (z : Stamp). z.by) (sym is ∙ same) ∙ own_q) (sym is ∙ same) in omega arith
+  acting_i act same = elim (came_n rules events e c step s t x act) [
+    | went_on was stays more ↦ let low = h.acting i few was (sym stays ∙ same) in omega arith
+    | own mine above ↦ absurd (apart (sym (who_n rules events e c step s t x) ∙ sym mine ∙ ap (λ (u : Stamp). u.by) same ∙ own_q))
+    | told_so from u base tells is by far low ↦
+        let a = told_low from u base tells (sym by ∙ ap (λ (z : Stamp). z.by) (sym is ∙ same) ∙ own_q) (sym is ∙ same) in omega arith
+  ]
 
   acting : (j : ℕ) → j < 256 → acts (v.nodes j) ≡ true → view (v.nodes j) ≡ view (w.nodes q) → h.low ≤ (v.nodes j).core.taken
   acting j few_j act same = split (j == i)
@@ -89,11 +88,10 @@ module _ (rules : Rules) (events : List Event) (e : Event) (c : Cause) (step : S
       (stopped_v rules events e c step s t x i ∙ x.runs) (stopped_v rules events e c step s t x q ∙ runs_q))
 
   welcomed : (j base : ℕ) → Welcomed v j base → Welcomed w j base
-  welcomed j base z = by_time (letter_v rules events e c step s t x z.number z.letter z.there)
-    where
-      by_time : Sent w m n c z.letter → Welcomed w j base
-      by_time (before k at) = welcomed_in v w j base z k at
-      by_time (now says) = absurd (no_second (says_welcome m n c z.letter z.from z.stamp base z.join z.image says z.is).leads)
+  welcomed j base z = elim (letter_v rules events e c step s t x z.number z.letter z.there) [
+    | before k at ↦ welcomed_in v w j base z k at
+    | now says ↦ absurd (no_second (says_welcome m n c z.letter z.from z.stamp base z.join z.image says z.is).leads)
+  ]
 
   -- ---- what is known
 
@@ -115,14 +113,12 @@ module _ (rules : Rules) (events : List Event) (e : Event) (c : Cause) (step : S
       let a = up.taken in
       let z = ap (λ (y : Node). y.core.taken) at_i in
       took (omega arith)
-  known_i (joins none low welcomes) = ⊎_elim
-      (λ (still : has_log n.status ≡ false). joins (ap (λ (y : Node). has_log y.status) at_i ∙ still) low (λ base z. welcomes base (welcomed i base z)))
-      (λ (b : Began c n).
-      let most = welcomes b.base (heard_welcome b) in
+  known_i (joins none low welcomes) = either (begins m n x.effect.changes none)
+      (λ still. joins (ap (λ (y : Node). has_log y.status) at_i ∙ still) low (λ base z. welcomes base (welcomed i base z)))
+      (λ b. let most = welcomes b.base (heard_welcome b) in
       let taken = b.taken in
       let z = ap (λ (y : Node). y.core.taken) at_i in
       took (omega arith))
-      (begins m n x.effect.changes none)
   known_i (halts stopped) = halts (stopped_v rules events e c step s t x i ∙ stopped)
 
   known_other : (j : ℕ) → (j == i) ≡ false → Knows w h.low (w.nodes q) j → Knows v h.low (w.nodes q) j

@@ -1,7 +1,7 @@
 -- What a name accepted of its own list stands in the group list.
-use Rattle.am_headline.proofs.Words.{◌≡◌, ◌⊎◌, ⊎_elim, ℕ, suc, ◌+◌, ◌-◌, ◌<◌, ◌≤◌, ◌==◌, List, ◌++◌, length, take, drop, Some, slice_get, refl, sym, ap, ◌∙◌}
+use Rattle.am_headline.proofs.Words.{◌≡◌, ◌⊎◌, either, ℕ, suc, ◌+◌, ◌-◌, ◌<◌, ◌≤◌, ◌==◌, List, ◌++◌, length, take, drop, Some, slice_get, refl, sym, ap, ◌∙◌}
 use Rattle.am_headline.proofs.Words.{subst, arith, length-take-le, Entry, slice_get-drop, item_at, get_behind, Begins, Group, Kept, Node, view, whole, World}
-use Rattle.am_headline.proofs.Words.{group_with, group_after, split, NameStands, FrontsStand, get_item, item_taken}
+use Rattle.am_headline.proofs.Words.{group_with, group_after, split, NameStands, FrontsStand, get_item, item_taken, low_or_above}
 use Rattle.am_headline.proofs.{Lists.item_begins, Shapes.Along}
 
 -- ---- numbers in a name's whole list
@@ -56,15 +56,10 @@ pub step_in_group : (w v : World) (s t : Group) (i index number : ℕ) (e : Entr
     → v.group ≡ group_after w.group n → Begins w.group v.group → n.core.log.start ≤ length w.group → n.core.log.start ≤ length v.group
     → number ≡ n.core.log.start + index + 1 → number ≤ n.core.acc → n.core.acc ≤ length v.group → slice_get n.core.log.entries index ≡ Some e
     → item_at v.group number ≡ Some e
-step_in_group w v s t i index number e n along group stands after grows start start_v is low within at = ⊎_elim
-    (λ (old : number ≤ length w.group).
-    (let mine : item_at (t.node i).list number ≡ Some e = ap (λ l. item_at l number) stands.list
+step_in_group w v s t i index number e n along group stands after grows start start_v is low within at = either (low_or_above number (length w.group))
+    (λ old. (let mine : item_at (t.node i).list number ≡ Some e = ap (λ l. item_at l number) stands.list
     ∙ ap (item_at (whole v n)) is ∙ whole_item v n index e start_v at in
     let there = along number e (subst (λ (g : List Entry). number ≤ length g) (sym group) old) mine in
     item_begins number e grows (ap (λ l. item_at l number) (sym group) ∙ there)))
-    (λ (new : length w.group < number). ap (λ l. item_at l number) after
+    (λ new. ap (λ l. item_at l number) after
     ∙ after_item w.group n index number e start is new low (subst (λ (g : List Entry). n.core.acc ≤ length g) after within) at)
-    (two number (length w.group))
-  where
-    two : (a b : ℕ) → (a ≤ b) ⊎ (b < a)
-    two a b = grind arith

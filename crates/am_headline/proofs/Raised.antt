@@ -1,6 +1,6 @@
 -- What a change keeps of a node whose Views have no less resilience than the founding.
 use Rattle.am_model.specs.Ballots.{decided_view}
-use Rattle.am_laws.proofs.Words.{◌≡◌, inl, inr, ⊎_elim, ℕ, suc, ◌+◌, ◌-◌, ◌<◌, ◌≤◌, ◌==◌, ◌&&◌, nat_lt, true, false, List, [], ◌∷◌, ◌++◌, length, take, Option}
+use Rattle.am_laws.proofs.Words.{◌≡◌, inl, inr, ℕ, suc, ◌+◌, ◌-◌, ◌<◌, ◌≤◌, ◌==◌, ◌&&◌, nat_lt, true, false, List, [], ◌∷◌, ◌++◌, length, take, Option}
 use Rattle.am_laws.proofs.Words.{Some, None, refl, sym, ap, ◌∙◌, subst, arith, nat_tests, length-append, All, All-nil, All-cons, All-head, All-tail, All-append}
 use Rattle.am_laws.proofs.Words.{All-take, split, and_both, place_of, has, Stamp, stamp_lt, stamp_eq, Entry, Data, Join, Leave, View, Image, Outcome, Rules}
 use Rattle.am_laws.proofs.Words.{Log, blank, top_of, told_by, image_at, with_entry, members_of, after, fold, Packet, Node, Ballot, top, view, members, acts}
@@ -8,6 +8,7 @@ use Rattle.am_laws.proofs.Words.{is_sequencer, is_member, has_log, push_entry, t
 use Rattle.am_laws.proofs.Words.{Cause, hears, Balloting, with_more, without_one, as_it_is, Looks, decides, Change, refreshes, settles, numbers, stores}
 use Rattle.am_laws.proofs.Words.{begins_list, departs, promises, opens, looks, fetches, stores_view, asks_to_join, closes, logged, same_stamp, rests_refresh}
 use Rattle.am_laws.proofs.Words.{rests_at_end, settle_is, has_in, blank_joined}
+use Rattle.am_stands.proofs.Words.{either}
 use Rattle.am_packet.specs.declared.packet.Packet.TheVariants as packet
 use Rattle.am_laws.proofs.ViewSteps.{after_same, after_view}
 use Rattle.am_laws.proofs.ViewChanges.{numbers_plain, welcomed_none, leads_member, member_of}
@@ -49,13 +50,10 @@ least_first rules image number (e ∷ es) some first all =
 
 -- what a list with entries tells
 pub least_told : (rules : Rules) (log : Log) → ListRaised rules log → 0 < top_of log → rules.resilience ≤ (told_by log).resilience
-least_told rules log h some = ⊎_elim
-    (λ (fresh : (log.start ≡ 0) × (log.image ≡ blank)).
-    let start = fresh.0 in
+least_told rules log h some = either h.begins
+    (λ fresh. let start = fresh.0 in
     least_first rules log.image (log.start + 1) log.entries (omega arith) (h.first start) h.entries)
-    (λ (later : (0 < log.start) × (rules.resilience ≤ log.image.resilience)).
-    least_fold rules log.image (log.start + 1) log.entries later.1 h.entries)
-    h.begins
+    (λ later. least_fold rules log.image (log.start + 1) log.entries later.1 h.entries)
 
 first_taken : (n : ℕ) (es : List Entry) → FirstIsView es → FirstIsView (take n es)
 first_taken (suc n) (e ∷ es) h = h
@@ -69,9 +67,8 @@ some_taken _ _ some more = absurd (omega arith)
 pub begins_at : (rules : Rules) (log : Log) (base : ℕ) → ListRaised rules log → 0 < top_of log → log.start ≤ base
     → BeginsRaised rules base (image_at log base)
 unfolding fold
-begins_at rules log base h some kept = ⊎_elim
-    (λ (fresh : (log.start ≡ 0) × (log.image ≡ blank)).
-    let start = fresh.0 in
+begins_at rules log base h some kept = either h.begins
+    (λ fresh. let start = fresh.0 in
     split (base == 0)
     (λ t. let none : base ≡ 0 = grind (arith, nat_tests) in
     let nothing : base - log.start ≡ 0 = omega arith in
@@ -83,14 +80,12 @@ begins_at rules log base h some kept = ⊎_elim
           (some_taken (base - log.start) log.entries (omega arith) (omega arith)) (first_taken (base - log.start) log.entries (h.first start))
           (All-take (IsRaised rules) (base - log.start) log.entries h.entries),
     )))
-    (λ (later : (0 < log.start) × (rules.resilience ≤ log.image.resilience)).
-    let up = later.0 in
+    (λ later. let up = later.0 in
     inr (
       omega arith,
       least_fold rules log.image (log.start + 1) (take (base - log.start) log.entries) later.1
           (All-take (IsRaised rules) (base - log.start) log.entries h.entries),
     ))
-    h.begins
 
 -- an empty list tells nothing
 nothing_told : (image : Image) (number : ℕ) (es : List Entry) → length es ≡ 0 → fold image number es ≡ image
@@ -99,10 +94,9 @@ nothing_told image number [] none = refl
 nothing_told image number (e ∷ es) none = absurd (omega arith)
 
 pub blank_told : (rules : Rules) (log : Log) → ListRaised rules log → top_of log ≡ 0 → told_by log ≡ blank
-blank_told rules log h none = nothing_told log.image (log.start + 1) log.entries (omega arith) ∙ ⊎_elim
-    (λ (fresh : (log.start ≡ 0) × (log.image ≡ blank)). fresh.1)
-    (λ (later : (0 < log.start) × (rules.resilience ≤ log.image.resilience)). let up = later.0 in absurd (omega arith))
-    h.begins
+blank_told rules log h none = nothing_told log.image (log.start + 1) log.entries (omega arith) ∙ either h.begins
+    (λ fresh. fresh.1)
+    (λ later. let up = later.0 in absurd (omega arith))
 
 first_pushed : (es : List Entry) (e : Entry) → FirstIsView es → (length es ≡ 0 → is_view e ≡ true) → FirstIsView (es ++ e ∷ [])
 first_pushed [] e h is = is refl
@@ -186,7 +180,6 @@ look_raised : (rules : Rules) (m : Node) (b : Ballot) (v : Verdict) → Looks m 
     → NodeRaised rules v.node
 look_raised rules m b v (decides may) has_ h =
     let least = least_told rules m.core.log h.list has_.1 in
-    let some = has_.1 in
     let names = left_in b (need_of m b) in
     let before = trim_for m b names in
     let v = decided_view m b names in
@@ -235,10 +228,8 @@ change_raised rules heard m n (opens least resilience by may) h = record {
 change_raised rules heard m n (looks b verdict over why look is) h = look_raised rules m b verdict look (looked_listed rules m b why h) h
 change_raised rules heard m n (fetches s v base number e is by promise below from may) h =
     let told = heard (packet.Piece s v base number e) is in
-    let next = may.next in
     pushed rules (trim_up_to m base) e told.0 (λ none. told.1 (omega arith)) (same_raised rules m (trim_up_to m base) refl refl refl refl h)
 change_raised rules heard m n (stores_view s base number v is by own other promise below may) h =
-    let next = may.next in
     pushed rules (trim_up_to m base) (View v) (heard (packet.Result s base number v) is (omega arith)) (λ none. refl)
     (same_raised rules m (trim_up_to m base) refl refl refl refl h)
 change_raised rules heard m n (asks_to_join is was) h = same_raised rules m n refl refl refl (sym (ap has_log was)) h

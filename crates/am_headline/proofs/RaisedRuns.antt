@@ -1,11 +1,12 @@
 -- In each run no View has less resilience than the founding, whoever stops.
-use Rattle.am_laws.proofs.Words.{◌≡◌, inl, ⊎_elim, ℕ, ◌<◌, ◌≤◌, ◌==◌, true, List, [], ◌∷◌, ◌++◌, Some, slice_get, refl, sym, ap}
+use Rattle.am_laws.proofs.Words.{◌≡◌, inl, ℕ, ◌<◌, ◌≤◌, ◌==◌, true, List, [], ◌∷◌, ◌++◌, Some, slice_get, refl, sym, ap}
 use Rattle.am_laws.proofs.Words.{◌∙◌, subst, arith, nat_tests, All, All-nil, All-cons, All-append, All-weaker, split, Entry, Image, Outcome}
 use Rattle.am_laws.proofs.Words.{Stamp, Rules, MayFound, Packet, Event, Node, Ballot, top, image_of, has_log, founder, stranger, founders_view}
 use Rattle.am_laws.proofs.Words.{is_view, Verdict, Step, World, start, run, happen, happens, with_record, with_step, heard_by, Cause, hears, Looks}
 use Rattle.am_laws.proofs.Words.{finds_itself_out, Change, refreshes, settles, begins_list, looks, closes, push_entry, Leave, Says, welcome, piece, result}
 use Rattle.am_laws.proofs.Words.{LetterSays, Effect, actor, IsCause, Happens, idles, steps, all_get, all_item, equals_itself, along, EachKeeps}
 use Rattle.am_laws.proofs.Words.{StepsKeep, SameParts, law_keeps, runs_keep, first_has, rests_refresh, rests_at_end, settle_is, events_have_effects, logged}
+use Rattle.am_stands.proofs.Words.{either}
 use Rattle.am_base.specs.declared.outcome.Outcome.TheVariants as said
 use Rattle.am_packet.specs.declared.packet.Packet.TheVariants as packet
 use Rattle.am_group.specs.declared.event.Record.{Record}
@@ -92,13 +93,12 @@ tells_by : (rules : Rules) (c : Cause) (m : Node) (s : Step) → NodeRaised rule
     → (e : Effect m c s) → Tells rules c m e.sender
 tells_by rules c m s node before after e = record {
   list = subst (λ (x : Node). ListRaised rules x.core.log) e.is node.list;
-  promised = λ t. subst (λ (x : Node). 0 < x.core.promise.round) e.is (node.promised (⊎_elim (λ same. ap has_log same ∙ t) (λ gone. ap has_log gone) e.stays));
+  promised = λ t. subst (λ (x : Node). 0 < x.core.promise.round) e.is (node.promised (either e.stays (λ same. ap has_log same ∙ t) (λ gone. ap has_log gone)));
   kept = subst (λ (x : Node). x.core.log.start ≤ x.core.base) e.is after.fronts.kept;
   fetched = λ from v stored asked.
       let stays : s.node.core.log.start ≡ m.core.log.start =
       along (λ (x : Node). x.core.log.start ≡ m.core.log.start) (λ x y z k. start_stays from v stored asked x y z ∙ k) e.changes refl in
       let same : s.node.core.log.start ≡ e.sender.core.log.start = ap (λ (x : Node). x.core.log.start) e.is in
-      let kept = before.fronts.kept in
       omega arith;
 }
 
@@ -160,10 +160,9 @@ run_raised rules events may = runs_keep (AllRaised rules) (each_raised rules) (s
 
 answer_raised : (rules : Rules) (w : World) (name : ℕ) (c : Cause) (n : Node) (o : Outcome) → ListRaised rules (w.nodes name).core.log → BallotsOk w
     → Answers (w.nodes name) c n o → GivesRaised rules o
-answer_raised rules w name c n (said.Took number e) list ballots answer = ⊎_elim
+answer_raised rules w name c n (said.Took number e) list ballots answer = either answer
     (λ t. (has_entry (IsRaised rules) (w.nodes name).core.log number e list.entries t.there).0)
     (λ ask. absurd (of_ballot w name c (said.Took number e) ballots ask))
-    answer
 answer_raised rules w name c n _ list ballots answer = tt
 
 idle_raised : (rules : Rules) (o : Outcome) → IsIdle o → GivesRaised rules o

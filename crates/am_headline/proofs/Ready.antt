@@ -1,5 +1,5 @@
 -- What follows a world goes on through marks, stops and events that change no node.
-use Rattle.am_headline.proofs.Words.{◌≡◌, ◌≢◌, ◌⊎◌, ⊎_elim, inl, inr, ℕ, ◌<◌, ◌≤◌, length, List, [], ◌++◌, Bool, true, false, Some, slice_get, refl, sym, ap}
+use Rattle.am_headline.proofs.Words.{◌≡◌, ◌≢◌, ◌⊎◌, either, inl, inr, ℕ, ◌<◌, ◌≤◌, length, List, [], ◌++◌, Bool, true, false, Some, slice_get, refl, sym, ap}
 use Rattle.am_headline.proofs.Words.{◌∙◌, subst, append-nil, arith, Rules, Letter, Record, Begins, BeginsBelow, key, begins_refl, Group, IsUp, put, Move}
 use Rattle.am_headline.proofs.Words.{with_node, gives_over, stops, Completes, IsLawful, Run, more, put_cases, put_other, Node, lowest_or_first, has_departed}
 use Rattle.am_headline.proofs.Words.{is_unfinished, World, is_stopped, NameStands, FrontsStand, Stands, LinesOpen, Grows, OnBranch, on_chain, left_out}
@@ -176,13 +176,11 @@ record Halts (a b : groups.Node) : Type 0 where
   goes : b.stopped ≡ false → a.stopped ≡ false
 
 halts : (s : Group) (i j : ℕ) → Halts (s.node j) ((halted s i).node j)
-halts s i j = ⊎_elim
-    (λ (c : (j ≡ i) × (put s.node i (record (s.node i) { stopped = true }) j ≡ record (s.node i) { stopped = true })).
-    subst (λ b. Halts (s.node j) b) (sym c.1) (subst (λ k. Halts (s.node k) (record (s.node i) { stopped = true })) (sym c.0)
+halts s i j = either (put_cases s.node i (record (s.node i) { stopped = true }) j)
+    (λ c. subst (λ b. Halts (s.node j) b) (sym c.1) (subst (λ k. Halts (s.node k) (record (s.node i) { stopped = true })) (sym c.0)
     (record { list = refl; log = refl; departed = refl; promise = refl; ballot = refl; leaving = refl; goes = λ z. absurd (cc) })))
-    (λ (c : (j ≢ i) × (put s.node i (record (s.node i) { stopped = true }) j ≡ s.node j)). subst (λ b. Halts (s.node j) b) (sym c.1)
+    (λ c. subst (λ b. Halts (s.node j) b) (sym c.1)
     (record { list = refl; log = refl; departed = refl; promise = refl; ballot = refl; leaving = refl; goes = λ z. z }))
-    (put_cases s.node i (record (s.node i) { stopped = true }) j)
 
 branch_halted : (s : Group) (i j : ℕ) → OnBranch s j → OnBranch (halted s i) j
 branch_halted s i j (on_chain h) = on_chain (subst (λ l. Begins l (s.views.line (key s.views.current))) (sym (halts s i j).list) h)
@@ -203,11 +201,10 @@ branches_halted s i h = record {
       } in
       let seen : s.shown (key (s.node c).promise) k ≡ Some list = ap (λ u. s.shown (key u) k) (sym a.promise) ∙ shown in
       let r = h.short c k list up_ (sym a.ballot ∙ ballot) seen (sym b.departed ∙ stays) in
-      ⊎_elim
-      (λ (x : length (s.node k).list ≤ length list). inl (subst (λ l. length l ≤ length list) (sym b.list) x))
-      (λ (x : length (s.node k).list ≤ length (s.node c).list). inr (subst (λ l. length l ≤ length ((halted s i).node c).list) (sym b.list)
-      (subst (λ l. length (s.node k).list ≤ length l) (sym a.list) x)))
-      r);
+      either r
+      (λ x. inl (subst (λ l. length l ≤ length list) (sym b.list) x))
+      (λ x. inr (subst (λ l. length l ≤ length ((halted s i).node c).list) (sym b.list)
+      (subst (λ l. length (s.node k).list ≤ length l) (sym a.list) x))));
 }
 
 pub grows_halted : (s : Group) (i : ℕ) → Grows s (halted s i)

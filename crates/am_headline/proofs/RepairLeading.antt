@@ -139,7 +139,6 @@ trusts_report r taken m s report low t = record {
   base = t.base;
   reported = λ name there other. split (name == s)
       (λ same. let e : name ≡ s = grind (arith, nat_tests) in
-      let a = t.reported name there other in
       let b = low (subst (λ k. has r.members k ≡ true) e there) in
       let d = ap (λ k. taken k) e in
       let g = ap (λ k. (m.reports k).taken) e in
@@ -231,16 +230,12 @@ goes_pushed r taken q m e f joins h = record {
 
 -- ---- each change
 
-own_view : (r : Repair) (taken : ℕ → ℕ) (q m : Node) → r.view.by ≡ r.by → Goes r taken q m → r.view.by ≡ m.core.who
-own_view r taken q m by h = by ∙ sym h.own
-
 -- a promise of the view itself is no promise of its own name's
 no_promise : (r : Repair) (w : World) (c : Cause) (m : Node) (v : Stamp) → r.view.by ≡ m.core.who → CalmCause r w c → Promises c m v → ⊥
 no_promise r w c m v by h (invited s v_ is heard own) = subst (CalmCause r w) is h
 no_promise r w c m v by h (overtaken s v_ vote is heard above) = subst (CalmCause r w) is h
 no_promise r w c m v by h (told_result s base number u is heard own other) =
     let same : v ≡ r.view = (subst (CalmCause r w) is h) (eqb-true v.by s own) in
-    let w_ : v.by ≡ m.core.who = ap (λ (x : Stamp). x.by) same ∙ by in
     let z : ⊥ = grind (arith, nat_tests) in z
 
 pub no_ballot_begun : (r : Repair) (w : World) (c : Cause) (m : Node) → CalmCause r w c → BeginsBy m c → ⊥
@@ -256,7 +251,6 @@ looked_open c m b (as_it_is old open_ on) = (old, open_)
 pub not_behind : (m : Node) (v : Stamp) → acts m ≡ true → v ≡ m.core.promise → stamp_eq (view m) v ≡ false → ⊥
 not_behind m v a same below =
     let is = (acting m a).1 in
-    let both = and_both (is_member m.status) (stamp_eq m.core.promise (view m)) a in
     let t : stamp_eq (view m) v ≡ true = ap (stamp_eq (view m)) (same ∙ is) ∙ stamp_itself (view m) in
     cc
 
@@ -285,7 +279,7 @@ lead_change r taken w q c o m n by calm tells f (stores s v base acc number e ca
 lead_change r taken w q c o m n by calm tells f (begins_list s v base join image is says may) h =
     absurd (let a = (acting m (leading m h.leads.leads).0).0 in let b = may.no_member in cc)
 lead_change r taken w q c o m n by calm tells f (departs s v number is heard leaves) h = absurd (let a = h.leads.rest.stays in cc)
-lead_change r taken w q c o m n by calm tells f (promises v low why) h = absurd (no_promise r w c m v (own_view r _ q m by h) calm why)
+lead_change r taken w q c o m n by calm tells f (promises v low why) h = absurd (no_promise r w c m v (by ∙ sym h.own) calm why)
 lead_change r taken w q c o m n by calm tells f (opens least resilience begins may) h = absurd (no_ballot_begun r w c m calm begins)
 lead_change r taken w q c o m n by calm tells f (looks b verdict over why look is) h = absurd
     (let k = looked_open c m b why in not_open m k.0 k.1 h.leads.rest.no_ballot)

@@ -2,7 +2,7 @@
 use Rattle.am_headline.proofs.RepairWords.{has_in, ◌≡◌, ℕ, zero, suc, ◌-◌, ◌<◌, ◌≤◌, nat_le, true, false, List, [], ◌∷◌, length, Some, refl, ap, ◌∙◌, arith}
 use Rattle.am_headline.proofs.RepairWords.{length-append, nat_tests, slice_get_within, Entry, Data, Join, Image, has, Log, top_of, entry_at, image_at}
 use Rattle.am_headline.proofs.RepairWords.{members_of, after, fits, with_entry, counted_of, counted_at, get_before, image-push, long_after, in_after, is_view}
-use Rattle.am_headline.proofs.RepairWords.{split, in_is, data_member, inl, inr, ⊎_elim, ◌&&◌, ◌||◌, ◌==◌, nat_lt, Bool, Row, place_of, life_of, at_place}
+use Rattle.am_headline.proofs.RepairWords.{split, in_is, data_member, inl, inr, either, ◌&&◌, ◌||◌, ◌==◌, nat_lt, Bool, Row, place_of, life_of, at_place}
 use Rattle.am_headline.proofs.RepairWords.{row_of, row_at, Past, past_after, is_past, mod16}
 use Rattle.am_base.proofs.Rows.{set_keeps}
 
@@ -97,10 +97,9 @@ row_past r life h = record {
 }
 
 past_row : (r : Row) (life : ℕ) → Past r life → ended r life ≡ true
-past_row r life h = let joined = h.joined in ⊎_elim
-    (λ (x : life < r.life). grind (arith, nat_tests))
-    (λ (x : (r.life ≡ life) × (0 < r.left)). let same = x.0 in let left = x.1 in grind (arith, nat_tests))
-    h.gone
+past_row r life h = let joined = h.joined in either h.gone
+    (λ x. grind (arith, nat_tests))
+    (λ x. let same = x.0 in let left = x.1 in grind (arith, nat_tests))
 
 pub past_is : (image : Image) (name : ℕ) → is_past image name ≡ true → Past (row_at image (place_of name)) (life_of name)
 past_is image name h = row_past (row_at image (place_of name)) (life_of name) h

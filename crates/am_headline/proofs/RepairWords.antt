@@ -1,6 +1,6 @@
 -- The words of this crate's proofs, of the crates and definitions that they come from.
 pub use Rattle.am_laws.proofs.Words.{◌≡◌, inl, inr, ℕ, ◌+◌, ◌≤◌, ◌==◌, not, true, false, List, length, Option, Some, None, refl, sym, ap, ◌∙◌, subst, arith}
-pub use Rattle.am_laws.proofs.Words.{length-append, ◌<◌, [], ◌∷◌, ◌&&◌, ◌||◌, Bool, ⊎_elim, max, min, nat_le, zero, suc, ◌++◌, slice_get, ◌≢◌, ◌⊎◌}
+pub use Rattle.am_laws.proofs.Words.{length-append, ◌<◌, [], ◌∷◌, ◌&&◌, ◌||◌, Bool, max, min, nat_le, zero, suc, ◌++◌, slice_get, ◌≢◌, ◌⊎◌}
 pub use Rattle.am_laws.proofs.Words.{if◌then◌else◌, nat_lt, ◌-◌, take, drop, length-drop, map, slice_index, cases_lt, nat_tests, length-take, All-weaker}
 pub use Rattle.am_laws.proofs.Words.{All-head, All-tail, All-nil, All-cons, All-append, list_any-append, list_any, range_with_len, All, Data, Join, Leave}
 pub use Rattle.am_laws.proofs.Words.{View, Image, Outcome, Rules, MayFound, place_of, has, names_of, life_of, size, nobody, names_from, accept_front, split}
@@ -24,6 +24,7 @@ pub use Rattle.am_laws.proofs.Words.{vote, result, equals_itself}
 unfoldable pub use Rattle.am_laws.proofs.Words.{after, fits, fold, accept, pass_over, own_report, tell, go_on, let_go, finish, step, row, hear, hear_refusal}
 unfoldable pub use Rattle.am_laws.proofs.Words.{tick_row, refresh_at_end, lead, refresh, hear_row, request_row, ack_row, nack_row, accept_row, bcast_row}
 unfoldable pub use Rattle.am_laws.proofs.Words.{join_ask_row, happens, happen, with_step, with_record}
+pub use borrow.Enum.Arm.{by_way as either}
 pub use Rattle.std.{proofs.Math.Seq.take-append-add, proofs.lemmas.List.take_all, proofs.lemmas.List.drop_all, proofs.lemmas.List.Elements.All-push}
 pub use Rattle.std.{proofs.lemmas.List.Elements.Contains-append_right, proofs.lemmas.Option.slice_get-get_or, proofs.lemmas.Option.slice_get_within}
 pub use Rattle.std.{specs.List.prefix_len, specs.Prelude.Contains, specs.Prelude.filter}

@@ -1,5 +1,5 @@
 -- A sequencer's step in its view keeps what is known of what was taken.
-use Rattle.am_headline.proofs.RepairedWords.{eqb-true, ◌≡◌, ◌⊎◌, inl, inr, ⊎_elim, ℕ, ◌<◌, ◌≤◌, ◌==◌, max, true, false, List, Some, slice_get, refl, sym, ap, ◌∙◌}
+use Rattle.am_headline.proofs.RepairedWords.{eqb-true, ◌≡◌, ◌⊎◌, inl, inr, either, ℕ, ◌<◌, ◌≤◌, ◌==◌, max, true, false, List, Some, slice_get, refl, sym, ap, ◌∙◌}
 use Rattle.am_headline.proofs.RepairedWords.{subst, arith, Join, Stamp, Rules, stamp_lt, fits, top_of, Letter, Event, Group, Node, image_of, view, acts, is_sequencer}
 use Rattle.am_headline.proofs.RepairedWords.{has_log, Step, World, is_stopped, run, split, Cause, hears, actor, WasSentTo, IsCause, all_get, not_above_itself, GoesSo}
 use Rattle.am_headline.proofs.RepairedWords.{run_goes, parts, plain, NoJoin, Rises, run_told, cause_taken}
@@ -45,36 +45,32 @@ module _ (rules : Rules) (events : List Event) (e : Event) (c : Cause) (step : S
       let blank = (laws.blanks.each j few none).blank_ in
       let size = ap top_of blank in
       let fronts = (laws.each j few).fronts in
-      let given = fronts.given in
-      let accepted = fronts.accepted in
       omega arith
 
   -- a Welcome that was sent before, or now
   welcomed : (j base low : ℕ) → low ≤ m.core.base → ((b : ℕ) → Welcomed w j b → low ≤ b) → Welcomed v j base → low ≤ base
-  welcomed j base low under old h = by_kind (trims.letter_v rules events e c step s t x h.number h.letter h.there)
-    where
-      by_kind : Sent w m n c h.letter → low ≤ base
-      by_kind (before k at) = old base (welcomed_in v w j base h k at)
-      by_kind (now says) =
-          let is_ = (says_welcome m n c h.letter h.from h.stamp base h.join h.image says h.is).base_ in
-          let up = rises.base in
-          omega arith
+  welcomed j base low under old h = elim (trims.letter_v rules events e c step s t x h.number h.letter h.there) [
+    | before k at ↦ old base (welcomed_in v w j base h k at)
+    | now says ↦
+        let is_ = (says_welcome m n c h.letter h.from h.stamp base h.join h.image says h.is).base_ in
+        let up = rises.base in
+        omega arith
+  ]
 
   -- what is known of a name is what was known, or was taken
   known_on : (j : ℕ) → j < 256 → (j == i) ≡ false → (n.reports j).taken ≤ max (m.reports j).taken (w.nodes j).core.taken → Knows v was.low n j
-  known_on j few other most = by_kind (was.knows j few other)
+  known_on j few other most = elim (was.knows j few other) [
+    | took low ↦ took (let z = taken_v in omega arith)
+    | joins none low welcomes ↦
+        let zero_ = none_taken j few none in
+        let up = rises.base in
+        joins (ap (λ (y : Node). has_log y.status) (there j other) ∙ none) (omega arith)
+        (λ base h. (let b = welcomed j base (m.reports j).taken low welcomes h in omega arith))
+    | halts stop ↦ halts (trims.stopped_v rules events e c step s t x j ∙ stop)
+  ]
     where
       taken_v : (v.nodes j).core.taken ≡ (w.nodes j).core.taken
       taken_v = ap (λ (y : Node). y.core.taken) (there j other)
-
-      by_kind : Knows w was.low m j → Knows v was.low n j
-      by_kind (took low) = took (let z = taken_v in omega arith)
-      by_kind (joins none low welcomes) =
-          let zero_ = none_taken j few none in
-          let up = rises.base in
-          joins (ap (λ (y : Node). has_log y.status) (there j other) ∙ none) (omega arith)
-          (λ base h. (let b = welcomed j base (m.reports j).taken low welcomes h in omega arith))
-      by_kind (halts stop) = halts (trims.stopped_v rules events e c step s t x j ∙ stop)
 
   -- a name whose Join was numbered now
   known_joined : (j : ℕ) → j < 256 → (j == i) ≡ false → fits (image_of m) (Join j) ≡ true → (n.reports j).taken ≡ m.core.base → Knows v was.low n j
@@ -90,7 +86,7 @@ module _ (rules : Rules) (events : List Event) (e : Event) (c : Cause) (step : S
       (all_get GoesSo w.letters h_.number h_.letter (run_goes rules events) h_.there))) h in omega arith)))
 
   knows_n : (j : ℕ) → j < 256 → (j == i) ≡ false → Knows v was.low n j
-  knows_n j few other = ⊎_elim joined plainly (join_or_none c)
+  knows_n j few other = either (join_or_none c) joined plainly
     where
       own : (j == m.core.who) ≡ false
       own = ap (λ k. j == k) (trims.who_w rules events e c step s t x i) ∙ other
@@ -124,8 +120,8 @@ module _ (rules : Rules) (events : List Event) (e : Event) (c : Cause) (step : S
       let is_ = eqb-true j i u in
       let own = ((trims.laws_v rules events e c step s t x).each j few).fronts.base in
       let base = ap (λ k. (v.nodes k).core.base) is_ ∙ ap (λ (y : Node). y.core.base) here in
-      let up = rises.base in
       let low = was.base in
+      let up = rises.base in
       omega arith)
       (λ f.
       let node = there j f in
@@ -134,12 +130,11 @@ module _ (rules : Rules) (events : List Event) (e : Event) (c : Cause) (step : S
       omega arith)
 
   letters_v : (k : ℕ) (l : Letter) → slice_get v.letters k ≡ Some l → LetterLow i (view (v.nodes i)) was.low l.packet
-  letters_v k l at = by_kind (trims.letter_v rules events e c step s t x k l at)
-    where
-      by_kind : Sent w m n c l → LetterLow i (view (v.nodes i)) was.low l.packet
-      by_kind (before k_ at_) = subst (λ u. LetterLow i u was.low l.packet) (sym same_v) (was.letters k_ l at_)
-      by_kind (now says) = says_low m n c i (view (v.nodes i)) was.low l.to l.packet
-          (let up = rises.base in let low = was.base in omega arith) says.says
+  letters_v k l at = elim (trims.letter_v rules events e c step s t x k l at) [
+    | before k_ at_ ↦ subst (λ u. LetterLow i u was.low l.packet) (sym same_v) (was.letters k_ l at_)
+    | now says ↦ says_low m n c i (view (v.nodes i)) was.low l.to l.packet
+        (let up = rises.base in let low = was.base in omega arith) says.says
+  ]
 
   pub leading_settles : Settles v i
   leading_settles = record {

@@ -1,6 +1,6 @@
 -- The words of this crate's proofs, of the crates and definitions that they come from.
 pub use Rattle.am_headline.proofs.Words.{◌≡◌, ℕ, ◌==◌, ◌&&◌, ◌||◌, not, nat_lt, nat_le, Bool, true, false, if◌then◌else◌, Some, refl, sym, ap, ◌∙◌, subst}
-pub use Rattle.am_headline.proofs.Words.{arith, ◌⊎◌, inl, inr, ⊎_elim, ◌≤◌, ◌<◌, max, List, [], ◌≢◌, zero, suc, ◌+◌, ◌∷◌, ◌++◌, length, slice_index}
+pub use Rattle.am_headline.proofs.Words.{arith, ◌⊎◌, inl, inr, either, ◌≤◌, ◌<◌, max, List, [], ◌≢◌, zero, suc, ◌+◌, ◌∷◌, ◌++◌, length, slice_index}
 pub use Rattle.am_headline.proofs.Words.{slice_get, take, None, ◌-◌, drop, length-append, append_assoc, eqb-true, nat_tests, take-append-drop, take_all}
 pub use Rattle.am_headline.proofs.Words.{All-nil, All-cons, All-append, All-weaker, slice_get-get_or, Stamp, Join, Data, Leave, View, Outcome, Row, life_of}
 pub use Rattle.am_headline.proofs.Words.{IsSet, has, place_of, name_at, names_from, names_of, Log, blank, told_by, members_of, top_of, split, and_both, Image}
@@ -43,7 +43,7 @@ pub use Rattle.am_laws.proofs.{ViewSteps.Stood, ViewSteps.view_last, Named.names
 pub use Rattle.am_chain.specs.Group.{Leads, current_of}
 pub use Rattle.am_stands.proofs.{ChainNames.counts_names, Parts.stood, Parts.counted_whole, Entries.key_stamp, Sent.leading, Sent.Leading}
 pub use Rattle.am_stands.proofs.{Growing.moves_grow}
-pub use Rattle.am_stands.proofs.{Any.GoesSo, Any.run_goes, Starting.item_get, Departed.rests_step, Departed.rests_course}
+pub use Rattle.am_stands.proofs.{Starting.GoesSo, Starting.run_goes, Starting.item_get, Departed.rests_step, Departed.rests_course}
 pub use Rattle.am_headline.proofs.{Ways.Kind, Ways.kind_of, Begun.held, OneStep.parts, OneStep.plain, OneStep.OneStep, Fold.KeptBy, Fold.Quiet}
 pub use Rattle.am_headline.proofs.{Shapes.ListGoes, Shapes.same, Shapes.up, Shapes.gone, Shapes.list_moves}
 pub use Rattle.am_headline.proofs.{Nodes.acting, Nodes.alike_refresh, Nodes.alike_settle, Nodes.view_alike, Nodes.acts_alike, Nodes.Alike}

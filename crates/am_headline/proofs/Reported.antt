@@ -47,7 +47,6 @@ truly_more : (nodes : ℕ → Node) (m n : Node) → n.core.who ≡ m.core.who �
     → ((name : ℕ) → (name == m.core.who) ≡ false → n.reports name ≡ m.reports name) → Truly nodes m → Truly nodes n
 truly_more nodes m n who up same h name other =
     let o : (name == m.core.who) ≡ false = ap (λ k. name == k) (sym who) ∙ other in
-    let a = h name o in
     let b = ap (λ (r : Report). r.taken) (same name o) in
     omega arith
 

@@ -20,7 +20,6 @@ told_changes rules nodes m n names used w (changed {n = x} one more) a h =
     let next = told_changes rules nodes x n names used w more (along_changes rules m x names used (changed one no_change) a)
     (truly_change nodes _ _ m x w a.blanked one h) in
     let r = rises_change _ _ m x a.blanked a.owned.fronts one in
-    let s = next.rises in
     record { truly = next.truly; rises = record { base = omega arith; taken = omega arith } }
 
 -- ---- worlds

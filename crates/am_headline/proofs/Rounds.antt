@@ -91,9 +91,6 @@ stored_stable rules r i stored there = record {
       record { fine = fine_goes rules r w e is h.fine; stored_ = omega arith });
 }
 
-no_bound : (rules : Rules) (r : Repair) → Bounds rules r (λ w. Unit {0}) 0
-no_bound rules r = record { keeps = λ w e is h x. tt; gives = λ w h x. omega arith }
-
 -- with eight entries more, or all
 pub round_stores : (rules : Rules) (r : Repair) (i stored : ℕ) (w : World) → r.sent ≤ length w.letters → has r.members i ≡ true → (i == r.by) ≡ false
     → HasStored rules r i (min stored r.high) w → HasStored rules r i (min (stored + 8) r.high) (after_waves w)
@@ -107,14 +104,13 @@ round_stores rules r i stored w low there other h = elim (cases_lt (top (w.nodes
       let lb = long_wave (length w.letters) a in
       let lc = long_wave (length a.letters) b in
       let waits = ticks_wait rules r i w h.fine there other short in
-      let poll = ticks_poll rules r (λ u. Unit {0}) i 0 w (no_bound rules r) h.fine tt there other in
+      let poll = ticks_poll rules r (λ u. Unit {0}) i 0 w (record { keeps = λ w e is h x. tt; gives = λ w h x. omega arith }) h.fine tt there other in
       let asked = first_wave_asks rules r i (length w.letters) have 0 a low waits poll there other short in
       let serving = second_wave_serves rules r i (length a.letters) have b (omega arith) asked there other in
       let kept = wave_keep r (HasStored rules r i have) (stored_stable rules r i have there) (length a.letters) (omega arith) b
       (record { fine = asked.fine; stored_ = (let same = asked.stored_ in omega arith) }) in
       let stores = third_wave_stores rules r i (length b.letters) have c (omega arith) lc serving.fine serving.served_ kept.stored_ there other in
       let more = last_waves r (HasStored rules r i (min (have + 8) r.high)) (stored_stable rules r i (min (have + 8) r.high) there) w low stores in
-      let got = more.stored_ in
       record { fine = more.fine; stored_ = omega arith })
   | inr all ↦
       (let kept = round_keeps r (HasStored rules r i r.high) (stored_stable rules r i r.high there) w low (record { fine = h.fine; stored_ = all }) in

@@ -5,10 +5,11 @@ use Rattle.am_headline.proofs.Words.{stamp_eq, Log, top_of, fits, CoreState, Pac
 use Rattle.am_headline.proofs.Words.{is_within_bound, push_entry, trim_up_to, Plan, quiet, finish, with_promise, decide, is_unfinished, hears_member}
 use Rattle.am_headline.proofs.Words.{hears_sequencer, hear_row, is_view, with_noted, store, receive_entry, data_of, body_of, bcast_row, order_row}
 use Rattle.am_headline.proofs.Words.{refresh_at_end, push_fetched, catch_up, decide_anew, fetches_from, piece_promised, piece_for, piece_row, result_row, hear}
-use Rattle.am_headline.proofs.Words.{split, and_both, rests_at_end}
+use Rattle.am_headline.proofs.Words.{split, and_both, rests_at_end, or_first}
 use Rattle.am_base.specs.declared.outcome.Outcome.TheVariants as said
 use Rattle.am_packet.specs.declared.packet.Packet.TheVariants as packet
 use Rattle.am_headline.proofs.Ways.{decide_alike}
+use Rattle.std.proofs.lemmas.Bool.{not-false}
 
 -- ---- what a row does to the list
 
@@ -56,10 +57,6 @@ stored_one m s base number e missing next low = either m base number e (is_view 
     (is_view e || (not (fits (image_of m) e) || not (is_within_bound m m.core.base number))) (quiet m said.Unfit) _
     (λ t. nothing refl (omega arith))
     (λ f. one (or_first _ _ f) (record { next = next; base_ = low; start = refl; more = []; entries = sym (append-nil (m.core.log.entries ++ e ∷ [])) }))
-  where
-    or_first : (a b : Bool) → (a || b) ≡ false → a ≡ false
-    or_first true b h = absurd (cc)
-    or_first false b h = refl
 
 received_one : (m p : Node) (s base number : ℕ) (e : Entry) (missing : Outcome) → p.core.log ≡ m.core.log → m.core.base ≤ p.core.base
     → (nat_lt p.core.taken base ≡ false → base ≤ p.core.base) → Does m (receive_entry p s base number (Some e) missing).node base number e (is_view e ≡ false)
@@ -171,22 +168,14 @@ pub piece_does : (m : Node) (s : ℕ) (v : Stamp) (base number : ℕ) (e : Entry
 unfolding hear_row piece_row
 piece_does m s v base number e = either m base number e _ (hears_member m s) _ (quiet m said.Elsewhere)
     (λ t. either m base number e _ (not (stamp_eq v m.core.promise) || stamp_eq (view m) v) (quiet m said.Elsewhere) _ (λ u. nothing refl (omega arith))
-    (λ f. by_ballot t (not_false _ (or_first _ _ f)) m.ballot refl))
+    (λ f. by_ballot t (not-false _ (or_first _ _ f)) m.ballot refl))
     (λ f. nothing refl (omega arith))
   where
-    or_first : (a b : Bool) → (a || b) ≡ false → a ≡ false
-    or_first true b h = absurd (cc)
-    or_first false b h = refl
-
-    not_false : (b : Bool) → not b ≡ false → b ≡ true
-    not_false true h = refl
-    not_false false h = absurd (cc)
-
     promised_one : hears_member m s ≡ true → stamp_eq v m.core.promise ≡ true → is_unfinished m.ballot ≡ false
         → Does m (piece_promised m s v base number e).node base number e (Piecewise m s v)
     promised_one t p none = either m base number e _ (not (v.by == s)) (quiet m said.Elsewhere) _ (λ u. nothing refl (omega arith))
         (λ f. fetched_one m v base number e false (catch_up s v number) (Piecewise m s v)
-        (record { member = t; promise = p; how = without none (not_false _ f) })
+        (record { member = t; promise = p; how = without none (not-false _ f) })
         (pushed_one m base number e))
 
     by_ballot : hears_member m s ≡ true → stamp_eq v m.core.promise ≡ true → (o : Option Ballot) → m.ballot ≡ o

@@ -55,10 +55,6 @@ reports_are_taken m p s v report (spread s_ v_ report_ req body) heard known fit
 
 -- ---- what is sent again
 
--- its list is that before it took the report
-same_log : (m : Node) (s : ℕ) (report : Report) → (take_report m s report).core.log ≡ m.core.log
-same_log m s report = (rests_refresh (with_report m s report)).log
-
 serves_plan : (m p : Node) (s stored : ℕ) → p.core.log ≡ m.core.log → Serves m s stored (finish m (serve p s stored))
 unfolding finish
 serves_plan m p s stored same =
@@ -75,4 +71,4 @@ unfolding hear hear_row nack_row
 nacks_are_served m s v report heard known fits low =
     let p = take_report m s report in
     let b : nat_lt report.stored p.core.base ≡ false = grind (arith, nat_tests) in
-    rw (heard, known, fits, b) (serves_plan m p s report.stored (same_log m s report))
+    rw (heard, known, fits, b) (serves_plan m p s report.stored ((rests_refresh (with_report m s report)).log))

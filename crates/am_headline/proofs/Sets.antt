@@ -17,7 +17,6 @@ some_has set name h =
 
 pub only_has : (name : ℕ) → has (only_name name) name ≡ true
 only_has name =
-    let is : slice_index (only_name name) (place_of name) ≡ life_of name = get_or-set_same nobody (place_of name) (life_of name) 0 (omega arith) in
     grind (arith, nat_tests)
 
 pub only_some : (name : ℕ) → (size (only_name name) == 0) ≡ false

@@ -1,6 +1,6 @@
 -- What moves keep of each list, whoever has stopped or departed: it is a good one, on the line of a decided view; and each decided view has
 -- a set of names.
-use Rattle.am_headline.proofs.Words.{up_as, ◌≡◌, ◌≢◌, ◌⊎◌, ⊎_elim, inl, inr, ℕ, ◌≤◌, List, length, Some, [], true, refl, sym, ap, ◌∙◌, subst, Entry, Leave}
+use Rattle.am_headline.proofs.Words.{up_as, ◌≡◌, ◌≢◌, ◌⊎◌, either, inl, inr, ℕ, ◌≤◌, List, length, Some, [], true, refl, sym, ap, ◌∙◌, subst, Entry, Leave}
 use Rattle.am_headline.proofs.Words.{IsSet, item_at, Begins, IsGood, view_of, key, begins_refl, begins_trans, good_begins, Group, Chosen, IsUp, put, chain_of}
 use Rattle.am_headline.proofs.Words.{Move, with_node, choice_of, longer, learns, begins, raises, gives_over, welcomes, asks, stops, Kept, put_cases, put_same}
 use Rattle.am_headline.proofs.Words.{MoveOk, Moves, none, moves, Grows, GroupOk, group_kept, move_on, departs}
@@ -28,10 +28,9 @@ pub data ListGoes (s t : Group) (i : ℕ) : Type 0 where
   gone : Begins (t.node i).list (chain_of t.views) → ListGoes s t i
 
 put_goes : (s t : Group) (i : ℕ) (m : groups.Node) → t.node ≡ put s.node i m → ((t.node i ≡ m) → ListGoes s t i) → (j : ℕ) → ListGoes s t j
-put_goes s t i m is own j = ⊎_elim
-    (λ (c : (j ≡ i) × (put s.node i m j ≡ m)). subst (ListGoes s t) (sym c.0) (own (ap (λ f. f i) is ∙ put_same s.node i m)))
-    (λ (c : (j ≢ i) × (put s.node i m j ≡ s.node j)). same (ap (λ (a : groups.Node). a.list) (ap (λ f. f j) is ∙ c.1)))
-    (put_cases s.node i m j)
+put_goes s t i m is own j = either (put_cases s.node i m j)
+    (λ c. subst (ListGoes s t) (sym c.0) (own (ap (λ f. f i) is ∙ put_same s.node i m)))
+    (λ c. same (ap (λ (a : groups.Node). a.list) (ap (λ f. f j) is ∙ c.1)))
 
 -- its list stays, or it is up with another
 list_stays : (s t : Group) (i : ℕ) (m : groups.Node) → t.node ≡ put s.node i m → m.list ≡ (s.node i).list → (j : ℕ) → ListGoes s t j
@@ -78,26 +77,24 @@ move_goes s t _ k = λ j. same refl
 -- ---- what is kept
 
 lines_on : (s t : Group) → Kept t → Grows s t → ((i : ℕ) → ListGoes s t i) → Shaped s → (i : ℕ) → (t.node i).list ≢ [] → OnLine t (t.node i).list
-lines_on s t k g each h i some = by_way (each i)
-  where
-    by_way : ListGoes s t i → OnLine t (t.node i).list
-    by_way (same is) =
-        let o = h.lines i (λ none_. some (is ∙ none_)) in
-        record {
-          view = o.view;
-          decided = (g.decided o.view o.decided).0;
-          line = begins_trans (subst (λ l. Begins l (s.views.line o.view)) (sym is) o.line) (g.lines o.view o.decided);
-        }
-    by_way (up there) = record { view = key t.views.current; decided = k.views.now; line = (k.each i).list there }
-    by_way (gone on) = record { view = key t.views.current; decided = k.views.now; line = on }
+lines_on s t k g each h i some = elim (each i) [
+  | same is ↦
+      let o = h.lines i (λ none_. some (is ∙ none_)) in
+      record {
+        view = o.view;
+        decided = (g.decided o.view o.decided).0;
+        line = begins_trans (subst (λ l. Begins l (s.views.line o.view)) (sym is) o.line) (g.lines o.view o.decided);
+      }
+  | up there ↦ record { view = key t.views.current; decided = k.views.now; line = (k.each i).list there }
+  | gone on ↦ record { view = key t.views.current; decided = k.views.now; line = on }
+]
 
 good_on : (s t : Group) → Kept t → ((i : ℕ) → ListGoes s t i) → Shaped s → (i : ℕ) → IsGood (t.node i).list
-good_on s t k each h i = by_way (each i)
-  where
-    by_way : ListGoes s t i → IsGood (t.node i).list
-    by_way (same is) = subst IsGood (sym is) (h.good i)
-    by_way (up there) = good_begins ((k.each i).list there) k.views.good
-    by_way (gone on) = good_begins on k.views.good
+good_on s t k each h i = elim (each i) [
+  | same is ↦ subst IsGood (sym is) (h.good i)
+  | up there ↦ good_begins ((k.each i).list there) k.views.good
+  | gone on ↦ good_begins on k.views.good
+]
 
 sets_on : (s t : Group) (move : Move s t) → MoveOk move → Shaped s → (x : ℕ) → t.views.decided x ≡ true → IsSet (t.views.chosen x).members
 sets_on s t (decides i v may) ok h x d =
@@ -139,19 +136,15 @@ shaped_moves founders first resilience s t g (moves {t = u} move ok rest) h =
 
 pub shaped_stop : (s : Group) (i : ℕ) → Shaped s → Shaped (with_node s i (record (s.node i) { stopped = true }))
 shaped_stop s i h = record {
-  lines = λ j. ⊎_elim
-      (λ (c : (j ≡ i) × (put s.node i (record (s.node i) { stopped = true }) j ≡ record (s.node i) { stopped = true })). of_node j (s.node i).list
+  lines = λ j. either (put_cases s.node i (record (s.node i) { stopped = true }) j)
+      (λ c. of_node j (s.node i).list
       (ap (λ (a : groups.Node). a.list) c.1) (ap (λ k. (s.node k).list) c.0))
-      (λ (c : (j ≢ i) × (put s.node i (record (s.node i) { stopped = true }) j ≡ s.node j)). of_node j (s.node j).list
-      (ap (λ (a : groups.Node). a.list) c.1) refl)
-      (put_cases s.node i (record (s.node i) { stopped = true }) j);
+      (λ c. of_node j (s.node j).list
+      (ap (λ (a : groups.Node). a.list) c.1) refl);
   sets = h.sets;
-  good = λ j. ⊎_elim
-      (λ (c : (j ≡ i) × (put s.node i (record (s.node i) { stopped = true }) j ≡ record (s.node i) { stopped = true })).
-      subst IsGood (sym (ap (λ (a : groups.Node). a.list) c.1)) (h.good i))
-      (λ (c : (j ≢ i) × (put s.node i (record (s.node i) { stopped = true }) j ≡ s.node j)).
-      subst IsGood (sym (ap (λ (a : groups.Node). a.list) c.1)) (h.good j))
-      (put_cases s.node i (record (s.node i) { stopped = true }) j);
+  good = λ j. either (put_cases s.node i (record (s.node i) { stopped = true }) j)
+      (λ c. subst IsGood (sym (ap (λ (a : groups.Node). a.list) c.1)) (h.good i))
+      (λ c. subst IsGood (sym (ap (λ (a : groups.Node). a.list) c.1)) (h.good j));
 }
   where
     of_node : (j : ℕ) (list : List Entry) → (put s.node i (record (s.node i) { stopped = true }) j).list ≡ list → (s.node j).list ≡ list

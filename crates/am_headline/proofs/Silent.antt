@@ -1,5 +1,5 @@
 -- Who departs in a step sends nothing.
-use Rattle.am_headline.proofs.RepairWords.{◌≡◌, ◌⊎◌, inl, inr, ⊎_elim, false, List, [], refl, sym, ap, ◌∙◌, Outcome, Letter, Status, Verdict, Step, Node}
+use Rattle.am_headline.proofs.RepairWords.{◌≡◌, ◌⊎◌, inl, inr, either, false, List, [], refl, sym, ap, ◌∙◌, Outcome, Letter, Status, Verdict, Step, Node}
 use Rattle.am_headline.proofs.RepairWords.{Ballot, with_report, has_departed, Cause, Looks, Change, refreshes, settles, begins_list, departs, looks}
 use Rattle.am_headline.proofs.RepairWords.{asks_to_join, closes, Effect, rests_refresh, rests_at_end, settle_is}
 use Rattle.am_model.specs.declared.status.Status.TheVariants as status
@@ -38,7 +38,6 @@ none_or_here m letters n _ h = inl refl
 
 -- who is there after the step is who sent
 pub same_sender : (m : Node) (c : Cause) (step : Step) → (effect : Effect m c step) → Here step.node → effect.sender ≡ step.node
-same_sender m c step effect h = ⊎_elim
-    (λ (same : step.node.status ≡ effect.sender.status). sym (effect.is ∙ ap (λ (t : Status). record effect.sender { status = t }) same))
-    (λ (gone : step.node.status ≡ status.Departed). absurd (let z = sym h ∙ ap has_departed gone in cc))
-    effect.stays
+same_sender m c step effect h = either effect.stays
+    (λ same. sym (effect.is ∙ ap (λ (t : Status). record effect.sender { status = t }) same))
+    (λ gone. absurd (let z = sym h ∙ ap has_departed gone in cc))

@@ -1,5 +1,5 @@
 -- What ticks send is no next entry of a member that has less than the sequencer's list began with.
-use Rattle.am_headline.proofs.RepairWords.{eqb-true, not-false, ◌≡◌, ◌⊎◌, inl, ⊎_elim, ℕ, ◌+◌, ◌<◌, ◌==◌, not, nat_le, Bool, true, false, if◌then◌else◌, List}
+use Rattle.am_headline.proofs.RepairWords.{eqb-true, not-false, ◌≡◌, ◌⊎◌, inl, either, ℕ, ◌+◌, ◌<◌, ◌==◌, not, nat_le, Bool, true, false, if◌then◌else◌, List}
 use Rattle.am_headline.proofs.RepairWords.{[], length, Option, Some, None, slice_get, refl, sym, ap, ◌∙◌, subst, arith, All, All-nil, Stamp, Data, Outcome}
 use Rattle.am_headline.proofs.RepairWords.{Rules, has, entry_at, Packet, Letter, letter_at, OwnSend, Status, Node, top, image_of, view, acts, others}
 use Rattle.am_headline.proofs.RepairWords.{only_name, is_sequencer, has_room, waiting, has_departed, Plan, quiet, telling, bcast_of, ack_of, fetch_of}
@@ -102,10 +102,9 @@ tick_either : (w : World) (place k : ℕ) (l : Letter) → (let e = event_at pla
 unfolding happens with_record with_step
 tick_either w place k l there =
     let e = event_at place act.Tick in
-    split (is_stopped w (actor w e)) (λ t. inl (rw t at there)) (λ f. ⊎_elim
-    (λ (old : letter_at w.letters k ≡ Some l). inl old)
-    (λ (new : (j : ℕ) × (slice_get (step (w.nodes (actor w e)) does.Tick).letters j ≡ Some l)). inr (f, new))
-    (letter_either w.letters (step (w.nodes (actor w e)) does.Tick).letters k l (rw f at there)))
+    split (is_stopped w (actor w e)) (λ t. inl (rw t at there)) (λ f. either (letter_either w.letters (step (w.nodes (actor w e)) does.Tick).letters k l (rw f at there))
+    (λ old. inl old)
+    (λ new. inr (f, new)))
 
 -- who ticks has no open ballot, and only one leads
 tick_letters : (rules : Rules) (r : Repair) (w : World) (name high : ℕ) → Fine rules r w → high < r.high → is_stopped w name ≡ false
@@ -120,11 +119,10 @@ tick_letters rules r w name high h low goes = split (has_departed m.status)
     split (has r.members name)
     (λ there. let x = h.calm.follows name there g in
     tick_skips high m x.rest.no_ballot (λ u. x.rest.stays) (λ u. absurd (leads_not m r.by (ap (λ (v : Stamp). v.by) x.view_ ∙ h.calm.own) own u)))
-    (λ none. ⊎_elim
-    (λ (x : IsApart r m). tick_skips high m (ap is_unfinished x.no_ballot) (λ u. x.stays)
+    (λ none. either (h.calm.apart name none goes f)
+    (λ x. tick_skips high m (ap is_unfinished x.no_ballot) (λ u. x.stays)
     (λ u. absurd (let is = acting m (leading m u).0 in leads_not m r.by (ap (λ (v : Stamp). v.by) (sym is.1 ∙ x.promised is.0) ∙ h.calm.own) own u)))
-    (λ (x : IsLeaver r m). tick_skips high m x.no_ballot (λ u. absurd (leads_not_left r m x u)) (λ u. absurd (leads_not_left r m x u)))
-    (h.calm.apart name none goes f))))
+    (λ x. tick_skips high m x.no_ballot (λ u. absurd (leads_not_left r m x u)) (λ u. absurd (leads_not_left r m x u))))))
   where
     m : Node
     m = w.nodes name
@@ -146,11 +144,9 @@ tick_waits rules r i after high u place there other low h =
     record {
       fine = fine_goes rules r u e (our_ticks place) h.fine;
       stored = ours_skip r u e i (our_ticks place) h.fine.calm there other (tick_cause u _ (top (u.nodes i))) ∙ h.stored;
-      skips = λ k l late at. ⊎_elim
-          (λ (old : letter_at u.letters k ≡ Some l). h.skips k l late old)
-          (λ (new : (is_stopped u (actor u e) ≡ false) × ((j : ℕ) × (slice_get (step (u.nodes (actor u e)) does.Tick).letters j ≡ Some l))).
-          all_get (SkipsLetter high) _ new.1.0 l (tick_letters rules r u (actor u e) high h.fine low new.0) new.1.1)
-          (tick_either u place k l at);
+      skips = λ k l late at. either (tick_either u place k l at)
+          (λ old. h.skips k l late old)
+          (λ new. all_get (SkipsLetter high) _ new.1.0 l (tick_letters rules r u (actor u e) high h.fine low new.0) new.1.1);
     }
 
 pub ticks_wait : (rules : Rules) (r : Repair) (i : ℕ) (w : World) → Fine rules r w → has r.members i ≡ true → (i == r.by) ≡ false

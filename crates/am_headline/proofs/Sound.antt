@@ -1,11 +1,12 @@
 -- What each record of a run tells is within its limits, and each name's requests are 1, 2, 3 and so on.
 use Rattle.am_laws.proofs.Words.{◌≡◌, ℕ, zero, suc, ◌+◌, ◌-◌, ◌<◌, ◌≤◌, ◌==◌, nat_le, Bool, true, false, if◌then◌else◌, List, [], ◌∷◌, ◌++◌, length, ◌⊎◌, inl}
-use Rattle.am_laws.proofs.Words.{inr, ⊎_elim, Option, Some, None, slice_get, refl, sym, ap, ◌∙◌, subst, arith, nat_tests, All, All-nil, All-cons, All-head}
+use Rattle.am_laws.proofs.Words.{inr, Option, Some, None, slice_get, refl, sym, ap, ◌∙◌, subst, arith, nat_tests, All, All-nil, All-cons, All-head}
 use Rattle.am_laws.proofs.Words.{All-tail, All-append, range_with_len, length-append, most_number, most_body, split, Entry, Data, Leave, View, Outcome, Log}
 use Rattle.am_laws.proofs.Words.{entry_at, top_of, Rules, MayFound, Act, Event, Node, Ballot, push_entry, Verdict, Step, World, start, run, happen, happens}
 use Rattle.am_laws.proofs.Words.{with_record, with_step, Cause, calls, Looks, finds_itself_out, Change, Changes, no_change, changed, refreshes, settles, looks}
 use Rattle.am_laws.proofs.Words.{queues, collects, closes, Effect, actor, IsCall, IsCause, Happens, idles, stops, returns, steps, all_get, first_has, current}
 use Rattle.am_laws.proofs.Words.{events_have_effects, rests_refresh, settle_is, rests_at_end, BodyWithin, IsShort, Bounds}
+use Rattle.am_stands.proofs.Words.{either}
 use Rattle.std.proofs.lemmas.Option.{slice_get_within}
 use Rattle.std.proofs.lemmas.List.FromFn.{length-range_with_len}
 use Rattle.std.proofs.Common.{append-nil, append_assoc}
@@ -42,20 +43,12 @@ use Rattle.am_headline.proofs.OneStep.{run_push}
 
 -- ---- entries
 
-asked_so : (records : List Record) (from req : ℕ) (body : List ℕ) → WasSent records from req body → All IsSound records → IsBytes body
-    × (length body ≤ most_body)
-asked_so records from req body was sound = subst AsksBytes was.is.asked (all_get IsSound records was.index was.send sound was.there).asks
-
 sayable : (records : List Record) (b : Bounds) (e : Entry) → AreNumbers b → All IsSound records → EntryWithin b e → EntryNamed e → EntrySent records e
     → IsSayable e
 sayable records b (Data from req body) small sound within named sent =
-    let asked = asked_so records from req body sent sound in
-    let low = within.0 in
-    let most = small.requests in
+    let asked = subst AsksBytes sent.is.asked (all_get IsSound records sent.index sent.send sound sent.there).asks in
     (named, omega arith, asked.0, asked.1)
 sayable records b (View v) small sound within named sent =
-    let low = within.0 in
-    let most = small.rounds in
     (named, omega arith, within.1, within.2)
 sayable records b _ small sound within named sent = named
 
@@ -110,10 +103,9 @@ change_last m n _ = inl refl
 
 last_by : {c : Cause} {o : Outcome} (m n : Node) → Changes c o m n → (n.sends.last ≡ m.sends.last) ⊎ SendsBy c o
 last_by m n no_change = inl refl
-last_by m n (changed {n = x} z zs) = ⊎_elim
-    (λ same. ⊎_elim (λ later. inl (later ∙ same)) (λ sends. inr sends) (last_by x n zs))
+last_by m n (changed {n = x} z zs) = either (change_last m x z)
+    (λ same. either (last_by x n zs) (λ later. inl (later ∙ same)) (λ sends. inr sends))
     (λ sends. inr sends)
-    (change_last m x z)
 
 -- ---- what is known of a run up to an event
 
@@ -137,11 +129,9 @@ of_ballot w name c o ballots a =
 queued_so : (rules : Rules) (many : ℕ) (b : Bounds) (w : World) (name : ℕ) (a : Act) (c : Cause) (n : Node) (req : ℕ) → Facts rules many b w
     → IsCause w name a c → Changes c (said.Queued req) (w.nodes name) n → WasQueued (w.nodes name) n req → IsAnswer a (said.Queued req)
 queued_so rules many b w name a c n req f cause changes q =
-    let next = q.next in
     let more = q.more in
-    let few = f.few in
     let low = (f.numbers name).requests in
-    let sends : SendsBy c (said.Queued req) = ⊎_elim (λ same. absurd (omega (arith, same, more))) (λ s. s) (last_by (w.nodes name) n changes) in
+    let sends : SendsBy c (said.Queued req) = either (last_by (w.nodes name) n changes) (λ same. absurd (omega (arith, same, more))) (λ s. s) in
     ((sends.0, send_act w a sends.0 (subst (IsCause w name a) sends.2 cause)), omega arith)
 
 sent_so : (rules : Rules) (many : ℕ) (b : Bounds) (w : World) (name : ℕ) (a : Act) (c : Cause) (req number : ℕ) → Facts rules many b w
@@ -152,7 +142,6 @@ sent_so rules many b w name a c req number f cause s =
     let up = all_get (IsUpTo m.core.acc) m.sends.queue s.index s.send (f.sends name).settled s.there number s.settled in
     let acc = (f.numbers name).accepted in
     let high = (f.numbers name).entries in
-    let few = f.few in
     let requests = f.small.requests in
     let same = s.request in
     (done_act w a req (subst (IsCause w name a) s.asked cause), omega (arith, within, requests, same), omega arith)
@@ -165,24 +154,19 @@ took_so rules many b w name a c n number e f low cause t =
     let named = has_entry EntryNamed m.core.log number e (f.named name low) t.there in
     let sent = has_entry (EntrySent w.records) m.core.log number e (f.sent.all.each name).entries t.there in
     let high = (f.numbers name).entries in
-    let few = f.few in
-    let most = within.1 in
     (take_act w a (subst (IsCause w name a) t.asked cause), omega arith, sayable w.records b e f.small f.sound within.0 named.0 sent.0)
 
 answered : (rules : Rules) (many : ℕ) (b : Bounds) (w : World) (name : ℕ) (a : Act) (c : Cause) (n : Node) (o : Outcome) → Facts rules many b w
     → name < 256 → IsCause w name a c → Changes c o (w.nodes name) n → Answers (w.nodes name) c n o → IsAnswer a o
-answered rules many b w name a c n (said.Queued req) f low cause changes answer = ⊎_elim
+answered rules many b w name a c n (said.Queued req) f low cause changes answer = either answer
     (λ q. queued_so rules many b w name a c n req f cause changes q)
     (λ ask. absurd (of_ballot w name c (said.Queued req) f.ballots ask))
-    answer
-answered rules many b w name a c n (said.Sent req number) f low cause changes answer = ⊎_elim
+answered rules many b w name a c n (said.Sent req number) f low cause changes answer = either answer
     (λ s. sent_so rules many b w name a c req number f cause s)
     (λ ask. absurd (of_ballot w name c (said.Sent req number) f.ballots ask))
-    answer
-answered rules many b w name a c n (said.Took number e) f low cause changes answer = ⊎_elim
+answered rules many b w name a c n (said.Took number e) f low cause changes answer = either answer
     (λ t. took_so rules many b w name a c n number e f low cause t)
     (λ ask. absurd (of_ballot w name c (said.Took number e) f.ballots ask))
-    answer
 answered rules many b w name a c n _ f low cause changes answer = tt
 
 idle_answer : (a : Act) (o : Outcome) → IsIdle o → IsAnswer a o
@@ -339,17 +323,15 @@ range_more a (suc n) =
 
 queues_by : (w : World) (name : ℕ) (c : Cause) (n : Node) (o : Outcome) → BallotsOk w → Changes c o (w.nodes name) n → Answers (w.nodes name) c n o
     → Queues (w.nodes name) n o
-queues_by w name c n (said.Queued req) ballots changes answer = ⊎_elim
+queues_by w name c n (said.Queued req) ballots changes answer = either answer
     (λ q. record {
       last = ap (range_with_len 1) q.more ∙ range_more 1 (w.nodes name).sends.last
           ∙ ap (λ k. range_with_len 1 (w.nodes name).sends.last ++ k ∷ []) (let next = q.next in omega arith);
     })
     (λ ask. absurd (of_ballot w name c (said.Queued req) ballots ask))
-    answer
-queues_by w name c n o ballots changes answer = ⊎_elim
+queues_by w name c n o ballots changes answer = either (last_by (w.nodes name) n changes)
     (λ same. record { last = ap (range_with_len 1) same ∙ sym (append-nil (range_with_len 1 (w.nodes name).sends.last)) })
     (λ sends. absurd (let is = sends.3 in cc))
-    (last_by (w.nodes name) n changes)
 
 turned_step : (w : World) (e : Event) (c : Cause) (s : Step) → BallotsOk w → Effect (w.nodes (actor w e)) c s → current w (place_of e.node) ≡ actor w e
     → Turns w → Turns (with_step w e (actor w e) s)

@@ -1,5 +1,5 @@
 -- Each event of a schedule keeps a world calm.
-use Rattle.am_headline.proofs.RepairWords.{eq-eqb, eqb-true, ◌≡◌, ◌⊎◌, inl, inr, ⊎_elim, ℕ, zero, suc, ◌≤◌, ◌==◌, true, false, List, [], ◌∷◌, ◌++◌, Some}
+use Rattle.am_headline.proofs.RepairWords.{eq-eqb, eqb-true, ◌≡◌, ◌⊎◌, inl, inr, either, ℕ, zero, suc, ◌≤◌, ◌==◌, true, false, List, [], ◌∷◌, ◌++◌, Some}
 use Rattle.am_headline.proofs.RepairWords.{slice_get, refl, sym, ap, ◌∙◌, subst, arith, All, nat_tests, Stamp, Outcome, Rules, has, Letter, Event, letter_at}
 use Rattle.am_headline.proofs.RepairWords.{Node, top, is_sequencer, has_departed, is_unfinished, next_stamp, Step, World, with_record, with_step, happens}
 use Rattle.am_headline.proofs.RepairWords.{split, Cause, LetterSays, Effect, actor, IsCause, all_get, few_names, heard_names, Along, AllOwned, heard_used}
@@ -75,10 +75,9 @@ calm_stepped r w e name s h k = record {
   current_ = h.current_;
   runs = h.runs;
   apart = k.apart;
-  letters = λ number l late there. ⊎_elim
-      (λ (old : letter_at w.letters number ≡ Some l). calm_stays r w (with_step w e name s) l.packet k.grow (h.letters number l late old))
-      (λ (new : (j : ℕ) × (slice_get s.letters j ≡ Some l)). k.letters new.0 l new.1)
-      (letter_either w.letters s.letters number l there);
+  letters = λ number l late there. either (letter_either w.letters s.letters number l there)
+      (λ old. calm_stays r w (with_step w e name s) l.packet k.grow (h.letters number l late old))
+      (λ new. k.letters new.0 l new.1);
 }
 
 -- the letters of a step
@@ -194,7 +193,6 @@ leader_step rules r w e s laws h k same =
     let before = acting q (leading q h.leads.leads).0 in
     let promise : n.core.promise ≡ r.view = acts_.1 ∙ g.leads.view_ in
     let old : q.core.promise ≡ r.view = before.1 ∙ h.leads.view_ in
-    let kept = along.owned.fronts.kept in
     let sends : Sends r v q n = record {
       node = ap (λ i. v.nodes i) g.own ∙ node;
       leaves = λ t. absurd (let f = g.leads.rest.stays in cc);
@@ -352,31 +350,27 @@ module _ (r : Repair) (w : World) (e : Event) (s : Step) (h : Calm r w) (k : Our
   left_step : IsLeaver r was_ → StepKeeps r w (with_step w e (actor w e) s) (actor w e) s
   left_step a =
       let g = left_changes r w was_ was_ now_ k.calm k.effect.changes (record { who = refl; left = a; promise = inl refl }) in
-      elsewhere_step r w e s h other none (g.who ∙ h.who (actor w e)) (λ here. inr g.left) (⊎_elim
-      (λ (nothing : s.letters ≡ []). λ i l there_. absurd (let z = ap (λ ls. slice_get ls i) nothing in cc))
-      (λ (here : Here now_). aside_calm r w e s h k (record {
+      elsewhere_step r w e s h other none (g.who ∙ h.who (actor w e)) (λ here. inr g.left) (either (none_or_here was_ s.letters now_ k.effect.ending there)
+      (λ nothing. λ i l there_. absurd (let z = ap (λ ls. slice_get ls i) nothing in cc))
+      (λ here. aside_calm r w e s h k (record {
         who = g.who;
         leaves = λ t. g.left.gone;
         no_ballot = a.no_ballot;
         begins_none = λ b some next. not_next was_ now_ g.promise next;
         tells = λ t mine. absurd (g.left.tells t mine);
         no_leader = leads_not_left r now_ g.left;
-      }) (same_sender was_ k.cause s k.effect here))
-      (none_or_here was_ s.letters now_ k.effect.ending there))
+      }) (same_sender was_ k.cause s k.effect here)))
     where
       not_next : (m n : Node) → (n.core.promise ≡ m.core.promise) ⊎ ((n.core.promise.by == m.core.who) ≡ false) → n.core.promise ≡ next_stamp m → ⊥
-      not_next m n h next = ⊎_elim
-          (λ (same : n.core.promise ≡ m.core.promise). later_round m n m.core.promise refl same next)
-          (λ (other : (n.core.promise.by == m.core.who) ≡ false).
-          let by = ap (λ (u : Stamp). u.by) next in
+      not_next m n h next = either h
+          (λ same. later_round m n m.core.promise refl same next)
+          (λ other. let by = ap (λ (u : Stamp). u.by) next in
           let z : ⊥ = grind (arith, nat_tests) in z)
-          h
 
 gone_step : (r : Repair) (w : World) (e : Event) (s : Step) → Calm r w → (k : OurStep r w e s) → (actor w e == r.by) ≡ false
     → has r.members (actor w e) ≡ false → has_departed (w.nodes (actor w e)).status ≡ true → StepKeeps r w (with_step w e (actor w e) s) (actor w e) s
 gone_step r w e s h k other none gone =
     let still = k.still gone in
-    let status = ap has_departed still.status ∙ gone in
     elsewhere_step r w e s h other none (still.who ∙ h.who (actor w e)) (λ here. absurd (cc))
     (λ i l there. absurd (let nothing = ap (λ ls. slice_get ls i) still.letters in cc))
 
@@ -390,10 +384,9 @@ step_keeps rules r w e s laws h k = split (actor w e == r.by)
     (λ there. member_step r w e s h k f there)
     (λ none. split (has_departed (w.nodes (actor w e)).status)
     (λ gone. gone_step r w e s h k f none gone)
-    (λ here. ⊎_elim
-    (λ (a : IsApart r (w.nodes (actor w e))). apart_step r w e s h k f none here a)
-    (λ (a : IsLeaver r (w.nodes (actor w e))). left_step r w e s h k f none here a)
-    (h.apart (actor w e) none k.runs here))))
+    (λ here. either (h.apart (actor w e) none k.runs here)
+    (λ a. apart_step r w e s h k f none here a)
+    (λ a. left_step r w e s h k f none here a))))
 
 calm_ours : (rules : Rules) (r : Repair) (w : World) (e : Event) (v : World) → AllOwned rules w → Calm r w → Ours r w e v → Calm r v
 calm_ours rules r w e v laws h (idles o) = calm_unchanged r w e o h

@@ -47,9 +47,6 @@ node_is w e name s is = ap (λ (v : World). v.nodes name) is ∙ stepped_node w 
 
 -- ---- the poll
 
-same_accept : (n : Node) (s : ℕ) (v : Stamp) → n.core.who ≡ s → n.core.promise ≡ v → accept_of n true ≡ Accept s v n.core.base n.core.acc (top n) true
-same_accept n s v a b = cc
-
 polled_tick : (rules : Rules) (r : Repair) (i after accepted : ℕ) (w : World) → Fine rules r w → has r.members i ≡ true → (i == r.by) ≡ false
     → after ≤ length w.letters
     → (let e = event_at (place_of r.by) act.Tick in accepted ≤ ((happens w e).nodes r.by).core.acc → Polled r i after accepted (happens w e))
@@ -58,7 +55,6 @@ polled_tick rules r i after accepted w h there other low told_ =
     let m = w.nodes r.by in
     let s = step m does.Tick in
     let is = tick_is w r.by (member_there rules r w r.by h h.calm.listed) in
-    let v = happens w e in
     let fine = fine_goes rules r w e (our_ticks (place_of r.by)) h in
     let node = node_is w e r.by s is in
     let n = s.node in
@@ -75,7 +71,7 @@ polled_tick rules r i after accepted w h there other low told_ =
       base = n.core.base;
       acc = n.core.acc;
       high = top n;
-      is = same_accept n r.by r.view who promise;
+      is = cc;
       far = l.high;
       told = omega arith;
     }
@@ -101,7 +97,6 @@ ticks_poll rules r X i accepted w b h x there other =
     keeps p u k =
         let e = event_at p act.Tick in
         let more = letters_more u e in
-        let low = k.2 in
         (fine_goes rules r u e (our_ticks p) k.0, b.keeps u e (our_ticks p) k.0 k.1, omega arith)
 
     hits : Hits P (Polled r i (length w.letters) accepted) act.Tick (place_of r.by)
@@ -170,8 +165,6 @@ ticks_report rules r i w h there other far =
     keeps p u k =
         let e = event_at p act.Tick in
         let more = letters_more u e in
-        let low = k.2 in
-        let high = k.1 in
         let grow = (grow_goes rules r u e (our_ticks p) k.0).stored i there in
         (fine_goes rules r u e (our_ticks p) k.0, omega arith, omega arith)
 

@@ -1,5 +1,5 @@
 -- What each run keeps of what its applications were given: gapless, from where a name began, and each send that was settled at its number.
-use Rattle.am_headline.proofs.Words.{by_name, eqb-true, equals_itself, ◌≡◌, ⊎_elim, inl, ℕ, zero, suc, ◌+◌, ◌-◌, ◌<◌, ◌≤◌, ◌==◌, nat_le, true, false, List}
+use Rattle.am_headline.proofs.Words.{by_name, eqb-true, equals_itself, ◌≡◌, either, inl, ℕ, zero, suc, ◌+◌, ◌-◌, ◌<◌, ◌≤◌, ◌==◌, nat_le, true, false, List}
 use Rattle.am_headline.proofs.Words.{[], ◌∷◌, ◌++◌, length, Option, Some, None, refl, sym, ap, ◌∙◌, subst, append-nil, length-append, arith, All, flat_map}
 use Rattle.am_headline.proofs.Words.{nat_tests, All-nil, All-cons, All-append, All-push, All-weaker, Entry, Data, Join, Outcome, Rules, MayFound, has}
 use Rattle.am_headline.proofs.Words.{entry_at, entry-get, Letter, Event, Record, name_of, taken_in, given_to, deliveries, item_at, IsGood, begins_refl}
@@ -143,10 +143,9 @@ not_asked rules events may i c o none h =
 
 was_taken : (rules : Rules) (events : List Event) (may : MayFound rules) (i : ℕ) (c : Cause) (n : Node) (o : Outcome) (number : ℕ) (e : Entry)
     → o ≡ said.Took number e → Answers ((run rules events).nodes i) c n o → HasTaken ((run rules events).nodes i) c n number e
-was_taken rules events may i c n o number e is h = ⊎_elim
-    (λ (x : HasTaken ((run rules events).nodes i) c n number e). x)
-    (λ (x : AnswersAsk ((run rules events).nodes i) c (said.Took number e)). absurd (not_asked rules events may i c _ (λ z. z) x))
-    (subst (Answers ((run rules events).nodes i) c n) is h)
+was_taken rules events may i c n o number e is h = either (subst (Answers ((run rules events).nodes i) c n) is h)
+    (λ x. x)
+    (λ x. absurd (not_asked rules events may i c _ (λ z. z) x))
 
 -- ---- one name's node
 
@@ -188,9 +187,6 @@ module _ (rules : Rules) (events : List Event) (e : Event) (c : Cause) (step : S
   none_taken number x says f =
       let i = actor (run rules events) e in
       let y = was_taken rules events may i c step.node step.outcome number x says effect.answer in
-      let next = y.next in
-      let on = y.gone_on in
-      let some = y.some in
       let low = ((numbers_hold rules events).each i).given in
       let less : before.core.taken < before.core.acc = grind (arith, nat_tests) in
       let p = at_least before.core.taken before.core.acc (before.core.start - 1) (h.each i).passed less in
@@ -200,8 +196,6 @@ module _ (rules : Rules) (events : List Event) (e : Event) (c : Cause) (step : S
   taking number x says =
       let i = actor (run rules events) e in
       let y = was_taken rules events may i c step.node step.outcome number x says effect.answer in
-      let next = y.next in
-      let some = y.some in
       let order = ((numbers_hold rules events).each i).given in
       let less : before.core.taken < before.core.acc = grind (arith, nat_tests) in
       record {
@@ -270,12 +264,10 @@ module _ (rules : Rules) (events : List Event) (e : Event) (c : Cause) (step : S
 
   settled_stands : (req : ℕ) (number : Option ℕ) → Settled w.group i m n req number → IsSettled v.group (length v.group) i req number
   settled_stands req None x = tt
-  settled_stands req (Some number) x = ⊎_elim
-      (λ (a : (body : List ℕ) × (item_at w.group number ≡ Some (Data i req body))).
-      (let there = item_begins number (Data i req a.0) group_grows a.1 in
+  settled_stands req (Some number) x = either x
+      (λ a. (let there = item_begins number (Data i req a.0) group_grows a.1 in
       let low = item_within v.group number (Data i req a.0) there in (a.0, record { low = low.1; there = there })))
-      (λ (a : Fresh m n req number). fresh_stands req number a)
-      x
+      (λ a. fresh_stands req number a)
 
   -- ---- where a list begins
 
@@ -349,17 +341,15 @@ module _ (rules : Rules) (events : List Event) (e : Event) (c : Cause) (step : S
       given = deliveries w.records i
 
       by_way : Gave c step.outcome m n → GivenOk v.group (length v.group) n (given ++ taken_in step.outcome)
-      by_way (nothing f start log) = ⊎_elim
-          (λ (x : taken_in step.outcome ≡ []). subst (GivenOk v.group (length v.group) n) (ap (λ l. given ++ l) (sym x))
+      by_way (nothing f start log) = either (taken_or step.outcome)
+          (λ x. subst (GivenOk v.group (length v.group) n) (ap (λ l. given ++ l) (sym x))
           (subst (GivenOk v.group (length v.group) n) (sym (append-nil given))
           (record {
             count = ap (λ y. length given + (y - 1)) start ∙ given_before.count ∙ sym f;
             each = λ k number x at. (let z = given_before.each k number x at in
                 (z.0 ∙ ap (λ y. y + k) (sym start), subst (λ y. At v.group (length v.group) (y + k) x) (sym start) z.1));
           })))
-          (λ (x : (number : ℕ) × (entry : Entry) × (step.outcome ≡ said.Took number entry)).
-          absurd (none_taken rules events e c step may cause effect h x.0 x.1 x.2 f))
-          (taken_or step.outcome)
+          (λ x. absurd (none_taken rules events e c step may cause effect h x.0 x.1 x.2 f))
       by_way (took k x says a b start low ln lm) =
           let y = taking rules events e c step may cause effect h (k + 1) x says in
           let item = there k x y in
@@ -374,22 +364,19 @@ module _ (rules : Rules) (events : List Event) (e : Event) (c : Cause) (step : S
       by_way (began from stamp base join image heard says lm ln start f up) =
           let b = (h.each i).blank lm in
           let count = given_before.count in
-          let b0 = b.0 in
-          let b1 = b.1 in
           let empty : given ≡ [] = nil_from_length given (omega arith) in
           subst (λ g. GivenOk v.group (length v.group) n (g ++ taken_in step.outcome)) (sym empty)
           (subst (GivenOk v.group (length v.group) n) (ap taken_in (sym says)) (record { count = omega arith; each = λ k number x y. absurd (cc) }))
 
   sent_now : (o : Outcome) → Answers m c n o → All (StandsAt v.group (length v.group)) (sent_in i o)
-  sent_now (said.Sent req number) answer = ⊎_elim
-      (λ (x : WasSettled m c req number). (
+  sent_now (said.Sent req number) answer = either answer
+      (λ x. (
       let ok = all_get (SendOk v.group (length v.group) i) m.sends.queue x.index x.send still.sends x.there in
       let stands : IsSettled v.group (length v.group) i x.send.req (Some number) = subst (IsSettled v.group (length v.group) i x.send.req) x.settled ok in
       let mine : (body : List ℕ) × At v.group (length v.group) number (Data i req body) = subst
       (λ r. (body : List ℕ) × At v.group (length v.group) number (Data i r body)) x.request stands in
       All-cons (StandsAt v.group (length v.group)) _ [] mine (All-nil (StandsAt v.group (length v.group)))))
-      (λ (x : AnswersAsk m c (said.Sent req number)). absurd (not_asked rules events may i c _ (λ z. z) x))
-      answer
+      (λ x. absurd (not_asked rules events may i c _ (λ z. z) x))
   sent_now _ answer = All-nil (StandsAt v.group (length v.group))
 
   -- ---- the world after it

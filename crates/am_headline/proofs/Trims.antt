@@ -1,5 +1,5 @@
 -- What a sequencer trimmed, its members have taken: what a run keeps of it, with the group that follows.
-use Rattle.am_headline.proofs.RepairedWords.{item_get, ◌≡◌, ⊎_elim, ℕ, ◌<◌, ◌≤◌, ◌==◌, max, true, false, List, [], ◌++◌, Some, slice_get, refl, sym, ap, ◌∙◌}
+use Rattle.am_headline.proofs.RepairedWords.{item_get, ◌≡◌, either, ℕ, ◌<◌, ◌≤◌, ◌==◌, max, true, false, List, [], ◌++◌, Some, slice_get, refl, sym, ap, ◌∙◌}
 use Rattle.am_headline.proofs.RepairedWords.{subst, arith, All, All-nil, All-append, All-weaker, slice_get-get_or, Entry, Image, Stamp, Rules, Packet, Letter}
 use Rattle.am_headline.proofs.RepairedWords.{Event, key, key_by, Group, Node, view, acts, is_member, is_sequencer, has_log, Step, World, is_stopped, with_step}
 use Rattle.am_headline.proofs.RepairedWords.{run, heard_by, and_both, Cause, LetterSays, WasSentTo, IsCause, steps, all_get, logged, heard_names, HeardNames}
@@ -87,11 +87,10 @@ module _ (rules : Rules) (events : List Event) (e : Event) (c : Cause) (step : S
   letters_v = refl
 
   sent_now : All (Sent w m n c) step.letters
-  sent_now = ⊎_elim
-      (λ (none : step.letters ≡ []). subst (All (Sent w m n c)) (sym none) (All-nil (Sent w m n c)))
-      (λ (same : x.effect.sender ≡ n). All-weaker (LetterSays m c x.effect.sender) (Sent w m n c)
+  sent_now = either (sent_by rules events e c step s x.effect x.is few x.old)
+      (λ none. subst (All (Sent w m n c)) (sym none) (All-nil (Sent w m n c)))
+      (λ same. All-weaker (LetterSays m c x.effect.sender) (Sent w m n c)
       (λ l says. now (subst (λ y. LetterSays m c y l) same says)) step.letters x.effect.letters)
-      (sent_by rules events e c step s x.effect x.is few x.old)
 
   -- each letter
   pub letter_v : (k : ℕ) (l : Letter) → slice_get v.letters k ≡ Some l → Sent w m n c l
@@ -141,9 +140,8 @@ module _ (rules : Rules) (events : List Event) (e : Event) (c : Cause) (step : S
 -- who acts in the sequencer's view has taken what it trimmed
 pub settled_trims : (w : World) (q j : ℕ) → Settles w q → j < 256 → (j == q) ≡ false → acts (w.nodes j) ≡ true → view (w.nodes j) ≡ view (w.nodes q)
     → is_stopped w j ≡ false → (w.nodes q).core.base ≤ ((w.nodes q).reports j).taken → (w.nodes q).core.base ≤ (w.nodes j).core.taken
-settled_trims w q j h few other act same goes known = by_kind (h.knows j few other)
-  where
-    by_kind : Knows w h.low (w.nodes q) j → (w.nodes q).core.base ≤ (w.nodes j).core.taken
-    by_kind (took most) = let a = h.acting j few act same in omega arith
-    by_kind (joins none low welcomes) = absurd (let t = logged (w.nodes j).status (and_both (is_member (w.nodes j).status) _ act).0 in cc)
-    by_kind (halts t) = absurd (cc)
+settled_trims w q j h few other act same goes known = elim (h.knows j few other) [
+  | took most ↦ let a = h.acting j few act same in omega arith
+  | joins none low welcomes ↦ absurd (let t = logged (w.nodes j).status (and_both (is_member (w.nodes j).status) _ act).0 in cc)
+  | halts t ↦ absurd (cc)
+]

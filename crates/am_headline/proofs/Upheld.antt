@@ -1,5 +1,5 @@
 -- What the group accepted behind the last View its coordinator accepted.
-use Rattle.am_headline.proofs.RepairedWords.{◌≡◌, ◌≢◌, ◌⊎◌, ⊎_elim, ℕ, zero, suc, ◌+◌, ◌-◌, ◌<◌, ◌≤◌, max, ◌==◌, true, false, if◌then◌else◌, List, [], ◌∷◌}
+use Rattle.am_headline.proofs.RepairedWords.{◌≡◌, ◌≢◌, ◌⊎◌, either, ℕ, zero, suc, ◌+◌, ◌-◌, ◌<◌, ◌≤◌, max, ◌==◌, true, false, if◌then◌else◌, List, [], ◌∷◌}
 use Rattle.am_headline.proofs.RepairedWords.{◌++◌, length, take, drop, Some, slice_get, refl, sym, ap, ◌∙◌, subst, arith, length-append, append_assoc}
 use Rattle.am_headline.proofs.RepairedWords.{nat_tests, take-append-drop, length-take, take_all, take-append-add, Entry, View, Outcome, Rules, MayFound, Event}
 use Rattle.am_headline.proofs.RepairedWords.{Begins, view_of, key, key_by, view_small, view_up, view_viewed, begins_refl, begins_take, begins_trans}
@@ -13,6 +13,7 @@ use Rattle.am_headline.proofs.RepairedWords.{gone, list_moves, Kind, kind_of}
 use Rattle.am_chain.specs.Group as groups
 use Rattle.am_model.specs.declared.status.Status.TheVariants as status
 use Rattle.am_headline.proofs.Ways as ways
+use Rattle.am_headline.proofs.Words.{low_or_above}
 
 -- ---- a name's list has what was accepted
 
@@ -109,7 +110,6 @@ departed_low m n letters (at_end {x = x} deeds) was none_ = (rests_step m x was 
 departed_low m n letters (let_go s v number is heard_ leaves) was none_ = absurd (let a = (and_both _ (is_member m.status) heard_).1 in cc)
 departed_low m n letters (closing {x = x} ev call course leads leaves alone room same_) was none_ = absurd (
     let r = rests_course m x was course in
-    let a = (and_both (is_member x.status) _ (and_both _ _ leads).0).0 in
     let b = r.status ∙ was in cc)
 
 -- ---- a step
@@ -133,9 +133,8 @@ module _ (rules : Rules) (events : List Event) (e : Event) (c : Cause) (step : S
 
   -- as long as the group list doesn't grow
   still : length v.group ≤ length w.group → Upheld v t
-  still low = ⊎_elim
-      (λ (was : s.views.decided (key t.views.current) ≡ true).
-      (let low_s = kept_s.views.order (key t.views.current) was in
+  still low = either (grows.new (key t.views.current) kept_t.views.now)
+      (λ was. (let low_s = kept_s.views.order (key t.views.current) was in
       let on = grows.decided (key s.views.current) kept_s.views.now in
       let low_t = kept_t.views.order (key s.views.current) on.0 in
       let same : key t.views.current ≡ key s.views.current = omega arith in
@@ -145,19 +144,15 @@ module _ (rules : Rules) (events : List Event) (e : Event) (c : Cause) (step : S
       let up_ = acc_up s.views.current.by (current_listed rules events s may old kept_s) in
       let there = ap (λ k. (v.nodes k).core.acc) by in
       omega arith))
-      (λ (fresh : NewView s t (key t.views.current)).
-      (let front = begins_length fresh.accepted in
+      (λ fresh. (let front = begins_length fresh.accepted in
       let size = ap length old.stands.group in
       omega arith))
-      (grows.new (key t.views.current) kept_t.views.now)
 
   -- who had departed adds nothing
   departed_adds : has_departed m.status ≡ true → n.core.acc ≤ length w.group
   departed_adds d =
       let low = departed_low m n step.letters effect.ending (departed_is m.status d) (old.gone i few d) in
       let num = (numbers_hold rules events).each i in
-      let a = num.acc in
-      let b = num.told in
       omega arith
 
   part_t : has_departed m.status ≡ false → Part s t i
@@ -187,10 +182,9 @@ module _ (rules : Rules) (events : List Event) (e : Event) (c : Cause) (step : S
       let acc_ = acc_low in
       let begins_ = grown_begins w v s t i n stands_n old.stands.group group_grows (part_t stays) adds_.begins (omega arith) is_ in
       let same_group : t.group ≡ v.group = new.stands.group in
-      ⊎_elim
-      (λ (low : length v.group ≤ length (current_of t.views).before). omega arith)
-      (λ (above : length (current_of t.views).before < length v.group).
-      (let ch = current_of t.views in
+      either (low_or_above (length v.group) (length (current_of t.views).before))
+      (λ low. omega arith)
+      (λ above. (let ch = current_of t.views in
       let open_ = opening ch in
       let open_long = length_push ch.before (View ch.view) in
       let in_chain = subst (λ g. Begins g (chain_of t.views)) same_group kept_t.group in
@@ -210,10 +204,6 @@ module _ (rules : Rules) (events : List Event) (e : Event) (c : Cause) (step : S
       let mine_by : i ≡ t.views.current.by = sym (ap (λ u. u.by) viewed ∙ own ∙ adds_.own) ∙ by in
       let there : n.core.acc ≡ (v.nodes t.views.current.by).core.acc = ap (λ (x : Node). x.core.acc) (sym node_v) ∙ ap (λ k. (v.nodes k).core.acc) mine_by in
       omega arith))
-      (two (length v.group) (length (current_of t.views).before))
-    where
-      two : (a b : ℕ) → (a ≤ b) ⊎ (b < a)
-      two a b = grind arith
 
   grown_low : (g : List Entry) → length (group_with g n.core) ≤ max (length g) n.core.acc
   grown_low g =
@@ -223,9 +213,9 @@ module _ (rules : Rules) (events : List Event) (e : Event) (c : Cause) (step : S
       omega arith
 
   pub upheld_step : Upheld v t
-  upheld_step = ⊎_elim
-      (λ (low : length v.group ≤ length w.group). still low)
-      (λ (more : length w.group < length v.group). split ((view n).by == n.core.who)
+  upheld_step = either (low_or_above (length v.group) (length w.group))
+      (λ low. still low)
+      (λ more. split ((view n).by == n.core.who)
       (λ u.
       let own : (view n).by ≡ n.core.who = grind (arith, nat_tests) in
       let is_ : v.group ≡ group_with w.group n.core = group_v ∙ ap (λ b. if b then group_with w.group n.core else w.group) u in
@@ -233,10 +223,6 @@ module _ (rules : Rules) (events : List Event) (e : Event) (c : Cause) (step : S
       let most = grown_low w.group in
       adds more is_ own (omega arith))
       (λ f. absurd (let size = ap length (group_v ∙ ap (λ b. if b then group_with w.group n.core else w.group) f) in omega arith)))
-      (two (length v.group) (length w.group))
-    where
-      two : (a b : ℕ) → (a ≤ b) ⊎ (b < a)
-      two a b = grind arith
 
 -- ---- in every run
 

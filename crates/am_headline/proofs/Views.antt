@@ -1,5 +1,5 @@
 -- A View that leaves somebody out always fits: what each run keeps of it up to its lawful front.
-use Rattle.am_headline.proofs.Words.{◌≡◌, ◌≢◌, ◌⊎◌, ⊎_elim, ℕ, ◌+◌, ◌-◌, ◌<◌, ◌≤◌, true, List, [], ◌∷◌, ◌++◌, length, take, Some, refl, sym, ap, ◌∙◌, subst}
+use Rattle.am_headline.proofs.Words.{◌≡◌, ◌≢◌, ◌⊎◌, either, ℕ, ◌+◌, ◌-◌, ◌<◌, ◌≤◌, true, List, [], ◌∷◌, ◌++◌, length, take, Some, refl, sym, ap, ◌∙◌, subst}
 use Rattle.am_headline.proofs.Words.{append_assoc, arith, Entry, Image, Stamp, Rules, size, members_of, Packet, item_at, Begins, view_of, key, begins_trans}
 use Rattle.am_headline.proofs.Words.{begins_length, length_push, Group, IsUp, Kept, Node, top, World, NameStands, LinesOpen, Grows, long_all, taken_more}
 use Rattle.am_headline.proofs.Words.{image_whole}
@@ -7,6 +7,8 @@ use Rattle.am_base.specs.Whole.{image_of}
 use Rattle.am_packet.specs.declared.packet.Packet.TheVariants as packet
 use Rattle.am_chain.specs.Group as groups
 use Rattle.am_headline.proofs.{Lists.item_begins, Shapes.Shaped, Fits.FitsAt, Rows.Stores}
+use Rattle.am_stands.proofs.Growing.{nil_begun}
+use Rattle.am_stands.proofs.Words.{cases_lt}
 
 -- ---- a number of a list
 
@@ -99,28 +101,18 @@ packet_on rules s t _ g h = tt
 -- who is up is on the line of its promise, where that was decided
 pub promised_line : (t : Group) (i : ℕ) → Kept t → IsUp (t.node i) → t.views.decided (key (t.node i).promise) ≡ true
     → Begins (t.node i).list (t.views.line (key (t.node i).promise))
-promised_line t i k up d = ⊎_elim
-    (λ (late : key (t.node i).promise < key t.views.current).
-    (let l = (k.each i).late up late in begins_trans l.list (l.lines (key (t.node i).promise) d (omega arith))))
-    (λ (now : key t.views.current ≤ key (t.node i).promise).
-    (let most = k.views.order (key (t.node i).promise) d in
+promised_line t i k up d = either (cases_lt (key (t.node i).promise) (key t.views.current))
+    (λ late. (let l = (k.each i).late up late in begins_trans l.list (l.lines (key (t.node i).promise) d (omega arith))))
+    (λ now. (let most = k.views.order (key (t.node i).promise) d in
     let same : key t.views.current ≡ key (t.node i).promise = omega arith in
     subst (λ x. Begins (t.node i).list (t.views.line x)) same ((k.each i).list up)))
-    (two (key (t.node i).promise) (key t.views.current))
-  where
-    two : (a b : ℕ) → (a < b) ⊎ (b ≤ a)
-    two a b = grind arith
 
 -- what begins a list is on the line of its last View
 pub last_line : (t : Group) (i : ℕ) (list : List Entry) → Shaped t → LinesOpen t → list ≢ [] → Begins list (t.node i).list
     → Begins list (t.views.line (key (view_of list)))
 last_line t i list shaped opens some h =
-    let on = shaped.lines i (λ nil. some (nothing list (subst (Begins list) nil h))) in
+    let on = shaped.lines i (λ nil. some (nil_begun list (subst (Begins list) nil h))) in
     (opens on.view list on.decided some (begins_trans h on.line)).line_
-  where
-    nothing : (l : List Entry) → Begins l [] → l ≡ []
-    nothing [] low = refl
-    nothing (e ∷ es) low = absurd (let long = begins_length low in omega arith)
 
 -- ---- an entry that was stored
 

@@ -1,6 +1,6 @@
 -- The words of this crate's proofs, of the crates and definitions that they come from.
 pub use Rattle.am_runs.proofs.UnballotedWords.{◌≡◌, ℕ, zero, suc, ◌<◌, ◌≤◌, ◌==◌, true, List, [], ◌∷◌, ◌++◌, length, take, None, Some, refl, sym, ap, ◌∙◌}
-pub use Rattle.am_runs.proofs.UnballotedWords.{arith, ◌⊎◌, ⊎_elim, inl, inr, ◌+◌, ◌-◌, max, ◌&&◌, not, nat_lt, Bool, if◌then◌else◌, slice_index, length-append}
+pub use Rattle.am_runs.proofs.UnballotedWords.{arith, ◌⊎◌, inl, inr, ◌+◌, ◌-◌, max, ◌&&◌, not, nat_lt, Bool, if◌then◌else◌, slice_index, length-append}
 pub use Rattle.am_runs.proofs.UnballotedWords.{false, slice_get, ◌||◌, Option, nat_le, ◌≢◌, append-nil, append_assoc, drop, min, find, nat_tests}
 pub use Rattle.am_runs.proofs.UnballotedWords.{take-append-drop, length-take-le, All-nil, All-cons, All-push, All-filter, All-map, All-weaker, All-append}
 pub use Rattle.am_runs.proofs.UnballotedWords.{slice_get-get_or, slice_get_within, list_any, flat_map, All, View, Leave, Data, Join, Rules, MayFound, has}
@@ -20,7 +20,7 @@ pub use Rattle.am_runs.proofs.UnballotedWords.{get_last, logged, asking_log, eve
 pub use Rattle.am_runs.proofs.UnballotedWords.{WasSettled, bounded_holds, senders_in_order, send_stands_once, sent_holds, take-append-le, order}
 unfoldable pub use Rattle.am_runs.proofs.UnballotedWords.{accept, pass_over, own_report, tell, go_on, lead, refresh, settle, refresh_at_end, with_step}
 unfoldable pub use Rattle.am_runs.proofs.UnballotedWords.{with_record}
-pub use Rattle.am_stands.proofs.Words.{count_by, eqb-true, not-true, length-map, list_any-append, size, IsSet, name_at, names_from, names_of, member_life}
+pub use Rattle.am_stands.proofs.Words.{either, count_by, eqb-true, not-true, length-map, list_any-append, size, IsSet, name_at, names_from, names_of, member_life}
 pub use Rattle.am_stands.proofs.Words.{members_of, members_at, count_cons, lowest_or_first, has_departed, unsettled_count, has_own_leave, those, need_of}
 pub use Rattle.am_stands.proofs.Words.{left_in, trim_for, with_promise, restart_reports, best_of, is_waited_for, is_unfinished, Plan, quiet, Decided}
 pub use Rattle.am_stands.proofs.Words.{first_node, founders_decided, current, is_stopped, views_after, lives_on, group_with, is_view_of, whole, line_of, key}
@@ -74,6 +74,6 @@ pub use Rattle.am_stands.proofs.{Events.stop_stands, Events.return_stands, Joins
 pub use Rattle.am_stands.proofs.{Joins.blank_nil, Counting.count_up_to, Counting.names_pass, Counting.names_few, Counting.name_small, Opens.runs_open}
 pub use Rattle.am_stands.proofs.{Opens.moves_open, Growing.same_name, Growing.grows_names, Growing.node_grows}
 pub use Rattle.am_stands.specs.Branches.{ChainNamed}
-pub use Rattle.am_stands.proofs.{StepSilent.departed_quiet, Statuses.departed_is, Steps.steps_move, Steps.deeds_there}
+pub use Rattle.am_stands.proofs.{StepSilent.departed_quiet, Courses.departed_is, Steps.steps_move, Steps.deeds_there}
 pub use Rattle.am_model.specs.Ballots.{decided_view}
 pub use Rattle.am_model.specs.Node.{founding_view}

@@ -27,7 +27,7 @@ pub use Rattle.am_play.specs.{World.record_of, World.happens}
 pub use Rattle.am_laws.proofs.{Events.events_have_effects, Hearing.steps_have_effects, Items.get_front, Items.get_last, Items.get_take}
 pub use Rattle.am_laws.specs.{Causes.calls, Effects.Answers, Effects.WasQueued, Effects.AnswersAsk}
 pub use Rattle.am_chain.proofs.Turns.{requests_in_turn}
-pub use Rattle.am_stands.proofs.{Once.no_ask, Once.step_once, StepWords.idle_queues}
+pub use Rattle.am_stands.proofs.{Starting.no_ask, Starting.step_once, StepWords.idle_queues}
 pub use Rattle.am_headline.proofs.Words.{◌≡◌, ℕ, List, true, Group, lowest_or_first, group_kept, steps_move, has_log}
 pub use Rattle.am_headline.proofs.{Begun.held, Fold.KeptBy, Holds.headline_holds, Holds.at_moment, Holds.begins_there, Moments.done_then}
 pub use Rattle.am_replicated.specs.AssembledClaims.{front_of, DeliveredMessagesEnd, WholeMessagesAreDelivered, SentInParts, SentMessagesEnd, Whole}

@@ -128,7 +128,6 @@ unfolding refresh
 refresh_accepts v i x a node stands leads may among =
     let long = long_all v i x a stands in
     let taken = may.taken in
-    let within = may.within in
     let r = own_reporting node a.list x.core.base x.core.who x.core.taken x.reports (omega arith) among.own among.reports in
     let same : after_report x.reports x.core.who (record { stored = length a.list; taken = x.core.taken })
     ≡ after_report x.reports x.core.who (nodes.report_of x) =

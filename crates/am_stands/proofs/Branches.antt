@@ -1,5 +1,5 @@
 -- What stopped names have is on the chain, or was left out of it; so a decision finds what each of its members has.
-use Rattle.am_stands.proofs.Words.{low_or_above, split, ◌≡◌, ◌⊎◌, inl, inr, ⊎_elim, ℕ, ◌<◌, ◌≤◌, ◌==◌, ◌||◌, List, [], ◌∷◌, ◌++◌, length, take, true, false}
+use Rattle.am_stands.proofs.Words.{low_or_above, split, ◌≡◌, ◌⊎◌, inl, inr, either, ℕ, ◌<◌, ◌≤◌, ◌==◌, ◌||◌, List, [], ◌∷◌, ◌++◌, length, take, true, false}
 use Rattle.am_stands.proofs.Words.{Some, slice_index, refl, sym, ap, ◌∙◌, subst, arith, nat_tests, Entry, Leave, View, GroupView, Stamp, place_of, life_of, has}
 use Rattle.am_stands.proofs.Words.{is_within, members_of, all_at, Begins, BeginsBelow, IsGood, image_of, mem, view_of, key, begins_refl, begins_nil}
 use Rattle.am_stands.proofs.Words.{begins_more, begins_trans, begins_both, begins_take, below_of, below_length, length_push, mod16, good_begins, mem_between}
@@ -15,25 +15,19 @@ use Rattle.am_stands.proofs.LeftOut.{longer_chain, none_departed}
 -- each name of the View is a member of what is chosen
 within_has : (members all : List ℕ) (j : ℕ) → is_within members all ≡ true → has members j ≡ true → has all j ≡ true
 within_has members all j within in_ =
-    let test : (place : ℕ) → _ = λ place. (slice_index members place == 0) || (slice_index members place == slice_index all place) in
     let place = mod16 j in
     let at = all_at (λ place. (slice_index members place == 0) || (slice_index members place == slice_index all place)) 0 16 (place_of j) (omega arith)
     (omega arith) within in
-    let its : slice_index members (place_of j) ≡ life_of j = grind (arith, nat_tests) in
-    let same : slice_index all (place_of j) ≡ life_of j = grind (arith, nat_tests) in
     grind (arith, nat_tests)
 
 -- a list that is no better, on one branch, is no longer
 vote_low : (v list branch : List Entry) → IsGood branch → Begins v branch → Begins list branch → NoBetter v list → length v ≤ length list
-vote_low v list branch good h begins worse = ⊎_elim
-    (λ (l : length v ≤ length list). l)
-    (λ (l : length list < length v).
-    let up = view_up (good_begins h good) (begins_both begins h (omega arith)) in
-    ⊎_elim
-    (λ (x : key (view_of v) < key (view_of list)). absurd (omega arith))
-    (λ (x : (key (view_of v) ≡ key (view_of list)) × (length v ≤ length list)). x.1)
-    worse)
-    (low_or_above (length v) (length list))
+vote_low v list branch good h begins worse = either (low_or_above (length v) (length list))
+    (λ l. l)
+    (λ l. let up = view_up (good_begins h good) (begins_both begins h (omega arith)) in
+    either worse
+    (λ x. absurd (omega arith))
+    (λ x. x.1))
 
 module _ (s : Group) (k : Kept s) (lawful : IsLawful s) (c : ℕ) (v : GroupView) (d : MayDecide s c v) (b : BranchesOk s)
     (voted : (j : ℕ) → has v.members j ≡ true → (j ≡ c) ⊎ Voted s (key (s.node c).promise) j (s.node c).list) where
@@ -53,35 +47,28 @@ module _ (s : Group) (k : Kept s) (lawful : IsLawful s) (c : ℕ) (v : GroupView
   -- on one branch with the coordinator's list, a name of the View has no more
   low_on : (j : ℕ) (branch : List Entry) → has v.members j ≡ true → (s.node j).departed ≡ false → IsGood branch → Begins chosen branch
       → Begins (s.node j).list branch → Begins (s.node j).list chosen
-  low_on j branch in_ stays good mine its = ⊎_elim
-      (λ (z : j ≡ c). subst (λ x. Begins (s.node x).list chosen) (sym z) (begins_refl chosen))
-      (λ (z : Voted s (key (s.node c).promise) j chosen).
-      let shown = k.shown (key (s.node c).promise) j z.vote z.is in
+  low_on j branch in_ stays good mine its = either (voted j in_)
+      (λ z. subst (λ x. Begins (s.node x).list chosen) (sym z) (begins_refl chosen))
+      (λ z. let shown = k.shown (key (s.node c).promise) j z.vote z.is in
       let low = vote_low z.vote chosen branch good (begins_trans shown.list its) mine z.worse in
-      begins_both its mine (⊎_elim (λ (y : length (s.node j).list ≤ length z.vote). omega arith) (λ (y : length (s.node j).list ≤ length chosen). y)
-      (b.short c j z.vote d.up d.ballot z.is stays)))
-      (voted j in_)
+      begins_both its mine (either (b.short c j z.vote d.up d.ballot z.is stays) (λ y. omega arith) (λ y. y)))
 
   stays_in : (j : ℕ) → has v.members j ≡ true → (s.node j).departed ≡ false
   stays_in j in_ = split (s.node j).departed (λ t. absurd (none_departed s k lawful c v d j (in_chosen j in_) t)) (λ f. f)
 
   -- each name of the View has a beginning of what is chosen
   members_low : (j : ℕ) → has v.members j ≡ true → Begins (s.node j).list chosen
-  members_low j in_ = by_branch (b.branch j (stays_in j in_))
-    where
-      by_branch : OnBranch s j → Begins (s.node j).list chosen
-      by_branch (on_chain its) = low_on j (chain_of s.views) in_ (stays_in j in_) k.views.good chain its
-      by_branch (left_out a u branch part mine its good member out) = ⊎_elim
-          (λ (z : length (a ++ View u ∷ []) ≤ length chosen).
-          absurd (let inside = begins_both part chain z in
-          let fine = good_begins chain k.views.good in
-          let there = mem_between j fine (begins_more a (View u ∷ [])) inside member (in_chosen j in_) in
-          let has_it = mem_viewed a u j there in cc))
-          (λ (z : length chosen < length (a ++ View u ∷ [])).
-          (let more = length_push a (View u) in
-          let below = begins_both chain (begins_trans (begins_more a (View u ∷ [])) part) (omega arith) in
-          low_on j branch in_ (stays_in j in_) good (begins_trans below mine) its))
-          (low_or_above (length (a ++ View u ∷ [])) (length chosen))
+  members_low j in_ = elim (b.branch j (stays_in j in_)) [
+    | on_chain its ↦ low_on j (chain_of s.views) in_ (stays_in j in_) k.views.good chain its
+    | left_out a u branch part mine its good member out ↦ either (low_or_above (length (a ++ View u ∷ [])) (length chosen))
+        (λ z. absurd (let inside = begins_both part chain z in
+        let fine = good_begins chain k.views.good in
+        let there = mem_between j fine (begins_more a (View u ∷ [])) inside member (in_chosen j in_) in
+        let has_it = mem_viewed a u j there in cc))
+        (λ z. (let more = length_push a (View u) in
+        let below = begins_both chain (begins_trans (begins_more a (View u ∷ [])) part) (omega arith) in
+        low_on j branch in_ (stays_in j in_) good (begins_trans below mine) its))
+  ]
 
   new_view : NewView s (with_choice s c v) (key (s.node c).promise)
   new_view =
@@ -109,14 +96,12 @@ module _ (s : Group) (k : Kept s) (lawful : IsLawful s) (c : ℕ) (v : GroupView
   ended_in : (j : ℕ) (branch : List Entry) → (s.node j).departed ≡ false → IsGood branch → Begins chosen branch → Begins (s.node j).list branch
       → mem chosen j ≡ false → Begins (s.node j).list chosen
   ended_in j branch stays good mine its none = split (s.node j).has_log
-      (λ log. ⊎_elim
-      (λ (z : length (s.node j).list ≤ length chosen). begins_both its mine z)
-      (λ (z : length chosen < length (s.node j).list).
-      absurd (let joined = (k.each j).joined log in
+      (λ log. either (low_or_above (length (s.node j).list) (length chosen))
+      (λ z. begins_both its mine z)
+      (λ z. absurd (let joined = (k.each j).joined log in
       let front = begins_trans (begins_take (s.node j).start s.group) (group_low s k lawful c v d) in
       let there = b.own j stays (take (s.node j).start s.group) chosen (below_of (begins_both mine its (omega arith)) z) front joined.member in
-      cc))
-      (low_or_above (length (s.node j).list) (length chosen)))
+      cc)))
       (λ f. subst (λ l. Begins l chosen) (sym ((k.each j).blank f)) (begins_nil chosen))
 
   -- on one branch with it
@@ -133,23 +118,18 @@ module _ (s : Group) (k : Kept s) (lawful : IsLawful s) (c : ℕ) (v : GroupView
       ⊎ ((a : List Entry) × (u : GroupView) × (branch : List Entry)
       × Begins (a ++ View u ∷ []) (chain_of (with_choice s c v).views)
       × Begins a branch × Begins (s.node j).list branch × IsGood branch × (mem a j ≡ true) × (has u.members j ≡ false))
-  after_choice j stays (on_chain its) = ⊎_elim
-      (λ (z : Begins (s.node j).list chosen). inl (on_new z))
-      (λ (z : (mem chosen j ≡ true) × (has v.members j ≡ false)). inr
+  after_choice j stays (on_chain its) = either (beside j (chain_of s.views) stays k.views.good chain its)
+      (λ z. inl (on_new z))
+      (λ z. inr
       (chosen, (choice_of (s.node c) v).view, chain_of s.views, viewed, chain, its, k.views.good, z.0, z.1))
-      (beside j (chain_of s.views) stays k.views.good chain its)
-  after_choice j stays (left_out a u branch part mine its good member out) = ⊎_elim
-      (λ (z : length (a ++ View u ∷ []) ≤ length chosen).
-      inr (a, u, branch, on_new (begins_both part chain z), mine, its, good, member, out))
-      (λ (z : length chosen < length (a ++ View u ∷ [])).
-      (let more = length_push a (View u) in
+  after_choice j stays (left_out a u branch part mine its good member out) = either (low_or_above (length (a ++ View u ∷ [])) (length chosen))
+      (λ z. inr (a, u, branch, on_new (begins_both part chain z), mine, its, good, member, out))
+      (λ z. (let more = length_push a (View u) in
       let below = begins_trans (begins_both chain (begins_trans (begins_more a (View u ∷ [])) part) (omega arith)) mine in
-      ⊎_elim
-      (λ (y : Begins (s.node j).list chosen). inl (on_new y))
-      (λ (y : (mem chosen j ≡ true) × (has v.members j ≡ false)). inr
-      (chosen, (choice_of (s.node c) v).view, branch, viewed, below, its, good, y.0, y.1))
-      (beside j branch stays good below its)))
-      (low_or_above (length (a ++ View u ∷ [])) (length chosen))
+      either (beside j branch stays good below its)
+      (λ y. inl (on_new y))
+      (λ y. inr
+      (chosen, (choice_of (s.node c) v).view, branch, viewed, below, its, good, y.0, y.1))))
 
 -- ---- each move
 
@@ -158,37 +138,36 @@ abbrev Steady : groups.Node → groups.Node → Type 0
 Steady m n = n.departed ≡ false → IsUp n ⊎ ((n.list ≡ m.list) × (m.departed ≡ false))
 
 -- what is shown to an open ballot is all that its voter has, or the ballot was open and this was shown to it
-abbrev Opened : Group → Group → Type 0
-Opened s t = (c k : ℕ) (list : List Entry) → IsUp (t.node c) → (t.node c).ballot ≡ true → t.shown (key (t.node c).promise) k ≡ Some list
+abbrev OpenedAs : Group → Group → ℕ → ℕ → List Entry → groups.Node → Type 0
+OpenedAs s t c k list m = IsUp m → m.ballot ≡ true → t.shown (key m.promise) k ≡ Some list
     → (length (t.node k).list ≤ length list)
-    ⊎ (IsUp (s.node c) × ((s.node c).ballot ≡ true) × (s.shown (key (s.node c).promise) k ≡ Some list) × (length (s.node c).list ≤ length (t.node c).list))
+    ⊎ (IsUp (s.node c) × ((s.node c).ballot ≡ true) × (s.shown (key (s.node c).promise) k ≡ Some list) × (length (s.node c).list ≤ length m.list))
+
+abbrev Opened : Group → Group → Type 0
+Opened s t = (c k : ℕ) (list : List Entry) → OpenedAs s t c k list (t.node c)
+
+-- a name that has an open ballot then had it
+abbrev HadBallot : groups.Node → groups.Node → Type 0
+HadBallot m n = IsUp n → n.ballot ≡ true → IsUp m × (m.ballot ≡ true) × (n.promise ≡ m.promise) × (length m.list ≤ length n.list)
 
 branches_of : (s t : Group) → Kept t → ((j : ℕ) → Steady (s.node j) (t.node j))
     → ((j : ℕ) → (s.node j).departed ≡ false → OnBranch s j → (t.node j).list ≡ (s.node j).list → OnBranch t j)
     → Opened s t → BranchesOk s → BranchesOk t
 branches_of s t k steady moved opened b = record {
-  branch = λ j stays. ⊎_elim
-      (λ (up : IsUp (t.node j)). on_chain ((k.each j).list up))
-      (λ (z : ((t.node j).list ≡ (s.node j).list) × ((s.node j).departed ≡ false)). moved j z.1 (b.branch j z.1) z.0)
-      (steady j stays);
-  own = λ j stays. ⊎_elim
-      (λ (up : IsUp (t.node j)). (k.each j).own up)
-      (λ (z : ((t.node j).list ≡ (s.node j).list) × ((s.node j).departed ≡ false)).
-      subst (λ l. (a d : List Entry) → BeginsBelow d l → Begins a d → mem a j ≡ true → mem d j ≡ true) (sym z.0) (b.own j z.1))
-      (steady j stays);
-  short = λ c j list up ballot shown stays. ⊎_elim
-      (λ (own_up : IsUp (t.node j)). k.short c j list up ballot shown own_up)
-      (λ (z : ((t.node j).list ≡ (s.node j).list) × ((s.node j).departed ≡ false)). ⊎_elim
-      (λ (y : length (t.node j).list ≤ length list). inl y)
-      (λ (y : IsUp (s.node c) × ((s.node c).ballot ≡ true) × (s.shown (key (s.node c).promise) j ≡ Some list)
-      × (length (s.node c).list ≤ length (t.node c).list)).
-      (let same = ap length z.0 in
-      ⊎_elim
-      (λ (x : length (s.node j).list ≤ length list). inl (omega arith))
-      (λ (x : length (s.node j).list ≤ length (s.node c).list). inr (omega arith))
-      (b.short c j list y.0 y.1 y.2 z.1)))
-      (opened c j list up ballot shown))
-      (steady j stays);
+  branch = λ j stays. either (steady j stays)
+      (λ up. on_chain ((k.each j).list up))
+      (λ z. moved j z.1 (b.branch j z.1) z.0);
+  own = λ j stays. either (steady j stays)
+      (λ up. (k.each j).own up)
+      (λ z. subst (λ l. (a d : List Entry) → BeginsBelow d l → Begins a d → mem a j ≡ true → mem d j ≡ true) (sym z.0) (b.own j z.1));
+  short = λ c j list up ballot shown stays. either (steady j stays)
+      (λ own_up. k.short c j list up ballot shown own_up)
+      (λ z. either (opened c j list up ballot shown)
+      (λ y. inl y)
+      (λ y. (let same = ap length z.0 in
+      either (b.short c j list y.0 y.1 y.2 z.1)
+      (λ x. inl (omega arith))
+      (λ x. inr (omega arith)))));
 }
 
 -- on a chain that goes on
@@ -198,26 +177,23 @@ still_on s t chain j stays (on_chain its) same = on_chain (subst (λ l. Begins l
 still_on s t chain j stays (left_out a v branch part mine its good member out) same =
     left_out a v branch (begins_trans part chain) mine (subst (λ l. Begins l branch) (sym same) its) good member out
 
+same_chain : (s : Group) → Begins (chain_of s.views) (chain_of s.views)
+same_chain s = begins_refl (chain_of s.views)
+
 -- a move of one name
 record OneName (s t : Group) (i : ℕ) (n : groups.Node) : Type 0 where
   node : t.node ≡ put s.node i n
   shown : t.shown ≡ s.shown
   chain : Begins (chain_of s.views) (chain_of t.views)
   steady : Steady (s.node i) n
-  -- where it has an open ballot then, it had it
-  opened : IsUp n → n.ballot ≡ true → IsUp (s.node i) × ((s.node i).ballot ≡ true) × (n.promise ≡ (s.node i).promise) × (length (s.node i).list ≤ length n.list)
+  opened : HadBallot (s.node i) n
 
 steady_put : (s : Group) (i : ℕ) (n : groups.Node) → Steady (s.node i) n → (j : ℕ) → Steady (s.node j) (put s.node i n j)
 steady_put s i n h j = put_at (λ k (m : groups.Node). Steady (s.node k) m) s.node i n h (λ k other stays. inr (refl, stays)) j
 
 opened_put : (s t : Group) (i : ℕ) (n : groups.Node) → OneName s t i n → Opened s t
-opened_put s t i n h c k list = subst (λ (f : ℕ → groups.Node). IsUp (f c) → (f c).ballot ≡ true → t.shown (key (f c).promise) k ≡ Some list
-    → (length (t.node k).list ≤ length list)
-    ⊎ (IsUp (s.node c) × ((s.node c).ballot ≡ true) × (s.shown (key (s.node c).promise) k ≡ Some list) × (length (s.node c).list ≤ length (f c).list)))
-    (sym h.node)
-    (put_at (λ j (m : groups.Node). IsUp m → m.ballot ≡ true → t.shown (key m.promise) k ≡ Some list
-    → (length (t.node k).list ≤ length list)
-    ⊎ (IsUp (s.node j) × ((s.node j).ballot ≡ true) × (s.shown (key (s.node j).promise) k ≡ Some list) × (length (s.node j).list ≤ length m.list))) s.node i n
+opened_put s t i n h c k list = subst (λ (f : ℕ → groups.Node). OpenedAs s t c k list (f c)) (sym h.node)
+    (put_at (λ j m. OpenedAs s t j k list m) s.node i n
     (λ up ballot shown. (let o = h.opened up ballot in
     inr (o.0, o.1, ap (λ (u : Stamp). s.shown (key u) k) (sym o.2) ∙ ap (λ f. f (key n.promise) k) (sym h.shown) ∙ shown, o.3)))
     (λ j other up ballot shown. inr (up, ballot, ap (λ f. f (key (s.node j).promise) k) (sym h.shown) ∙ shown, omega arith)) c)
@@ -227,25 +203,22 @@ one_name s t i n k h b = branches_of s t k
     (λ j. subst (λ (f : ℕ → groups.Node). Steady (s.node j) (f j)) (sym h.node) (steady_put s i n h.steady j))
     (still_on s t h.chain) (opened_put s t i n h) b
 
+-- and one that leaves the chain as it was
+own_move : (s : Group) (i : ℕ) (n : groups.Node) → Kept (group.with_node s i n) → Steady (s.node i) n → HadBallot (s.node i) n → BranchesOk s
+    → BranchesOk (group.with_node s i n)
+own_move s i n k steady opened b =
+    one_name s (group.with_node s i n) i n k (record { node = refl; shown = refl; chain = same_chain s; steady = steady; opened = opened }) b
+
 -- and one that changes no name
 no_name : (s t : Group) → Kept t → t.node ≡ s.node → t.views ≡ s.views → t.shown ≡ s.shown → BranchesOk s → BranchesOk t
 no_name s t k node views shown b = branches_of s t k
     (λ j. subst (λ (f : ℕ → groups.Node). Steady (s.node j) (f j)) (sym node) (λ stays. inr (refl, stays)))
     (still_on s t (subst (λ v. Begins (chain_of s.views) (chain_of v)) (sym views) (begins_refl (chain_of s.views))))
-    (λ c k list. subst (λ (f : ℕ → groups.Node). IsUp (f c) → (f c).ballot ≡ true → t.shown (key (f c).promise) k ≡ Some list
-    → (length (t.node k).list ≤ length list)
-    ⊎ (IsUp (s.node c) × ((s.node c).ballot ≡ true) × (s.shown (key (s.node c).promise) k ≡ Some list) × (length (s.node c).list ≤ length (f c).list)))
-    (sym node)
+    (λ c k list. subst (λ (f : ℕ → groups.Node). OpenedAs s t c k list (f c)) (sym node)
     (λ up ballot is. inr (up, ballot, ap (λ f. f (key (s.node c).promise) k) (sym shown) ∙ is, omega arith))) b
 
 pub up_as : (m n : groups.Node) → n.has_log ≡ m.has_log → n.stopped ≡ m.stopped → n.departed ≡ m.departed → IsUp m → IsUp n
 up_as m n log stopped departed up = record { log = log ∙ up.log; there = record { goes = stopped ∙ up.there.goes; stays = departed ∙ up.there.stays } }
-
-same_chain : (s : Group) → Begins (chain_of s.views) (chain_of s.views)
-same_chain s = begins_refl (chain_of s.views)
-
-more_list : (a : List Entry) (e : Entry) → length a ≤ length (a ++ e ∷ [])
-more_list a e = (let z = length_push a e in omega arith)
 
 -- a new ballot's stamp is above all that was shown to its name
 none_shown : (s : Group) (i j : ℕ) (list : List Entry) → Kept s → i < 256 → s.shown (key (own_stamp i (s.node i))) j ≡ Some list → ⊥
@@ -257,26 +230,20 @@ none_shown s i j list k few is =
     omega arith
 
 begun_open : (s : Group) (i : ℕ) → Kept s → i < 256 → Opened s (group.with_node s i (record (s.node i) { promise = own_stamp i (s.node i); ballot = true }))
-begun_open s i k few c j list = put_at (λ x (m : groups.Node). IsUp m → m.ballot ≡ true → s.shown (key m.promise) j ≡ Some list
-    → (length (put s.node i (record (s.node i) { promise = own_stamp i (s.node i); ballot = true }) j).list ≤ length list)
-    ⊎ (IsUp (s.node x) × ((s.node x).ballot ≡ true) × (s.shown (key (s.node x).promise) j ≡ Some list) × (length (s.node x).list ≤ length m.list))) s.node i
-    (record (s.node i) { promise = own_stamp i (s.node i); ballot = true })
+begun_open s i k few c j list =
+    let n : groups.Node = record (s.node i) { promise = own_stamp i (s.node i); ballot = true } in
+    put_at (λ x m. OpenedAs s (group.with_node s i n) x j list m) s.node i n
     (λ up ballot is. absurd (none_shown s i j list k few is))
     (λ x other up ballot is. inr (up, ballot, is, omega arith)) c
 
 -- a list that is shown now
 shown_open : (s : Group) (i : ℕ) → Opened s (record s { shown = put2 s.shown (key (s.node i).promise) i (Some (s.node i).list) })
-shown_open s i c j list up ballot is = ⊎_elim
-    (λ (z : (key (s.node c).promise ≡ key (s.node i).promise) × (j ≡ i)
-    × (put2 s.shown (key (s.node i).promise) i (Some (s.node i).list) (key (s.node c).promise) j ≡ Some (s.node i).list)).
-    (let same : Some (s.node i).list ≡ Some list = sym z.2 ∙ is in
+shown_open s i c j list up ballot is = either (put2_cases s.shown (key (s.node i).promise) i (Some (s.node i).list) (key (s.node c).promise) j)
+    (λ z. (let same : Some (s.node i).list ≡ Some list = sym z.2 ∙ is in
     let its : (s.node i).list ≡ list = cc in
     let long = ap (λ x. length (s.node x).list) z.1 ∙ ap length its in
     inl (omega arith)))
-    (λ (z : ((key (s.node c).promise ≡ key (s.node i).promise) × (j ≡ i) → ⊥)
-    × (put2 s.shown (key (s.node i).promise) i (Some (s.node i).list) (key (s.node c).promise) j ≡ s.shown (key (s.node c).promise) j)).
-    inr (up, ballot, sym z.1 ∙ is, omega arith))
-    (put2_cases s.shown (key (s.node i).promise) i (Some (s.node i).list) (key (s.node c).promise) j)
+    (λ z. inr (up, ballot, sym z.1 ∙ is, omega arith))
 
 choice_branches : (s : Group) (k : Kept s) (lawful : IsLawful s) (c : ℕ) (v : GroupView) (d : MayDecide s c v)
     → ((j : ℕ) → has v.members j ≡ true → (j ≡ c) ⊎ Voted s (key (s.node c).promise) j (s.node c).list) → Kept (with_choice s c v) → BranchesOk s
@@ -286,15 +253,10 @@ choice_branches s k lawful c v d voted kept b =
     let n : groups.Node = record (s.node c) { list = opening (choice_of (s.node c) v); ballot = false } in
     branches_of s t kept
     (λ j. steady_put s c n (λ stays. inl (up_as (s.node c) n refl refl refl d.up)) j)
-    (λ j stays old same. ⊎_elim
-    (λ (z : Begins (s.node j).list (chain_of t.views)). on_chain (subst (λ l. Begins l (chain_of t.views)) (sym same) z))
-    (λ (z : (a : List Entry) × (u : GroupView) × (branch : List Entry) × Begins (a ++ View u ∷ []) (chain_of t.views)
-    × Begins a branch × Begins (s.node j).list branch × IsGood branch × (mem a j ≡ true) × (has u.members j ≡ false)).
-    left_out z.0 z.1 z.2 z.3 z.4 (subst (λ l. Begins l z.2) (sym same) z.5) z.6 z.7 z.8)
-    (after_choice s k lawful c v d b voted j stays old))
-    (λ x j list. put_at (λ y (m : groups.Node). IsUp m → m.ballot ≡ true → s.shown (key m.promise) j ≡ Some list
-    → (length (put s.node c n j).list ≤ length list)
-    ⊎ (IsUp (s.node y) × ((s.node y).ballot ≡ true) × (s.shown (key (s.node y).promise) j ≡ Some list) × (length (s.node y).list ≤ length m.list))) s.node c n
+    (λ j stays old same. either (after_choice s k lawful c v d b voted j stays old)
+    (λ z. on_chain (subst (λ l. Begins l (chain_of t.views)) (sym same) z))
+    (λ z. left_out z.0 z.1 z.2 z.3 z.4 (subst (λ l. Begins l z.2) (sym same) z.5) z.6 z.7 z.8))
+    (λ x j list. put_at (λ y m. OpenedAs s t y j list m) s.node c n
     (λ up ballot is. absurd (cc))
     (λ y other up ballot is. inr (up, ballot, is, omega arith)) x) b
 
@@ -306,7 +268,7 @@ longer_name s t i e node shown chain up = record {
   shown = shown;
   chain = chain;
   steady = λ stays. inl (up_as (s.node i) (longer (s.node i) e) refl refl refl up);
-  opened = λ z ballot. (up, ballot, refl, more_list (s.node i).list e);
+  opened = λ z ballot. (up, ballot, refl, (let z = length_push (s.node i).list e in omega arith));
 }
 
 pub moves_branch : MovesBranch
@@ -314,59 +276,25 @@ moves_branch s t (group.numbers i e leads fit may) voted k law kt b = one_name s
     (subst (Begins (chain_of s.views)) (sym (longer_chain s i (longer (s.node i) e) e k leads refl)) (begins_more (chain_of s.views) (e ∷ []))) leads.up) b
 moves_branch s t (group.stores i e up decided other stays next) voted k law kt b = one_name s t i (longer (s.node i) e) kt
     (longer_name s t i e refl refl (same_chain s) up) b
-moves_branch s t (group.learns i told acc up rises within before up_to given low) voted k law kt b = one_name s t i
-    (record (s.node i) { told = told; acc = acc }) kt (record {
-      node = refl;
-      shown = refl;
-      chain = same_chain s;
-      steady = λ z. inl (up_as (s.node i) _ refl refl refl up);
-      opened = λ z ballot. (up, ballot, refl, omega arith);
-    }) b
+moves_branch s t (group.learns i told acc up rises within before up_to given low) voted k law kt b =
+    own_move s i _ kt (λ z. inl (up_as (s.node i) _ refl refl refl up)) (λ z ballot. (up, ballot, refl, omega arith)) b
 moves_branch s t (group.begins i few up stays member) voted k law kt b = branches_of s t kt
     (λ j. steady_put s i (record (s.node i) { promise = own_stamp i (s.node i); ballot = true }) (λ z. inl (up_as (s.node i) _ refl refl refl up)) j)
     (still_on s t (same_chain s)) (begun_open s i k few) b
-moves_branch s t (group.raises i stamp there above) voted k law kt b = one_name s t i (record (s.node i) { promise = stamp; ballot = false }) kt (record {
-  node = refl;
-  shown = refl;
-  chain = same_chain s;
-  steady = λ z. inr (refl, there.stays);
-  opened = λ z ballot. absurd (cc);
-}) b
+moves_branch s t (group.raises i stamp there above) voted k law kt b = own_move s i _ kt (λ z. inr (refl, there.stays)) (λ z ballot. absurd (cc)) b
 moves_branch s t (group.shows i there small other begun none) voted k law kt b = branches_of s t kt (λ j stays. inr (refl, stays))
     (still_on s t (same_chain s)) (shown_open s i) b
 moves_branch s t (group.fetches i f list e up ballot served shown next) voted k law kt b = one_name s t i (longer (s.node i) e) kt
     (longer_name s t i e refl refl (same_chain s) up) b
 moves_branch s t (group.decides i v may) voted k law kt b = choice_branches s k law i v may voted.1 kt b
-moves_branch s t (group.gives_over i) voted k law kt b = one_name s t i (record (s.node i) { ballot = false }) kt (record {
-  node = refl;
-  shown = refl;
-  chain = same_chain s;
-  steady = λ z. inr (refl, z);
-  opened = λ z ballot. absurd (cc);
-}) b
+moves_branch s t (group.gives_over i) voted k law kt b = own_move s i _ kt (λ z. inr (refl, z)) (λ z ballot. absurd (cc)) b
 moves_branch s t (group.welcomes j stamp base join may) voted k law kt b =
-    let n : groups.Node = record (s.node j) { list = take base s.group; has_log = true; start = join; promise = stamp; told = base; acc = base } in
-    one_name s t j n kt (record {
-      node = refl;
-      shown = refl;
-      chain = same_chain s;
-      steady = λ z. inl (record { log = refl; there = record { goes = may.there.goes; stays = z } });
-      opened = λ z ballot. absurd (let none = may.no_ballot in cc);
-    }) b
-moves_branch s t (group.asks i up none) voted k law kt b = one_name s t i (record (s.node i) { leaving = true }) kt (record {
-  node = refl;
-  shown = refl;
-  chain = same_chain s;
-  steady = λ z. inl (up_as (s.node i) _ refl refl refl up);
-  opened = λ z ballot. absurd (cc);
-}) b
-moves_branch s t (group.departs i before may) voted k law kt b = one_name s t i (record (s.node i) { departed = true }) kt (record {
-  node = refl;
-  shown = refl;
-  chain = same_chain s;
-  steady = λ z. absurd (cc);
-  opened = λ z ballot. absurd (let y = z.there.stays in cc);
-}) b
+    own_move s j _ kt (λ z. inl (record { log = refl; there = record { goes = may.there.goes; stays = z } }))
+    (λ z ballot. absurd (let none = may.no_ballot in cc)) b
+moves_branch s t (group.asks i up none) voted k law kt b =
+    own_move s i _ kt (λ z. inl (up_as (s.node i) _ refl refl refl up)) (λ z ballot. absurd (cc)) b
+moves_branch s t (group.departs i before may) voted k law kt b =
+    own_move s i _ kt (λ z. absurd (cc)) (λ z ballot. absurd (let y = z.there.stays in cc)) b
 moves_branch s t (group.closes i n leads leaving alone may) voted k law kt b = one_name s t i (record (longer (s.node i) (Leave i)) { departed = true }) kt
     (record {
       node = refl;
@@ -376,13 +304,7 @@ moves_branch s t (group.closes i n leads leaving alone may) voted k law kt b = o
       steady = λ z. absurd (cc);
       opened = λ z ballot. absurd (let y = z.there.stays in cc);
     }) b
-moves_branch s t (group.stops i) voted k law kt b = one_name s t i (record (s.node i) { stopped = true }) kt (record {
-  node = refl;
-  shown = refl;
-  chain = same_chain s;
-  steady = λ z. inr (refl, z);
-  opened = λ z ballot. absurd (let y = z.there.goes in cc);
-}) b
+moves_branch s t (group.stops i) voted k law kt b = own_move s i _ kt (λ z. inr (refl, z)) (λ z ballot. absurd (let y = z.there.goes in cc)) b
 moves_branch s t _ voted k law kt b = no_name s t kt refl refl refl b
 
 -- ---- what a decision finds

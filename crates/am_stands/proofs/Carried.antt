@@ -19,15 +19,7 @@ same_to_it : (w : World) (name : ℕ) (x y : Node) (s : Group) → y.core.log �
     → y.core.promise ≡ x.core.promise → y.ballot ≡ x.ballot → y.core.start ≡ x.core.start → StandsBut name (within w name x) s
     → Onto name (within w name y) s
 same_to_it w name x y s log stays leaving promise ballot start_ h = unmoved w name x y s
-    (record {
-      log = log;
-      log_ = ap has_log stays;
-      departed = ap has_departed stays;
-      leaving = leaving;
-      promise = promise;
-      ballot = ap is_unfinished ballot;
-      start = start_;
-    }) h
+    (assumption (ap has_log stays, ap has_departed stays, ap is_unfinished ballot)) h
 
 looked : (w : World) (name : ℕ) (c : Cause) (x : Node) (b : Ballot) (v : Verdict) (s : Group) → MayMove w name c x s → Balloting c x b
     → (look : Looks x b v) → NeedsLook s name look → StandsBut name (within w name x) s → Onto name (within (after_look look w) name v.node) s
@@ -58,15 +50,7 @@ changes_stand w name c o x y s (stores_view from base number v was by own other 
     (View v) s may.few may.runs (member_heard x from by)
     (record { log = refl; stays = refl; leaving = refl; promise = refl; ballot = refl; start = refl }) (of_line is) h
 changes_stand w name c o x y s (asks_to_join was asked) may is h = unmoved w name x y s
-    (record {
-      log = refl;
-      log_ = sym (ap has_log asked);
-      departed = sym (ap has_departed asked);
-      leaving = refl;
-      promise = refl;
-      ballot = refl;
-      start = refl;
-    }) h
+    (assumption (sym (ap has_log asked), sym (ap has_departed asked))) h
 changes_stand w name c o x y s (asks_to_leave was member stays done) may is h = ask_stands w name c x s may member
     (or_second (nat_lt 0 (unsettled_count x)) (is_unfinished x.ballot) done) h
 changes_stand w name c o x y s (closes leads leaves alone room) may is h = absurd is

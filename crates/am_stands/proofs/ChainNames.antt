@@ -1,5 +1,5 @@
 -- Who joins is one of the 256 names, and a View has a set of them: so members are sets of names.
-use Rattle.am_stands.proofs.Words.{split, ◌≡◌, ◌≢◌, ⊎_elim, ℕ, ◌+◌, ◌-◌, ◌<◌, ◌≤◌, ◌==◌, ◌&&◌, not, nat_lt, Bool, true, false, List, [], ◌∷◌, ◌++◌, length}
+use Rattle.am_stands.proofs.Words.{split, ◌≡◌, ◌≢◌, either, ℕ, ◌+◌, ◌-◌, ◌<◌, ◌≤◌, ◌==◌, ◌&&◌, not, nat_lt, Bool, true, false, List, [], ◌∷◌, ◌++◌, length}
 use Rattle.am_stands.proofs.Words.{take, Option, Some, slice_get, slice_index, refl, sym, ap, ◌∙◌, subst, arith, All, nat_tests, length-map, get_or-replicate}
 use Rattle.am_stands.proofs.Words.{All-head, All-tail, All-nil, All-cons, All-append, All-take, Entry, Data, Join, Leave, View, Row, Image, IsSet, place_of}
 use Rattle.am_stands.proofs.Words.{life_of, has, blank_row, blank, is_blank, at_place, member_life, members_of, with_row, row_after_view, after, fold, top_of}
@@ -43,10 +43,9 @@ abbrev RowsNamed : Image → Type 0
 RowsNamed image = (place : ℕ) → place < 16 → RowNamed (row_at image place)
 
 put_named : (image : Image) (who : ℕ) (r : Row) → length image.rows ≡ 16 → RowNamed r → RowsNamed image → RowsNamed (with_row image who r)
-put_named image who r long new h place low = ⊎_elim
-    (λ (z : (place ≡ place_of who) × (row_at (with_row image who r) place ≡ r)). subst RowNamed (sym z.1) new)
-    (λ (z : (place ≢ place_of who) × (row_at (with_row image who r) place ≡ row_at image place)). subst RowNamed (sym z.1) (h place low))
-    (row_set image who place r long)
+put_named image who r long new h place low = either (row_set image who place r long)
+    (λ z. subst RowNamed (sym z.1) new)
+    (λ z. subst RowNamed (sym z.1) (h place low))
 
 viewed_named : (first : Bool) (n given : ℕ) (r : Row) → given ≤ 16 → RowNamed r → RowNamed (row_after_view first n given r)
 viewed_named true n given r low h = split (given == 0)
@@ -124,7 +123,6 @@ concerned_small v i x a h k low j in_ =
     let most = unions_most log x.core.acc (top_of log - x.core.acc) (place_of j) 16 place (λ n from upto.
     (let is = ap (λ (g : Image). members_of g) (image_whole v i n x a h (omega arith)) in
     let set = members_named (take n a.list) (All-take NamesNamed n a.list k) in
-    let its = set.lives (place_of j) (omega arith) in
     let same = ap (λ m. slice_index m (place_of j)) is in
     omega arith)) in
     let at : slice_index (concerned_names x) (place_of j) ≡ life_of j = grind (arith, nat_tests) in

@@ -29,15 +29,7 @@ pub record Unmoved (x y : Node) : Type 0 where
 pub unmoved_refresh : (x : Node) → Unmoved x (refresh x)
 unmoved_refresh x =
     let r = rests_refresh x in
-    record {
-      log = r.log;
-      log_ = ap has_log r.rests.status;
-      departed = ap has_departed r.rests.status;
-      leaving = r.rests.leaving;
-      promise = r.rests.promise;
-      ballot = ap is_unfinished r.rests.ballot;
-      start = r.begins;
-    }
+    assumption (ap has_log r.rests.status, ap has_departed r.rests.status, ap is_unfinished r.rests.ballot)
 
 -- the same to what stands for it
 pub same_name : (w : World) (name i : ℕ) (x y : Node) (a : groups.Node) → Unmoved x y → NameStands (within w name x) i x a → NameStands (within w name y) i y a
@@ -100,12 +92,7 @@ name_as w name x y a stamp open_ log status leaving start_ promise ballot k = re
     image = subst (λ (l : Log). l.image ≡ image_of (take l.start w.group)) (sym log) k.begins.image;
   };
   list = k.list ∙ ap (λ (l : Log). take l.start w.group ++ l.entries) (sym log);
-  flags = record {
-    log_ = k.log_ ∙ ap has_log (sym status);
-    stopped = k.stopped;
-    departed = k.departed ∙ ap has_departed (sym status);
-    leaving = k.leaving ∙ sym leaving;
-  };
+  flags = assumption (k.log_ ∙ ap has_log (sym status), k.departed ∙ ap has_departed (sym status), k.leaving ∙ sym leaving);
   promise = promise;
   ballot = ballot;
   start = λ t. k.start (ap has_log (sym status) ∙ t) ∙ sym start_;

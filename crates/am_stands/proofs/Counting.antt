@@ -84,7 +84,6 @@ counted_from p q from (suc b ∷ lives) long low h =
     let here : q name ≡ true = subst (λ i. p (name_at i (suc b)) ≡ true → q (name_at i (suc b)) ≡ true) first (h zero (omega arith) (omega arith)) t in
     let rest = counted_from p (but q name) (from + 1) lives (omega arith) (λ k l. low (suc k) (omega arith))
     (λ k l some s. (let u = others k l some s in
-    let high : slice_index lives k ≤ 16 = low (suc k) (omega arith) in
     but_other q name (name_at (from + 1 + k) (slice_index lives k)) (apart from k b (slice_index lives k) (omega arith)) ∙ u)) in
     let below = count_below (but q name) q 256 name (λ j s. (but_passes q name j s).1) (omega arith) (but_same q name) here in
     let one : count_by p (name ∷ names_from (from + 1) lives) ≡ 1 + count_by p (names_from (from + 1) lives) = more
@@ -103,11 +102,9 @@ counted_from p q from (suc b ∷ lives) long low h =
 pub names_pass : (p : ℕ → Bool) (set : List ℕ) → IsSet set → count_by p (names_of set) ≤ how_many (λ h. has set h && p h)
 names_pass p set is =
     counted_from p (λ h. has set h && p h) 0 set (omega arith) is.lives (λ k low some t.
-    let small : k < 16 = omega arith in
     let life = slice_index set k in
     let name = name_at (0 + k) life in
     let place : place_of name ≡ k = omega arith in
-    let its : life_of name ≡ life = omega arith in
     let there : (slice_index set (place_of name) == life_of name) ≡ true = (let at : slice_index set (place_of name) ≡ life = ap (slice_index set) place in
     grind (arith, nat_tests)) in
     rw (there, t) refl)
@@ -158,8 +155,6 @@ names_few set is =
 -- and each is one of the 256
 pub name_small : (set : List ℕ) (name : ℕ) → IsSet set → has set name ≡ true → name < 256
 name_small set name is t =
-    let place = mod16 name in
-    let low : slice_index set (place_of name) ≤ 16 = is.lives (place_of name) (omega arith) in
     let at : slice_index set (place_of name) ≡ life_of name = (let z : (slice_index set (place_of name) == life_of name) ≡ true = t in
     grind (arith, nat_tests)) in
     omega arith

@@ -1,5 +1,5 @@
 -- A decision, as a move of the group.
-use Rattle.am_stands.proofs.Words.{◌≡◌, ⊎_elim, ℕ, ◌+◌, ◌==◌, true, false, List, [], ◌∷◌, ◌++◌, length, take, Some, slice_get, refl, sym, ap, ◌∙◌, subst, arith}
+use Rattle.am_stands.proofs.Words.{◌≡◌, either, ℕ, ◌+◌, ◌==◌, true, false, List, [], ◌∷◌, ◌++◌, length, take, Some, slice_get, refl, sym, ap, ◌∙◌, subst, arith}
 use Rattle.am_stands.proofs.Words.{list_any, nat_tests, append_assoc, GroupView, Stamp, Image, Entry, View, stamp_eq, Log, key, Group, Views, put, opening}
 use Rattle.am_stands.proofs.Words.{with_choice, choice_of, put_same, Node, Ballot, view, members, push_entry, need_of, left_in, restart_reports, with_end}
 use Rattle.am_stands.proofs.Words.{Decided, World, last_view, whole, is_view_of, up_to_view, up_to_next, line_of, split, Cause, HasOpen, Balloting, with_more}
@@ -126,10 +126,9 @@ module _ (w : World) (name : ℕ) (x y : Node) (a : groups.Node) (views : Views)
   views_decided : ViewsStand (within next name y) made
   unfolding next made put
   views_decided = record {
-    noted = λ k d at. ⊎_elim
-        (λ (p : slice_get w.views k ≡ Some d). old_noted k d p)
-        (λ (p : (k ≡ length w.views) × (last_view y ≡ d)). subst (NotedStands (within next name y) made) p.1 new_noted)
-        (get_push w.views (last_view y) k d at);
+    noted = λ k d at. either (get_push w.views (last_view y) k d at)
+        (λ p. old_noted k d p)
+        (λ p. subst (NotedStands (within next name y) made) p.1 new_noted);
     decided = λ i t. split (i == key a.promise)
         (λ u. (let is : i ≡ key a.promise = grind (arith, nat_tests) in
         record { index = length w.views; view = last_view y; there = get_last w.views (last_view y); is = ap key (is_stamp ∙ sym promised) ∙ sym is }))

@@ -1,13 +1,13 @@
 -- A look at a ballot, which comes last before the end of a step: a view that it decided was noted.
 use Rattle.am_model.specs.Ballots.{decided_view}
-use Rattle.am_stands.proofs.StepWords.{logged, ◌≡◌, ◌⊎◌, inl, inr, ⊎_elim, ℕ, true, false, List, [], ◌∷◌, ◌++◌, refl, sym, ap, ◌∙◌, subst, Stamp, Entry}
+use Rattle.am_stands.proofs.StepWords.{logged, ◌≡◌, ◌⊎◌, inl, inr, either, ℕ, true, false, List, [], ◌∷◌, ◌++◌, refl, sym, ap, ◌∙◌, subst, Stamp, Entry}
 use Rattle.am_stands.proofs.StepWords.{Outcome, Rules, stamp_lt, Group, Node, Ballot, view, is_member, image_of, Verdict, trim_for, left_in, need_of, Decided}
 use Rattle.am_stands.proofs.StepWords.{World, last_view, Cause, Balloting, Looks, finds_itself_out, waits, fetches_from_best, finds_too_few, finds_no_room}
 use Rattle.am_stands.proofs.StepWords.{decides, looks, Course, nothing_yet, used_report, and_then, Deeds, plainly, looked, course_changes, rests_refresh, below}
 use Rattle.am_stands.proofs.StepWords.{not_above, SameView, Stood, view_last, changes_do, looked_at, CauseSent, after_look, Stepping, looked_open}
 use Rattle.am_stands.proofs.StepWords.{changes_go_on}
 use Rattle.am_stands.proofs.{Worlds.growing, Refreshed.Fronted, Refreshed.Changed, Refreshed.then_changed, Courses.was_welcomed, Courses.look_brings}
-use Rattle.am_stands.proofs.{Courses.both_ways, Courses.stays, Fronts.fronts_next, StepGoing.Grown, StepGoing.as_before, StepGoing.by_reports}
+use Rattle.am_stands.proofs.{Courses.both_ways, Courses.stays, StepGoing.fronts_next, StepGoing.Grown, StepGoing.as_before, StepGoing.by_reports}
 use Rattle.am_stands.proofs.{StepGoing.going_on}
 
 -- with these views
@@ -70,10 +70,9 @@ before_look b old group why (as_before is) = as_before is
 before_look b old group why (by_reports brings leads start is) = absurd (both_ways _ brings (look_brings b why).brings)
 
 view_up : (a b stamp : Stamp) → (b ≡ a) ⊎ (stamp_lt a b ≡ true) → stamp_lt b stamp ≡ true → stamp_lt a stamp ≡ true
-view_up a b stamp h above = ⊎_elim
-    (λ (same : b ≡ a). ap (λ u. stamp_lt u stamp) (sym same) ∙ above)
-    (λ (up : stamp_lt a b ≡ true). below a b stamp up (not_above b stamp above))
-    h
+view_up a b stamp h above = either h
+    (λ same. ap (λ u. stamp_lt u stamp) (sym same) ∙ above)
+    (λ up. below a b stamp up (not_above b stamp above))
 
 pub deeds_on : (rules : Rules) (w : World) (name : ℕ) (c : Cause) (o : Outcome) (m x : Node) (s : Group) → Deeds c o m x → Stepping rules w name c m s
     → Fronted w name m s → CauseSent w.records name o c → Done rules w name c m x s
@@ -90,10 +89,9 @@ deeds_on rules w name c o m x s (looked {n = n} b verdict course over why look i
     let open_ = (looked_at n b why g.goes.along.balloted).open_ in
     let member = course_member m n course (look_brings b why).welcomes (g.goes.keeps.opens (looked_open c n b why)).0 in
     let gone = changes_do m n h.names (course_changes course) h.along.names h.along.balloted in
-    let up : (view n ≡ view m) ⊎ (stamp_lt (view m) (view n) ≡ true) = ⊎_elim
-    (λ (same : SameView (image_of n) (image_of m)). inl same.view)
-    (λ (k : (stamp_lt (view m) (view n) ≡ true) × Stood n.core.log). inr k.0)
-    (gone.does.goes (logged m.status member)).view in
+    let up : (view n ≡ view m) ⊎ (stamp_lt (view m) (view n) ≡ true) = either (gone.does.goes (logged m.status member)).view
+    (λ same. inl same.view)
+    (λ k. inr k.0) in
     record {
       group = g.group;
       views = (after_look look w).views;

@@ -108,14 +108,7 @@ learned w e name step s told_ acc_ h = record {
       let old : NameStands (with_step w e name step) i (set_at w.nodes name step.node i)
       (s.node name) = subst (λ k. NameStands (with_step w e name step) i (set_at w.nodes name step.node i) (s.node k)) same (h.each i few) in
       let new : NameStands (with_step w e name step) i (set_at w.nodes name step.node i)
-      (record (s.node name) { told = told_; acc = acc_ }) = record {
-        begins = old.begins;
-        list = old.list;
-        flags = old.flags;
-        promise = old.promise;
-        ballot = old.ballot;
-        start = old.start;
-      } in
+      (record (s.node name) { told = told_; acc = acc_ }) = assumption in
       subst (λ (a : groups.Node). NameStands (with_step w e name step) i (set_at w.nodes name step.node i) a)
       (λ j. if sym t j then record (s.node name) { told = told_; acc = acc_ } else s.node i) new))
       (λ f. subst (λ (a : groups.Node). NameStands (with_step w e name step) i (set_at w.nodes name step.node i) a)

@@ -36,12 +36,7 @@ name_longer w name x y e a l h = record {
     image = subst (λ (g : Log). g.image ≡ image_of (take g.start w.group)) (sym l.log) h.begins.image;
   };
   list = ap (λ k. k ++ e ∷ []) h.list ∙ sym (whole_longer w name x y e l);
-  flags = record {
-    log_ = h.log_ ∙ ap has_log (sym l.stays);
-    stopped = h.stopped;
-    departed = h.departed ∙ ap has_departed (sym l.stays);
-    leaving = h.leaving ∙ sym l.leaving;
-  };
+  flags = assumption (h.log_ ∙ ap has_log (sym l.stays), h.departed ∙ ap has_departed (sym l.stays), h.leaving ∙ sym l.leaving);
   promise = h.promise ∙ sym l.promise;
   ballot = h.ballot ∙ ap is_unfinished (sym l.ballot);
   start = λ t. h.start (ap has_log (sym l.stays) ∙ t) ∙ sym l.start;
@@ -122,7 +117,6 @@ pub key_stamp : (a b : Stamp) → a.by < 256 → b.by < 256 → key a ≡ key b 
 unfolding key
 key_stamp a b h k same =
     let by = key_by a b h k same in
-    let rank = ap rank_of by in
     let round : a.round ≡ b.round = omega arith in
     λ i. record { round = round i; by = by i }
 

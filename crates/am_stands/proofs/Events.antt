@@ -86,7 +86,6 @@ idle_stands w e o s h = no_move (recorded w e o s h)
 
 pub stop_stands : (w : World) (e : Event) (o : Outcome) (name : ℕ) (s : Group) → Stands w s
     → EventStands (with_record (record w { stopped = w.stopped ++ name ∷ [] }) e o) s
-unfolding with_record
 stop_stands w e o name s h =
     let v = record w { stopped = w.stopped ++ name ∷ [] } in
     let next = with_node s name (record (s.node name) { stopped = true }) in

@@ -60,7 +60,6 @@ stored_by : (n : Node) (names : List ℕ) (number j : ℕ) → length names ≡ 
 stored_by n names number j long in_ all =
     let f : ℕ → ℕ = λ name. (n.reports name).stored in
     let at : slice_index names (place_of j) ≡ life_of j = grind (arith, nat_tests) in
-    let place = mod16 j in
     let found = least_in f names 0 (place_of j) (omega arith) (omega arith) in
     let name : name_at (0 + place_of j) (slice_index names (place_of j)) ≡ j = omega arith in
     let is = ap f name in
@@ -114,9 +113,6 @@ module _ (v : World) (i : ℕ) (n : Node) (s : Group) (h : MayLetGo v i n s) (na
   has_stored_it j member there stays =
       let last = member_at_end j member there stays in
       let long = long_all v i n (s.node i) h.speaks.stands in
-      let kept = h.kept in
-      let base = h.base in
-      let within = h.within in
       let more = length_push before (Leave name) in
       let in_all = concerned_has v i n (s.node i) j h.speaks.stands (omega arith) h.within
       (λ k from to. member_between j member last k (omega arith) (omega arith)) in
@@ -125,9 +121,6 @@ module _ (v : World) (i : ℕ) (n : Node) (s : Group) (h : MayLetGo v i n s) (na
       let stored = stored_by n (without_name (concerned_names n) name) left j (without_long (concerned_names n) name ∙ size_all) others all in
       let no_more = h.reports.within j in
       let fronts = (h.speaks.kept.each i).fronts in
-      let told_ = fronts.told in
-      let given = fronts.acc in
-      let acc = h.fronts.acc in
       split (nat_lt n.core.base (n.reports j).stored)
       (λ t.
       let above : n.core.base < (n.reports j).stored = grind (arith, nat_tests) in
@@ -153,25 +146,20 @@ gone_said v i n s name h may =
     let low : (row_at n name).left ≤ n.core.acc = (let z = rest.0 in grind (arith, nat_tests)) in
     let same : (row_of (image_of list) name).left ≡ (row_at n name).left = ap (λ (g : Image). (row_of g name).left) (told_all v i n (s.node i) h.speaks.stands)
     in
-    by_kind low rest.1 (subst (LeavesAt list name) same (leaves_at list name (omega arith)))
+    elim (subst (LeavesAt list name) same (leaves_at list name (omega arith))) [
+      | by_leave before size part ↦
+          let fronts = (h.speaks.kept.each i).fronts in
+          let more = length_push before (Leave name) in
+          letters.may_go before size
+          (begins_both part chained.group_in (omega arith))
+          (has_stored_it v i n s h name (row_at n name).left before size part low rest.1)
+      | by_view before w size member out part ↦
+          has_stopped (h.left_out before w name
+          (subst (Begins (before ++ View w ∷ [])) chained.chain part) member out)
+    ]
   where
     chained : OnChain s (s.node i).list
     chained = on_chain v i n s h.speaks h.leads
-
-    by_kind : (row_at n name).left ≤ n.core.acc → all_stored n (without_name (concerned_names n) name) (row_at n name).left ≡ true
-        → LeavesAt (s.node i).list name (row_at n name).left → GoneSays s (row_at n name).left name
-    by_kind low all (by_leave before size part) =
-        let fronts = (h.speaks.kept.each i).fronts in
-        let told_ = fronts.told in
-        let given = fronts.acc in
-        let acc = h.fronts.acc in
-        let more = length_push before (Leave name) in
-        letters.may_go before size
-        (begins_both part chained.group_in (omega arith))
-        (has_stored_it v i n s h name (row_at n name).left before size part low all)
-    by_kind low all (by_view before w size member out part) =
-        has_stopped (h.left_out before w name
-        (subst (Begins (before ++ View w ∷ [])) chained.chain part) member out)
 
 -- to the leaver alone
 pub gone_says : (v : World) (i : ℕ) (n : Node) (s : Group) (name : ℕ) → MayLetGo v i n s → may_go n name ≡ true → (j : ℕ) → has (only_name name) j ≡ true

@@ -1,36 +1,49 @@
 -- With each move a group goes on as letters need it.
-use Rattle.am_stands.proofs.Words.{split, ◌≡◌, inl, inr, ⊎_elim, ℕ, ◌==◌, List, [], ◌∷◌, ◌++◌, length, take, true, false, Some, refl, sym, ap, ◌∙◌, subst}
+use Rattle.am_stands.proofs.Words.{split, ◌≡◌, inl, inr, either, ℕ, ◌==◌, List, [], ◌∷◌, ◌++◌, length, take, true, false, Some, refl, sym, ap, ◌∙◌, subst}
 use Rattle.am_stands.proofs.Words.{arith, nat_tests, GroupView, Entry, Leave, Begins, view_of, key, begins_refl, begins_nil, begins_more, begins_trans}
 use Rattle.am_stands.proofs.Words.{begins_both, begins_take, length_take, Group, put, put2, opening, MayAccept, with_node, with_line, with_choice, choice_of}
 use Rattle.am_stands.proofs.Words.{longer, numbers, stores, accepts, learns, begins, raises, shows, serves, fetches, gives_over, welcomes, asks, departs}
 use Rattle.am_stands.proofs.Words.{closes, stops, Kept, own_above, put_at, put2_cases, NameGrows, NewView, Grows, MovesGrow}
+use Rattle.am_stands.proofs.Words.{◌≤◌, View, Move, own_stamp, begins_length}
+use Rattle.am_stands.specs.Growing.{DecidesNew}
 use Rattle.am_chain.specs.Group.{Leads}
 use Rattle.am_chain.specs.Moves.{decides}
 use Rattle.am_chain.specs.Group as groups
 
 -- ---- one name
 
+no_less : (n : ℕ) → n ≤ n
+no_less n = omega arith
+
 pub same_name : (a : groups.Node) → NameGrows a a
-same_name a = record { list = begins_refl a.list; log = λ z. z; promise = omega arith; stopped = λ t. t; departed = λ t. t; leaving = λ t. t }
+same_name a = assumption (begins_refl a.list, no_less (key a.promise))
 
 longer_name : (a : groups.Node) (e : Entry) → NameGrows a (longer a e)
-longer_name a e = record { list = begins_more a.list (e ∷ []); log = λ z. z; promise = omega arith; stopped = λ t. t; departed = λ t. t; leaving = λ t. t }
+longer_name a e = assumption (begins_more a.list (e ∷ []), no_less (key a.promise))
 
 put_grows : (s : Group) (i : ℕ) (b : groups.Node) → NameGrows (s.node i) b → (j : ℕ) → NameGrows (s.node j) (put s.node i b j)
 put_grows s i b h j = put_at (λ k n. NameGrows (s.node k) n) s.node i b h (λ k other. same_name (s.node k)) j
 
+-- where no view is decided, no choice changes, and what was shown and served stays
+grows_by : (s t : Group) → ((i : ℕ) → NameGrows (s.node i) (t.node i)) → Begins s.group t.group
+    → ((x : ℕ) → Begins (s.views.line x) (t.views.line x)) → t.views.decided ≡ s.views.decided → t.views.chosen ≡ s.views.chosen
+    → ((x j : ℕ) (list : List Entry) → s.shown x j ≡ Some list → t.shown x j ≡ Some list) → ((x j : ℕ) → s.served x j ≡ true → t.served x j ≡ true) → Grows s t
+grows_by s t each group lines decided chosen shown served = record {
+  each = each;
+  group = group;
+  lines = λ x d. lines x;
+  decided = λ x d. (ap (λ f. f x) decided ∙ d, ap (λ f. f x) chosen);
+  new = λ x d. inl (ap (λ f. f x) (sym decided) ∙ d);
+  shown = shown;
+  served = served;
+}
+
 -- where names alone change, or nothing
 pub grows_names : (s t : Group) → ((i : ℕ) → NameGrows (s.node i) (t.node i)) → t.group ≡ s.group → t.views.line ≡ s.views.line
     → t.views.decided ≡ s.views.decided → t.views.chosen ≡ s.views.chosen → t.shown ≡ s.shown → t.served ≡ s.served → Grows s t
-grows_names s t each group line decided chosen shown served = record {
-  each = each;
-  group = subst (Begins s.group) (sym group) (begins_refl s.group);
-  lines = λ x d. subst (Begins (s.views.line x)) (ap (λ f. f x) (sym line)) (begins_refl (s.views.line x));
-  decided = λ x d. (ap (λ f. f x) decided ∙ d, ap (λ f. f x) chosen);
-  new = λ x d. inl (ap (λ f. f x) (sym decided) ∙ d);
-  shown = λ x j list is. ap (λ f. f x j) shown ∙ is;
-  served = λ x j is. ap (λ f. f x j) served ∙ is;
-}
+grows_names s t each group line decided chosen shown served = grows_by s t each (subst (Begins s.group) (sym group) (begins_refl s.group))
+    (λ x. subst (Begins (s.views.line x)) (ap (λ f. f x) (sym line)) (begins_refl (s.views.line x))) decided chosen
+    (λ x j list is. ap (λ f. f x j) shown ∙ is) (λ x j is. ap (λ f. f x j) served ∙ is)
 
 -- a move of one node alone
 pub node_grows : (s : Group) (i : ℕ) (b : groups.Node) → NameGrows (s.node i) b → Grows s (with_node s i b)
@@ -49,16 +62,10 @@ line_grows : (s : Group) (i : ℕ) (b : groups.Node) (list : List Entry) → s.v
 line_grows s i b list chain grows x = put_at (λ y l. Begins (s.views.line y) l) s.views.line (key (view_of (s.node i).list)) list
     (subst (λ l. Begins l list) (sym chain) grows) (λ y other. begins_refl (s.views.line y)) x
 
-number_grows : (s : Group) (i : ℕ) (e : Entry) → Kept s → Leads i (s.node i) → Grows s (with_line s i (longer (s.node i) e))
-number_grows s i e k leads = record {
-  each = put_grows s i (longer (s.node i) e) (longer_name (s.node i) e);
-  group = begins_refl s.group;
-  lines = λ x d. line_grows s i (longer (s.node i) e) ((s.node i).list ++ e ∷ []) (leads_line s i k leads) (begins_more (s.node i).list (e ∷ [])) x;
-  decided = λ x d. (d, refl);
-  new = λ x d. inl d;
-  shown = λ x j list is. is;
-  served = λ x j is. is;
-}
+-- what begins the empty list is empty
+pub nil_begun : (l : List Entry) → Begins l [] → l ≡ []
+nil_begun [] low = refl
+nil_begun (e ∷ es) low = absurd (let long = begins_length low in omega arith)
 
 -- what is accepted stands in what may be accepted
 accepted_grows : (s : Group) (node : ℕ → groups.Node) (list : List Entry) (n : ℕ) → Begins s.group list → MayAccept node list (length s.group) n
@@ -73,11 +80,10 @@ group_in s i k leads = subst (Begins s.group) (sym ((k.each i).leads leads).chai
 -- ---- a decision
 
 decision_grows : (s : Group) (i : ℕ) (v : GroupView) → s.views.decided (key (s.node i).promise) ≡ false
-    → NewView s (with_choice s i v) (key (s.node i).promise) → Grows s (with_choice s i v)
+    → NewView s (with_choice s i v) (key (s.node i).promise) → ((j : ℕ) → NameGrows (s.node j) ((with_choice s i v).node j)) → Grows s (with_choice s i v)
 unfolding put
-decision_grows s i v fresh new = record {
-  each = λ j. put_grows s i (record (s.node i) { list = opening (choice_of (s.node i) v); ballot = false })
-      (record { list = begins_more (s.node i).list _; log = λ z. z; promise = omega arith; stopped = λ t. t; departed = λ t. t; leaving = λ t. t }) j;
+decision_grows s i v fresh new each = record {
+  each = each;
   group = begins_refl s.group;
   lines = λ x d. (let f = other x d in rw f (begins_refl (s.views.line x)));
   decided = λ x d. (let f = other x d in (rw f d, rw f refl));
@@ -95,99 +101,54 @@ decision_grows s i v fresh new = record {
 
 -- ---- each move
 
+-- what a move makes of each name
+pub names_grow : (s t : Group) → Move s t → Kept s → (j : ℕ) → NameGrows (s.node j) (t.node j)
+names_grow s t (numbers i e leads fit may) k = put_grows s i (longer (s.node i) e) (longer_name (s.node i) e)
+names_grow s t (stores i e up decided other stays next) k = put_grows s i (longer (s.node i) e) (longer_name (s.node i) e)
+names_grow s t (learns i told acc up rises within before up_to given low) k =
+    put_grows s i _ (assumption (begins_refl (s.node i).list, no_less (key (s.node i).promise)))
+names_grow s t (begins i few up stays member) k =
+    let above : key (s.node i).promise ≤ key (own_stamp i (s.node i)) = (let up_ = own_above i (s.node i) (k.each i).small in omega arith) in
+    put_grows s i _ (assumption (begins_refl (s.node i).list))
+names_grow s t (raises i stamp there above) k =
+    let higher : key (s.node i).promise ≤ key stamp = (let up_ = above.greater in omega arith) in
+    put_grows s i _ (assumption (begins_refl (s.node i).list))
+names_grow s t (fetches i h list e up ballot served shown next) k = put_grows s i (longer (s.node i) e) (longer_name (s.node i) e)
+names_grow s t (decides i v may) k =
+    put_grows s i _ (assumption (begins_more (s.node i).list (View (choice_of (s.node i) v).view ∷ []), no_less (key (s.node i).promise)))
+names_grow s t (gives_over i) k = put_grows s i _ (assumption (begins_refl (s.node i).list, no_less (key (s.node i).promise)))
+names_grow s t (welcomes j stamp base join may) k =
+    put_grows s j _ (assumption (subst (λ l. Begins l (take base s.group)) (sym ((k.each j).blank may.no_log)) (begins_nil (take base s.group))))
+names_grow s t (asks i up none) k = put_grows s i _ (assumption (begins_refl (s.node i).list, no_less (key (s.node i).promise)))
+names_grow s t (departs i before may) k = put_grows s i _ (assumption (begins_refl (s.node i).list, no_less (key (s.node i).promise)))
+names_grow s t (closes i n leads leaving alone may) k =
+    put_grows s i _ (assumption (begins_more (s.node i).list (Leave i ∷ []), no_less (key (s.node i).promise)))
+names_grow s t (stops i) k = put_grows s i _ (assumption (begins_refl (s.node i).list, no_less (key (s.node i).promise)))
+names_grow s t _ k = λ j. same_name (s.node j)
+
+-- and of the group
+group_grows : (s t : Group) (move : Move s t) → Kept s → DecidesNew move → ((j : ℕ) → NameGrows (s.node j) (t.node j)) → Grows s t
+group_grows s t (numbers i e leads fit may) k new each = grows_by s t each (begins_refl s.group)
+    (line_grows s i (longer (s.node i) e) ((s.node i).list ++ e ∷ []) (leads_line s i k leads) (begins_more (s.node i).list (e ∷ []))) refl refl
+    (λ x j list is. is) (λ x j is. is)
+group_grows s t (accepts i n leads may) k new each = grows_by s t each
+    (accepted_grows s s.node (s.node i).list n (group_in s i k leads) may) (λ x. begins_refl (s.views.line x)) refl refl (λ x j list is. is) (λ x j is. is)
+group_grows s t (shows i there small other begun none) k new each = grows_by s t each (begins_refl s.group)
+    (λ x. begins_refl (s.views.line x)) refl refl
+    (λ x j list is. either (put2_cases s.shown (key (s.node i).promise) i (Some (s.node i).list) x j)
+    (λ z. (let same : s.shown (key (s.node i).promise) i ≡ Some list = (λ q. s.shown (sym z.0 q) (sym z.1 q)) ∙ is in absurd (cc)))
+    (λ z. z.1 ∙ is))
+    (λ x j is. is)
+group_grows s t (serves i list up shown others) k new each = grows_by s t each (begins_refl s.group)
+    (λ x. begins_refl (s.views.line x)) refl refl (λ x j l is. is)
+    (λ x j is. either (put2_cases s.served (key (s.node i).promise) i true x j) (λ z. z.2) (λ z. z.1 ∙ is))
+group_grows s t (decides i v may) k new each = decision_grows s i v new.0 new.1 each
+group_grows s t (closes i n leads leaving alone may) k new each =
+    let m = s.node i in
+    let more = begins_more m.list (Leave i ∷ []) in
+    grows_by s t each (accepted_grows s (put s.node i (longer m (Leave i))) (m.list ++ Leave i ∷ []) n (begins_trans (group_in s i k leads) more) may)
+    (line_grows s i (longer m (Leave i)) (m.list ++ Leave i ∷ []) (leads_line s i k leads) more) refl refl (λ x j list is. is) (λ x j is. is)
+group_grows s t _ k new each = grows_names s t each refl refl refl refl refl refl
+
 pub moves_grow : MovesGrow
-moves_grow s t (numbers i e leads fit may) k new = number_grows s i e k leads
-moves_grow s t (stores i e up decided other stays next) k new = node_grows s i (longer (s.node i) e) (longer_name (s.node i) e)
-moves_grow s t (accepts i n leads may) k new = record {
-  each = λ j. same_name (s.node j);
-  group = accepted_grows s s.node (s.node i).list n (group_in s i k leads) may;
-  lines = λ x d. begins_refl (s.views.line x);
-  decided = λ x d. (d, refl);
-  new = λ x d. inl d;
-  shown = λ x j list is. is;
-  served = λ x j is. is;
-}
-moves_grow s t (learns i told acc up rises within before up_to given low) k new = node_grows s i (record (s.node i) { told = told; acc = acc })
-    (record { list = begins_refl (s.node i).list; log = λ z. z; promise = omega arith; stopped = λ z. z; departed = λ z. z; leaving = λ z. z })
-moves_grow s t (begins i few up stays member) k new = node_grows s i _
-    (record {
-      list = begins_refl (s.node i).list;
-      log = λ z. z;
-      promise = (let up_ = own_above i (s.node i) (k.each i).small in omega arith);
-      stopped = λ z. z;
-      departed = λ z. z;
-      leaving = λ z. z;
-    })
-moves_grow s t (raises i stamp there above) k new = node_grows s i _
-    (record {
-      list = begins_refl (s.node i).list;
-      log = λ z. z;
-      promise = (let up_ = above.greater in omega arith);
-      stopped = λ z. z;
-      departed = λ z. z;
-      leaving = λ z. z;
-    })
-moves_grow s t (shows i there small other begun none) k new = record {
-  each = λ j. same_name (s.node j);
-  group = begins_refl s.group;
-  lines = λ x d. begins_refl (s.views.line x);
-  decided = λ x d. (d, refl);
-  new = λ x d. inl d;
-  shown = λ x j list is. ⊎_elim
-      (λ (z : (x ≡ key (s.node i).promise) × (j ≡ i) × (put2 s.shown (key (s.node i).promise) i (Some (s.node i).list) x j ≡ Some (s.node i).list)).
-      (let same : s.shown (key (s.node i).promise) i ≡ Some list = (λ q. s.shown (sym z.0 q) (sym z.1 q)) ∙ is in absurd (cc)))
-      (λ (z : ((x ≡ key (s.node i).promise) × (j ≡ i) → ⊥) × (put2 s.shown (key (s.node i).promise) i (Some (s.node i).list) x j ≡ s.shown x j)). z.1 ∙ is)
-      (put2_cases s.shown (key (s.node i).promise) i (Some (s.node i).list) x j);
-  served = λ x j is. is;
-}
-moves_grow s t (serves i list up shown others) k new = record {
-  each = λ j. same_name (s.node j);
-  group = begins_refl s.group;
-  lines = λ x d. begins_refl (s.views.line x);
-  decided = λ x d. (d, refl);
-  new = λ x d. inl d;
-  shown = λ x j l is. is;
-  served = λ x j is. ⊎_elim
-      (λ (z : (x ≡ key (s.node i).promise) × (j ≡ i) × (put2 s.served (key (s.node i).promise) i true x j ≡ true)). z.2)
-      (λ (z : ((x ≡ key (s.node i).promise) × (j ≡ i) → ⊥) × (put2 s.served (key (s.node i).promise) i true x j ≡ s.served x j)). z.1 ∙ is)
-      (put2_cases s.served (key (s.node i).promise) i true x j);
-}
-moves_grow s t (fetches i h list e up ballot served shown next) k new = node_grows s i (longer (s.node i) e) (longer_name (s.node i) e)
-moves_grow s t (decides i v may) k new = decision_grows s i v new.0 new.1
-moves_grow s t (gives_over i) k new = node_grows s i _
-    (record { list = begins_refl (s.node i).list; log = λ z. z; promise = omega arith; stopped = λ z. z; departed = λ z. z; leaving = λ z. z })
-moves_grow s t (welcomes j stamp base join may) k new = node_grows s j
-    (record (s.node j) { list = take base s.group; has_log = true; start = join; promise = stamp; told = base; acc = base })
-    (record {
-      list = subst (λ l. Begins l (take base s.group)) (sym ((k.each j).blank may.no_log)) (begins_nil (take base s.group));
-      log = λ z. refl;
-      promise = may.promise;
-      stopped = λ z. z;
-      departed = λ z. z;
-      leaving = λ z. z;
-    })
-moves_grow s t (asks i up none) k new = node_grows s i _
-    (record { list = begins_refl (s.node i).list; log = λ z. z; promise = omega arith; stopped = λ z. z; departed = λ z. z; leaving = λ z. refl })
-moves_grow s t (departs i before may) k new = node_grows s i _
-    (record { list = begins_refl (s.node i).list; log = λ z. z; promise = omega arith; stopped = λ z. z; departed = λ z. refl; leaving = λ z. z })
-moves_grow s t (closes i n leads leaving alone may) k new = record {
-  each = put_grows s i (record (longer (s.node i) (Leave i)) { departed = true })
-      (record {
-        list = begins_more (s.node i).list (Leave i ∷ []);
-        log = λ z. z;
-        promise = omega arith;
-        stopped = λ z. z;
-        departed = λ z. refl;
-        leaving = λ z. z;
-      });
-  group = accepted_grows s (put s.node i (longer (s.node i) (Leave i))) ((s.node i).list ++ Leave i ∷ []) n
-      (begins_trans (group_in s i k leads) (begins_more (s.node i).list (Leave i ∷ []))) may;
-  lines = λ x d. line_grows s i (longer (s.node i) (Leave i)) ((s.node i).list ++ Leave i ∷ []) (leads_line s i k leads)
-      (begins_more (s.node i).list (Leave i ∷ [])) x;
-  decided = λ x d. (d, refl);
-  new = λ x d. inl d;
-  shown = λ x j list is. is;
-  served = λ x j is. is;
-}
-moves_grow s t (stops i) k new = node_grows s i _
-    (record { list = begins_refl (s.node i).list; log = λ z. z; promise = omega arith; stopped = λ z. refl; departed = λ z. z; leaving = λ z. z })
+moves_grow s t move k new = group_grows s t move k new (names_grow s t move k)

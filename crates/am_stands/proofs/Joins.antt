@@ -1,11 +1,12 @@
 -- Where a name became a member of a list: its row tells the number.
-use Rattle.am_stands.proofs.Words.{same_name, split, ◌≡◌, ◌≢◌, ◌⊎◌, inl, inr, ⊎_elim, ℕ, ◌+◌, ◌<◌, ◌≤◌, ◌==◌, ◌&&◌, not, nat_lt, true, false, List, [], ◌∷◌}
+use Rattle.am_stands.proofs.Words.{same_name, split, ◌≡◌, ◌≢◌, ◌⊎◌, inl, inr, either, ℕ, ◌+◌, ◌<◌, ◌≤◌, ◌==◌, ◌&&◌, not, nat_lt, true, false, List, [], ◌∷◌}
 use Rattle.am_stands.proofs.Words.{◌++◌, length, take, slice_index, refl, sym, ap, ◌∙◌, subst, arith, nat_tests, append_assoc, Entry, Data, Join, Leave, View}
 use Rattle.am_stands.proofs.Words.{Row, Image, place_of, life_of, has, is_blank, at_place, row_of, member_life, members_of, with_row, row_after_view, fits}
 use Rattle.am_stands.proofs.Words.{after, Begins, IsGood, image_of, mem, begins_refl, begins_more, begins_both, begins_length, length_push, take_begins}
 use Rattle.am_stands.proofs.Words.{and_left, row_at, row_view, In, Past, Was, mod16, row_set, blank_joined, past_after, not_both, view_parts, good_begins}
 use Rattle.am_stands.proofs.Words.{told_push, last_fits, long_told, mem_in, in_mem, mem_nil, viewed_mem, was_begins, is_view}
 use Rattle.am_stands.proofs.Ends.{taken_more}
+use Rattle.am_stands.proofs.Growing.{nil_begun}
 
 -- ---- a Join
 
@@ -13,11 +14,11 @@ pub joined_in : (a : List Entry) (name : ℕ) → mem (a ++ Join name ∷ []) na
 unfolding after
 joined_in a name =
     let r : Row = record { life = life_of name; joined = 1 + length a; left = 0; last = 0 } in
-    in_mem (a ++ Join name ∷ []) name (subst (λ (i : Image). In (row_at i (place_of name)) (life_of name)) (sym (told_push a (Join name))) (⊎_elim
-    (λ (z : (place_of name ≡ place_of name) × (row_at (with_row (image_of a) name r) (place_of name) ≡ r)). subst (λ q. In q (life_of name)) (sym z.1)
+    in_mem (a ++ Join name ∷ []) name (subst (λ (i : Image). In (row_at i (place_of name)) (life_of name)) (sym (told_push a (Join name)))
+    (either (row_set (image_of a) name (place_of name) r (long_told a))
+    (λ z. subst (λ q. In q (life_of name)) (sym z.1)
     (record { joined = omega arith; left = refl; is = refl }))
-    (λ (z : (place_of name ≢ place_of name) × (row_at (with_row (image_of a) name r) (place_of name) ≡ row_at (image_of a) (place_of name))). absurd (z.0 refl))
-    (row_set (image_of a) name (place_of name) r (long_told a))))
+    (λ z. absurd (z.0 refl))))
 
 -- whose Join comes was no member before
 joined_once : (a : List Entry) (name : ℕ) → IsGood (a ++ Join name ∷ []) → Was (row_at (image_of a) (place_of name)) (life_of name) → ⊥
@@ -25,13 +26,11 @@ unfolding fits
 joined_once a name good was =
     let fit = last_fits a (Join name) good in
     let here = mem_in (a ++ Join name ∷ []) name (joined_in a name) in
-    ⊎_elim
-    (λ (h : In (row_at (image_of a) (place_of name)) (life_of name)). (let j = h.joined in let l = h.left in let z : ⊥ = grind (arith, nat_tests) in z))
-    (λ (h : Past (row_at (image_of a) (place_of name)) (life_of name)).
-    (let gone = past_after (image_of a) (1 + length a) (Join name) (place_of name) (life_of name) (long_told a) (mod16 name) (omega arith) fit h in
+    either was
+    (λ h. (let j = h.joined in let l = h.left in let z : ⊥ = grind (arith, nat_tests) in z))
+    (λ h. (let gone = past_after (image_of a) (1 + length a) (Join name) (place_of name) (life_of name) (long_told a) (mod16 name) (omega arith) fit h in
     not_both (row_at (image_of (a ++ Join name ∷ [])) (place_of name)) (life_of name) here
     (subst (λ (i : Image). Past (row_at i (place_of name)) (life_of name)) (sym (told_push a (Join name))) gone)))
-    was
 
 -- ---- what a row was before an entry
 
@@ -46,11 +45,9 @@ pub data Becomes (image : Image) (n : ℕ) (e : Entry) (name : ℕ) : Type 0 whe
 with_other : (image : Image) (who name : ℕ) (r : Row) → length image.rows ≡ 16 → In (row_at (with_row image who r) (place_of name)) (life_of name)
     → ((place_of name ≡ place_of who) × (row_at (with_row image who r) (place_of name) ≡ r) × In r (life_of name))
     ⊎ (In (row_at image (place_of name)) (life_of name) × (row_at (with_row image who r) (place_of name) ≡ row_at image (place_of name)))
-with_other image who name r long h = ⊎_elim
-    (λ (z : (place_of name ≡ place_of who) × (row_at (with_row image who r) (place_of name) ≡ r)). inl (z.0, z.1, subst (λ q. In q (life_of name)) z.1 h))
-    (λ (z : (place_of name ≢ place_of who) × (row_at (with_row image who r) (place_of name) ≡ row_at image (place_of name))).
-    inr (subst (λ q. In q (life_of name)) z.1 h, z.1))
-    (row_set image who (place_of name) r long)
+with_other image who name r long h = either (row_set image who (place_of name) r long)
+    (λ z. inl (z.0, z.1, subst (λ q. In q (life_of name)) z.1 h))
+    (λ z. inr (subst (λ q. In q (life_of name)) z.1 h, z.1))
 
 pub became : (image : Image) (n : ℕ) (e : Entry) (name : ℕ) → length image.rows ≡ 16 → 0 < n
     → In (row_at (after image n e) (place_of name)) (life_of name) → Becomes image n e name
@@ -58,33 +55,24 @@ unfolding after
 became image n (Data from req body) name long some = split ((at_place image from).life == life_of from)
     (λ t.
     let r : Row = record (at_place image from) { last = req } in
-    rw t (λ h. ⊎_elim
-    (λ (z : (place_of name ≡ place_of from) × (row_at (with_row image from r) (place_of name) ≡ r) × In r (life_of name)).
-    (let k = z.2 in
+    rw t (λ h. either (with_other image from name r long h)
+    (λ z. (let k = z.2 in
     let here : row_at image (place_of name) ≡ at_place image from = ap (row_at image) z.0 in
     stayed (subst (λ q. In q (life_of name)) (sym here) (record { joined = k.joined; left = k.left; is = k.is }))
     (rw t (ap (λ (q : Row). q.joined) z.1 ∙ ap (λ (q : Row). q.joined) (sym here)))))
-    (λ (z : In (row_at image (place_of name)) (life_of name) × (row_at (with_row image from r) (place_of name) ≡ row_at image (place_of name))).
-    stayed z.0 (rw t (ap (λ (q : Row). q.joined) z.1)))
-    (with_other image from name r long h)))
+    (λ z. stayed z.0 (rw t (ap (λ (q : Row). q.joined) z.1)))))
     (λ f. rw f (λ h. stayed h (rw f refl)))
 became image n (Join joiner) name long some = λ h.
     let r : Row = record { life = life_of joiner; joined = n; left = 0; last = 0 } in
-    ⊎_elim
-    (λ (z : (place_of name ≡ place_of joiner) × (row_at (with_row image joiner r) (place_of name) ≡ r) × In r (life_of name)).
-    (let k = z.2 in joins (ap Join (same_name joiner name (sym z.0) k.is)) (ap (λ (q : Row). q.joined) z.1)))
-    (λ (z : In (row_at image (place_of name)) (life_of name) × (row_at (with_row image joiner r) (place_of name) ≡ row_at image (place_of name))).
-    stayed z.0 (ap (λ (q : Row). q.joined) z.1))
-    (with_other image joiner name r long h)
+    either (with_other image joiner name r long h)
+    (λ z. (let k = z.2 in joins (ap Join (same_name joiner name (sym z.0) k.is)) (ap (λ (q : Row). q.joined) z.1)))
+    (λ z. stayed z.0 (ap (λ (q : Row). q.joined) z.1))
 became image n (Leave leaver) name long some = split ((at_place image leaver).life == life_of leaver)
     (λ t.
     let r : Row = record (at_place image leaver) { left = n } in
-    rw t (λ h. ⊎_elim
-    (λ (z : (place_of name ≡ place_of leaver) × (row_at (with_row image leaver r) (place_of name) ≡ r) × In r (life_of name)).
-    absurd (let k = z.2 in let none = k.left in omega arith))
-    (λ (z : In (row_at image (place_of name)) (life_of name) × (row_at (with_row image leaver r) (place_of name) ≡ row_at image (place_of name))).
-    stayed z.0 (rw t (ap (λ (q : Row). q.joined) z.1)))
-    (with_other image leaver name r long h)))
+    rw t (λ h. either (with_other image leaver name r long h)
+    (λ z. absurd (let k = z.2 in let none = k.left in omega arith))
+    (λ z. stayed z.0 (rw t (ap (λ (q : Row). q.joined) z.1)))))
     (λ f. rw f (λ h. stayed h (rw f refl)))
 became image n (View v) name long some = λ h.
     let place = place_of name in
@@ -138,10 +126,9 @@ blank_nil (e ∷ es) good blank_ = absurd (
     let one = some_was e (good_begins front good) in
     let was = was_begins one.0 good front (inl (mem_in (e ∷ []) one.0 one.1)) in
     let none = blank_joined (image_of (e ∷ es)) (place_of one.0) blank_ in
-    ⊎_elim
-    (λ (h : In (row_at (image_of (e ∷ es)) (place_of one.0)) (life_of one.0)). (let j = h.joined in let z : ⊥ = omega arith in z))
-    (λ (h : Past (row_at (image_of (e ∷ es)) (place_of one.0)) (life_of one.0)). (let j = h.joined in let z : ⊥ = omega arith in z))
-    was)
+    either was
+    (λ h. (let j = h.joined in let z : ⊥ = omega arith in z))
+    (λ h. (let j = h.joined in let z : ⊥ = omega arith in z)))
 
 -- ---- the number where it joined
 
@@ -187,10 +174,6 @@ joins_push a e name good h = λ in_.
     by_kind here row (became (image_of a) (1 + length a) e name (long_told a) (omega arith)
     (subst (λ (i : Image). In (row_at i (place_of name)) (life_of name)) (told_push a e) in_))
   where
-    nothing : (b : List Entry) → Begins b [] → b ≡ []
-    nothing [] low = refl
-    nothing (x ∷ xs) low = absurd (let long = begins_length low in omega arith)
-
     by_kind : mem (a ++ e ∷ []) name ≡ true → (row_at (image_of (a ++ e ∷ [])) (place_of name)).joined ≡
         (row_at (after (image_of a) (1 + length a) e) (place_of name)).joined
         → Becomes (image_of a) (1 + length a) e name → JoinsAt (a ++ e ∷ []) name (row_at (image_of (a ++ e ∷ [])) (place_of name)).joined
@@ -202,7 +185,7 @@ joins_push a e name good h = λ in_.
         let nil = blank_nil a (good_begins (begins_more a (e ∷ [])) good) blank_ in
         let at : (row_at (image_of (a ++ e ∷ [])) (place_of name)).joined ≡ 1 + length a = (let z = ap length nil in omega (arith, row ∙ same)) in
         subst (JoinsAt (a ++ e ∷ []) name) (sym at)
-        (joins_now a e name here (λ b begins member. mem_nil name (subst (λ l. mem l name ≡ true) (nothing b (subst (Begins b) nil begins)) member)))
+        (joins_now a e name here (λ b begins member. mem_nil name (subst (λ l. mem l name ≡ true) (nil_begun b (subst (Begins b) nil begins)) member)))
 
 joins_walk : (a es : List Entry) (name : ℕ) → IsGood (a ++ es) → JoinsBy a name → JoinsBy (a ++ es) name
 joins_walk a [] name good h = subst (λ l. JoinsBy l name) (sym (all_of a)) h

@@ -7,7 +7,8 @@ use Rattle.am_stands.proofs.Words.{is_stopped, split, and_both, Cause, hears, Ba
 use Rattle.am_stands.proofs.Words.{MayBeWelcomed, Fetches, Promises, invited, overtaken, told_result, Carries, whole_entry, by_number, Change, begins_list}
 use Rattle.am_stands.proofs.Words.{looks, stores_view, looked_vote, told_used, OpenBallot, looked_at, MaySend, body_of_sent, NameStands, within, WasAsked}
 use Rattle.am_stands.proofs.Words.{BodiesAsked, WasBegun, MayMove, NeedsNumber, NeedsEntry, NeedsWelcome, Needs, NeedsLook, NeedsPiece, KeptWhole, BallotStands}
-use Rattle.am_stands.proofs.Words.{LastStands, Stepping}
+use Rattle.am_stands.proofs.Words.{LastStands, Stepping, ◌≤◌, take, stamp_lt, begins_trans, begins_take, begins_length, length_take, take_begins, key_lt}
+use Rattle.am_stands.proofs.Words.{equal_stamps, WelcomeSays}
 use Rattle.am_laws.specs.Changes.{numbers, stores, fetches, closes}
 use Rattle.am_packet.specs.declared.packet.Packet.TheVariants as packet
 use Rattle.am_model.specs.declared.status.Status.TheVariants as status
@@ -15,8 +16,63 @@ use Rattle.am_runs.proofs.SentKept as sent
 use Rattle.am_stands.specs.Letters as says
 use Rattle.am_stands.proofs.{Changes.looked_open, Changes.own_name, Changes.is_up, Changes.told_whole, ChainNames.front_named, ChainNames.members_named}
 use Rattle.am_stands.proofs.{Entries.is_leading, Entries.view_whole, Heard.bcast_needs, Heard.order_needs, Heard.result_needs, Heard.number_needs}
-use Rattle.am_stands.proofs.{Onward.group_kept, Onward.group_whole, Pieces.piece_needs, Requests.own_fits, Shown.looked_votes, Votes.BallotKnown}
-use Rattle.am_stands.proofs.{Votes.decision_needs, Votes.undecided, Welcomes.welcome_needs}
+use Rattle.am_stands.proofs.{Onward.group_kept, Onward.group_whole, Pieces.piece_needs, Heard.own_fits, Shown.looked_votes, Votes.BallotKnown}
+use Rattle.am_stands.proofs.{Votes.decision_needs, Votes.undecided}
+use Rattle.am_stands.proofs.Changes.{is_there}
+
+-- ---- a joiner may begin where a Welcome says
+
+-- ---- a joiner
+
+none_of_asking : (t : Status) → is_member t ≡ false → (is_member t || is_asking t) ≡ true → (has_log t ≡ false) × (has_departed t ≡ false)
+none_of_asking status.Asking f h = (refl, refl)
+none_of_asking _ f h = absurd (cc)
+
+pub not_above_key : (u v : Stamp) → u.by < 256 → v.by < 256 → stamp_lt v u ≡ false → key u ≤ key v
+not_above_key u v small few low = split (stamp_lt u v)
+    (λ t. let z = key_lt u v small few t in omega arith)
+    (λ f. let same = ap key (equal_stamps u v small few f low) in omega arith)
+
+pub welcome_needs : (w : World) (name from base join : ℕ) (x : Node) (v : Stamp) (image : Image) (s : Group) → Kept s → x.core.who ≡ name
+    → is_stopped w name ≡ false → x.core.promise.by < 256 → v.by < 256 → x.leaving ≡ false → is_unfinished x.ballot ≡ false
+    → NameStands (within w name x) name x (s.node name) → MayBeWelcomed x from v base join image → WelcomeSays s from v base join image name
+    → NeedsWelcome s name v base join image
+welcome_needs w name from base join x v image s k who runs small few stays no_ballot old may says =
+    let a = s.node name in
+    let asks = and_both (not (from == x.core.who)) (is_member x.status || is_asking x.status) may.asks in
+    let none = none_of_asking x.status may.no_member asks.1 in
+    let ok = k.each name in
+    let below = says.above in
+    let low = says.accepted in
+    let no_log_ : a.has_log ≡ false = old.log_ ∙ none.0 in
+    record {
+      may = record {
+        there = is_there w name x a runs none.1 old;
+        no_log = no_log_;
+        staying = old.leaving ∙ stays;
+        no_ballot = old.ballot ∙ no_ballot;
+        decided = says.decided;
+        small = few;
+        other = λ same. (let other = asks.0 in
+            let z : (from == x.core.who) ≡ true = grind (arith, nat_tests) in
+            let y : not true ≡ true = subst (λ b. not b ≡ true) z other in
+            absurd (cc));
+        promise = subst (λ (u : Stamp). key u ≤ key v) (sym old.promise) (not_above_key x.core.promise v small few may.promise);
+        accepted = low;
+        joined = says.joined;
+        above = λ l h member. (let in_base = begins_length h in
+            let base_long = length_take base s.group (omega arith) in
+            says.first l (begins_trans h (begins_take base s.group)) (omega arith) member);
+        below = says.above;
+        later = λ y d up. (let h = says.later y d up in
+            let long = length_take join s.group low in
+            let same : take join (s.views.chosen y).before ≡ take join s.group = ap (λ n. take n (s.views.chosen y).before) (sym long) ∙ take_begins h in
+            subst (λ l. mem l name ≡ true) (sym same) says.joined);
+      };
+      blank = ok.blank no_log_;
+      within = omega arith;
+      image_ = says.image_;
+    }
 
 -- ---- a node
 
@@ -78,7 +134,6 @@ module _ (rules : Rules) (w : World) (name : ℕ) (c : Cause) (x : Node) (s : Gr
         given = k.given;
         names = λ j vote. split (j == from)
             (λ t. λ at. (let its : j ≡ from = grind (arith, nat_tests) in
-            let some : Some shown ≡ Some vote = rw t at at in
             let is_vote : shown ≡ vote = cc in
             (subst (λ z. z < 256) (sym its) small, subst (λ (z : Vote). z.view.by < 256) is_vote named)))
             (λ f. λ at. k.names j vote (rw f at at));
@@ -159,18 +214,17 @@ module _ (rules : Rules) (w : World) (name : ℕ) (c : Cause) (x : Node) (s : Gr
   welcome_ok from v base join image is may =
       let k = h.heard (packet.Welcome from v base join image) is in
       let blank_ = asking_blank x.status may.no_member (and_both (not (from == x.core.who)) (is_member x.status || is_asking x.status) may.asks).1 in
-      by_kind blank_.0 blank_.1 (k.says.1 name k.addressed)
-    where
-      by_kind : has_log x.status ≡ false → has_departed x.status ≡ false → says.WelcomeTo s from v base join image name → NeedsWelcome s name v base join image
-      by_kind none stays (says.has_begun t) = absurd (let f = old.log_ ∙ none in cc)
-      by_kind none stays (says.has_gone t) = absurd (let f = old.stopped ∙ h.runs in cc)
-      by_kind none stays (says.has_left t) = absurd (let f = old.departed ∙ stays in cc)
-      by_kind none stays (says.is_leaving t) = absurd (let log = h.keeps.leaves (sym old.leaving ∙ t) in cc)
-      by_kind none stays (says.may_begin t) =
-          welcome_needs w name from base join x v image s kept h.who h.runs h.along.names.promise_ (h.names.stamps (packet.Welcome from v base join image) is)
-          (split x.leaving (λ u. absurd (let log = h.keeps.leaves u in cc)) (λ f. f))
-          (split (is_unfinished x.ballot) (λ u. absurd (let z = (h.keeps.opens u).0 in let y = may.no_member in cc)) (λ f. f))
-          old may t
+      elim (k.says.1 name k.addressed) [
+        | says.has_begun t ↦ absurd (let f = old.log_ ∙ blank_.0 in cc)
+        | says.has_gone t ↦ absurd (let f = old.stopped ∙ h.runs in cc)
+        | says.has_left t ↦ absurd (let f = old.departed ∙ blank_.1 in cc)
+        | says.is_leaving t ↦ absurd (let log = h.keeps.leaves (sym old.leaving ∙ t) in cc)
+        | says.may_begin t ↦
+            welcome_needs w name from base join x v image s kept h.who h.runs h.along.names.promise_ (h.names.stamps (packet.Welcome from v base join image) is)
+            (split x.leaving (λ u. absurd (let log = h.keeps.leaves u in cc)) (λ f. f))
+            (split (is_unfinished x.ballot) (λ u. absurd (let z = (h.keeps.opens u).0 in let y = may.no_member in cc)) (λ f. f))
+            old may t
+      ]
 
   pub looks_own : (b : Ballot) → Balloting c x b → x.core.promise.by ≡ name
   looks_own b why = (let o = (looked_at x b why h.along.balloted).open_ in ap (λ (u : Stamp). u.by) o.promised ∙ o.own ∙ h.who)
@@ -186,17 +240,7 @@ module _ (rules : Rules) (w : World) (name : ℕ) (c : Cause) (x : Node) (s : Gr
       → stamp_eq v x.core.promise ≡ true → Fetches x from v e → MayStore x (max x.core.base base) base number e → NeedsPiece s name x e
   fetch_ok from v base number e is heard promise why may =
       let o = other_heard from heard in
-      piece_needs w name from base number x v e s (record {
-        kept = kept;
-        opens = whole.opens;
-        few = h.few;
-        who = h.who;
-        promise = h.along.names.promise_;
-        runs = h.runs;
-        noted = h.noted;
-        stands = h.stands;
-        member = o.1;
-      }) o.0 (sym (same_stamp v x.core.promise promise)) why may (h.heard (packet.Piece from v base number e) is).says.1
+      piece_needs w name from base number x v e s (assumption (whole, h, o)) o.0 (sym (same_stamp v x.core.promise promise)) why may (h.heard (packet.Piece from v base number e) is).says.1
 
   result_ok : (from base number : ℕ) (v : GroupView) → c ≡ hears (packet.Result from base number v)
       → hears_member x from ≡ true → (v.stamp.by == from) ≡ true → (v.stamp.by == x.core.who) ≡ false → x.core.promise ≡ v.stamp

@@ -1,5 +1,5 @@
 -- What a node keeps, through each of its changes.
-use Rattle.am_stands.proofs.Words.{none_of_asking, or_second, same_stamp, ◌≡◌, ◌⊎◌, inl, inr, ⊎_elim, ℕ, ◌+◌, ◌≤◌, ◌==◌, ◌&&◌, ◌||◌, not, max, nat_lt, nat_le}
+use Rattle.am_stands.proofs.Words.{none_of_asking, or_second, same_stamp, ◌≡◌, ◌⊎◌, inl, inr, either, ℕ, ◌+◌, ◌≤◌, ◌==◌, ◌&&◌, ◌||◌, not, max, nat_lt, nat_le}
 use Rattle.am_stands.proofs.Words.{if◌then◌else◌, Bool, true, false, List, [], ◌∷◌, ◌++◌, length, take, Option, Some, None, unwrap_or, refl, sym, ap, ◌∙◌}
 use Rattle.am_stands.proofs.Words.{subst, arith, append-nil, nat_tests, append_assoc, Entry, View, Image, Report, Vote, Stamp, Outcome, Rules, names_of}
 use Rattle.am_stands.proofs.Words.{stamp_lt, stamp_eq, fits, after, told_by, Packet, least_of, after_report, Begins, IsGood, key, good_begins, Group, opening}
@@ -21,7 +21,7 @@ use Rattle.am_stands.proofs.Keeping.{kept, old, up, good, known, looked_last, un
 use Rattle.am_stands.proofs.Reporting.{reporting_grow, reporting_base, reporting_anew, reporting_admit, reporting_more, reporting_pushed, fits_new, new_before}
 use Rattle.am_stands.proofs.Reporting.{known_old, report_true, leaver_true}
 use Rattle.am_stands.proofs.{Carried.hears_in_view_member, Changes.member_stays, Changes.long_all, Onward.group_kept, Entries.key_stamp, Letters.all_stay}
-use Rattle.am_stands.proofs.{Letters.trimmed_stays, Requests.turn_grows, Requests.turn_queued, Requests.turn_collected, Requests.turn_settled, Sent.Speaks}
+use Rattle.am_stands.proofs.{Letters.trimmed_stays, Heard.turn_grows, Heard.turn_queued, Heard.turn_collected, Heard.turn_settled, Sent.Speaks}
 use Rattle.am_stands.proofs.{Sent.Leading, Sent.leading, Shown.votes_grow, Trimming.trimmed_max, Trimming.TakenKnown, Trimming.votes_trim, Votes.best_shown}
 
 -- ---- what stays, as the group goes on
@@ -232,13 +232,12 @@ module _ (rules : Rules) (w : World) (name : ℕ) (c : Cause) (x : Node) (s : Gr
 
   report_so : (from : ℕ) (report : Report) → says.ReportSays s from x.core.promise report ⊎ says.LeaverSays s from x.core.promise report
       → report.stored ≤ length (s.node name).list → IsConcerned (s.node name).list from → Begins (take report.stored (s.node name).list) (s.node from).list
-  report_so from report its low concerned = ⊎_elim
-      (λ (z : says.ReportSays s from x.core.promise report). report_true s from x.core.promise (s.node name).list report leads.line_ low z)
-      (λ (z : says.LeaverSays s from x.core.promise report). (let q = viewed in
+  report_so from report its low concerned = either its
+      (λ z. report_true s from x.core.promise (s.node name).list report leads.line_ low z)
+      (λ z. (let q = viewed in
       leaver_true s from x.core.promise (s.node name).list report leads.decided leads.line_
       (good rules w name c x s h (sequencer_member rules w name c x s h t)) q.stamp leads.viewed q.opens low
       z concerned))
-      its
 
   taken_report : (from : ℕ) (v : Stamp) (report : Report) → BringsReport c from v report → MayReport x from v report
       → Reporting s.node (s.node name).list x.core.base (after_report x.reports from report)
@@ -263,7 +262,6 @@ module _ {rules : Rules} {w v : World} {name : ℕ} {c : Cause} {x y : Node} {s 
   -- its base stands within its list
   base_within : Along rules y → y.core.base ≤ length (t.node name).list
   base_within later =
-      let f = later.owned.fronts in
       let long = long_all (within v name y) name y (t.node name) q.new in
       omega arith
 
@@ -284,7 +282,6 @@ module _ (rules : Rules) (w : World) (name : ℕ) (c : Cause) (x : Node) (s : Gr
   taken_known : TakenKnown x s
   taken_known =
       let f = h.along.owned.fronts in
-      let low = h.accepted in
       let size = ap length h.stands.group in
       record { taken = f.given; within = f.accepted; accepted = omega arith }
 

@@ -6,10 +6,10 @@ use Rattle.am_stands.proofs.Words.{begins_refl, begins_more, begins_trans, begin
 use Rattle.am_stands.proofs.Words.{Group, put, MayAccept, longer, Kept, put_same, put_at, Node, view, others, is_member, is_sequencer, push_entry, refresh}
 use Rattle.am_stands.proofs.Words.{refresh_at_end, Decided, World, group_with, group_after, views_after, some_size, rests_refresh, settle_is, leads_rests}
 use Rattle.am_stands.proofs.Words.{leads_pushed, view_pushed, leave_fits, NameStands, within, NeedsClose, after_closing, CountsNames, MayCount, CountsAmong}
-use Rattle.am_stands.proofs.Words.{ComesTo, ClosingAccepts}
+use Rattle.am_stands.proofs.Words.{ComesTo, ClosingAccepts, stamp_itself}
 use Rattle.am_chain.specs.Group as groups
 use Rattle.am_model.specs.Node as nodes
-use Rattle.am_stands.proofs.{Changes.same_name, Changes.told_all, Changes.is_up, Changes.unmoved_refresh, Concerned.reporting_push, Entries.name_longer}
+use Rattle.am_stands.proofs.{Changes.same_name, Changes.told_all, Changes.is_up, Changes.unmoved_refresh, Reporting.reporting_push, Entries.name_longer}
 use Rattle.am_stands.proofs.{Growing.leads_line, Sent.Speaks, Sent.leading, Accepting.refresh_accepts, Learning.same_by, Learning.grown_is}
 
 -- ---- nobody else
@@ -17,7 +17,6 @@ use Rattle.am_stands.proofs.{Growing.leads_line, Sent.Speaks, Sent.leading, Acce
 -- who is left without one name
 left_alone : (names : List ℕ) (who j : ℕ) → length names ≡ 16 → has names who ≡ true → has names j ≡ true → size (set names (place_of who) 0) ≡ 0 → j ≡ who
 left_alone names who j long mine its none =
-    let place = mod16 j in
     let at : slice_index names (place_of j) ≡ life_of j = grind (arith, nat_tests) in
     let own : slice_index names (place_of who) ≡ life_of who = grind (arith, nat_tests) in
     split (place_of j == place_of who)
@@ -57,14 +56,11 @@ up_to_group node list from g to low some may =
 
 no_decision : (views : List Decided) (m n : Node) → view m ≡ view n → views_after views m n ≡ views
 no_decision views m n same =
-    let t : stamp_eq (view m) (view n) ≡ true = subst (λ u. stamp_eq (view m) u ≡ true) same (itself (view m)) in
+    let t : stamp_eq (view m) (view n) ≡ true = subst (λ u. stamp_eq (view m) u ≡ true) same (stamp_itself (view m)) in
     let f : (is_member m.status && (((view n).by == n.core.who) && not (stamp_eq (view m) (view n)))) ≡ false = rw t
     (both_false (is_member m.status) ((view n).by == n.core.who)) in
     rw f refl
   where
-    itself : (v : Stamp) → stamp_eq v v ≡ true
-    itself v = grind (arith, nat_tests)
-
     both_false : (a b : Bool) → (a && (b && not true)) ≡ false
     both_false true true = refl
     both_false true false = refl
@@ -106,7 +102,6 @@ module _ (w : World) (s : Group) (name heard : ℕ) (x : Node) (k : Kept s) (h :
   unfolding mem
   counts =
       let may = (h.leads t).0 in
-      let top_ = may.within in
       let more : nodes.top p ≡ nodes.top x + 1 = (let z = length-append x.core.log.entries (e ∷ []) in omega arith) in
       record {
         good = good_push a.list (Leave name) may.good (leave_fits (image_of a.list) name member) tt;
@@ -154,7 +149,6 @@ module _ (w : World) (s : Group) (name heard : ℕ) (x : Node) (k : Kept s) (h :
       let upto = max g acc in
       let size_ = ap length h.group in
       let some = begins_length begins in
-      let low = h.acc in
       let rises = held.rises in
       let high = held.within in
       let n = after_closing x in

@@ -1,13 +1,54 @@
 -- What the group accepts at the end of a step, and what the name learns of it.
 use Rattle.am_stands.proofs.Words.{no_more_group, ◌≡◌, ℕ, ◌+◌, ◌-◌, ◌<◌, ◌≤◌, ◌==◌, max, min, nat_lt, true, false, List, ◌++◌, length, take, drop, refl, sym}
-use Rattle.am_stands.proofs.Words.{ap, ◌∙◌, subst, arith, append-nil, take-append-add, drop-append-add, drop-append_seam, nat_tests, length-take, Entry}
-use Rattle.am_stands.proofs.Words.{top_of, CoreState, accept, pass_over, Begins, key, begins_refl, begins_length, begins_both, begins_take, length_take}
-use Rattle.am_stands.proofs.Words.{Group, IsUp, MayAccept, Kept, Node, view, acts, is_sequencer, refresh, World, group_with, group_after, split, and_both}
-use Rattle.am_stands.proofs.Words.{rests_refresh, leads_rests, NameStands, within, no_more, rises, ComesTo, AcceptsAndLearns, RefreshLearns}
+use Rattle.am_stands.proofs.Words.{ap, ◌∙◌, subst, arith, append-nil, take-append-add, drop-append-add, drop-append_seam, nat_tests, length-take, Entry, top_of}
+use Rattle.am_stands.proofs.Words.{CoreState, accept, pass_over, Begins, key, begins_refl, begins_length, begins_both, begins_take, length_take, Group, IsUp}
+use Rattle.am_stands.proofs.Words.{MayAccept, Kept, Node, view, acts, is_sequencer, refresh, World, group_with, group_after, split, and_both, rests_refresh}
+use Rattle.am_stands.proofs.Words.{leads_rests, NameStands, within, no_more, rises, ComesTo, AcceptsAndLearns, RefreshLearns, MayLearn, Word, nothing}
+use Rattle.am_stands.proofs.Words.{of_sequencer}
 use Rattle.am_chain.specs.Group as groups
 use Rattle.am_model.specs.Node as nodes
-use Rattle.am_stands.proofs.{Changes.same_name, Changes.is_up, Changes.unmoved_refresh, Sent.Speaks, Sent.leading, Learned.word_group}
-use Rattle.am_stands.proofs.{Learned.follower_learns, Accepting.lead_acc, Accepting.lead_told, Accepting.refresh_accepts}
+use Rattle.am_stands.proofs.{Changes.same_name, Changes.is_up, Changes.unmoved_refresh, Sent.Speaks, Sent.leading, Accepting.lead_acc, Accepting.lead_told}
+use Rattle.am_stands.proofs.{Accepting.refresh_accepts}
+use Rattle.am_stands.proofs.Changes.{long_all}
+
+-- ---- how far a name that follows learns that its list is accepted
+
+-- what a step of who doesn't lead does to its fronts: it is told of no more than before, or than its sequencer says, and accepts what it
+-- is told of and has
+pub record Learns (s : Group) (name : ℕ) (n : Node) (heard : ℕ) : Type 0 where
+  pub told : n.core.told ≤ max (s.node name).told heard
+  pub up_to : (s.node name).acc ≤ n.core.acc
+  pub given : n.core.acc ≤ max (s.node name).told n.core.told
+  pub within : n.core.acc ≤ nodes.top n
+
+pub word_group : (s : Group) (name heard : ℕ) → Word s name heard → heard ≤ length s.group
+word_group s name heard (nothing z) = omega arith
+word_group s name heard (of_sequencer from v low says) = says.accepted
+
+word_before : (s : Group) (name heard x : ℕ) → Word s name heard → s.views.decided x ≡ true → key (s.node name).promise < x
+    → heard ≤ length (s.views.chosen x).before
+word_before s name heard x (nothing z) d above = omega arith
+word_before s name heard x (of_sequencer from v low says) d above = says.before x d (omega arith)
+
+pub follower_learns : (v : World) (name heard : ℕ) (n : Node) (s : Group) (group : List Entry) → Kept s → NameStands v name n (s.node name)
+    → IsUp (s.node name) → Begins s.group group → Word s name heard → Learns s name n heard → MayLearn s name n group
+follower_learns v name heard n s group k old up grows word f =
+    let ok = k.each name in
+    let more = begins_length grows in
+    let low = word_group s name heard word in
+    let told = f.told in
+    let up_to = f.up_to in
+    let given = f.given in
+    let within = f.within in
+    let long = long_all v name n (s.node name) old in
+    record {
+      up = up;
+      told = omega arith;
+      before = λ x d above. (let a = ok.heard x d above in let b = word_before s name heard x word d above in omega arith);
+      up_to = f.up_to;
+      given = omega arith;
+      within = omega arith;
+    }
 
 -- ---- the group list after a step
 
@@ -69,17 +110,12 @@ module _ (w : World) (s : Group) (name heard : ℕ) (x : Node) (k : Kept s) (h :
   follows : is_sequencer x ≡ false → AcceptsAndLearns w s name y
   follows f =
       let fronts = (k.each name).fronts in
-      let told_ = fronts.told in
       let heard_ = word_group s name heard h.word in
       let size = ap length h.group in
       let told = h.follows f in
-      let acc = h.acc in
       let up_to = h.up_to in
       let given = h.given in
-      let within_ = h.within in
       let is = advanced x f in
-      let its_told = is.0 in
-      let its_acc = is.1 in
       let same_top = ap top_of (rests_refresh x).log in
       let same = no_more_group w.group y (omega arith) in
       let grows : Begins w.group (group_after w.group y) = subst (Begins w.group) (sym same) (begins_refl w.group) in
@@ -105,8 +141,6 @@ module _ (w : World) (s : Group) (name heard : ℕ) (x : Node) (k : Kept s) (h :
       (record { reports = counts.1; own = own; blank = λ j. (k.each j).blank }) in
       let g = length w.group in
       let size = ap length h.group in
-      let rises_ = held.rises in
-      let high = held.within in
       let some = begins_length begins in
       let all = max g y.core.acc in
       let is : group_after w.group y ≡ take all a.list = grown_after w.group (take all a.list) y (leads_rests (rests_refresh x).rests ∙ t)
@@ -114,8 +148,6 @@ module _ (w : World) (s : Group) (name heard : ℕ) (x : Node) (k : Kept s) (h :
       let long : length (take all a.list) ≡ all = length_take all a.list (omega arith) in
       let long_after = ap length is in
       let fronts = (k.each name).fronts in
-      let told_ = fronts.told in
-      let acc = h.acc in
       let up_to = h.up_to in
       let its_told = told_after x t h.within in
       let grows : Begins w.group (group_after w.group y) = subst (Begins w.group) (sym is) (begins_both begins (begins_take all a.list) (omega arith)) in
@@ -130,7 +162,6 @@ module _ (w : World) (s : Group) (name heard : ℕ) (x : Node) (k : Kept s) (h :
           up = up;
           told = omega arith;
           before = λ z d above. absurd (let most = k.views.order z d in
-              let now = l.current in
               let promised : key a.promise ≡ key x.core.promise = ap key h.stands.promise in
               omega arith);
           up_to = omega arith;

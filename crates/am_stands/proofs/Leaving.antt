@@ -1,5 +1,5 @@
 -- Where a name left a list: its row tells the number, and there stands its Leave, or a View that left it out.
-use Rattle.am_stands.proofs.Words.{same_name, split, ◌≡◌, ◌≢◌, ⊎_elim, ℕ, ◌+◌, ◌<◌, ◌==◌, ◌&&◌, not, nat_lt, true, false, if◌then◌else◌, List, [], ◌∷◌, ◌++◌}
+use Rattle.am_stands.proofs.Words.{same_name, split, ◌≡◌, ◌≢◌, either, ℕ, ◌+◌, ◌<◌, ◌==◌, ◌&&◌, not, nat_lt, true, false, if◌then◌else◌, List, [], ◌∷◌, ◌++◌}
 use Rattle.am_stands.proofs.Words.{length, slice_index, refl, sym, ap, ◌∙◌, subst, arith, nat_tests, append_assoc, get_or-replicate, Entry, Data, Join, Leave}
 use Rattle.am_stands.proofs.Words.{View, Row, Image, GroupView, place_of, life_of, has, blank_row, is_blank, at_place, row_of, member_life, with_row}
 use Rattle.am_stands.proofs.Words.{row_after_view, after, fold, Begins, image_of, mem, begins_refl, begins_more, begins_trans, row_at, row_view, In, mod16}
@@ -52,26 +52,21 @@ unfolding after
 data_left image n from req body name long = split ((at_place image from).life == life_of from)
     (λ t.
     let r : Row = record (at_place image from) { last = req } in
-    rw t (by_row image (with_row image from r) name (⊎_elim
-    (λ (z : (place_of name ≡ place_of from) × (row_at (with_row image from r) (place_of name) ≡ r)).
-    (let here : row_at image (place_of name) ≡ at_place image from = ap (row_at image) z.0 in
+    rw t (by_row image (with_row image from r) name (either (row_set image from (place_of name) r long)
+    (λ z. (let here : row_at image (place_of name) ≡ at_place image from = ap (row_at image) z.0 in
     same_left (row_at (with_row image from r) (place_of name)) (row_at image (place_of name)) (life_of name)
     (ap (λ (q : Row). q.life) z.1 ∙ ap (λ (q : Row). q.life) (sym here)) (ap (λ (q : Row). q.left) z.1 ∙ ap (λ (q : Row). q.left) (sym here))))
-    (λ (z : (place_of name ≢ place_of from) × (row_at (with_row image from r) (place_of name) ≡ row_at image (place_of name))). ap (λ q. left_of q
-    (life_of name)) z.1)
-    (row_set image from (place_of name) r long))))
+    (λ z. ap (λ q. left_of q
+    (life_of name)) z.1))))
     (λ f. rw f refl)
 
 join_left : (image : Image) (n joiner name : ℕ) → length image.rows ≡ 16 → Leaves image n (Join joiner) name
 unfolding after
 join_left image n joiner name long =
     let r : Row = record { life = life_of joiner; joined = n; left = 0; last = 0 } in
-    ⊎_elim
-    (λ (z : (place_of name ≡ place_of joiner) × (row_at (with_row image joiner r) (place_of name) ≡ r)).
-    none (row_left (with_row image joiner r) name ∙ ap (λ q. left_of q (life_of name)) z.1 ∙ left_none r (life_of name) refl))
-    (λ (z : (place_of name ≢ place_of joiner) × (row_at (with_row image joiner r) (place_of name) ≡ row_at image (place_of name))).
-    stayed (by_row image (with_row image joiner r) name (ap (λ q. left_of q (life_of name)) z.1)))
-    (row_set image joiner (place_of name) r long)
+    either (row_set image joiner (place_of name) r long)
+    (λ z. none (row_left (with_row image joiner r) name ∙ ap (λ q. left_of q (life_of name)) z.1 ∙ left_none r (life_of name) refl))
+    (λ z. stayed (by_row image (with_row image joiner r) name (ap (λ q. left_of q (life_of name)) z.1)))
 
 leave_left : (image : Image) (n leaver name : ℕ) → length image.rows ≡ 16 → Leaves image n (Leave leaver) name
 unfolding after
@@ -79,9 +74,8 @@ leave_left image n leaver name long = split ((at_place image leaver).life == lif
     (λ t.
     let r : Row = record (at_place image leaver) { left = n } in
     let next : after image n (Leave leaver) ≡ with_row image leaver r = rw t refl in
-    ⊎_elim
-    (λ (z : (place_of name ≡ place_of leaver) × (row_at (with_row image leaver r) (place_of name) ≡ r)).
-    (let at : (row_of (after image n (Leave leaver)) name).left ≡ left_of r (life_of name) =
+    either (row_set image leaver (place_of name) r long)
+    (λ z. (let at : (row_of (after image n (Leave leaver)) name).left ≡ left_of r (life_of name) =
     ap (λ (g : Image). (row_of g name).left) next ∙ row_left (with_row image leaver r) name ∙ ap (λ q. left_of q (life_of name)) z.1 in
     split (r.life == life_of name)
     (λ u.
@@ -89,9 +83,7 @@ leave_left image n leaver name long = split ((at_place image leaver).life == lif
     let own : r.life ≡ life_of leaver = grind (arith, nat_tests) in
     leaves (ap Leave (same_name leaver name (sym z.0) (sym own ∙ its))) (at ∙ left_here r (life_of name) its))
     (λ g. none (at ∙ left_other r (life_of name) g))))
-    (λ (z : (place_of name ≢ place_of leaver) × (row_at (with_row image leaver r) (place_of name) ≡ row_at image (place_of name))).
-    stayed (ap (λ (g : Image). (row_of g name).left) next ∙ by_row image (with_row image leaver r) name (ap (λ q. left_of q (life_of name)) z.1)))
-    (row_set image leaver (place_of name) r long))
+    (λ z. stayed (ap (λ (g : Image). (row_of g name).left) next ∙ by_row image (with_row image leaver r) name (ap (λ q. left_of q (life_of name)) z.1))))
     (λ f. stayed (let next : after image n (Leave leaver) ≡ image = rw f refl in ap (λ (g : Image). (row_of g name).left) next))
 
 -- a member that a View doesn't have
@@ -106,7 +98,6 @@ out_of r given life u same = split (nat_lt 0 r.joined && (r.left == 0))
     ))
     (λ f. absurd (
     let is : member_life r ≡ 0 = rw f refl in
-    let here : (nat_lt 0 0 && not (0 == given)) ≡ true = subst (λ k. (nat_lt 0 k && not (k == given)) ≡ true) is u in
     cc))
 
 view_left : (image : Image) (n : ℕ) (v : GroupView) (name : ℕ) → Leaves image n (View v) name
@@ -172,21 +163,18 @@ leaves_more a b name left h (by_view before v size member out part) = by_view be
 left_push : (a : List Entry) (e : Entry) (name : ℕ) → LeftBy a name → LeftBy (a ++ e ∷ []) name
 left_push a e name h = λ some.
     let row = ap (λ (i : Image). (row_of i name).left) (told_push a e) in
-    by_kind row some (entry_left (image_of a) (1 + length a) e name (long_told a))
-  where
-    by_kind : (row_of (image_of (a ++ e ∷ [])) name).left ≡ (row_of (after (image_of a) (1 + length a) e) name).left
-        → 0 < (row_of (image_of (a ++ e ∷ [])) name).left
-        → Leaves (image_of a) (1 + length a) e name → LeavesAt (a ++ e ∷ []) name (row_of (image_of (a ++ e ∷ [])) name).left
-    by_kind row some (stayed same) =
-        let is = row ∙ same in
-        subst (LeavesAt (a ++ e ∷ []) name) (sym is) (leaves_more a (a ++ e ∷ []) name _ (begins_more a (e ∷ [])) (h (omega arith)))
-    by_kind row some (leaves its same) =
-        let is = row ∙ same in
-        by_leave a (omega arith) (subst (λ x. Begins (a ++ x ∷ []) (a ++ e ∷ [])) its (begins_refl (a ++ e ∷ [])))
-    by_kind row some (left_out v its out in_ same) =
-        let is = row ∙ same in
-        by_view a v (omega arith) (in_mem a name in_) out (subst (λ x. Begins (a ++ x ∷ []) (a ++ e ∷ [])) its (begins_refl (a ++ e ∷ [])))
-    by_kind row some (none same) = absurd (let is = row ∙ same in omega arith)
+    elim (entry_left (image_of a) (1 + length a) e name (long_told a)) [
+      | stayed same ↦
+          let is = row ∙ same in
+          subst (LeavesAt (a ++ e ∷ []) name) (sym is) (leaves_more a (a ++ e ∷ []) name _ (begins_more a (e ∷ [])) (h (omega arith)))
+      | leaves its same ↦
+          let is = row ∙ same in
+          by_leave a (omega arith) (subst (λ x. Begins (a ++ x ∷ []) (a ++ e ∷ [])) its (begins_refl (a ++ e ∷ [])))
+      | left_out v its out in_ same ↦
+          let is = row ∙ same in
+          by_view a v (omega arith) (in_mem a name in_) out (subst (λ x. Begins (a ++ x ∷ []) (a ++ e ∷ [])) its (begins_refl (a ++ e ∷ [])))
+      | none same ↦ absurd (let is = row ∙ same in omega arith)
+    ]
 
 left_walk : (a es : List Entry) (name : ℕ) → LeftBy a name → LeftBy (a ++ es) name
 left_walk a [] name h = subst (λ l. LeftBy l name) (sym (append-nil a)) h

@@ -1,21 +1,83 @@
 -- In every lawful run of the group, whom a View on the chain left out has stopped.
-use Rattle.am_stands.proofs.Words.{split, ◌≡◌, ⊎_elim, ℕ, List, [], ◌∷◌, ◌++◌, length, true, false, refl, sym, ap, ◌∙◌, subst, arith, Entry, Leave, View}
+use Rattle.am_stands.proofs.Words.{split, ◌≡◌, either, ℕ, List, [], ◌∷◌, ◌++◌, length, true, false, refl, sym, ap, ◌∙◌, subst, arith, Entry, Leave, View}
 use Rattle.am_stands.proofs.Words.{GroupView, has, Begins, NotView, mem, view_of, key, begins_more, begins_trans, begins_length, begins_pushed, length_push}
 use Rattle.am_stands.proofs.Words.{good_begins, leaver_in, leaver_out, mem_between, mem_nil, Group, put, opening, chain_of, Move, MayDecide, with_line}
 use Rattle.am_stands.proofs.Words.{with_choice, choice_of, longer, numbers, stores, learns, begins, raises, fetches, gives_over, welcomes, asks, departs}
 use Rattle.am_stands.proofs.Words.{closes, stops, Kept, IsLawful, founded, more, start, put_same, put_at, list_chain, departed_in, run_keeps, LeftOut}
-use Rattle.am_stands.proofs.Words.{RunsLeaveOut, first_choice}
+use Rattle.am_stands.proofs.Words.{RunsLeaveOut, first_choice, ◌≢◌, ◌+◌, ◌<◌, nat_tests, Stamp, own_stamp, first_stamp, put_cases, HasRound, RoundsOk}
+use Rattle.am_stands.proofs.Words.{RunsHaveRounds}
 use Rattle.am_chain.specs.Group.{Leads}
 use Rattle.am_chain.specs.Moves.{decides}
 use Rattle.am_chain.specs.Group as groups
-use Rattle.am_stands.proofs.Opens.{numbers_plain}
+use Rattle.am_stands.proofs.{Growing.names_grow, Opens.numbers_plain}
 use Rattle.std.proofs.lemmas.List.{same_from_push}
 
--- ---- who stopped stays so
+-- ---- in every run of the group each decided stamp has a round, and each promise of a name with a log
 
-put_stops : (s : Group) (i : ℕ) (b : groups.Node) → ((s.node i).stopped ≡ true → b.stopped ≡ true) → (j : ℕ) → (s.node j).stopped ≡ true
-    → (put s.node i b j).stopped ≡ true
-put_stops s i b new j = put_at (λ k (m : groups.Node). (s.node k).stopped ≡ true → m.stopped ≡ true) s.node i b new (λ k other h. h) j
+some_round : (round by : ℕ) → 0 < round → HasRound (key (record { round = round; by = by }))
+unfolding key
+some_round round by some = omega arith
+
+-- a move of one node
+put_rounds : (s t : Group) (i : ℕ) (b : groups.Node) → t.node ≡ put s.node i b → t.views.decided ≡ s.views.decided
+    → (b.has_log ≡ true → HasRound (key b.promise)) → RoundsOk s → RoundsOk t
+put_rounds s t i b node decided new h = record {
+  decided = λ x d. h.decided x (ap (λ f. f x) (sym decided) ∙ d);
+  promised = λ j. subst (λ (f : ℕ → groups.Node). (f j).has_log ≡ true → HasRound (key (f j).promise)) (sym node)
+      (put_at (λ k (m : groups.Node). m.has_log ≡ true → HasRound (key m.promise)) s.node i b new (λ k other. h.promised k) j);
+}
+
+choice_rounds : (s t : Group) (i : ℕ) (b : groups.Node) → t.node ≡ put s.node i b → t.views.decided ≡ put s.views.decided (key (s.node i).promise) true
+    → b.promise ≡ (s.node i).promise → (s.node i).has_log ≡ true → RoundsOk s → RoundsOk t
+choice_rounds s t i b node decided promise log h =
+    let mine = h.promised i log in
+    record {
+      decided = λ x d. either (put_cases s.views.decided (key (s.node i).promise) true x)
+          (λ z. subst HasRound (sym z.0) mine)
+          (λ z. h.decided x (sym z.1 ∙ ap (λ f. f x) (sym decided) ∙ d));
+      promised = λ j. subst (λ (f : ℕ → groups.Node). (f j).has_log ≡ true → HasRound (key (f j).promise)) (sym node)
+          (put_at (λ k (m : groups.Node). m.has_log ≡ true → HasRound (key m.promise)) s.node i b
+          (λ t. subst (λ (u : Stamp). HasRound (key u)) (sym promise) mine) (λ k other. h.promised k) j);
+    }
+
+same_rounds : (s t : Group) → t.node ≡ s.node → t.views.decided ≡ s.views.decided → RoundsOk s → RoundsOk t
+same_rounds s t node decided h = record {
+  decided = λ x d. h.decided x (ap (λ f. f x) (sym decided) ∙ d);
+  promised = λ i. subst (λ (f : ℕ → groups.Node). (f i).has_log ≡ true → HasRound (key (f i).promise)) (sym node) (h.promised i);
+}
+
+pub moves_rounds : (s t : Group) → Move s t → RoundsOk s → RoundsOk t
+moves_rounds s t (numbers i e leads fit may) h = put_rounds s t i _ refl refl (h.promised i) h
+moves_rounds s t (stores i e up decided other stays next) h = put_rounds s t i _ refl refl (h.promised i) h
+moves_rounds s t (learns i told acc up rises within before up_to given low) h = put_rounds s t i _ refl refl (h.promised i) h
+moves_rounds s t (begins i few up stays member) h = put_rounds s t i _ refl refl (λ log. some_round ((s.node i).promise.round + 1) i (omega arith)) h
+moves_rounds s t (raises i stamp there above) h =
+    put_rounds s t i (record (s.node i) { promise = stamp; ballot = false }) refl refl
+    (λ log. (let old = h.promised i log in let up = above.greater in omega arith)) h
+moves_rounds s t (fetches i f list e up ballot served shown next) h = put_rounds s t i _ refl refl (h.promised i) h
+moves_rounds s t (decides i v may) h = choice_rounds s t i _ refl refl refl may.up.log h
+moves_rounds s t (gives_over i) h = put_rounds s t i _ refl refl (h.promised i) h
+moves_rounds s t (welcomes j stamp base join may) h = put_rounds s t j _ refl refl (λ log. h.decided (key stamp) may.decided) h
+moves_rounds s t (asks i up none) h = put_rounds s t i _ refl refl (h.promised i) h
+moves_rounds s t (departs i before may) h = put_rounds s t i _ refl refl (h.promised i) h
+moves_rounds s t (closes i n leads leaving alone may) h = put_rounds s t i _ refl refl (h.promised i) h
+moves_rounds s t (stops i) h = put_rounds s t i _ refl refl (h.promised i) h
+moves_rounds s t _ h = same_rounds s t refl refl h
+
+start_rounds : (founders : List ℕ) (first resilience : ℕ) → RoundsOk (start founders first resilience)
+start_rounds founders first resilience = record {
+  decided = λ x d. (let same : x ≡ key (first_stamp first) = grind (arith, nat_tests) in subst HasRound (sym same) (some_round 1 first (omega arith)));
+  promised = λ i log. rw log (some_round 1 first (omega arith));
+}
+
+pub runs_have_rounds : RunsHaveRounds
+runs_have_rounds founders first resilience s (founded may) = start_rounds founders first resilience
+runs_have_rounds founders first resilience t (more {s = s} run step law) =
+    let moved = moves_rounds s step.moved step.move (runs_have_rounds founders first resilience s run) in
+    subst RoundsOk (sym step.is)
+    (same_rounds step.moved (record (step.moved) { views = record (step.moved.views) { complete = step.complete } }) refl refl moved)
+
+-- ---- who stopped stays so
 
 same_left : (s t : Group) → ((j : ℕ) → (s.node j).stopped ≡ true → (t.node j).stopped ≡ true) → chain_of t.views ≡ chain_of s.views → LeftOut s → LeftOut t
 same_left s t stays chain h a v name part member out =
@@ -29,11 +91,9 @@ is_no_view _ v plain same = cc
 
 line_left : (s t : Group) (e : Entry) → ((j : ℕ) → (s.node j).stopped ≡ true → (t.node j).stopped ≡ true) → NotView e
     → chain_of t.views ≡ chain_of s.views ++ e ∷ [] → LeftOut s → LeftOut t
-line_left s t e stays plain chain h a v name part member out = ⊎_elim
-    (λ (z : Begins (a ++ View v ∷ []) (chain_of s.views)). stays name (h a v name z member out))
-    (λ (z : a ++ View v ∷ [] ≡ chain_of s.views ++ e ∷ []).
-    absurd (is_no_view e v plain (same_from_push a (chain_of s.views) (View v) e z).1))
-    (begins_pushed e (subst (Begins (a ++ View v ∷ [])) chain part))
+line_left s t e stays plain chain h a v name part member out = either (begins_pushed e (subst (Begins (a ++ View v ∷ [])) chain part))
+    (λ z. stays name (h a v name z member out))
+    (λ z. absurd (is_no_view e v plain (same_from_push a (chain_of s.views) (View v) e z).1))
 
 -- the chain of who numbers
 pub longer_chain : (s : Group) (i : ℕ) (b : groups.Node) (e : Entry) → Kept s → Leads i (s.node i) → b.list ≡ (s.node i).list ++ e ∷ []
@@ -56,22 +116,17 @@ none_departed s k lawful c v d j member gone =
     leaver_out o.before j good (mem_between j (good_begins (list_chain s k lawful c v d) k.views.good)
     (begins_more o.before (Leave j ∷ [])) inside (leaver_in o.before j good) member)
 
-choice_left : (s : Group) (k : Kept s) (lawful : IsLawful s) (c : ℕ) (v : GroupView) → MayDecide s c v → LeftOut s → LeftOut (with_choice s c v)
-choice_left s k lawful c v d h a u name part member out =
+choice_left : (s : Group) (k : Kept s) (lawful : IsLawful s) (c : ℕ) (v : GroupView) → MayDecide s c v
+    → ((j : ℕ) → (s.node j).stopped ≡ true → ((with_choice s c v).node j).stopped ≡ true) → LeftOut s → LeftOut (with_choice s c v)
+choice_left s k lawful c v d stays h a u name part member out =
     let old = (s.node c).list in
     let e = View (choice_of (s.node c) v).view in
     let all = opening (choice_of (s.node c) v) in
     let is : chain_of (with_choice s c v).views ≡ all = put_same s.views.line (key (s.node c).promise) all in
-    let stays = put_stops s c (record (s.node c) { list = all; ballot = false }) (λ t. t) in
-    ⊎_elim
-    (λ (z : Begins (a ++ View u ∷ []) old).
-    stays name (h a u name (begins_trans z (list_chain s k lawful c v d)) member out))
-    (λ (z : a ++ View u ∷ [] ≡ old ++ e ∷ []).
-    (let last = (same_from_push a old (View u) e z).1 in
+    either (begins_pushed e (subst (Begins (a ++ View u ∷ [])) is part))
+    (λ z. stays name (h a u name (begins_trans z (list_chain s k lawful c v d)) member out))
+    (λ z. (let last = (same_from_push a old (View u) e z).1 in
     let its : u.members ≡ v.members = ap (λ x. names_of_view x) last in
-    let one = length_push a (View u) in
-    let two = length_push old e in
-    let long = ap length z in
     let front : a ≡ old = same_front a old (View u) e z in
     let here = subst (λ l. mem l name ≡ true) front member in
     stays name (split (s.node name).stopped
@@ -79,7 +134,6 @@ choice_left s k lawful c v d h a u name part member out =
     (λ goes. split (s.node name).departed
     (λ gone. absurd (none_departed s k lawful c v d name here gone))
     (λ there. absurd (let in_ = d.all name here (record { goes = goes; stays = there }) in let o = ap (λ set. has set name) its ∙ in_ in cc))))))
-    (begins_pushed e (subst (Begins (a ++ View u ∷ [])) is part))
   where
     names_of_view : Entry → List ℕ
     names_of_view (View seen) = seen.members
@@ -96,34 +150,26 @@ choice_left s k lawful c v d h a u name part member out =
 
 -- ---- each move
 
-pub moves_left : (s t : Group) → Move s t → Kept s → IsLawful s → LeftOut s → LeftOut t
-moves_left s t (numbers i e leads fit may) k law h = line_left s t e (put_stops s i (longer (s.node i) e) (λ z. z)) (numbers_plain s.node i e may)
+move_left : (s t : Group) → Move s t → Kept s → IsLawful s → ((j : ℕ) → (s.node j).stopped ≡ true → (t.node j).stopped ≡ true) → LeftOut s → LeftOut t
+move_left s t (numbers i e leads fit may) k law stays h = line_left s t e stays (numbers_plain s.node i e may)
     (longer_chain s i (longer (s.node i) e) e k leads refl) h
-moves_left s t (stores i e up decided other stays next) k law h = same_left s t (put_stops s i _ (λ z. z)) refl h
-moves_left s t (learns i told acc up rises within before up_to given low) k law h = same_left s t (put_stops s i _ (λ z. z)) refl h
-moves_left s t (begins i few up stays member) k law h = same_left s t (put_stops s i _ (λ z. z)) refl h
-moves_left s t (raises i stamp there above) k law h = same_left s t (put_stops s i _ (λ z. z)) refl h
-moves_left s t (fetches i f list e up ballot served shown next) k law h = same_left s t (put_stops s i _ (λ z. z)) refl h
-moves_left s t (decides i v may) k law h = choice_left s k law i v may h
-moves_left s t (gives_over i) k law h = same_left s t (put_stops s i _ (λ z. z)) refl h
-moves_left s t (welcomes j stamp base join may) k law h = same_left s t (put_stops s j _ (λ z. z)) refl h
-moves_left s t (asks i up none) k law h = same_left s t (put_stops s i _ (λ z. z)) refl h
-moves_left s t (departs i before may) k law h = same_left s t (put_stops s i _ (λ z. z)) refl h
-moves_left s t (closes i n leads leaving alone may) k law h =
-    line_left s t (Leave i) (put_stops s i _ (λ z. z)) tt (longer_chain s i (record (longer (s.node i) (Leave i)) { departed = true }) (Leave i) k leads refl) h
-moves_left s t (stops i) k law h = same_left s t (put_stops s i _ (λ z. refl)) refl h
-moves_left s t _ k law h = same_left s t (λ j z. z) refl h
+move_left s t (decides i v may) k law stays h = choice_left s k law i v may stays h
+move_left s t (closes i n leads leaving alone may) k law stays h =
+    line_left s t (Leave i) stays tt (longer_chain s i (record (longer (s.node i) (Leave i)) { departed = true }) (Leave i) k leads refl) h
+move_left s t _ k law stays h = same_left s t stays refl h
+
+pub moves_left : (s t : Group) → Move s t → Kept s → IsLawful s → LeftOut s → LeftOut t
+moves_left s t move k law h = move_left s t move k law (λ j. (names_grow s t move k j).stopped) h
 
 -- ---- each run
 
 start_left : (founders : List ℕ) (first resilience : ℕ) → LeftOut (start founders first resilience)
-start_left founders first resilience a v name part member out = ⊎_elim
-    (λ (low : Begins (a ++ View v ∷ []) []). absurd (let long = begins_length low in let one = length_push a (View v) in omega arith))
-    (λ (all : a ++ View v ∷ [] ≡ [] ++ View (first_choice founders first resilience).view ∷ []).
-    absurd (let long = ap length all in
+start_left founders first resilience a v name part member out = either
+    (begins_pushed {b = []} (View (first_choice founders first resilience).view) part)
+    (λ low. absurd (let long = begins_length low in let one = length_push a (View v) in omega arith))
+    (λ all. absurd (let long = ap length all in
     let one = length_push a (View v) in
     mem_nil name (subst (λ l. mem l name ≡ true) (nothing a (omega arith)) member)))
-    (begins_pushed (View (first_choice founders first resilience).view) part)
   where
     nothing : (l : List Entry) → length l ≡ 0 → l ≡ []
     nothing [] none = refl

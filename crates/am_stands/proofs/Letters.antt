@@ -1,5 +1,5 @@
 -- What a letter says stays so as the group goes on.
-use Rattle.am_stands.proofs.Words.{◌≡◌, inl, inr, ⊎_elim, ℕ, zero, suc, ◌≤◌, List, ◌++◌, length, take, Bool, true, false, Some, slice_get, refl, sym, ap, ◌∙◌}
+use Rattle.am_stands.proofs.Words.{◌≡◌, inl, inr, either, ℕ, zero, suc, ◌≤◌, List, ◌++◌, length, take, Bool, true, false, Some, slice_get, refl, sym, ap, ◌∙◌}
 use Rattle.am_stands.proofs.Words.{subst, arith, slice_get_within, Stamp, Report, Vote, Image, Entry, Data, View, has, Request, Spread, Bcast, Order, Accept}
 use Rattle.am_stands.proofs.Words.{Ack, Nack, Welcome, LeaveAsk, Gone, VoteOf, Fetch, Piece, Result, item_at, Record, Begins, image_of, mem, key, begins_trans}
 use Rattle.am_stands.proofs.Words.{begins_take, begins_both, begins_length, Group, Chosen, IsThere, World, get_front, line, AllShown, Trimmed, SequencerSays}
@@ -25,6 +25,11 @@ part_stays a b n l h low k = subst (λ x. Begins x l) (sym (taken_more n a b h l
 part_begins : (a b : List Entry) (n : ℕ) → Begins a b → Begins (take n a) b
 part_begins a b n h = begins_trans (begins_take n a) h
 
+-- what ends stays ended, so what hasn't ended hadn't
+no_more : (a b : Bool) → (a ≡ true → b ≡ true) → b ≡ false → a ≡ false
+no_more true b f k = absurd (let z = f refl in cc)
+no_more false b f k = refl
+
 -- ---- of a group
 
 module _ (w v : World) (s t : Group) (g : Grows s t) (more : (rest : List Record) × (v.records ≡ w.records ++ rest)) where
@@ -36,10 +41,6 @@ module _ (w v : World) (s t : Group) (g : Grows s t) (more : (rest : List Record
     goes = no_more (s.node i).stopped (t.node i).stopped (g.each i).stopped h.goes;
     stays = no_more (s.node i).departed (t.node i).departed (g.each i).departed h.stays;
   }
-    where
-      no_more : (a b : Bool) → (a ≡ true → b ≡ true) → b ≡ false → a ≡ false
-      no_more true b f k = absurd (let z = f refl in cc)
-      no_more false b f k = refl
 
   asked_stays : (name req : ℕ) (body : List ℕ) → WasAsked w name req body → WasAsked v name req body
   asked_stays name req body h = record {
@@ -52,32 +53,25 @@ module _ (w v : World) (s t : Group) (g : Grows s t) (more : (rest : List Record
 
   pub trimmed_stays : (base : ℕ) → Trimmed s base → Trimmed t base
   trimmed_stays base h =
-      let low = h.accepted in
       let up = begins_length g.group in
       let same = taken_more base s.group t.group g.group h.accepted in
       record {
         accepted = omega arith;
         stored = λ j there stays member. subst (λ l. Begins l (t.node j).list) (sym same)
-            (begins_trans (h.stored j (there_before j there) (not_before (s.node j).leaving (t.node j).leaving (g.each j).leaving stays)
+            (begins_trans (h.stored j (there_before j there) (no_more (s.node j).leaving (t.node j).leaving (g.each j).leaving stays)
             (subst (λ l. mem l j ≡ true) same member)) (g.each j).list);
       }
-    where
-      not_before : (a b : Bool) → (a ≡ true → b ≡ true) → b ≡ false → a ≡ false
-      not_before true b f k = absurd (let z = f refl in cc)
-      not_before false b f k = refl
 
   pub sequencer_stays : (i : ℕ) (u : Stamp) (acc : ℕ) → SequencerSays s i u acc → SequencerSays t i u acc
   sequencer_stays i u acc h =
-      let low = h.accepted in
       let up = begins_length g.group in
       record {
         by = h.by;
         decided = decided_stays (key u) h.decided;
         accepted = omega arith;
-        before = λ x d above. ⊎_elim
-            (λ (old : s.views.decided x ≡ true). subst (λ (c : Chosen). acc ≤ length c.before) (sym (g.decided x old).1) (h.before x old above))
-            (λ (new : NewView s t x). (let z = begins_length new.accepted in omega arith))
-            (g.new x d);
+        before = λ x d above. either (g.new x d)
+            (λ old. subst (λ (c : Chosen). acc ≤ length c.before) (sym (g.decided x old).1) (h.before x old above))
+            (λ new. (let z = begins_length new.accepted in omega arith));
       }
 
   entry_stays : (i : ℕ) (u : Stamp) (acc number : ℕ) (e : Entry) → EntrySays s i u acc number e → EntrySays t i u acc number e
@@ -88,7 +82,6 @@ module _ (w v : World) (s t : Group) (g : Grows s t) (more : (rest : List Record
 
   report_stays : (i : ℕ) (u : Stamp) (report : Report) → ReportSays s i u report → ReportSays t i u report
   report_stays i u report h =
-      let low = h.within in
       let up = begins_length (g.each i).list in
       record {
         decided = decided_stays (key u) h.decided;
@@ -100,7 +93,6 @@ module _ (w v : World) (s t : Group) (g : Grows s t) (more : (rest : List Record
   leaver_stays : (i : ℕ) (u : Stamp) (report : Report) → LeaverSays s i u report → LeaverSays t i u report
   leaver_stays i u report (of_view leaves h) = of_view ((g.each i).leaving leaves) (report_stays i u report h)
   leaver_stays i u report (before_it leaves h) =
-      let low = h.within in
       let up = begins_length (g.each i).list in
       let accepted = h.accepted in
       let more = begins_length g.group in
@@ -110,16 +102,12 @@ module _ (w v : World) (s t : Group) (g : Grows s t) (more : (rest : List Record
         join = h.join;
         accepted = omega arith;
         joined = subst (λ l. mem l i ≡ true) (sym same) h.joined;
-        later = λ d. subst (λ l. Begins l (t.views.chosen (key u)).before) (sym same) (⊎_elim
-            (λ (old : s.views.decided (key u) ≡ true).
-            subst (λ (c : Chosen). Begins (take h.join s.group) c.before) (sym (g.decided (key u) old).1) (h.later old))
-            (λ (new : NewView s t (key u)). part_begins s.group (t.views.chosen (key u)).before h.join new.accepted)
-            (g.new (key u) d));
-        begins = λ d member. part_stays (s.node i).list (t.node i).list report.stored (line t u) (g.each i).list h.within (⊎_elim
-            (λ (old : s.views.decided (key u) ≡ true).
-            begins_trans (h.begins old (subst (λ (c : Chosen). has c.members i ≡ true) (g.decided (key u) old).1 member)) (g.lines (key u) old))
-            (λ (new : NewView s t (key u)). part_begins (s.node i).list (line t u) report.stored (new.leavers i leaves member))
-            (g.new (key u) d));
+        later = λ d. subst (λ l. Begins l (t.views.chosen (key u)).before) (sym same) (either (g.new (key u) d)
+            (λ old. subst (λ (c : Chosen). Begins (take h.join s.group) c.before) (sym (g.decided (key u) old).1) (h.later old))
+            (λ new. part_begins s.group (t.views.chosen (key u)).before h.join new.accepted));
+        begins = λ d member. part_stays (s.node i).list (t.node i).list report.stored (line t u) (g.each i).list h.within (either (g.new (key u) d)
+            (λ old. begins_trans (h.begins old (subst (λ (c : Chosen). has c.members i ≡ true) (g.decided (key u) old).1 member)) (g.lines (key u) old))
+            (λ new. part_begins (s.node i).list (line t u) report.stored (new.leavers i leaves member)));
       })
 
   welcome_stays : (i : ℕ) (u : Stamp) (base join : ℕ) (image : Image) (name : ℕ) → WelcomeSays s i u base join image name
@@ -137,11 +125,9 @@ module _ (w v : World) (s t : Group) (g : Grows s t) (more : (rest : List Record
         joined = subst (λ l. mem l name ≡ true) (sym same) h.joined;
         first = λ a begins short. h.first a (begins_both begins g.group (omega arith)) short;
         image_ = h.image_ ∙ ap image_of (sym (taken_more base s.group t.group g.group (omega arith)));
-        later = λ x d up. subst (λ l. Begins l (t.views.chosen x).before) (sym same) (⊎_elim
-            (λ (old : s.views.decided x ≡ true).
-            subst (λ (c : Chosen). Begins (take join s.group) c.before) (sym (g.decided x old).1) (h.later x old up))
-            (λ (new : NewView s t x). part_begins s.group (t.views.chosen x).before join new.accepted)
-            (g.new x d));
+        later = λ x d up. subst (λ l. Begins l (t.views.chosen x).before) (sym same) (either (g.new x d)
+            (λ old. subst (λ (c : Chosen). Begins (take join s.group) c.before) (sym (g.decided x old).1) (h.later x old up))
+            (λ new. part_begins s.group (t.views.chosen x).before join new.accepted));
       }
 
   welcome_to_stays : (i : ℕ) (u : Stamp) (base join : ℕ) (image : Image) (name : ℕ) → WelcomeTo s i u base join image name
@@ -155,12 +141,8 @@ module _ (w v : World) (s t : Group) (g : Grows s t) (more : (rest : List Record
   gone_stays : (number name : ℕ) → GoneSays s number name → GoneSays t number name
   gone_stays number name (has_stopped h) = has_stopped ((g.each name).stopped h)
   gone_stays number name (may_go before is accepted stored) = may_go before is (begins_trans accepted g.group)
-      (λ j member there stays. begins_trans (stored j member (there_before j there) (not_yet (s.node j).leaving (t.node j).leaving (g.each j).leaving stays))
+      (λ j member there stays. begins_trans (stored j member (there_before j there) (no_more (s.node j).leaving (t.node j).leaving (g.each j).leaving stays))
       (g.each j).list)
-    where
-      not_yet : (a b : Bool) → (a ≡ true → b ≡ true) → b ≡ false → a ≡ false
-      not_yet true b f k = absurd (let z = f refl in cc)
-      not_yet false b f k = refl
 
   vote_stays : (i : ℕ) (u : Stamp) (shown : Vote) → VoteSays s i u shown → VoteSays t i u shown
   vote_stays i u shown (own h) = own h
@@ -178,10 +160,9 @@ module _ (w v : World) (s t : Group) (g : Grows s t) (more : (rest : List Record
   all_stay u h k = record {
     list = k.list;
     shown = g.shown (key u) h k.list k.shown;
-    others = λ j member there. ⊎_elim
-        (λ (z : j ≡ u.by). inl z)
-        (λ (z : (other : List Entry) × (s.shown (key u) j ≡ Some other)). inr (z.0, g.shown (key u) j z.0 z.1))
-        (k.others j member (there_before j there));
+    others = λ j member there. either (k.others j member (there_before j there))
+        (λ z. inl z)
+        (λ z. inr (z.0, g.shown (key u) j z.0 z.1));
   }
 
   fetch_stays : (i : ℕ) (u : Stamp) (to : List ℕ) → FetchSays s i u to → FetchSays t i u to

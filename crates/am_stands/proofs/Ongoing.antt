@@ -1,5 +1,5 @@
 -- Whose own Leave isn't in its list is still a member there, if it ever was.
-use Rattle.am_stands.proofs.Words.{split, ◌≡◌, ◌≢◌, ◌⊎◌, inl, inr, ⊎_elim, ℕ, ◌+◌, ◌==◌, ◌&&◌, not, nat_lt, List, [], ◌∷◌, ◌++◌, length, true, false}
+use Rattle.am_stands.proofs.Words.{split, ◌≡◌, ◌≢◌, ◌⊎◌, inl, inr, either, ℕ, ◌+◌, ◌==◌, ◌&&◌, not, nat_lt, List, [], ◌∷◌, ◌++◌, length, true, false}
 use Rattle.am_stands.proofs.Words.{slice_index, refl, sym, ap, ◌∙◌, subst, arith, nat_tests, Entry, Data, Join, Leave, View, GroupView, Row, Image, place_of}
 use Rattle.am_stands.proofs.Words.{life_of, is_blank, at_place, row_of, member_life, with_row, row_after_view, after, Begins, BeginsBelow, IsGood, image_of}
 use Rattle.am_stands.proofs.Words.{mem, begins_same, begins_pushed, row_at, In, mod16, row_set, row_view, blank_joined, good_begins, told_push, long_told}
@@ -17,13 +17,9 @@ left_row : (image : Image) (n name : ℕ) → length image.rows ≡ 16 → In (r
 unfolding after
 left_row image n name long h =
     let alive : ((at_place image name).life == life_of name) ≡ true = let l = h.is in grind (arith, nat_tests) in
-    rw alive (⊎_elim
-    (λ (z : (place_of name ≡ place_of name) × (row_at (with_row image name (record (at_place image name) { left = n })) (place_of name) ≡ record
-    (at_place image name) { left = n })).
-    row_alive (with_row image name (record (at_place image name) { left = n })) name (record (at_place image name) { left = n }) z.1 h.is)
-    (λ (z : (place_of name ≢ place_of name) × (row_at (with_row image name (record (at_place image name) { left = n })) (place_of name) ≡ row_at image
-    (place_of name))). absurd (z.0 refl))
-    (row_set image name (place_of name) (record (at_place image name) { left = n }) long))
+    rw alive (either (row_set image name (place_of name) (record (at_place image name) { left = n }) long)
+    (λ z. row_alive (with_row image name (record (at_place image name) { left = n })) name (record (at_place image name) { left = n }) z.1 h.is)
+    (λ z. absurd (z.0 refl)))
 
 -- after a View a member is one, or its row tells that it left
 view_row : (n given life : ℕ) (r : Row) → In r life → In (row_after_view false n given r) life ⊎ ((row_after_view false n given r) ≡ record r { left = n })
@@ -43,11 +39,10 @@ viewed_row image n v name long h =
     (λ f. f) in
     let at : row_at next place ≡ row_after_view false n (slice_index v.members place) (row_at image place) = is
     ∙ ap (λ b. row_after_view b n (slice_index v.members place) (row_at image place)) full in
-    ⊎_elim
-    (λ (z : In (row_after_view false n (slice_index v.members place) (row_at image place)) (life_of name)). inl (subst (λ q. In q (life_of name)) (sym at) z))
-    (λ (z : row_after_view false n (slice_index v.members place) (row_at image place) ≡ record (row_at image place) { left = n }). inr
+    either (view_row n (slice_index v.members place) (life_of name) (row_at image place) h)
+    (λ z. inl (subst (λ q. In q (life_of name)) (sym at) z))
+    (λ z. inr
     (row_alive next name (record (row_at image place) { left = n }) (at ∙ z) h.is))
-    (view_row n (slice_index v.members place) (life_of name) (row_at image place) h)
 
 -- ---- the last entry
 
@@ -64,12 +59,11 @@ last_keeps a (Leave leaver) name good member left = split (leaver == name)
     (λ f. mem_push a (Leave leaver) name good (λ same. (let t : (leaver == name) ≡ true = grind (arith, nat_tests) in cc)) member)
 last_keeps a (View v) name good member left =
     let e = View v in
-    ⊎_elim
-    (λ (z : In (row_at (after (image_of a) (1 + length a) e) (place_of name)) (life_of name)). in_mem (a ++ e ∷ []) name
+    either (viewed_row (image_of a) (1 + length a) v name (long_told a) (mem_in a name member))
+    (λ z. in_mem (a ++ e ∷ []) name
     (subst (λ (i : Image). In (row_at i (place_of name)) (life_of name)) (sym (told_push a e)) z))
-    (λ (z : (row_of (after (image_of a) (1 + length a) e) name).left ≡ 1 + length a). absurd
+    (λ z. absurd
     (let y : (row_of (image_of (a ++ e ∷ [])) name).left ≡ 1 + length a = ap (λ (i : Image). (row_of i name).left) (told_push a e) ∙ z in omega arith))
-    (viewed_row (image_of a) (1 + length a) v name (long_told a) (mem_in a name member))
 
 -- ---- the whole list
 
@@ -82,12 +76,11 @@ ongoing_of : (list : List Entry) (name : ℕ) → IsGood list → ((a d : List E
 ongoing_of [] name good own left = λ a h member. subst (λ l. mem l name ≡ true) (begins_same h (omega arith)) member
 ongoing_of (x ∷ xs) name good own left =
     let r = unsnoc x xs in
-    λ a h member. ⊎_elim
-    (λ (z : Begins a r.0). (let below : BeginsBelow r.0 (x ∷ xs) = record { next = r.1; rest = []; same = sym r.2 } in
+    λ a h member. either (begins_pushed r.1 (subst (Begins a) r.2 h))
+    (λ z. (let below : BeginsBelow r.0 (x ∷ xs) = record { next = r.1; rest = []; same = sym r.2 } in
     let before = own a r.0 below z member in
     subst (λ l. mem l name ≡ true) (sym r.2) (last_keeps r.0 r.1 name (subst IsGood r.2 good) before
-    (subst (λ l. (row_of (image_of l) name).left ≡ 0) r.2 left)))) (λ (z : a ≡ r.0 ++ r.1 ∷ []). subst (λ l. mem l name ≡ true) (z ∙ sym r.2) member)
-    (begins_pushed r.1 (subst (Begins a) r.2 h))
+    (subst (λ l. (row_of (image_of l) name).left ≡ 0) r.2 left)))) (λ z. subst (λ l. mem l name ≡ true) (z ∙ sym r.2) member)
 
 pub is_ongoing : (s : Group) (i : ℕ) → Kept s → IsUp (s.node i) → (row_of (image_of (s.node i).list) i).left ≡ 0 → IsOngoing (s.node i).list i
 is_ongoing s i k up left = ongoing_of (s.node i).list i (good_begins ((k.each i).list up) k.views.good) ((k.each i).own up) left

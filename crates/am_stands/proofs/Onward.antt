@@ -1,10 +1,10 @@
 -- Moves in turn, as a step makes them, keep what the group keeps.
-use Rattle.am_stands.proofs.Words.{◌≡◌, inl, inr, ⊎_elim, ℕ, List, true, refl, sym, ◌∙◌, subst, arith, has, Begins, begins_trans, Group, Move, Kept}
+use Rattle.am_stands.proofs.Words.{◌≡◌, inl, inr, either, ℕ, List, true, refl, sym, ◌∙◌, subst, arith, has, Begins, begins_trans, Group, Move, Kept}
 use Rattle.am_stands.proofs.Words.{run_keeps, MoveOk, Moves, none, moves, NewView, Grows, IsNoStop, KeptWhole, GroupOk}
 use Rattle.am_chain.specs.Group as groups
 use Rattle.am_chain.specs.Moves as group
 use Rattle.am_stands.proofs.{Branches.moves_branch, Branches.decisions_are_new, ChainNames.moves_named, Growing.same_name, Growing.grows_names}
-use Rattle.am_stands.proofs.{Growing.moves_grow, Lawful.runs_go_on, LeftOut.runs_leave_out, Opens.runs_open, Rounds.runs_have_rounds}
+use Rattle.am_stands.proofs.{Growing.moves_grow, Lawful.runs_go_on, LeftOut.runs_leave_out, Opens.runs_open, LeftOut.runs_have_rounds}
 
 pub group_kept : (founders : List ℕ) (first resilience : ℕ) (s : Group) → GroupOk founders first resilience s → Kept s
 group_kept founders first resilience s h = (run_keeps founders first resilience s h.run).kept
@@ -38,20 +38,18 @@ grows_trans s t u g k = record {
   group = begins_trans g.group k.group;
   lines = λ x d. begins_trans (g.lines x d) (k.lines x (g.decided x d).0);
   decided = λ x d. ((k.decided x (g.decided x d).0).0, (k.decided x (g.decided x d).0).1 ∙ (g.decided x d).1);
-  new = λ x d. ⊎_elim
-      (λ (old : t.views.decided x ≡ true). ⊎_elim
-      (λ (older : s.views.decided x ≡ true). inl older)
-      (λ (new : NewView s t x). inr (record {
+  new = λ x d. either (k.new x d)
+      (λ old. either (g.new x old)
+      (λ older. inl older)
+      (λ new. inr (record {
         accepted = subst (λ (c : groups.Chosen). Begins s.group c.before) (sym (k.decided x old).1) new.accepted;
         leavers = λ i leaves in_. begins_trans (new.leavers i leaves (subst (λ (c : groups.Chosen). has c.members i ≡ true) (k.decided x old).1 in_))
             (k.lines x old);
-      }))
-      (g.new x old))
-      (λ (new : NewView t u x). inr (record {
+      })))
+      (λ new. inr (record {
         accepted = begins_trans g.group new.accepted;
         leavers = λ i leaves in_. begins_trans (g.each i).list (new.leavers i ((g.each i).leaving leaves) in_);
-      }))
-      (k.new x d);
+      }));
   shown = λ x i list is. k.shown x i list (g.shown x i list is);
   served = λ x i is. k.served x i (g.served x i is);
 }

@@ -1,13 +1,13 @@
 -- What begins the line of a decided view begins the line of its own last View's, in every lawful run of the group.
-use Rattle.am_stands.proofs.Words.{◌≡◌, ◌≢◌, ⊎_elim, ℕ, ◌==◌, List, [], ◌∷◌, ◌++◌, true, refl, sym, ap, ◌∙◌, subst, arith, nat_tests, Entry, Leave, View}
+use Rattle.am_stands.proofs.Words.{◌≡◌, ◌≢◌, either, ℕ, ◌==◌, List, [], ◌∷◌, ◌++◌, true, refl, sym, ap, ◌∙◌, subst, arith, nat_tests, Entry, Leave, View}
 use Rattle.am_stands.proofs.Words.{GroupView, Stamp, Begins, NotView, view_of, key, view_viewed, view_push, begins_refl, begins_more, begins_trans}
 use Rattle.am_stands.proofs.Words.{begins_pushed, begins_length, Group, put, opening, IsUp, Move, MayNumber, MayDecide, with_line, with_choice, choice_of}
 use Rattle.am_stands.proofs.Words.{longer, numbers, closes, Kept, founded, more, start, first_stamp, put_same, put_other, put_cases, put_at, run_keeps}
-use Rattle.am_stands.proofs.Words.{LineOpens, LinesOpen, RunsOpen, first_choice}
+use Rattle.am_stands.proofs.Words.{LineOpens, LinesOpen, RunsOpen, first_choice, equals_itself}
 use Rattle.am_chain.specs.Group.{Leads}
 use Rattle.am_chain.specs.Moves.{decides}
 use Rattle.am_chain.specs.Group as groups
-use Rattle.am_stands.proofs.Growing.{leads_line}
+use Rattle.am_stands.proofs.Growing.{leads_line, nil_begun}
 
 -- ---- an entry more of a sequencer
 
@@ -22,21 +22,17 @@ line_opens s i e b k leads plain is h x list d some part =
     let before : Begins list (s.views.line x)
     → LineOpens (with_line s i b) list = λ low. (let o = h x list d some low in
     record { decided = o.decided; line_ = begins_trans o.line_ (up (key (view_of list))) }) in
-    ⊎_elim
-    (λ (z : (x ≡ at) × (put s.views.line at b.list x ≡ b.list)).
-    ⊎_elim
-    (λ (low : Begins list old). before (subst (λ y. Begins list (s.views.line y)) (sym z.0) (subst (Begins list) (sym chain) low)))
-    (λ (all : list ≡ old ++ e ∷ []).
-    (let same : view_of list ≡ view_of old = ap view_of all ∙ view_push old e plain in
+    either (put_cases s.views.line at b.list x)
+    (λ z. either (begins_pushed e (subst (Begins list) is (subst (Begins list) z.1 part)))
+    (λ low. before (subst (λ y. Begins list (s.views.line y)) (sym z.0) (subst (Begins list) (sym chain) low)))
+    (λ all. (let same : view_of list ≡ view_of old = ap view_of all ∙ view_push old e plain in
     let decided : s.views.decided at ≡ true = ap s.views.decided (sym z.0) ∙ d in
     record {
       decided = ap (λ (u : Stamp). s.views.decided (key u)) same ∙ decided;
       line_ = subst (λ (u : Stamp). Begins list (put s.views.line at b.list (key u))) (sym same)
           (subst (Begins list) (sym (put_same s.views.line at b.list)) (subst (Begins list) (all ∙ sym is) (begins_refl list)));
-    }))
-    (begins_pushed e (subst (Begins list) is (subst (Begins list) z.1 part))))
-    (λ (z : (x ≢ at) × (put s.views.line at b.list x ≡ s.views.line x)). before (subst (Begins list) z.1 part))
-    (put_cases s.views.line at b.list x)
+    })))
+    (λ z. before (subst (Begins list) z.1 part))
 
 -- the list of who is up is such a beginning
 pub list_opens : (s : Group) (i : ℕ) → Kept s → LinesOpen s → IsUp (s.node i) → (s.node i).list ≢ [] → LineOpens s (s.node i).list
@@ -59,21 +55,17 @@ choice_opens s i v k may h x list d some part =
       decided = put_other s.views.decided at true (key (view_of list)) other ∙ o.decided;
       line_ = subst (Begins list) (sym (put_other s.views.line at all (key (view_of list)) other)) o.line_;
     }) in
-    ⊎_elim
-    (λ (z : (x ≡ at) × (put s.views.line at all x ≡ all)).
-    ⊎_elim
-    (λ (low : Begins list a.list). before (key s.views.current) k.views.now (begins_trans low ((k.each i).list may.up)))
-    (λ (whole : list ≡ all).
-    (let same : view_of list ≡ a.promise = ap view_of whole ∙ view_viewed a.list (choice_of a v).view in
+    either (put_cases s.views.line at all x)
+    (λ z. either (begins_pushed (View (choice_of a v).view) (subst (Begins list) z.1 part))
+    (λ low. before (key s.views.current) k.views.now (begins_trans low ((k.each i).list may.up)))
+    (λ whole. (let same : view_of list ≡ a.promise = ap view_of whole ∙ view_viewed a.list (choice_of a v).view in
     record {
       decided = ap (λ (u : Stamp). put s.views.decided at true (key u)) same ∙ put_same s.views.decided at true;
       line_ = subst (λ (u : Stamp). Begins list (put s.views.line at all (key u))) (sym same)
           (subst (Begins list) (sym (put_same s.views.line at all)) (subst (Begins list) whole (begins_refl list)));
-    }))
-    (begins_pushed (View (choice_of a v).view) (subst (Begins list) z.1 part)))
-    (λ (z : (x ≢ at) × (put s.views.line at all x ≡ s.views.line x)). before x (sym (put_other s.views.decided at true x z.0) ∙ d)
+    })))
+    (λ z. before x (sym (put_other s.views.decided at true x z.0) ∙ d)
     (subst (Begins list) z.1 part))
-    (put_cases s.views.line at all x)
 
 -- ---- each move
 
@@ -97,22 +89,13 @@ moves_open s t _ k h = same_lines s t refl refl h
 -- ---- each run
 
 start_opens : (founders : List ℕ) (first resilience : ℕ) → LinesOpen (start founders first resilience)
-start_opens founders first resilience x list d some part = ⊎_elim
-    (λ (low : Begins list []). absurd (some (nothing list low)))
-    (λ (all : list ≡ [] ++ View (first_choice founders first resilience).view ∷ []).
-    (let same : view_of list ≡ first_stamp first = ap view_of all ∙ view_viewed [] (first_choice founders first resilience).view in
+start_opens founders first resilience x list d some part = either (begins_pushed (View (first_choice founders first resilience).view) part)
+    (λ low. absurd (some (nil_begun list low)))
+    (λ all. (let same : view_of list ≡ first_stamp first = ap view_of all ∙ view_viewed [] (first_choice founders first resilience).view in
     record {
-      decided = ap (λ (u : Stamp). key u == key (first_stamp first)) same ∙ itself (key (first_stamp first));
+      decided = ap (λ (u : Stamp). key u == key (first_stamp first)) same ∙ equals_itself (key (first_stamp first));
       line_ = subst (Begins list) all (begins_refl list);
     }))
-    (begins_pushed (View (first_choice founders first resilience).view) part)
-  where
-    itself : (n : ℕ) → (n == n) ≡ true
-    itself n = grind (arith, nat_tests)
-
-    nothing : (l : List Entry) → Begins l [] → l ≡ []
-    nothing [] low = refl
-    nothing (e ∷ es) low = absurd (let long = begins_length low in omega arith)
 
 pub runs_open : RunsOpen
 runs_open founders first resilience s (founded may) = start_opens founders first resilience

@@ -1,5 +1,5 @@
 -- Where a node's last ballot was decided and its promise is its own, it is that of the ballot, in every run.
-use Rattle.am_stands.proofs.StepWords.{Each, each_node_keeps, first_has, none_of_asking, ◌≡◌, inr, ⊎_elim, ℕ, ◌<◌, ◌==◌, ◌&&◌, ◌||◌, not, true, false, List}
+use Rattle.am_stands.proofs.StepWords.{Each, each_node_keeps, first_has, none_of_asking, ◌≡◌, inr, either, ℕ, ◌<◌, ◌==◌, ◌&&◌, ◌||◌, not, true, false, List}
 use Rattle.am_stands.proofs.StepWords.{Option, Some, None, sym, ap, ◌∙◌, subst, arith, nat_tests, Stamp, Outcome, Rules, MayFound, stamp_lt, no_stamp, Event}
 use Rattle.am_stands.proofs.StepWords.{Node, Ballot, is_member, is_asking, Verdict, overtake, World, start, run, split, and_both, Cause, Looks, waits}
 use Rattle.am_stands.proofs.StepWords.{fetches_from_best, finds_too_few, decides, Promises, invited, overtaken_by, told_result, Change, refreshes, settles}
@@ -29,9 +29,6 @@ still_decided v (Some a) b number names is answer = split (not a.is_over && stam
     let said_ : said.Overtaken v ≡ said.Decided number names = ap (λ (x : Ballot). x.answer) same ∙ answer in cc))
     (λ f. rw f at is)
 
-none_least : (p : Stamp) → AtMost no_stamp p
-none_least p = grind (arith, nat_tests)
-
 -- ---- a change
 
 -- what is known along a step
@@ -47,11 +44,10 @@ promise_owns nodes i c x v names begun why low is h b number all at answer mine 
     let old = still_decided v x.ballot b number all at answer in
     let who = h.promised.who in
     let small : v.by < 256 = promised_named c x v why names in
-    let most : AtMost v x.core.promise = ⊎_elim
-    (λ (z : v ≡ no_stamp). subst (λ (u : Stamp). AtMost u x.core.promise) (sym z) (none_least x.core.promise))
-    (λ (z : AtMost v (nodes v.by).core.promise). most_through v (nodes i).core.promise x.core.promise
-    (subst (λ k. AtMost v (nodes k).core.promise) (mine ∙ who) z) h.promised.up)
-    is in
+    let most : AtMost v x.core.promise = either is
+    (λ z. subst (λ (u : Stamp). AtMost u x.core.promise) (sym z) (grind (arith, nat_tests)))
+    (λ z. most_through v (nodes i).core.promise x.core.promise
+    (subst (λ k. AtMost v (nodes k).core.promise) (mine ∙ who) z) h.promised.up) in
     let same : v ≡ x.core.promise = equal_stamps v x.core.promise small h.named.promise_ low most in
     same ∙ h.owns b number all old answer (ap (λ (u : Stamp). u.by) (sym same) ∙ mine)
 
@@ -79,7 +75,6 @@ change_owns nodes i c o x y names begun settles h = same_owning x y (ap (λ (n :
 change_owns nodes i c o x y names begun (begins_list s v base join image is says may) h = λ b number all at answer mine. absurd (
     let asks = and_both (not (s == x.core.who)) (is_member x.status || is_asking x.status) may.asks in
     let none = h.balloted.none (none_of_asking x.status may.no_member asks.1) in
-    let z = sym none ∙ at in
     cc)
 change_owns nodes i c o x y names begun (promises v low why) h = promise_owns nodes i c x v names begun why low (raised why) h
   where

@@ -10,7 +10,7 @@ use Rattle.am_base.specs.declared.outcome.Outcome.TheVariants as said
 use Rattle.am_chain.specs.Group as groups
 use Rattle.am_chain.specs.Moves as group
 use Rattle.am_model.specs.Node as nodes
-use Rattle.am_stands.proofs.{Statuses.bare_status, Worlds.growing, Worlds.grown_stands, Worlds.same_stands, Worlds.learned, Worlds.learned_stands}
+use Rattle.am_stands.proofs.{Courses.bare_status, Worlds.growing, Worlds.grown_stands, Worlds.same_stands, Worlds.learned, Worlds.learned_stands}
 use Rattle.am_stands.proofs.{Worlds.once_in}
 
 -- ---- how far a name was told, and gives out, within its step
@@ -96,12 +96,7 @@ module _ (rules : Rules) (w : World) (name : ℕ) (c : Cause) (x : Node) (s : Gr
           says = letters_stay w v s t b.to p ([], sym (append-nil w.records)) on.grows b.says;
         });
         given = h.given;
-        keeps = keeps_in w v t name y (λ j u. u) (refreshes_keep rules w v name c x s t h on.grows on.group_ (record {
-          runs = h.runs;
-          stands = mine;
-          list = list;
-          accepted = low;
-        }) along);
+        keeps = keeps_in w v t name y (λ j u. u) (refreshes_keep rules w v name c x s t h on.grows on.group_ (assumption) along);
         accepted = subst (λ l. y.core.acc ≤ length l) stands.group low;
       }
 
@@ -128,7 +123,6 @@ module _ (rules : Rules) (w : World) (name : ℕ) (c : Cause) (x : Node) (s : Gr
     comes =
         let own = (k.each name).fronts in
         let acc_ = f.acc here in
-        let most = own.acc in
         record {
           so = record {
             who = h.who;
@@ -180,8 +174,6 @@ module _ (rules : Rules) (w : World) (name : ℕ) (c : Cause) (x : Node) (s : Gr
     member_refreshed =
         let l = learns.learns in
         let on = goes_on rules.founders (lowest_or_first rules.founders) rules.resilience s next h.group path in
-        let most = l.told in
-        let given = l.given in
         record {
           changed = record {
             to = next;

@@ -1,5 +1,5 @@
 -- What a node keeps, through a refresh: what it accepts then is accepted in the group before, and what it trims was taken by all who need it.
-use Rattle.am_stands.proofs.Words.{◌≡◌, ⊎_elim, ℕ, ◌+◌, ◌≤◌, ◌==◌, true, false, List, length, refl, sym, ap, ◌∙◌, subst, arith, nat_tests, Entry, Image}
+use Rattle.am_stands.proofs.Words.{◌≡◌, either, ℕ, ◌+◌, ◌≤◌, ◌==◌, true, false, List, length, refl, sym, ap, ◌∙◌, subst, arith, nat_tests, Entry, Image}
 use Rattle.am_stands.proofs.Words.{Report, Rules, told_by, accept, pass_over, after_report, own_report, tell, go_on, let_go, IsGood, image_of, mem, mem_in}
 use Rattle.am_stands.proofs.Words.{Group, Kept, Node, is_member, is_sequencer, lowest_or_first, has_log, is_unfinished, advance, lead, refresh, World, split}
 use Rattle.am_stands.proofs.Words.{Cause, rests_refresh, refresh_is, leads_rests, Along, NameStands, within, Trimmed, Grows, OpensStand, ReportsFresh}
@@ -35,7 +35,7 @@ follow_follows x f = rw f refl
 pub member_old : (list : List Entry) (name : ℕ) → mem list name ≡ true → IsNew (image_of list) name → ⊥
 member_old list name member new =
     let k = mem_in list name member in
-    ⊎_elim (λ z. omega arith) (λ z. omega arith) new
+    either new (λ z. omega arith) (λ z. omega arith)
 
 -- ---- a refresh, where the group has accepted what it accepts
 
@@ -64,9 +64,6 @@ module _ (rules : Rules) (w v : World) (name : ℕ) (c : Cause) (x : Node) (s t 
 
   ballots_y : Ballots w t y.ballot
   ballots_y = subst (Ballots w t) (sym (rests_refresh x).rests.ballot) (ballots_grow w s t x.ballot g h.keeps.ballots)
-
-  sends_y : y.sends ≡ x.sends
-  sends_y = ap (λ (n : Node). n.sends) (refresh_is x)
 
   opens_y : OpensStand y
   opens_y open_ = (let o = k.opens (sym (ap is_unfinished (rests_refresh x).rests.ballot) ∙ open_) in
@@ -97,10 +94,6 @@ module _ (rules : Rules) (w v : World) (name : ℕ) (c : Cause) (x : Node) (s t 
     fronts_in =
         let a = later.owned.fronts in
         let b = h.along.owned.fronts in
-        let given = a.given in
-        let accepted = a.accepted in
-        let given_ = b.given in
-        let accepted_ = b.accepted in
         let top_ : nodes.top y ≡ nodes.top x = ap (λ l. l.start + length l.entries) log in
         (omega arith, omega arith)
 
@@ -114,23 +107,15 @@ module _ (rules : Rules) (w v : World) (name : ℕ) (c : Cause) (x : Node) (s t 
     reports_led = (let low = fronts_in in subst (Reporting t.node (t.node name).list x.core.base) (sym reports_are)
         (own_more y.core.taken (after_report x.reports x.core.who (nodes.report_of x)) low.0 (own_more x.core.taken x.reports low.1 reports_grow)))
 
-    leads_y : is_sequencer y ≡ true
-    leads_y = leads_rests (rests_refresh x).rests ∙ leads
-
-    member_y : is_member y.status ≡ true
-    member_y = ap is_member (rests_refresh x).rests.status ∙ sequencer_member rules w name c x s h leads
-
     refreshed : Refreshed (within v name y) name x y t
     refreshed =
         let f = later.owned.fronts in
-        let kept_ = f.kept in
         let base = f.base in
-        let given = f.given in
-        let up = is_up v name y (t.node name) now.runs member_y now.stands in
+        let up = is_up v name y (t.node name) now.runs (ap is_member (rests_refresh x).rests.status ∙ sequencer_member rules w name c x s h leads) now.stands in
         record {
           is = is;
           speaks = record { kept = kept_t; stands = now.stands; up = up; who = who ∙ h.who };
-          leads = leads_y;
+          leads = leads_rests (rests_refresh x).rests ∙ leads;
           start = omega arith;
           base = omega arith;
           within = f.accepted;
@@ -180,7 +165,7 @@ module _ (rules : Rules) (w v : World) (name : ℕ) (c : Cause) (x : Node) (s t 
     fresh = fresh_y;
     trimmed = trimmed_y;
     turn = subst (λ q. OwnTurn q (t.node name).list y.sends) (sym who) (subst (λ l. OwnTurn x.core.who l y.sends) (sym now.list)
-        (subst (OwnTurn x.core.who (s.node name).list) (sym sends_y) k.turn));
+        (subst (OwnTurn x.core.who (s.node name).list) (sym (ap (λ (n : Node). n.sends) (refresh_is x))) k.turn));
     leaves = λ u. (ap has_log (rests_refresh x).rests.status ∙ k.leaves (sym (rests_refresh x).rests.leaving ∙ u));
   }
 

@@ -1,15 +1,80 @@
 -- What is reported to a node stays true through each of its changes.
-use Rattle.am_stands.proofs.Words.{◌≡◌, ◌≢◌, ◌⊎◌, inl, inr, ⊎_elim, ℕ, ◌+◌, ◌<◌, ◌≤◌, ◌==◌, ◌&&◌, max, not, nat_lt, Bool, true, false, List, [], ◌∷◌, ◌++◌}
+use Rattle.am_stands.proofs.Words.{◌≡◌, ◌≢◌, ◌⊎◌, inl, inr, either, ℕ, ◌+◌, ◌<◌, ◌≤◌, ◌==◌, ◌&&◌, max, not, nat_lt, Bool, true, false, List, [], ◌∷◌, ◌++◌}
 use Rattle.am_stands.proofs.Words.{length, take, slice_index, refl, sym, ap, ◌∙◌, subst, arith, nat_tests, Entry, Data, Join, Leave, View, Report, Row, Image}
 use Rattle.am_stands.proofs.Words.{GroupView, Stamp, place_of, life_of, is_blank, at_place, row_of, member_life, with_row, row_after_view, fits, after}
 use Rattle.am_stands.proofs.Words.{after_report, with_admitted, reports_from, Begins, IsGood, image_of, mem, view_of, key, begins_refl, begins_more}
 use Rattle.am_stands.proofs.Words.{begins_trans, begins_both, begins_length, begins_take, begins_pushed, length_push, length_take, take_begins, row_at, In}
 use Rattle.am_stands.proofs.Words.{mod16, row_set, row_view, blank_joined, good_begins, told_push, long_told, mem_in, in_mem, mem_between, mem_viewed, Group}
 use Rattle.am_stands.proofs.Words.{opening, is_view, split, after_same, line, IsDecided, ReportSays, LeaverSays, of_view, before_it, IsConcerned, Reporting}
-use Rattle.am_stands.proofs.Words.{IsNew}
+use Rattle.am_stands.proofs.Words.{IsNew, NotView, low_or_above}
 use Rattle.am_chain.specs.Group as groups
-use Rattle.am_stands.proofs.{Concerned.reporting_joins, Joins.Becomes, Joins.stayed, Joins.joins, Joins.founds, Joins.became, Joins.blank_nil, Parts.number_low}
-use Rattle.am_stands.proofs.{Parts.view_its, Results.last_view_at}
+use Rattle.am_stands.proofs.{Joins.Becomes, Joins.stayed, Joins.joins, Joins.founds, Joins.became, Joins.blank_nil, Parts.number_low, Parts.view_its}
+use Rattle.am_stands.proofs.{Sending.last_view_at, Ends.taken_more}
+
+-- ---- who is concerned by a list with one entry more, and what is reported of it
+
+-- ---- who is a member after an entry that is no View
+
+pub no_view : (e : Entry) → NotView e → is_view e ≡ false
+no_view (View v) h = absurd h
+no_view _ h = refl
+
+pub mem_back : (a : List Entry) (e : Entry) (name : ℕ) → NotView e → mem (a ++ e ∷ []) name ≡ true → (mem a name ≡ true) ⊎ (e ≡ Join name)
+mem_back a e name plain h = back (became (image_of a) (1 + length a) e name (long_told a) (omega arith)
+    (subst (λ (i : Image). In (row_at i (place_of name)) (life_of name)) (told_push a e) (mem_in (a ++ e ∷ []) name h)))
+  where
+    back : Becomes (image_of a) (1 + length a) e name → (mem a name ≡ true) ⊎ (e ≡ Join name)
+    back (stayed in_ same) = inl (in_mem a name in_)
+    back (joins is same) = inr is
+    back (founds viewed blank_ same) = absurd (let z = no_view e plain in cc)
+
+-- ---- and so who is concerned
+
+pub concerned_push : (list : List Entry) (e : Entry) (name : ℕ) → NotView e → IsConcerned (list ++ e ∷ []) name
+    → IsConcerned list name ⊎ (e ≡ Join name)
+concerned_push list e name plain h =
+    let same : (image_of (list ++ e ∷ [])).view_number ≡ (image_of list).view_number =
+    ap (λ (i : Image). i.view_number) (told_push list e) ∙ (after_same (image_of list) (1 + length list) e (no_view e plain)).number in
+    either (begins_pushed e h.begins)
+    (λ z. inl (record { upto = h.upto; begins = z; from = omega arith; member = h.member }))
+    (λ z. either (mem_back list e name plain (subst (λ l. mem l name ≡ true) z h.member))
+    (λ m. inl (record { upto = list; begins = begins_refl list; from = number_low list; member = m }))
+    (λ j. inr j))
+
+-- ---- reports
+
+-- where names have no less, and who is concerned above the base was so before
+reporting_on : (node after_ : ℕ → groups.Node) (list : List Entry) (e : Entry) (base : ℕ) (reports : ℕ → Report)
+    → ((name : ℕ) → base < (reports name).stored → IsConcerned (list ++ e ∷ []) name → IsConcerned list name)
+    → ((i : ℕ) → Begins (node i).list (after_ i).list) → Reporting node list base reports → Reporting after_ (list ++ e ∷ []) base reports
+reporting_on node after_ list e base reports before grow r = record {
+  within = λ name. (let low = r.within name in let more = length_push list e in omega arith);
+  taken = r.taken;
+  true_ = λ name few concerned above. subst (λ l. Begins l (after_ name).list)
+      (sym (taken_more (reports name).stored list (list ++ e ∷ []) (begins_more list (e ∷ [])) (r.within name)))
+      (begins_trans (r.true_ name few (before name above concerned) above) (grow name));
+}
+
+-- one that joins is concerned anew, and its report is at the base
+pub reporting_joins : (node after_ : ℕ → groups.Node) (list : List Entry) (e : Entry) (base : ℕ) (reports : ℕ → Report)
+    → ((name : ℕ) → IsConcerned (list ++ e ∷ []) name → IsConcerned list name ⊎ ((e ≡ Join name) ⊎ (list ≡ [])))
+    → ((i : ℕ) → Begins (node i).list (after_ i).list) → ((i : ℕ) → e ≡ Join i → (reports i).stored ≤ base)
+    → Reporting node list base reports → Reporting after_ (list ++ e ∷ []) base reports
+reporting_joins node after_ list e base reports before grow fresh r = reporting_on node after_ list e base reports
+    (λ name above concerned. either (before name concerned)
+    (λ z. z)
+    (λ z. absurd (either z
+    (λ y. (let low = fresh name y in let x : ⊥ = omega arith in x))
+    (λ y. (let low = r.within name in let none = ap length y in let x : ⊥ = omega arith in x)))))
+    grow r
+
+pub reporting_push : (node after_ : ℕ → groups.Node) (list : List Entry) (e : Entry) (base : ℕ) (reports : ℕ → Report) → NotView e
+    → ((i : ℕ) → Begins (node i).list (after_ i).list) → ((i : ℕ) → e ≡ Join i → (reports i).stored ≤ base)
+    → Reporting node list base reports → Reporting after_ (list ++ e ∷ []) base reports
+reporting_push node after_ list e base reports plain = reporting_joins node after_ list e base reports (λ name concerned.
+    either (concerned_push list e name plain concerned)
+    (λ z. inl z)
+    (λ z. inr (inl z)))
 
 -- ---- reports, while names have no less
 
@@ -65,16 +130,12 @@ reporting_more node list base who report reports low took its r = record {
       subst (λ k. Begins (take k list) (node name).list) (sym is)
       (subst (λ k. Begins (take (reports k).stored list) (node name).list) same
       (r.true_ name few concerned (let z = ap (λ k. (reports k).stored) same in omega arith)))) in
-      rw t (λ above. ⊎_elim
-      (λ (z : max old report.stored ≤ old). both z above)
-      (λ (z : old < max old report.stored). (let is : max old report.stored ≡ report.stored = omega arith in
-      subst (λ k. Begins (take k list) (node name).list) (sym is) (subst (λ k. Begins (take report.stored list) (node k).list) (sym same) here)))
-      (two (max old report.stored) old))))
+      rw t (λ above. either (low_or_above (max old report.stored) old)
+      (λ z. both z above)
+      (λ z. (let is : max old report.stored ≡ report.stored = omega arith in
+      subst (λ k. Begins (take k list) (node name).list) (sym is) (subst (λ k. Begins (take report.stored list) (node k).list) (sym same) here))))))
       (λ f. rw f (r.true_ name few concerned));
 }
-  where
-    two : (a b : ℕ) → (a ≤ b) ⊎ (b < a)
-    two a b = grind arith
 
 -- ---- an entry more
 
@@ -88,13 +149,11 @@ member_before a e name good h = by_kind (became (image_of a) (1 + length a) e na
     by_kind (founds viewed_ blank_ same) = inr (inr (blank_nil a good blank_))
 
 concerned_before : (a : List Entry) (e : Entry) (name : ℕ) → IsGood a → IsConcerned (a ++ e ∷ []) name → IsConcerned a name ⊎ ((e ≡ Join name) ⊎ (a ≡ []))
-concerned_before a e name good h = ⊎_elim
-    (λ (z : Begins h.upto a). inl (record { upto = h.upto; begins = z; from = low z; member = h.member }))
-    (λ (z : h.upto ≡ a ++ e ∷ []). ⊎_elim
-    (λ (m : mem a name ≡ true). inl (record { upto = a; begins = begins_refl a; from = number_low a; member = m }))
-    (λ (y : (e ≡ Join name) ⊎ (a ≡ [])). inr y)
-    (member_before a e name good (subst (λ l. mem l name ≡ true) z h.member)))
-    (begins_pushed e h.begins)
+concerned_before a e name good h = either (begins_pushed e h.begins)
+    (λ z. inl (record { upto = h.upto; begins = z; from = low z; member = h.member }))
+    (λ z. either (member_before a e name good (subst (λ l. mem l name ≡ true) z h.member))
+    (λ m. inl (record { upto = a; begins = begins_refl a; from = number_low a; member = m }))
+    (λ y. inr y))
   where
     low : Begins h.upto a → (image_of a).view_number ≤ length h.upto
     low z =
@@ -126,21 +185,19 @@ NewRow r life = (r.joined ≡ 0) ⊎ (r.life < life)
 row_before : (image : Image) (who name : ℕ) (r : Row) → length image.rows ≡ 16
     → (place_of name ≡ place_of who → NewRow r (life_of name) → NewRow (row_at image (place_of name)) (life_of name))
     → NewRow (row_at (with_row image who r) (place_of name)) (life_of name) → NewRow (row_at image (place_of name)) (life_of name)
-row_before image who name r long here h = ⊎_elim
-    (λ (z : (place_of name ≡ place_of who) × (row_at (with_row image who r) (place_of name) ≡ r)). here z.0 (subst (λ q. NewRow q (life_of name)) z.1 h))
-    (λ (z : (place_of name ≢ place_of who) × (row_at (with_row image who r) (place_of name) ≡ row_at image (place_of name))). subst (λ q. NewRow q
+row_before image who name r long here h = either (row_set image who (place_of name) r long)
+    (λ z. here z.0 (subst (λ q. NewRow q (life_of name)) z.1 h))
+    (λ z. subst (λ q. NewRow q
     (life_of name)) z.1 h)
-    (row_set image who (place_of name) r long)
 
 join_row : (image : Image) (joiner name n : ℕ) → 0 < n → IsNew image joiner → place_of name ≡ place_of joiner
     → NewRow (record { life = life_of joiner; joined = n; left = 0; last = 0 }) (life_of name) → NewRow (row_at image (place_of name)) (life_of name)
 join_row image joiner name n some new place h =
     let at = ap (λ p. row_at image p) place in
-    subst (λ r. NewRow r (life_of name)) (sym at) (⊎_elim
-    (λ (z : n ≡ 0). absurd (omega arith))
-    (λ (z : life_of joiner < life_of name). ⊎_elim (λ (y : (at_place image joiner).joined ≡ 0). inl y)
-    (λ (y : (at_place image joiner).life < life_of joiner). inr (omega arith)) new)
-    h)
+    subst (λ r. NewRow r (life_of name)) (sym at) (either h
+    (λ z. absurd (omega arith))
+    (λ z. either new (λ y. inl y)
+    (λ y. inr (omega arith))))
 
 viewed_row : (first : Bool) (n given life : ℕ) (r : Row) → (first ≡ true → r.joined ≡ 0) → NewRow (row_after_view first n given r) life → NewRow r life
 viewed_row true n given life r none = λ h. inl (none refl)
@@ -172,8 +229,8 @@ new_before image n (View v) name long some fit = λ h.
 pub known_old : (image : Image) (name : ℕ) → ((row_of image name).joined == 0) ≡ false → IsNew image name → ⊥
 known_old image name known new = split ((at_place image name).life == life_of name)
     (λ t. (let z : ((at_place image name).joined == 0) ≡ false = rw t at known in
-    ⊎_elim (λ (y : (at_place image name).joined ≡ 0). (let x : ⊥ = grind (arith, nat_tests) in x))
-    (λ (y : (at_place image name).life < life_of name). (let x : ⊥ = grind (arith, nat_tests) in x)) new))
+    either new (λ y. (let x : ⊥ = grind (arith, nat_tests) in x))
+    (λ y. (let x : ⊥ = grind (arith, nat_tests) in x))))
     (λ f. (let z : (0 == 0) ≡ false = rw f at known in cc))
 
 -- ---- a letter's report

@@ -5,7 +5,9 @@ use Rattle.am_stands.proofs.Words.{entry_at, image_at, fold, Packet, Begins, mem
 use Rattle.am_stands.proofs.Words.{Status, Node, view, is_member, acts, is_sequencer, only_name, has_log, has_departed, own_vote, may_fetch, viewed_by, World}
 use Rattle.am_stands.proofs.Words.{split, and_both, Cause, hears, MayFetch, MayTell, leads, decided, request, spread, bcast, order, ack, nack, welcome}
 use Rattle.am_stands.proofs.Words.{leave_ask, gone, vote, fetch, piece, result, logged, IsDecided, AllShown, FetchSays, PacketSays, ResultSays, none, Leads}
-use Rattle.am_stands.proofs.Words.{KeptWhole, ListBegins, as_before, just_begun, Sender, ShowsMore, SaysSo, SentSays}
+use Rattle.am_stands.proofs.Words.{KeptWhole, ListBegins, as_before, just_begun, Sender, ShowsMore, SaysSo, SentSays, suc, ◌+◌, ◌-◌, ◌++◌, Some, slice_get}
+use Rattle.am_stands.proofs.Words.{list_any, View, GroupView, after, item_at, IsGood, image_of, next_of, told_push, view_viewed, is_view, after_same}
+use Rattle.am_stands.proofs.Words.{after_view, OwnDecided, stamp_itself}
 use Rattle.am_laws.specs.Letters.{for_ballot, of_promise, accept}
 use Rattle.am_packet.specs.declared.packet.Packet.TheVariants as packet
 use Rattle.am_chain.specs.Group as groups
@@ -13,9 +15,83 @@ use Rattle.am_model.specs.declared.status.Status.TheVariants as status
 use Rattle.am_model.specs.Node as nodes
 use Rattle.am_laws.specs.Letters as letters
 use Rattle.am_stands.specs.Letters as says
-use Rattle.am_stands.proofs.{Changes.told_all, Changes.long_all, Entries.key_stamp, Going.gone_says, Opens.list_opens, Results.tells_leads, Results.result_said}
-use Rattle.am_stands.proofs.{Sent.Speaks, Sent.leading, Sent.report_said, Sent.leaver_said, Sent.sequencer_said, Sent.entry_said, Sent.piece_said}
-use Rattle.am_stands.proofs.{Shown.PieceStands, Shown.vote_said, Shown.shown_said, Welcoming.is_welcomed, Welcoming.welcome_says}
+use Rattle.am_stands.proofs.{Changes.told_all, Changes.long_all, Entries.key_stamp, Going.gone_says, Opens.list_opens, Sent.Speaks, Sent.leading}
+use Rattle.am_stands.proofs.{Sent.report_said, Sent.leaver_said, Sent.sequencer_said, Sent.entry_said, Sent.piece_said, Shown.PieceStands, Shown.vote_said}
+use Rattle.am_stands.proofs.{Shown.shown_said, Welcoming.is_welcomed, Welcoming.welcome_says, Pieces.none_after, Parts.entry_whole}
+use Rattle.am_base.proofs.Members.{fold_append}
+
+-- ---- the Result that is sent is so: a sequencer's View stands in the line of its view
+
+-- ---- the last View of a list
+
+plain_fold : (image : Image) (n : ℕ) (es : List Entry) → list_any is_view es ≡ false
+    → ((fold image n es).view_number ≡ image.view_number) × ((fold image n es).resilience ≡ image.resilience)
+unfolding fold
+plain_fold image n [] h = (refl, refl)
+plain_fold image n (e ∷ es) h = split (is_view e)
+    (λ t. absurd (let z = rw t at h in cc))
+    (λ f.
+    let r = plain_fold (after image n e) (n + 1) es (rw f at h) in
+    let one = after_same image n e f in
+    (r.0 ∙ one.number, r.1 ∙ one.resilience))
+
+pub last_view_at : (before : List Entry) (v : GroupView) (list : List Entry) → IsGood list
+    → Begins (before ++ View v ∷ []) list → view_of list ≡ v.stamp
+    → ((image_of list).view_number ≡ length before + 1) × ((image_of list).resilience ≡ v.resilience)
+last_view_at before v list good h viewed =
+    let e = View v in
+    let a = before ++ e ∷ [] in
+    let none = none_after a h.rest (subst IsGood (sym h.same) good) (ap view_of h.same ∙ viewed ∙ sym (view_viewed before v)) in
+    let rest = plain_fold (image_of a) (1 + length a) h.rest none in
+    let all : image_of list ≡ fold (image_of a) (1 + length a) h.rest = ap image_of (sym h.same) ∙ fold_append _ 1 a h.rest in
+    let last = told_push before e in
+    let its = after_view (image_of before) (1 + length before) v in
+    let number : (image_of list).view_number ≡ 1 + length before = ap (λ (g : Image). g.view_number) all ∙ rest.0 ∙ ap (λ (g : Image). g.view_number) last
+    ∙ its.1 in
+    (omega arith, ap (λ (g : Image). g.resilience) all ∙ rest.1 ∙ ap (λ (g : Image). g.resilience) last ∙ its.2)
+
+-- ---- who tells a View
+
+-- of its own promise, leads
+pub tells_leads : (n : Node) → is_member n.status ≡ true → MayTell n → OwnDecided n → n.core.promise.by ≡ n.core.who → is_sequencer n ≡ true
+tells_leads n member (leads t) told mine = t
+tells_leads n member (decided b number names there answer at) told mine =
+    let same : view n ≡ n.core.promise = at ∙ sym (told b number names there answer mine) in
+    let own : ((view n).by == n.core.who) ≡ true = (let z = ap (λ (u : Stamp). u.by) same ∙ mine in grind (arith, nat_tests)) in
+    let acting : stamp_eq n.core.promise (view n) ≡ true = subst (λ u. stamp_eq n.core.promise u ≡ true) (sym same) (stamp_itself n.core.promise) in
+    rw (member, acting, own) refl
+
+-- ---- the letter
+
+pub result_said : (v : World) (i number : ℕ) (n : Node) (names : List ℕ) (s : Group) → Speaks v i n s → is_sequencer n ≡ true
+    → (s.views.chosen (key n.core.promise)).stamp ≡ n.core.promise
+    → Begins (opening (s.views.chosen (key n.core.promise))) (s.views.line (key n.core.promise))
+    → n.core.log.start < (nodes.image_of n).view_number → number ≡ (nodes.image_of n).view_number → viewed_by (entry_at n.core.log number) ≡ names
+    → ResultSays s i number (record { stamp = n.core.promise; members = names; resilience = (nodes.image_of n).resilience })
+result_said v i number n names s h t stamp opens low is viewed =
+    let a = s.node i in
+    let l = leading v i n s h t in
+    let c = s.views.chosen (key n.core.promise) in
+    let told_is = told_all v i n a h.stands in
+    let chain = ((h.kept.each i).leads l.leads).chain in
+    let good : IsGood a.list = subst IsGood (sym chain) h.kept.views.good in
+    let its : GroupView = record c.view { stamp = n.core.promise } in
+    let here : Begins (c.before ++ View its ∷ []) a.list = subst (λ (u : Stamp). Begins (c.before ++ View (record c.view { stamp = u }) ∷ []) a.list)
+    stamp (subst (Begins (opening c)) l.line_ opens) in
+    let last = last_view_at c.before its a.list good here l.viewed in
+    let at : slice_get a.list (length c.before) ≡ Some (View its) = next_of c.before (View its) here in
+    let where_ : number ≡ length c.before + 1 = is ∙ ap (λ (g : Image). g.view_number) (sym told_is) ∙ last.0 in
+    let strong : c.resilience ≡ (nodes.image_of n).resilience = sym last.1 ∙ ap (λ (g : Image). g.resilience) told_is in
+    let index : number - 1 ≡ length c.before = omega arith in
+    let entry : entry_at n.core.log number ≡ Some (View its) = entry_whole v i number n a h.stands (omega arith)
+    ∙ ap (slice_get a.list) index ∙ at in
+    let named : c.members ≡ names = ap viewed_by (sym entry) ∙ viewed in
+    record {
+      by = ap (λ (u : Stamp). u.by) (sym l.viewed) ∙ l.leads.by;
+      decided = l.decided;
+      stands = ap (λ g. item_at g number) l.line_ ∙ (let z : number ≡ suc (length c.before) = omega arith in ap (item_at a.list) z) ∙ at
+          ∙ (λ j. Some (View (record { stamp = n.core.promise; members = named j; resilience = strong j })));
+    }
 
 -- ---- who acts
 
@@ -43,7 +119,6 @@ acts_decided v i n s g h t =
     let promise = same_stamp n.core.promise (view n) acting.1 in
     let viewed : view_of (s.node i).list ≡ n.core.promise = ap (λ (x : Image). x.view) (told_all v i n (s.node i) h.stands) ∙ sym promise in
     let mine : key (s.node i).promise ≡ key n.core.promise = ap key h.stands.promise in
-    let round = g.rounds.promised i h.up.log in
     let some = some_list (s.node i).list n.core.promise viewed (omega arith) in
     ap (λ (u : Stamp). s.views.decided (key u)) (sym viewed) ∙ (list_opens s i g.kept g.opens h.up some).decided
 
@@ -83,18 +158,16 @@ module _ (v : World) (i : ℕ) (c : Cause) (m n : Node) (s : Group) (h : Sender 
 
   -- who leads, or heard a Fetch, hasn't just begun its list
   start_leading : is_sequencer n ≡ true → n.core.log.start ≤ m.core.base
-  start_leading t = by_start h.start
-    where
-      by_start : ListBegins c m n → n.core.log.start ≤ m.core.base
-      by_start (as_before low) = low
-      by_start (just_begun follows asked) = absurd (let z = sym t ∙ follows in cc)
+  start_leading t = elim h.start [
+    | as_before low ↦ low
+    | just_begun follows asked ↦ absurd (let z = sym t ∙ follows in cc)
+  ]
 
   start_asked : (from stored : ℕ) (u : Stamp) → c ≡ hears (packet.Fetch from u stored) → n.core.log.start ≤ m.core.base
-  start_asked from stored u is = by_start h.start
-    where
-      by_start : ListBegins c m n → n.core.log.start ≤ m.core.base
-      by_start (as_before low) = low
-      by_start (just_begun follows asked) = absurd (asked from stored u is)
+  start_asked from stored u is = elim h.start [
+    | as_before low ↦ low
+    | just_begun follows asked ↦ absurd (asked from stored u is)
+  ]
 
   numbered : (number : ℕ) (e : Entry) → is_sequencer n ≡ true → letters.EntryStands n.core.log m.core.base number e
       → says.EntrySays s i n.core.promise n.core.acc number e
@@ -113,7 +186,10 @@ module _ (v : World) (i : ℕ) (c : Cause) (m n : Node) (s : Group) (h : Sender 
   told_result : (number : ℕ) (names : List ℕ) → number ≡ (nodes.image_of n).view_number → viewed_by (entry_at n.core.log number) ≡ names → MayTell n
       → n.core.promise.by ≡ i → ResultSays s i number (record { stamp = n.core.promise; members = names; resilience = (nodes.image_of n).resilience })
   told_result number names is viewed may mine =
-      let member = logged_member (tells_log may) in
+      let member = logged_member (elim may [
+        | leads t ↦ logged n.status (acting_member n (leading_acts n t))
+        | decided b number names there answer at ↦ h.ballots.blank b there
+      ]) in
       let t = tells_leads n member may h.ballots.own (mine ∙ sym h.who) in
       let l = leading v i n s (speaks_leading t) t in
       let noted = h.views.decided (key n.core.promise) l.decided in
@@ -123,10 +199,6 @@ module _ (v : World) (i : ℕ) (c : Cause) (m n : Node) (s : Group) (h : Sender 
       (subst (λ (u : Stamp). (s.views.chosen (key u)).stamp ≡ u) same k.stamp)
       (subst (λ (u : Stamp). Begins (opening (s.views.chosen (key u))) (s.views.line (key u))) same k.opens)
       (h.leader t).viewed is viewed
-    where
-      tells_log : MayTell n → has_log n.status ≡ true
-      tells_log (leads t) = logged n.status (acting_member n (leading_acts n t))
-      tells_log (decided b number names there answer at) = h.ballots.blank b there
 
   -- what is sent of its list
   piece_log : (number : ℕ) (e : Entry) → letters.EntryStands n.core.log m.core.base number e → is_member n.status ≡ true
@@ -164,16 +236,13 @@ module _ (v : World) (i : ℕ) (c : Cause) (m n : Node) (s : Group) (h : Sender 
         };
       })
     where
-      itself : (x : Stamp) → stamp_eq x x ≡ true
-      itself x = grind (arith, nat_tests)
-
       leads_own : is_member n.status ≡ true → view n ≡ n.core.promise → n.core.promise.by ≡ n.core.who → is_sequencer n ≡ true
       leads_own member viewed mine =
-          let a : stamp_eq n.core.promise (view n) ≡ true = subst (λ x. stamp_eq n.core.promise x ≡ true) (sym viewed) (itself n.core.promise) in
+          let a : stamp_eq n.core.promise (view n) ≡ true = subst (λ x. stamp_eq n.core.promise x ≡ true) (sym viewed) (stamp_itself n.core.promise) in
           let b : ((view n).by == n.core.who) ≡ true = (let z = ap (λ (x : Stamp). x.by) viewed ∙ mine in grind (arith, nat_tests)) in
           rw (member, a, b) refl
 
-      -- nobody fetches from itself
+      -- nobody fetches from stamp_itself
       not_itself : (from : ℕ) (to : List ℕ) → n.core.promise.by ≡ from → has to i ≡ true → FetchSays s from n.core.promise to → from ≢ i
       not_itself from to by in_ (says.for_ballot own all) same =
           let known = all i in_ in
@@ -220,7 +289,6 @@ sent_says v i c m n s to p h (nack _ a) = so v i c m n s h to _
     (subst (λ j. says.ReportSays s j n.core.promise (nodes.report_of n)) (sym h.who) (reports v i c m n s h a))
 sent_says v i c m n s to p h (welcome name t may) =
     let good = good_begins ((h.group.kept.each i).list (speaks_leading v i c m n s h t).up) h.group.kept.views.good in
-    let base = h.numbers.base in
     let is = is_welcomed v i m n (s.node i) name h.stands good h.lives (start_leading v i c m n s h t) h.numbers.accepted may in
     so v i c m n s h (only_name name) _ (
       h.trimmed,

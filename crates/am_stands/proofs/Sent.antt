@@ -1,5 +1,5 @@
 -- What a sender says is so.
-use Rattle.am_stands.proofs.Words.{same_stamp, ◌≡◌, ⊎_elim, ℕ, suc, ◌+◌, ◌<◌, ◌≤◌, ◌==◌, List, [], ◌∷◌, ◌++◌, length, take, true, Some, slice_get, sym, ap}
+use Rattle.am_stands.proofs.Words.{same_stamp, ◌≡◌, either, ℕ, suc, ◌+◌, ◌<◌, ◌≤◌, ◌==◌, List, [], ◌∷◌, ◌++◌, length, take, true, Some, slice_get, sym, ap}
 use Rattle.am_stands.proofs.Words.{◌∙◌, subst, arith, cases_lt, length-take, nat_tests, Entry, Stamp, Image, stamp_eq, item_at, Begins, IsGood, view_of, key}
 use Rattle.am_stands.proofs.Words.{begins_trans, take_begins, begins_refl, Group, IsUp, chain_of, Kept, Node, view, is_member, acts, is_sequencer, World}
 use Rattle.am_stands.proofs.Words.{split, and_both, NameStands, FrontsStand, line, IsDecided, SequencerSays, EntrySays, ReportSays, LeaverSays, of_view}
@@ -26,12 +26,11 @@ promise_line v i n s h d =
     let same : a.promise ≡ n.core.promise = h.stands.promise in
     let decided : s.views.decided (key a.promise) ≡ true = ap (λ (u : Stamp). s.views.decided (key u)) same ∙ d in
     let most = h.kept.views.order (key a.promise) decided in
-    subst (λ (u : Stamp). Begins a.list (line s u)) same (⊎_elim
-    (λ (below : key a.promise < key s.views.current). (let late = ok.late h.up below in
+    subst (λ (u : Stamp). Begins a.list (line s u)) same (either (cases_lt (key a.promise) (key s.views.current))
+    (λ below. (let late = ok.late h.up below in
     begins_trans late.list (late.lines (key a.promise) decided (omega arith))))
-    (λ (above : key s.views.current ≤ key a.promise). (let keys : key s.views.current ≡ key a.promise = omega arith in
-    subst (λ x. Begins a.list (s.views.line x)) keys (ok.list h.up)))
-    (cases_lt (key a.promise) (key s.views.current)))
+    (λ above. (let keys : key s.views.current ≡ key a.promise = omega arith in
+    subst (λ x. Begins a.list (s.views.line x)) keys (ok.list h.up))))
 
 all_taken : (list : List Entry) (n : ℕ) → n ≡ length list → take n list ≡ list
 all_taken list n is = ap (λ k. take k list) is ∙ take_begins (begins_refl list)
@@ -85,13 +84,7 @@ leading v i n s h t =
     let now : view_of a.list ≡ s.views.current = ap view_of ok.chain ∙ h.kept.views.view in
     let viewed : view_of a.list ≡ n.core.promise = whole_view ∙ sym promise in
     let keys : key n.core.promise ≡ key s.views.current = ap key (sym viewed ∙ now) in
-    record {
-      leads = leads;
-      viewed = viewed;
-      decided = ap s.views.decided keys ∙ h.kept.views.now;
-      line_ = ap s.views.line (ap key (sym viewed)) ∙ leads_line s i h.kept leads;
-      current = keys;
-    }
+    assumption (ap s.views.decided keys ∙ h.kept.views.now, ap s.views.line (ap key (sym viewed)) ∙ leads_line s i h.kept leads)
 
 -- its list is the chain
 pub record OnChain (s : Group) (list : List Entry) : Type 0 where
@@ -130,7 +123,6 @@ list_item v i n a base number e h low at =
     let start_ = n.core.log.start in
     let front = take start_ v.group in
     let long : length front ≡ start_ = (let b = h.begins.within in let c = length-take start_ v.group in omega arith) in
-    let number_ : number ≡ start_ + at.index + 1 = at.at low in
     let is : number ≡ suc (length front + at.index) = omega arith in
     ap (item_at a.list) is ∙ ap (λ l. slice_get l (length front + at.index)) h.list ∙ whole_item front n.core.log.entries at.index e at.there
 

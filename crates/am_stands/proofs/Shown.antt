@@ -1,5 +1,5 @@
 -- Votes: what a coordinator keeps of them, and what a voter shows.
-use Rattle.am_stands.proofs.Words.{◌≡◌, ◌≢◌, ◌⊎◌, ⊎_elim, ℕ, ◌<◌, ◌≤◌, ◌==◌, not, List, true, false, Option, Some, None, refl, sym, ap, ◌∙◌, subst, arith}
+use Rattle.am_stands.proofs.Words.{◌≡◌, ◌≢◌, ◌⊎◌, either, ℕ, ◌<◌, ◌≤◌, ◌==◌, not, List, true, false, Option, Some, None, refl, sym, ap, ◌∙◌, subst, arith}
 use Rattle.am_stands.proofs.Words.{nat_tests, Entry, Vote, Image, Stamp, has, members_of, item_at, mem, view_of, key, Group, IsThere, put2, Kept, put2_cases}
 use Rattle.am_stands.proofs.Words.{Node, Ballot, is_member, own_vote, World, split, and_both, Cause, hears, HasOpen, Balloting, with_more, without_one}
 use Rattle.am_stands.proofs.Words.{as_it_is, NameStands, VoteTells, VoteSays, FetchSays, PieceSays, own, tells, over, for_ballot, of_promise}
@@ -31,7 +31,6 @@ looked_votes c x b s (without_one old name is o other) own_ fresh heard h = λ j
     (λ f. λ at. kept_votes x old s o h j vote (rw f at at))
 looked_votes c x b s (with_more old from v shown is heard_ low high o same stays) own_ fresh heard h = λ j vote. split (j == from)
     (λ t. λ at. (let is_from : j ≡ from = grind (arith, nat_tests) in
-    let some : Some shown ≡ Some vote = rw t at at in
     let is_vote : shown ≡ vote = cc in
     let other = (and_both (not (from == x.core.who)) (is_member x.status) heard_).0 in
     subst (λ k. VoteTells s k old.stamp vote) (sym is_from)
@@ -117,11 +116,10 @@ vote_said v i n s h =
         (n.core.promise.by == i) ≡ true = (let y = ap (λ (u : Stamp). u.by) promised in grind (arith, nat_tests)) in cc) in
         let small : a.promise.by < 256 = subst (λ (u : Stamp). u.by < 256) (sym promised) h.small in
         let begun : key a.promise ≤ key (s.node a.promise.by).promise = subst (λ (u : Stamp). key u ≤ key (s.node u.by).promise) (sym promised) h.begun in
-        let shown : put2 s.shown (key a.promise) i (Some a.list) (key n.core.promise) i ≡ Some a.list = ⊎_elim
-        (λ (z : (key n.core.promise ≡ key a.promise) × (i ≡ i) × (put2 s.shown (key a.promise) i (Some a.list) (key n.core.promise) i ≡ Some a.list)). z.2)
-        (λ (z : ((key n.core.promise ≡ key a.promise) × (i ≡ i) → ⊥)
-        × (put2 s.shown (key a.promise) i (Some a.list) (key n.core.promise) i ≡ s.shown (key n.core.promise) i)). absurd (z.0 (ap key (sym promised), refl)))
-        (put2_cases s.shown (key a.promise) i (Some a.list) (key n.core.promise) i) in
+        let shown : put2 s.shown (key a.promise) i (Some a.list) (key n.core.promise) i ≡ Some a.list =
+        either (put2_cases s.shown (key a.promise) i (Some a.list) (key n.core.promise) i)
+        (λ z. z.2)
+        (λ z. absurd (z.0 (ap key (sym promised), refl))) in
         record {
           to = t;
           path = moves (group.shows i h.there small other begun (ap (λ (u : Stamp). s.shown (key u) i) promised ∙ is)) tt none;
@@ -160,11 +158,10 @@ shown_said v i from base number n e s to h by other asked (for_ballot own_by all
     let others : (j : ℕ) → mem list j ≡ true → IsThere (s.node j) → (j ≡ a.promise.by) ⊎ ((vote : List Entry) × (s.shown (key a.promise) j ≡ Some vote)) =
     subst (λ (u : Stamp). (j : ℕ) → mem list j ≡ true → IsThere (s.node j) → (j ≡ u.by) ⊎ ((vote : List Entry) × (s.shown (key u) j ≡ Some vote)))
     (sym promised) known.others in
-    let served : put2 s.served (key a.promise) i true (key p) i ≡ true = ⊎_elim
-    (λ (z : (key p ≡ key a.promise) × (i ≡ i) × (put2 s.served (key a.promise) i true (key p) i ≡ true)). z.2)
-    (λ (z : ((key p ≡ key a.promise) × (i ≡ i) → ⊥) × (put2 s.served (key a.promise) i true (key p) i ≡ s.served (key p) i)). absurd
-    (z.0 (ap key (sym promised), refl)))
-    (put2_cases s.served (key a.promise) i true (key p) i) in
+    let served : put2 s.served (key a.promise) i true (key p) i ≡ true = either (put2_cases s.served (key a.promise) i true (key p) i)
+    (λ z. z.2)
+    (λ z. absurd
+    (z.0 (ap key (sym promised), refl))) in
     record {
       to = record s { served = put2 s.served (key a.promise) i true };
       path = moves (group.serves i list h.up shown others) tt none;

@@ -1,17 +1,153 @@
 -- What is known where a step begins: what the run keeps, with the step's record.
-use Rattle.am_stands.proofs.StepWords.{◌≡◌, ⊎_elim, ℕ, zero, suc, ◌<◌, ◌≤◌, ◌==◌, true, false, List, Some, slice_get, slice_index, get_or-set_same, refl, sym, ap}
-use Rattle.am_stands.proofs.StepWords.{◌∙◌, subst, arith, All, nat_tests, Stamp, NodeEvent, GiveUp, Rules, MayFound, place_of, life_of, nobody, with_name, has}
-use Rattle.am_stands.proofs.StepWords.{no_stamp, Packet, Letter, goes_to_any, Act, Event, Record, item_at, key, begins_refl, Group, Node, set_at, has_departed}
-use Rattle.am_stands.proofs.StepWords.{Step, World, start, is_stopped, run, heard_by, split, Cause, calls, hears, Effect, actor, WasSentTo, IsCall, IsCause}
-use Rattle.am_stands.proofs.StepWords.{all_get, all_item, runs_keep, stamp_of, few_names, numbers_hold, IsNoted, heard_names, AllOwned, run_owned, each_along}
-use Rattle.am_stands.proofs.StepWords.{heard_used, kept_more, AllSent, after_step, sent_start, AtMost, IsBegun, StampOk, NameStands, StandsBut, Stands, within}
-use Rattle.am_stands.proofs.StepWords.{PacketSays, LetterSays, WasBegun, HeardSo, Stepping, Following, letters_stay, name_in, views_in, grows_same, others_keep}
-use Rattle.am_stands.proofs.StepWords.{not_above_key}
+use Rattle.am_stands.proofs.StepWords.{◌≡◌, either, ℕ, zero, suc, ◌<◌, ◌≤◌, ◌==◌, true, false, List, Some, slice_get, slice_index, get_or-set_same, refl, sym}
+use Rattle.am_stands.proofs.StepWords.{ap, ◌∙◌, subst, arith, All, nat_tests, Stamp, NodeEvent, GiveUp, Rules, MayFound, place_of, life_of, nobody, with_name}
+use Rattle.am_stands.proofs.StepWords.{has, no_stamp, Packet, Letter, goes_to_any, Act, Event, Record, item_at, key, begins_refl, Group, Node, set_at}
+use Rattle.am_stands.proofs.StepWords.{has_departed, Step, World, start, is_stopped, run, heard_by, split, Cause, calls, hears, Effect, actor, WasSentTo}
+use Rattle.am_stands.proofs.StepWords.{IsCall, IsCause, all_get, all_item, runs_keep, stamp_of, few_names, numbers_hold, IsNoted, heard_names, AllOwned}
+use Rattle.am_stands.proofs.StepWords.{run_owned, each_along, heard_used, kept_more, AllSent, after_step, sent_start, AtMost, IsBegun, StampOk, NameStands}
+use Rattle.am_stands.proofs.StepWords.{StandsBut, Stands, within, PacketSays, LetterSays, WasBegun, HeardSo, Stepping, Following, letters_stay, name_in}
+use Rattle.am_stands.proofs.StepWords.{views_in, grows_same, others_keep, not_above_key, All-nil, All-append, All-weaker, with_record, with_step, steps}
+use Rattle.am_stands.proofs.StepWords.{EachKeeps, ◌||◌, [], ◌∷◌, ◌++◌, list_any, list_any-append, current, idles, stops, returns, AllNamed, each_named}
+use Rattle.am_stands.proofs.StepWords.{start_named, idle_queues, ◌+◌, Outcome, Ballot, Verdict, record_of, Looks, finds_itself_out, Change, refreshes, settles}
+use Rattle.am_stands.proofs.StepWords.{looks, queues, collects, closes, Answers, WasQueued, AnswersAsk, rests_refresh, rests_closed, settle_is, along, AskedOk}
+use Rattle.am_stands.proofs.StepWords.{asked_more, asked_other, unique, SendsOnce}
 use Rattle.am_runs.proofs.SentRuns.{each_keeps}
 use Rattle.am_packet.specs.declared.packet.Packet.TheVariants as packet
 use Rattle.am_chain.specs.Group as groups
 use Rattle.am_laws.specs.Events as event
-use Rattle.am_stands.proofs.{Any.GoesSo, Any.run_goes, Once.step_once, Owns.AllOwns, Owns.run_owns, Stopped.few_stopped}
+use Rattle.am_laws.specs.Letters as letters
+use Rattle.am_stands.proofs.{Owns.AllOwns, Owns.run_owns}
+use Rattle.am_base.specs.declared.outcome.Outcome.TheVariants as said
+use Rattle.am_base.specs.declared.event.NodeEvent.TheVariants as does
+use Rattle.am_state.specs.Sends as own
+use Rattle.am_group.specs.declared.event.Act.TheVariants as act
+
+-- ---- a request of a name stands for one body, in every run
+
+-- ---- a node's last request number only rises
+
+looked_last : (m : Node) (b : Ballot) (v : Verdict) → Looks m b v → v.node.sends ≡ m.sends
+looked_last m b v (finds_itself_out x) = refl
+looked_last m b v _ = refl
+
+last_kept : {c : Cause} {o : Outcome} (low : ℕ) (m n : Node) → Change c o m n → low ≤ m.sends.last → low ≤ n.sends.last
+last_kept low m n refreshes h = subst (λ k. low ≤ k) (sym (rests_refresh m).rests.asked) h
+last_kept low m n settles h = subst (λ (x : Node). low ≤ x.sends.last) (sym (settle_is m)) h
+last_kept low m n (looks b verdict over why look is) h = (let same = ap (λ (q : own.Sends). q.last) (looked_last m b verdict look) in omega arith)
+last_kept low m n (queues body is says member stays few) h = omega arith
+last_kept low m n (collects req is) h = split (own.is_settled req m.sends) (λ t. rw t h) (λ f. rw f h)
+last_kept low m n (closes leads leaves alone room) h = subst (λ k. low ≤ k) (sym (rests_closed m).asked) h
+last_kept low m n _ h = h
+
+-- ---- a step
+
+-- an Ask is no Send
+pub no_ask : (w : World) (name : ℕ) (a : Act) (c : Cause) (body : List ℕ) (round : ℕ) → a ≡ act.Send body → c ≡ calls (does.Ask round) → IsCause w name a c → ⊥
+no_ask w name a c body round is asked cause =
+    let call : IsCall w (act.Send body) (does.Ask round) = subst (λ x. IsCall w x (does.Ask round)) is (subst (IsCause w name a) asked cause) in
+    elim call [ ]
+
+asked_step : (w : World) (e : Event) (c : Cause) (s : Step) → AskedOk w.records w.nodes → IsCause w (actor w e) e.act c → Effect (w.nodes (actor w e)) c s
+    → AskedOk (after_step w e s) (set_at w.nodes (actor w e) s.node)
+asked_step w e c s h cause effect =
+    let i = actor w e in
+    let m = w.nodes i in
+    asked_more w.records w.nodes i s.node (record_of w e s.outcome s.letters) refl
+    (along (λ x. m.sends.last ≤ x.sends.last) (λ x y. last_kept m.sends.last x y) effect.changes (omega arith))
+    (λ req body is. either (subst (Answers m c s.node) is.answered effect.answer)
+    (λ x. (let next = x.next in let more = x.more in (next, omega arith)))
+    (λ x. absurd (no_ask w i e.act c body x.round is.asked x.asked cause))) h
+
+-- ---- runs
+
+pub record AllAsked (w : World) : Type 0 where
+  pub asked : AskedOk w.records w.nodes
+
+asked_next : EachKeeps AllAsked
+unfolding with_record with_step
+asked_next w e v (idles o idle) h = record {
+  asked = asked_other w.records w.nodes (record_of w e o [])
+      (λ name req body is. idle_queues o req idle is.answered) h.asked;
+}
+asked_next w e v (stops runs) h = record {
+  asked = asked_other w.records w.nodes (record_of w e said.Stopped [])
+      (λ name req body is. (let z = is.answered in absurd (cc))) h.asked;
+}
+asked_next w e v (returns place at gone more) h = record {
+  asked = asked_other w.records w.nodes (record_of w e (said.Returned (w.lives place + 1)) [])
+      (λ name req body is. (let z = is.answered in absurd (cc))) h.asked;
+}
+asked_next w e v (steps c s runs cause effect) h = record { asked = asked_step w e c s h.asked cause effect }
+
+none_asked : (rules : Rules) → AllAsked (start rules)
+none_asked rules = record {
+  asked = record { low = λ k r name req body there is. absurd (cc); once = λ k l r s name req body other a b is also. absurd (cc) };
+}
+
+pub step_once : (rules : Rules) (events : List Event) (e : Event) (c : Cause) (s : Step) → IsCause (run rules events) (actor (run rules events) e) e.act c
+    → Effect ((run rules events).nodes (actor (run rules events) e)) c s → SendsOnce (record (run rules events) { records = after_step (run rules events) e s })
+step_once rules events e c s cause effect =
+    let w = run rules events in
+    let z = asked_step w e c s (runs_keep AllAsked asked_next (start rules) events (none_asked rules)).asked cause effect in
+    λ name req a b p q. (unique (after_step w e s) (set_at w.nodes (actor w e) s.node) z).one name req a b
+    (record { index = p.index; send = p.done; there = p.there; is = p.is }) (record { index = q.index; send = q.done; there = q.there; is = q.is })
+
+-- ---- who has stopped is one of the 256 names
+
+abbrev AllFew : List ℕ → Type 0
+AllFew names = (j : ℕ) → list_any (λ x. x == j) names ≡ true → j < 256
+
+few_more : (names : List ℕ) (name : ℕ) → name < 256 → AllFew names → AllFew (names ++ name ∷ [])
+few_more names name few h j t = split (list_any (λ x. x == j) names) (h j)
+    (λ f. let z : (list_any (λ x. x == j) names || ((name == j) || false)) ≡ true = sym (list_any-append (λ x. x == j) names (name ∷ [])) ∙ t in
+    last (rw f at z))
+  where
+    last : ((name == j) || false) ≡ true → j < 256
+    last u = split (name == j) (λ same. let is : name ≡ j = grind (arith, nat_tests) in omega arith) (λ f. absurd (let z = rw f at u in cc))
+
+pub record Few (rules : Rules) (w : World) : Type 0 where
+  pub named : AllNamed rules w
+  pub few : AllFew w.stopped
+
+few_next : (rules : Rules) → EachKeeps (Few rules)
+unfolding with_record with_step
+few_next rules w e v (idles o idle) h = record { named = each_named rules w e v (idles o idle) h.named; few = h.few }
+few_next rules w e v (stops runs) h = record {
+  named = each_named rules w e v (stops runs) h.named;
+  few = few_more w.stopped (actor w e)
+      (few_names rules w e h.named) h.few;
+}
+few_next rules w e v (steps c s runs cause effect) h = record { named = each_named rules w e v (steps c s runs cause effect) h.named; few = h.few }
+few_next rules w e v (returns place is gone more) h = record {
+  named = each_named rules w e v (returns place is gone more) h.named;
+  few = split (is_stopped w (current w place)) (λ t. rw t h.few) (λ f. rw f (few_more w.stopped (current w place) low h.few));
+}
+  where
+    low : current w place < 256
+    low = let a = h.named.least place in let b = h.named.most place in let c = is in omega arith
+
+pub few_stopped : (rules : Rules) (events : List Event) → MayFound rules → (j : ℕ) → is_stopped (run rules events) j ≡ true → j < 256
+few_stopped rules events may =
+    (runs_keep (Few rules) (few_next rules) (start rules) events (record { named = start_named rules may; few = λ j t. absurd (cc) })).few
+
+-- ---- which letters go to every life of their places: that of a joiner that asks, in every run
+
+abbrev pub GoesSo : Letter → Type 0
+GoesSo letter = letter.any ≡ goes_to_any letter.packet
+
+record AllGo (w : World) : Type 0 where
+  letters : All GoesSo w.letters
+
+go_next : EachKeeps AllGo
+unfolding with_record with_step
+go_next w e v (steps c s runs cause effect) h = record {
+  letters = All-append GoesSo w.letters s.letters h.letters
+      (All-weaker (letters.LetterSays (w.nodes (actor w e)) c effect.sender) GoesSo (λ l x. x.any) s.letters effect.letters);
+}
+go_next w e v _ h = record { letters = h.letters }
+
+pub run_goes : (rules : Rules) (events : List Event) → All GoesSo (run rules events).letters
+run_goes rules events = (runs_keep AllGo go_next (start rules) events (record { letters = All-nil GoesSo })).letters
 
 -- ---- a world with other records
 
@@ -51,10 +187,9 @@ pub begun_stands : (w : World) (s : Group) (v : Stamp) → Stands w s → ((i : 
     → WasBegun s v
 begun_stands w s v h named small is = record {
   small = small;
-  begun = subst (λ (u : Stamp). key v ≤ key u) (sym (h.each v.by small).promise) (⊎_elim
-      (λ (z : v ≡ no_stamp). subst (λ (u : Stamp). key u ≤ key (w.nodes v.by).core.promise) (sym z) (none_key _))
-      (λ (z : AtMost v (w.nodes v.by).core.promise). not_above_key v (w.nodes v.by).core.promise small (named v.by small) z)
-      is);
+  begun = subst (λ (u : Stamp). key v ≤ key u) (sym (h.each v.by small).promise) (either is
+      (λ z. subst (λ (u : Stamp). key u ≤ key (w.nodes v.by).core.promise) (sym z) (none_key _))
+      (λ z. not_above_key v (w.nodes v.by).core.promise small (named v.by small) z));
 }
 
 -- only a joiner's asking goes to any life, and says nothing
@@ -64,7 +199,6 @@ any_says w s to _ t = absurd (cc)
 
 only_has : (name : ℕ) → has (with_name nobody name) name ≡ true
 only_has name =
-    let is : slice_index (with_name nobody name) (place_of name) ≡ life_of name = get_or-set_same nobody (place_of name) (life_of name) 0 (omega arith) in
     grind (arith, nat_tests)
 
 was_sent : (w : World) (name : ℕ) (a : Act) (c : Cause) (p : Packet) → IsCause w name a c → c ≡ hears p → WasSentTo w name a p

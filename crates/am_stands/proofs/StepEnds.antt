@@ -1,5 +1,5 @@
 -- The end of a step: the refresh, what of it settles a send, and what the step noted.
-use Rattle.am_stands.proofs.StepWords.{nothing_viewed, member_stays, not-true, logged, stamp_itself, same_stamp, ◌≡◌, ◌≢◌, ⊎_elim, ℕ, ◌<◌, ◌≤◌, ◌==◌, ◌&&◌, not}
+use Rattle.am_stands.proofs.StepWords.{nothing_viewed, member_stays, not-true, logged, stamp_itself, same_stamp, ◌≡◌, ◌≢◌, either, ℕ, ◌<◌, ◌≤◌, ◌==◌, ◌&&◌, not}
 use Rattle.am_stands.proofs.StepWords.{true, false, List, [], ◌∷◌, ◌++◌, slice_get, Some, refl, sym, ap, ◌∙◌, subst, arith, nat_tests, Stamp, Entry, Outcome}
 use Rattle.am_stands.proofs.StepWords.{Rules, Log, told_by, members_of, stamp_lt, stamp_eq, no_stamp, view_of, key, view_small, Group, IsUp, Node, top, view}
 use Rattle.am_stands.proofs.StepWords.{image_of, is_member, has_log, has_departed, refresh, settle, Decided, World, group_after, views_after, split, and_both}
@@ -7,7 +7,7 @@ use Rattle.am_stands.proofs.StepWords.{Cause, settles, rests_refresh, leads_rest
 use Rattle.am_stands.proofs.StepWords.{FrontsStand, Grows, Moves, Stepping, then_moves, key_stamp, view_whole, old, whole, grows_trans, list_opens}
 use Rattle.am_stands.proofs.StepWords.{changes_go_on}
 use Rattle.am_play.specs.World.{decides}
-use Rattle.am_stands.proofs.{Worlds.growing, Refreshed.refresh_on, Grown.accepted_twice, StepGoing.Grown, StepGoing.as_before, StepGoing.by_reports}
+use Rattle.am_stands.proofs.{Worlds.growing, Refreshed.refresh_on, Courses.accepted_twice, StepGoing.Grown, StepGoing.as_before, StepGoing.by_reports}
 use Rattle.am_stands.proofs.{Deeds.further, Deeds.Seen, Deeds.none_new, Deeds.one_new, Deeds.Done}
 
 -- ---- the group list at the end
@@ -78,9 +78,6 @@ ended_on rules w name c o m x s sent d =
 
 -- ---- what was noted
 
-none_below : (a : Stamp) → stamp_lt a no_stamp ≡ false
-none_below a = grind (arith, nat_tests)
-
 -- a step that noted no view decided none
 none_decided : (rules : Rules) (w : World) (name : ℕ) (c : Cause) (m n : Node) (t : Group) (group : List Entry)
     → Stepping rules (further w group w.views) name c n t → (has_log m.status ≡ true → Goes m.core.log n.core.log)
@@ -94,13 +91,13 @@ none_decided rules w name c m n t group h goes log_ there noted is member own di
       log = mine.log_ ∙ log_ had;
       there = record { goes = mine.stopped ∙ h.runs; stays = mine.departed ∙ there (member_stays m.status member) };
     } in
-    ⊎_elim
-    (λ (same : SameView (image_of n) (image_of m)). (let z : stamp_eq (view m) (view n) ≡ true = ap (stamp_eq (view m)) same.view
-    ∙ stamp_itself (view m) in cc)) (λ (k : (stamp_lt (view m) (view n) ≡ true) × Stood n.core.log). (
+    either (goes had).view
+    (λ same. (let z : stamp_eq (view m) (view n) ≡ true = ap (stamp_eq (view m)) same.view
+    ∙ stamp_itself (view m) in cc)) (λ k. (
     let viewed : view_of (t.node name).list ≡ view n = view_whole (further w group w.views) name n (t.node name) mine in
     let g = whole rules (further w group w.views) name c n t h in
     let some : (t.node name).list ≢ [] = λ none. (let z : view n ≡ no_stamp = sym viewed ∙ ap view_of none ∙ nothing_viewed in
-    let low : stamp_lt (view m) (view n) ≡ false = ap (stamp_lt (view m)) z ∙ none_below (view m) in let up_ = k.0 in cc) in
+    let low : stamp_lt (view m) (view n) ≡ false = ap (stamp_lt (view m)) z ∙ (grind (arith, nat_tests)) in let up_ = k.0 in cc) in
     let opens = list_opens t name g.kept g.opens up some in
     let was = h.stands.views.decided (key (view n)) (ap (λ (u : Stamp). t.views.decided (key u)) (sym viewed) ∙ opens.decided) in
     let small : (view n).by < 256 = subst (λ (u : Stamp). u.by < 256) viewed (view_small (t.node name).list h.keeps.good) in
@@ -110,7 +107,6 @@ none_decided rules w name c m n t group h goes log_ there noted is member own di
     let low : stamp_lt (view m) (view n) ≡ false = ap (stamp_lt (view m)) (sym same) ∙ subst (λ (i : Node). stamp_lt (view i) was.view.stamp ≡ false)
     (ap w.nodes by ∙ is) d.low in
     cc))
-    (goes had).view
 
 pub views_end : (rules : Rules) (w : World) (name : ℕ) (c : Cause) (m n : Node) (t : Group) (group : List Entry) (views : List Decided)
     → Stepping rules (further w group views) name c n t → (has_log m.status ≡ true → Goes m.core.log n.core.log)

@@ -1,6 +1,6 @@
 -- The words of this crate's proofs, of the crates and definitions that they come from.
 pub use Rattle.am_stands.proofs.Words.{◌≡◌, List, ℕ, zero, suc, ◌+◌, ◌-◌, ◌<◌, ◌≤◌, ◌==◌, ◌||◌, not, nat_le, true, false, [], ◌∷◌, Some, slice_get, refl, sym}
-pub use Rattle.am_stands.proofs.Words.{ap, ◌∙◌, subst, arith, nat_lt, Bool, length, ◌⊎◌, inl, inr, ⊎_elim, max, ◌++◌, ◌≢◌, ◌&&◌, take, drop, append-nil}
+pub use Rattle.am_stands.proofs.Words.{ap, ◌∙◌, subst, arith, nat_lt, Bool, length, ◌⊎◌, inl, inr, either, max, ◌++◌, ◌≢◌, ◌&&◌, take, drop, append-nil}
 pub use Rattle.am_stands.proofs.Words.{Option, None, if◌then◌else◌, slice_index, not-true, nat_tests, length-take, All-nil, All-append, All-cons, All-head}
 pub use Rattle.am_stands.proofs.Words.{All-tail, list_any-append, list_any, All, Rules, MayFound, Stamp, Image, Entry, View, Leave, Data, Outcome, stamp_eq}
 pub use Rattle.am_stands.proofs.Words.{stamp_lt, no_stamp, Log, top_of, told_by, entry_at, after, members_of, split, and_both, size, place_of, life_of, has}
@@ -52,8 +52,8 @@ pub use Rattle.am_stands.proofs.{Keeping.may_move, Keeping.whole, Lasts.closing_
 pub use Rattle.am_stands.proofs.{Names.fronts_within, Names.lines_within, Stepped.changes_go_on, Learning.advanced, Learning.same_by, Learning.refresh_learns}
 pub use Rattle.am_stands.proofs.{Sending.nothing_viewed, Sending.sent_says, Ends.then_moves, Ends.accept_moves, Ends.taken_more, Ends.name_grows}
 pub use Rattle.am_stands.proofs.{Onward.grows_trans, Onward.grows_same, Onward.goes_on, Onward.group_whole, Opens.list_opens, Letters.letters_stay}
-pub use Rattle.am_stands.proofs.{Letters.trimmed_stays, Letters.all_stay, Letters.sequencer_stays, Others.keeps_in, Others.others_keep}
-pub use Rattle.am_stands.proofs.{Refreshing.refreshes_keep, Sent.Speaks, Sent.leading, Welcomes.not_above_key, Silent.departed_silent}
+pub use Rattle.am_stands.proofs.{Letters.trimmed_stays, Letters.all_stay, Letters.sequencer_stays, Stepped.keeps_in, Stepped.others_keep}
+pub use Rattle.am_stands.proofs.{Refreshing.refreshes_keep, Sent.Speaks, Sent.leading, Keeping.not_above_key, Silent.departed_silent}
 pub use Rattle.am_stands.proofs.Changes.{member_stays, is_up, looked_open, Unmoved, own_name, unmoved_refresh, others_same, others_fronts, same_name}
 pub use Rattle.am_stands.specs.{Steps.FrontsAfter, Letters.LetterSays, Running.Following, Running.LeadsOn, Running.StepsMove}
 pub use Rattle.am_stands.specs.Sending.{LeaderStands, NumbersStand, BallotStands, SendsStand, SendsNothing, as_before as began_before}

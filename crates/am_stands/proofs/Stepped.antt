@@ -1,12 +1,48 @@
 -- One change of a step after another, while none is a refresh: what is known within the step stays known.
-use Rattle.am_stands.proofs.Words.{◌≡◌, ⊎_elim, ℕ, ◌<◌, ◌≤◌, List, [], length, Some, slice_get, refl, sym, ap, subst, arith, append-nil, Outcome, Stamp}
-use Rattle.am_stands.proofs.Words.{Rules, view_small, Group, Node, Ballot, view, lowest_or_first, Verdict, Decided, World, last_view, Cause, Looks}
-use Rattle.am_stands.proofs.Words.{finds_itself_out, waits, fetches_from_best, finds_too_few, finds_no_room, decides, Change, refreshes, settles, begins_list}
-use Rattle.am_stands.proofs.Words.{looks, unchanged, changed, get_push, settle_is, stamp_of, change_named, Along, along_changes, CauseSent, change_sent}
-use Rattle.am_stands.proofs.Words.{StandsBut, within, Needs, after_change, after_look, SendsOnce, WasAsked, ChangesGoOn, IsPlain, Next, NodeKeeps, Stepping}
+use Rattle.am_stands.proofs.Words.{◌≡◌, either, ℕ, ◌<◌, ◌≤◌, List, [], length, Some, slice_get, refl, sym, ap, subst, arith, append-nil, Outcome, Stamp, Rules}
+use Rattle.am_stands.proofs.Words.{view_small, Group, Node, Ballot, view, lowest_or_first, Verdict, Decided, World, last_view, Cause, Looks, finds_itself_out}
+use Rattle.am_stands.proofs.Words.{waits, fetches_from_best, finds_too_few, finds_no_room, decides, Change, refreshes, settles, begins_list, looks, unchanged}
+use Rattle.am_stands.proofs.Words.{changed, get_push, settle_is, stamp_of, change_named, Along, along_changes, CauseSent, change_sent, StandsBut, within, Needs}
+use Rattle.am_stands.proofs.Words.{after_change, after_look, SendsOnce, WasAsked, ChangesGoOn, IsPlain, Next, NodeKeeps, Stepping, ◌++◌, Option, None, true}
+use Rattle.am_stands.proofs.Words.{◌∙◌, Begins, IsGood, is_stopped, NameStands, Reporting, LastStands, OwnTurn, OthersKeep}
 use Rattle.am_laws.specs.Changes.{closes}
-use Rattle.am_stands.proofs.{Others.keeps_in, Carried.changes_stand, Changes.own_name, Entries.view_whole, Keeping.may_move, Keeping.needs, Keeping.IsNoClose}
-use Rattle.am_stands.proofs.{Keeps.keeps_next, Letters.letters_stay, Onward.GoesOn, Onward.goes_on}
+use Rattle.am_stands.proofs.{Carried.changes_stand, Changes.own_name, Entries.view_whole, Keeping.may_move, Keeping.needs, Keeping.IsNoClose, Keeps.keeps_next}
+use Rattle.am_stands.proofs.{Letters.letters_stay, Onward.GoesOn, Onward.goes_on, Ends.taken_more, Keeps.trimmed_grow, Keeps.fetches_grow}
+use Rattle.am_stands.proofs.{Reporting.reporting_grow, Shown.votes_grow}
+use Rattle.am_chain.specs.Group as groups
+
+-- ---- what a node keeps, while another name does a step, or stops
+
+-- its list is the same, as its log is, and the group list only grows
+list_same : (w v : World) (i : ℕ) (x : Node) (a b : groups.Node) → NameStands w i x a → NameStands v i x b → Begins w.group v.group → b.list ≡ a.list
+list_same w v i x a b h k grows = k.list ∙ ap (λ l. l ++ x.core.log.entries) (taken_more x.core.log.start w.group v.group grows h.begins.within) ∙ sym h.list
+
+pub last_stays : (w v : World) (ballot : Option Ballot) → ((j : ℕ) → is_stopped w j ≡ true → is_stopped v j ≡ true) → LastStands w ballot → LastStands v ballot
+last_stays w v None stopped h = tt
+last_stays w v (Some b) stopped h = record { given = λ j is. stopped j (h.given j is); names = λ j vote is. h.names j vote is }
+
+-- in another world, where those that had stopped have stopped
+pub keeps_in : (w v : World) (s : Group) (i : ℕ) (x : Node) → ((j : ℕ) → is_stopped w j ≡ true → is_stopped v j ≡ true) → NodeKeeps w s i x → NodeKeeps v s i x
+keeps_in w v s i x stopped h = assumption (last_stays w v x.ballot stopped h.last)
+
+pub others_keep : OthersKeep
+others_keep w v s t i x stopped g h new grows k =
+    let same = list_same w v i x (s.node i) (t.node i) h new grows in
+    record {
+      good = subst IsGood (sym same) k.good;
+      ballots = record {
+        votes = votes_grow s t x.ballot g k.votes;
+        fetches = fetches_grow w s t x.ballot g k.fetches;
+        last = last_stays w v x.ballot stopped k.last;
+      };
+      opens = k.opens;
+      reports = subst (λ l. Reporting t.node l x.core.base x.reports) (sym same)
+          (reporting_grow s.node t.node (s.node i).list x.core.base x.reports (λ j. (g.each j).list) k.reports);
+      fresh = k.fresh;
+      trimmed = trimmed_grow w s t x.core.base g k.trimmed;
+      turn = subst (λ l. OwnTurn x.core.who l x.sends) (sym same) k.turn;
+      leaves = k.leaves;
+    }
 
 -- ---- the world after a change: with the views that it noted
 
@@ -35,10 +71,9 @@ looked_noted (waits a e) w small h = h
 looked_noted (fetches_from_best a e f) w small h = h
 looked_noted (finds_too_few a e) w small h = h
 looked_noted (finds_no_room a) w small h = h
-looked_noted {v = v} (decides may) w small h = λ k d is. ⊎_elim
-    (λ (z : slice_get w.views k ≡ Some d). h k d z)
-    (λ (z : (k ≡ length w.views) × (last_view v.node ≡ d)). subst (λ (q : Decided). q.stamp.by < 256) z.1 small)
-    (get_push w.views (last_view v.node) k d is)
+looked_noted {v = v} (decides may) w small h = λ k d is. either (get_push w.views (last_view v.node) k d is)
+    (λ z. h k d z)
+    (λ z. subst (λ (q : Decided). q.stamp.by < 256) z.1 small)
 
 noted_next : {c : Cause} {o : Outcome} {x y : Node} (z : Change c o x y) (w : World) → (view y).by < 256
     → ((k : ℕ) (d : Decided) → slice_get w.views k ≡ Some d → d.stamp.by < 256)

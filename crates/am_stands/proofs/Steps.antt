@@ -1,23 +1,84 @@
 -- Each step of a name of a run is moves of the group that stands for it.
-use Rattle.am_stands.proofs.StepWords.{same_group, member_stays, stamp_itself, same_stamp, ◌≡◌, ⊎_elim, Option, None, ℕ, ◌<◌, ◌≤◌, ◌==◌, not, nat_lt, true, false}
-use Rattle.am_stands.proofs.StepWords.{List, [], Some, slice_get, refl, sym, ap, ◌∙◌, subst, arith, All, nat_tests, Stamp, NodeEvent, Outcome, Entry, Leave, Rules}
-use Rattle.am_stands.proofs.StepWords.{MayFound, Log, told_by, size, stamp_lt, stamp_eq, Letter, Event, Group, Departed, Node, Ballot, view, acts, is_member}
-use Rattle.am_stands.proofs.StepWords.{others, is_sequencer, push_entry, has_departed, is_unfinished, Step, hears_member, refresh, settle, refresh_at_end, Decided}
-use Rattle.am_stands.proofs.StepWords.{World, is_stopped, group_after, views_after, run, with_step, happens, split, and_both, Cause, calls, hears, departs, Course}
-use Rattle.am_stands.proofs.StepWords.{nothing_yet, used_report, and_then, Deeds, plainly, looked, Ending, ends_so, let_go, closing, Effect, actor, IsCause, steps}
-use Rattle.am_stands.proofs.StepWords.{all_get, rests_refresh, rests_at_end, few_names, numbers_hold, not_above_itself, run_owned, Balloted, OpenBallot}
-use Rattle.am_stands.proofs.StepWords.{leads_member, changes_do, IsNoted, CauseSent, after_step, cause_sent, NameStands, StandsBut, within, nothing, none}
-use Rattle.am_stands.proofs.StepWords.{OwnDecided, Sender, ListBegins, began_before, just_begun, Stepping, Following, LeadsOn, StepsMove, then_moves}
-use Rattle.am_stands.proofs.StepWords.{departed_silent}
+use Rattle.am_stands.proofs.StepWords.{same_group, member_stays, stamp_itself, same_stamp, ◌≡◌, either, Option, None, ℕ, ◌<◌, ◌≤◌, ◌==◌, not, nat_lt, true}
+use Rattle.am_stands.proofs.StepWords.{false, List, [], Some, slice_get, refl, sym, ap, ◌∙◌, subst, arith, All, nat_tests, Stamp, NodeEvent, Outcome, Entry}
+use Rattle.am_stands.proofs.StepWords.{Leave, Rules, MayFound, Log, told_by, size, stamp_lt, stamp_eq, Letter, Event, Group, Departed, Node, Ballot, view, acts}
+use Rattle.am_stands.proofs.StepWords.{is_member, others, is_sequencer, push_entry, has_departed, is_unfinished, Step, hears_member, refresh, settle}
+use Rattle.am_stands.proofs.StepWords.{refresh_at_end, Decided, World, is_stopped, group_after, views_after, run, with_step, happens, split, and_both, Cause}
+use Rattle.am_stands.proofs.StepWords.{calls, hears, departs, Course, nothing_yet, used_report, and_then, Deeds, plainly, looked, Ending, ends_so, let_go}
+use Rattle.am_stands.proofs.StepWords.{closing, Effect, actor, IsCause, steps, all_get, rests_refresh, rests_at_end, few_names, numbers_hold, not_above_itself}
+use Rattle.am_stands.proofs.StepWords.{run_owned, Balloted, OpenBallot, leads_member, changes_do, IsNoted, CauseSent, after_step, cause_sent, NameStands}
+use Rattle.am_stands.proofs.StepWords.{StandsBut, within, nothing, none, OwnDecided, Sender, ListBegins, began_before, just_begun, Stepping, Following, LeadsOn}
+use Rattle.am_stands.proofs.StepWords.{StepsMove, then_moves, departed_silent, All-push, Record, chain_of, longer, Kept, Stands, CountsNames, ComesTo}
+use Rattle.am_stands.proofs.StepWords.{NeedsClose, after_closing, NamesNamed, Leads, MayMove, is_up, front_named, counts_names, close_stands, name_longer, kept}
+use Rattle.am_stands.proofs.StepWords.{old, may_move, closing_accepts, name_in, views_in}
 use Rattle.am_packet.specs.declared.packet.Packet.TheVariants as packet
 use Rattle.am_laws.specs.Letters as letters
 use Rattle.am_stands.proofs.Starting.{acting, recorded, stands_but, run_sent, stepping_begins}
-use Rattle.am_stands.proofs.{Statuses.departed_is, Owns.owns_next, Owns.run_owns, Worlds.growing, Worlds.same_stands, Refreshed.Fronted, Courses.brings_report}
-use Rattle.am_stands.proofs.{Courses.was_welcomed, Courses.both_ways, Courses.stays, Fronts.looked_fronts, StepGoing.Grown, StepGoing.as_before, StepGoing.by_reports}
-use Rattle.am_stands.proofs.{StepGoing.change_on, StepGoing.going_on, Deeds.further, Deeds.Seen, Deeds.none_new, Deeds.one_new, Deeds.Done, Deeds.deeds_on, StepEnds.AtEnd}
-use Rattle.am_stands.proofs.{StepEnds.ended_on, StepEnds.views_end, Based.Based, Based.as_it_was, Based.was_bare, Based.step_based, Based.bare_follows, StepLetters.Told}
-use Rattle.am_stands.proofs.{StepLetters.none_told, StepLetters.letters_told, Landing.at_end, Landing.landed, Landing.ended_stands, Landing.ended_keeps}
-use Rattle.am_stands.proofs.{Landing.landed_told, StepSilent.departed_quiet, Senders.sender, Departed.rests_course, Departed.rests_step, StepClosing.closes_on}
+use Rattle.am_stands.proofs.{Courses.departed_is, Owns.owns_next, Owns.run_owns, Worlds.growing, Worlds.same_stands, Refreshed.Fronted, Courses.brings_report}
+use Rattle.am_stands.proofs.{Courses.was_welcomed, Courses.both_ways, Courses.stays, StepGoing.looked_fronts, StepGoing.Grown, StepGoing.as_before}
+use Rattle.am_stands.proofs.{StepGoing.by_reports, StepGoing.change_on, StepGoing.going_on, Deeds.further, Deeds.Seen, Deeds.none_new, Deeds.one_new}
+use Rattle.am_stands.proofs.{Deeds.Done, Deeds.deeds_on, StepEnds.AtEnd, StepEnds.ended_on, StepEnds.views_end, Senders.Based, Senders.as_it_was}
+use Rattle.am_stands.proofs.{Senders.was_bare, Senders.step_based, Senders.bare_follows, StepLetters.Told, StepLetters.none_told, StepLetters.letters_told}
+use Rattle.am_stands.proofs.{Landing.at_end, Landing.landed, Landing.ended_stands, Landing.ended_keeps, Landing.landed_told, StepSilent.departed_quiet}
+use Rattle.am_stands.proofs.{Senders.sender, Departed.rests_course, Departed.rests_step, Refreshed.comes}
+
+-- ---- the last member's end, which is one move
+
+-- a world with other records
+module _ (rules : Rules) (w : World) (records : List Record) (name : ℕ) (c : Cause) (x : Node) (t : Group)
+    (h : Stepping rules (recorded w records) name c x t) (f : Fronted (recorded w records) name x t) (leads : is_sequencer x ≡ true) where
+  v : World
+  v = recorded w records
+
+  k : Kept t
+  k = kept rules (recorded w records) name c x t h
+
+  mine : NameStands (within (recorded w records) name x) name x (t.node name)
+  mine = old rules (recorded w records) name c x t h
+
+  here : NameStands (within w name x) name x (t.node name)
+  here = name_in (within (recorded w records) name x) (within w name x) name x (t.node name) refl refl mine
+
+  member : is_member x.status ≡ true
+  member = leads_member x leads
+
+  comes_here : ComesTo w t name f.heard x
+  comes_here =
+      let a = comes rules (recorded w records) name c x t h f member (member_stays x.status member) in
+      record { so = a.so; stands = here; group = a.group; runs = a.runs; acc = a.acc }
+
+  -- who counts, with its own Leave
+  counts : CountsNames (push_entry x (Leave x.core.who))
+  counts =
+      let e = Leave x.core.who in
+      let list = (t.node name).list in
+      let named = front_named list (chain_of t.views) ((k.each name).list (is_up (recorded w records) name x (t.node name) h.runs member mine)) h.group.named in
+      counts_names (within w name (push_entry x e)) name (push_entry x e) (longer (t.node name) e)
+      (name_longer w name x (push_entry x e) e (t.node name)
+      (record { log = refl; stays = refl; leaving = refl; promise = refl; ballot = refl; start = refl }) here)
+      (All-push NamesNamed list e named tt)
+
+  moves_here : MayMove w name c x t
+  moves_here =
+      let a = may_move rules (recorded w records) name c x t h in
+      record { so = a.so; runs = a.runs; noted = a.noted }
+
+  stands_here : StandsBut name (within w name x) t
+  stands_here =
+      let a = h.stands in
+      let u = within (recorded w records) name x in
+      record {
+        each = λ i few. name_in u (within w name x) i (u.nodes i) (t.node i) refl refl (a.each i few);
+        fronts = a.fronts;
+        views = views_in u (within w name x) t.views refl (λ stamp. refl) a.views;
+        group = a.group;
+      }
+
+  pub closes_on : (e : Event) (step : Step) → x.leaving ≡ true → nat_lt 0 (size (others x)) ≡ false → view (w.nodes name) ≡ view x → step.node ≡ after_closing x
+      → Leads (Stands (with_step w e name step)) t
+  closes_on e step leaves alone viewed is =
+      let needs = closing_accepts w t name f.heard x k comes_here h.few leads alone counts viewed in
+      close_stands w e name c x step t moves_here leads leaves is (subst (NeedsClose w t name) (sym is) needs) stands_here
 
 -- ---- by how a step ends
 
@@ -76,9 +137,6 @@ quiet_views : (views : List Decided) (m n : Node) → view n ≡ view m → view
 quiet_views views m n same =
     let t : stamp_eq (view m) (view n) ≡ true = ap (stamp_eq (view m)) same ∙ stamp_itself (view m) in
     split (is_member m.status) (λ a. split ((view n).by == n.core.who) (λ b. rw (a, b, t) refl) (λ b. rw (a, b) refl)) (λ a. rw a refl)
-
-stranger_views : (views : List Decided) (m n : Node) → is_member m.status ≡ false → views_after views m n ≡ views
-stranger_views views m n f = rw f refl
 
 seen_none : (w : World) (m n : Node) (views : List Decided) → view n ≡ view m → Seen w m n views → views ≡ w.views
 seen_none w m n views same (none_new is) = is
@@ -163,11 +221,8 @@ module _ (rules : Rules) (events : List Event) (e : Event) (c : Cause) (s : Grou
       let closed = h.gone name few left in
       let r = rests_step m x gone closed deeds in
       let k = (numbers_hold rules events).each name in
-      let low = r.low in
-      let told_ = k.told in
-      let acc_ = k.acc in
       let group_ : group_after w.group n ≡ w.group = same_group w.group n (omega arith) in
-      let views_ : views_after w.views m n ≡ w.views = stranger_views w.views m n (ap is_member gone) in
+      let views_ : views_after w.views m n ≡ w.views = rw (ap is_member gone) refl in
       let begun = recorded w (after_step w e step) in
       let stands = same_stands begun name m n s r.same (stands_but w (after_step w e step) name s h.stands) in
       let there : StandsBut name (within (at_end w e name step) name n) s =
@@ -208,8 +263,8 @@ module _ (rules : Rules) (events : List Event) (e : Event) (c : Cause) (s : Grou
         (λ vs. Stepping rules (further begun (group_after w.group n) vs) name c n a.to) same_views a.goes in
         let stands = ended_stands w e name step a.to goes.stands a.fronts in
         let land = landed rules w e name step s a.to h a.path stands (λ d. ended_keeps rules w e name c step a.to goes) (λ d. absurd (both_ways _ d there)) in
-        let sender_is : effect.sender ≡ n = is_sender n effect.sender effect.is (⊎_elim (λ (z : n.status ≡ effect.sender.status). z)
-        (λ (z : n.status ≡ Departed). absurd (both_ways _ (ap has_departed z) there)) effect.stays) in
+        let sender_is : effect.sender ≡ n = is_sender n effect.sender effect.is (either effect.stays (λ z. z)
+        (λ z. absurd (both_ways _ (ap has_departed z) there))) in
         let says = subst (λ k. All (letters.LetterSays m c k) sent) sender_is effect.letters in
         let after = owns_next rules w e v (steps c step runs cause effect) (run_owns rules events may) in
         let mine : NameStands v name n (a.to.node name) = subst (λ k. NameStands v name k (a.to.node name)) (is_node step) (stands.each name few) in

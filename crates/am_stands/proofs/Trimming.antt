@@ -23,7 +23,6 @@ trimmed_none s = record { accepted = omega arith; stored = λ j there stays memb
 least_low : (f : ℕ → ℕ) (names : List ℕ) (j : ℕ) → length names ≡ 16 → slice_index names (place_of j) ≡ life_of j
     → (x : ℕ) × (least_of f (names_of names) ≡ Some x) × (x ≤ f j)
 least_low f names j long at =
-    let place = mod16 j in
     let found = least_in f names 0 (place_of j) (omega arith) (omega arith) in
     let name : name_at (0 + place_of j) (slice_index names (place_of j)) ≡ j = omega arith in
     let is = ap f name in
@@ -57,9 +56,6 @@ module _ (v : World) (i : ℕ) (x y : Node) (s : Group) (h : Refreshed v i x y s
   trimmed_to : (to : ℕ) → least_taken y.reports (concerned_names y) ≡ Some to → x.core.base < to → to ≤ y.core.base → Trimmed s to
   trimmed_to to least up low =
       let long = long_all v i y (s.node i) h.speaks.stands in
-      let base = h.base in
-      let within_ = h.within in
-      let start_ = h.start in
       let accepted = h.accepted in
       let cut = begins_trans (begins_take to s.group) group_in in
       let size_ = length_take to s.group (omega arith) in
@@ -76,7 +72,6 @@ module _ (v : World) (i : ℕ) (x y : Node) (s : Group) (h : Refreshed v i x y s
             let found = least_low (λ name. (y.reports name).taken) (concerned_names y) j (concerned_long v i y (s.node i) h.speaks.stands h.start) at in
             let same : Some to ≡ Some found.0 = sym least ∙ found.1 in
             let is : to ≡ found.0 = cc in
-            let low_ = found.2 in
             let took = h.reports.taken j in
             let no_more = h.reports.within j in
             let has_it = h.reports.true_ j (h.names j in_) (record { upto = list; begins = begins_take_all list; from = number_low list; member = last })
@@ -131,7 +126,6 @@ votes_trim w name x b s k h learned known =
     let itself_ : (x.core.who == x.core.who) ≡ true = grind (arith, nat_tests) in
     let own_taken : f x.core.who ≡ x.core.taken = rw itself_ refl in
     let own_least : least ≡ own_low.0 = ap (λ o. unwrap_or o 0) own_low.1 in
-    let taken = known.taken in
     let accepted = known.accepted in
     let on_chain = (k.each name).list h.up in
     let cut = begins_trans (begins_take least s.group) k.group in

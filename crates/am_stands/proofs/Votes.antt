@@ -1,5 +1,5 @@
 -- A ballot that its coordinator decides may be decided by the group's own test.
-use Rattle.am_stands.proofs.Words.{eq-eqb, eqb-true, ◌≡◌, ◌⊎◌, inl, inr, ⊎_elim, ℕ, zero, suc, ◌+◌, ◌<◌, ◌≤◌, ◌==◌, ◌&&◌, ◌||◌, not, nat_lt, is_some, set, List}
+use Rattle.am_stands.proofs.Words.{eq-eqb, eqb-true, ◌≡◌, ◌⊎◌, inl, inr, either, ℕ, zero, suc, ◌+◌, ◌<◌, ◌≤◌, ◌==◌, ◌&&◌, ◌||◌, not, nat_lt, is_some, set, List}
 use Rattle.am_stands.proofs.Words.{[], ◌∷◌, ◌++◌, length, Bool, true, false, Option, Some, None, slice_index, refl, sym, ap, ◌∙◌, subst, arith, list_all}
 use Rattle.am_stands.proofs.Words.{list_any, range_with_len, nat_tests, Entry, Vote, Image, Stamp, IsSet, place_of, life_of, name_at, by_place, has, size}
 use Rattle.am_stands.proofs.Words.{is_within, slice_index-by_place, stamp_lt, stamp_eq, vote_lt, member_life, members_of, Begins, image_of, mem, view_of}
@@ -7,10 +7,11 @@ use Rattle.am_stands.proofs.Words.{resilience_of, key, key_lt, view_up, begins_t
 use Rattle.am_stands.proofs.Words.{view, members, name_where, those, View, append_assoc, length-map, mod16, is_view_of, trim_for, own_vote, best_of, need_of}
 use Rattle.am_stands.proofs.Words.{has_voted, is_waited_for, left_in, World, best_vote_is, split, has_size, has_those, set_those, equal_stamps, own_need}
 use Rattle.am_stands.proofs.Words.{those_at, viewed_members, those_some, those_long, NameStands, within, told_pushed, VoteTells, AllShown, AllVoted}
-use Rattle.am_stands.proofs.Words.{NeedsDecision, decided_view}
+use Rattle.am_stands.proofs.Words.{NeedsDecision, decided_view, stamp_itself, not-true}
 use Rattle.am_model.specs.Node as nodes
 use Rattle.am_laws.specs.Looks as looks
 use Rattle.am_stands.proofs.{Lines.HasViewOf, Lines.viewed_as, Changes.told_whole, Changes.long_all}
+use Rattle.std.proofs.lemmas.Bool.{or_right}
 
 -- ---- what is known of a ballot
 
@@ -41,12 +42,8 @@ vote_low own vote small few low =
     (λ t. inl (key_lt vote.view own.view few small t))
     (λ f.
     let same : vote.view ≡ own.view = equal_stamps vote.view own.view few small f a in
-    let t : stamp_eq own.view vote.view ≡ true = subst (λ u. stamp_eq own.view u ≡ true) (sym same) (itself own.view) in
-    let top : nat_lt own.top vote.top ≡ false = rw t at rest in
+    let t : stamp_eq own.view vote.view ≡ true = subst (λ u. stamp_eq own.view u ≡ true) (sym same) (stamp_itself own.view) in
     inr (ap key same, grind (arith, nat_tests)))
-  where
-    itself : (v : Stamp) → stamp_eq v v ≡ true
-    itself v = grind (arith, nat_tests)
 
 best_low : (x : Node) (b : Ballot) → ((best_of x b).by == x.core.who) ≡ true → b.votes x.core.who ≡ None → (view x).by < 256
     → ((j : ℕ) (vote : Vote) → b.votes j ≡ Some vote → vote.view.by < 256)
@@ -55,10 +52,9 @@ unfolding best_of
 best_low x b own none small views j vote few is =
     let best = best_vote_is b.votes x.core.who (own_vote x) small views in
     let by : (best_of x b).by ≡ x.core.who = grind (arith, nat_tests) in
-    let shown : (best_of x b).vote ≡ own_vote x = ⊎_elim
-    (λ (z : ((best_of x b).by ≡ x.core.who) × ((best_of x b).vote ≡ own_vote x)). z.1)
-    (λ (z : b.votes (best_of x b).by ≡ Some (best_of x b).vote). absurd (let y : b.votes x.core.who ≡ Some (best_of x b).vote = ap b.votes (sym by) ∙ z in cc))
-    best.shown in
+    let shown : (best_of x b).vote ≡ own_vote x = either best.shown
+    (λ z. z.1)
+    (λ z. absurd (let y : b.votes x.core.who ≡ Some (best_of x b).vote = ap b.votes (sym by) ∙ z in cc)) in
     ap (λ (v : Vote). vote_lt v vote) (sym shown) ∙ best.above_all j vote few is
 
 -- ---- who is needed
@@ -72,7 +68,6 @@ voted who j b waits stays other = split (is_some (b.votes j))
     (λ t. t)
     (λ f. absurd (
     let v : has_voted who b j ≡ false = rw (other, f) refl in
-    let z : (not (has_voted who b j) && not (b.given_up j)) ≡ true = rw (v, stays) refl in
     cc))
 
 pub not_waited : (x : Node) (b : Ballot) (j : ℕ) → nat_lt 0 (size (those (is_waited_for x.core.who b) (need_of x b))) ≡ false → has (need_of x b) j ≡ true
@@ -92,15 +87,10 @@ is_some_of : (test : ℕ → Bool) (names : List ℕ) (place : ℕ) → place < 
 is_some_of test names place low =
     let life = slice_index (those test names) place in
     let all = slice_index names place in
-    ⊎_elim
-    (λ (z : slice_index (those test names) place ≡ 0). (let t : (life == 0) ≡ true = grind (arith, nat_tests) in rw t refl))
-    (λ (z : slice_index (those test names) place ≡ slice_index names place). (let t : (life == all) ≡ true = grind (arith, nat_tests) in
-    or_true (life == 0) (life == all) t))
-    (those_some test names place low)
-  where
-    or_true : (a b : Bool) → b ≡ true → (a || b) ≡ true
-    or_true true b t = refl
-    or_true false b t = t
+    either (those_some test names place low)
+    (λ z. (let t : (life == 0) ≡ true = grind (arith, nat_tests) in rw t refl))
+    (λ z. (let t : (life == all) ≡ true = grind (arith, nat_tests) in
+    or_right (life == 0) (life == all) t))
 
 -- who is among those of a set that pass is in the set, and passes
 those_in : (test : ℕ → Bool) (names : List ℕ) (j : ℕ) → has (those test names) j ≡ true → (has names j ≡ true) × (test j ≡ true)
@@ -133,14 +123,12 @@ other_voted w name x b s j h may needed stays other =
     let order = vote_low (own_vote x) vote.0 h.view_ (h.views j vote.0 vote.1) low in
     let seen : key vote.0.view ≡ key (view_of tells.list) = ap key tells.view in
     let mine : key (view x) ≡ key (view_of a.list) = ap (λ (i : Image). key i.view) (sym told_is) in
-    let top = tells.top in
     record {
       vote = tells.list;
       is = ap (λ (u : Stamp). s.shown (key u) j) (sym stamp) ∙ tells.shown;
-      worse = ⊎_elim
-          (λ (z : key vote.0.view < key (view x)). inl (omega arith))
-          (λ (z : (key vote.0.view ≡ key (view x)) × (vote.0.top ≤ nodes.top x)). (let y = z.0 in let u = z.1 in inr (omega arith, omega arith)))
-          order;
+      worse = either order
+          (λ z. inl (omega arith))
+          (λ z. (let y = z.0 in let u = z.1 in inr (omega arith, omega arith)));
     }
 
 -- ---- the group's own test
@@ -213,9 +201,8 @@ view_members x b long need =
     let names = left_in b (need_of x b) in
     let before = trim_for x b names in
     let some : (place : ℕ) → place < 16 → (slice_index names place ≡ 0) ⊎ (slice_index names place ≡ slice_index (members x) place) =
-    λ place low. ⊎_elim (λ (z : slice_index names place ≡ 0). inl z)
-    (λ (z : slice_index names place ≡ slice_index (need_of x b) place). inr (z ∙ ap (λ set. slice_index set place) need))
-    (those_some test (need_of x b) place low) in
+    λ place low. either (those_some test (need_of x b) place low) (λ z. inl z)
+    (λ z. inr (z ∙ ap (λ set. slice_index set place) need)) in
     ap members_of (told_pushed before (View (decided_view x b names)))
     ∙ viewed_members (nodes.image_of x) (nodes.top x + 1) (decided_view x b names) long (omega arith) (those_long test (need_of x b)) some
 
@@ -226,11 +213,7 @@ all_voted w name x b s h may j in_ =
     let both = those_in (λ k. not (b.given_up k)) (need_of x b) j in_ in
     split (j == x.core.who)
     (λ t. inl (eqb-true j x.core.who t ∙ h.who))
-    (λ f. inr (other_voted w name x b s j h may both.0 (not_false_of (b.given_up j) both.1) f))
-  where
-    not_false_of : (b : Bool) → not b ≡ true → b ≡ false
-    not_false_of true h = absurd (cc)
-    not_false_of false h = refl
+    (λ f. inr (other_voted w name x b s j h may both.0 (not-true (b.given_up j) both.1) f))
 
 pub decision_needs : (w : World) (name : ℕ) (x : Node) (b : Ballot) (s : Group) → Kept s → BallotKnown w name x b s → x.core.promise.by ≡ name
     → IsSet (members x) → looks.MayDecide x b → NeedsDecision s name x b
@@ -253,11 +236,9 @@ decision_needs w name x b s k h own set may =
 pub best_shown : (w : World) (name : ℕ) (x : Node) (b : Ballot) (s : Group) → Kept s → BallotKnown w name x b s → ((best_of x b).by == x.core.who) ≡ false
     → nat_lt 0 (size (those (is_waited_for x.core.who b) (need_of x b))) ≡ false → AllShown s b.stamp (best_of x b).by
 unfolding best_of mem
-best_shown w name x b s k h other none = ⊎_elim
-    (λ (z : ((best_of x b).by ≡ x.core.who) × ((best_of x b).vote ≡ own_vote x)). absurd
-    (let t : ((best_of x b).by == x.core.who) ≡ true = eq-eqb (best_of x b).by x.core.who z.0 in cc))
-    (λ (z : b.votes (best_of x b).by ≡ Some (best_of x b).vote).
-    (let best = h.votes (best_of x b).by (best_of x b).vote z in
+best_shown w name x b s k h other none = either (best_vote_is b.votes x.core.who (own_vote x) h.view_ h.views).shown
+    (λ z. absurd (let t : ((best_of x b).by == x.core.who) ≡ true = eq-eqb (best_of x b).by x.core.who z.0 in cc))
+    (λ z. (let best = h.votes (best_of x b).by (best_of x b).vote z in
     let by : b.stamp.by ≡ name = ap (λ (u : Stamp). u.by) (h.stamp ∙ sym h.stands.promise) ∙ ((k.each name).ballot h.up h.ballot).by in
     record {
       list = best.list;
@@ -271,4 +252,3 @@ best_shown w name x b s k h other none = ⊎_elim
           let tells = h.votes j vote.0 vote.1 in
           inr (tells.list, tells.shown)));
     }))
-    (best_vote_is b.votes x.core.who (own_vote x) h.view_ h.views).shown

@@ -115,7 +115,6 @@ welcome_to v i n s name h t f low kept is trimmed =
     let row : join ≡ (row_at (image_of a.list) (place_of name)).joined =
     ap (λ (r : Row). r.joined) (ap (λ (g : Image). row_of g name) (sym (told_all v i n a h.stands)) ∙ member_row a.list name is.member) in
     let joins : JoinsAt a.list name join = subst (JoinsAt a.list name) (sym row) (joins_at a.list name good is.member) in
-    let accepted = trimmed.accepted in
     let long = length_take n.core.base s.group trimmed.accepted in
     let front = length_take join a.list joins.within in
     let cut : Begins (take n.core.base s.group) a.list = begins_trans (begins_take n.core.base s.group) begins in

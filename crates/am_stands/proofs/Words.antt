@@ -1,6 +1,6 @@
 -- The words of this crate's proofs, of the crates and definitions that they come from.
 pub use Rattle.am_laws.proofs.Words.{◌≡◌, ℕ, ◌+◌, ◌-◌, ◌<◌, ◌≤◌, ◌==◌, ◌&&◌, nat_le, Bool, true, false, List, [], length, take, refl, sym, ap, ◌∙◌, subst}
-pub use Rattle.am_laws.proofs.Words.{arith, ◌∷◌, slice_index, ◌⊎◌, inl, inr, ⊎_elim, ◌||◌, ◌++◌, Some, nat_lt, ◌≢◌, not, Option, slice_get, None, zero, suc}
+pub use Rattle.am_laws.proofs.Words.{arith, ◌∷◌, slice_index, ◌⊎◌, inl, inr, ◌||◌, ◌++◌, Some, nat_lt, ◌≢◌, not, Option, slice_get, None, zero, suc}
 pub use Rattle.am_laws.proofs.Words.{if◌then◌else◌, max, set, get_or, unwrap_or, min, drop, map, option_map, cases_lt, nat_tests, length-map, get_or-replicate}
 pub use Rattle.am_laws.proofs.Words.{length-take, length-set, All-head, All-tail, All-nil, All-cons, All-append, All-take, list_any-append, list_any}
 pub use Rattle.am_laws.proofs.Words.{range_with_len, All, Entry, Report, Image, has, names_of, place_of, life_of, IsSet, name_at, size, names_from, rank_of}
@@ -29,6 +29,7 @@ pub use Rattle.am_laws.proofs.EffectWords.{Ok, Err, is_some, not-true, eq-eqb, s
 pub use Rattle.am_laws.proofs.EffectWords.{item_at, has_departed, only_name, has_own_leave, is_waited_for, may_fetch, Departed, read_row, asks_to_leave}
 pub use Rattle.am_laws.proofs.EffectWords.{MayStore, overtaken, MayReport, BringsReport, with_send, by_ack, by_nack, by_leave_ask, BringsFronts, with_entry}
 pub use Rattle.am_laws.proofs.EffectWords.{with_number, alone, HasLearned, leads, decided, ack, nack, leave_ask}
+pub use borrow.Enum.Arm.{by_way as either}
 pub use Rattle.std.{proofs.Common.count_by, proofs.Common.append-nil, proofs.Math.Bool.and-false, proofs.Math.Seq.take-append-add}
 pub use Rattle.std.{proofs.Math.Seq.drop-append-add, proofs.Math.Seq.drop-append_seam, proofs.lemmas.Bool.leb-true, proofs.lemmas.Bool.eqb-false}
 pub use Rattle.std.{proofs.lemmas.Bool.eqb-true, proofs.lemmas.Grind.flat_map-append, specs.List.list_all}

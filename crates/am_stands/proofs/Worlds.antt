@@ -39,14 +39,7 @@ abbrev pub learned : groups.Node → ℕ → ℕ → groups.Node
 learned a told acc = record a { told = told; acc = acc }
 
 name_learned : (v : World) (i : ℕ) (m : Node) (a : groups.Node) (told acc : ℕ) → NameStands v i m a → NameStands v i m (learned a told acc)
-name_learned v i m a told acc h = record {
-  begins = h.begins;
-  list = h.list;
-  flags = h.flags;
-  promise = h.promise;
-  ballot = h.ballot;
-  start = h.start;
-}
+name_learned v i m a told acc h = assumption
 
 pub learned_stands : (w : World) (name : ℕ) (x y : Node) (s : Group) (told acc : ℕ) → Unmoved x y → StandsBut name (within w name x) s
     → StandsBut name (within w name y) (with_node s name (learned (s.node name) told acc))

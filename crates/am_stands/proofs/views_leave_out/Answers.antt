@@ -1,4 +1,4 @@
-use Rattle.am_stands.proofs.{LeftOut.runs_leave_out, Rounds.runs_have_rounds}
+use Rattle.am_stands.proofs.{LeftOut.runs_leave_out, LeftOut.runs_have_rounds}
 use Rattle.am_stands.proofs.views_leave_out.Goals as goal
 
 pub returns-clause-rounds : goal.returns-clause-rounds
