@@ -1,10 +1,10 @@
 -- A node and the same node with all of a list: what they tell, and what the refresh makes of them.
-use Rattle.am_model.proofs.EndWords.{◌≡◌, ℕ, ◌+◌, ◌-◌, ◌<◌, ◌≤◌, List, [], ◌∷◌, length-append, drop, take, position, refl, sym, ◌∙◌, ap, arith, Option, Some}
-use Rattle.am_model.proofs.EndWords.{None, true, false, ◌&&◌, ◌==◌, drop-drop, Entry, Image, Log, told_by, image_at, entry_at, with_entry, stamp_eq, IsEnd}
-use Rattle.am_model.proofs.EndWords.{IsInOrder, CoreState, whole, accept, pass_over, since_accepted, split, end-top, end-told, end-image, end-entry, end-push}
-use Rattle.am_model.proofs.EndWords.{since_whole, least_taken, Led, own_report, tell, go_on, let_go, base_after, go_up, whole_led, go_up_whole, OwnSend, Node}
-use Rattle.am_model.proofs.EndWords.{is_member, top, image_of, is_sequencer, waiting, entries_above, push_entry, trim_up_to, advance, lead, refresh, led_of}
-use Rattle.am_model.proofs.EndWords.{is_data_of, accepted_at, settle_at, settle_waiting, settle, refresh_at_end, with_log, IsEndOf, IsOrdered}
+use Rattle.am_model.proofs.EndWords.{[], ◌≡◌, ℕ, ◌+◌, ◌-◌, ◌<◌, ◌≤◌, List, ◌∷◌, length-append, drop, take, position, refl, sym, ◌∙◌, ap, arith, Option, Some, None}
+use Rattle.am_model.proofs.EndWords.{true, false, ◌&&◌, ◌==◌, drop-drop, Entry, Image, Log, told_by, image_at, entry_at, with_entry, stamp_eq, IsEnd, IsInOrder}
+use Rattle.am_model.proofs.EndWords.{CoreState, whole, accept, pass_over, since_accepted, split, end-top, end-told, end-image, end-entry, end-push, since_whole}
+use Rattle.am_model.proofs.EndWords.{least_taken, Led, own_report, tell, go_on, let_go, base_after, go_up, whole_led, go_up_whole, OwnSend, Node, is_member}
+use Rattle.am_model.proofs.EndWords.{top, image_of, is_sequencer, waiting, entries_above, push_entry, trim_up_to, advance, lead, refresh, led_of, is_data_of}
+use Rattle.am_model.proofs.EndWords.{accepted_at, settle_at, settle_waiting, settle, refresh_at_end, with_log, IsEndOf, IsOrdered}
 
 -- the node keeps an end of this list, and its numbers stand in their order
 pub record Keeps (all : Log) (m : Node) : Type 0 where
