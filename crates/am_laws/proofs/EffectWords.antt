@@ -70,3 +70,9 @@ pub use Rattle.am_laws.specs.Letters.{just_joined, asks_again, goes_on, leads}
 pub use Rattle.am_laws.specs.Effects.{Answers, Effect, StepsHaveEffects, HearingHasEffects, RefusingHasEffects}
 pub use Rattle.am_laws.specs.Events.{actor, WasSentTo, IsCall, send, done, take, join, state, leave, reset, ask, tick, IsCause, Happens, idles, stops}
 pub use Rattle.am_laws.specs.Events.{returns, steps, EventsHaveEffects}
+pub use Rattle.am_base.proofs.Found.{find_test}
+pub use Rattle.am_model.specs.Emit.{hand_over_of}
+pub use Rattle.am_laws.specs.Letters.{hand_over}
+pub use Rattle.am_model.specs.Ballots.{decided_view}
+pub use Rattle.am_base.specs.declared.entry.GroupView.{GroupView}
+pub use Rattle.am_laws.specs.Looks.{by_hand_over, was_handed}

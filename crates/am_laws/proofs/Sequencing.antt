@@ -1,19 +1,20 @@
 -- The effects of what the sequencer hears.
-use Rattle.am_laws.proofs.EffectWords.{not-false, ◌≡◌, ◌≢◌, ℕ, ◌+◌, ◌<◌, ◌≤◌, ◌==◌, ◌&&◌, ◌||◌, nat_lt, nat_le, not, Bool, true, false, List, [], ◌∷◌, refl, sym}
+use Rattle.am_laws.proofs.EffectWords.{[], not-false, ◌≡◌, ◌≢◌, ℕ, ◌+◌, ◌<◌, ◌≤◌, ◌==◌, ◌&&◌, ◌||◌, nat_lt, nat_le, not, Bool, true, false, List, ◌∷◌, refl, sym}
 use Rattle.am_laws.proofs.EffectWords.{ap, ◌∙◌, length-append, arith, nat_tests, Report, Row, Stamp, Data, Join, Leave, Outcome, life_of, stamp_eq, Log, top_of}
 use Rattle.am_laws.proofs.EffectWords.{fits, at_place, row_of, told_by, Node, top, image_of, view, others, only_name, is_sequencer, has_room, report_fits}
 use Rattle.am_laws.proofs.EffectWords.{with_report, push_entry, Plan, quiet, polling, numbering, bcast_of, hold_of, welcome_of, gone_of, row_at, is_unknown}
-use Rattle.am_laws.proofs.EffectWords.{take_report, answer_request, request_row, if_risen, ack_row, serve_again, nack_row, with_admitted, number_join}
-use Rattle.am_laws.proofs.EffectWords.{join_ask_row, may_go, and_gone, counts_report, leave_ask_row, split, and_both, Cause, hears, BringsSend, BringsReport}
-use Rattle.am_laws.proofs.EffectWords.{with_send, by_ack, by_nack, by_leave_ask, MayReport, takes_report, admits, numbers, asked_send, asked_join, asked_leave}
-use Rattle.am_laws.proofs.EffectWords.{Course, nothing_yet, used_report, and_then, EntryStands, bcast, order, hold, welcome, gone, just_joined, asks_again, Answers}
-use Rattle.am_model.specs.Joining.{asks_to_join, let_go, asks_to_leave}
+use Rattle.am_laws.proofs.EffectWords.{take_report, answer_request, request_row, if_risen, ack_row, serve_again, nack_row, with_admitted, number_join, may_go}
+use Rattle.am_laws.proofs.EffectWords.{and_gone, counts_report, leave_ask_row, split, and_both, Cause, hears, BringsSend, BringsReport, with_send, by_ack}
+use Rattle.am_laws.proofs.EffectWords.{by_nack, by_leave_ask, MayReport, takes_report, admits, numbers, asked_send, asked_join, asked_leave, Course}
+use Rattle.am_laws.proofs.EffectWords.{nothing_yet, used_report, and_then, EntryStands, bcast, order, hold, welcome, gone, just_joined, asks_again, Answers}
 use Rattle.am_base.specs.declared.outcome.Outcome.TheVariants as said
 use Rattle.am_packet.specs.declared.packet.Packet.TheVariants as packet
+use Rattle.am_model.specs.Joining.{asks_to_join, let_go, asks_to_leave}
 use Rattle.am_laws.proofs.Plans.{Comes, Does, HasEffect, effect_if, effect_of, does_quiet, does_saying, does_polling, does_telling, does_and, does_where}
 use Rattle.am_laws.proofs.Plans.{does_numbering, rows}
-use Rattle.am_laws.proofs.{Tests.or_first, Tests.or_second, Tests.and_first, Tests.and_second, Tests.then_other, Rests.RestsWhole, Rests.rests_refresh}
-use Rattle.am_laws.proofs.{Rests.leads_rests, Rests.stands_rests, Says.leads_pushed, Says.stands_pushed, Says.says_served}
+use Rattle.am_laws.proofs.Tests.{or_first, or_second, and_first, and_second, then_other}
+use Rattle.am_laws.proofs.Rests.{RestsWhole, rests_refresh, leads_rests, stands_rests}
+use Rattle.am_laws.proofs.Says.{leads_pushed, stands_pushed, says_served}
 
 -- ---- reports
 
@@ -163,7 +164,7 @@ fit_is : (m : Node) (s : ℕ) → fits (image_of m) (Join s) ≡ false
 unfolding fits
 fit_is m s f = f
 
-row_asks_to_join : (m : Node) (s : ℕ) (v : Stamp) (q : Row) → at_place (image_of m) s ≡ q → is_sequencer m ≡ true → (s == m.core.who) ≡ false
+pub row_asks_to_join : (m : Node) (s : ℕ) (v : Stamp) (q : Row) → at_place (image_of m) s ≡ q → is_sequencer m ≡ true → (s == m.core.who) ≡ false
     → HasEffect m (hears (packet.JoinAsk s v)) (asks_to_join m s q)
 row_asks_to_join m s v q is leads other =
     let c = hears (packet.JoinAsk s v) in
@@ -187,11 +188,6 @@ row_asks_to_join m s v q is leads other =
     let behind : (m.reports s).stored < q.joined = grind (arith, nat_tests) in
     effect_of m c _ (does_telling RestsWhole m c m (said.Welcomed q.joined) (only_name s) (λ n. welcome_of n s) nothing_yet (λ n r. tt)
     (λ n r. welcome s (leads_rests r.rests ∙ leads) (asks_again r.log (rw is (k.0)) (rw is (k.1)) (rw is (k.2)) (rw is accepted) (rw is behind))))))))))
-
-pub row_join_ask : (m : Node) (s : ℕ) (v : Stamp) → is_sequencer m ≡ true → (s == m.core.who) ≡ false
-    → HasEffect m (hears (packet.JoinAsk s v)) (join_ask_row m s)
-unfolding join_ask_row
-row_join_ask m s v leads other = row_asks_to_join m s v (at_place (image_of m) s) refl leads other
 
 -- ---- leaving
 

@@ -1,18 +1,7 @@
 -- The best vote is the greatest.
-use Rattle.std.proofs.lemmas.Bool.{lt-ltb}
-use Rattle.std.proofs.lemmas.Bool.{eq-eqb}
-use Rattle.std.proofs.lemmas.Bool.{ltb-true}
-use Rattle.std.proofs.lemmas.Bool.{eqb-true}
-use Rattle.std.proofs.Common.{◌≡◌, ℕ, zero, suc, ◌+◌, ◌*◌, ◌/◌, ◌%◌, ◌<◌, ◌≤◌, ◌⊎◌, Bool, true, false, ◌&&◌, ◌||◌, ◌==◌, nat_lt, Option, Some, None, refl, sym}
-use Rattle.std.proofs.Common.{ap, subst, map, ◌∙◌, inl, inr, arith}
-use Rattle.std.specs.List.{range_with_len}
-use Rattle.std.proofs.lemmas.Bool.{cases_lt}
-use Rattle.std.proofs.lemmas.Bool.Decides.{nat_tests}
-use Rattle.am_base.specs.declared.image.Vote.{Vote}
-use Rattle.am_base.specs.Names.{rank_of, name_lt}
-use Rattle.am_base.specs.Votes.{Shown, vote_lt, better_of, best_from, best_vote}
-use Rattle.am_meaning.specs.Laws.{IsBestVote, BestVoteIsGreatest}
-use Rattle.am_base.proofs.Greatest.{split}
+use Rattle.am_meaning.proofs.Words.{lt-ltb, eq-eqb, ltb-true, eqb-true, ◌≡◌, ℕ, zero, suc, ◌+◌, ◌*◌, ◌/◌, ◌%◌, ◌<◌, ◌≤◌, ◌⊎◌, Bool, true, false, ◌&&◌, ◌||◌}
+use Rattle.am_meaning.proofs.Words.{◌==◌, nat_lt, Option, Some, None, refl, sym, ap, subst, map, ◌∙◌, inl, inr, arith, range_with_len, cases_lt, nat_tests}
+use Rattle.am_meaning.proofs.Words.{Vote, rank_of, name_lt, Shown, vote_lt, better_of, best_from, best_vote, IsBestVote, BestVoteIsGreatest, split}
 
 -- ---- the order of votes, as facts
 

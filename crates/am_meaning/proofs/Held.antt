@@ -1,26 +1,13 @@
 -- When a send is held.
-use Rattle.am_base.proofs.Greatest.{and_both}
-use Rattle.std.proofs.Common.{◌≡◌, ℕ, ◌+◌, Bool, true, false, not, if◌then◌else◌, nat_lt, nat_le, List, Option, Some, None, refl, sym, ap, ◌∙◌, arith}
-use Rattle.std.proofs.lemmas.Bool.Decides.{nat_tests}
-use Rattle.am_base.specs.declared.image.Report.{Report}
-use Rattle.am_base.specs.declared.name.Stamp.{Stamp}
-use Rattle.am_base.specs.declared.entry.Entry.TheVariants.{Data}
-use Rattle.am_base.specs.declared.outcome.Outcome.{Outcome}
+use Rattle.am_meaning.proofs.Words.{and_both, ◌≡◌, ℕ, ◌+◌, Bool, true, false, not, if◌then◌else◌, nat_lt, nat_le, List, Option, Some, None, refl, sym, ap, ◌∙◌}
+use Rattle.am_meaning.proofs.Words.{arith, nat_tests, Report, Stamp, Data, Outcome, Log, row_of, told_by, top_of, with_entry, CoreState, accept, pass_over}
+use Rattle.am_meaning.proofs.Words.{own_report, tell, go_on, let_go, OwnSend, Node, top, report_fits, has_room, is_sequencer, only_name, waiting, push_entry}
+use Rattle.am_meaning.proofs.Words.{with_report, Plan, quiet, polling, and_telling, hold_of, finish, refresh, lead, advance, accepted_at, settle_at}
+use Rattle.am_meaning.proofs.Words.{settle_waiting, settle, refresh_at_end, row_at, is_unknown, take_report, number_data, answer_request, request_row}
+use Rattle.am_meaning.proofs.Words.{hears_in_view, hears_as_sequencer, hear_row, hear, send_packet, IsNextSend, IsHeld, HeldExactly, IsTurnedDown, elsewhere}
+use Rattle.am_meaning.proofs.Words.{stranger, unfit, again, early, IsAnswered, numbered, held, turned_down, SendsAnswered, split}
 use Rattle.am_base.specs.declared.outcome.Outcome.TheVariants as said
-use Rattle.am_base.specs.Lists.{Log, row_of, told_by, top_of, with_entry}
-use Rattle.am_state.specs.Cores.{CoreState, accept, pass_over}
-use Rattle.am_state.specs.Refresh.{own_report, tell, go_on, let_go}
-use Rattle.am_state.specs.declared.sender.OwnSend.{OwnSend}
-use Rattle.am_model.specs.Node.{Node, top, report_fits, has_room, is_sequencer, only_name, waiting, push_entry, with_report}
-use Rattle.am_model.specs.Emit.{Plan, quiet, polling, and_telling, hold_of, finish}
-use Rattle.am_model.specs.Refresh.{refresh, lead, advance, accepted_at, settle_at, settle_waiting, settle, refresh_at_end}
-use Rattle.am_model.specs.Sequencing.{row_at, is_unknown, take_report, number_data, answer_request, request_row}
-use Rattle.am_model.specs.Hearing.{hears_in_view, hears_as_sequencer, hear_row}
-use Rattle.am_model.specs.Step.{hear}
-use Rattle.am_meaning.specs.Laws.{send_packet, IsNextSend, IsHeld, HeldExactly, IsTurnedDown, elsewhere, stranger, unfit, again, early, IsAnswered, numbered}
-use Rattle.am_meaning.specs.Laws.{held, turned_down, SendsAnswered}
-use Rattle.am_base.proofs.Greatest.{split}
-use Rattle.am_meaning.proofs.Refreshes.{refresh_twice}
+use Rattle.am_meaning.proofs.{Refreshes.refresh_twice}
 
 -- the refresh leaves the list
 lead_log : (m : Node) → (lead m).core.log ≡ m.core.log

@@ -1,19 +1,10 @@
 -- A second refresh in a row changes nothing.
-use Rattle.std.proofs.Common.{◌≡◌, ℕ, ◌-◌, ◌≤◌, max, min, true, ◌==◌, nat_lt, nat_le, if◌then◌else◌, Option, Some, None, refl, sym, ap, subst, ◌∙◌, inl, inr}
-use Rattle.std.proofs.Common.{arith}
-use Rattle.std.proofs.lemmas.Bool.{cases_lt}
-use Rattle.std.proofs.lemmas.Bool.Decides.{nat_tests}
-use Rattle.am_base.specs.declared.image.Report.{Report}
-use Rattle.am_base.specs.Lists.{Log, top_of, told_by}
-use Rattle.am_base.specs.Fronts.{is_held, is_satisfied, accept_front}
+use Rattle.am_meaning.proofs.Words.{◌≡◌, ℕ, ◌-◌, ◌≤◌, max, min, true, ◌==◌, nat_lt, nat_le, if◌then◌else◌, Option, Some, None, refl, sym, ap, subst, ◌∙◌, inl}
+use Rattle.am_meaning.proofs.Words.{inr, arith, cases_lt, nat_tests, Report, Log, top_of, told_by, is_held, is_satisfied, accept_front, CoreState, accept}
+use Rattle.am_meaning.proofs.Words.{pass_over, raise_report, least_taken, base_after, own_report, tell, go_on, let_go, Node, top, is_sequencer, report_of}
+use Rattle.am_meaning.proofs.Words.{set_at, with_report, concerned_names, advance, lead, refresh, IsGreatestFront, RefreshOnce, split, and_both}
 use Rattle.am_state.specs.Cores as cores
-use Rattle.am_state.specs.Cores.{CoreState, accept, pass_over}
-use Rattle.am_state.specs.Reports.{raise_report, least_taken}
-use Rattle.am_state.specs.Refresh.{base_after, own_report, tell, go_on, let_go}
-use Rattle.am_model.specs.Node.{Node, top, is_sequencer, report_of, set_at, with_report}
-use Rattle.am_model.specs.Refresh.{concerned_names, advance, lead, refresh}
-use Rattle.am_meaning.specs.Laws.{IsGreatestFront, RefreshOnce}
-use Rattle.am_base.proofs.Greatest.{split, and_both}
+use Rattle.am_state.proofs.Refreshes.{base_again as trim_again}
 use Rattle.am_meaning.proofs.AcceptFronts.{above_view, below_view, one_front, accept_front_is}
 
 -- ---- the parts of a refresh
@@ -48,10 +39,6 @@ pass_again k a s = split (nat_lt k (s - 1))
     (λ u. rw u (omega arith))
     (λ u. rw u refl)))
     (λ f. rw (f, f) refl)
-
-trim_again : (least : Option ℕ) (b : ℕ) → base_after least (base_after least b) ≡ base_after least b
-trim_again None b = refl
-trim_again (Some n) b = omega arith
 
 -- ---- reports
 

@@ -1,26 +1,12 @@
 -- The lives of a place only grow.
-use Rattle.std.proofs.Common.{◌≡◌, ◌⊎◌, ⊎_elim, inl, inr, ℕ, zero, suc, ◌+◌, ◌-◌, ◌<◌, ◌≤◌, max, List, [], ◌∷◌, length, take, drop, refl, sym, ◌∙◌, ap, subst}
-use Rattle.std.proofs.Common.{Bool, true, false, ◌==◌, ◌&&◌, ◌||◌, nat_lt, Some, slice_get, slice_index, slice_index_or, arith}
-use Rattle.std.specs.List.{list_all}
-use Rattle.std.proofs.lemmas.List.{get_or-map, length-map, length-set, get_or-set_other}
-use Rattle.std.proofs.lemmas.Grind.{get_or-set_at}
-use Rattle.std.proofs.Math.Nat.{eq-or-lt_of_le}
-use Rattle.std.proofs.lemmas.Bool.Decides.{nat_tests, eqb_tells}
-use Rattle.am_base.specs.declared.image.Row.{Row}
-use Rattle.am_base.specs.declared.image.Image.{Image}
-use Rattle.am_base.specs.declared.entry.Entry.{Entry}
-use Rattle.am_base.specs.declared.entry.Entry.TheVariants.{Data, Join, Leave, View}
-use Rattle.am_base.specs.Names.{place_of, life_of, has, union_of}
-use Rattle.am_base.specs.Stamps.{stamp_eq, no_stamp}
-use Rattle.am_base.specs.Lists.{Log, blank_row, is_blank, is_blank_row, at_place, member_life, members_of, members_at, row_after_view, with_row, after, fits}
-use Rattle.am_base.specs.Lists.{fold, AllFit, image_at, told_by, top_of}
-use Rattle.am_base.proofs.Places.{get_or-by_place, slice_index-by_place, length-by_place, by_place_all}
-use Rattle.am_base.specs.Limits.{IsImage}
-use Rattle.am_state.specs.Kept.{IsKept, above}
-use Rattle.am_state.specs.Cores.{unions}
-use Rattle.am_state.proofs.Folds.{split, AllFit-drop}
+use Rattle.am_state.proofs.Words.{◌≡◌, ◌⊎◌, ⊎_elim, inl, inr, ℕ, zero, suc, ◌+◌, ◌-◌, ◌<◌, ◌≤◌, max, List, [], ◌∷◌, length, take, drop, refl, sym, ◌∙◌, ap}
+use Rattle.am_state.proofs.Words.{subst, Bool, true, false, ◌==◌, ◌&&◌, ◌||◌, nat_lt, Some, slice_get, slice_index, slice_index_or, arith, list_all, get_or-map}
+use Rattle.am_state.proofs.Words.{length-map, length-set, get_or-set_other, get_or-set_at, eq-or-lt_of_le, nat_tests, eqb_tells, Row, Image, Entry, Data, Join}
+use Rattle.am_state.proofs.Words.{Leave, View, place_of, life_of, has, union_of, stamp_eq, no_stamp, Log, blank_row, is_blank, is_blank_row, at_place}
+use Rattle.am_state.proofs.Words.{member_life, members_of, members_at, row_after_view, with_row, after, fits, fold, AllFit, image_at, told_by, top_of}
+use Rattle.am_state.proofs.Words.{get_or-by_place, slice_index-by_place, length-by_place, by_place_all, IsImage, IsKept, above, unions}
 use Rattle.am_state.proofs.Ends.{end-self, end-above, end-told}
-use Rattle.am_state.proofs.CoreLaws.{unions_more}
+use Rattle.am_state.proofs.{Folds.split, Folds.AllFit-drop, CoreLaws.unions_more}
 
 abbrev pub row_at : Image → ℕ → Row
 row_at image place = slice_index_or image.rows place blank_row

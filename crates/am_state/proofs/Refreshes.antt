@@ -1,21 +1,11 @@
 -- A refresh, on the end of a list and on all of it, once and twice.
-use Rattle.std.proofs.Common.{◌≡◌, ℕ, ◌-◌, ◌<◌, ◌≤◌, max, min, List, refl, sym, ◌∙◌, ap, subst, true, ◌==◌, nat_lt, if◌then◌else◌, Option, Some, None, arith}
-use Rattle.std.proofs.lemmas.Bool.Decides.{nat_tests}
-use Rattle.am_base.specs.declared.image.Report.{Report}
-use Rattle.am_base.specs.Lists.{Log, top_of, told_by}
-use Rattle.am_base.specs.Fronts.{accept_front, is_held}
-use Rattle.am_state.specs.Kept.{IsKept}
-use Rattle.am_state.specs.Cores.{CoreState, Stands, Keeps, whole, accept, pass_over, advance, trim_to, trim_list, unions, since_accepted}
-use Rattle.am_state.proofs.Folds.{split}
-use Rattle.am_state.proofs.Ends.{end-top}
-use Rattle.am_state.proofs.CoreLaws.{advance_whole, since_whole}
-use Rattle.am_state.specs.Reports.{reports_of, raise_report, after_report, least_taken}
-use Rattle.am_state.specs.Refresh.{Led, report_of, own_report, tell, go_on, let_go, base_after, go_up, refresh, whole_led, core_and_reports, LeadsBy, StaysAt}
-use Rattle.am_state.specs.Refresh.{MayLead}
-use Rattle.am_state.proofs.Leaders.{let_go_within}
-use Rattle.am_state.proofs.Again.{greatest_low, accept_front_again}
-use Rattle.am_state.proofs.Walks.{front_by}
-use Rattle.am_state.proofs.Same.{front_same}
+use Rattle.am_state.proofs.Words.{◌≡◌, ℕ, ◌-◌, ◌<◌, ◌≤◌, max, min, List, refl, sym, ◌∙◌, ap, subst, true, ◌==◌, nat_lt, if◌then◌else◌, Option, Some, None}
+use Rattle.am_state.proofs.Words.{arith, nat_tests, Report, Log, top_of, told_by, accept_front, is_held, IsKept, CoreState, Stands, Keeps, whole, accept}
+use Rattle.am_state.proofs.Words.{pass_over, advance, trim_to, trim_list, unions, since_accepted, reports_of, raise_report, after_report, least_taken, Led}
+use Rattle.am_state.proofs.Words.{report_of, own_report, tell, go_on, let_go, base_after, go_up, refresh, whole_led, core_and_reports, LeadsBy, StaysAt}
+use Rattle.am_state.proofs.Words.{MayLead}
+use Rattle.am_state.proofs.{Folds.split, Ends.end-top, CoreLaws.advance_whole, CoreLaws.since_whole, Leaders.let_go_within, Again.greatest_low}
+use Rattle.am_state.proofs.{Again.accept_front_again, Walks.front_by, Same.front_same}
 
 -- reports of a name
 pub reported_self : (reports : ℕ → Report) (name : ℕ) (report : Report) → after_report reports name report name ≡ raise_report (reports name) report
@@ -88,7 +78,7 @@ same_stored reports name report h other = split (other == name)
     (λ u. let e : other ≡ name = grind (arith, nat_tests) in let s = ap (λ n. (reports n).stored) e in rw u (omega arith))
     (λ u. rw u refl)
 
-base_again : (o : Option ℕ) (base : ℕ) → base_after o (base_after o base) ≡ base_after o base
+pub base_again : (o : Option ℕ) (base : ℕ) → base_after o (base_after o base) ≡ base_after o base
 base_again None base = refl
 base_again (Some to) base = omega arith
 
