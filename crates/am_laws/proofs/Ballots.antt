@@ -106,17 +106,12 @@ effect_answered m c p b f comes over why says =
 abbrev opened : Node → ℕ → ℕ → Node
 opened m least resilience = record (with_promise m (next_stamp m)) { ballot = Some (new_ballot (next_stamp m) least (min resilience 15)) }
 
-same_look : (m : Node) (least resilience : ℕ) → decide (with_promise m (next_stamp m)) (new_ballot (next_stamp m) least (min resilience 15))
-    ≡ decide (opened m least resilience) (new_ballot (next_stamp m) least (min resilience 15))
-unfolding decide best_of
-same_look m least resilience = refl
-
 looks_on : (m : Node) (c : Cause) (p : Node) → BeginsBy m c → MayLook c p
 looks_on m c p (by_reset least resilience) = was_reset least resilience refl
 looks_on m c p (by_hand_over s v heard) = was_handed s v refl
 
 row_begin : (m : Node) (c : Cause) (least resilience : ℕ) → BeginsBy m c → MayBegin m → HasEffect m c (begin m least resilience)
-unfolding begin
+unfolding begin decide best_of
 row_begin m c least resilience by may =
     let p = opened m least resilience in
     let b = new_ballot (next_stamp m) least (min resilience 15) in
@@ -125,7 +120,7 @@ row_begin m c least resilience by may =
     (as_it_is b (record { last = refl; open_ = refl }) (looks_on m c p by))
     (λ n r. and_says m c n (others m) (invite_of n) [] (let new = ballot_look p b (decide p b) (looks_at p b) in
     invite (others m) (has_begun new.0 (r.rests.ballot ∙ new.1) (r.rests.promise ∙ promise_look p b (decide p b) (looks_at p b)))) (none_says m c n)) in
-    subst (λ v. HasEffect m c (verdict_plan v f)) (sym (same_look m least resilience)) h
+    subst (λ v. HasEffect m c (verdict_plan v f)) (sym (refl)) h
 
 pub row_reset : (m : Node) (c : Cause) (least resilience : ℕ) → BeginsBy m c → HasEffect m c (reset_row m least resilience)
 unfolding reset_row

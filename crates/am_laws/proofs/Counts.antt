@@ -285,10 +285,6 @@ low_settled : (b : Bounds) (g : ℕ) (m : Node) (w : Option OwnSend) → waiting
 low_settled b g m None is h = h
 low_settled b g m (Some s) is h = low_settled_at b g m s (accepted_at m s.req) is h
 
-low_at_end : (b : Bounds) (g : ℕ) (m : Node) → Low b g m → Low b g (refresh_at_end m)
-unfolding refresh_at_end settle
-low_at_end b g m h = low_settled b g (refresh m) (waiting (refresh m)) refl (low_refresh b g m h)
-
 -- ---- plans
 
 -- a plan whose node has at most one more
@@ -311,7 +307,7 @@ pub ruleset ends = (ends_if, ends_at)
 
 -- a plan that is done
 pub low_finish : (b : Bounds) (g : ℕ) (m : Node) (p : Plan) → Ends b g p → Low (up b) g (finish m p).node
-unfolding finish
+unfolding finish refresh_at_end settle
 low_finish b g m p h =
-    let k = low_at_end (up b) g p.node h.node in
+    let k = low_settled (up b) g (refresh p.node) (waiting (refresh p.node)) refl (low_refresh (up b) g p.node h.node) in
     split p.departs (λ t. rw t k) (λ f. rw f k)

@@ -63,13 +63,9 @@ kept_lead : (rules : Rules) (m : Node) → Keeps rules m → Keeps rules (lead m
 unfolding lead own_report tell go_on let_go accept pass_over
 kept_lead rules m h = kept_after rules m.core.rules m.core.who m.core.base (top m) m.ballot _ h
 
-kept_advance : (rules : Rules) (m : Node) → Keeps rules m → Keeps rules (advance m)
-unfolding accept pass_over
-kept_advance rules m h = h
-
 pub kept_refresh : (rules : Rules) (m : Node) → Keeps rules m → Keeps rules (refresh m)
-unfolding refresh
-kept_refresh rules m h = split (is_sequencer m) (λ t. rw t (kept_lead rules m h)) (λ f. rw f (kept_advance rules m h))
+unfolding refresh accept pass_over
+kept_refresh rules m h = split (is_sequencer m) (λ t. rw t (kept_lead rules m h)) (λ f. rw f (h))
 
 -- ---- the end of a step
 

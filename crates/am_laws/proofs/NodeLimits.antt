@@ -287,9 +287,6 @@ pub look_rises : (m : Node) (x : Ballot) (v : Verdict) → Looks m x v → Rises
 look_rises m x v (finds_itself_out y) = same_rises m _ refl refl
 look_rises m x v _ = same_rises m _ refl refl
 
-last_collected : (req : ℕ) (sends : own.Sends) → (own.collect req sends).last ≡ sends.last
-last_collected req sends = split (own.is_settled req sends) (λ t. rw t refl) (λ f. rw f refl)
-
 pub change_rises : {c : Cause} {o : Outcome} (m n : Node) → Change c o m n → Rises m n
 change_rises m n refreshes = let r = (rests_refresh m).rests in same_rises m (refresh m) r.promise r.asked
 change_rises m n settles = same_rises m (settle m) (ap (λ (x : Node). x.core.promise) (settle_is m)) (ap (λ (x : Node). x.sends.last) (settle_is m))
@@ -298,7 +295,7 @@ change_rises m n (promises v low why) = record { round = round_rises m.core.prom
 change_rises m n (opens least resilience by may) = record { round = omega arith; last = omega arith }
 change_rises m n (looks b verdict over why look is) = look_rises m b verdict look
 change_rises m n (queues body is o member stays few) = record { round = omega arith; last = omega arith }
-change_rises m n (collects req is) = same_rises m n refl (last_collected req m.sends)
+change_rises m n (collects req is) = same_rises m n refl (split (own.is_settled req m.sends) (λ t. rw t refl) (λ f. rw f refl))
 change_rises m n (closes leads leaves alone room) = let r = (rests_at_end (push_entry m (Leave m.core.who))).rests in same_rises m n r.promise r.asked
 change_rises m n _ = same_rises m n refl refl
 

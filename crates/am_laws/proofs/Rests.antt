@@ -15,18 +15,10 @@ use Rattle.am_laws.proofs.Items.{get_front}
 abbrev pub with_fronts : Node → Node → Node
 with_fronts m n = record m { core = record (m.core) { base = n.core.base; told = n.core.told; acc = n.core.acc; taken = n.core.taken }; reports = n.reports }
 
-pub lead_is : (m : Node) → lead m ≡ with_fronts m (lead m)
-unfolding lead own_report tell go_on let_go accept pass_over
-lead_is m = refl
-
-pub advance_is : (m : Node) → advance m ≡ with_fronts m (advance m)
-unfolding accept pass_over
-advance_is m = refl
-
 -- a refresh changes fronts and reports alone
 pub refresh_is : (m : Node) → refresh m ≡ with_fronts m (refresh m)
-unfolding refresh
-refresh_is m = split (is_sequencer m) (λ t. rw t (lead_is m)) (λ f. rw f (advance_is m))
+unfolding refresh lead own_report tell go_on let_go accept pass_over
+refresh_is m = split (is_sequencer m) (λ t. rw t (refl)) (λ f. rw f (refl))
 
 -- ---- the end of a step
 

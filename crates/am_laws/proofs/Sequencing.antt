@@ -38,11 +38,8 @@ rests_reported m s report = rests_refresh (with_report m s report)
 leads_reported : (m : Node) (s : ℕ) (report : Report) → is_sequencer m ≡ true → is_sequencer (take_report m s report) ≡ true
 leads_reported m s report t = leads_rests (rests_reported m s report).rests ∙ t
 
-row_reported : (m : Node) (s name : ℕ) (report : Report) → row_at (take_report m s report) name ≡ row_at m name
-row_reported m s name report = ap (λ l. row_of (told_by l) name) (rests_reported m s report).log
-
 unknown_reported : (m : Node) (s : ℕ) (report : Report) → is_unknown m s ≡ false → is_unknown (take_report m s report) s ≡ false
-unknown_reported m s report f = ap (λ (r : Row). r.joined == 0) (row_reported m s s report) ∙ f
+unknown_reported m s report f = ap (λ (r : Row). r.joined == 0) (ap (λ l. row_of (told_by l) s) (rests_reported m s report).log) ∙ f
 
 -- ---- sends
 
@@ -159,13 +156,9 @@ known_join life joined left mine acc low here occupied no_fit =
     let none : left ≡ 0 = grind (arith, nat_tests) in
     (λ lives. same, some, none))
 
-fit_is : (m : Node) (s : ℕ) → fits (image_of m) (Join s) ≡ false
-    → (((at_place (image_of m) s).joined == 0) || (nat_lt 0 (at_place (image_of m) s).left && nat_lt (at_place (image_of m) s).life (life_of s))) ≡ false
-unfolding fits
-fit_is m s f = f
-
 pub row_asks_to_join : (m : Node) (s : ℕ) (v : Stamp) (q : Row) → at_place (image_of m) s ≡ q → is_sequencer m ≡ true → (s == m.core.who) ≡ false
     → HasEffect m (hears (packet.JoinAsk s v)) (asks_to_join m s q)
+unfolding fits
 row_asks_to_join m s v q is leads other =
     let c = hears (packet.JoinAsk s v) in
     let fit = fits (image_of m) (Join s) in
@@ -182,7 +175,7 @@ row_asks_to_join m s v q is leads other =
     let a = or_first (nat_le q.joined (m.reports s).stored) (nat_lt m.core.acc q.joined) f in
     let b = or_second (nat_le q.joined (m.reports s).stored) (nat_lt m.core.acc q.joined) f in
     let no_fit : ((q.joined == 0) || (nat_lt 0 q.left && nat_lt q.life (life_of s))) ≡ false =
-    ap (λ (r : Row). (r.joined == 0) || (nat_lt 0 r.left && nat_lt r.life (life_of s))) (sym is) ∙ fit_is m s none in
+    ap (λ (r : Row). (r.joined == 0) || (nat_lt 0 r.left && nat_lt r.life (life_of s))) (sym is) ∙ none in
     let k = known_join q.life q.joined q.left (life_of s) m.core.acc low here occupied no_fit in
     let accepted : q.joined ≤ m.core.acc = grind (arith, nat_tests) in
     let behind : (m.reports s).stored < q.joined = grind (arith, nat_tests) in

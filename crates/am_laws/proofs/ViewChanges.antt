@@ -102,9 +102,6 @@ overtaken_open who promise v by (Some b) k l low h = split (not b.is_over && sta
     let same : by ≡ promise = equal_stamps by promise k l low up in
     record { above = o.above; promised = same ∙ o.promised; own = o.own }))
 
-none_overtaken : (by : Stamp) (ballot : Option Ballot) → ballot ≡ None → overtake by ballot ≡ None
-none_overtaken by ballot is = ap (overtake by) is
-
 pub next_above : (promise : Stamp) (who : ℕ) → stamp_lt promise (record { round = promise.round + 1; by = who }) ≡ true
 next_above promise who = let t : nat_lt promise.round (promise.round + 1) ≡ true = grind (arith, nat_tests) in rw t refl
 
@@ -283,7 +280,7 @@ change_does heard m n (promises v low why) k h = record {
   log_ = λ t. t;
   balloted = record {
     high = at_most (view m) m.core.promise v h.high low;
-    none = λ f. none_overtaken v m.ballot (h.none f);
+    none = λ f. (ap (overtake v) (h.none f));
     opened = overtaken_open m.core.who m.core.promise (view m) v m.ballot (promised_named _ m v why heard) k.promise_ low h.opened;
   };
 }

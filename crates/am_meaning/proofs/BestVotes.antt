@@ -68,9 +68,6 @@ true_tests p e q d x (inr h) = true_second p e q d x h.0 h.1
 abbrev LowerVote : Vote → Vote → Type 0
 LowerVote a b = Lower a.view.round (rank_of a.view.by) a.top b.view.round (rank_of b.view.by) b.top
 
-rank_one : (n m : ℕ) → n < 256 → m < 256 → rank_of n ≡ rank_of m → n ≡ m
-rank_one n m h k e = omega arith
-
 vote_lower : (a b : Vote) → vote_lt a b ≡ true → LowerVote a b
 vote_lower a b h = elim (tests_true (nat_lt a.view.round b.view.round) (a.view.round == b.view.round) (name_lt a.view.by b.view.by) (a.view.by == b.view.by)
     (nat_lt a.top b.top) h) [
@@ -87,7 +84,7 @@ vote_lower a b h = elim (tests_true (nat_lt a.view.round b.view.round) (a.view.r
 later_vote : (a b : Vote) → a.view.by < 256 → b.view.by < 256 → Later (rank_of a.view.by) a.top (rank_of b.view.by) b.top
     → (name_lt a.view.by b.view.by ≡ true) ⊎ (((a.view.by == b.view.by) ≡ true) × (nat_lt a.top b.top ≡ true))
 later_vote a b x y (inl h) = inl (lt-ltb (rank_of a.view.by) (rank_of b.view.by) h)
-later_vote a b x y (inr h) = inr (eq-eqb a.view.by b.view.by (rank_one a.view.by b.view.by x y h.0), lt-ltb a.top b.top h.1)
+later_vote a b x y (inr h) = inr (eq-eqb a.view.by b.view.by (omega arith), lt-ltb a.top b.top h.1)
 
 lower_vote : (a b : Vote) → a.view.by < 256 → b.view.by < 256 → LowerVote a b → vote_lt a b ≡ true
 lower_vote a b x y (inl h) = true_tests (nat_lt a.view.round b.view.round) (a.view.round == b.view.round) (name_lt a.view.by b.view.by) (a.view.by == b.view.by)

@@ -14,13 +14,9 @@ lead_log : (m : Node) → (lead m).core.log ≡ m.core.log
 unfolding lead own_report tell go_on let_go accept pass_over
 lead_log m = refl
 
-advance_log : (m : Node) → (advance m).core.log ≡ m.core.log
-unfolding accept pass_over
-advance_log m = refl
-
 refresh_log : (m : Node) → (refresh m).core.log ≡ m.core.log
-unfolding refresh
-refresh_log m = split (is_sequencer m) (λ t. rw t (lead_log m)) (λ f. rw f (advance_log m))
+unfolding refresh accept pass_over
+refresh_log m = split (is_sequencer m) (λ t. rw t (lead_log m)) (λ f. rw f (refl))
 
 same_row : (m : Node) (s : ℕ) (report : Report) → row_at (take_report m s report) s ≡ row_at m s
 same_row m s report = ap (λ log. row_of (told_by log) s) (refresh_log (with_report m s report))

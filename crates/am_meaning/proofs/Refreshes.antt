@@ -119,9 +119,6 @@ record IsFresh (m : Node) : Type 0 where
   passed : passed_over m.core.taken m.core.acc m.core.start ≡ m.core.taken
   base : base_after (least_taken m.reports (concerned_names m)) m.core.base ≡ m.core.base
 
-tell_again : (m : Node) → accept_front m.reports m.core.log m.core.acc ≡ m.core.told → find_front m ≡ m
-tell_again m e = λ i. record m { core = record (m.core) { told = e i } }
-
 advanced_again : (c : CoreState) → known_accepted c ≡ c.acc → passed_over c.taken c.acc c.start ≡ c.taken → cores.advance c ≡ c
 unfolding accept pass_over
 advanced_again c e f = (λ i. record c { acc = e i; taken = passed_over c.taken (e i) c.start }) ∙ (λ i. record c { taken = f i })
@@ -137,7 +134,7 @@ lead_fresh m h =
     let self = self_again m h.self in
     lead_is m
     ∙ ap (λ n. trim (report_self (advance (find_front n)))) self
-    ∙ ap (λ n. trim (report_self (advance n))) (tell_again m h.told)
+    ∙ ap (λ n. trim (report_self (advance n))) (λ i. record m { core = record (m.core) { told = h.told i } })
     ∙ ap (λ n. trim (report_self n)) (advance_again m h.known h.passed)
     ∙ ap trim self
     ∙ base_again m h.base
@@ -160,9 +157,6 @@ leads_fresh m =
       base = trim_again (least_taken (report_self n).reports (concerned_names (report_self n))) m.core.base;
     }
 
-is_fresh : (m : Node) → IsFresh (lead m)
-is_fresh m = subst IsFresh (sym (lead_is m)) (leads_fresh m)
-
 -- it leads after it as before
 leads : (m : Node) → is_sequencer (lead m) ≡ is_sequencer m
 unfolding accept pass_over
@@ -179,5 +173,5 @@ advance_twice m = advance_again (advance m) (known_again m.core.acc m.core.told 
 pub refresh_twice : RefreshOnce
 unfolding refresh
 refresh_twice m = split (is_sequencer m)
-    (λ t. rw t (rw (leads m ∙ t) (lead_fresh (lead m) (is_fresh m))))
+    (λ t. rw t (rw (leads m ∙ t) (lead_fresh (lead m) (subst IsFresh (sym (lead_is m)) (leads_fresh m)))))
     (λ f. rw f (rw (follows m ∙ f) (advance_twice m)))

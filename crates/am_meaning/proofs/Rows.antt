@@ -203,12 +203,9 @@ goes_on_trans q r s (inl a) (inr b) = let l = a.life in inr (omega arith)
 goes_on_trans q r s (inr a) (inl b) = let l = b.life in inr (omega arith)
 goes_on_trans q r s (inr a) (inr b) = inr (omega arith)
 
-goes_on_same : (r : Row) → GoesOn r r
-goes_on_same r = inl (record { life = refl; joined = refl; last = omega arith; left = λ h. refl })
-
 pub memberships_go_on : MembershipsGoOn
 unfolding fold AllFit
-memberships_go_on image number [] name n fit j = goes_on_same (at_place image name)
+memberships_go_on image number [] name n fit j = inl (record { life = refl; joined = refl; last = omega arith; left = λ h. refl })
 memberships_go_on image number (e ∷ es) name n fit j =
     let s = rows_go_on image number e name fit.0 j in
     let k = still_joined number (at_place image name) (at_place (after image number e) name) n j s in

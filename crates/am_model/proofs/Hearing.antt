@@ -207,17 +207,11 @@ alike_reset_so all m least h =
 same_in_view : (all : Log) (m : Node) (s : ℕ) (v : Stamp) → Keeps all m → hears_in_view (with_log m all) s v ≡ hears_in_view m s v
 same_in_view all m s v h = reads all m (λ i t. hears_member m s && ((is_member m.status && stamp_eq m.core.promise i.view) && stamp_eq v i.view)) h
 
-same_as_sequencer : (all : Log) (m : Node) (s : ℕ) (v : Stamp) → Keeps all m → hears_as_sequencer (with_log m all) s v ≡ hears_as_sequencer m s v
-same_as_sequencer all m s v h = λ i. same_in_view all m s v h i && same_sequencer all m h i
-
-same_of_sequencer : (all : Log) (m : Node) (s : ℕ) (v : Stamp) → Keeps all m → hears_sequencer (with_log m all) s v ≡ hears_sequencer m s v
-same_of_sequencer all m s v h = λ i. same_in_view all m s v h i && (v.by == s)
-
 same_passes : (all : Log) (m : Node) (g : Gate) (s : ℕ) (v : Stamp) → Keeps all m → passes g (with_log m all) s v ≡ passes g m s v
 same_passes all m gates.Leading s v h = ap (λ b. hears_member m s && b) (same_sequencer all m h)
 same_passes all m gates.InView s v h = same_in_view all m s v h
-same_passes all m gates.AsSequencer s v h = same_as_sequencer all m s v h
-same_passes all m gates.OfSequencer s v h = same_of_sequencer all m s v h
+same_passes all m gates.AsSequencer s v h = λ i. same_in_view all m s v h i && same_sequencer all m h i
+same_passes all m gates.OfSequencer s v h = λ i. same_in_view all m s v h i && (v.by == s)
 same_passes all m _ s v h = refl
 
 alike_heard : (all : Log) (m : Node) (b c : Bool) (p q : Plan) → Keeps all m → b ≡ c → Alike p q

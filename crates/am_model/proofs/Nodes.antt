@@ -128,14 +128,10 @@ let_go_end all s e = ap (λ since. let l : Led = record {
   reports = s.reports;
 } in l) e
 
-risen_since : (all : Log) (m : Node) → Keeps all m → since_accepted (whole all (go_up (led_of m)).core) ≡ since_accepted (go_up (led_of m)).core
-unfolding risen
-risen_since all m h = same_since all (risen m) (keeps_risen all m h)
-
 lead_end : (all : Log) (m : Node) → Keeps all m → lead (with_log m all) ≡ with_log (lead m) all
-unfolding lead
+unfolding lead risen
 lead_end all m h = ap (λ (l : Led). let n : Node = record m { core = l.core; reports = l.reports } in n)
-    (ap let_go (go_up_end all m h) ∙ let_go_end all (go_up (led_of m)) (risen_since all m h))
+    (ap let_go (go_up_end all m h) ∙ let_go_end all (go_up (led_of m)) (same_since all (risen m) (keeps_risen all m h)))
 
 pub same_sequencer : (all : Log) (m : Node) → Keeps all m → is_sequencer (with_log m all) ≡ is_sequencer m
 same_sequencer all m h = reads all m (λ i t. is_member m.status && stamp_eq m.core.promise i.view && (i.view.by == m.core.who)) h

@@ -126,10 +126,6 @@ first_settle : (rules : Rules) (m : Node) → FirstBase rules m → FirstBase ru
 unfolding settle
 first_settle rules m h = first_settled rules m (waiting m) refl (settle_ok rules m.core.log.entries m.core.acc (first_of rules) m h.node) h
 
-pub first_at_end : (rules : Rules) (m : Node) → FirstBase rules m → FirstBase rules (refresh_at_end m)
-unfolding refresh_at_end
-first_at_end rules m h = first_settle rules (refresh m) (first_refresh rules m h)
-
 -- ---- what it numbers
 
 -- the row of a name that is there
@@ -277,6 +273,7 @@ numbered rules c m e leads why h =
 
 closed : (rules : Rules) (m : Node) → is_sequencer m ≡ true → FirstOk rules m
     → FirstOk rules (record (refresh_at_end (push_entry m (Leave m.core.who))) { status = status.Departed })
+unfolding refresh_at_end
 closed rules m leads h =
     let i = first_of rules in
     let list = m.core.log.entries in
@@ -284,7 +281,7 @@ closed rules m leads h =
     let fit : fits (image_of list) (Leave m.core.who) ≡ true = leave_fits list m.core.who (ap (mem list) h.base.node.who ∙ member) in
     let p = push_entry m (Leave m.core.who) in
     let n = refresh_at_end p in
-    let base = first_at_end rules p (first_push rules m (Leave m.core.who) refl fit h.base) in
+    let base = first_settle rules (refresh p) (first_refresh rules p (first_push rules m (Leave m.core.who) refl fit h.base)) in
     record {
       base = base_as rules n (record n { status = status.Departed }) refl refl refl
           (with_status rules n.core.log.entries n.core.acc i n status.Departed (sym base.log) base.node) base;

@@ -1,26 +1,10 @@
 -- What each step of a node keeps: all that it has was sent by its sender, and the changes that keep this.
-use Rattle.std.proofs.Common.{◌≡◌, ℕ, ◌+◌, ◌==◌, nat_le, not, List, ◌++◌, drop, length, Option, Some, None, slice_get, sym, subst}
-use Rattle.std.specs.Prelude.{All}
-use Rattle.std.specs.List.{list_any}
-use Rattle.std.proofs.lemmas.List.Elements.{All-push, All-drop, All-filter, All-map, All-weaker}
-use Rattle.am_base.specs.declared.entry.Entry.{Entry}
-use Rattle.am_base.specs.declared.entry.Entry.TheVariants.{Data}
-use Rattle.am_packet.specs.declared.packet.Packet.{Packet}
-use Rattle.am_packet.specs.declared.packet.Packet.TheVariants.{Request, Spread, Bcast, Piece}
-use Rattle.am_packet.specs.Boxes.{Letter}
-use Rattle.am_state.specs.Cores.{accept, pass_over}
-use Rattle.am_state.specs.Refresh.{own_report, tell, go_on, let_go}
-use Rattle.am_group.specs.declared.event.Record.{Record}
-use Rattle.am_state.specs.declared.sender.OwnSend.{OwnSend}
+use Rattle.am_runs.proofs.PromisedWords.{◌≡◌, ℕ, ◌+◌, ◌==◌, nat_le, not, List, ◌++◌, drop, length, Option, Some, None, slice_get, sym, subst, All, list_any}
+use Rattle.am_runs.proofs.PromisedWords.{All-push, All-drop, All-filter, All-map, All-weaker, Entry, Data, Packet, Request, Spread, Bcast, Piece, Letter}
+use Rattle.am_runs.proofs.PromisedWords.{accept, pass_over, own_report, tell, go_on, let_go, Record, OwnSend, KeptBody, is_of, with_body, keep_body, Node}
+use Rattle.am_runs.proofs.PromisedWords.{is_sequencer, push_entry, waiting, lead, refresh, accepted_at, settle_at, settle_waiting, settle, refresh_at_end}
+use Rattle.am_runs.proofs.PromisedWords.{with_queued, IsSend, split, get_front, all_find}
 use Rattle.am_state.specs.Sends as own
-use Rattle.am_state.specs.declared.bodies.KeptBody.{KeptBody}
-use Rattle.am_state.specs.Bodies.{is_of, with_body, keep_body}
-use Rattle.am_model.specs.Node.{Node, is_sequencer, push_entry, waiting}
-use Rattle.am_model.specs.Refresh.{advance, lead, refresh, accepted_at, settle_at, settle_waiting, settle, refresh_at_end}
-use Rattle.am_model.specs.Calls.{with_queued}
-use Rattle.am_play.specs.Claims.{IsSend}
-use Rattle.am_base.proofs.Greatest.{split}
-use Rattle.am_laws.proofs.Items.{get_front, all_find}
 
 -- ---- what was sent
 
@@ -144,17 +128,9 @@ kept_body all who m from req body sent h = split (list_any (is_of from req) m.bo
 
 -- ---- the refresh
 
-kept_lead : (all : List Record) (who : ℕ) (m : Node) → Keeps all who m → Keeps all who (lead m)
-unfolding lead own_report tell go_on let_go accept pass_over
-kept_lead all who m h = h
-
-kept_advance : (all : List Record) (who : ℕ) (m : Node) → Keeps all who m → Keeps all who (advance m)
-unfolding accept pass_over
-kept_advance all who m h = h
-
 pub kept_refresh : (all : List Record) (who : ℕ) (m : Node) → Keeps all who m → Keeps all who (refresh m)
-unfolding refresh
-kept_refresh all who m h = split (is_sequencer m) (λ t. rw t (kept_lead all who m h)) (λ f. rw f (kept_advance all who m h))
+unfolding refresh lead own_report tell go_on let_go accept pass_over
+kept_refresh all who m h = split (is_sequencer m) (λ t. rw t (h)) (λ f. rw f (h))
 
 -- ---- the end of a step
 

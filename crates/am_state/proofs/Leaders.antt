@@ -54,10 +54,6 @@ none_in (suc before ∷ lives) from h = let more = size_cons before lives in abs
 is_there : (set : List ℕ) (name : ℕ) → has set name ≡ true → slice_index set (place_of name) ≡ life_of name
 is_there set name h = grind (arith, nat_tests)
 
-leave_fits : (image : Image) (name : ℕ) → fits image (Leave name) ≡ true → has (members_of image) name ≡ true
-unfolding fits
-leave_fits image name h = h
-
 -- the union has the life of who leads
 leader_there : (c : CoreState) (capacity number : ℕ) → IsKept c.log capacity → c.log.start ≤ c.acc → c.acc ≤ number → number ≤ top_of c.log
     → has (members_at c.log number) c.who ≡ true → (row_at (told_by c.log) (place_of c.who)).life ≡ life_of c.who
@@ -72,7 +68,7 @@ leader_there c capacity number is low after high member row =
 
 leader_in : (c : CoreState) (capacity : ℕ) → IsKept c.log capacity → c.log.start ≤ c.acc → c.acc ≤ top_of c.log → MayLead c
     → (slice_index (since_accepted c) (place_of c.who) ≡ life_of c.who) ⊎ (size (since_accepted c) ≡ 0)
-unfolding unions
+unfolding unions fits
 leader_in c capacity is low high leads = ⊎_elim
     (λ (member : has (members_of (told_by c.log)) c.who ≡ true).
     let top = image-top c.log in
@@ -90,7 +86,7 @@ leader_in c capacity is low high leads = ⊎_elim
     let entry : entry_at c.log (before + 1) ≡ Some (Leave c.who) = ap (entry_at c.log) next ∙ left.0 in
     let get = entry-get c.log before (Leave c.who) (omega arith) entry in
     let fit = fit_at c.log.image (c.log.start + 1) (before - c.log.start) c.log.entries (Leave c.who) is.fit get in
-    let member : has (members_at c.log before) c.who ≡ true = leave_fits (image_at c.log before) c.who fit in
+    let member : has (members_at c.log before) c.who ≡ true = fit in
     let used = image_used c.log capacity before is in
     let after = image-next c.log before (Leave c.who) (omega arith) entry in
     let told = ap (λ i. (row_at i (place_of c.who)).life) (sym (image-top c.log) ∙ ap (image_at c.log) (sym next) ∙ after) in

@@ -35,10 +35,6 @@ with_row_used image name r is row = record {
       ⊎_elim (λ p. subst P (sym p.1) row) (λ p. subst P (sym p) (is.unused place h)) (with_row_at image name r place is.places h);
 }
 
-viewed_used : (first : Bool) (number life : ℕ) (r : Row) → (r.joined ≡ 0 → r.life ≡ 0) → (row_after_view first number life r).joined ≡ 0
-    → (row_after_view first number life r).life ≡ 0
-viewed_used first number life r is = grind (arith, nat_tests)
-
 pub used_after : (image : Image) (number : ℕ) (e : Entry) → 0 < number → IsUsed image → IsUsed (after image number e)
 unfolding after
 used_after image number (Data from req body) n is = split ((at_place image from).life == life_of from)
@@ -54,7 +50,7 @@ used_after image number (View v) n is = record {
   unused = λ place h.
       let P : Row → Type 0 = λ x. x.joined ≡ 0 → x.life ≡ 0 in
       subst P (sym (get_or-by_place (λ place. row_after_view (is_blank image) number (slice_index v.members place) (row_at image place)) place blank_row h))
-      (viewed_used (is_blank image) number (slice_index v.members place) (row_at image place) (is.unused place h));
+      (grind (arith, nat_tests));
 }
 
 blank_all : (a b c d : Bool) → (a && (b && (c && d))) ≡ true → d ≡ true
@@ -63,12 +59,9 @@ blank_all true true false d h = absurd (cc)
 blank_all true false c d h = absurd (cc)
 blank_all false b c d h = absurd (cc)
 
-blank_row_life : (r : Row) → is_blank_row r ≡ true → r.life ≡ 0
-blank_row_life r h = grind (arith, nat_tests)
-
 blank_lives : (rows : List Row) (place : ℕ) → list_all is_blank_row rows ≡ true → (slice_index_or rows place blank_row).life ≡ 0
 blank_lives [] place h = refl
-blank_lives (r ∷ rs) zero h = blank_row_life r (split (is_blank_row r) (λ t. t) (λ f. absurd (let g = rw f at h in cc)))
+blank_lives (r ∷ rs) zero h = grind (arith, nat_tests)
 blank_lives (r ∷ rs) (suc place) h = blank_lives rs place (split (is_blank_row r) (λ t. rw t at h) (λ f. absurd (let g = rw f at h in cc)))
 
 viewed_grows : (first : Bool) (number life : ℕ) (r : Row) → (first ≡ true → r.life ≡ 0) → r.life ≤ (row_after_view first number life r).life
@@ -84,9 +77,6 @@ with_row_grows image name r place long h le = ⊎_elim
     omega arith)
     (λ (p : row_at (with_row image name r) place ≡ row_at image place). let b = ap (λ (x : Row). x.life) p in omega arith)
     (with_row_at image name r place long h)
-
-join_grows : (r : Row) (life : ℕ) → (r.joined ≡ 0 → r.life ≡ 0) → ((r.joined == 0) || (nat_lt 0 r.left && nat_lt r.life life)) ≡ true → r.life ≤ life
-join_grows r life unused fit = grind (arith, nat_tests)
 
 -- ---- lists in which each Join fits
 
@@ -122,7 +112,7 @@ life_after image number (Data from req body) place h is fit = split ((at_place i
 life_after image number (Join name) place h is fit =
     let unused = is.unused (place_of name) (omega arith) in
     with_row_grows image name (record { life = life_of name; joined = number; left = 0; last = 0 }) place is.places h
-    (join_grows (at_place image name) (life_of name) unused fit)
+    (grind (arith, nat_tests))
 life_after image number (Leave name) place h is fit = split ((at_place image name).life == life_of name)
     (λ t. rw t (with_row_grows image name (record (at_place image name) { left = number }) place is.places h (omega arith)))
     (λ f. rw f (omega arith))

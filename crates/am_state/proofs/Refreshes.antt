@@ -39,10 +39,6 @@ own_stays : (s : Led) → IsRefreshed s → own_report s ≡ s
 unfolding own_report
 own_stays s is = ap (λ r. let l : Led = record { core = s.core; reports = r } in l) (reported_below s.reports s.core.who (report_of s.core) is.stored is.taken)
 
-tell_stays : (s : Led) → IsRefreshed s → tell s ≡ s
-unfolding tell
-tell_stays s is = ap (λ (t : ℕ). record s { core = record s.core { told = t } }) (sym is.told)
-
 go_stays : (s : Led) → IsRefreshed s → go_on s ≡ s
 unfolding go_on accept pass_over
 go_stays s is =
@@ -58,9 +54,10 @@ unfolding let_go
 let_go_stays s is = ap (λ (b : ℕ). record s { core = record s.core { base = b } }) is.trimmed
 
 pub refresh_stays : (s : Led) → IsRefreshed s → refresh s ≡ s
+unfolding tell
 refresh_stays s is =
     ap (λ x. let_go (own_report (go_on (tell x)))) (own_stays s is)
-    ∙ ap (λ x. let_go (own_report (go_on x))) (tell_stays s is)
+    ∙ ap (λ x. let_go (own_report (go_on x))) (ap (λ (t : ℕ). record s { core = record s.core { told = t } }) (sym is.told))
     ∙ ap (λ x. let_go (own_report x)) (go_stays s is)
     ∙ ap let_go (own_stays s is)
     ∙ let_go_stays s is
@@ -126,10 +123,6 @@ is_refreshed s high =
       passed = passed_over c.taken acc c.start;
       trimmed = base_again (least_taken second (unions c.log acc (t - acc))) c.base;
     }
-
--- doing it again changes nothing
-pub refresh_again : (s : Led) → s.core.acc ≤ top_of s.core.log → refresh (refresh s) ≡ refresh s
-refresh_again s high = refresh_stays (refresh s) (is_refreshed s high)
 
 -- on all of the list as on its end
 own_whole : (all : Log) (s : Led) → Stands all s.core → own_report (whole_led all s) ≡ whole_led all (own_report s)
@@ -201,7 +194,7 @@ pub leads_again : (old new : Led) → LeadsBy refresh old new → old.core.acc �
 leads_again old new leads high = λ all st.
     let e = (leads all st).1 in
     let t = end-top all old.core.log st.kept in
-    ap refresh e ∙ refresh_again (whole_led all old) (omega arith) ∙ sym e
+    ap refresh e ∙ (refresh_stays (refresh (whole_led all old)) (is_refreshed (whole_led all old) (omega arith))) ∙ sym e
 
 -- its own report has what it has taken
 pub go_up_own : (s : Led) → (s.reports s.core.who).taken ≤ s.core.taken → ((go_up s).reports (go_up s).core.who).taken ≡ (go_up s).core.taken

@@ -18,8 +18,5 @@ lt_trans a b c g h = pair_trans a.round (rank_of a.by) b.round (rank_of b.by) c.
 pub lt_self : (a : Stamp) → stamp_lt a a ≡ false
 lt_self a = pair_self a.round (rank_of a.by)
 
-same_parts : (a b : Stamp) → a.round ≡ b.round → a.by ≡ b.by → a ≡ b
-same_parts a b h g = λ i. record { round = h i; by = g i }
-
 pub same_stamp : (a b : Stamp) → stamp_eq a b ≡ true → a ≡ b
-same_stamp a b h = same_parts a b (eqb-true a.round b.round (and_left _ _ h)) (eqb-true a.by b.by (and_right _ _ h))
+same_stamp a b h = λ i. record { round = (eqb-true a.round b.round (and_left _ _ h)) i; by = (eqb-true a.by b.by (and_right _ _ h)) i }
