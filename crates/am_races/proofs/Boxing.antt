@@ -39,15 +39,11 @@ pub none_of : (key : Key) (seen more : List Record) → of_key key (seen ++ more
 none_of key seen more e = none_kept key more (empty_rest (of_key key seen) (of_key key more) (sym (filter-append (is_of key) seen more) ∙ e))
 
 pub own_key : (key : Key) → 0 < times key (key ∷ [])
-own_key key = let e = times_cons key key [] in let s = itself key in let o = one_if (same_key key key) s in omega arith
+own_key key = let e = times_cons key key [] in let s = itself key in let o : ◌≡◌ {A = ℕ} (cond (same_key key key) 1 0) 1 = rw s refl in omega arith
   where
     itself : (k : Key) → same_key k k ≡ true
     itself (Place place) = eq-eqb place place refl
     itself (Caller caller) = eq-eqb caller caller refl
-
-    one_if : (b : Bool) → b ≡ true → ◌≡◌ {A = ℕ} (cond b 1 0) 1
-    one_if true is = refl
-    one_if false is = absurd (true≢false (sym is))
 
 -- ---- what others added
 

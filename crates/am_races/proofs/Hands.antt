@@ -13,12 +13,14 @@ use Rattle.am_races.proofs.{Requests.requests_once, Requests.Once, Telling.after
 use Rattle.am_group.specs.declared.event.Act.TheVariants as act
 use Rattle.am_chooser.specs.declared.chooser.Choice.TheVariants as choice
 use Rattle.am_chooser.specs.Choices as pump
+use Rattle.std.proofs.Math.Bool.{or-true}
+use Rattle.am_races.proofs.Words.{split}
 
 -- ---- words
 
 -- where a letter was heard or lost, one word was drawn
 one_word : (luck : Luck) (a : Act) (lost : ℕ) → 0 < max (heard_by a) lost → record luck { words = after_draw luck.words } ≡ luck_behind luck a lost
-one_word luck a lost some = sym (ap (λ (b : Bool). if b then record luck { words = after_draw luck.words } else luck) (lt-ltb 0 (max (heard_by a) lost) some))
+one_word luck a lost some = rw (lt-ltb 0 (max (heard_by a) lost) some) refl
 
 pub luck_drawn : (luck : Luck) (ahead last : Option ℕ) → ((n : ℕ) → ahead ≡ Some n → 0 < n) → ((k : ℕ) → last ≡ Some k → 0 < k)
     → pump.luck_after luck ahead ≡ luck_behind luck (act_of (choice_of luck ahead last)) (lost_in (choice_of luck ahead last))
@@ -270,15 +272,11 @@ turn_timely plan seen name name' a by tag lost same is turn = record {
 
 -- a call is due where it is ready, or where its turns are used
 pub ready_due : (plan : RacePlan) (m : Node) (mine : List Record) → is_ready m (own_of mine) ≡ true → is_due plan m mine ≡ true
-ready_due plan m mine is = ap (λ (b : Bool). b || nat_le plan.turns (count_by (λ r. is_turn_part r.by.part) mine)) is
+ready_due plan m mine is = rw is refl
 
 pub used_due : (plan : RacePlan) (m : Node) (mine : List Record) → plan.turns ≤ count_by (λ r. is_turn_part r.by.part) mine → is_due plan m mine ≡ true
-used_due plan m mine used = either_way (is_ready m (own_of mine)) (le-leb plan.turns (count_by (λ r. is_turn_part r.by.part) mine) used)
-  where
-    either_way : (b : Bool) → nat_le plan.turns (count_by (λ r. is_turn_part r.by.part) mine) ≡ true
-        → (b || nat_le plan.turns (count_by (λ r. is_turn_part r.by.part) mine)) ≡ true
-    either_way true h = refl
-    either_way false h = h
+used_due plan m mine used =
+    rw (le-leb plan.turns (count_by (λ r. is_turn_part r.by.part) mine) used) (or-true (is_ready m (own_of mine)))
 
 pub call_asks : (a : Act) → is_call a ≡ true → is_asked a ≡ true
 call_asks (act.Hear number) e = e
@@ -297,8 +295,4 @@ end_asks (act.Reset least resilience) (Some came) = refl
 end_asks _ came = refl
 
 pub end_no_turn : (a : Act) → is_turn_part (end_part a) ≡ false
-end_no_turn a = by_take (is_take a)
-  where
-    by_take : (b : Bool) → is_turn_part (if b then Call else Check) ≡ false
-    by_take true = refl
-    by_take false = refl
+end_no_turn a = split (is_take a) (λ t. rw t refl) (λ f. rw f refl)

@@ -8,6 +8,7 @@ use Rattle.am_laws.specs.Looks.{Looks, finds_itself_out, waits, fetches_from_bes
 use Rattle.am_laws.specs.Changes.{Change, refreshes, settles}
 use Rattle.am_laws.specs.Changes.{looks, queues, collects, closes}
 use Rattle.am_state.specs.Sends as own
+use Rattle.std.proofs.Math.Bool.{or-false}
 
 -- ---- sends with different requests
 
@@ -159,14 +160,8 @@ settled_send req (s ∷ q) h is = split (s.req == req)
     let rest = lacks_none req q (subst (λ (n : ℕ). Lack n q) same h.0) in (
       s,
       rw t refl,
-      first (is_some s.number) (sym (ap (λ (b : Bool). (b && is_some s.number) || list_any (λ send. (send.req == req) && is_some send.number) q) t
-          ∙ ap (λ (b : Bool). is_some s.number || b) rest) ∙ is),
+      sym (or-false (is_some s.number)) ∙ rw (t, rest) at is,
     ))
     (λ f.
-    let more = settled_send req q h.1 (sym (ap (λ (b : Bool). (b && is_some s.number) || list_any (λ send. (send.req == req) && is_some send.number) q) f)
-    ∙ is) in
-    (more.0, ap (λ (b : Bool). cond b (Some s) (find (own.is_request req) q)) f ∙ more.1, more.2))
-  where
-    first : (b : Bool) → (b || false) ≡ true → b ≡ true
-    first true e = refl
-    first false e = e
+    let more = settled_send req q h.1 (rw f at is) in
+    (more.0, rw f more.1, more.2))

@@ -12,6 +12,7 @@ use Rattle.am_group.specs.declared.event.Act.TheVariants as act
 use Rattle.am_chooser.specs.declared.chooser.Choice.TheVariants as choice
 use Rattle.std.proofs.lemmas.Bool.{and_parts, and_from, false_from_ne_true}
 use Rattle.std.proofs.lemmas.Option.{IfSome_then}
+use Rattle.am_races.proofs.Words.{split}
 
 -- ---- names of a set
 
@@ -81,14 +82,10 @@ least_waits m seen waited stopped name is many known least = (
 first_there : (letters : List Letter) (from name n : ℕ) → first_for letters from name ≡ Some n → (k : ℕ) × (n ≡ from + k)
     × ((l : Letter) × ((slice_get letters k ≡ Some l) × (is_for l name ≡ true)))
 first_there [] from name n e = absurd (none-some n e)
-first_there (l ∷ letters) from name n e = by_first (is_for l name) refl e (λ is. first_there letters (from + 1) name n is)
-  where
-    by_first : (b : Bool) → is_for l name ≡ b → (if b then Some from else first_for letters (from + 1) name) ≡ Some n
-        → (first_for letters (from + 1) name ≡ Some n → (k : ℕ) × (n ≡ from + 1 + k)
-        × ((x : Letter) × ((slice_get letters k ≡ Some x) × (is_for x name ≡ true))))
-        → (k : ℕ) × (n ≡ from + k) × ((x : Letter) × ((slice_get (l ∷ letters) k ≡ Some x) × (is_for x name ≡ true)))
-    by_first true its is rest = (0, (let s = same_Some from n is in omega arith), (l, (refl, its)))
-    by_first false its is rest = let r = rest is in (suc r.0, omega (arith, r.1), r.2)
+first_there (l ∷ letters) from name n e = split (is_for l name)
+    (λ t. (0, (let s = same_Some from n (rw t at e) in omega arith), (l, (refl, t))))
+    (λ f. let r = first_there letters (from + 1) name n (rw f at e) in (suc r.0, omega (arith, r.1), r.2))
+
 
 -- the next letter for a name was sent to it
 pub ahead_is_sent : (seen : List Record) (name after n : ℕ) → next_for (letters_of seen) name after ≡ Some n → IsSent seen name n × (after < n)
