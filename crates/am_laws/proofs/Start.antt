@@ -21,11 +21,7 @@ IsNoWelcome c = (s : ℕ) (v : Stamp) (base join : ℕ) (image : Image) → c �
 
 look_status : (m : Node) (b : Ballot) (v : Verdict) → Looks m b v → v.node.status ≡ m.status
 look_status m b v (finds_itself_out x) = refl
-look_status m b v (waits x y) = refl
-look_status m b v (fetches_from_best x y z) = refl
-look_status m b v (finds_too_few x y) = refl
-look_status m b v (finds_no_room x) = refl
-look_status m b v (decides may) = refl
+look_status m b v _ = refl
 
 abbrev HasNone : Node → Type 0
 HasNone m = has_log m.status ≡ false
@@ -162,9 +158,7 @@ begins_by {c = c} m n (other none_heard) changes none blank_ =
 
 no_begin : (s : Status) → (not (has_log s) && is_member s) ≡ false
 no_begin status.Stranger = refl
-no_begin status.Asking = refl
-no_begin status.Member = refl
-no_begin status.Departed = refl
+no_begin _ = refl
 
 -- where the node is as it was
 begins_same : (m : Node) → BeginsAt m m

@@ -303,11 +303,7 @@ new_same c o m x y who stays promise log h = record {
 
 look_new : (c : Cause) (o : Outcome) (m x : Node) (b : Ballot) (v : Verdict) → Looks x b v → o ≡ v.outcome → Begun c o m x → Begun c o m v.node
 look_new c o m x b v (finds_itself_out y) is h = absurd (let first = h.is in cc)
-look_new c o m x b v (waits y z) is h = absurd (let first = h.is in cc)
-look_new c o m x b v (fetches_from_best y z u) is h = absurd (let first = h.is in cc)
-look_new c o m x b v (finds_too_few y z) is h = absurd (let first = h.is in cc)
-look_new c o m x b v (finds_no_room y) is h = absurd (let first = h.is in cc)
-look_new c o m x b v (decides may) is h = absurd (let first = h.is in cc)
+look_new c o m x b v _ is h = absurd (let first = h.is in cc)
 
 promises_new : {A : Type 0} (c : Cause) (o : Outcome) (m x : Node) (v : Stamp) → Promises c x v → Begun c o m x → A
 promises_new c o m x v (invited s u is by own) h = absurd (let first = h.heard in cc)
@@ -333,11 +329,7 @@ change_new {c} {o} m x y brings refreshes h = let r = rests_refresh x in
 change_new {c} {o} m x y brings settles h = let e = settle_is x in
     new_same c o m x (settle x) (ap (λ (n : Node). n.core.who) e) (ap (λ (n : Node). n.status) e) (ap (λ (n : Node). n.core.promise) e)
     (λ v. ap (λ (n : Node). has_view n.core.log v) e) h
-change_new {c} {o} m x y brings (takes_report s v report by may) h = new_same c o m x y refl refl refl (λ v. refl) h
-change_new {c} {o} m x y brings (admits s v is leads fit) h = new_same c o m x y refl refl refl (λ v. refl) h
 change_new {c} {o} m x y brings (numbers e leads room why) h = new_same c o m x y refl refl refl (λ v. has_view_plain x e v (numbers_plain c x e why)) h
-change_new {c} {o} m x y brings (keeps_body s v report req body is by) h = new_same c o m x y refl refl refl (λ v. refl) h
-change_new {c} {o} m x y brings (notes s v base acc by from) h = new_same c o m x y refl refl refl (λ v. refl) h
 change_new {c} {o} m x y brings (stores s v base acc number e by from plain may) h = new_same c o m x y refl refl refl (λ u. has_view_plain x e u plain) h
 change_new {c} {o} m x y brings (begins_list s v base join image is says may) h = absurd (let t = ap is_member h.member in let f = may.no_member in cc)
 change_new {c} {o} m x y brings (departs s v number is by leaves) h = absurd (let first = h.heard in cc)
@@ -347,12 +339,9 @@ change_new {c} {o} m x y brings (looks b verdict over why look is) h = look_new 
 change_new {c} {o} m x y brings (fetches s v base number e is by promise below from may) h = absurd (brings.pieces s v base number e is)
 change_new {c} {o} m x y brings (stores_view s base number v is by own other promise below may) h =
     absurd (brings.results s base number v is)
-change_new {c} {o} m x y brings (queues body is says member stays few) h = new_same c o m x y refl refl refl (λ v. refl) h
-change_new {c} {o} m x y brings (collects req is) h = new_same c o m x y refl refl refl (λ v. refl) h
-change_new {c} {o} m x y brings (takes e is says member some there) h = new_same c o m x y refl refl refl (λ v. refl) h
 change_new {c} {o} m x y brings (asks_to_join is was) h = absurd (let t = h.member in cc)
-change_new {c} {o} m x y brings (asks_to_leave is was stays done) h = new_same c o m x y refl refl refl (λ v. refl) h
 change_new {c} {o} m x y brings (closes leads leaves alone room) h = leads_new c o m x leads h
+change_new {c} {o} m x y brings _ h = new_same c o m x y refl refl refl (λ v. refl) h
 
 -- ---- all of them
 

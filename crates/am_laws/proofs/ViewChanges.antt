@@ -69,9 +69,7 @@ does_plain m n e plain who stays promise log ballot h =
 
 pub numbers_plain : (c : Cause) (m : Node) (e : Entry) → Numbers c m e → is_view e ≡ false
 numbers_plain c m e (asked_send s v report req body by known stays next) = refl
-numbers_plain c m e (own_send s is last) = refl
-numbers_plain c m e (asked_join s v is other fit) = refl
-numbers_plain c m e (asked_leave s v report is other known stays) = refl
+numbers_plain c m e _ = refl
 
 -- ---- who has a list
 

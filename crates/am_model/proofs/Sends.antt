@@ -7,6 +7,4 @@ own_data who req (Data from r body) is =
     let a : from ≡ who = grind (arith, nat_tests) in
     let b : r ≡ req = grind (arith, nat_tests) in
     (body, λ k. Data (a k) (b k) body)
-own_data who req (Join name) is = absurd (cc)
-own_data who req (Leave name) is = absurd (cc)
-own_data who req (View v) is = absurd (cc)
+own_data who req _ is = absurd (cc)
