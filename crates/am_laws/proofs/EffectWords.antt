@@ -30,7 +30,7 @@ pub use Rattle.am_model.specs.Emit.{invite_of, fetch_of, result_of, Plan, quiet,
 pub use Rattle.am_model.specs.Emit.{polling, and_telling, and_where, numbering, accept_of, tells_accepted, with_accept, ack_of, nack_of, piece_of}
 pub use Rattle.am_model.specs.Emit.{entries_to_serve, hold_of, welcome_of, gone_of, hand_over_of}
 pub use Rattle.am_model.specs.Ballots.{with_promise, Verdict, need_of, is_waited_for, left_in, trim_for, with_result, with_fetch, verdict_plan, next_stamp}
-pub use Rattle.am_model.specs.Ballots.{new_ballot, with_vote, newly_needed, without_voter, vote_of, decided_view}
+pub use Rattle.am_model.specs.Ballots.{new_ballot, with_vote, newly_needed, without_voter, vote_of, decided_view, overtake}
 pub use Rattle.am_model.specs.Ticks.{viewed_by, tick_ballot, tick_promised, tick_member, put_off, behind_view, and_result, tick_sequencer, tick_acting}
 pub use Rattle.am_model.specs.Ticks.{tick_with, tick_by}
 pub use Rattle.am_model.specs.Calls.{give_up_of, everywhere_else, would_emit, hand_in, number_send, emit, with_queued, queue, give_out, ask_to_join, join_by}

@@ -1,8 +1,9 @@
 -- What each step of a node keeps, and the changes that keep it.
-use Rattle.am_laws.proofs.Words.{◌≡◌, ℕ, ◌+◌, ◌-◌, ◌≤◌, true, false, not, ◌&&◌, Option, Some, None, ap, arith, length-append, nat_tests, Entry, Stamp, stamp_lt}
-use Rattle.am_laws.proofs.Words.{Rules, accept, pass_over, base_after, own_report, tell, go_on, let_go, Node, Ballot, top, is_sequencer, push_entry, trim_up_to}
-use Rattle.am_laws.proofs.Words.{lead, refresh, settle, refresh_at_end, overtake, with_promise, split}
-use Rattle.am_model.specs.Node.{has_room}
+use Rattle.am_laws.proofs.EffectWords.{◌≡◌, ℕ, ◌+◌, ◌-◌, ◌≤◌, true, false, not, ◌&&◌, Option, Some, None, ap, arith, length-append, nat_tests, Entry, Stamp}
+use Rattle.am_laws.proofs.EffectWords.{stamp_lt, Rules, pass_over, base_after, own_report, tell, go_on, Node, Ballot, top, has_room, is_sequencer, push_entry}
+use Rattle.am_laws.proofs.EffectWords.{trim_up_to, lead, refresh, settle, refresh_at_end, overtake, with_promise, split}
+use Rattle.am_state.specs.Cores.{accept}
+use Rattle.am_state.specs.Refresh.{let_go}
 use Rattle.am_laws.proofs.{Rests.settle_keeps}
 
 -- a ballot hasn't given up its own coordinator
@@ -57,7 +58,7 @@ kept_lead rules m h = kept_after rules m.core.rules m.core.who m.core.base (top 
 
 pub kept_refresh : (rules : Rules) (m : Node) → Keeps rules m → Keeps rules (refresh m)
 unfolding refresh accept pass_over
-kept_refresh rules m h = split (is_sequencer m) (λ t. rw t (kept_lead rules m h)) (λ f. rw f (h))
+kept_refresh rules m h = split (is_sequencer m) (λ t. rw t (kept_lead rules m h)) (λ f. rw f h)
 
 -- ---- the end of a step
 

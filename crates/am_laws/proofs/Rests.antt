@@ -18,7 +18,7 @@ with_fronts m n = record m { core = record (m.core) { base = n.core.base; told =
 -- a refresh changes fronts and reports alone
 pub refresh_is : (m : Node) → refresh m ≡ with_fronts m (refresh m)
 unfolding refresh lead own_report tell go_on let_go accept pass_over
-refresh_is m = split (is_sequencer m) (λ t. rw t (refl)) (λ f. rw f (refl))
+refresh_is m = split (is_sequencer m) (λ t. rw t refl) (λ f. rw f refl)
 
 -- ---- the end of a step
 
@@ -108,17 +108,11 @@ base_up (Some to) base = omega arith
 pub passed : (taken acc start : ℕ) → taken ≤ (if nat_lt taken (start - 1) then max taken (min acc (start - 1)) else taken)
 passed taken acc start = split (nat_lt taken (start - 1)) (λ t. rw t (omega arith)) (λ f. rw f (omega arith))
 
-rises_lead : (m : Node) → Rises m (lead m)
-unfolding lead own_report tell go_on let_go accept pass_over
-rises_lead m = record { base = base_up _ m.core.base; acc = omega arith; taken = passed m.core.taken _ m.core.start }
-
-rises_advance : (m : Node) → Rises m (advance m)
-unfolding accept pass_over
-rises_advance m = record { base = omega arith; acc = omega arith; taken = passed m.core.taken _ m.core.start }
-
 rises_refresh : (m : Node) → Rises m (refresh m)
-unfolding refresh
-rises_refresh m = split (is_sequencer m) (λ t. rw t (rises_lead m)) (λ f. rw f (rises_advance m))
+unfolding refresh lead own_report tell go_on let_go accept pass_over
+rises_refresh m = split (is_sequencer m)
+    (λ t. rw t (record { base = base_up _ m.core.base; acc = omega arith; taken = passed m.core.taken _ m.core.start }))
+    (λ f. rw f (record { base = omega arith; acc = omega arith; taken = passed m.core.taken _ m.core.start }))
 
 abbrev KeepsSends : Node → Node → Type 0
 KeepsSends m n = (req : ℕ) (body : List ℕ) → HasSend m req body → HasSend n req body

@@ -60,18 +60,8 @@ read_adds name m (Err refusal) who kept bare = plain_adds name m refuses (hear_r
 
 pub step_adds : (name : ℕ) (m : Node) (what : NodeEvent) → m.core.who ≡ name → Balloted m → IsBare m → StepAdds name (one_of (entry_in what)) m (step m what)
 unfolding step row
-step_adds name m (does.Send body) who kept bare = plain_adds name m _ (step m (does.Send body)) refl kept bare (steps_have_effects m (does.Send body))
-step_adds name m (does.Done req) who kept bare = plain_adds name m _ (step m (does.Done req)) refl kept bare (steps_have_effects m (does.Done req))
-step_adds name m does.Take who kept bare = plain_adds name m _ (step m does.Take) refl kept bare (steps_have_effects m does.Take)
-step_adds name m does.Join who kept bare = plain_adds name m _ (step m does.Join) refl kept bare (steps_have_effects m does.Join)
-step_adds name m does.State who kept bare = plain_adds name m _ (step m does.State) refl kept bare (steps_have_effects m does.State)
-step_adds name m does.Leave who kept bare = plain_adds name m _ (step m does.Leave) refl kept bare (steps_have_effects m does.Leave)
-step_adds name m (does.Reset least resilience) who kept bare =
-    plain_adds name m _ (step m (does.Reset least resilience)) refl kept bare (steps_have_effects m (does.Reset least resilience))
-step_adds name m (does.Ask round) who kept bare = plain_adds name m _ (step m (does.Ask round)) refl kept bare (steps_have_effects m (does.Ask round))
-step_adds name m (does.GiveUp other) who kept bare = plain_adds name m _ (step m (does.GiveUp other)) refl kept bare (steps_have_effects m (does.GiveUp other))
-step_adds name m does.Tick who kept bare = plain_adds name m _ (step m does.Tick) refl kept bare (steps_have_effects m does.Tick)
 step_adds name m (does.Hear bytes) who kept bare = read_adds name m (reading bytes) who kept bare
+step_adds name m event who kept bare = plain_adds name m _ (step m event) refl kept bare (steps_have_effects m event)
 
 -- ---- what is told
 

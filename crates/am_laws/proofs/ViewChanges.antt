@@ -202,14 +202,8 @@ does_fetch m s v base (View w) is few named log from fit h =
         opened = subst (λ (x : Stamp). OpenBallot m.core.who m.core.promise x m.ballot) (sym same) k.1;
       };
     }
-does_fetch m s v base (Data from_ req body) is few named log from fit h =
-    let d = does_plain (trim_up_to m base) (push_entry (trim_up_to m base) (Data from_ req body)) (Data from_ req body) refl refl log refl refl refl h in
-    record { goes = d.goes; log_ = d.log_; balloted = d.balloted }
-does_fetch m s v base (Join name) is few named log from fit h =
-    let d = does_plain (trim_up_to m base) (push_entry (trim_up_to m base) (Join name)) (Join name) refl refl log refl refl refl h in
-    record { goes = d.goes; log_ = d.log_; balloted = d.balloted }
-does_fetch m s v base (Leave name) is few named log from fit h =
-    let d = does_plain (trim_up_to m base) (push_entry (trim_up_to m base) (Leave name)) (Leave name) refl refl log refl refl refl h in
+does_fetch m s v base e is few named log from fit h =
+    let d = does_plain (trim_up_to m base) (push_entry (trim_up_to m base) e) e refl refl log refl refl refl h in
     record { goes = d.goes; log_ = d.log_; balloted = d.balloted }
 
 -- the View of a Result is of another name
