@@ -137,24 +137,7 @@ known_join : (life joined left mine acc : ℕ) → nat_lt mine life ≡ false �
     → (nat_lt life mine && (nat_lt 0 life && ((left == 0) || nat_lt acc left))) ≡ false → ((joined == 0) || (nat_lt 0 left && nat_lt life mine)) ≡ false
     → (life ≢ 0 → life ≡ mine) × (0 < joined) × (left ≡ 0)
 known_join life joined left mine acc low here occupied no_fit =
-    let j = or_first (joined == 0) (nat_lt 0 left && nat_lt life mine) no_fit in
-    let k = or_second (joined == 0) (nat_lt 0 left && nat_lt life mine) no_fit in
-    let some : 0 < joined = grind (arith, nat_tests) in
-    split (nat_lt life mine)
-    (λ t.
-    let l = and_first (nat_lt 0 left) (nat_lt life mine) k t in
-    let none : left ≡ 0 = grind (arith, nat_tests) in
-    let n : (left == 0) ≡ true = grind (arith, nat_tests) in
-    let o = and_second (nat_lt life mine) (nat_lt 0 life && ((left == 0) || nat_lt acc left)) occupied t in
-    let z : nat_lt 0 life ≡ true → ⊥ = λ s. (let x = and_second (nat_lt 0 life) ((left == 0) || nat_lt acc left) o s in
-    let y = or_first (left == 0) (nat_lt acc left) x in absurd (cc)) in
-    (λ lives. absurd (z (grind (arith, nat_tests))), some, none))
-    (λ f.
-    let same : life ≡ mine = grind (arith, nat_tests) in
-    let e : (life == mine) ≡ true = grind (arith, nat_tests) in
-    let l = and_second (life == mine) (nat_lt 0 left) here e in
-    let none : left ≡ 0 = grind (arith, nat_tests) in
-    (λ lives. same, some, none))
+    (λ lives. grind (arith, nat_tests), grind (arith, nat_tests), grind (arith, nat_tests))
 
 pub row_asks_to_join : (m : Node) (s : ℕ) (v : Stamp) (q : Row) → at_place (image_of m) s ≡ q → is_sequencer m ≡ true → (s == m.core.who) ≡ false
     → HasEffect m (hears (packet.JoinAsk s v)) (asks_to_join m s q)

@@ -1,5 +1,5 @@
 -- Which Views a step of any cause adds to a node's list, and that these are what a watcher is told.
-use Rattle.am_laws.proofs.Words.{logged, stamp_itself, ◌≡◌, ℕ, ◌&&◌, ◌||◌, not, if◌then◌else◌, Bool, true, false, List, [], ◌∷◌, ◌++◌, Option, Some, None, refl}
+use Rattle.am_laws.proofs.Words.{arith, logged, stamp_itself, ◌≡◌, ℕ, ◌&&◌, ◌||◌, not, if◌then◌else◌, Bool, true, false, List, [], ◌∷◌, ◌++◌, Option, Some, None, refl}
 use Rattle.am_laws.proofs.Words.{sym, ap, ◌∙◌, list_any, list_any-append, Outcome, Stamp, Entry, NodeEvent, stamp_eq, Packet, Ballot, view, is_member, has_log}
 use Rattle.am_laws.proofs.Words.{Step, finish, hear_row, step, row, hear, hear_refusal, split, Cause, hears, Effect}
 use Rattle.am_laws.proofs.StoredWords.{or_right, or_left, or-false, Ok, Err, Piece, Read, reading, cause_of, read_row, is_view_of, refuses, steps_have_effects}
@@ -70,9 +70,7 @@ both_false true b h k = absurd (cc)
 both_false false b h k = k
 
 not_begun : (a b : Bool) → (b ≡ true → a ≡ true) → (not a && b) ≡ false
-not_begun true b h = refl
-not_begun false true h = absurd (let t = h refl in cc)
-not_begun false false h = refl
+not_begun a b h = grind arith
 
 just_begun : (a b : Bool) → a ≡ false → b ≡ true → (not a && b) ≡ true
 just_begun true b h k = absurd (cc)

@@ -150,10 +150,7 @@ viewed_row number life r = split (nat_lt 0 (member_life r) && not (member_life r
     (λ f. rw f (inl (inl refl)))
 
 last_false : (a b c d : Bool) → d ≡ false → (a && (b && (c && d))) ≡ false
-last_false true true true d h = h
-last_false true true false d h = refl
-last_false true false c d h = refl
-last_false false b c d h = refl
+last_false a b c d h = grind arith
 
 not_blank : (image : Image) (name : ℕ) → 0 < (at_place image name).joined → is_blank image ≡ false
 not_blank image name j =

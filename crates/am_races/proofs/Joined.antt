@@ -45,10 +45,7 @@ place_more count p q p' has j its place h = ⊎_elim
     (below_or_last place count (omega arith))
   where
     below_or_last : (a n : ℕ) → a ≤ n → (a < n) ⊎ (a ≡ n)
-    below_or_last zero zero le = inr refl
-    below_or_last zero (suc n) le = inl (omega arith)
-    below_or_last (suc a) zero le = absurd (omega arith)
-    below_or_last (suc a) (suc n) le = ⊎_elim (λ (h : a < n). inl (omega arith)) (λ (e : a ≡ n). inr (ap suc e)) (below_or_last a n (omega arith))
+    below_or_last a n le = grind arith
 
 pub places_stay : (count : ℕ) (p q p' : Known) → HasPlaces count p → Joined p q p' → HasPlaces count p'
 places_stay count p q p' has j place h = keeps_key (Place place) p q p' j (has place h)

@@ -54,10 +54,7 @@ used_after image number (View v) n is = record {
 }
 
 blank_all : (a b c d : Bool) → (a && (b && (c && d))) ≡ true → d ≡ true
-blank_all true true true d h = h
-blank_all true true false d h = absurd (cc)
-blank_all true false c d h = absurd (cc)
-blank_all false b c d h = absurd (cc)
+blank_all a b c d h = grind arith
 
 blank_lives : (rows : List Row) (place : ℕ) → list_all is_blank_row rows ≡ true → (slice_index_or rows place blank_row).life ≡ 0
 blank_lives [] place h = refl

@@ -237,9 +237,7 @@ stepping_ready k s w name n entries more is steps to =
 -- ---- a step that changes nothing of what views ask for
 
 same_both : (a b : Bool) → same_flag a b ≡ true → b ≡ a
-same_both true b h = h
-same_both false true h = sym h
-same_both false false h = refl
+same_both a b h = grind arith
 
 number_same : (a b : ℕ) → (a == b) ≡ true → b ≡ a
 number_same a b h = grind (arith, nat_tests)
@@ -305,9 +303,7 @@ lawful_alike k name after v alike =
     ap (λ (f : ℕ → Bool). nat_le (count_by f k.stopped) v.view.resilience) lost
 
 not_decided : (a b c : Bool) → c ≡ true → (a && (b && not c)) ≡ false
-not_decided true true c h = rw h refl
-not_decided true false c h = refl
-not_decided false b c h = refl
+not_decided a b c h = grind arith
 
 pub view_one : (s : Stamp) (e : Entry) → is_view e ≡ false → is_view_of s e ≡ false
 view_one s (View v) h = absurd (cc)
