@@ -57,14 +57,7 @@ does_plain m n e plain who stays promise log ballot h =
     record {
       goes = λ t. goes_then m.core.log (push_entry m e).core.log n.core.log (goes_plain m e plain) (goes_to (push_entry m e).core.log n.core.log log);
       log_ = λ t. stays;
-      balloted = record {
-        high = (λ i. stamp_lt (promise i) (v i)) ∙ h.high;
-        none = λ f. absurd (cc);
-        opened = subst (OpenBallot n.core.who n.core.promise (view n)) (sym ballot)
-            (subst (λ (x : Stamp). OpenBallot n.core.who n.core.promise x m.ballot) (sym v)
-            (subst (λ (p : Stamp). OpenBallot n.core.who p (view m) m.ballot) (sym promise)
-            (subst (λ (k : ℕ). OpenBallot k m.core.promise (view m) m.ballot) (sym who) h.opened)));
-      };
+      balloted = record { high = rw (promise, v) h.high; none = λ f. absurd (cc); opened = rw (who, promise, v, ballot) h.opened };
     }
 
 pub numbers_plain : (c : Cause) (m : Node) (e : Entry) → Numbers c m e → is_view e ≡ false
@@ -157,8 +150,7 @@ look_does m b v (decides may) l h =
       goes = λ t. goes_view before (decided_view m b names) o.above;
       log_ = λ t. t;
       balloted = record {
-        high = subst (λ (s : Stamp). stamp_lt m.core.promise s
-            ≡ false) (sym same) (subst (λ (p : Stamp). stamp_lt p b.stamp ≡ false) (sym o.promised) (not_above_itself b.stamp));
+        high = rw (same, o.promised) (not_above_itself b.stamp);
         none = λ f. absurd (let t = l.has_list in cc);
         opened = λ x. absurd (cc);
       };
@@ -197,9 +189,9 @@ does_fetch m s v base (View w) is few named log from fit h =
       goes = λ t. goes_fit (trim_up_to m base) (View w) fit;
       log_ = λ t. t;
       balloted = record {
-        high = subst (λ (x : Stamp). stamp_lt m.core.promise x ≡ false) (sym same) k.0;
+        high = rw same k.0;
         none = h.none;
-        opened = subst (λ (x : Stamp). OpenBallot m.core.who m.core.promise x m.ballot) (sym same) k.1;
+        opened = rw same k.1;
       };
     }
 does_fetch m s v base e is few named log from fit h =
@@ -224,11 +216,9 @@ does_result m base v is other fit h =
       goes = λ t. goes_fit (trim_up_to m base) (View v) fit;
       log_ = λ t. t;
       balloted = record {
-        high = subst (λ (x : Stamp). stamp_lt m.core.promise x ≡ false) (sym same)
-            (subst (λ (p : Stamp). stamp_lt p v.stamp ≡ false) (sym is) (not_above_itself v.stamp));
+        high = rw (same, is) (not_above_itself v.stamp);
         none = h.none;
-        opened = subst (λ (x : Stamp). OpenBallot m.core.who m.core.promise x m.ballot) (sym same)
-            (other_open m.core.who m.core.promise (view m) v.stamp m.ballot is other h.opened);
+        opened = rw same (other_open m.core.who m.core.promise (view m) v.stamp m.ballot is other h.opened);
       };
     }
 
