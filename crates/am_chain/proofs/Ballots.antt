@@ -1,7 +1,7 @@
 -- Votes, and what voters send of their lists.
-use Rattle.am_chain.proofs.Words.{◌≡◌, ◌≢◌, ◌⊎◌, ⊎_elim, inl, ℕ, ◌<◌, ◌≤◌, true, List, length, Option, Some, None, sym, ap, ◌∙◌, subst, arith, Entry}
-use Rattle.am_chain.proofs.Words.{Begins, mem, key, begins_refl, begins_trans, key_by, put2, Group, IsThere, IsUp, Kept}
-use Rattle.am_chain.proofs.Puts.{put2_cases}
+use Rattle.am_chain.proofs.Words.{◌≡◌, ◌≢◌, ◌⊎◌, inl, ℕ, ◌<◌, ◌≤◌, true, List, length, Option, Some, None, sym, ap, ◌∙◌, subst, arith, Entry, Begins, mem, key}
+use Rattle.am_chain.proofs.Words.{begins_refl, begins_trans, key_by, put2, Group, IsThere, IsUp, Kept}
+use Rattle.am_chain.proofs.{Puts.put2_cases, Puts.either}
 
 some_same : {x y : List Entry} → ◌≡◌ {A = Option (List Entry)} (Some x) (Some y) → x ≡ y
 some_same e = cc
@@ -18,8 +18,8 @@ module _ (s : Group) (k : Kept s) where
       views = k.views;
       group = k.group;
       each = k.each;
-      shown = λ x name l h. ⊎_elim
-          (λ (c : (x ≡ p) × (name ≡ i) × (put2 s.shown p i (Some (s.node i).list) x name ≡ Some (s.node i).list)).
+      shown = λ x name l h. either (put2_cases s.shown p i (Some (s.node i).list) x name)
+          (λ c.
           let same : (s.node i).list ≡ l = some_same (sym c.2 ∙ h) in
           let at = ap (λ j. key (s.node j).promise) c.1 in
           let is = c.0 in
@@ -32,36 +32,28 @@ module _ (s : Group) (k : Kept s) where
             other = λ same. other (same ∙ c.1);
             begun = omega arith;
           })
-          (λ (c : ((x ≡ p) × (name ≡ i) → ⊥) × (put2 s.shown p i (Some (s.node i).list) x name ≡ s.shown x name)). k.shown x name l (sym c.1 ∙ h))
-          (put2_cases s.shown p i (Some (s.node i).list) x name);
-      still = λ v l h none. ⊎_elim
-          (λ (d : (key (s.node v).promise ≡ p) × (v ≡ i) × (put2 s.shown p i (Some (s.node i).list) (key (s.node v).promise) v ≡ Some (s.node i).list)).
+          (λ c. k.shown x name l (sym c.1 ∙ h));
+      still = λ v l h none. either (put2_cases s.shown p i (Some (s.node i).list) (key (s.node v).promise) v)
+          (λ d.
           ap (λ j. (s.node j).list) d.1 ∙ some_same (sym d.2 ∙ h))
-          (λ (d : ((key (s.node v).promise ≡ p) × (v ≡ i) → ⊥)
-          × (put2 s.shown p i (Some (s.node i).list) (key (s.node v).promise) v ≡ s.shown (key (s.node v).promise) v)). k.still v l (sym d.1 ∙ h) none)
-          (put2_cases s.shown p i (Some (s.node i).list) (key (s.node v).promise) v);
-      short = λ c v l u b h w. ⊎_elim
-          (λ (d : (key (s.node c).promise ≡ p) × (v ≡ i) × (put2 s.shown p i (Some (s.node i).list) (key (s.node c).promise) v ≡ Some (s.node i).list)).
+          (λ d. k.still v l (sym d.1 ∙ h) none);
+      short = λ c v l u b h w. either (put2_cases s.shown p i (Some (s.node i).list) (key (s.node c).promise) v)
+          (λ d.
           let same : (s.node i).list ≡ l = some_same (sym d.2 ∙ h) in
           let a = ap (λ j. length (s.node j).list) d.1 in
           let b = ap length same in
           inl (omega arith))
-          (λ (d : ((key (s.node c).promise ≡ p) × (v ≡ i) → ⊥)
-          × (put2 s.shown p i (Some (s.node i).list) (key (s.node c).promise) v ≡ s.shown (key (s.node c).promise) v)). k.short c v l u b (sym d.1 ∙ h) w)
-          (put2_cases s.shown p i (Some (s.node i).list) (key (s.node c).promise) v);
-      served = λ c v l u b served h. ⊎_elim
-          (λ (d : (key (s.node c).promise ≡ p) × (v ≡ i) × (put2 s.shown p i (Some (s.node i).list) (key (s.node c).promise) v ≡ Some (s.node i).list)).
+          (λ d. k.short c v l u b (sym d.1 ∙ h) w);
+      served = λ c v l u b served h. either (put2_cases s.shown p i (Some (s.node i).list) (key (s.node c).promise) v)
+          (λ d.
           let was = k.sent (key (s.node c).promise) v served in
           let old : s.shown p i ≡ Some was.0 = subst (λ j. s.shown p j ≡ Some was.0) d.1 (subst (λ x. s.shown x v ≡ Some was.0) d.0 was.1) in
           absurd (cc))
-          (λ (d : ((key (s.node c).promise ≡ p) × (v ≡ i) → ⊥)
-          × (put2 s.shown p i (Some (s.node i).list) (key (s.node c).promise) v ≡ s.shown (key (s.node c).promise) v)). k.served c v l u b served (sym d.1
-          ∙ h))
-          (put2_cases s.shown p i (Some (s.node i).list) (key (s.node c).promise) v);
-      sent = λ x v served. ⊎_elim
-          (λ (d : (x ≡ p) × (v ≡ i) × (put2 s.shown p i (Some (s.node i).list) x v ≡ Some (s.node i).list)). ((s.node i).list, d.2))
-          (λ (d : ((x ≡ p) × (v ≡ i) → ⊥) × (put2 s.shown p i (Some (s.node i).list) x v ≡ s.shown x v)). let was = k.sent x v served in (was.0, d.1 ∙ was.1))
-          (put2_cases s.shown p i (Some (s.node i).list) x v);
+          (λ d. k.served c v l u b served (sym d.1
+          ∙ h));
+      sent = λ x v served. either (put2_cases s.shown p i (Some (s.node i).list) x v)
+          (λ d. ((s.node i).list, d.2))
+          (λ d. let was = k.sent x v served in (was.0, d.1 ∙ was.1));
       witness = k.witness;
       departed = k.departed;
       enough = k.enough;
@@ -77,8 +69,8 @@ module _ (s : Group) (k : Kept s) where
       shown = k.shown;
       still = k.still;
       short = k.short;
-      served = λ c v l u b served h. ⊎_elim
-          (λ (d : (key (s.node c).promise ≡ p) × (v ≡ i) × (put2 s.served p i true (key (s.node c).promise) v ≡ true)).
+      served = λ c v l u b served h. either (put2_cases s.served p i true (key (s.node c).promise) v)
+          (λ d.
           let old : s.shown p i ≡ Some l = subst (λ j. s.shown p j ≡ Some l) d.1 (subst (λ x. s.shown x v ≡ Some l) d.0 h) in
           let same : list ≡ l = some_same (sym is ∙ old) in
           let o = k.shown p i list is in
@@ -86,23 +78,19 @@ module _ (s : Group) (k : Kept s) where
           let at = d.0 in
           record {
             chain = begins_trans (subst (λ y. Begins y (s.node i).list) same o.list) ((k.each i).list up);
-            promised = λ j t m. ⊎_elim
-                (λ (x : j ≡ (s.node i).promise.by).
+            promised = λ j t m. either (voted j (subst (λ y. mem y j ≡ true) (sym same) m) t)
+                (λ x.
                 let e = x ∙ sym (key_by (s.node c).promise (s.node i).promise (k.each c).small (k.each i).small at) ∙ by in
                 let q = ap (λ y. key (s.node y).promise) e in omega arith)
-                (λ (x : (vote : List Entry) × (s.shown p j ≡ Some vote)). let q = (k.shown p j x.0 x.1).promised in omega arith)
-                (voted j (subst (λ y. mem y j ≡ true) (sym same) m) t);
+                (λ x. let q = (k.shown p j x.0 x.1).promised in omega arith);
           })
-          (λ (d : ((key (s.node c).promise ≡ p) × (v ≡ i) → ⊥)
-          × (put2 s.served p i true (key (s.node c).promise) v ≡ s.served (key (s.node c).promise) v)). k.served c v l u b (sym d.1 ∙ served) h)
-          (put2_cases s.served p i true (key (s.node c).promise) v);
-      sent = λ x v served. ⊎_elim
-          (λ (d : (x ≡ p) × (v ≡ i) × (put2 s.served p i true x v ≡ true)). (
+          (λ d. k.served c v l u b (sym d.1 ∙ served) h);
+      sent = λ x v served. either (put2_cases s.served p i true x v)
+          (λ d. (
             list,
             subst (λ j. s.shown x j ≡ Some list) (sym d.1) (subst (λ y. s.shown y i ≡ Some list) (sym d.0) is),
           ))
-          (λ (d : ((x ≡ p) × (v ≡ i) → ⊥) × (put2 s.served p i true x v ≡ s.served x v)). k.sent x v (sym d.1 ∙ served))
-          (put2_cases s.served p i true x v);
+          (λ d. k.sent x v (sym d.1 ∙ served));
       witness = k.witness;
       departed = k.departed;
       enough = k.enough;

@@ -1,13 +1,14 @@
 -- A decision keeps what is kept.
-use Rattle.am_chain.proofs.Words.{low_or_above, split, ◌≡◌, ◌≢◌, ◌⊎◌, ⊎_elim, inl, inr, ℕ, ◌+◌, ◌<◌, ◌≤◌, min, Bool, true, false, List, [], ◌∷◌, ◌++◌, length}
-use Rattle.am_chain.proofs.Words.{take, Some, refl, sym, ap, ◌∙◌, subst, arith, GroupView, Entry, View, has, Begins, IsGood, mem, view_of, key, begins_refl}
+use Rattle.am_chain.proofs.Words.{low_or_above, split, ◌≡◌, ◌≢◌, ◌⊎◌, inl, inr, ℕ, ◌+◌, ◌<◌, ◌≤◌, min, Bool, true, false, List, [], ◌∷◌, ◌++◌, length, take}
+use Rattle.am_chain.proofs.Words.{Some, refl, sym, ap, ◌∙◌, subst, arith, GroupView, Entry, View, has, Begins, IsGood, mem, view_of, key, begins_refl}
 use Rattle.am_chain.proofs.Words.{begins_more, begins_trans, begins_length, begins_both, length_push, below_begins, below_of, begins_pushed, begins_take}
 use Rattle.am_chain.proofs.Words.{mem_between, mem_viewed, viewed_mem, good_begins, good_push, Ends, ends_of, view_viewed, view_fits, key_by, resilience_viewed}
 use Rattle.am_chain.proofs.Words.{put, how_many, Node, Chosen, opening, Views, Group, chain_of, current_of, IsThere, IsUp, MayDecide, choice_of, with_choice}
 use Rattle.am_chain.proofs.Words.{IsLawful, LateOk, NodeOk, ServedOk, DepartedOk, ViewsOk, Kept}
 use Rattle.am_chain.proofs.Heart.{ballot_ok, list_chain, member_above, needed_promised, needed_low, departed_in, complete_in, group_in, too_few}
-use Rattle.am_chain.proofs.{Puts.put_cases, Puts.put_same, Puts.put_other, Puts.put_at, Frames.Later, Frames.later_all, Frames.shown_later, Frames.served_later}
-use Rattle.am_chain.proofs.{Frames.witness_later, Nodes.fronts_longer, Nodes.view_current}
+use Rattle.am_chain.proofs.Puts.{put_cases, put_same, put_other, put_at, either}
+use Rattle.am_chain.proofs.Frames.{Later, later_all, shown_later, served_later, witness_later}
+use Rattle.am_chain.proofs.{Nodes.fronts_longer, Nodes.view_current}
 
 module _ (s : Group) (k : Kept s) (lawful : IsLawful s) (c : ℕ) (v : GroupView) (d : MayDecide s c v) where
   abbrev list : List Entry
@@ -63,10 +64,9 @@ module _ (s : Group) (k : Kept s) (lawful : IsLawful s) (c : ℕ) (v : GroupView
 
   -- a decided ballot is the new one, or was decided
   decided_cases : (x : ℕ) → views.decided x ≡ true → (x ≡ w) ⊎ (s.views.decided x ≡ true)
-  decided_cases x h = ⊎_elim
-      (λ (z : (x ≡ w) × (put s.views.decided w true x ≡ true)). inl z.0)
-      (λ (z : (x ≢ w) × (put s.views.decided w true x ≡ s.views.decided x)). inr (sym z.1 ∙ h))
-      (put_cases s.views.decided w true x)
+  decided_cases x h = either (put_cases s.views.decided w true x)
+      (λ z. inl z.0)
+      (λ z. inr (sym z.1 ∙ h))
 
   pub decided_old : (x : ℕ) → s.views.decided x ≡ true → views.decided x ≡ true
   decided_old x h = put_other s.views.decided w true x (older x h) ∙ h
@@ -81,12 +81,11 @@ module _ (s : Group) (k : Kept s) (lawful : IsLawful s) (c : ℕ) (v : GroupView
   views_decided : ViewsOk views
   views_decided = record {
     now = put_same s.views.decided w true;
-    order = λ x h. ⊎_elim (λ (z : x ≡ w). omega arith) (λ (z : s.views.decided x ≡ true). let o = k.views.order x z in let a = above in
-        omega arith) (decided_cases x h);
-    stamps = λ x h. ⊎_elim
-        (λ (z : x ≡ w). ap (λ y. key (put s.views.chosen w choice y).stamp) z ∙ ap (λ (ch : Chosen). key ch.stamp) chosen_is ∙ sym z)
-        (λ (z : s.views.decided x ≡ true). ap (λ (ch : Chosen). key ch.stamp) (chosen_old x z) ∙ k.views.stamps x z)
-        (decided_cases x h);
+    order = λ x h. either (decided_cases x h) (λ z. omega arith) (λ z. let o = k.views.order x z in let a = above in
+        omega arith);
+    stamps = λ x h. either (decided_cases x h)
+        (λ z. ap (λ y. key (put s.views.chosen w choice y).stamp) z ∙ ap (λ (ch : Chosen). key ch.stamp) chosen_is ∙ sym z)
+        (λ z. ap (λ (ch : Chosen). key ch.stamp) (chosen_old x z) ∙ k.views.stamps x z);
     good = subst IsGood (sym chain_is) good;
     view = ap view_of chain_is ∙ view_viewed list choice.view;
     opens = subst (λ ch. Begins (opening ch) (chain_of views)) (sym chosen_is) (subst (Begins (opening choice)) (sym chain_is) (begins_refl (opening choice)));
@@ -111,12 +110,11 @@ module _ (s : Group) (k : Kept s) (lawful : IsLawful s) (c : ℕ) (v : GroupView
       let on = ok.list u in
       split (mem list j)
       (λ t. begins_both on chain (needed_low s k lawful c v d j t u))
-      (λ f. ⊎_elim
-      (λ (l : length (s.node j).list ≤ length list). begins_both on chain l)
-      (λ (l : length list < length (s.node j).list).
+      (λ f. either (low_or_above (length (s.node j).list) (length list))
+      (λ l. begins_both on chain l)
+      (λ l.
       let z = ok.own u (take (s.node j).start s.group) list (below_of (begins_both chain on (omega arith)) l) (join_in j u.log) (ok.joined u.log).member in
-      absurd (cc))
-      (low_or_above (length (s.node j).list) (length list)))
+      absurd (cc)))
 
   -- a ballot of another that is up is above the new view
   ballot_above : (j : ℕ) → j ≢ c → IsUp (s.node j) → (s.node j).ballot ≡ true → w < key (s.node j).promise
@@ -139,47 +137,43 @@ module _ (s : Group) (k : Kept s) (lawful : IsLawful s) (c : ℕ) (v : GroupView
       let e = ends_of j (join_in j u.log) joined.member out in
       let b = e.before ++ e.last ∷ [] in
       let on = begins_trans e.within chain in
-      let reach : Begins (s.node j).list b = ⊎_elim
-      (λ (x : length (s.node j).list ≤ length b). begins_both (ok.list u) on x)
-      (λ (x : length b < length (s.node j).list).
+      let reach : Begins (s.node j).list b = either (low_or_above (length (s.node j).list) (length b))
+      (λ x. begins_both (ok.list u) on x)
+      (λ x.
       let shorter = begins_more e.before (e.last ∷ []) in
       let z = ok.own u (take (s.node j).start s.group) b (below_of (begins_both on (ok.list u) (omega arith)) x) (begins_trans e.above shorter) joined.member in
-      let ended = e.ended in absurd (cc))
-      (low_or_above (length (s.node j).list) (length b)) in
+      let ended = e.ended in absurd (cc)) in
       record {
         before = e.before;
         last = e.last;
         list = reach;
         member = e.member;
         ended = e.ended;
-        lines = λ x h p. ⊎_elim
-            (λ (z : x ≡ w). subst (Begins b) (sym (ap (put s.views.line w (opening choice)) z)) (on_new e.within))
-            (λ (z : s.views.decided x ≡ true). subst (Begins b) (sym (put_other s.views.line w (opening choice) x (older x z))) (old_line j u e x z p on))
-            (decided_cases x h);
+        lines = λ x h p. either (decided_cases x h)
+            (λ z. subst (Begins b) (sym (ap (put s.views.line w (opening choice)) z)) (on_new e.within))
+            (λ z. subst (Begins b) (sym (put_other s.views.line w (opening choice) x (older x z))) (old_line j u e x z p on));
       }
     where
       old_line : (j : ℕ) (u : IsUp (s.node j)) (e : Ends (take (s.node j).start s.group) list j) (x : ℕ) → s.views.decided x ≡ true → key (s.node j).promise ≤ x
           → Begins (e.before ++ e.last ∷ []) (chain_of s.views) → Begins (e.before ++ e.last ∷ []) (s.views.line x)
-      old_line j u e x h p on = ⊎_elim
-          (λ (z : key s.views.current ≤ key (s.node j).promise).
+      old_line j u e x h p on = either (low_or_above (key s.views.current) (key (s.node j).promise))
+          (λ z.
           let o = k.views.order x h in
           let same : key s.views.current ≡ x = omega arith in
           subst (λ y. Begins (e.before ++ e.last ∷ []) (s.views.line y)) same on)
-          (λ (z : key (s.node j).promise < key s.views.current).
+          (λ z.
           let o = (k.each j).late u z in
           let then = o.lines (key s.views.current) k.views.now (omega arith) in
           let at_x = o.lines x h p in
           let long = length_push o.before o.last in
           let mine = length_push e.before e.last in
-          ⊎_elim
-          (λ (y : length (e.before ++ e.last ∷ []) ≤ length (o.before ++ o.last ∷ [])). begins_trans (begins_both on then y) at_x)
-          (λ (y : length (o.before ++ o.last ∷ []) < length (e.before ++ e.last ∷ [])).
+          either (low_or_above (length (e.before ++ e.last ∷ [])) (length (o.before ++ o.last ∷ [])))
+          (λ y. begins_trans (begins_both on then y) at_x)
+          (λ y.
           let up_to = begins_trans (begins_more e.before (e.last ∷ [])) on in
           let still = mem_between {b = o.before ++ o.last ∷ []} j (good_begins up_to k.views.good) (begins_more o.before (o.last ∷ []))
           (begins_both then up_to (omega arith)) o.member e.member in
-          let ended = o.ended in absurd (cc))
-          (low_or_above (length (e.before ++ e.last ∷ [])) (length (o.before ++ o.last ∷ []))))
-          (low_or_above (key s.views.current) (key (s.node j).promise))
+          let ended = o.ended in absurd (cc)))
 
   other_ok : (j : ℕ) → j ≢ c → NodeOk views s.group j (s.node j)
   other_ok j other =
@@ -195,12 +189,11 @@ module _ (s : Group) (k : Kept s) (lawful : IsLawful s) (c : ℕ) (v : GroupView
             let q = ap key (l.acts ∙ ap view_of o.chain ∙ k.views.view) in
             let a = above in absurd (omega arith);
         promised = λ t m. needed_promised s k lawful c v d j (subst (λ (ch : Chosen). mem ch.before j ≡ true) chosen_is m) t;
-        stays = λ t l a h m. subst (λ y. mem y j ≡ true) (sym chain_is) (⊎_elim
-            (λ (x : Begins a list).
+        stays = λ t l a h m. subst (λ y. mem y j ≡ true) (sym chain_is) (either (begins_pushed (View choice.view) (subst (Begins a) chain_is h))
+            (λ x.
             let on = ok.stays t l a (begins_trans x chain) m in
             viewed_mem list choice.view j good (d.all j (mem_between j k.views.good x chain m on) t))
-            (λ (x : a ≡ opening choice). subst (λ y. mem y j ≡ true) x m)
-            (begins_pushed (View choice.view) (subst (Begins a) chain_is h)));
+            (λ x. subst (λ y. mem y j ≡ true) x m));
         joined = ok.joined;
         own = ok.own;
         late = λ u l. late_now j u l;
@@ -218,13 +211,12 @@ module _ (s : Group) (k : Kept s) (lawful : IsLawful s) (c : ℕ) (v : GroupView
       }
     where
       heard_old : (j : ℕ) (x : ℕ) → views.decided x ≡ true → key (s.node j).promise < x → (s.node j).told ≤ length (views.chosen x).before
-      heard_old j x h l = ⊎_elim
-          (λ (z : x ≡ w).
+      heard_old j x h l = either (decided_cases x h)
+          (λ z.
           let e = ap (λ y. length (put s.views.chosen w choice y).before) z ∙ ap (λ (ch : Chosen). length ch.before) chosen_is in
           let t = (k.each j).fronts.told in
           let g = begins_length group_low in omega arith)
-          (λ (z : s.views.decided x ≡ true). let e = ap (λ (ch : Chosen). length ch.before) (chosen_old x z) in let o = (k.each j).heard x z l in omega arith)
-          (decided_cases x h)
+          (λ z. let e = ap (λ (ch : Chosen). length ch.before) (chosen_old x z) in let o = (k.each j).heard x z l in omega arith)
 
   own_ok : NodeOk views s.group c node
   own_ok =
@@ -246,8 +238,8 @@ module _ (s : Group) (k : Kept s) (lawful : IsLawful s) (c : ℕ) (v : GroupView
         ballot = λ u b. absurd (cc);
         complete = λ x h t m. subst (λ ch. Begins (opening ch) (opening choice)) (sym (chosen_old x (k.views.marked x h)))
             (begins_trans (complete_in s k lawful c v d x h) more);
-        heard = λ x h l. ⊎_elim (λ (z : x ≡ w). absurd (omega arith)) (λ (z : s.views.decided x ≡ true). let o = k.views.order x z in let a = above in
-            absurd (omega arith)) (decided_cases x h);
+        heard = λ x h l. either (decided_cases x h) (λ z. absurd (omega arith)) (λ z. let o = k.views.order x z in let a = above in
+            absurd (omega arith));
       }
 
   later : Later (s.node c) node
@@ -266,16 +258,15 @@ module _ (s : Group) (k : Kept s) (lawful : IsLawful s) (c : ℕ) (v : GroupView
   enough_new : (x : ℕ) → views.decided x ≡ true → (holders : ℕ → Bool) → ((h : ℕ) → holders h ≡ true → has (views.chosen x).members h ≡ true)
       → ((h : ℕ) → holders h ≡ true → Begins (opening (views.chosen x)) (put s.node c node h).list)
       → min ((views.chosen x).resilience + 1) (how_many (has (views.chosen x).members)) ≤ how_many holders → Begins (opening (views.chosen x)) (chain_of views)
-  enough_new x h holders counts stored much = ⊎_elim
-      (λ (z : x ≡ w). subst (λ ch. Begins (opening ch) (chain_of views)) (sym (ap (put s.views.chosen w choice) z ∙ chosen_is))
+  enough_new x h holders counts stored much = either (decided_cases x h)
+      (λ z. subst (λ ch. Begins (opening ch) (chain_of views)) (sym (ap (put s.views.chosen w choice) z ∙ chosen_is))
       (subst (Begins (opening choice)) (sym chain_is) (begins_refl (opening choice))))
-      (λ (z : s.views.decided x ≡ true).
+      (λ z.
       let same = chosen_old x z in
       subst (λ ch. Begins (opening ch) (chain_of views)) (sym same)
       (old x z holders (λ i t. subst (λ (ch : Chosen). has ch.members i ≡ true) same (counts i t))
       (λ i t. subst (λ ch. Begins (opening ch) (put s.node c node i).list) same (stored i t))
       (subst (λ (ch : Chosen). min (ch.resilience + 1) (how_many (has ch.members)) ≤ how_many holders) same much)))
-      (decided_cases x h)
     where
       old : (x : ℕ) → s.views.decided x ≡ true → (holders : ℕ → Bool) → ((h : ℕ) → holders h ≡ true → has (s.views.chosen x).members h ≡ true)
           → ((h : ℕ) → holders h ≡ true → Begins (opening (s.views.chosen x)) (put s.node c node h).list)
@@ -285,16 +276,15 @@ module _ (s : Group) (k : Kept s) (lawful : IsLawful s) (c : ℕ) (v : GroupView
           (λ t. subst (Begins (opening (s.views.chosen x))) (ap (λ (m : Node). m.list) (put_same s.node c node) ∙ sym chain_is) (stored c t))
           (λ f.
           let ch = s.views.chosen x in
-          let had : (h : ℕ) → holders h ≡ true → Begins (opening ch) (s.node h).list = λ h y. ⊎_elim
-          (λ (q : (h ≡ c) × (put s.node c node h ≡ node)). let u : holders c ≡ true = subst (λ j. holders j ≡ true) q.0 y in absurd (cc))
-          (λ (q : (h ≢ c) × (put s.node c node h ≡ s.node h)). subst (λ (m : Node). Begins (opening ch) m.list) q.1 (stored h y))
-          (put_cases s.node c node h) in
+          let had : (h : ℕ) → holders h ≡ true → Begins (opening ch) (s.node h).list = λ h y. either (put_cases s.node c node h)
+          (λ q. let u : holders c ≡ true = subst (λ j. holders j ≡ true) q.0 y in absurd (cc))
+          (λ q. subst (λ (m : Node). Begins (opening ch) m.list) q.1 (stored h y)) in
           let on = k.enough x z holders counts had much in
           let fine = good_begins on k.views.good in
           let there = resilience_viewed ch.before ch.view in
-          ⊎_elim
-          (λ (l : length (opening ch) ≤ length list). on_new (begins_both on chain l))
-          (λ (l : length list < length (opening ch)). absurd
+          either (low_or_above (length (opening ch)) (length list))
+          (λ l. on_new (begins_both on chain l))
+          (λ l. absurd
           (too_few s k lawful c v d (opening ch) (opening ch) on (begins_both chain on (omega arith)) (begins_refl (opening ch)) l
           (has ch.members) holders counts
           (λ h m. viewed_mem ch.before ch.view h fine m)
@@ -304,8 +294,7 @@ module _ (s : Group) (k : Kept s) (lawful : IsLawful s) (c : ℕ) (v : GroupView
           let long = length_push ch.before (View ch.view) in absurd (omega arith)))
           had
           (λ h t u. begins_length (all_low h u))
-          (subst (λ r. min (r + 1) (how_many (has ch.members)) ≤ how_many holders) (sym there) much)))
-          (low_or_above (length (opening ch)) (length list)))
+          (subst (λ r. min (r + 1) (how_many (has ch.members)) ≤ how_many holders) (sym there) much))))
 
   pub decides_keeps : Kept (with_choice s c v)
   decides_keeps = record {
@@ -348,9 +337,8 @@ module _ (s : Group) (k : Kept s) (lawful : IsLawful s) (c : ℕ) (v : GroupView
     where
       served_low : (i : ℕ) → i ≢ c → IsUp (s.node i) → (s.node i).ballot ≡ true → (l : List Entry) → Begins l (chain_of s.views)
           → ((j : ℕ) → IsThere (s.node j) → mem l j ≡ true → key (s.node i).promise ≤ key (s.node j).promise) → Begins l list
-      served_low i other u b l on promised = ⊎_elim
-          (λ (x : length l ≤ length list). begins_both on chain x)
-          (λ (x : length list < length l).
+      served_low i other u b l on promised = either (low_or_above (length l) (length list))
+          (λ x. begins_both on chain x)
+          (λ x.
           let p = promised c d.up.there (member_above s k lawful c v d l on (omega arith)) in
           let a = ballot_above i other u b in absurd (omega arith))
-          (low_or_above (length l) (length list))

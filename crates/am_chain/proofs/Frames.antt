@@ -1,8 +1,8 @@
 -- What a change of one node leaves as it was.
-use Rattle.am_chain.proofs.Words.{split, ◌≡◌, ◌≢◌, ◌⊎◌, ⊎_elim, inl, inr, ℕ, ◌≤◌, true, false, List, length, Some, refl, sym, ap, ◌∙◌, subst, arith}
-use Rattle.am_chain.proofs.Words.{Entry, Begins, key, begins_refl, begins_trans, begins_length, put, Node, opening, Views, Group, IsThere, IsUp}
-use Rattle.am_chain.proofs.Words.{with_node, NodeOk, ShownOk, ServedOk, Witness, DepartedOk, Kept}
-use Rattle.am_chain.proofs.Puts.{put_cases, put_same, put_at}
+use Rattle.am_chain.proofs.Words.{split, ◌≡◌, ◌≢◌, ◌⊎◌, inl, inr, ℕ, ◌≤◌, true, false, List, length, Some, refl, sym, ap, ◌∙◌, subst, arith, Entry, Begins, key}
+use Rattle.am_chain.proofs.Words.{begins_refl, begins_trans, begins_length, put, Node, opening, Views, Group, IsThere, IsUp, with_node, NodeOk, ShownOk}
+use Rattle.am_chain.proofs.Words.{ServedOk, Witness, DepartedOk, Kept}
+use Rattle.am_chain.proofs.Puts.{put_cases, put_same, put_at, either}
 
 -- a node later on: it has no less, and it isn't there again nor stays again
 pub record Later (a b : Node) : Type 0 where
@@ -101,37 +101,31 @@ module _ (s : Group) (k : Kept s) (i : ℕ) (n : Node) where
         (λ c m. IsUp m → m.ballot ≡ true → s.served (key m.promise) h ≡ true → s.shown (key m.promise) h ≡ Some l
         → ServedOk (put s.node i n) s.views (key m.promise) l)
         s.node i n
-        (λ u b a d. ⊎_elim
-        (λ (o : IsUp (s.node i) × ((s.node i).ballot ≡ true) × (n.promise ≡ (s.node i).promise)).
+        (λ u b a d. either (ballot u b)
+        (λ o.
         subst (λ p. ServedOk (put s.node i n) s.views (key p) l) (sym o.2) (served_later s.node (put s.node i n) s.views (key (s.node i).promise) l up
         (k.served i h l o.0 o.1 (subst (λ p. s.served (key p) h ≡ true) o.2 a) (subst (λ p. s.shown (key p) h ≡ Some l) o.2 d))))
-        (λ (o : (h : ℕ) (l : List Entry) → s.shown (key n.promise) h ≡ Some l → ⊥). absurd (o h l d))
-        (ballot u b))
+        (λ o. absurd (o h l d)))
         (λ c other u b a d. served_later s.node (put s.node i n) s.views (key (s.node c).promise) l up (k.served c h l u b a d)) c;
     sent = k.sent;
     witness = λ m low high. witness_later s.node (put s.node i n) s.group m up (k.witness m low high);
     departed = put_at (λ d m. m.departed ≡ true → DepartedOk (put s.node i n) s.views d) s.node i n
-        (λ h. ⊎_elim
-        (λ (o : (s.node i).departed ≡ true). departed_later s.node (put s.node i n) s.views i up (k.departed i o))
-        (λ (o : DepartedOk s.node s.views i). departed_later s.node (put s.node i n) s.views i up o)
-        (gone h))
+        (λ h. either (gone h)
+        (λ o. departed_later s.node (put s.node i n) s.views i up (k.departed i o))
+        (λ o. departed_later s.node (put s.node i n) s.views i up o))
         (λ d other h. departed_later s.node (put s.node i n) s.views d up (k.departed d h));
     enough = λ x decided holders counts stored much. split (holders i)
-        (λ t. ⊎_elim
-        (λ (o : (n.list ≡ (s.node i).list) × (IsUp n → IsUp (s.node i))).
-        k.enough x decided holders counts (λ h y. ⊎_elim
-        (λ (z : (h ≡ i) × (put s.node i n h ≡ n)). subst (λ j. Begins (opening (s.views.chosen x)) (s.node j).list) (sym z.0)
+        (λ t. either list
+        (λ o.
+        k.enough x decided holders counts (λ h y. either (put_cases s.node i n h)
+        (λ z. subst (λ j. Begins (opening (s.views.chosen x)) (s.node j).list) (sym z.0)
         (subst (Begins (opening (s.views.chosen x))) (ap (λ (m : Node). m.list) z.1 ∙ o.0) (stored h y)))
-        (λ (z : (h ≢ i) × (put s.node i n h ≡ s.node h)). subst (λ (m : Node). Begins (opening (s.views.chosen x)) m.list) z.1 (stored h y))
-        (put_cases s.node i n h)) much)
-        (λ (o : IsUp n × ((c : ℕ) (l : List Entry) → c ≢ i → IsUp (s.node c) → (s.node c).ballot ≡ true → s.shown (key (s.node c).promise) i ≡ Some l
-        → (length n.list ≤ length l) ⊎ (length n.list ≤ length (s.node c).list))).
-        begins_trans (subst (λ (m : Node). Begins (opening (s.views.chosen x)) m.list) (put_same s.node i n) (stored i t)) (ok.list o.0))
-        list)
-        (λ f. k.enough x decided holders counts (λ h y. ⊎_elim
-        (λ (z : (h ≡ i) × (put s.node i n h ≡ n)). let u : holders i ≡ true = subst (λ j. holders j ≡ true) z.0 y in absurd (cc))
-        (λ (z : (h ≢ i) × (put s.node i n h ≡ s.node h)). subst (λ (m : Node). Begins (opening (s.views.chosen x)) m.list) z.1 (stored h y))
-        (put_cases s.node i n h)) much);
+        (λ z. subst (λ (m : Node). Begins (opening (s.views.chosen x)) m.list) z.1 (stored h y))) much)
+        (λ o.
+        begins_trans (subst (λ (m : Node). Begins (opening (s.views.chosen x)) m.list) (put_same s.node i n) (stored i t)) (ok.list o.0)))
+        (λ f. k.enough x decided holders counts (λ h y. either (put_cases s.node i n h)
+        (λ z. let u : holders i ≡ true = subst (λ j. holders j ≡ true) z.0 y in absurd (cc))
+        (λ z. subst (λ (m : Node). Begins (opening (s.views.chosen x)) m.list) z.1 (stored h y))) much);
   }
     where
       up : (j : ℕ) → Later (s.node j) (put s.node i n j)
@@ -142,24 +136,23 @@ module _ (s : Group) (k : Kept s) (i : ℕ) (n : Node) where
       short_own v l u b d = put_at
           (λ v m. s.shown (key n.promise) v ≡ Some l → IsUp m → (length m.list ≤ length l) ⊎ (length m.list ≤ length n.list))
           s.node i n (λ _ _. inr (omega arith))
-          (λ v other d w. ⊎_elim
-          (λ (o : IsUp (s.node i) × ((s.node i).ballot ≡ true) × (n.promise ≡ (s.node i).promise)).
+          (λ v other d w. either (ballot u b)
+          (λ o.
           let more = begins_length later.list in
-          ⊎_elim (λ (a : length (s.node v).list ≤ length l). inl a) (λ (a : length (s.node v).list ≤ length (s.node i).list). inr (omega arith))
-          (k.short i v l o.0 o.1 (subst (λ p. s.shown (key p) v ≡ Some l) o.2 d) w))
-          (λ (o : (h : ℕ) (l : List Entry) → s.shown (key n.promise) h ≡ Some l → ⊥). absurd (o v l d))
-          (ballot u b)) v d
+          either (k.short i v l o.0 o.1 (subst (λ p. s.shown (key p) v ≡ Some l) o.2 d) w)
+          (λ a. inl a)
+          (λ a. inr (omega arith)))
+          (λ o. absurd (o v l d))) v d
 
       short_other : (c v : ℕ) (l : List Entry) → c ≢ i → IsUp (s.node c) → (s.node c).ballot ≡ true → s.shown (key (s.node c).promise) v ≡ Some l
           → IsUp (put s.node i n v) → (length (put s.node i n v).list ≤ length l) ⊎ (length (put s.node i n v).list ≤ length (s.node c).list)
       short_other c v l other u b d = put_at
           (λ v m. s.shown (key (s.node c).promise) v ≡ Some l → IsUp m → (length m.list ≤ length l) ⊎ (length m.list ≤ length (s.node c).list))
           s.node i n
-          (λ d w. ⊎_elim
-          (λ (o : (n.list ≡ (s.node i).list) × (IsUp n → IsUp (s.node i))). let e = ap length o.0 in
-          ⊎_elim (λ (a : length (s.node i).list ≤ length l). inl (omega arith)) (λ (a : length (s.node i).list ≤ length (s.node c).list). inr (omega arith))
-          (k.short c i l u b d (o.1 w)))
-          (λ (o : IsUp n × ((c : ℕ) (l : List Entry) → c ≢ i → IsUp (s.node c) → (s.node c).ballot ≡ true → s.shown (key (s.node c).promise) i ≡ Some l
-          → (length n.list ≤ length l) ⊎ (length n.list ≤ length (s.node c).list))). o.1 c l other u b d)
-          list)
+          (λ d w. either list
+          (λ o. let e = ap length o.0 in
+          either (k.short c i l u b d (o.1 w))
+          (λ a. inl (omega arith))
+          (λ a. inr (omega arith)))
+          (λ o. o.1 c l other u b d))
           (λ v _ d w. k.short c v l u b d w) v d

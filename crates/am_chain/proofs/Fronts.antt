@@ -1,12 +1,12 @@
 -- The group list grows, and the chain does.
-use Rattle.am_chain.proofs.Words.{low_or_above, split, ◌≡◌, ◌≢◌, ◌⊎◌, ⊎_elim, ℕ, ◌+◌, ◌-◌, ◌<◌, ◌≤◌, min, true, false, List, [], ◌∷◌, ◌++◌, length, take, Some}
+use Rattle.am_chain.proofs.Words.{low_or_above, split, ◌≡◌, ◌≢◌, ◌⊎◌, ℕ, ◌+◌, ◌-◌, ◌<◌, ◌≤◌, min, true, false, List, [], ◌∷◌, ◌++◌, length, take, Some}
 use Rattle.am_chain.proofs.Words.{slice_get, sym, ap, ◌∙◌, subst, arith, take-append-le, Entry, View, has, members_of, fits, counted_of, Begins, IsGood}
 use Rattle.am_chain.proofs.Words.{NotView, SmallName, image_of, mem, view_of, key, resilience_of, begins_refl, begins_more, begins_trans, begins_length}
 use Rattle.am_chain.proofs.Words.{begins_both, begins_pushed, begins_take, length_take, Spares, mem_push, good_push, view_push, put, how_many, counted_in}
 use Rattle.am_chain.proofs.Words.{need_of, Node, opening, Views, Group, chain_of, IsThere, IsUp, Leads, MayAccept, NodeOk, ServedOk, Witness, DepartedOk}
 use Rattle.am_chain.proofs.Words.{ViewsOk, Kept}
-use Rattle.am_chain.proofs.{Puts.put_cases, Puts.put_same, Puts.put_at, Frames.Later, Frames.later_all, Frames.shown_later, Frames.served_later}
-use Rattle.am_chain.proofs.{Frames.witness_later, Frames.departed_later}
+use Rattle.am_chain.proofs.Puts.{put_cases, put_same, put_at, either}
+use Rattle.am_chain.proofs.Frames.{Later, later_all, shown_later, served_later, witness_later, departed_later}
 use Rattle.am_group.proofs.Places.{get_before}
 
 pub take_more : {a b : List Entry} (n : ℕ) → Begins a b → n ≤ length a → take n b ≡ take n a
@@ -103,10 +103,9 @@ group_change s k list to is may =
       short = k.short;
       served = k.served;
       sent = k.sent;
-      witness = λ n low high. ⊎_elim
-          (λ (h : n ≤ length s.group). witness_more s.node s.group (take to list) n grows (omega arith) (k.witness n low h))
-          (λ (h : length s.group < n). accept_witness s.node list s.group to n (λ j l. ((k.each j).joined l).accepted) may h (omega arith))
-          (low_or_above n (length s.group));
+      witness = λ n low high. either (low_or_above n (length s.group))
+          (λ h. witness_more s.node s.group (take to list) n grows (omega arith) (k.witness n low h))
+          (λ h. accept_witness s.node list s.group to n (λ j l. ((k.each j).joined l).accepted) may h (omega arith));
       departed = k.departed;
       enough = k.enough;
     }
@@ -131,15 +130,13 @@ module _ (s : Group) (k : Kept s) (i : ℕ) (e : Entry) (leads : Leads i (s.node
       (subst (λ l. Begins l ((s.node i).list ++ e ∷ [])) list_is (begins_more (s.node i).list (e ∷ [])))
 
   line_grows : (x : ℕ) → Begins (s.views.line x) (put s.views.line (key (view_of (s.node i).list)) ((s.node i).list ++ e ∷ []) x)
-  line_grows x = ⊎_elim
-      (λ (c : (x ≡ key (view_of (s.node i).list)) × (put s.views.line (key (view_of (s.node i).list)) ((s.node i).list ++ e ∷ []) x
-      ≡ (s.node i).list ++ e ∷ [])).
+  line_grows x = either (put_cases s.views.line (key (view_of (s.node i).list)) ((s.node i).list ++ e ∷ []) x)
+      (λ c.
       let at : x ≡ key s.views.current = c.0 ∙ ap key view_is in
       subst (Begins (s.views.line x)) (sym c.1) (subst (λ l. Begins l ((s.node i).list ++ e ∷ [])) (list_is
       ∙ ap s.views.line (sym at)) (begins_more (s.node i).list (e ∷ []))))
-      (λ (c : (x ≢ key (view_of (s.node i).list)) × (put s.views.line (key (view_of (s.node i).list)) ((s.node i).list ++ e ∷ []) x ≡ s.views.line x)).
+      (λ c.
       subst (Begins (s.views.line x)) (sym c.1) (begins_refl (s.views.line x)))
-      (put_cases s.views.line (key (view_of (s.node i).list)) ((s.node i).list ++ e ∷ []) x)
 
   small_plain : (e : Entry) → NotView e → SmallName e
   small_plain (View v) h = absurd h
@@ -174,10 +171,9 @@ module _ (s : Group) (k : Kept s) (i : ℕ) (e : Entry) (leads : Leads i (s.node
             let o = ok.leads l in
             absurd (other (sym l.by ∙ ap (λ (x : List Entry). (view_of x).by) (o.chain ∙ sym list_is) ∙ leads.by));
         promised = ok.promised;
-        stays = λ t l a h m. ⊎_elim
-            (λ (x : Begins a (s.node i).list). stay (ok.stays t l a (subst (Begins a) list_is x) m) t l)
-            (λ (x : a ≡ (s.node i).list ++ e ∷ []). subst (λ y. mem y j ≡ true) (x ∙ sym chain_is) m)
-            (begins_pushed e (subst (Begins a) chain_is h));
+        stays = λ t l a h m. either (begins_pushed e (subst (Begins a) chain_is h))
+            (λ x. stay (ok.stays t l a (subst (Begins a) list_is x) m) t l)
+            (λ x. subst (λ y. mem y j ≡ true) (x ∙ sym chain_is) m);
         joined = ok.joined;
         own = ok.own;
         late = λ u l. let o = ok.late u l in record {
@@ -223,17 +219,15 @@ module _ (s : Group) (k : Kept s) (i : ℕ) (e : Entry) (leads : Leads i (s.node
         sent = k.sent;
         witness = λ m low high. witness_later s.node (put s.node i n) s.group m up_all (k.witness m low high);
         departed = put_at (λ d m. m.departed ≡ true → DepartedOk (put s.node i n) grown d) s.node i n
-            (λ h. ⊎_elim
-            (λ (o : (s.node i).departed ≡ true). departed_grows i (k.departed i o))
-            (λ (o : DepartedOk s.node grown i). departed_later s.node (put s.node i n) grown i up_all o)
-            (gone h))
+            (λ h. either (gone h)
+            (λ o. departed_grows i (k.departed i o))
+            (λ o. departed_later s.node (put s.node i n) grown i up_all o))
             (λ d other h. departed_grows d (k.departed d h));
         enough = λ x decided holders counts stored much. split (holders i)
             (λ t. subst (Begins (opening (s.views.chosen x))) (ap (λ (m : Node). m.list) (put_same s.node i n) ∙ chain_n) (stored i t))
-            (λ f. begins_trans (k.enough x decided holders counts (λ h y. ⊎_elim
-            (λ (z : (h ≡ i) × (put s.node i n h ≡ n)). let u : holders i ≡ true = subst (λ j. holders j ≡ true) z.0 y in absurd (cc))
-            (λ (z : (h ≢ i) × (put s.node i n h ≡ s.node h)). subst (λ (m : Node). Begins (opening (s.views.chosen x)) m.list) z.1 (stored h y))
-            (put_cases s.node i n h)) much) chain_grows);
+            (λ f. begins_trans (k.enough x decided holders counts (λ h y. either (put_cases s.node i n h)
+            (λ z. let u : holders i ≡ true = subst (λ j. holders j ≡ true) z.0 y in absurd (cc))
+            (λ z. subst (λ (m : Node). Begins (opening (s.views.chosen x)) m.list) z.1 (stored h y))) much) chain_grows);
       }
     where
       no_ballot : (s.node i).ballot ≡ true → ⊥

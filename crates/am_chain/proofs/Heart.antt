@@ -1,20 +1,19 @@
 -- A coordinator that decides has all that was accepted.
-use Rattle.am_chain.proofs.Words.{low_or_above, split, ◌≡◌, ◌⊎◌, ⊎_elim, ℕ, zero, suc, ◌+◌, ◌-◌, ◌<◌, ◌≤◌, ◌&&◌, ◌||◌, not, nat_lt, min, Bool, true, false}
-use Rattle.am_chain.proofs.Words.{List, [], ◌∷◌, ◌++◌, length, take, Option, Some, None, slice_get, refl, sym, ap, ◌∙◌, subst, arith, nat_tests}
-use Rattle.am_chain.proofs.Words.{slice_get_within, GroupView, Entry, Leave, View, has, Begins, IsGood, mem, view_of, key, resilience_of, begins_refl}
-use Rattle.am_chain.proofs.Words.{begins_nil, begins_more, begins_trans, begins_length, begins_both, begins_same, begins_push, length_push, begins_take}
-use Rattle.am_chain.proofs.Words.{length_take, take_begins, mem_between, mem_nil, mem_viewed, viewed_mem, good_begins, leaver_in, leaver_out, view_up}
-use Rattle.am_chain.proofs.Words.{resilience_up, resilience_viewed, how_many, counted_in, opening, Group, chain_of, IsThere, IsUp, NoBetter, MayDecide, Voted}
-use Rattle.am_chain.proofs.Words.{counts_for, IsLawful, BallotOk, Kept}
-use Rattle.am_chain.proofs.Puts.{count_within, count_below}
+use Rattle.am_chain.proofs.Words.{low_or_above, split, ◌≡◌, ◌⊎◌, ℕ, zero, suc, ◌+◌, ◌-◌, ◌<◌, ◌≤◌, ◌&&◌, ◌||◌, not, nat_lt, min, Bool, true, false, List, []}
+use Rattle.am_chain.proofs.Words.{◌∷◌, ◌++◌, length, take, Option, Some, None, slice_get, refl, sym, ap, ◌∙◌, subst, arith, nat_tests, slice_get_within}
+use Rattle.am_chain.proofs.Words.{GroupView, Entry, Leave, View, has, Begins, IsGood, mem, key, resilience_of, begins_refl, begins_nil, begins_more}
+use Rattle.am_chain.proofs.Words.{begins_trans, begins_length, begins_both, begins_same, begins_push, length_push, begins_take, length_take, take_begins}
+use Rattle.am_chain.proofs.Words.{mem_between, mem_nil, mem_viewed, viewed_mem, good_begins, leaver_in, leaver_out, view_up, resilience_up, resilience_viewed}
+use Rattle.am_chain.proofs.Words.{how_many, counted_in, opening, Group, chain_of, IsThere, IsUp, NoBetter, MayDecide, counts_for, IsLawful, BallotOk, Kept}
+use Rattle.am_chain.proofs.Puts.{count_within, count_below, either}
 
 -- the greatest number that passes
 pub greatest_of : (p : ℕ → Bool) (bound x : ℕ) → p x ≡ true → ((y : ℕ) → p y ≡ true → y ≤ bound) → (g : ℕ) × (p g ≡ true) × ((y : ℕ) → p y ≡ true → y ≤ g)
 greatest_of p zero x h all = let z = all x h in (x, h, λ y k. let w = all y k in omega arith)
 greatest_of p (suc bound) x h all = split (p (suc bound))
     (λ t. (suc bound, t, all))
-    (λ f. greatest_of p bound x h (λ y k. ⊎_elim (λ (l : y ≤ bound). l) (λ (l : bound < y). let w = all y k in let e : y ≡ suc bound = omega arith in
-    let z : p (suc bound) ≡ true = subst (λ m. p m ≡ true) e k in absurd (cc)) (low_or_above y bound)))
+    (λ f. greatest_of p bound x h (λ y k. either (low_or_above y bound) (λ l. l) (λ l. let w = all y k in let e : y ≡ suc bound = omega arith in
+    let z : p (suc bound) ≡ true = subst (λ m. p m ≡ true) e k in absurd (cc))))
 
 -- Where the members stand whose storage of an entry counts.
 pub record CountedAt (list : List Entry) (n : ℕ) : Type 0 where
@@ -70,9 +69,9 @@ and_true : (a b c : Bool) → a ≡ true → b ≡ true → c ≡ false → (a &
 and_true true true false x y z = refl
 and_true _ _ _ x y z = absurd (cc)
 
-either : (a b c : Bool) → (a ≡ false → (b ≡ true) × (c ≡ true)) → (a || (b && c)) ≡ true
-either true b c h = refl
-either false b c h = let z = h refl in let x = z.0 in let y = z.1 in rw (x, y) refl
+or_both : (a b c : Bool) → (a ≡ false → (b ≡ true) × (c ≡ true)) → (a || (b && c)) ≡ true
+or_both true b c h = refl
+or_both false b c h = let z = h refl in let x = z.0 in let y = z.1 in rw (x, y) refl
 
 -- A ballot that may be decided, in a lawful moment.
 module _ (s : Group) (k : Kept s) (lawful : IsLawful s) (c : ℕ) (v : GroupView) (d : MayDecide s c v) where
@@ -91,53 +90,48 @@ module _ (s : Group) (k : Kept s) (lawful : IsLawful s) (c : ℕ) (v : GroupView
 
   -- a needed name has promised, and has no more than the coordinator
   pub needed_promised : (j : ℕ) → mem (s.node c).list j ≡ true → IsThere (s.node j) → key (s.node c).promise ≤ key (s.node j).promise
-  needed_promised j m t = ⊎_elim
-      (λ (x : j ≡ c). let e = ap (λ i. key (s.node i).promise) x in omega arith)
-      (λ (x : Voted s (key (s.node c).promise) j (s.node c).list). (k.shown (key (s.node c).promise) j x.vote x.is).promised)
-      (d.votes j m t)
+  needed_promised j m t = either (d.votes j m t)
+      (λ x. let e = ap (λ i. key (s.node i).promise) x in omega arith)
+      (λ x. (k.shown (key (s.node c).promise) j x.vote x.is).promised)
 
   vote_low : (v : List Entry) → Begins v (chain_of s.views) → NoBetter v (s.node c).list → length v ≤ length (s.node c).list
-  vote_low v h worse = ⊎_elim
-      (λ (l : length v ≤ length (s.node c).list). l)
-      (λ (l : length (s.node c).list < length v).
+  vote_low v h worse = either (low_or_above (length v) (length (s.node c).list))
+      (λ l. l)
+      (λ l.
       let up = view_up (good_begins h k.views.good) (begins_both list_chain h (omega arith)) in
-      ⊎_elim
-      (λ (x : key (view_of v) < key (view_of (s.node c).list)). absurd (omega arith))
-      (λ (x : (key (view_of v) ≡ key (view_of (s.node c).list)) × (length v ≤ length (s.node c).list)). x.1)
-      worse)
-      (low_or_above (length v) (length (s.node c).list))
+      either worse
+      (λ x. absurd (omega arith))
+      (λ x. x.1))
 
   pub needed_low : (j : ℕ) → mem (s.node c).list j ≡ true → IsUp (s.node j) → length (s.node j).list ≤ length (s.node c).list
-  needed_low j m u = ⊎_elim
-      (λ (x : j ≡ c). let e = ap (λ i. length (s.node i).list) x in omega arith)
-      (λ (x : Voted s (key (s.node c).promise) j (s.node c).list).
+  needed_low j m u = either (d.votes j m u.there)
+      (λ x. let e = ap (λ i. length (s.node i).list) x in omega arith)
+      (λ x.
       let o = k.shown (key (s.node c).promise) j x.vote x.is in
       let low = vote_low x.vote (begins_trans o.list ((k.each j).list u)) x.worse in
-      ⊎_elim (λ (y : length (s.node j).list ≤ length x.vote). omega arith) (λ (y : length (s.node j).list ≤ length (s.node c).list). y)
-      (k.short c j x.vote d.up d.ballot x.is u))
-      (d.votes j m u.there)
+      either (k.short c j x.vote d.up d.ballot x.is u)
+      (λ y. omega arith)
+      (λ y. y))
 
   -- a departed name's Leave stands in the coordinator's list
   pub departed_in : (e : ℕ) (h : (s.node e).departed ≡ true) → Begins ((k.departed e h).before ++ Leave e ∷ []) (s.node c).list
   departed_in e h =
       let o = k.departed e h in
       let more = length_push o.before (Leave e) in
-      ⊎_elim
-      (λ (l : length (o.before ++ Leave e ∷ []) ≤ length (s.node c).list). begins_both o.chain list_chain l)
-      (λ (l : length (s.node c).list < length (o.before ++ Leave e ∷ [])).
+      either (low_or_above (length (o.before ++ Leave e ∷ [])) (length (s.node c).list))
+      (λ l. begins_both o.chain list_chain l)
+      (λ l.
       o.stored c (member_above o.before (begins_trans (begins_more o.before (Leave e ∷ [])) o.chain) (omega arith)) d.up.there ballot_ok.staying)
-      (low_or_above (length (o.before ++ Leave e ∷ [])) (length (s.node c).list))
 
   -- each complete view's View does
   pub complete_in : (g : ℕ) → s.views.complete g ≡ true → Begins (opening (s.views.chosen g)) (s.node c).list
   complete_in g h =
       let o = k.views.complete g h in
       let ch = s.views.chosen g in
-      ⊎_elim
-      (λ (l : length (opening ch) ≤ length (s.node c).list). begins_both o list_chain l)
-      (λ (l : length (s.node c).list < length (opening ch)).
+      either (low_or_above (length (opening ch)) (length (s.node c).list))
+      (λ l. begins_both o list_chain l)
+      (λ l.
       (k.each c).complete g h d.up.there (mem_viewed ch.before ch.view c (member_above (opening ch) o (omega arith))))
-      (low_or_above (length (opening ch)) (length (s.node c).list))
 
   -- Who holds more of the chain than the coordinator are too few: if none of them is up, they are stopped undeparted, and
   -- count for the greatest complete view.
@@ -167,14 +161,14 @@ module _ (s : Group) (k : Kept s) (lawful : IsLawful s) (c : ℕ) (v : GroupView
         (λ goes. absurd (not_up h t (record { log = logs h t; there = record { goes = goes; stays = stays } }))))
 
     counts : (g : ℕ) → s.views.complete g ≡ true → (h : ℕ) → holders h ≡ true → counts_for s g h ≡ true
-    counts g is h t = either (has (s.views.chosen g).members h) (s.node h).has_log (nat_lt (length (opening (s.views.chosen g))) (s.node h).start)
+    counts g is h t = or_both (has (s.views.chosen g).members h) (s.node h).has_log (nat_lt (length (opening (s.views.chosen g))) (s.node h).start)
         (λ f. (logs h t, late g is h t f (low_or_above (s.node h).start (length (opening (s.views.chosen g))))))
       where
         late : (g : ℕ) → s.views.complete g ≡ true → (h : ℕ) → holders h ≡ true → has (s.views.chosen g).members h ≡ false
             → ((s.node h).start ≤ length (opening (s.views.chosen g))) ⊎ (length (opening (s.views.chosen g)) < (s.node h).start)
             → nat_lt (length (opening (s.views.chosen g))) (s.node h).start ≡ true
-        late g is h t f w = ⊎_elim
-            (λ (x : (s.node h).start ≤ length (opening (s.views.chosen g))).
+        late g is h t f w = either w
+            (λ x.
             let ch = s.views.chosen g in
             let j = (k.each h).joined (logs h t) in
             let long = length_take (s.node h).start s.group j.accepted in
@@ -183,8 +177,7 @@ module _ (s : Group) (k : Kept s) (lawful : IsLawful s) (c : ℕ) (v : GroupView
             let good = good_begins (begins_trans below chain) k.views.good in
             let there = mem_between h good part (begins_trans (complete_in g is) above) j.member (members_at h (in_count h t)) in
             let z = mem_viewed ch.before ch.view h there in absurd (cc))
-            (λ (x : length (opening (s.views.chosen g)) < (s.node h).start). grind (arith, nat_tests))
-            w
+            (λ x. grind (arith, nat_tests))
 
     pub too_few : ⊥
     too_few =
@@ -202,17 +195,15 @@ module _ (s : Group) (k : Kept s) (lawful : IsLawful s) (c : ℕ) (v : GroupView
 
   -- what was accepted stands in the coordinator's list
   pub group_in : Begins s.group (s.node c).list
-  group_in = ⊎_elim
-      (λ (l : length s.group ≤ length (s.node c).list). begins_both k.group list_chain l)
-      (λ (l : length (s.node c).list < length s.group). absurd (lost l))
-      (low_or_above (length s.group) (length (s.node c).list))
+  group_in = either (low_or_above (length s.group) (length (s.node c).list))
+      (λ l. begins_both k.group list_chain l)
+      (λ l. absurd (lost l))
     where
       lost : length (s.node c).list < length s.group → ⊥
       lost l =
-          let some : 0 < length (s.node c).list = ⊎_elim
-          (λ (x : length (s.node c).list ≤ 0). absurd (mem_nil c (subst (λ y. mem y c ≡ true) (sym (begins_same (begins_nil (s.node c).list) x)) d.needed)))
-          (λ (x : 0 < length (s.node c).list). x)
-          (low_or_above (length (s.node c).list) 0) in
+          let some : 0 < length (s.node c).list = either (low_or_above (length (s.node c).list) 0)
+          (λ x. absurd (mem_nil c (subst (λ y. mem y c ≡ true) (sym (begins_same (begins_nil (s.node c).list) x)) d.needed)))
+          (λ x. x) in
           let w = k.witness (length (s.node c).list + 1) (omega arith) (omega arith) in
           let n = w.number in
           let a = w.above in

@@ -1,7 +1,8 @@
 -- A view that completes stands in the chain.
-use Rattle.am_chain.proofs.Words.{low_or_above, split, ◌≡◌, ◌⊎◌, ⊎_elim, ℕ, ◌<◌, ◌≤◌, Bool, true, [], ◌∷◌, length, refl, ap, arith, View, has, fold, Begins}
-use Rattle.am_chain.proofs.Words.{view_of, key, begins_more, begins_both, length_push, good_begins, view_up, view_below, opening, Views, Group, chain_of}
-use Rattle.am_chain.proofs.Words.{IsThere, Completes, NodeOk, Kept}
+use Rattle.am_chain.proofs.Words.{low_or_above, split, ◌≡◌, ◌⊎◌, ℕ, ◌<◌, ◌≤◌, Bool, true, [], ◌∷◌, length, refl, ap, arith, View, has, fold, Begins, view_of}
+use Rattle.am_chain.proofs.Words.{key, begins_more, begins_both, length_push, good_begins, view_up, view_below, opening, Views, Group, chain_of, IsThere}
+use Rattle.am_chain.proofs.Words.{Completes, NodeOk, Kept}
+use Rattle.am_chain.proofs.{Puts.either}
 
 view_nil : key (view_of []) ≡ 0
 unfolding fold view_of key
@@ -30,13 +31,12 @@ module _ (s : Group) (k : Kept s) (complete : ℕ → Bool) (stay : (x : ℕ) �
       split (s.node j).has_log
       (λ log.
       let mine = (k.each j).list (record { log = log; there = t }) in
-      ⊎_elim
-      (λ (l : length (opening ch) ≤ length (s.node j).list). begins_both on mine l)
-      (λ (l : length (s.node j).list < length (opening ch)).
+      either (low_or_above (length (opening ch)) (length (s.node j).list))
+      (λ l. begins_both on mine l)
+      (λ l.
       let part = begins_both (begins_both mine on (omega arith)) (begins_more ch.before (View ch.view ∷ [])) (omega arith) in
       let up = view_up (good_begins (begins_more ch.before (View ch.view ∷ [])) good) part in
-      absurd (omega arith))
-      (low_or_above (length (opening ch)) (length (s.node j).list)))
+      absurd (omega arith)))
       (λ none.
       let e = ap (λ l. key (view_of l)) ((k.each j).blank none) in
       let z = view_nil in absurd (omega arith))
@@ -56,7 +56,7 @@ module _ (s : Group) (k : Kept s) (complete : ℕ → Bool) (stay : (x : ℕ) �
         own = ok.own;
         late = λ u l. let o = ok.late u l in record { before = o.before; last = o.last; list = o.list; member = o.member; ended = o.ended; lines = o.lines };
         ballot = λ u b. let o = ok.ballot u b in record { small = o.small; above = o.above; by = o.by; staying = o.staying; member = o.member };
-        complete = λ x h t m. ⊎_elim (λ (o : s.views.complete x ≡ true). ok.complete x o t m) (λ (o : Completes s x). stored x o j t m) (marks x h);
+        complete = λ x h t m. either (marks x h) (λ o. ok.complete x o t m) (λ o. stored x o j t m);
         heard = ok.heard;
       }
 
@@ -69,8 +69,8 @@ module _ (s : Group) (k : Kept s) (complete : ℕ → Bool) (stay : (x : ℕ) �
       good = k.views.good;
       view = k.views.view;
       opens = k.views.opens;
-      complete = λ x h. ⊎_elim (λ (o : s.views.complete x ≡ true). k.views.complete x o) (λ (o : Completes s x). stands x o) (marks x h);
-      marked = λ x h. ⊎_elim (λ (o : s.views.complete x ≡ true). k.views.marked x o) (λ (o : Completes s x). o.decided) (marks x h);
+      complete = λ x h. either (marks x h) (λ o. k.views.complete x o) (λ o. stands x o);
+      marked = λ x h. either (marks x h) (λ o. k.views.marked x o) (λ o. o.decided);
       some = (k.views.some.0, stay k.views.some.0 k.views.some.1);
     };
     group = k.group;

@@ -1,9 +1,10 @@
 -- What each move of one node keeps of that node.
-use Rattle.am_chain.proofs.Words.{low_or_above, ◌≡◌, ◌≢◌, ◌⊎◌, ⊎_elim, ℕ, ◌+◌, ◌<◌, ◌≤◌, Bool, true, false, List, [], ◌∷◌, ◌++◌, length, take, Some, slice_get}
-use Rattle.am_chain.proofs.Words.{refl, sym, ap, ◌∙◌, subst, arith, length-append, take-append-le, slice_get_within, Stamp, Entry, View, rank_of, Begins, mem}
+use Rattle.am_chain.proofs.Words.{low_or_above, ◌≡◌, ◌≢◌, ◌⊎◌, ℕ, ◌+◌, ◌<◌, ◌≤◌, Bool, true, false, List, [], ◌∷◌, ◌++◌, length, take, Some, slice_get, refl}
+use Rattle.am_chain.proofs.Words.{sym, ap, ◌∙◌, subst, arith, length-append, take-append-le, slice_get_within, Stamp, Entry, View, rank_of, Begins, mem}
 use Rattle.am_chain.proofs.Words.{view_of, key, begins_more, begins_trans, begins_length, begins_both, begins_same, begins_push, length_push, below_begins}
 use Rattle.am_chain.proofs.Words.{below_length, below_of, begins_take, length_take, mem_between, view_up, Node, opening, Views, Group, chain_of, current_of}
 use Rattle.am_chain.proofs.Words.{IsThere, IsUp, IsOngoing, own_stamp, longer, MayWelcome, FrontsOk, LateOk, BallotOk, NodeOk, ServedOk, ViewsOk}
+use Rattle.am_chain.proofs.{Puts.either}
 
 -- a list that goes on
 pub fronts_longer : (group : List Entry) (m n : Node) (more : List Entry) → n.list ≡ m.list ++ more → n.told ≡ m.told → n.acc ≡ m.acc → FrontsOk group m
@@ -96,19 +97,15 @@ raise_ok views group i m stamp above small other ok =
 -- who doesn't leave has promised the current view
 pub not_late : (views : Views) (group : List Entry) (i : ℕ) (m : Node) → ViewsOk views → IsUp m → m.leaving ≡ false → NodeOk views group i m
     → key views.current ≤ key m.promise
-not_late views group i m v u staying ok = ⊎_elim
-    (λ (h : key views.current ≤ key m.promise). h)
-    (λ (h : key m.promise < key views.current).
+not_late views group i m v u staying ok = either (low_or_above (key views.current) (key m.promise))
+    (λ h. h)
+    (λ h.
     let o = ok.late u h in
     let chain = o.lines (key views.current) v.now (omega arith) in
     let shorter = begins_more o.before (o.last ∷ []) in
     let now = ok.stays u.there staying o.before (begins_trans shorter chain) o.member in
     let still = mem_between {b = o.before ++ o.last ∷ []} i v.good shorter chain o.member now in
     absurd (cc))
-    (low_or_above (key views.current) (key m.promise))
-  where
-    low_or_above : (a b : ℕ) → (a ≤ b) ⊎ (b < a)
-    low_or_above a b = grind arith
 
 pub own_above : (i : ℕ) (m : Node) → m.promise.by < 256 → key m.promise < key (own_stamp i m)
 unfolding key
@@ -174,12 +171,11 @@ longer_ok views group i m e u chain ongoing leads late ballot ok =
     own_go : (d a : List Entry) → Begins a d → mem a i ≡ true → Begins d (m.list ++ e ∷ []) → length d < length (m.list ++ e ∷ []) → mem d i ≡ true
     own_go d a h a_in below short =
         let more = length_push m.list e in
-        ⊎_elim
-        (λ (l : length d < length m.list). ok.own u a d (below_of (begins_both below (begins_more m.list (e ∷ [])) (omega arith)) l) h a_in)
-        (λ (l : length d ≡ length m.list).
+        either (low_or_above (length d) (length m.list) (omega arith))
+        (λ l. ok.own u a d (below_of (begins_both below (begins_more m.list (e ∷ [])) (omega arith)) l) h a_in)
+        (λ l.
         let all : d ≡ m.list = begins_same (begins_both below (begins_more m.list (e ∷ [])) (omega arith)) (omega arith) in
         subst (λ l. mem l i ≡ true) (sym all) (ongoing a (subst (Begins a) all h) a_in))
-        (low_or_above (length d) (length m.list) (omega arith))
 
 -- the next entry of the line of a decided promise is the next of the chain
 pub store_late : (views : Views) (i : ℕ) (m : Node) (e : Entry) → views.decided (key m.promise) ≡ true → IsOngoing m.list i
@@ -188,27 +184,25 @@ store_late views i m e decided ongoing next o =
     let line = o.lines (key m.promise) decided (omega arith) in
     let all = begins_push e (begins_trans o.list line) next in
     let more = length_push m.list e in
-    let short : length m.list < length (o.before ++ o.last ∷ []) = ⊎_elim
-    (λ (h : length (o.before ++ o.last ∷ []) ≤ length m.list).
+    let short : length m.list < length (o.before ++ o.last ∷ []) = either (low_or_above (length (o.before ++ o.last ∷ [])) (length m.list))
+    (λ h.
     let same : m.list ≡ o.before ++ o.last ∷ [] = begins_same o.list h in
     let still : mem m.list i ≡ true = ongoing o.before (subst (Begins o.before) (sym same) (begins_more o.before (o.last ∷ []))) o.member in
     let z : mem (o.before ++ o.last ∷ []) i ≡ true = subst (λ l. mem l i ≡ true) same still in
     let ended = o.ended in absurd (cc))
-    (λ (h : length m.list < length (o.before ++ o.last ∷ [])). h)
-    (low_or_above (length (o.before ++ o.last ∷ [])) (length m.list)) in
+    (λ h. h) in
     record { before = o.before; last = o.last; list = begins_both all line (omega arith); member = o.member; ended = o.ended; lines = o.lines }
 
 pub store_chain : (views : Views) (group : List Entry) (i : ℕ) (m : Node) (e : Entry) → ViewsOk views → IsUp m → views.decided (key m.promise) ≡ true
     → IsOngoing m.list i → slice_get (views.line (key m.promise)) (length m.list) ≡ Some e → NodeOk views group i m → Begins (m.list ++ e ∷ []) (chain_of views)
-store_chain views group i m e v u decided ongoing next ok = ⊎_elim
-    (λ (h : key views.current ≤ key m.promise).
+store_chain views group i m e v u decided ongoing next ok = either (low_or_above (key views.current) (key m.promise))
+    (λ h.
     let o = v.order (key m.promise) decided in
     let same : key m.promise ≡ key views.current = omega arith in
     begins_push e (ok.list u) (ap (λ x. slice_get (views.line x) (length m.list)) (sym same) ∙ next))
-    (λ (h : key m.promise < key views.current).
+    (λ h.
     let o = store_late views i m e decided ongoing next (ok.late u h) in
     begins_trans o.list (o.lines (key views.current) v.now (omega arith)))
-    (low_or_above (key views.current) (key m.promise))
 
 pub store_ok : (views : Views) (group : List Entry) (i : ℕ) (m : Node) (e : Entry) → ViewsOk views → IsUp m → views.decided (key m.promise) ≡ true
     → m.promise.by ≢ i → IsOngoing m.list i → slice_get (views.line (key m.promise)) (length m.list) ≡ Some e → NodeOk views group i m
@@ -250,9 +244,9 @@ fetch_ok node views group i m list e v u voting served next ok =
 -- a Welcome that is heard is of the current view
 pub welcome_now : (s : Group) (j : ℕ) (stamp : Stamp) (base join : ℕ) → MayWelcome s j stamp base join → ViewsOk s.views → NodeOk s.views s.group j (s.node j)
     → key s.views.current ≤ key stamp
-welcome_now s j stamp base join w v ok = ⊎_elim
-    (λ (h : key s.views.current ≤ key stamp). h)
-    (λ (h : key stamp < key s.views.current).
+welcome_now s j stamp base join w v ok = either (low_or_above (key s.views.current) (key stamp))
+    (λ h. h)
+    (λ h.
     let chosen = (current_of s.views).before in
     let in_then = w.later (key s.views.current) v.now h in
     let whole : Begins chosen (chain_of s.views) = begins_trans (begins_more chosen _) v.opens in
@@ -260,7 +254,6 @@ welcome_now s j stamp base join w v ok = ⊎_elim
     let now = ok.stays w.there w.staying (take join chosen) (begins_trans part whole) in_then in
     let p = ok.promised w.there (mem_between j v.good part whole in_then now) in
     omega arith)
-    (low_or_above (key s.views.current) (key stamp))
 
 pub welcome_ok : (s : Group) (j : ℕ) (stamp : Stamp) (base join : ℕ) → MayWelcome s j stamp base join → ViewsOk s.views → Begins s.group (chain_of s.views)
     → NodeOk s.views s.group j (s.node j) → NodeOk s.views s.group j

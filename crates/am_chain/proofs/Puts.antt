@@ -1,6 +1,10 @@
 -- Changed functions, and counts.
-use Rattle.am_chain.proofs.Words.{split, ◌≡◌, ◌≢◌, ◌⊎◌, ⊎_elim, inl, inr, ℕ, zero, suc, ◌<◌, ◌≤◌, ◌==◌, ◌&&◌, Bool, true, false, refl, sym, subst}
-use Rattle.am_chain.proofs.Words.{arith, nat_tests, put, put2, count}
+use Rattle.am_chain.proofs.Words.{split, ◌≡◌, ◌≢◌, ◌⊎◌, ⊎_elim, inl, inr, ℕ, zero, suc, ◌<◌, ◌≤◌, ◌==◌, ◌&&◌, Bool, true, false, refl, sym, subst, arith}
+use Rattle.am_chain.proofs.Words.{nat_tests, put, put2, count}
+
+-- by which of two is so
+pub either : {A B G : Type 0} → A ⊎ B → (A → G) → (B → G) → G
+either h f g = ⊎_elim f g h
 
 pub put_cases : {A : Type 0} (f : ℕ → A) (i : ℕ) (x : A) (j : ℕ) → ((j ≡ i) × (put f i x j ≡ x)) ⊎ ((j ≢ i) × (put f i x j ≡ f j))
 unfolding put
@@ -9,17 +13,16 @@ put_cases f i x j = split (j == i)
     (λ t. inr (grind (arith, nat_tests), rw t refl))
 
 pub put_same : {A : Type 0} (f : ℕ → A) (i : ℕ) (x : A) → put f i x i ≡ x
-put_same f i x = ⊎_elim (λ (c : (i ≡ i) × (put f i x i ≡ x)). c.1) (λ (c : (i ≢ i) × (put f i x i ≡ f i)). absurd (c.0 refl)) (put_cases f i x i)
+put_same f i x = either (put_cases f i x i) (λ c. c.1) (λ c. absurd (c.0 refl))
 
 pub put_other : {A : Type 0} (f : ℕ → A) (i : ℕ) (x : A) (j : ℕ) → j ≢ i → put f i x j ≡ f j
-put_other f i x j h = ⊎_elim (λ (c : (j ≡ i) × (put f i x j ≡ x)). absurd (h c.0)) (λ (c : (j ≢ i) × (put f i x j ≡ f j)). c.1) (put_cases f i x j)
+put_other f i x j h = either (put_cases f i x j) (λ c. absurd (h c.0)) (λ c. c.1)
 
 -- what holds of the new value and of each other old one
 pub put_at : {A : Type 0} (P : ℕ → A → Type 0) (f : ℕ → A) (i : ℕ) (x : A) → P i x → ((j : ℕ) → j ≢ i → P j (f j)) → (j : ℕ) → P j (put f i x j)
-put_at P f i x new old j = ⊎_elim
-    (λ (c : (j ≡ i) × (put f i x j ≡ x)). subst (λ y. P j y) (sym c.1) (subst (λ k. P k x) (sym c.0) new))
-    (λ (c : (j ≢ i) × (put f i x j ≡ f j)). subst (λ y. P j y) (sym c.1) (old j c.0))
-    (put_cases f i x j)
+put_at P f i x new old j = either (put_cases f i x j)
+    (λ c. subst (λ y. P j y) (sym c.1) (subst (λ k. P k x) (sym c.0) new))
+    (λ c. subst (λ y. P j y) (sym c.1) (old j c.0))
 
 pub put2_cases : {A : Type 0} (f : ℕ → ℕ → A) (a b : ℕ) (x : A) (c d : ℕ)
     → ((c ≡ a) × (d ≡ b) × (put2 f a b x c d ≡ x)) ⊎ (((c ≡ a) × (d ≡ b) → ⊥) × (put2 f a b x c d ≡ f c d))

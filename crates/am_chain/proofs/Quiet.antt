@@ -1,12 +1,13 @@
 -- Each move but a decision keeps what is kept, whoever stopped.
-use Rattle.am_chain.proofs.Words.{low_or_above, ◌≡◌, ◌≢◌, ◌⊎◌, ⊎_elim, inl, inr, ℕ, ◌<◌, ◌≤◌, Bool, true, false, List, [], ◌∷◌, ◌++◌, length, take, Some}
-use Rattle.am_chain.proofs.Words.{slice_get, refl, sym, ap, ◌∙◌, subst, arith, Stamp, Entry, Leave, View, fits, Begins, NotView, image_of, mem, view_of, key}
-use Rattle.am_chain.proofs.Words.{begins_refl, begins_nil, begins_more, begins_trans, begins_length, begins_both, below_begins, Spares, mem_between, mem_push}
-use Rattle.am_chain.proofs.Words.{key_by, put, Node, Group, chain_of, IsThere, IsUp, Leads, IsOngoing, IsHeld, MayAccept, longer, own_stamp, IsAbove, MayNumber}
-use Rattle.am_chain.proofs.Words.{MayWelcome, MayDepart, with_node, with_line, ServedOk, DepartedOk, Kept}
+use Rattle.am_chain.proofs.Words.{low_or_above, ◌≡◌, ◌≢◌, ◌⊎◌, inl, inr, ℕ, ◌<◌, ◌≤◌, Bool, true, false, List, [], ◌∷◌, ◌++◌, length, take, Some, slice_get}
+use Rattle.am_chain.proofs.Words.{refl, sym, ap, ◌∙◌, subst, arith, Stamp, Entry, Leave, View, fits, Begins, NotView, image_of, mem, view_of, key, begins_refl}
+use Rattle.am_chain.proofs.Words.{begins_nil, begins_more, begins_trans, begins_length, begins_both, below_begins, Spares, mem_between, mem_push, key_by, put}
+use Rattle.am_chain.proofs.Words.{Node, Group, chain_of, IsThere, IsUp, Leads, IsOngoing, IsHeld, MayAccept, longer, own_stamp, IsAbove, MayNumber, MayWelcome}
+use Rattle.am_chain.proofs.Words.{MayDepart, with_node, with_line, ServedOk, DepartedOk, Kept}
 use Rattle.am_chain.proofs.Nodes.{fronts_longer, flags_ok, fronts_ok, raise_ok, begin_ok, own_above, store_ok, fetch_ok, fetch_chain, welcome_ok, welcome_now}
 use Rattle.am_chain.proofs.Fronts.{group_change, chain_change, grown, views_grow, chain_is, good_grown}
-use Rattle.am_chain.proofs.{Puts.put_cases, Puts.put_same, Puts.put_other, Frames.Later, Frames.later_promise, Frames.node_change}
+use Rattle.am_chain.proofs.Puts.{put_cases, put_same, put_other, either}
+use Rattle.am_chain.proofs.Frames.{Later, later_promise, node_change}
 
 later_longer : (m : Node) (e : Entry) → Later m (longer m e)
 later_longer m e = record {
@@ -34,10 +35,9 @@ module _ (s : Group) (k : Kept s) where
   }
     where
       put_pair : (i : ℕ) (a b : Node) (j : ℕ) (P : Node → Type 0) → (P b → P a) → P (put s.node i b j) → P (put s.node i a j)
-      put_pair i a b j P f h = ⊎_elim
-          (λ (c : (j ≡ i) × (put s.node i b j ≡ b)). subst P (sym (ap (put s.node i a) c.0 ∙ put_same s.node i a)) (f (subst P c.1 h)))
-          (λ (c : (j ≢ i) × (put s.node i b j ≡ s.node j)). subst P (sym (put_other s.node i a j c.0)) (subst P c.1 h))
-          (put_cases s.node i b j)
+      put_pair i a b j P f h = either (put_cases s.node i b j)
+          (λ c. subst P (sym (ap (put s.node i a) c.0 ∙ put_same s.node i a)) (f (subst P c.1 h)))
+          (λ c. subst P (sym (put_other s.node i a j c.0)) (subst P c.1 h))
 
   pub stores_keeps : (i : ℕ) (e : Entry) → IsUp (s.node i) → s.views.decided (key (s.node i).promise) ≡ true → (s.node i).promise.by ≢ i
       → IsOngoing (s.node i).list i → slice_get (s.views.line (key (s.node i).promise)) (length (s.node i).list) ≡ Some e
@@ -83,12 +83,11 @@ module _ (s : Group) (k : Kept s) where
           let chain_c = (k.each c).list w in
           let now = (k.each c).stays w.there theirs.staying (s.node c).list chain_c theirs.member in
           let taken = begins_length (fetch_chain s.node s.views s.group i (s.node i) list e u served next (k.each i)) in
-          ⊎_elim
-          (λ (x : length (s.node c).list ≤ length list).
+          either (low_or_above (length (s.node c).list) (length list))
+          (λ x.
           let member = mem_between c k.views.good (begins_both chain_c served.chain x) served.chain theirs.member now in
           let q = served.promised c w.there member in absurd (omega arith))
-          (λ (x : length list < length (s.node c).list). omega arith)
-          (low_or_above (length (s.node c).list) (length list))
+          (λ x. omega arith)
 
   pub learns_keeps : (i told acc : ℕ) → IsUp (s.node i) → told ≤ length s.group
       → ((x : ℕ) → s.views.decided x ≡ true → key (s.node i).promise < x → told ≤ length (s.views.chosen x).before) → acc ≤ told → acc ≤ length (s.node i).list

@@ -1,8 +1,9 @@
 -- What a group keeps at its start.
-use Rattle.am_chain.proofs.Words.{◌≡◌, ⊎_elim, ℕ, ◌<◌, ◌≤◌, nat_le, if◌then◌else◌, Bool, true, false, List, [], ◌∷◌, ◌++◌, length, refl, sym, subst, arith}
-use Rattle.am_chain.proofs.Words.{nat_tests, Entry, View, has, no_stamp, blank, fits, fold, Begins, IsGood, mem, key, begins_refl, begins_nil, begins_length}
-use Rattle.am_chain.proofs.Words.{begins_same, begins_pushed, below_length, good_nil, good_push, mem_nil, mem_viewed, viewed_mem, view_viewed, opening}
-use Rattle.am_chain.proofs.Words.{MayBegin, first_stamp, first_choice, start, NodeOk, Kept}
+use Rattle.am_chain.proofs.Words.{◌≡◌, ℕ, ◌<◌, ◌≤◌, nat_le, if◌then◌else◌, Bool, true, false, List, [], ◌∷◌, ◌++◌, length, refl, sym, subst, arith, nat_tests}
+use Rattle.am_chain.proofs.Words.{Entry, View, has, no_stamp, blank, fits, fold, Begins, IsGood, mem, key, begins_refl, begins_nil, begins_length, begins_same}
+use Rattle.am_chain.proofs.Words.{begins_pushed, below_length, good_nil, good_push, mem_nil, mem_viewed, viewed_mem, view_viewed, opening, MayBegin}
+use Rattle.am_chain.proofs.Words.{first_stamp, first_choice, start, NodeOk, Kept}
+use Rattle.am_chain.proofs.{Puts.either}
 
 first_fits : (founders : List ℕ) (first resilience : ℕ) → has founders first ≡ true → fits blank (View (first_choice founders first resilience).view) ≡ true
 unfolding fits
@@ -17,11 +18,10 @@ module _ (founders : List ℕ) (first resilience : ℕ) (may : MayBegin founders
   nobody a j short m = mem_nil j (subst (λ l. mem l j ≡ true) (sym (begins_same (begins_nil a) short)) m)
 
   member_first : (a : List Entry) (j : ℕ) → Begins a (opening (first_choice founders first resilience)) → mem a j ≡ true → has founders j ≡ true
-  member_first a j h m = ⊎_elim
-      (λ (x : Begins a []). absurd (nobody a j (begins_length x) m))
-      (λ (x : a ≡ [] ++ View (first_choice founders first resilience).view ∷ []). mem_viewed [] (first_choice founders first resilience).view j
+  member_first a j h m = either (begins_pushed {a = a} {b = []} (View (first_choice founders first resilience).view) h)
+      (λ x. absurd (nobody a j (begins_length x) m))
+      (λ x. mem_viewed [] (first_choice founders first resilience).view j
       (subst (λ l. mem l j ≡ true) x m))
-      (begins_pushed {a = a} {b = []} (View (first_choice founders first resilience).view) h)
 
   first_member : (j : ℕ) → has founders j ≡ true → mem (opening (first_choice founders first resilience)) j ≡ true
   first_member j h = viewed_mem [] (first_choice founders first resilience).view j first_good h

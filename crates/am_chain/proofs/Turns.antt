@@ -1,9 +1,10 @@
 -- The requests of a name along a list.
-use Rattle.am_chain.proofs.Words.{split, ◌≡◌, ◌⊎◌, ⊎_elim, inl, inr, ℕ, zero, suc, ◌+◌, ◌<◌, ◌≤◌, ◌==◌, List, [], ◌∷◌, ◌++◌, length, Some, slice_get, refl}
-use Rattle.am_chain.proofs.Words.{sym, ap, ◌∙◌, subst, arith, range_with_len, Image, Entry, Data, place_of, life_of, blank, after, fold, AllFit, request_in}
-use Rattle.am_chain.proofs.Words.{requests_of, row_at, long_after}
+use Rattle.am_chain.proofs.Words.{split, ◌≡◌, ◌⊎◌, inl, inr, ℕ, zero, suc, ◌+◌, ◌<◌, ◌≤◌, ◌==◌, List, [], ◌∷◌, ◌++◌, length, Some, slice_get, refl, sym, ap}
+use Rattle.am_chain.proofs.Words.{◌∙◌, subst, arith, range_with_len, Image, Entry, Data, place_of, life_of, blank, after, fold, AllFit, request_in, requests_of}
+use Rattle.am_chain.proofs.Words.{row_at, long_after}
 use Rattle.am_chain.specs.OrdersClaims.{InTurn, RequestsInTurn, NoSendTwice, SendersInOrder, SendStandsOnce}
 use Rattle.am_base.proofs.Requests.{IsNext, own_request, entry_goes_on, next_at_first}
+use Rattle.am_chain.proofs.{Puts.either}
 
 -- ---- one entry before a list
 
@@ -23,12 +24,11 @@ fit_in_turn image n [] name next long up fit h = refl
 fit_in_turn image n (e ∷ es) name next long up fit h =
     let then_long = long_after image n e long in
     let then_up : 0 < n + 1 = omega arith in
-    ⊎_elim
-    (λ (x : (request_in name e ≡ []) × IsNext (row_at (after image n e) (place_of name)) (life_of name) next). before_none name next e es x.0
+    either (entry_goes_on image n e name next long up fit.0 h)
+    (λ x. before_none name next e es x.0
     (fit_in_turn (after image n e) (n + 1) es name next then_long then_up fit.1 x.1))
-    (λ (x : (request_in name e ≡ next ∷ []) × IsNext (row_at (after image n e) (place_of name)) (life_of name) (next + 1)). before_next name next e es x.0
+    (λ x. before_next name next e es x.0
     (fit_in_turn (after image n e) (n + 1) es name (next + 1) then_long then_up fit.1 x.1))
-    (entry_goes_on image n e name next long up fit.0 h)
 
 pub requests_in_turn : RequestsInTurn
 requests_in_turn list fit name = let one : 0 < 1 = omega arith in fit_in_turn blank 1 list name 1 refl one fit (next_at_first name)
@@ -53,10 +53,9 @@ first_is_next : (name next req : ℕ) (body : List ℕ) (e : Entry) (es : List E
 first_is_next name next req body e es h is =
     let same : e ≡ Data name req body = cc in
     let found : request_in name e ≡ req ∷ [] = ap (request_in name) same ∙ own_request name req body in
-    ⊎_elim
-    (λ (x : (request_in name e ≡ []) × InTurn name next es). let none = x.0 in absurd (cc))
-    (λ (x : (request_in name e ≡ next ∷ []) × InTurn name (next + 1) es). let one = x.0 in (cc, x.1))
-    (rest_of name next e es h)
+    either (rest_of name next e es h)
+    (λ x. let none = x.0 in absurd (cc))
+    (λ x. let one = x.0 in (cc, x.1))
 
 -- how many more come, so many requests there are
 none_above : (name next req : ℕ) (body : List ℕ) (list : List Entry) (k : ℕ) → InTurn name next list → slice_get list k ≡ Some (Data name req body)
@@ -68,16 +67,15 @@ none_above name next req body (e ∷ es) zero h is =
     let long : length (requests_of name (e ∷ es)) ≡ suc (length (requests_of name es)) = ap (λ l. length (l ++ requests_of name es)) found in
     let first = (first_is_next name next req body e es h is).0 in
     omega arith
-none_above name next req body (e ∷ es) (suc k) h is = ⊎_elim
-    (λ (x : (request_in name e ≡ []) × InTurn name next es).
+none_above name next req body (e ∷ es) (suc k) h is = either (rest_of name next e es h)
+    (λ x.
     let rest = none_above name next req body es k x.1 is in
     let long : length (requests_of name (e ∷ es)) ≡ length (requests_of name es) = ap (λ l. length (l ++ requests_of name es)) x.0 in
     omega arith)
-    (λ (x : (request_in name e ≡ next ∷ []) × InTurn name (next + 1) es).
+    (λ x.
     let rest = none_above name (next + 1) req body es k x.1 is in
     let long : length (requests_of name (e ∷ es)) ≡ suc (length (requests_of name es)) = ap (λ l. length (l ++ requests_of name es)) x.0 in
     omega arith)
-    (rest_of name next e es h)
 
 -- a request that stands in a whole list is one of so many
 pub request_within : (list : List Entry) (name req : ℕ) (body : List ℕ) (k : ℕ) → AllFit blank 1 list → slice_get list k ≡ Some (Data name req body)
@@ -95,15 +93,14 @@ next_fold image n (e ∷ es) name next long up fit h =
     let then_long = long_after image n e long in
     let then_up : 0 < n + 1 = omega arith in
     let row = row_at (fold (after image n e) (n + 1) es) (place_of name) in
-    ⊎_elim
-    (λ (x : (request_in name e ≡ []) × IsNext (row_at (after image n e) (place_of name)) (life_of name) next).
+    either (entry_goes_on image n e name next long up fit.0 h)
+    (λ x.
     let same : next + length (requests_of name es) ≡ next + length (requests_of name (e ∷ es)) = ap (λ l. next + length (l ++ requests_of name es)) (sym x.0) in
     subst (IsNext row (life_of name)) same (next_fold (after image n e) (n + 1) es name next then_long then_up fit.1 x.1))
-    (λ (x : (request_in name e ≡ next ∷ []) × IsNext (row_at (after image n e) (place_of name)) (life_of name) (next + 1)).
+    (λ x.
     let long_ : suc (length (requests_of name es)) ≡ length (requests_of name (e ∷ es)) = ap (λ l. length (l ++ requests_of name es)) (sym x.0) in
     let same : (next + 1) + length (requests_of name es) ≡ next + length (requests_of name (e ∷ es)) = omega arith in
     subst (IsNext row (life_of name)) same (next_fold (after image n e) (n + 1) es name (next + 1) then_long then_up fit.1 x.1))
-    (entry_goes_on image n e name next long up fit.0 h)
 
 -- at the end of a whole list a name's next request is the one after so many
 pub next_in : (list : List Entry) (name : ℕ) → AllFit blank 1 list
@@ -114,10 +111,9 @@ next_in list name fit = let one : 0 < 1 = omega arith in next_fold blank 1 list 
 none_below : (name next req : ℕ) (body : List ℕ) (list : List Entry) (k : ℕ) → InTurn name next list → slice_get list k ≡ Some (Data name req body) → next ≤ req
 none_below name next req body [] k h is = absurd (cc)
 none_below name next req body (e ∷ es) zero h is = let first = (first_is_next name next req body e es h is).0 in omega arith
-none_below name next req body (e ∷ es) (suc k) h is = ⊎_elim
-    (λ (x : (request_in name e ≡ []) × InTurn name next es). none_below name next req body es k x.1 is)
-    (λ (x : (request_in name e ≡ next ∷ []) × InTurn name (next + 1) es). let above = none_below name (next + 1) req body es k x.1 is in omega arith)
-    (rest_of name next e es h)
+none_below name next req body (e ∷ es) (suc k) h is = either (rest_of name next e es h)
+    (λ x. none_below name next req body es k x.1 is)
+    (λ x. let above = none_below name (next + 1) req body es k x.1 is in omega arith)
 
 -- after a send of the name stands no other with its request
 none_after : (name next req : ℕ) (body other : List ℕ) (e : Entry) (es : List Entry) (k : ℕ) → InTurn name next (e ∷ es) → Some e ≡ Some (Data name req body)
@@ -133,10 +129,9 @@ one_place name next req body other [] k l h is also = absurd (cc)
 one_place name next req body other (e ∷ es) zero zero h is also = refl
 one_place name next req body other (e ∷ es) zero (suc l) h is also = absurd (none_after name next req body other e es l h is also)
 one_place name next req body other (e ∷ es) (suc k) zero h is also = absurd (none_after name next req other body e es k h also is)
-one_place name next req body other (e ∷ es) (suc k) (suc l) h is also = ⊎_elim
-    (λ (x : (request_in name e ≡ []) × InTurn name next es). ap suc (one_place name next req body other es k l x.1 is also))
-    (λ (x : (request_in name e ≡ next ∷ []) × InTurn name (next + 1) es). ap suc (one_place name (next + 1) req body other es k l x.1 is also))
-    (rest_of name next e es h)
+one_place name next req body other (e ∷ es) (suc k) (suc l) h is also = either (rest_of name next e es h)
+    (λ x. ap suc (one_place name next req body other es k l x.1 is also))
+    (λ x. ap suc (one_place name (next + 1) req body other es k l x.1 is also))
 
 pub no_send_twice : NoSendTwice
 no_send_twice list fit name req (suc k) (suc l) body other is also = ap suc (one_place name 1 req body other list k l (requests_in_turn list fit name) is also)

@@ -2,7 +2,7 @@
 use Rattle.am_laws.proofs.Words.{◌≡◌, ℕ, ◌+◌, ◌≤◌, ◌==◌, nat_lt, min, Bool, true, false, if◌then◌else◌, List, Option, Some, None, option_map, unwrap_or, refl}
 use Rattle.am_laws.proofs.Words.{ap, arith, Vote, View, Outcome, names_of, least_of, Node, Ballot, top, push_entry, Verdict, with_promise, taken_by, goes_on}
 use Rattle.am_laws.proofs.Words.{ended, decide_view, trim_for, restart_reports, decide, next_stamp, new_ballot, begin, with_vote, keep_vote, without_voter}
-use Rattle.am_laws.proofs.Words.{give_up, give_up_of, give_up_row, reset_row, split, Bounds, up, decided_view}
+use Rattle.am_laws.proofs.Words.{give_up, give_up_of, split, Bounds, up, decided_view}
 use Rattle.am_base.specs.declared.outcome.Outcome.TheVariants as said
 use Rattle.am_state.specs.Reports as reports
 use Rattle.am_laws.proofs.Counts.{Low, Behind, VotesKnown, low_more, low_viewed, low_trimmed, low_promised, least_low, Ends, ends_next, ends as plans}
@@ -92,7 +92,7 @@ low_look most g m b votes k h = low_decide most g m b h.entries votes k (low_mor
 
 -- ---- the rows of ballots
 
-ends_begin : (most : Bounds) (g : ℕ) (m : Node) (least resilience : ℕ) → Behind g m → Low most g m → Ends most g (begin m least resilience)
+pub ends_begin : (most : Bounds) (g : ℕ) (m : Node) (least resilience : ℕ) → Behind g m → Low most g m → Ends most g (begin m least resilience)
 unfolding begin
 ends_begin most g m least resilience k h =
     let stamp = next_stamp m in
@@ -121,17 +121,9 @@ ends_give_up : (most : Bounds) (g : ℕ) (m : Node) (b : Ballot) (name : ℕ) �
 unfolding give_up
 ends_give_up most g m b name votes k h = ends_next most g _ (low_look most g m (without_voter b name) (votes_less g b name votes) k h)
 
-pub ends_reset : (most : Bounds) (g : ℕ) (m : Node) (least resilience : ℕ) → Behind g m → Low most g m → Ends most g (reset_row m least resilience)
-unfolding reset_row
-ends_reset most g m least resilience k h = search (plans, ends_begin)
-
-ends_give_up_of : (most : Bounds) (g : ℕ) (m : Node) (name : ℕ) (b : Option Ballot) → VotesKnown g b → Behind g m → Low most g m
+pub ends_give_up_of : (most : Bounds) (g : ℕ) (m : Node) (name : ℕ) (b : Option Ballot) → VotesKnown g b → Behind g m → Low most g m
     → Ends most g (give_up_of m name b)
 ends_give_up_of most g m name None votes k h = search plans
 ends_give_up_of most g m name (Some b) votes k h =
     let l = ends_give_up most g m b name votes k h in
     search (plans, l)
-
-pub ends_give_up_row : (most : Bounds) (g : ℕ) (m : Node) (name : ℕ) → Behind g m → Low most g m → Ends most g (give_up_row m name)
-unfolding give_up_row
-ends_give_up_row most g m name k h = ends_give_up_of most g m name m.ballot h.votes k h

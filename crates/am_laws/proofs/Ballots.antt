@@ -1,16 +1,13 @@
 -- The effects of ballots.
-use Rattle.am_model.specs.Ballots.{decided_view}
-use Rattle.am_base.specs.declared.entry.GroupView.{GroupView}
-use Rattle.am_laws.proofs.EffectWords.{not-true, not-false, ◌≡◌, ℕ, zero, suc, ◌+◌, ◌-◌, ◌==◌, ◌&&◌, min, nat_lt, nat_le, not, Bool, true, false, if◌then◌else◌}
-use Rattle.am_laws.proofs.EffectWords.{List, [], length, Option, Some, None, slice_get, refl, sym, ap, subst, ◌∙◌, arith, nat_tests, Vote, Image, View, has}
-use Rattle.am_laws.proofs.EffectWords.{size, without_name, Log, entry_at, after, Letter, with_letter, Node, Ballot, top, image_of, view, members, others}
-use Rattle.am_laws.proofs.EffectWords.{only_name, those, is_member, push_entry, invite_of, fetch_of, result_of, with_promise, Verdict, need_of, best_of}
-use Rattle.am_laws.proofs.EffectWords.{is_waited_for, left_in, trim_for, decide, with_result, with_fetch, verdict_plan, next_stamp, new_ballot, begin}
-use Rattle.am_laws.proofs.EffectWords.{with_vote, newly_needed, keep_vote, without_voter, give_up, viewed_by, reset_row, give_up_of, give_up_row, and_both}
-use Rattle.am_laws.proofs.EffectWords.{Cause, calls, HasLearned, Looks, finds_itself_out, waits, fetches_from_best, finds_too_few, finds_no_room, decides}
-use Rattle.am_laws.proofs.EffectWords.{MayBegin, BeginsBy, by_reset, MayLook, was_reset, HasOpen, Balloting, as_it_is, without_one}
-use Rattle.am_laws.specs.Looks.{by_hand_over, was_handed}
-use Rattle.am_laws.proofs.EffectWords.{opens, nothing_yet, and_then, looked, invite, fetch, result, has_begun, for_ballot, decided, Answers}
+use Rattle.am_laws.proofs.EffectWords.{[], decided_view, GroupView, not-true, not-false, ◌≡◌, ℕ, zero, suc, ◌+◌, ◌-◌, ◌==◌, ◌&&◌, min, nat_lt, nat_le, not, Bool}
+use Rattle.am_laws.proofs.EffectWords.{true, false, if◌then◌else◌, List, length, Option, Some, None, slice_get, refl, sym, ap, subst, ◌∙◌, arith, nat_tests}
+use Rattle.am_laws.proofs.EffectWords.{Vote, Image, View, has, size, without_name, Log, entry_at, after, Letter, with_letter, Node, Ballot, top, image_of, view}
+use Rattle.am_laws.proofs.EffectWords.{members, others, only_name, those, is_member, push_entry, invite_of, fetch_of, result_of, with_promise, Verdict, need_of}
+use Rattle.am_laws.proofs.EffectWords.{best_of, is_waited_for, left_in, trim_for, decide, with_result, with_fetch, verdict_plan, next_stamp, new_ballot, begin}
+use Rattle.am_laws.proofs.EffectWords.{with_vote, newly_needed, keep_vote, without_voter, give_up, viewed_by, reset_row, give_up_of, and_both, Cause, calls}
+use Rattle.am_laws.proofs.EffectWords.{HasLearned, Looks, finds_itself_out, waits, fetches_from_best, finds_too_few, finds_no_room, decides, MayBegin, BeginsBy}
+use Rattle.am_laws.proofs.EffectWords.{by_reset, MayLook, was_reset, HasOpen, Balloting, as_it_is, without_one, by_hand_over, was_handed, opens, nothing_yet}
+use Rattle.am_laws.proofs.EffectWords.{and_then, looked, invite, fetch, result, has_begun, for_ballot, decided, Answers}
 use Rattle.am_base.specs.declared.outcome.Outcome.TheVariants as said
 use Rattle.am_base.specs.declared.event.NodeEvent.TheVariants as does
 use Rattle.am_laws.specs.Letters as letters
@@ -109,17 +106,12 @@ effect_answered m c p b f comes over why says =
 abbrev opened : Node → ℕ → ℕ → Node
 opened m least resilience = record (with_promise m (next_stamp m)) { ballot = Some (new_ballot (next_stamp m) least (min resilience 15)) }
 
-same_look : (m : Node) (least resilience : ℕ) → decide (with_promise m (next_stamp m)) (new_ballot (next_stamp m) least (min resilience 15))
-    ≡ decide (opened m least resilience) (new_ballot (next_stamp m) least (min resilience 15))
-unfolding decide best_of
-same_look m least resilience = refl
-
 looks_on : (m : Node) (c : Cause) (p : Node) → BeginsBy m c → MayLook c p
 looks_on m c p (by_reset least resilience) = was_reset least resilience refl
 looks_on m c p (by_hand_over s v heard) = was_handed s v refl
 
 row_begin : (m : Node) (c : Cause) (least resilience : ℕ) → BeginsBy m c → MayBegin m → HasEffect m c (begin m least resilience)
-unfolding begin
+unfolding begin decide best_of
 row_begin m c least resilience by may =
     let p = opened m least resilience in
     let b = new_ballot (next_stamp m) least (min resilience 15) in
@@ -128,7 +120,7 @@ row_begin m c least resilience by may =
     (as_it_is b (record { last = refl; open_ = refl }) (looks_on m c p by))
     (λ n r. and_says m c n (others m) (invite_of n) [] (let new = ballot_look p b (decide p b) (looks_at p b) in
     invite (others m) (has_begun new.0 (r.rests.ballot ∙ new.1) (r.rests.promise ∙ promise_look p b (decide p b) (looks_at p b)))) (none_says m c n)) in
-    subst (λ v. HasEffect m c (verdict_plan v f)) (sym (same_look m least resilience)) h
+    subst (λ v. HasEffect m c (verdict_plan v f)) (sym (refl)) h
 
 pub row_reset : (m : Node) (c : Cause) (least resilience : ℕ) → BeginsBy m c → HasEffect m c (reset_row m least resilience)
 unfolding reset_row
@@ -157,13 +149,9 @@ row_give_up m b name open_ other =
     effect_answered m c m new (λ n. with_fetch v.outcome n []) (λ o. nothing_yet) open_.open_ (without_one b name refl open_ other)
     (λ n r. says_fetch m c n m new v [] (looks_at m new) r (none_says m c n))
 
-row_give_up_of : (m : Node) (name : ℕ) (b : Option Ballot) → m.ballot ≡ b → HasEffect m (calls (does.GiveUp name)) (give_up_of m name b)
+pub row_give_up_of : (m : Node) (name : ℕ) (b : Option Ballot) → m.ballot ≡ b → HasEffect m (calls (does.GiveUp name)) (give_up_of m name b)
 row_give_up_of m name None is = search rows
 row_give_up_of m name (Some b) is =
     let c = calls (does.GiveUp name) in
     effect_if m c b.is_over _ _ (λ t. search rows)
     (λ f. effect_if m c (name == m.core.who) _ _ (λ t. search rows) (λ g. row_give_up m b name (record { last = is; open_ = f }) g))
-
-pub row_give_up_row : (m : Node) (name : ℕ) → HasEffect m (calls (does.GiveUp name)) (give_up_row m name)
-unfolding give_up_row
-row_give_up_row m name = row_give_up_of m name m.ballot refl

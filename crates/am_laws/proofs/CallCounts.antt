@@ -1,9 +1,9 @@
 -- What the calls and the tick add to the numbers that grow.
-use Rattle.am_laws.proofs.Words.{◌≡◌, ℕ, ◌+◌, ◌<◌, ◌≤◌, ◌==◌, ◌||◌, nat_lt, not, Bool, true, false, List, [], ◌∷◌, find, filter, Option, Some, None, refl}
-use Rattle.am_laws.proofs.Words.{arith, length-append, nat_tests, Entry, Data, Leave, Outcome, entry_at, OwnSend, Sends, Status, Node, Ballot, top}
-use Rattle.am_laws.proofs.Words.{push_entry, waiting, unsettled_count, Plan, quiet, number_send, emit, with_queued, queue, give_out, join_by, state_by, go}
-use Rattle.am_laws.proofs.Words.{is_unfinished, leave_now, leave_by, ask_of, send_row, done_row, take_row, join_row, state_row, leave_row, ask_row, is_view}
-use Rattle.am_laws.proofs.Words.{tick_ballot, tick_member, put_off, and_result, tick_sequencer, tick_acting, tick_with, tick_by, tick_row, split, Bounds, up}
+use Rattle.am_laws.proofs.Words.{[], ◌≡◌, ℕ, ◌+◌, ◌<◌, ◌≤◌, ◌==◌, ◌||◌, nat_lt, not, Bool, true, false, List, ◌∷◌, find, filter, Option, Some, None, refl, arith}
+use Rattle.am_laws.proofs.Words.{length-append, nat_tests, Entry, Data, Leave, Outcome, OwnSend, Sends, Status, Node, Ballot, top, push_entry, waiting}
+use Rattle.am_laws.proofs.Words.{unsettled_count, Plan, quiet, number_send, emit, with_queued, queue, give_out, join_by, state_by, go, is_unfinished, leave_now}
+use Rattle.am_laws.proofs.Words.{leave_by, ask_of, is_view, tick_ballot, tick_member, put_off, and_result, tick_sequencer, tick_acting, tick_with, tick_by}
+use Rattle.am_laws.proofs.Words.{split, Bounds, up}
 use Rattle.am_base.specs.declared.outcome.Outcome.TheVariants as said
 use Rattle.am_state.specs.Sends as own
 use Rattle.am_model.specs.declared.status.Status.TheVariants as status
@@ -34,7 +34,7 @@ ends_emit most g m (Some s) o h =
     let k : Ends most g (number_send m s o) = ends_next most g _ (low_pushed most g m (Data m.core.who s.req s.body) refl h) in
     search (ends, k)
 
-ends_queue : (most : Bounds) (g : ℕ) (m : Node) (body : List ℕ) → m.leaving ≡ false → Low most g m → Ends most g (queue m body)
+pub ends_queue : (most : Bounds) (g : ℕ) (m : Node) (body : List ℕ) → m.leaving ≡ false → Low most g m → Ends most g (queue m body)
 ends_queue most g m body stays h =
     let last = h.sends in
     let few = h.entries in
@@ -48,13 +48,8 @@ ends_queue most g m body stays h =
     let k = ends_queued most g (with_queued m body) (waiting (with_queued m body)) (said.Queued (m.sends.last + 1)) few now in
     search (ends_if, ends_next, k)
 
-pub ends_send : (most : Bounds) (g : ℕ) (m : Node) (body : List ℕ) → Low most g m → Ends most g (send_row m body)
-unfolding send_row
-ends_send most g m body h =
-    let k : m.leaving ≡ false → Ends most g (queue m body) = λ f. ends_queue most g m body f h in search (ends, k)
-
 -- what is collected was settled
-collect_last : (sends : Sends) (req most : ℕ) → sends.last ≤ most → (own.collect req sends).last ≤ most
+pub collect_last : (sends : Sends) (req most : ℕ) → sends.last ≤ most → (own.collect req sends).last ≤ most
 collect_last sends req most h = split (own.is_settled req sends) (λ t. rw t h) (λ f. rw f h)
 
 pub fewer_wait : (test : OwnSend → Bool) (queue : List OwnSend) → find own.is_unsettled queue ≡ None → find own.is_unsettled (filter test queue) ≡ None
@@ -63,25 +58,15 @@ fewer_wait test (s ∷ queue) h = split (own.is_unsettled s)
     (λ t. absurd (let x = rw t at h in cc))
     (λ f. let rest = fewer_wait test queue (rw f at h) in split (test s) (λ t. rw (t, f) rest) (λ g. rw g rest))
 
-collect_waits : (last : ℕ) (queue : List OwnSend) (req : ℕ) → find own.is_unsettled queue ≡ None
+pub collect_waits : (last : ℕ) (queue : List OwnSend) (req : ℕ) → find own.is_unsettled queue ≡ None
     → own.waiting (own.collect req (record { last = last; queue = queue })) ≡ None
 collect_waits last queue req h = split (own.is_settled req (record { last = last; queue = queue }))
     (λ t. rw t (fewer_wait (λ send. not (own.is_request req send)) queue h))
     (λ f. rw f h)
 
-pub ends_done : (most : Bounds) (g : ℕ) (m : Node) (req : ℕ) → Low most g m → Ends most g (done_row m req)
-unfolding done_row
-ends_done most g m req h = ends_at most g _ (record {
-  counts = record { entries = h.entries; rounds = h.rounds; sends = collect_last m.sends req most.requests h.sends };
-  order = h.order;
-  within = h.within;
-  quits = λ t. collect_waits m.sends.last m.sends.queue req (h.quits t);
-  tells = h.tells;
-})
-
 -- ---- what is accepted
 
-ends_given : (most : Bounds) (g : ℕ) (m : Node) (e : Option Entry) → (m.core.taken == m.core.acc) ≡ false → Behind g m → Low most g m
+pub ends_given : (most : Bounds) (g : ℕ) (m : Node) (e : Option Entry) → (m.core.taken == m.core.acc) ≡ false → Behind g m → Low most g m
     → Ends most g (give_out m e)
 ends_given most g m None more k h = ends_at most g _ h
 ends_given most g m (Some e) more k h =
@@ -95,34 +80,15 @@ ends_given most g m (Some e) more k h =
       tells = h.tells;
     })
 
-pub ends_take : (most : Bounds) (g : ℕ) (m : Node) → Behind g m → Low most g m → Ends most g (take_row m)
-unfolding take_row
-ends_take most g m k h =
-    let l : (m.core.taken == m.core.acc) ≡ false → Ends most g (give_out m (entry_at m.core.log (m.core.taken + 1))) =
-    λ f. ends_given most g m (entry_at m.core.log (m.core.taken + 1)) f k h in
-    search (ends, l)
-
 -- ---- joining and leaving
 
-ends_join_by : (most : Bounds) (g : ℕ) (m : Node) (s : Status) → Low most g m → Ends most g (join_by m s)
+pub ends_join_by : (most : Bounds) (g : ℕ) (m : Node) (s : Status) → Low most g m → Ends most g (join_by m s)
 ends_join_by most g m status.Stranger h = ends_at most g _ h
-ends_join_by most g m status.Asking h = ends_at most g _ h
-ends_join_by most g m status.Member h = ends_at most g _ h
-ends_join_by most g m status.Departed h = ends_at most g _ h
+ends_join_by most g m _ h = ends_at most g _ h
 
-pub ends_join : (most : Bounds) (g : ℕ) (m : Node) → Low most g m → Ends most g (join_row m)
-unfolding join_row
-ends_join most g m h = ends_join_by most g m m.status h
-
-ends_state_by : (most : Bounds) (g : ℕ) (m : Node) (s : Status) → Low most g m → Ends most g (state_by m s)
-ends_state_by most g m status.Stranger h = search ends
-ends_state_by most g m status.Asking h = search ends
+pub ends_state_by : (most : Bounds) (g : ℕ) (m : Node) (s : Status) → Low most g m → Ends most g (state_by m s)
 ends_state_by most g m status.Member h = search ends
-ends_state_by most g m status.Departed h = search ends
-
-pub ends_state : (most : Bounds) (g : ℕ) (m : Node) → Low most g m → Ends most g (state_row m)
-unfolding state_row
-ends_state most g m h = ends_state_by most g m m.status h
+ends_state_by most g m _ h = search ends
 
 -- the last member's own Leave
 ends_go : (most : Bounds) (g : ℕ) (p : Plan) → Low most g p.node → Ends most g (go p)
@@ -150,23 +116,15 @@ ends_leave_now most g m h =
     no_more : (n : ℕ) (t : Bool) → (nat_lt 0 n || t) ≡ false → n ≡ 0
     no_more n t f = split (nat_lt 0 n) (λ a. absurd (let x = rw a at f in cc)) (λ a. grind (arith, nat_tests))
 
-ends_leave_by : (most : Bounds) (g : ℕ) (m : Node) (s : Status) → Low most g m → Ends most g (leave_by m s)
+pub ends_leave_by : (most : Bounds) (g : ℕ) (m : Node) (s : Status) → Low most g m → Ends most g (leave_by m s)
 ends_leave_by most g m status.Member h = ends_leave_now most g m h
 ends_leave_by most g m _ h = search ends
 
-pub ends_leave : (most : Bounds) (g : ℕ) (m : Node) → Low most g m → Ends most g (leave_row m)
-unfolding leave_row
-ends_leave most g m h = ends_leave_by most g m m.status h
-
 -- ---- ballots
 
-ends_ask_of : (most : Bounds) (g : ℕ) (m : Node) (round : ℕ) (b : Option Ballot) → Low most g m → Ends most g (ask_of m round b)
+pub ends_ask_of : (most : Bounds) (g : ℕ) (m : Node) (round : ℕ) (b : Option Ballot) → Low most g m → Ends most g (ask_of m round b)
 ends_ask_of most g m round None h = search ends
 ends_ask_of most g m round (Some b) h = search ends
-
-pub ends_ask : (most : Bounds) (g : ℕ) (m : Node) (round : ℕ) → Low most g m → Ends most g (ask_row m round)
-unfolding ask_row
-ends_ask most g m round h = ends_ask_of most g m round m.ballot h
 
 -- ---- the tick
 
@@ -205,10 +163,6 @@ ends_tick_with most g m (Some b) h =
     let l = ends_tick_ballot most g m b.answer h in
     search (ends, k, l)
 
-ends_tick_by : (most : Bounds) (g : ℕ) (m : Node) (s : Status) → Low most g m → Ends most g (tick_by m s)
+pub ends_tick_by : (most : Bounds) (g : ℕ) (m : Node) (s : Status) → Low most g m → Ends most g (tick_by m s)
 ends_tick_by most g m status.Member h = ends_tick_with most g m m.ballot h
 ends_tick_by most g m _ h = ends_at most g _ h
-
-pub ends_tick : (most : Bounds) (g : ℕ) (m : Node) → Low most g m → Ends most g (tick_row m)
-unfolding tick_row
-ends_tick most g m h = ends_tick_by most g m m.status h

@@ -1,23 +1,22 @@
 -- The effects of the calls.
-use Rattle.am_laws.proofs.EffectWords.{not-true, not-false, ◌≡◌, ℕ, ◌+◌, ◌||◌, ◌==◌, nat_lt, nat_le, not, Bool, true, false, if◌then◌else◌, List, [], length}
+use Rattle.am_laws.proofs.EffectWords.{[], not-true, not-false, ◌≡◌, ℕ, ◌+◌, ◌||◌, ◌==◌, nat_lt, nat_le, not, Bool, true, false, if◌then◌else◌, List, length}
 use Rattle.am_laws.proofs.EffectWords.{Option, Some, None, find, is_some, inl, inr, refl, ap, ◌∙◌, arith, nat_tests, Entry, Data, Outcome, NodeEvent, size}
 use Rattle.am_laws.proofs.EffectWords.{entry_at, OwnSend, Status, Node, Ballot, top, view, own_row, others, only_name, lowest_or_first, acts, has_room}
 use Rattle.am_laws.proofs.EffectWords.{is_member, is_asking, is_sequencer, waiting, unsettled_count, push_entry, Plan, quiet, join_ask_of, leave_ask_of}
-use Rattle.am_laws.proofs.EffectWords.{request_of, spread_of, bcast_of, everywhere_else, would_emit, hand_in, number_send, emit, with_queued}
-use Rattle.am_laws.proofs.EffectWords.{queue, give_out, ask_to_join, join_by, state_by, go, leave_now, leave_by, is_unfinished, ask_of, send_row, done_row}
-use Rattle.am_laws.proofs.EffectWords.{take_row, join_row, state_row, leave_row, ask_row, and_both, Cause, calls, numbers, own_send, queues, collects, takes}
-use Rattle.am_laws.proofs.EffectWords.{asks_to_join, asks_to_leave, Course, nothing_yet, and_then, HasSend, join_ask, leave_ask, Answers}
+use Rattle.am_laws.proofs.EffectWords.{request_of, spread_of, bcast_of, everywhere_else, would_emit, hand_in, number_send, emit, with_queued, queue, give_out}
+use Rattle.am_laws.proofs.EffectWords.{ask_to_join, join_by, state_by, go, leave_now, leave_by, is_unfinished, ask_of, and_both, Cause, calls, numbers}
+use Rattle.am_laws.proofs.EffectWords.{own_send, queues, takes, asks_to_join, asks_to_leave, Course, nothing_yet, and_then, HasSend, join_ask, leave_ask}
+use Rattle.am_laws.proofs.EffectWords.{Answers, find_test, hand_over_of, hand_over}
 use Rattle.am_base.specs.declared.outcome.Outcome.TheVariants as said
 use Rattle.am_base.specs.declared.event.NodeEvent.TheVariants as does
-use Rattle.am_base.proofs.Found.{find_test}
 use Rattle.am_state.specs.Sends as own
-use Rattle.am_model.specs.Emit.{hand_over_of}
-use Rattle.am_laws.specs.Letters.{hand_over}
 use Rattle.am_model.specs.declared.status.Status.TheVariants as status
 use Rattle.am_laws.proofs.Plans.{Comes, Does, HasEffect, effect_if, effect_of, row_closing, does_if, does_quiet, does_telling, does_and, does_numbering}
 use Rattle.am_laws.proofs.Plans.{tightly, rows}
-use Rattle.am_laws.proofs.{Items.find_get, Rests.Rests, Rests.RestsWhole, Rests.leads_rests, Alone.IsAlone, Alone.gone, Alone.alone_after}
-use Rattle.am_laws.proofs.{Says.waiting_stands, Says.tells_request, Says.tells_spread, Says.tells_bcast}
+use Rattle.am_laws.proofs.Rests.{Rests, RestsWhole, leads_rests}
+use Rattle.am_laws.proofs.Alone.{IsAlone, gone, alone_after}
+use Rattle.am_laws.proofs.Says.{waiting_stands, tells_request, tells_spread, tells_bcast}
+use Rattle.am_laws.proofs.{Items.find_get}
 
 -- ---- sends
 
@@ -74,7 +73,7 @@ comes_emit m c p (Some s) said_ h is o =
     (λ g. node_if C (has_room p) _ _ (λ t. numbers_own m c p s o (h o) is both.1 (not-false _ g) t) (λ k. h o)))
 
 -- what is answered as queued was queued
-row_queue : (m : Node) (body : List ℕ) → is_member m.status ≡ true → m.leaving ≡ false → nat_le 4 (length m.sends.queue) ≡ false
+pub row_queue : (m : Node) (body : List ℕ) → is_member m.status ≡ true → m.leaving ≡ false → nat_le 4 (length m.sends.queue) ≡ false
     → HasEffect m (calls (does.Send body)) (queue m body)
 row_queue m body member stays few =
     let c = calls (does.Send body) in
@@ -85,16 +84,9 @@ row_queue m body member stays few =
     (λ f. effect_of m c _ (tightly m c _ (does_emit m c (with_queued m body) (waiting (with_queued m body)) o h
     (λ n same. inl (record { next = refl; more = same })) refl)))
 
-pub row_send : (m : Node) (body : List ℕ) → HasEffect m (calls (does.Send body)) (send_row m body)
-unfolding send_row
-row_send m body =
-    let k : not (is_member m.status) ≡ false → m.leaving ≡ false → nat_le 4 (length m.sends.queue) ≡ false
-    → HasEffect m (calls (does.Send body)) (queue m body) = λ a b d. row_queue m body (not-false _ a) b d in
-    search (rows, k) depth 9
-
 -- ---- what came of a send
 
-collected : (m : Node) (n : Node) (req : ℕ) (found : Option OwnSend) → find (own.is_request req) m.sends.queue ≡ found
+pub collected : (m : Node) (n : Node) (req : ℕ) (found : Option OwnSend) → find (own.is_request req) m.sends.queue ≡ found
     → Answers m (calls (does.Done req)) n (own.outcome_of req found)
 collected m n req None is = tt
 collected m n req (Some s) is = by_number s.number refl
@@ -107,17 +99,9 @@ collected m n req (Some s) is = by_number s.number refl
         let same : s.req ≡ req = grind (arith, nat_tests) in
         inl (record { asked = refl; index = f.0; send = s; there = f.1; request = same; settled = e })
 
-pub row_done : (m : Node) (req : ℕ) → HasEffect m (calls (does.Done req)) (done_row m req)
-unfolding done_row
-row_done m req =
-    let c = calls (does.Done req) in
-    let o = own.collect_outcome req m.sends in
-    effect_of m c _ (does_quiet RestsWhole m c _ o (and_then nothing_yet (collects {m = m} req refl) tt)
-    (λ n r. collected m n req (find (own.is_request req) m.sends.queue) refl))
-
 -- ---- what is accepted
 
-row_given : (m : Node) (e : Option Entry) → is_member m.status ≡ true → (m.core.taken == m.core.acc) ≡ false → entry_at m.core.log (m.core.taken + 1) ≡ e
+pub row_given : (m : Node) (e : Option Entry) → is_member m.status ≡ true → (m.core.taken == m.core.acc) ≡ false → entry_at m.core.log (m.core.taken + 1) ≡ e
     → HasEffect m (calls does.Take) (give_out m e)
 row_given m None member some is = search rows
 row_given m (Some e) member some is =
@@ -127,13 +111,6 @@ row_given m (Some e) member some is =
     effect_of m c _ (does_quiet RestsWhole m c p o (and_then nothing_yet (takes {m = m} e refl refl member some is) tt)
     (λ n r. inl (record { asked = refl; next = refl; there = is; gone_on = r.rests.taken; some = some })))
 
-pub row_take : (m : Node) → HasEffect m (calls does.Take) (take_row m)
-unfolding take_row
-row_take m =
-    let k : not (is_member m.status) ≡ false → (m.core.taken == m.core.acc) ≡ false
-    → HasEffect m (calls does.Take) (give_out m (entry_at m.core.log (m.core.taken + 1))) = λ a b. row_given m _ (not-false _ a) b refl in
-    search (rows, k) depth 9
-
 -- ---- joining and leaving
 
 pub row_ask_to_join : (m : Node) (c : Cause) (p : Node) (o : Outcome) → Course c o m p → Allows m c o → is_asking p.status ≡ true
@@ -141,24 +118,14 @@ pub row_ask_to_join : (m : Node) (c : Cause) (p : Node) (o : Outcome) → Course
 row_ask_to_join m c p o h a t = effect_of m c _ (does_telling RestsWhole m c p o (everywhere_else p) join_ask_of h (λ n r. a n)
     (λ n r. join_ask (everywhere_else p) (ap is_asking r.rests.status ∙ t)))
 
-row_join_by : (m : Node) (s : Status) → m.status ≡ s → HasEffect m (calls does.Join) (join_by m s)
+pub row_join_by : (m : Node) (s : Status) → m.status ≡ s → HasEffect m (calls does.Join) (join_by m s)
 row_join_by m status.Stranger is = row_ask_to_join m (calls does.Join) (record m { status = status.Asking }) said.Asked
     (and_then nothing_yet (asks_to_join {m = m} refl is) tt) (λ n. tt) refl
 row_join_by m _ is = search rows
 
-pub row_join : (m : Node) → HasEffect m (calls does.Join) (join_row m)
-unfolding join_row
-row_join m = row_join_by m m.status refl
-
-row_state_by : (m : Node) (s : Status) → HasEffect m (calls does.State) (state_by m s)
-row_state_by m status.Stranger = search rows
-row_state_by m status.Asking = search rows
+pub row_state_by : (m : Node) (s : Status) → HasEffect m (calls does.State) (state_by m s)
 row_state_by m status.Member = search rows
-row_state_by m status.Departed = search rows
-
-pub row_state : (m : Node) → HasEffect m (calls does.State) (state_row m)
-unfolding state_row
-row_state m = row_state_by m m.status
+row_state_by m _ = search rows
 
 -- a leaving node goes on, whatever the plan before does
 pub row_go : (m : Node) (c : Cause) (p : Plan) (event : NodeEvent) → c ≡ calls event → Does Rests m c p → Comes m c p.node
@@ -191,13 +158,9 @@ row_leave_now m is =
     (ap is_member is) refl) in
     search (rows, k) depth 9
 
-row_leave_by : (m : Node) (s : Status) → m.status ≡ s → HasEffect m (calls does.Leave) (leave_by m s)
+pub row_leave_by : (m : Node) (s : Status) → m.status ≡ s → HasEffect m (calls does.Leave) (leave_by m s)
 row_leave_by m status.Member is = row_leave_now m is
 row_leave_by m _ is = search rows
-
-pub row_leave : (m : Node) → HasEffect m (calls does.Leave) (leave_row m)
-unfolding leave_row
-row_leave m = row_leave_by m m.status refl
 
 -- ---- what a ballot was answered with
 
@@ -208,14 +171,10 @@ answers_ask m n round b (said.Sent req number) is same = inr (record { round = r
 answers_ask m n round b (said.Welcomed join) is same = record { round = round; asked = refl; ballot = b; last = is; same = same }
 answers_ask m n round b _ is same = tt
 
-row_ask_of : (m : Node) (round : ℕ) (b : Option Ballot) → m.ballot ≡ b → HasEffect m (calls (does.Ask round)) (ask_of m round b)
+pub row_ask_of : (m : Node) (round : ℕ) (b : Option Ballot) → m.ballot ≡ b → HasEffect m (calls (does.Ask round)) (ask_of m round b)
 row_ask_of m round None is = search rows
 row_ask_of m round (Some b) is =
     let c = calls (does.Ask round) in
     let k : HasEffect m c (quiet m b.answer) = effect_of m c _
     (does_quiet RestsWhole m c m b.answer nothing_yet (λ n r. answers_ask m n round b b.answer is refl)) in
     search (rows, k) depth 9
-
-pub row_ask : (m : Node) (round : ℕ) → HasEffect m (calls (does.Ask round)) (ask_row m round)
-unfolding ask_row
-row_ask m round = row_ask_of m round m.ballot refl

@@ -3,8 +3,9 @@ use Rattle.am_laws.proofs.Words.{and_right, ◌≡◌, ◌⊎◌, inl, inr, ⊎_
 use Rattle.am_laws.proofs.Words.{if◌then◌else◌, List, [], ◌∷◌, find, Option, Some, None, refl, sym, ap, ◌∙◌, subst, arith, length-append, nat_tests, count_by}
 use Rattle.am_laws.proofs.Words.{sum_by-cons, Entry, Report, Vote, Stamp, stamp_lt, accept_front, accept, pass_over, least_of, lesser, base_after, own_report}
 use Rattle.am_laws.proofs.Words.{tell, go_on, let_go, OwnSend, is_unsettled, Node, Ballot, top, view, acts, is_sequencer, push_entry, trim_up_to, waiting}
-use Rattle.am_laws.proofs.Words.{unsettled_count, with_report, advance, lead, refresh, accepted_at, settle_at, settle_waiting, settle, refresh_at_end, Plan}
-use Rattle.am_laws.proofs.Words.{finish, overtake, with_promise, is_view, split, accept_front_is, view_pushed, Bounds, up}
+use Rattle.am_laws.proofs.Words.{unsettled_count, with_report, advance, lead, refresh, settle, refresh_at_end, Plan, finish, overtake, with_promise, is_view}
+use Rattle.am_laws.proofs.Words.{split, accept_front_is, view_pushed, Bounds, up}
+use Rattle.am_laws.proofs.{Rests.settle_keeps}
 
 -- ---- what is kept
 
@@ -271,23 +272,14 @@ low_refresh b g m h = split (is_sequencer m) (λ t. rw t (low_lead b g m (sequen
 -- ---- the end of a step
 
 -- who has something to send isn't leaving
-low_settled_at : (b : Bounds) (g : ℕ) (m : Node) (s : OwnSend) (at : Option ℕ) → waiting m ≡ Some s → Low b g m → Low b g (settle_at m s.req at)
-low_settled_at b g m s None is h = h
-low_settled_at b g m s (Some k) is h = record {
+low_settle : (b : Bounds) (g : ℕ) (m : Node) → Low b g m → Low b g (settle m)
+low_settle b g m h = settle_keeps (Low b g) m h (λ s k w at. record {
   counts = h.counts;
   order = h.order;
   within = h.within;
   quits = λ t. absurd (let none = h.quits t in cc);
   tells = h.tells;
-}
-
-low_settled : (b : Bounds) (g : ℕ) (m : Node) (w : Option OwnSend) → waiting m ≡ w → Low b g m → Low b g (settle_waiting m w)
-low_settled b g m None is h = h
-low_settled b g m (Some s) is h = low_settled_at b g m s (accepted_at m s.req) is h
-
-low_at_end : (b : Bounds) (g : ℕ) (m : Node) → Low b g m → Low b g (refresh_at_end m)
-unfolding refresh_at_end settle
-low_at_end b g m h = low_settled b g (refresh m) (waiting (refresh m)) refl (low_refresh b g m h)
+})
 
 -- ---- plans
 
@@ -311,7 +303,7 @@ pub ruleset ends = (ends_if, ends_at)
 
 -- a plan that is done
 pub low_finish : (b : Bounds) (g : ℕ) (m : Node) (p : Plan) → Ends b g p → Low (up b) g (finish m p).node
-unfolding finish
+unfolding finish refresh_at_end
 low_finish b g m p h =
-    let k = low_at_end (up b) g p.node h.node in
+    let k = low_settle (up b) g (refresh p.node) (low_refresh (up b) g p.node h.node) in
     split p.departs (λ t. rw t k) (λ f. rw f k)

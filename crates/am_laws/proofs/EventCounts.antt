@@ -54,9 +54,6 @@ more_heard b g name w e hearing (Some l) h k =
     more_if b g name (not (is_for l name)) _ _ (more_unchanged b g name w e said.NotAddressed h)
     (more_if b g name (is_stopped w name) _ _ (more_unchanged b g name w e said.IsStopped h) (more_stepped b g name w e (hearing l.packet) (k l refl)))
 
-unit : Unit {0}
-unit = tt
-
 more_acts : (b : Bounds) (g name : ℕ) (w : World) (e : Event) (a : Act)
     → ((letter : Letter) → letter_at w.letters (heard_by a) ≡ Some letter → UpTo b g letter.packet) → Behind g (w.nodes name) → Low b g (w.nodes name)
     → OneMore b g name (acts_as w e name a)
@@ -67,7 +64,7 @@ more_acts b g name w e (act.Cut number keep) u k h =
     more_heard b g name w e (hear_cut (w.nodes name) keep) (letter_at w.letters number) h
     (λ letter is. low_cut b g (w.nodes name) keep letter.packet (u letter is) k h)
 more_acts b g name w e act.Return u k h = search mores
-more_acts b g name w e _ u k h = search (mores, more_event, unit)
+more_acts b g name w e _ u k h = search (mores, more_event, tt)
 
 -- whatever the bounds are that the node and the letter that it hears are within
 pub actor_low : (b : Bounds) (g : ℕ) (w : World) (e : Event) → ((letter : Letter) → letter_at w.letters (heard_by e.act) ≡ Some letter → UpTo b g letter.packet)

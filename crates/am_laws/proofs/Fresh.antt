@@ -131,14 +131,10 @@ fresh_acts rules w e (act.Hear number) h = fresh_heard rules w e (hear (w.nodes 
 fresh_acts rules w e (act.Cut number keep) h = fresh_heard rules w e (hear_cut (w.nodes (current w (place_of e.node))) keep) (letter_at w.letters number) h
 fresh_acts rules w e act.Return h = fresh_returned rules w e (place_of (current w (place_of e.node))) h
 
-fresh_happens : (rules : Rules) (w : World) (e : Event) → Fresh rules w → Fresh rules (happens w e)
-unfolding happens
-fresh_happens rules w e h = fresh_acts rules w e e.act h
-
 fresh_happen : (rules : Rules) (w : World) (events : List Event) → Fresh rules w → Fresh rules (happen w events)
-unfolding happen
+unfolding happen happens
 fresh_happen rules w [] h = h
-fresh_happen rules w (e ∷ events) h = fresh_happen rules (happens w e) events (fresh_happens rules w e h)
+fresh_happen rules w (e ∷ events) h = fresh_happen rules (happens w e) events (fresh_acts rules w e e.act h)
 
 fresh_start : (rules : Rules) → MayFound rules → Fresh rules (start rules)
 fresh_start rules may = record {

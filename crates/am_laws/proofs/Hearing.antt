@@ -3,15 +3,18 @@ use Rattle.am_laws.proofs.EffectWords.{not-true, ◌≡◌, ℕ, ◌==◌, ◌&&
 use Rattle.am_laws.proofs.EffectWords.{stamp_eq, Packet, Read, reading, Node, image_of, view, acts, is_sequencer, Plan, request_row, spread_row, hears_member}
 use Rattle.am_laws.proofs.EffectWords.{hears_asking, hears_in_view, where_heard, hear_row, read_row, row, step, hear, refuse, hear_refusal, and_both, Cause}
 use Rattle.am_laws.proofs.EffectWords.{hears, refuses, by_request, by_spread, cause_of_read, cause_of, by_reset, StepsHaveEffects, HearingHasEffects}
-use Rattle.am_laws.proofs.EffectWords.{RefusingHasEffects}
+use Rattle.am_laws.proofs.EffectWords.{RefusingHasEffects, by_hand_over, send_row, done_row, take_row, join_row, state_row, leave_row, ask_row, give_up_row}
+use Rattle.am_laws.proofs.EffectWords.{tick_row, queue, give_out, entry_at, hold_row, join_ask_row, waiting, at_place, is_member, length, nat_le, ◌+◌, find}
+use Rattle.am_laws.proofs.EffectWords.{calls, collects, nothing_yet, and_then, not-false}
 use Rattle.am_base.specs.declared.event.NodeEvent.TheVariants as does
 use Rattle.am_packet.specs.declared.packet.Packet.TheVariants as packet
-use Rattle.am_laws.specs.Looks.{by_hand_over}
-use Rattle.am_laws.proofs.Sequencing.{FromMember, row_request, row_ack, row_nack, row_join_ask, row_leave_ask}
-use Rattle.am_laws.proofs.Receiving.{row_spread, row_bcast, row_order, row_accept, row_hold, row_welcome, row_gone}
-use Rattle.am_laws.proofs.{Plans.HasEffect, Plans.effect_if, Plans.rows, Calls.row_send, Calls.row_done, Calls.row_take, Calls.row_join, Calls.row_state}
-use Rattle.am_laws.proofs.{Calls.row_leave, Calls.row_ask, Ticks.row_tick, Ballots.row_reset, Ballots.row_give_up_row, Resets.row_invite, Resets.row_vote}
-use Rattle.am_laws.proofs.{Resets.row_fetch, Resets.row_piece, Resets.row_result}
+use Rattle.am_state.specs.Sends as own
+use Rattle.am_laws.proofs.Sequencing.{FromMember, row_request, row_ack, row_nack, row_asks_to_join, row_leave_ask}
+use Rattle.am_laws.proofs.Receiving.{row_spread, row_bcast, row_order, row_accept, row_held_up, row_welcome, row_gone}
+use Rattle.am_laws.proofs.Plans.{HasEffect, effect_if, effect_of, does_quiet, rows}
+use Rattle.am_laws.proofs.Calls.{row_queue, collected, row_given, row_join_by, row_state_by, row_leave_by, row_ask_of}
+use Rattle.am_laws.proofs.Resets.{row_invite, row_vote, row_fetch, row_piece, row_result}
+use Rattle.am_laws.proofs.{Ticks.row_tick_by, Ballots.row_reset, Ballots.row_give_up_of, Rests.RestsWhole}
 
 -- ---- who is heard
 
@@ -35,7 +38,7 @@ row_heard_spread m s v report req body t =
     (λ f. row_spread m s v report req body t)
 
 row_hear : (m : Node) (p : Packet) → HasEffect m (hears p) (hear_row m p)
-unfolding hear_row
+unfolding hear_row hold_row join_ask_row
 row_hear m (packet.Request s v report req body) = where_it_is_heard m _ _ _
     (λ t. let both = and_both (hears_in_view m s v) (is_sequencer m) t in
     row_request m _ s v report req body false (from_member m s v both.0 both.1) (by_request s v report req body) (λ e. absurd (cc)))
@@ -47,9 +50,9 @@ row_hear m (packet.Ack s v report) = where_it_is_heard m _ _ _ (λ t. let both =
     row_ack m s v report (from_member m s v both.0 both.1))
 row_hear m (packet.Nack s v report) = where_it_is_heard m _ _ _ (λ t. let both = and_both (hears_in_view m s v) (is_sequencer m) t in
     row_nack m s v report (from_member m s v both.0 both.1))
-row_hear m (packet.Hold s v base high req) = where_it_is_heard m _ _ _ (λ t. row_hold m s v base high req)
+row_hear m (packet.Hold s v base high req) = where_it_is_heard m _ _ _ (λ t. row_held_up m s v base high req (waiting m))
 row_hear m (packet.JoinAsk s v) = where_it_is_heard m _ _ _ (λ t. let both = and_both (hears_member m s) (is_sequencer m) t in
-    row_join_ask m s v both.1 (other_heard m s both.0))
+    row_asks_to_join m s v (at_place (image_of m) s) refl both.1 (other_heard m s both.0))
 row_hear m (packet.Welcome s v base join image) = where_it_is_heard m _ _ _ (λ t. let both = and_both (hears_asking m s) (v.by == s) t in
     row_welcome m s v base join image both.0 both.1)
 row_hear m (packet.LeaveAsk s v report) = where_it_is_heard m _ _ _ (λ t. let both = and_both (hears_member m s) (is_sequencer m) t in
@@ -65,20 +68,33 @@ row_hear m (packet.HandOver s v) = where_it_is_heard m _ _ _ (λ t. row_reset m 
 
 -- ---- steps
 
-row_refuse : (m : Node) (cause : ℕ) → HasEffect m refuses (refuse m cause)
-row_refuse m cause = search rows
-
 row_read : (m : Node) (read : Read Packet) → HasEffect m (cause_of_read read) (read_row m read)
 row_read m (Ok p) = row_hear m p
-row_read m (Err refusal) = row_refuse m _
-
-ruleset asked = (row_send, row_done, row_take, row_join, row_state, row_leave, row_ask, row_give_up_row, row_tick)
+row_read m (Err refusal) = search rows
 
 row_does : (m : Node) (event : NodeEvent) → HasEffect m (cause_of event) (row m event)
-unfolding row
+unfolding row send_row done_row take_row join_row state_row leave_row ask_row give_up_row tick_row
+row_does m (does.Send body) =
+    let k : not (is_member m.status) ≡ false → m.leaving ≡ false → nat_le 4 (length m.sends.queue) ≡ false
+    → HasEffect m (calls (does.Send body)) (queue m body) = λ a b d. row_queue m body (not-false _ a) b d in
+    search (rows, k) depth 9
+row_does m (does.Done req) =
+    let c = calls (does.Done req) in
+    let o = own.collect_outcome req m.sends in
+    effect_of m c _ (does_quiet RestsWhole m c _ o (and_then nothing_yet (collects {m = m} req refl) tt)
+    (λ n r. collected m n req (find (own.is_request req) m.sends.queue) refl))
+row_does m does.Take =
+    let k : not (is_member m.status) ≡ false → (m.core.taken == m.core.acc) ≡ false
+    → HasEffect m (calls does.Take) (give_out m (entry_at m.core.log (m.core.taken + 1))) = λ a b. row_given m _ (not-false _ a) b refl in
+    search (rows, k) depth 9
+row_does m does.Join = row_join_by m m.status refl
+row_does m does.State = row_state_by m m.status
+row_does m does.Leave = row_leave_by m m.status refl
 row_does m (does.Reset least resilience) = row_reset m _ least resilience (by_reset least resilience)
+row_does m (does.Ask round) = row_ask_of m round m.ballot refl
+row_does m (does.GiveUp name) = row_give_up_of m name m.ballot refl
+row_does m does.Tick = row_tick_by m m.status refl
 row_does m (does.Hear bytes) = row_read m (reading bytes)
-row_does m _ = search asked
 
 pub steps_have_effects : StepsHaveEffects
 unfolding step
@@ -90,4 +106,4 @@ hearing_has_effects m p = (row_hear m p).effect
 
 pub refusing_has_effects : RefusingHasEffects
 unfolding hear_refusal
-refusing_has_effects m cause = (row_refuse m cause).effect
+refusing_has_effects m cause = let h : HasEffect m refuses (refuse m cause) = search rows in h.effect

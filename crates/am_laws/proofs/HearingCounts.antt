@@ -1,21 +1,22 @@
 -- What hearing adds to the numbers that grow, and a whole step.
-use Rattle.am_laws.proofs.Words.{◌≡◌, inl, inr, ⊎_elim, ℕ, ◌≤◌, ◌==◌, ◌||◌, not, max, if◌then◌else◌, Bool, true, false, nat_le, List, [], ◌∷◌, Option, Some}
-use Rattle.am_laws.proofs.Words.{None, refl, arith, All, nat_tests, All-head, All-tail, GroupView, Stamp, Report, Row, Image, Vote, Entry, Data, Join, Leave}
-use Rattle.am_laws.proofs.Words.{View, Outcome, NodeEvent, at_place, fits, Packet, OwnSend, Node, Ballot, top, image_of, is_within_bound, push_entry}
-use Rattle.am_laws.proofs.Words.{trim_up_to, with_report, waiting, Plan, take_report, number_data, answer_request, request_row, ack_row, serve_again, nack_row}
-use Rattle.am_laws.proofs.Words.{spread_row, is_view, store_fitting, store, with_noted, receive_entry, bcast_row, data_of, body_of, order_row, accept_row}
-use Rattle.am_laws.proofs.Words.{answer_hold, hold_row, with_admitted, number_join, join_ask_row, begin_list, welcome_row, leave_ask_row, gone_row}
-use Rattle.am_laws.proofs.Words.{with_promise, invite_row, take_vote, vote_row, fetch_row, push_fetched, catch_up, decide_anew, piece_promised, piece_for}
-use Rattle.am_laws.proofs.Words.{piece_row, hears_result, result_row, hear_row, row, step, hear, hear_refusal, refuse, split, or_first, Bounds, up, UpTo}
-use Rattle.am_laws.proofs.Words.{asks_to_leave}
-use Rattle.am_model.specs.Joining.{asks_to_join}
+use Rattle.am_laws.proofs.Words.{◌+◌, [], ◌≡◌, inl, inr, ⊎_elim, ℕ, ◌≤◌, ◌==◌, ◌||◌, not, max, if◌then◌else◌, Bool, true, false, nat_le, List, ◌∷◌, Option, Some, None}
+use Rattle.am_laws.proofs.Words.{refl, arith, All, nat_tests, All-head, All-tail, GroupView, Stamp, Report, Row, Image, Vote, Entry, Data, Join, Leave, View}
+use Rattle.am_laws.proofs.Words.{Outcome, NodeEvent, at_place, fits, Packet, OwnSend, Node, Ballot, top, image_of, is_within_bound, push_entry, trim_up_to}
+use Rattle.am_laws.proofs.Words.{with_report, waiting, Plan, take_report, number_data, answer_request, request_row, ack_row, nack_row, spread_row, is_view}
+use Rattle.am_laws.proofs.Words.{store_fitting, store, with_noted, receive_entry, bcast_row, data_of, body_of, order_row, accept_row, answer_hold, hold_row}
+use Rattle.am_laws.proofs.Words.{with_admitted, number_join, join_ask_row, begin_list, welcome_row, leave_ask_row, gone_row, with_promise, invite_row}
+use Rattle.am_laws.proofs.Words.{take_vote, vote_row, fetch_row, push_fetched, catch_up, decide_anew, piece_promised, piece_for, piece_row, hears_result}
+use Rattle.am_laws.proofs.Words.{result_row, hear_row, row, step, hear, hear_refusal, refuse, split, or_first, Bounds, up, UpTo, asks_to_leave, send_row}
+use Rattle.am_laws.proofs.Words.{done_row, take_row, join_row, state_row, leave_row, reset_row, ask_row, give_up_row, tick_row, queue, give_out, entry_at}
 use Rattle.am_base.specs.declared.outcome.Outcome.TheVariants as said
 use Rattle.am_base.specs.declared.event.NodeEvent.TheVariants as does
 use Rattle.am_packet.specs.declared.packet.Packet.TheVariants as packet
+use Rattle.am_model.specs.Joining.{asks_to_join}
 use Rattle.am_laws.proofs.Counts.{IsKnown, VotesKnown, leads, Low, Behind, low_pushed, low_any, low_within, low_trimmed, low_report, low_promised, low_refresh}
 use Rattle.am_laws.proofs.Counts.{Ends, ends_if, ends_at, ends_next, ends, low_finish}
-use Rattle.am_laws.proofs.BallotCounts.{low_look, ends_keep_vote, ends_reset, ends_give_up_row}
-use Rattle.am_laws.proofs.CallCounts.{ends_send, ends_done, ends_take, ends_join, ends_state, ends_leave, ends_ask, ends_tick}
+use Rattle.am_laws.proofs.BallotCounts.{low_look, ends_begin, ends_keep_vote, ends_give_up_of}
+use Rattle.am_laws.proofs.CallCounts.{ends_queue, collect_last, collect_waits, ends_given, ends_join_by, ends_state_by, ends_leave_by, ends_ask_of}
+use Rattle.am_laws.proofs.CallCounts.{ends_tick_by}
 
 -- ---- the sequencer
 
@@ -28,33 +29,7 @@ ends_requested most g m s req body by_order h =
     let k : Ends most g (number_data m s req body by_order) = ends_next most g _ (low_pushed most g m (Data s req body) refl h) in
     search (ends, k)
 
-ends_request : (most : Bounds) (g : ℕ) (m : Node) (s : ℕ) (report : Report) (req : ℕ) (body : List ℕ) (by_order : Bool) → report.taken ≤ g → Low most g m
-    → Ends most g (request_row m s report req body by_order)
-unfolding request_row
-ends_request most g m s report req body by_order taken h =
-    let k = ends_requested most g (take_report m s report) s req body by_order (low_reported most g m s report taken h) in
-    search (ends, k)
-
-ends_ack : (most : Bounds) (g : ℕ) (m : Node) (s : ℕ) (report : Report) → report.taken ≤ g → Low most g m → Ends most g (ack_row m s report)
-unfolding ack_row
-ends_ack most g m s report taken h =
-    let k = low_report most g m s report taken h in
-    search (ends, k)
-
-ends_asked_again : (most : Bounds) (g : ℕ) (m : Node) (s k : ℕ) → Low most g m → Ends most g (serve_again m s k)
-ends_asked_again most g m s k h = search ends
-
-ends_nack : (most : Bounds) (g : ℕ) (m : Node) (s : ℕ) (report : Report) → report.taken ≤ g → Low most g m → Ends most g (nack_row m s report)
-unfolding nack_row
-ends_nack most g m s report taken h =
-    let k = ends_asked_again most g (take_report m s report) s report.stored (low_reported most g m s report taken h) in
-    search (ends, k)
-
 -- ---- a member
-
-ends_spread : (most : Bounds) (g : ℕ) (m : Node) (s req : ℕ) (body : List ℕ) → Low most g m → Ends most g (spread_row m s req body)
-unfolding spread_row
-ends_spread most g m s req body h = search ends
 
 -- the next entry is stored
 ends_store : (most : Bounds) (g : ℕ) (m : Node) (s number : ℕ) (e : Option Entry) (missing : Outcome) → Low most g m → Ends most g (store m s number e missing)
@@ -91,29 +66,9 @@ low_noted most g m base acc low h =
       tells = record { reported = h.reported; votes = h.votes; known = known };
     }
 
-ends_bcast : (most : Bounds) (g : ℕ) (m : Node) (s base acc number : ℕ) (e : Entry) → acc ≤ g → Low most g m → Ends most g (bcast_row m s base acc number e)
-unfolding bcast_row
-ends_bcast most g m s base acc number e low h = ends_received most g (with_noted m base acc) s base number (Some e) said.Known
-    (low_noted most g m base acc low h)
-
-ends_order : (most : Bounds) (g : ℕ) (m : Node) (s base acc number from req : ℕ) → acc ≤ g → Low most g m → Ends most g (order_row m s base acc number from req)
-unfolding order_row
-ends_order most g m s base acc number from req low h = ends_received most g (with_noted m base acc) s base number (data_of from req (body_of m from req))
-    (said.NoBody from req) (low_noted most g m base acc low h)
-
-ends_accept : (most : Bounds) (g : ℕ) (m : Node) (s base acc high : ℕ) (poll : Bool) → acc ≤ g → Low most g m → Ends most g (accept_row m s base acc high poll)
-unfolding accept_row
-ends_accept most g m s base acc high poll low h =
-    let k = low_noted most g m base acc low h in
-    search (ends, k)
-
 ends_held_up : (most : Bounds) (g : ℕ) (m : Node) (base high req : ℕ) (w : Option OwnSend) → Low most g m → Ends most g (answer_hold m base high req w)
 ends_held_up most g m base high req None h = search ends
 ends_held_up most g m base high req (Some s) h = search ends
-
-ends_hold : (most : Bounds) (g : ℕ) (m : Node) (base high req : ℕ) → Low most g m → Ends most g (hold_row m base high req)
-unfolding hold_row
-ends_hold most g m base high req h = ends_held_up most g m base high req (waiting m) h
 
 -- ---- joining and leaving
 
@@ -132,10 +87,6 @@ ends_asks_to_join most g m s q h =
     let k : Ends most g (number_join m s) = ends_next most g _ (low_pushed most g (with_admitted m s) (Join s) refl (low_admitted most g m s h)) in
     search (ends, k) depth 9
 
-ends_join_ask : (most : Bounds) (g : ℕ) (m : Node) (s : ℕ) → Low most g m → Ends most g (join_ask_row m s)
-unfolding join_ask_row
-ends_join_ask most g m s h = ends_asks_to_join most g m s (at_place (image_of m) s) h
-
 -- the list begins with nothing above the base
 low_begun : (most : Bounds) (g : ℕ) (m : Node) (v : Stamp) (base join : ℕ) (image : Image) → v.round ≤ most.rounds → base ≤ most.lists → base ≤ g → join ≤ g
     → Low most g m → Low most g (begin_list m v base join image)
@@ -148,37 +99,12 @@ low_begun most g m v base join image round low from start h =
       tells = record { reported = h.reported; votes = h.votes; known = inl (from, from) };
     }
 
-ends_welcome : (most : Bounds) (g : ℕ) (m : Node) (s : ℕ) (v : Stamp) (base join : ℕ) (image : Image) → v.round ≤ most.rounds → base ≤ most.lists → base ≤ g
-    → join ≤ g → Low most g m → Ends most g (welcome_row m s v base join image)
-unfolding welcome_row
-ends_welcome most g m s v base join image round low from start h =
-    let k = low_begun most g m v base join image round low from start h in
-    search (ends, k)
-
 ends_asks_to_leave : (most : Bounds) (g : ℕ) (m : Node) (s : ℕ) → Low most g m → Ends most g (asks_to_leave m s)
 ends_asks_to_leave most g m s h =
     let k : Low (up most) g (push_entry m (Leave s)) = low_pushed most g m (Leave s) refl h in
     search (ends, ends_next, k)
 
-ends_leave_ask : (most : Bounds) (g : ℕ) (m : Node) (s : ℕ) (v : Stamp) (report : Report) → report.taken ≤ g → Low most g m
-    → Ends most g (leave_ask_row m s v report)
-unfolding leave_ask_row
-ends_leave_ask most g m s v report taken h =
-    let k = ends_asks_to_leave most g (take_report m s report) s (low_reported most g m s report taken h) in
-    let l = ends_asks_to_leave most g m s h in
-    search (ends, k, l)
-
-ends_gone : (most : Bounds) (g : ℕ) (m : Node) → Low most g m → Ends most g (gone_row m)
-unfolding gone_row
-ends_gone most g m h = search ends
-
 -- ---- ballots
-
-ends_invite : (most : Bounds) (g : ℕ) (m : Node) (s : ℕ) (v : Stamp) → v.round ≤ most.rounds → Low most g m → Ends most g (invite_row m s v)
-unfolding invite_row
-ends_invite most g m s v round h =
-    let k = low_promised most g m v round h in
-    search (ends, k)
 
 ends_voted_for : (most : Bounds) (g : ℕ) (m : Node) (s : ℕ) (v : Stamp) (vote : Vote) (b : Option Ballot) → vote.taken ≤ g → VotesKnown g b → Behind g m
     → Low most g m → Ends most g (take_vote m s v vote b)
@@ -186,18 +112,6 @@ ends_voted_for most g m s v vote None low votes k h = search ends
 ends_voted_for most g m s v vote (Some b) low votes k h =
     let l = ends_keep_vote most g m b s vote low votes k h in
     search (ends, l)
-
-ends_vote : (most : Bounds) (g : ℕ) (m : Node) (s : ℕ) (v : Stamp) (vote : Vote) → v.round ≤ most.rounds → vote.taken ≤ g → Behind g m → Low most g m
-    → Ends most g (vote_row m s v vote)
-unfolding vote_row
-ends_vote most g m s v vote round low behind h =
-    let k = low_promised most g m v round h in
-    let l = ends_voted_for most g m s v vote m.ballot low h.votes behind h in
-    search (ends, k, l)
-
-ends_fetch : (most : Bounds) (g : ℕ) (m : Node) (s : ℕ) (v : Stamp) (k : ℕ) → Low most g m → Ends most g (fetch_row m s v k)
-unfolding fetch_row
-ends_fetch most g m s v k h = search ends
 
 -- the next fetched entry is pushed: it has a number that was there before
 ends_fetched : (most : Bounds) (g : ℕ) (m : Node) (v : Stamp) (base number : ℕ) (e : Entry) (in_ballot : Bool) (then_ : Node → Plan) → number ≤ most.lists
@@ -224,27 +138,12 @@ ends_piece_for most g m s v base number e (Some b) low from votes k h =
     let p = ends_piece_promised most g m s v base number e low from k h in
     search (ends_if, ends_at, h, l, p)
 
-ends_piece : (most : Bounds) (g : ℕ) (m : Node) (s : ℕ) (v : Stamp) (base number : ℕ) (e : Entry) → number ≤ most.lists → base ≤ g → Behind g m → Low most g m
-    → Ends most g (piece_row m s v base number e)
-unfolding piece_row
-ends_piece most g m s v base number e low from k h =
-    let l = ends_piece_for most g m s v base number e m.ballot low from h.votes k h in
-    search (ends, l)
-
 ends_hears_result : (most : Bounds) (g : ℕ) (m : Node) (s : ℕ) (base number : ℕ) (v : GroupView) → base ≤ g → Behind g m
     → Low most g m → Ends most g (hears_result m s base number v)
 ends_hears_result most g m s base number v from k h =
     let l : Low (up most) g (push_entry (trim_up_to m base) (View v)) =
     low_any most g (trim_up_to m base) (View v) (record { told = k.told; acc = k.acc }) (low_trimmed most g m base from h) in
     search (ends_if, ends_at, ends_next, h, l) depth 8
-
-ends_result : (most : Bounds) (g : ℕ) (m : Node) (s : ℕ) (base number : ℕ) (v : GroupView) → v.stamp.round ≤ most.rounds → base ≤ g
-    → Behind g m → Low most g m → Ends most g (result_row m s base number v)
-unfolding result_row
-ends_result most g m s base number v round from k h =
-    let l = ends_hears_result most g (with_promise m v.stamp) s base number v from (record { told = k.told; acc = k.acc })
-    (low_promised most g m v.stamp round h) in
-    search (ends, l)
 
 -- ---- a step
 
@@ -255,32 +154,57 @@ first_low g x rest h = All-head (λ n. n ≤ g) x rest h
 second_low : (g x y : ℕ) (rest : List ℕ) → All (λ n. n ≤ g) (x ∷ y ∷ rest) → y ≤ g
 second_low g x y rest h = first_low g y rest (All-tail (λ n. n ≤ g) x (y ∷ rest) h)
 
--- the rows that ask nothing of what a packet tells
-ruleset rows = (ends_hold, ends_join_ask, ends_gone, ends_fetch, ends_reset)
-
 ends_hear : (most : Bounds) (g : ℕ) (m : Node) (p : Packet) → UpTo most g p → Behind g m → Low most g m → Ends most g (hear_row m p)
-unfolding hear_row
-ends_hear most g m (packet.Request s v report req body) u k h = let a = first_low g report.taken [] u.accepted in search (ends, ends_request)
-ends_hear most g m (packet.Spread s v report req body) u k h = let a = first_low g report.taken [] u.accepted in search (ends, ends_request, ends_spread)
-ends_hear most g m (packet.Bcast s v base acc number e) u k h = let a = first_low g acc [] u.accepted in search (ends, ends_bcast)
-ends_hear most g m (packet.Order s v base acc number from req) u k h = let a = first_low g acc [] u.accepted in search (ends, ends_order)
-ends_hear most g m (packet.Accept s v base acc high poll) u k h = let a = first_low g acc [] u.accepted in search (ends, ends_accept)
-ends_hear most g m (packet.Ack s v report) u k h = let a = first_low g report.taken [] u.accepted in search (ends, ends_ack)
-ends_hear most g m (packet.Nack s v report) u k h = let a = first_low g report.taken [] u.accepted in search (ends, ends_nack)
-ends_hear most g m (packet.Welcome s v base join image) u k h =
-    let l = ends_welcome most g m s v base join image u.round (first_low most.lists base (join ∷ []) u.numbers) (first_low g base (join ∷ []) u.accepted)
-    (second_low g base join [] u.accepted) h in
+unfolding hear_row request_row spread_row bcast_row order_row accept_row ack_row nack_row hold_row join_ask_row welcome_row leave_ask_row gone_row
+    invite_row vote_row fetch_row piece_row result_row reset_row
+ends_hear most g m (packet.Request s v report req body) u k h =
+    let n = low_reported most g m s report (first_low g report.taken [] u.accepted) h in
+    let l = ends_requested most g (take_report m s report) s req body false n in
     search (ends, l)
-ends_hear most g m (packet.LeaveAsk s v report) u k h = let a = first_low g report.taken [] u.accepted in search (ends, ends_leave_ask)
-ends_hear most g m (packet.Invite s v) u k h = let l = ends_invite most g m s v u.round h in search (ends, l)
-ends_hear most g m (packet.Vote s v vote) u k h = let l = ends_vote most g m s v vote u.round (first_low g vote.taken [] u.accepted) k h in search (ends, l)
+ends_hear most g m (packet.Spread s v report req body) u k h =
+    let n = low_reported most g m s report (first_low g report.taken [] u.accepted) h in
+    let l = ends_requested most g (take_report m s report) s req body true n in
+    search (ends, l)
+ends_hear most g m (packet.Bcast s v base acc number e) u k h =
+    let n = low_noted most g m base acc (first_low g acc [] u.accepted) h in
+    let l = ends_received most g (with_noted m base acc) s base number (Some e) said.Known n in
+    search (ends, l)
+ends_hear most g m (packet.Order s v base acc number from req) u k h =
+    let n = low_noted most g m base acc (first_low g acc [] u.accepted) h in
+    let l = ends_received most g (with_noted m base acc) s base number (data_of from req (body_of m from req)) (said.NoBody from req) n in
+    search (ends, l)
+ends_hear most g m (packet.Accept s v base acc high poll) u k h =
+    let n = low_noted most g m base acc (first_low g acc [] u.accepted) h in
+    search (ends, n)
+ends_hear most g m (packet.Ack s v report) u k h =
+    let n = low_report most g m s report (first_low g report.taken [] u.accepted) h in
+    search (ends, n)
+ends_hear most g m (packet.Nack s v report) u k h =
+    let n = low_reported most g m s report (first_low g report.taken [] u.accepted) h in
+    search (ends, n)
+ends_hear most g m (packet.Hold s v base high req) u k h = let l = ends_held_up most g m base high req (waiting m) h in search (ends, l)
+ends_hear most g m (packet.JoinAsk s v) u k h = let l = ends_asks_to_join most g m s (at_place (image_of m) s) h in search (ends, l)
+ends_hear most g m (packet.Welcome s v base join image) u k h =
+    let n = low_begun most g m v base join image u.round (first_low most.lists base (join ∷ []) u.numbers) (first_low g base (join ∷ []) u.accepted)
+    (second_low g base join [] u.accepted) h in
+    search (ends, n) depth 9
+ends_hear most g m (packet.LeaveAsk s v report) u k h =
+    let n = ends_asks_to_leave most g (take_report m s report) s (low_reported most g m s report (first_low g report.taken [] u.accepted) h) in
+    let l = ends_asks_to_leave most g m s h in
+    search (ends, n, l)
+ends_hear most g m (packet.Invite s v) u k h = let n = low_promised most g m v u.round h in search (ends, n)
+ends_hear most g m (packet.Vote s v vote) u k h =
+    let n = low_promised most g m v u.round h in
+    let l = ends_voted_for most g m s v vote m.ballot (first_low g vote.taken [] u.accepted) h.votes k h in
+    search (ends, n, l)
 ends_hear most g m (packet.Piece s v base number e) u k h =
-    let l = ends_piece most g m s v base number e (second_low most.lists base number [] u.numbers) (first_low g base [] u.accepted) k h in
+    let l = ends_piece_for most g m s v base number e m.ballot (second_low most.lists base number [] u.numbers) (first_low g base [] u.accepted) h.votes k h in
     search (ends, l)
 ends_hear most g m (packet.Result s base number v) u k h =
-    let l = ends_result most g m s base number v u.round (first_low g base [] u.accepted) k h in
+    let n = low_promised most g m v.stamp u.round h in
+    let l = ends_hears_result most g (with_promise m v.stamp) s base number v (first_low g base [] u.accepted) (record { told = k.told; acc = k.acc }) n in
     search (ends, l)
-ends_hear most g m _ u k h = search (ends, rows)
+ends_hear most g m _ u k h = search (ends, ends_begin)
 
 -- any event but bytes
 abbrev pub IsDone : NodeEvent → Type 0
@@ -288,17 +212,28 @@ IsDone (does.Hear bytes) = ⊥
 IsDone _ = Unit {0}
 
 ends_row : (most : Bounds) (g : ℕ) (m : Node) (event : NodeEvent) → IsDone event → Behind g m → Low most g m → Ends most g (row m event)
-unfolding row
-ends_row most g m (does.Send body) d k h = ends_send most g m body h
-ends_row most g m (does.Done req) d k h = ends_done most g m req h
-ends_row most g m does.Take d k h = ends_take most g m k h
-ends_row most g m does.Join d k h = ends_join most g m h
-ends_row most g m does.State d k h = ends_state most g m h
-ends_row most g m does.Leave d k h = ends_leave most g m h
-ends_row most g m (does.Reset least resilience) d k h = ends_reset most g m least resilience k h
-ends_row most g m (does.Ask round) d k h = ends_ask most g m round h
-ends_row most g m (does.GiveUp name) d k h = ends_give_up_row most g m name k h
-ends_row most g m does.Tick d k h = ends_tick most g m h
+unfolding row send_row done_row take_row join_row state_row leave_row reset_row ask_row give_up_row tick_row
+ends_row most g m (does.Send body) d k h =
+    let l : m.leaving ≡ false → Ends most g (queue m body) = λ f. ends_queue most g m body f h in
+    search (ends, l)
+ends_row most g m (does.Done req) d k h = ends_at most g _ (record {
+  counts = record { entries = h.entries; rounds = h.rounds; sends = collect_last m.sends req most.requests h.sends };
+  order = h.order;
+  within = h.within;
+  quits = λ t. collect_waits m.sends.last m.sends.queue req (h.quits t);
+  tells = h.tells;
+})
+ends_row most g m does.Take d k h =
+    let l : (m.core.taken == m.core.acc) ≡ false → Ends most g (give_out m (entry_at m.core.log (m.core.taken + 1))) =
+    λ f. ends_given most g m (entry_at m.core.log (m.core.taken + 1)) f k h in
+    search (ends, l)
+ends_row most g m does.Join d k h = ends_join_by most g m m.status h
+ends_row most g m does.State d k h = ends_state_by most g m m.status h
+ends_row most g m does.Leave d k h = ends_leave_by most g m m.status h
+ends_row most g m (does.Reset least resilience) d k h = search (ends, ends_begin)
+ends_row most g m (does.Ask round) d k h = ends_ask_of most g m round m.ballot h
+ends_row most g m (does.GiveUp name) d k h = ends_give_up_of most g m name m.ballot h.votes k h
+ends_row most g m does.Tick d k h = ends_tick_by most g m m.status h
 ends_row most g m (does.Hear bytes) d k h = absurd d
 
 pub low_step : (most : Bounds) (g : ℕ) (m : Node) (event : NodeEvent) → IsDone event → Behind g m → Low most g m → Low (up most) g (step m event).node

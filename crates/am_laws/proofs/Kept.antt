@@ -1,17 +1,10 @@
 -- What each step of a node keeps, and the changes that keep it.
-use Rattle.std.proofs.Common.{◌≡◌, ℕ, ◌+◌, ◌-◌, ◌≤◌, true, false, not, ◌&&◌, Option, Some, None, ap, arith, length-append}
-use Rattle.std.proofs.lemmas.Bool.Decides.{nat_tests}
-use Rattle.am_base.specs.declared.entry.Entry.{Entry}
-use Rattle.am_base.specs.declared.name.Stamp.{Stamp}
-use Rattle.am_base.specs.Stamps.{stamp_lt}
-use Rattle.am_base.specs.Founding.{Rules}
-use Rattle.am_state.specs.Cores.{accept, pass_over}
-use Rattle.am_state.specs.Refresh.{base_after, own_report, tell, go_on, let_go}
-use Rattle.am_state.specs.declared.sender.OwnSend.{OwnSend}
-use Rattle.am_model.specs.Node.{Node, Ballot, top, has_room, is_sequencer, push_entry, trim_up_to, waiting}
-use Rattle.am_model.specs.Refresh.{advance, lead, refresh, accepted_at, settle_at, settle_waiting, settle, refresh_at_end}
-use Rattle.am_model.specs.Ballots.{overtake, with_promise}
-use Rattle.am_base.proofs.Greatest.{split}
+use Rattle.am_laws.proofs.EffectWords.{◌≡◌, ℕ, ◌+◌, ◌-◌, ◌≤◌, true, false, not, ◌&&◌, Option, Some, None, ap, arith, length-append, nat_tests, Entry, Stamp}
+use Rattle.am_laws.proofs.EffectWords.{stamp_lt, Rules, pass_over, base_after, own_report, tell, go_on, Node, Ballot, top, has_room, is_sequencer, push_entry}
+use Rattle.am_laws.proofs.EffectWords.{trim_up_to, lead, refresh, settle, refresh_at_end, overtake, with_promise, split}
+use Rattle.am_state.specs.Cores.{accept}
+use Rattle.am_state.specs.Refresh.{let_go}
+use Rattle.am_laws.proofs.{Rests.settle_keeps}
 
 -- a ballot hasn't given up its own coordinator
 abbrev pub HasItself : ℕ → Option Ballot → Type 0
@@ -63,27 +56,14 @@ kept_lead : (rules : Rules) (m : Node) → Keeps rules m → Keeps rules (lead m
 unfolding lead own_report tell go_on let_go accept pass_over
 kept_lead rules m h = kept_after rules m.core.rules m.core.who m.core.base (top m) m.ballot _ h
 
-kept_advance : (rules : Rules) (m : Node) → Keeps rules m → Keeps rules (advance m)
-unfolding accept pass_over
-kept_advance rules m h = h
-
 pub kept_refresh : (rules : Rules) (m : Node) → Keeps rules m → Keeps rules (refresh m)
-unfolding refresh
-kept_refresh rules m h = split (is_sequencer m) (λ t. rw t (kept_lead rules m h)) (λ f. rw f (kept_advance rules m h))
+unfolding refresh accept pass_over
+kept_refresh rules m h = split (is_sequencer m) (λ t. rw t (kept_lead rules m h)) (λ f. rw f h)
 
 -- ---- the end of a step
 
-kept_settled_at : (rules : Rules) (m : Node) (req : ℕ) (at : Option ℕ) → Keeps rules m → Keeps rules (settle_at m req at)
-kept_settled_at rules m req None h = h
-kept_settled_at rules m req (Some k) h = h
-
-kept_settled : (rules : Rules) (m : Node) (w : Option OwnSend) → Keeps rules m → Keeps rules (settle_waiting m w)
-kept_settled rules m None h = h
-kept_settled rules m (Some s) h = kept_settled_at rules m s.req (accepted_at m s.req) h
-
 pub kept_settle : (rules : Rules) (m : Node) → Keeps rules m → Keeps rules (settle m)
-unfolding settle
-kept_settle rules m h = kept_settled rules m (waiting m) h
+kept_settle rules m h = settle_keeps (Keeps rules) m h (λ s k w at. h)
 
 pub kept_at_end : (rules : Rules) (m : Node) → Keeps rules m → Keeps rules (refresh_at_end m)
 unfolding refresh_at_end

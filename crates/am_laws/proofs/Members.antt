@@ -203,15 +203,6 @@ fetch_viewed : (c : Cause) (old : Stamp) (nodes : ℕ → Node) (name : ℕ) (m 
     → c ≡ hears (packet.Piece s v base number e) → stamp_eq (view m) v ≡ false → m.core.who ≡ name → Known nodes e
     → stamp_lt (view m) (view (nodes name)) ≡ false → fits (image_of m) e ≡ true → Viewed c old m → Viewed c old (push_entry (trim_up_to m base) e)
 unfolding fits
-fetch_viewed c old nodes name m s v base number (Data from req body) is below who known up fit h =
-    viewed_plain c old m (push_entry (trim_up_to m base) (Data from req body)) (Data from req body) refl refl refl
-    (λ k. absurd (fetched_for c (view m) k.by s v base number _ is below)) h
-fetch_viewed c old nodes name m s v base number (Join joiner) is below who known up fit h =
-    viewed_plain c old m (push_entry (trim_up_to m base) (Join joiner)) (Join joiner) refl refl refl
-    (λ k. absurd (fetched_for c (view m) k.by s v base number _ is below)) h
-fetch_viewed c old nodes name m s v base number (Leave leaver) is below who known up fit h =
-    viewed_plain c old m (push_entry (trim_up_to m base) (Leave leaver)) (Leave leaver) refl refl refl
-    (λ k. absurd (fetched_for c (view m) k.by s v base number _ is below)) h
 fetch_viewed c old nodes name m s v base number (View w) is below who known up fit h =
     let e = View w in
     let above = (and_both (stamp_lt (view m) w.stamp) _ fit).0 in
@@ -223,6 +214,9 @@ fetch_viewed c old nodes name m s v base number (View w) is below who known up f
     let higher = at_most_below (view (nodes name)) (view m) w.stamp up above in
     absurd (cc))
     (λ f. of_other (ap (λ (x : Stamp). x.by == m.core.who) last ∙ f))
+fetch_viewed c old nodes name m s v base number e is below who known up fit h =
+    viewed_plain c old m (push_entry (trim_up_to m base) e) e refl refl refl
+    (λ k. absurd (fetched_for c (view m) k.by s v base number _ is below)) h
 
 pub change_viewed : (nodes : ℕ → Node) (name : ℕ) (c : Cause) (o : Outcome) (old : Stamp) (m n : Node) → HeardOwn nodes c → Change c o m n
     → has_log m.status ≡ true → m.core.who ≡ name → stamp_lt (view m) (view (nodes name)) ≡ false → length (image_of m).rows ≡ 16

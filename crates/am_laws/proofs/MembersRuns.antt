@@ -140,14 +140,10 @@ members_same rules w v nodes views own owned h = record { own = own; owned = own
 
 each_members : (rules : Rules) → EachKeeps (AllMembers rules)
 unfolding with_record
-each_members rules w e v (idles o idle) h = members_same rules w v refl refl (each_own rules w e v (idles o idle) h.own)
-    (each_owned rules w e v (idles o idle) h.owned) h
-each_members rules w e v (stops runs_) h = members_same rules w v refl refl (each_own rules w e v (stops runs_) h.own)
-    (each_owned rules w e v (stops runs_) h.owned) h
-each_members rules w e v (returns place is left more) h = members_same rules w v refl refl (each_own rules w e v (returns place is left more) h.own)
-    (each_owned rules w e v (returns place is left more) h.owned) h
 each_members rules w e v (steps c s runs_ cause effect) h = members_step rules w e c s cause effect (each_own rules w e v (steps c s runs_ cause effect) h.own)
     (each_owned rules w e v (steps c s runs_ cause effect) h.owned) h
+each_members rules w e v other h = members_same rules w v refl refl (each_own rules w e v other h.own)
+    (each_owned rules w e v other h.owned) h
 
 -- ---- the start
 

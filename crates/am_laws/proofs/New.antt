@@ -257,9 +257,6 @@ own_start rules may = record {
   };
 }
 
-pub run_own : (rules : Rules) (events : List Event) → MayFound rules → AllOwn rules (run rules events)
-run_own rules events may = runs_keep (AllOwn rules) (each_own rules) (start rules) events (own_start rules may)
-
 -- ---- a decided view
 
 -- it is of the name, and above the name's view
@@ -296,7 +293,7 @@ pub decided_are_new : DecidedAreNew
 decided_are_new rules events e c s may runs_ cause effect decides_ =
     let w = run rules events in
     let name = actor w e in
-    let h = run_own rules events may in
+    let h = runs_keep (AllOwn rules) (each_own rules) (start rules) events (own_start rules may) in
     let g = step_of rules w e c s cause effect h in
     let is = is_decided name (w.nodes name) s.node g.chain.who g.does decides_ in
     let v = view s.node in

@@ -4,15 +4,16 @@ use Rattle.am_laws.proofs.Words.{option_map, refl, sym, ap, subst, arith, All, l
 use Rattle.am_laws.proofs.Words.{All-drop, All-weaker, most_body, Entry, Data, Leave, View, Vote, Report, Stamp, Outcome, IsSet, stamp_lt, Shown, vote_lt}
 use Rattle.am_laws.proofs.Words.{all_names, better_of, best_from, Packet, OwnSend, KeptBody, is_of, find_body, keep_body, Node, Ballot, image_of, waiting}
 use Rattle.am_laws.proofs.Words.{push_entry, Verdict, overtake, own_vote, best_of, need_of, left_in, own_body, first_body, body_of, bodies_after, refresh}
-use Rattle.am_laws.proofs.Words.{accepted_at, settle_at, settle_waiting, settle, refresh_at_end, split, Cause, calls, hears, BringsSend, by_request, by_spread}
-use Rattle.am_laws.proofs.Words.{HasOpen, Balloting, with_more, without_one, as_it_is, Looks, finds_itself_out, decides, Numbers, asked_send, own_send}
-use Rattle.am_laws.proofs.Words.{asked_join, asked_leave, Carries, whole_entry, by_number, Change, Changes, unchanged, changed, refreshes, settles, numbers}
-use Rattle.am_laws.proofs.Words.{keeps_body, stores, begins_list, promises, opens, looks, fetches, stores_view, queues, collects, closes, all_find, with_fronts}
-use Rattle.am_laws.proofs.Words.{refresh_is, rests_refresh, rests_at_end, settle_is, sender_of, Bounds, up, decided_view}
+use Rattle.am_laws.proofs.Words.{settle, refresh_at_end, split, Cause, calls, hears, BringsSend, by_request, by_spread, HasOpen, Balloting, with_more}
+use Rattle.am_laws.proofs.Words.{without_one, as_it_is, Looks, finds_itself_out, decides, Numbers, asked_send, own_send, asked_join, asked_leave, Carries}
+use Rattle.am_laws.proofs.Words.{whole_entry, by_number, Change, Changes, unchanged, changed, refreshes, settles, numbers, keeps_body, stores, begins_list}
+use Rattle.am_laws.proofs.Words.{promises, opens, looks, fetches, stores_view, queues, collects, closes, all_find, with_fronts, refresh_is, rests_refresh}
+use Rattle.am_laws.proofs.Words.{rests_at_end, settle_is, sender_of, Bounds, up, decided_view}
 use Rattle.am_base.specs.declared.event.NodeEvent.TheVariants as does
 use Rattle.am_packet.specs.declared.packet.Packet.TheVariants as packet
 use Rattle.am_state.specs.Sends as own
 use Rattle.am_laws.proofs.Limits.{ImageWithin, EntryWithin, image_more, entry_more, members_within, told_within, set_those}
+use Rattle.am_laws.proofs.{Rests.settle_keeps}
 
 -- ---- what a node has
 
@@ -166,26 +167,17 @@ kept_within s req body bodies low h = split (list_any (is_of s req) bodies)
 settled_send : (b : Bounds) (req number : ℕ) (s : OwnSend) → SendWithin b s → SendWithin b (own.settle_send req number s)
 settled_send b req number s h = split (s.req == req) (λ t. rw t (record { req = h.req; body = h.body })) (λ f. rw f h)
 
-settled_at_within : (b : Bounds) (m : Node) (req : ℕ) (at : Option ℕ) → Within b m → Within b (settle_at m req at)
-settled_at_within b m req None h = h
-settled_at_within b m req (Some k) h =
-    let f = own.settle_send req (m.core.base + 1 + k) in
+settle_within : (b : Bounds) (m : Node) → Within b m → Within b (settle m)
+settle_within b m h = settle_keeps (Within b) m h (λ s k w at.
+    let f = own.settle_send s.req (m.core.base + 1 + k) in
     record {
       image = h.image;
       entries = h.entries;
       sends = All-map (SendWithin b) f m.sends.queue (All-weaker (SendWithin b) (λ s. SendWithin b (f s))
-          (settled_send b req (m.core.base + 1 + k)) m.sends.queue h.sends);
+          (settled_send b s.req (m.core.base + 1 + k)) m.sends.queue h.sends);
       bodies = h.bodies;
       ballot = h.ballot;
-    }
-
-settled_within : (b : Bounds) (m : Node) (w : Option OwnSend) → Within b m → Within b (settle_waiting m w)
-settled_within b m None h = h
-settled_within b m (Some s) h = settled_at_within b m s.req (accepted_at m s.req) h
-
-settle_within : (b : Bounds) (m : Node) → Within b m → Within b (settle m)
-unfolding settle
-settle_within b m h = settled_within b m (waiting m) h
+    })
 
 collected_within : (b : Bounds) (req : ℕ) (sends : own.Sends) → All (SendWithin b) sends.queue → All (SendWithin b) (own.collect req sends).queue
 collected_within b req sends h = split (own.is_settled req sends)
@@ -287,9 +279,6 @@ pub look_rises : (m : Node) (x : Ballot) (v : Verdict) → Looks m x v → Rises
 look_rises m x v (finds_itself_out y) = same_rises m _ refl refl
 look_rises m x v _ = same_rises m _ refl refl
 
-last_collected : (req : ℕ) (sends : own.Sends) → (own.collect req sends).last ≡ sends.last
-last_collected req sends = split (own.is_settled req sends) (λ t. rw t refl) (λ f. rw f refl)
-
 pub change_rises : {c : Cause} {o : Outcome} (m n : Node) → Change c o m n → Rises m n
 change_rises m n refreshes = let r = (rests_refresh m).rests in same_rises m (refresh m) r.promise r.asked
 change_rises m n settles = same_rises m (settle m) (ap (λ (x : Node). x.core.promise) (settle_is m)) (ap (λ (x : Node). x.sends.last) (settle_is m))
@@ -298,7 +287,7 @@ change_rises m n (promises v low why) = record { round = round_rises m.core.prom
 change_rises m n (opens least resilience by may) = record { round = omega arith; last = omega arith }
 change_rises m n (looks b verdict over why look is) = look_rises m b verdict look
 change_rises m n (queues body is o member stays few) = record { round = omega arith; last = omega arith }
-change_rises m n (collects req is) = same_rises m n refl (last_collected req m.sends)
+change_rises m n (collects req is) = same_rises m n refl (split (own.is_settled req m.sends) (λ t. rw t refl) (λ f. rw f refl))
 change_rises m n (closes leads leaves alone room) = let r = (rests_at_end (push_entry m (Leave m.core.who))).rests in same_rises m n r.promise r.asked
 change_rises m n _ = same_rises m n refl refl
 

@@ -15,9 +15,6 @@ StepsHold Base P = (w : World) (e : Event) (c : Cause) (s : Step) → IsCause w 
 
 pub each_node_keeps : (Base : World → Type 0) (P : ℕ → Node → Type 0) → EachKeeps Base → StepsHold Base P → EachKeeps (Each Base P)
 unfolding with_record with_step
-each_node_keeps Base P keeps own w e v (idles o idle) h = record { base = keeps w e v (idles o idle) h.base; each = h.each }
-each_node_keeps Base P keeps own w e v (stops runs) h = record { base = keeps w e v (stops runs) h.base; each = h.each }
-each_node_keeps Base P keeps own w e v (returns place is gone more) h = record { base = keeps w e v (returns place is gone more) h.base; each = h.each }
 each_node_keeps Base P keeps own w e v (steps c s runs cause effect) h = record {
   base = keeps w e v (steps c s runs cause effect) h.base;
   each = λ name. split (name == actor w e)
@@ -25,6 +22,7 @@ each_node_keeps Base P keeps own w e v (steps c s runs cause effect) h = record 
       rw t (subst (λ k. P k s.node) same (own w e c s cause effect h.base (h.each (actor w e)))))
       (λ f. rw f (h.each name));
 }
+each_node_keeps Base P keeps own w e v other h = record { base = keeps w e v other h.base; each = h.each }
 
 -- a founder and a stranger begin so
 pub first_has : (rules : Rules) (P : Node → Type 0) (name : ℕ) → P (founder rules name) → P (stranger rules name) → P (first_node rules name)

@@ -1,17 +1,18 @@
 -- The effects of what a member hears of its sequencer, of bodies that are spread, and of a joiner's Welcome.
-use Rattle.am_laws.proofs.EffectWords.{not-false, same_Some, ◌≡◌, ℕ, ◌+◌, ◌<◌, ◌≤◌, ◌==◌, ◌&&◌, ◌||◌, nat_lt, nat_le, not, Bool, true, false, List, Option, Some}
-use Rattle.am_laws.proofs.EffectWords.{None, refl, sym, ap, subst, ◌∙◌, arith, list_any, nat_tests, Report, Image, Stamp, Entry, Data, Outcome, stamp_lt}
+use Rattle.am_laws.proofs.EffectWords.{not-false, same_Some, ◌≡◌, ℕ, ◌+◌, ◌<◌, ◌≤◌, ◌==◌, ◌&&◌, ◌||◌, nat_lt, nat_le, not, Bool, true, false, List, Option}
+use Rattle.am_laws.proofs.EffectWords.{Some, None, refl, sym, ap, subst, ◌∙◌, arith, list_any, nat_tests, Report, Image, Stamp, Entry, Data, Outcome, stamp_lt}
 use Rattle.am_laws.proofs.EffectWords.{stamp_eq, fits, row_of, OwnSend, is_of, keep_body, Node, top, image_of, view, only_name, acts, is_member, is_asking}
-use Rattle.am_laws.proofs.EffectWords.{has_own_leave, is_within_bound, waiting, push_entry, quiet, ack_of, nack_of, fetch_of, row_at, if_risen, spread_row}
-use Rattle.am_laws.proofs.EffectWords.{is_view, with_noted, acknowledges, bodies_after, body_of, store_fitting, store, receive_entry, bcast_row, data_of}
-use Rattle.am_laws.proofs.EffectWords.{order_row, accept_row, answer_hold, hold_row, begin_list, ask_next, welcome_row, gone_row, hears_member, hears_asking}
-use Rattle.am_laws.proofs.EffectWords.{hears_in_view, hears_sequencer, split, and_both, Cause, hears, BringsFronts, with_entry, with_number, alone, MayStore}
-use Rattle.am_laws.proofs.EffectWords.{Carries, whole_entry, by_number, MayBeWelcomed, keeps_body, notes, stores, begins_list, Course, nothing_yet, and_then}
-use Rattle.am_laws.proofs.EffectWords.{fetch, of_promise, Answers}
+use Rattle.am_laws.proofs.EffectWords.{has_own_leave, is_within_bound, push_entry, quiet, ack_of, nack_of, fetch_of, row_at, if_risen, spread_row, is_view}
+use Rattle.am_laws.proofs.EffectWords.{with_noted, acknowledges, bodies_after, body_of, store_fitting, store, receive_entry, bcast_row, data_of, order_row}
+use Rattle.am_laws.proofs.EffectWords.{accept_row, answer_hold, begin_list, ask_next, welcome_row, gone_row, hears_member, hears_asking, hears_in_view}
+use Rattle.am_laws.proofs.EffectWords.{hears_sequencer, split, and_both, Cause, hears, BringsFronts, with_entry, with_number, alone, MayStore, Carries}
+use Rattle.am_laws.proofs.EffectWords.{whole_entry, by_number, MayBeWelcomed, keeps_body, notes, stores, begins_list, Course, nothing_yet, and_then, fetch}
+use Rattle.am_laws.proofs.EffectWords.{of_promise, Answers}
 use Rattle.am_base.specs.declared.outcome.Outcome.TheVariants as said
 use Rattle.am_packet.specs.declared.packet.Packet.TheVariants as packet
 use Rattle.am_laws.proofs.Plans.{Comes, HasEffect, effect_if, effect_of, does_quiet, does_saying, does_telling, does_where, row_let_go, rows}
-use Rattle.am_laws.proofs.{Tests.or_first, Tests.or_second, Rests.RestsWhole, Says.acts_pushed, Says.tells_ack, Says.tells_nack, Calls.Allows}
+use Rattle.am_laws.proofs.Says.{acts_pushed, tells_ack, tells_nack}
+use Rattle.am_laws.proofs.{Tests.or_first, Tests.or_second, Rests.RestsWhole, Calls.Allows}
 
 -- ---- bodies
 
@@ -130,14 +131,10 @@ row_accept m s v base acc high poll heard =
     (λ n r. split (nat_lt m.core.acc n.core.acc) (λ t. rw t tt) (λ g. rw g tt)))
     (λ n r t. tells_ack m c p (only_name s) acting n r)))
 
-row_held_up : (m : Node) (s : ℕ) (v : Stamp) (base high req : ℕ) (w : Option OwnSend)
+pub row_held_up : (m : Node) (s : ℕ) (v : Stamp) (base high req : ℕ) (w : Option OwnSend)
     → HasEffect m (hears (packet.Hold s v base high req)) (answer_hold m base high req w)
 row_held_up m s v base high req None = search rows
 row_held_up m s v base high req (Some x) = search rows
-
-pub row_hold : (m : Node) (s : ℕ) (v : Stamp) (base high req : ℕ) → HasEffect m (hears (packet.Hold s v base high req)) (hold_row m base high req)
-unfolding hold_row
-row_hold m s v base high req = row_held_up m s v base high req (waiting m)
 
 -- ---- joining and leaving
 

@@ -108,9 +108,6 @@ record OfPromise (m : Node) (s : ℕ) (v : Stamp) : Type 0 where
 pub member_heard : (m : Node) (s : ℕ) → hears_member m s ≡ true → is_member m.status ≡ true
 member_heard m s t = (and_both (not (s == m.core.who)) (is_member m.status) t).1
 
-stamps_meet : (a b d : Stamp) → stamp_eq a b ≡ true → stamp_eq d a ≡ true → stamp_eq b d ≡ true
-stamps_meet a b d s t = grind (arith, nat_tests)
-
 row_piece_promised : (m : Node) (s : ℕ) (v : Stamp) (base number : ℕ) (e : Entry) → OfPromise m s v → is_unfinished m.ballot ≡ false
     → HasEffect m (hears (packet.Piece s v base number e)) (piece_promised m s v base number e)
 row_piece_promised m s v base number e h none =
@@ -125,7 +122,7 @@ row_piece_promised m s v base number e h none =
     (only_name s) ack_of (does_quiet RestsWhole m c p (said.Stored number) change (λ n r. tt))
     (λ n r t.
     let member : is_member n.status ≡ true = ap is_member r.rests.status ∙ member_heard m s h.heard in
-    let same : stamp_eq n.core.promise (view n) ≡ true = ap (λ x. stamp_eq x (view n)) r.rests.promise ∙ stamps_meet v m.core.promise (view n) h.promise t in
+    let same : stamp_eq n.core.promise (view n) ≡ true = ap (λ x. stamp_eq x (view n)) r.rests.promise ∙ (grind (arith, nat_tests)) in
     ack (only_name s) (rw (member, same) refl)))))
 
 row_piece_for : (m : Node) (s : ℕ) (v : Stamp) (base number : ℕ) (e : Entry) (b : Option Ballot) → m.ballot ≡ b → OfPromise m s v

@@ -4,10 +4,10 @@ use Rattle.am_laws.proofs.EffectWords.{slice_get, option_map, refl, sym, ap, ◌
 use Rattle.am_laws.proofs.EffectWords.{stamp_eq, Log, at_place, after, fold, told_by, life_of, pass_over, base_after, own_report, tell, go_on, OwnSend, Node}
 use Rattle.am_laws.proofs.EffectWords.{image_of, view, is_member, acts, is_sequencer, push_entry, waiting, advance, lead, refresh, accepted_at, settle_at}
 use Rattle.am_laws.proofs.EffectWords.{settle_waiting, settle, refresh_at_end, fold_append, split, HasSend, EntryStands}
+use Rattle.am_state.specs.Sends as own
 use Rattle.am_state.specs.Cores.{accept}
 use Rattle.am_state.specs.Refresh.{let_go}
-use Rattle.am_state.specs.Sends as own
-use Rattle.am_laws.proofs.Items.{get_front}
+use Rattle.am_laws.proofs.{Items.get_front}
 
 -- ---- a refresh
 
@@ -15,18 +15,10 @@ use Rattle.am_laws.proofs.Items.{get_front}
 abbrev pub with_fronts : Node → Node → Node
 with_fronts m n = record m { core = record (m.core) { base = n.core.base; told = n.core.told; acc = n.core.acc; taken = n.core.taken }; reports = n.reports }
 
-pub lead_is : (m : Node) → lead m ≡ with_fronts m (lead m)
-unfolding lead own_report tell go_on let_go accept pass_over
-lead_is m = refl
-
-pub advance_is : (m : Node) → advance m ≡ with_fronts m (advance m)
-unfolding accept pass_over
-advance_is m = refl
-
 -- a refresh changes fronts and reports alone
 pub refresh_is : (m : Node) → refresh m ≡ with_fronts m (refresh m)
-unfolding refresh
-refresh_is m = split (is_sequencer m) (λ t. rw t (lead_is m)) (λ f. rw f (advance_is m))
+unfolding refresh lead own_report tell go_on let_go accept pass_over
+refresh_is m = split (is_sequencer m) (λ t. rw t refl) (λ f. rw f refl)
 
 -- ---- the end of a step
 
@@ -34,42 +26,38 @@ refresh_is m = split (is_sequencer m) (λ t. rw t (lead_is m)) (λ f. rw f (adva
 abbrev pub with_sends : Node → Node → Node
 with_sends m n = record m { sends = record m.sends { queue = n.sends.queue } }
 
-settled_at_is : (m : Node) (req : ℕ) (at : Option ℕ) → settle_at m req at ≡ with_sends m (settle_at m req at)
-settled_at_is m req None = refl
-settled_at_is m req (Some k) = refl
+-- what holds of a node holds behind that, where it does once the send is settled at a number
+pub settle_keeps : (P : Node → Type 0) (m : Node) → P m
+    → ((s : OwnSend) (k : ℕ) → waiting m ≡ Some s → accepted_at m s.req ≡ Some k → P (settle_at m s.req (Some k))) → P (settle m)
+unfolding settle
+settle_keeps P m h f = by_waiting (waiting m) refl
+  where
+    by_place : (s : OwnSend) (at : Option ℕ) → waiting m ≡ Some s → accepted_at m s.req ≡ at → P (settle_at m s.req at)
+    by_place s None w at = h
+    by_place s (Some k) w at = f s k w at
 
-settled_is : (m : Node) (w : Option OwnSend) → settle_waiting m w ≡ with_sends m (settle_waiting m w)
-settled_is m None = refl
-settled_is m (Some s) = settled_at_is m s.req (accepted_at m s.req)
+    by_waiting : (w : Option OwnSend) → waiting m ≡ w → P (settle_waiting m w)
+    by_waiting None w = h
+    by_waiting (Some s) w = by_place s (accepted_at m s.req) w refl
 
 pub settle_is : (m : Node) → settle m ≡ with_sends m (settle m)
-unfolding settle
-settle_is m = settled_is m (waiting m)
+settle_is m = settle_keeps (λ n. n ≡ with_sends m n) m refl (λ s k w at. refl)
 
 -- a send keeps its request and its body
 same_send : (req number : ℕ) (s : OwnSend) → ((own.settle_send req number s).req ≡ s.req) × ((own.settle_send req number s).body ≡ s.body)
 same_send req number s = split (s.req == req) (λ t. rw t (refl, refl)) (λ f. rw f (refl, refl))
 
-sends_settled_at : (m : Node) (req : ℕ) (at : Option ℕ) (q : ℕ) (body : List ℕ) → HasSend m q body → HasSend (settle_at m req at) q body
-sends_settled_at m req None q body h = h
-sends_settled_at m req (Some k) q body h =
-    let f = own.settle_send req (m.core.base + 1 + k) in
-    let same = same_send req (m.core.base + 1 + k) h.send in
+pub sends_settle : (m : Node) (q : ℕ) (body : List ℕ) → HasSend m q body → HasSend (settle m) q body
+sends_settle m q body h = settle_keeps (λ n. HasSend n q body) m h (λ s k w at.
+    let f = own.settle_send s.req (m.core.base + 1 + k) in
+    let same = same_send s.req (m.core.base + 1 + k) h.send in
     record {
       index = h.index;
       send = f h.send;
       there = slice_get-map f m.sends.queue h.index ∙ ap (option_map f) h.there;
       request = same.0 ∙ h.request;
       body_ = same.1 ∙ h.body_;
-    }
-
-sends_settled : (m : Node) (w : Option OwnSend) (q : ℕ) (body : List ℕ) → HasSend m q body → HasSend (settle_waiting m w) q body
-sends_settled m None q body h = h
-sends_settled m (Some s) q body h = sends_settled_at m s.req (accepted_at m s.req) q body h
-
-pub sends_settle : (m : Node) (q : ℕ) (body : List ℕ) → HasSend m q body → HasSend (settle m) q body
-unfolding settle
-sends_settle m q body h = sends_settled m (waiting m) q body h
+    })
 
 -- ---- what stays
 
@@ -120,17 +108,11 @@ base_up (Some to) base = omega arith
 pub passed : (taken acc start : ℕ) → taken ≤ (if nat_lt taken (start - 1) then max taken (min acc (start - 1)) else taken)
 passed taken acc start = split (nat_lt taken (start - 1)) (λ t. rw t (omega arith)) (λ f. rw f (omega arith))
 
-rises_lead : (m : Node) → Rises m (lead m)
-unfolding lead own_report tell go_on let_go accept pass_over
-rises_lead m = record { base = base_up _ m.core.base; acc = omega arith; taken = passed m.core.taken _ m.core.start }
-
-rises_advance : (m : Node) → Rises m (advance m)
-unfolding accept pass_over
-rises_advance m = record { base = omega arith; acc = omega arith; taken = passed m.core.taken _ m.core.start }
-
 rises_refresh : (m : Node) → Rises m (refresh m)
-unfolding refresh
-rises_refresh m = split (is_sequencer m) (λ t. rw t (rises_lead m)) (λ f. rw f (rises_advance m))
+unfolding refresh lead own_report tell go_on let_go accept pass_over
+rises_refresh m = split (is_sequencer m)
+    (λ t. rw t (record { base = base_up _ m.core.base; acc = omega arith; taken = passed m.core.taken _ m.core.start }))
+    (λ f. rw f (record { base = omega arith; acc = omega arith; taken = passed m.core.taken _ m.core.start }))
 
 abbrev KeepsSends : Node → Node → Type 0
 KeepsSends m n = (req : ℕ) (body : List ℕ) → HasSend m req body → HasSend n req body

@@ -1,19 +1,20 @@
 -- The effects of what the sequencer hears.
-use Rattle.am_laws.proofs.EffectWords.{not-false, ◌≡◌, ◌≢◌, ℕ, ◌+◌, ◌<◌, ◌≤◌, ◌==◌, ◌&&◌, ◌||◌, nat_lt, nat_le, not, Bool, true, false, List, [], ◌∷◌, refl, sym}
+use Rattle.am_laws.proofs.EffectWords.{[], not-false, ◌≡◌, ◌≢◌, ℕ, ◌+◌, ◌<◌, ◌≤◌, ◌==◌, ◌&&◌, ◌||◌, nat_lt, nat_le, not, Bool, true, false, List, ◌∷◌, refl, sym}
 use Rattle.am_laws.proofs.EffectWords.{ap, ◌∙◌, length-append, arith, nat_tests, Report, Row, Stamp, Data, Join, Leave, Outcome, life_of, stamp_eq, Log, top_of}
 use Rattle.am_laws.proofs.EffectWords.{fits, at_place, row_of, told_by, Node, top, image_of, view, others, only_name, is_sequencer, has_room, report_fits}
 use Rattle.am_laws.proofs.EffectWords.{with_report, push_entry, Plan, quiet, polling, numbering, bcast_of, hold_of, welcome_of, gone_of, row_at, is_unknown}
-use Rattle.am_laws.proofs.EffectWords.{take_report, answer_request, request_row, if_risen, ack_row, serve_again, nack_row, with_admitted, number_join}
-use Rattle.am_laws.proofs.EffectWords.{join_ask_row, may_go, and_gone, counts_report, leave_ask_row, split, and_both, Cause, hears, BringsSend, BringsReport}
-use Rattle.am_laws.proofs.EffectWords.{with_send, by_ack, by_nack, by_leave_ask, MayReport, takes_report, admits, numbers, asked_send, asked_join, asked_leave}
-use Rattle.am_laws.proofs.EffectWords.{Course, nothing_yet, used_report, and_then, EntryStands, bcast, order, hold, welcome, gone, just_joined, asks_again, Answers}
-use Rattle.am_model.specs.Joining.{asks_to_join, let_go, asks_to_leave}
+use Rattle.am_laws.proofs.EffectWords.{take_report, answer_request, request_row, if_risen, ack_row, serve_again, nack_row, with_admitted, number_join, may_go}
+use Rattle.am_laws.proofs.EffectWords.{and_gone, counts_report, leave_ask_row, split, and_both, Cause, hears, BringsSend, BringsReport, with_send, by_ack}
+use Rattle.am_laws.proofs.EffectWords.{by_nack, by_leave_ask, MayReport, takes_report, admits, numbers, asked_send, asked_join, asked_leave, Course}
+use Rattle.am_laws.proofs.EffectWords.{nothing_yet, used_report, and_then, EntryStands, bcast, order, hold, welcome, gone, just_joined, asks_again, Answers}
 use Rattle.am_base.specs.declared.outcome.Outcome.TheVariants as said
 use Rattle.am_packet.specs.declared.packet.Packet.TheVariants as packet
+use Rattle.am_model.specs.Joining.{asks_to_join, let_go, asks_to_leave}
 use Rattle.am_laws.proofs.Plans.{Comes, Does, HasEffect, effect_if, effect_of, does_quiet, does_saying, does_polling, does_telling, does_and, does_where}
 use Rattle.am_laws.proofs.Plans.{does_numbering, rows}
-use Rattle.am_laws.proofs.{Tests.or_first, Tests.or_second, Tests.and_first, Tests.and_second, Tests.then_other, Rests.RestsWhole, Rests.rests_refresh}
-use Rattle.am_laws.proofs.{Rests.leads_rests, Rests.stands_rests, Says.leads_pushed, Says.stands_pushed, Says.says_served}
+use Rattle.am_laws.proofs.Tests.{or_first, or_second, and_first, and_second, then_other}
+use Rattle.am_laws.proofs.Rests.{RestsWhole, rests_refresh, leads_rests, stands_rests}
+use Rattle.am_laws.proofs.Says.{leads_pushed, stands_pushed, says_served}
 
 -- ---- reports
 
@@ -37,11 +38,8 @@ rests_reported m s report = rests_refresh (with_report m s report)
 leads_reported : (m : Node) (s : ℕ) (report : Report) → is_sequencer m ≡ true → is_sequencer (take_report m s report) ≡ true
 leads_reported m s report t = leads_rests (rests_reported m s report).rests ∙ t
 
-row_reported : (m : Node) (s name : ℕ) (report : Report) → row_at (take_report m s report) name ≡ row_at m name
-row_reported m s name report = ap (λ l. row_of (told_by l) name) (rests_reported m s report).log
-
 unknown_reported : (m : Node) (s : ℕ) (report : Report) → is_unknown m s ≡ false → is_unknown (take_report m s report) s ≡ false
-unknown_reported m s report f = ap (λ (r : Row). r.joined == 0) (row_reported m s s report) ∙ f
+unknown_reported m s report f = ap (λ (r : Row). r.joined == 0) (ap (λ l. row_of (told_by l) s) (rests_reported m s report).log) ∙ f
 
 -- ---- sends
 
@@ -139,32 +137,11 @@ known_join : (life joined left mine acc : ℕ) → nat_lt mine life ≡ false �
     → (nat_lt life mine && (nat_lt 0 life && ((left == 0) || nat_lt acc left))) ≡ false → ((joined == 0) || (nat_lt 0 left && nat_lt life mine)) ≡ false
     → (life ≢ 0 → life ≡ mine) × (0 < joined) × (left ≡ 0)
 known_join life joined left mine acc low here occupied no_fit =
-    let j = or_first (joined == 0) (nat_lt 0 left && nat_lt life mine) no_fit in
-    let k = or_second (joined == 0) (nat_lt 0 left && nat_lt life mine) no_fit in
-    let some : 0 < joined = grind (arith, nat_tests) in
-    split (nat_lt life mine)
-    (λ t.
-    let l = and_first (nat_lt 0 left) (nat_lt life mine) k t in
-    let none : left ≡ 0 = grind (arith, nat_tests) in
-    let n : (left == 0) ≡ true = grind (arith, nat_tests) in
-    let o = and_second (nat_lt life mine) (nat_lt 0 life && ((left == 0) || nat_lt acc left)) occupied t in
-    let z : nat_lt 0 life ≡ true → ⊥ = λ s. (let x = and_second (nat_lt 0 life) ((left == 0) || nat_lt acc left) o s in
-    let y = or_first (left == 0) (nat_lt acc left) x in absurd (cc)) in
-    (λ lives. absurd (z (grind (arith, nat_tests))), some, none))
-    (λ f.
-    let same : life ≡ mine = grind (arith, nat_tests) in
-    let e : (life == mine) ≡ true = grind (arith, nat_tests) in
-    let l = and_second (life == mine) (nat_lt 0 left) here e in
-    let none : left ≡ 0 = grind (arith, nat_tests) in
-    (λ lives. same, some, none))
+    (λ lives. grind (arith, nat_tests), grind (arith, nat_tests), grind (arith, nat_tests))
 
-fit_is : (m : Node) (s : ℕ) → fits (image_of m) (Join s) ≡ false
-    → (((at_place (image_of m) s).joined == 0) || (nat_lt 0 (at_place (image_of m) s).left && nat_lt (at_place (image_of m) s).life (life_of s))) ≡ false
-unfolding fits
-fit_is m s f = f
-
-row_asks_to_join : (m : Node) (s : ℕ) (v : Stamp) (q : Row) → at_place (image_of m) s ≡ q → is_sequencer m ≡ true → (s == m.core.who) ≡ false
+pub row_asks_to_join : (m : Node) (s : ℕ) (v : Stamp) (q : Row) → at_place (image_of m) s ≡ q → is_sequencer m ≡ true → (s == m.core.who) ≡ false
     → HasEffect m (hears (packet.JoinAsk s v)) (asks_to_join m s q)
+unfolding fits
 row_asks_to_join m s v q is leads other =
     let c = hears (packet.JoinAsk s v) in
     let fit = fits (image_of m) (Join s) in
@@ -181,17 +158,12 @@ row_asks_to_join m s v q is leads other =
     let a = or_first (nat_le q.joined (m.reports s).stored) (nat_lt m.core.acc q.joined) f in
     let b = or_second (nat_le q.joined (m.reports s).stored) (nat_lt m.core.acc q.joined) f in
     let no_fit : ((q.joined == 0) || (nat_lt 0 q.left && nat_lt q.life (life_of s))) ≡ false =
-    ap (λ (r : Row). (r.joined == 0) || (nat_lt 0 r.left && nat_lt r.life (life_of s))) (sym is) ∙ fit_is m s none in
+    ap (λ (r : Row). (r.joined == 0) || (nat_lt 0 r.left && nat_lt r.life (life_of s))) (sym is) ∙ none in
     let k = known_join q.life q.joined q.left (life_of s) m.core.acc low here occupied no_fit in
     let accepted : q.joined ≤ m.core.acc = grind (arith, nat_tests) in
     let behind : (m.reports s).stored < q.joined = grind (arith, nat_tests) in
     effect_of m c _ (does_telling RestsWhole m c m (said.Welcomed q.joined) (only_name s) (λ n. welcome_of n s) nothing_yet (λ n r. tt)
     (λ n r. welcome s (leads_rests r.rests ∙ leads) (asks_again r.log (rw is (k.0)) (rw is (k.1)) (rw is (k.2)) (rw is accepted) (rw is behind))))))))))
-
-pub row_join_ask : (m : Node) (s : ℕ) (v : Stamp) → is_sequencer m ≡ true → (s == m.core.who) ≡ false
-    → HasEffect m (hears (packet.JoinAsk s v)) (join_ask_row m s)
-unfolding join_ask_row
-row_join_ask m s v leads other = row_asks_to_join m s v (at_place (image_of m) s) refl leads other
 
 -- ---- leaving
 

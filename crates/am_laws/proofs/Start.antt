@@ -21,11 +21,7 @@ IsNoWelcome c = (s : ℕ) (v : Stamp) (base join : ℕ) (image : Image) → c �
 
 look_status : (m : Node) (b : Ballot) (v : Verdict) → Looks m b v → v.node.status ≡ m.status
 look_status m b v (finds_itself_out x) = refl
-look_status m b v (waits x y) = refl
-look_status m b v (fetches_from_best x y z) = refl
-look_status m b v (finds_too_few x y) = refl
-look_status m b v (finds_no_room x) = refl
-look_status m b v (decides may) = refl
+look_status m b v _ = refl
 
 abbrev HasNone : Node → Type 0
 HasNone m = has_log m.status ≡ false
@@ -79,17 +75,7 @@ module _ (s : ℕ) (v : Stamp) (base join : ℕ) (image : Image) where
   -- nobody begins a list by a Welcome of its own name
   not_own : (who by : ℕ) (promise : Stamp) → (by == who) ≡ false → (promise.by == by) ≡ true → (seen : Stamp) (member : Bool)
       → ((member && stamp_eq promise seen) && (seen.by == who)) ≡ false
-  not_own who by promise other own seen member = split ((member && stamp_eq promise seen) && (seen.by == who))
-      (λ t. absurd (
-      let both = and_both (member && stamp_eq promise seen) (seen.by == who) t in
-      let same = and_both member (stamp_eq promise seen) both.0 in
-      let named = and_both (promise.round == seen.round) (promise.by == seen.by) same.1 in
-      let a : promise.by ≡ seen.by = let z = named.1 in grind (arith, nat_tests) in
-      let b : seen.by ≡ who = let z = both.1 in grind (arith, nat_tests) in
-      let c : promise.by ≡ by = grind (arith, nat_tests) in
-      let d : (by == who) ≡ true = grind (arith, nat_tests) in
-      cc))
-      (λ f. f)
+  not_own who by promise other own seen member = grind (arith, nat_tests)
 
   change_begun : {c : Cause} {o : Outcome} → c ≡ welcome_ → (x y : Node) → Change c o x y → Begun x → Begun y
   change_begun w x y refreshes h = refresh_begun x h
@@ -162,9 +148,7 @@ begins_by {c = c} m n (other none_heard) changes none blank_ =
 
 no_begin : (s : Status) → (not (has_log s) && is_member s) ≡ false
 no_begin status.Stranger = refl
-no_begin status.Asking = refl
-no_begin status.Member = refl
-no_begin status.Departed = refl
+no_begin _ = refl
 
 -- where the node is as it was
 begins_same : (m : Node) → BeginsAt m m

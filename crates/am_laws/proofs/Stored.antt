@@ -39,9 +39,7 @@ pub record StepFacts (w v : World) (name : ℕ) : Type 0 where
   pub new : decides (w.nodes name) (v.nodes name) ≡ true → IsNew w (view (v.nodes name))
 
 never : (b c : Bool) → (b && (c && not true)) ≡ true → ⊥
-never true true h = cc
-never true false h = cc
-never false c h = cc
+never b c h = grind arith
 
 -- where the name's node is as it was
 facts_same : (rules : Rules) (events : List Event) (e : Event) (v : World) → MayFound rules → v.nodes ≡ (run rules events).nodes

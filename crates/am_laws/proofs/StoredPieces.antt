@@ -48,9 +48,7 @@ pub finish_adds : (name : ℕ) (brought : List Entry) (m : Node) (p : Plan) → 
 unfolding finish
 finish_adds name brought m p h =
     let r = rests_at_end p.node in
-    let at : Adds name brought m (refresh_at_end p.node).status p.node.core.log =
-    subst (λ (s : Status). Adds name brought m s p.node.core.log) (sym r.rests.status) h.adds in
-    rw h.stays (subst (λ (l : Log). Adds name brought m (refresh_at_end p.node).status l) (sym r.log) at)
+    rw (h.stays, r.rests.status, r.log) h.adds
 
 quietly : (name : ℕ) (brought : List Entry) (m : Node) (o : Outcome) → PlanAdds name brought m (quiet m o)
 quietly name brought m o = record { stays = refl; adds = none (λ v. refl) refl }
@@ -95,7 +93,7 @@ twice false = refl
 
 pub differs : (a b : Stamp) → stamp_lt a b ≡ true → stamp_eq a b ≡ false
 differs a b h = split (stamp_eq a b)
-    (λ t. absurd (let same = same_stamp a b t in let n : stamp_lt a b ≡ false = subst (λ (x : Stamp). stamp_lt a x ≡ false) same (not_above_itself a) in cc))
+    (λ t. absurd (let same = same_stamp a b t in let n = not_above_itself a in cc))
     (λ f. f)
 
 -- it stands alone
@@ -104,13 +102,11 @@ came : (name : ℕ) (m : Node) (base : ℕ) (e : Entry) (s : Status) → is_memb
 came name m base (View w) s member fit =
     let e = View w in
     let same : view_in (push_entry m e).core.log ≡ w.stamp = view_last m w in
-    let one : (v : Stamp) → (any_of (e ∷ []) v || stamp_eq (view_in (push_entry m e).core.log) v) ≡ stamp_eq (view_in (push_entry m e).core.log) v =
-    λ v. ap (λ (u : Stamp). (stamp_eq w.stamp v || false) || stamp_eq u v) same ∙ twice (stamp_eq w.stamp v) ∙ ap (λ (u : Stamp). stamp_eq u v) (sym same) in
     last
-    (λ v. has_view_more m e v ∙ ap (λ (u : Stamp). has_view m.core.log v || stamp_eq u v) (sym same) ∙ ap (λ b. has_view m.core.log v || b) (sym (one v)))
-    (ap (λ (u : Stamp). stamp_lt (view m) u) same ∙ fits_above (image_of m) w fit)
+    (λ v. rw (same, twice (stamp_eq w.stamp v)) (has_view_more m e v))
+    (rw same (fits_above (image_of m) w fit))
     (λ t. member)
-    (λ f. one)
+    (λ f v. rw same (twice (stamp_eq w.stamp v)))
 came name m base _ s member fit = none (λ v. has_view_plain m _ v refl) (view_pushed m _ refl)
 
 -- and then a decided View
@@ -121,10 +117,8 @@ came_decided name m base e s w member above own =
     let p = push_entry m e in
     let d = View w in
     let same : view_in (push_entry p d).core.log ≡ w.stamp = view_last p w in
-    let by : ((view_in (push_entry p d).core.log).by == name) ≡ true = let q : (view_in (push_entry p d).core.log).by ≡ name = ap (λ (u : Stamp). u.by) same
-    ∙ own in
-    eq-eqb _ name q in
-    let up : stamp_lt (view m) (view_in (push_entry p d).core.log) ≡ true = ap (λ (u : Stamp). stamp_lt (view m) u) same ∙ above in
+    let by : ((view_in (push_entry p d).core.log).by == name) ≡ true = eq-eqb _ name (ap (λ (u : Stamp). u.by) same ∙ own) in
+    let up : stamp_lt (view m) (view_in (push_entry p d).core.log) ≡ true = rw same above in
     let new = differs (view m) (view_in (push_entry p d).core.log) up in
     last
     (λ v. has_view_more p d v ∙ ap (λ b. b || stamp_eq w.stamp v) (has_view_more m e v) ∙ or_swaps (has_view m.core.log v) (is_view_of v e) (stamp_eq w.stamp v)
@@ -157,10 +151,9 @@ promised_adds name m s v base number e member =
 decided_adds : (name : ℕ) (m : Node) (base : ℕ) (e : Entry) (b : Ballot) (v : Verdict) → ComesTo (push_entry (trim_up_to m base) e) b v → m.core.who ≡ name
     → is_member m.status ≡ true → IsOpen m.core.who m.core.promise (view m) b → fits (image_of m) e ≡ true → Adds name (e ∷ []) m v.node.status v.node.core.log
 decided_adds name m base e b v (stays log same) who member open_ fit =
-    subst (Adds name (e ∷ []) m v.node.status) (sym log) (came name m base e v.node.status member fit)
+    rw log (came name m base e v.node.status member fit)
 decided_adds name m base e b v (decided w is log same) who member open_ fit =
-    subst (Adds name (e ∷ []) m v.node.status) (sym log) (came_decided name m base e v.node.status w member
-    (subst (λ s. stamp_lt (view m) s ≡ true) (sym is) open_.above) (ap (λ (s : Stamp). s.by) is ∙ open_.own ∙ who))
+    rw log (came_decided name m base e v.node.status w member (rw is open_.above) (ap (λ (s : Stamp). s.by) is ∙ open_.own ∙ who))
 
 piece_for_adds : (name : ℕ) (m : Node) (s : ℕ) (v : Stamp) (base number : ℕ) (e : Entry) (b : Option Ballot) → m.core.who ≡ name → is_member m.status ≡ true
     → OpenBallot m.core.who m.core.promise (view m) b → PlanAdds name (e ∷ []) m (piece_for m s v base number e b)
@@ -193,8 +186,8 @@ viewed_adds name m w member fit =
     let e = View w in
     let same : view_in (push_entry m e).core.log ≡ w.stamp = view_last m w in
     last
-    (λ v. has_view_more m e v ∙ ap (λ (u : Stamp). has_view m.core.log v || stamp_eq u v) (sym same))
-    (ap (λ (u : Stamp). stamp_lt (view m) u) same ∙ fits_above (image_of m) w fit)
+    (λ v. rw same (has_view_more m e v))
+    (rw same (fits_above (image_of m) w fit))
     (λ t. member)
     (λ f v. refl)
 

@@ -1,5 +1,5 @@
 -- Which Views a step of any cause adds to a node's list, and that these are what a watcher is told.
-use Rattle.am_laws.proofs.Words.{logged, stamp_itself, ◌≡◌, ℕ, ◌&&◌, ◌||◌, not, if◌then◌else◌, Bool, true, false, List, [], ◌∷◌, ◌++◌, Option, Some, None, refl}
+use Rattle.am_laws.proofs.Words.{arith, logged, stamp_itself, ◌≡◌, ℕ, ◌&&◌, ◌||◌, not, if◌then◌else◌, Bool, true, false, List, [], ◌∷◌, ◌++◌, Option, Some, None, refl}
 use Rattle.am_laws.proofs.Words.{sym, ap, ◌∙◌, list_any, list_any-append, Outcome, Stamp, Entry, NodeEvent, stamp_eq, Packet, Ballot, view, is_member, has_log}
 use Rattle.am_laws.proofs.Words.{Step, finish, hear_row, step, row, hear, hear_refusal, split, Cause, hears, Effect}
 use Rattle.am_laws.proofs.StoredWords.{or_right, or_left, or-false, Ok, Err, Piece, Read, reading, cause_of, read_row, is_view_of, refuses, steps_have_effects}
@@ -60,63 +60,38 @@ read_adds name m (Err refusal) who kept bare = plain_adds name m refuses (hear_r
 
 pub step_adds : (name : ℕ) (m : Node) (what : NodeEvent) → m.core.who ≡ name → Balloted m → IsBare m → StepAdds name (one_of (entry_in what)) m (step m what)
 unfolding step row
-step_adds name m (does.Send body) who kept bare = plain_adds name m _ (step m (does.Send body)) refl kept bare (steps_have_effects m (does.Send body))
-step_adds name m (does.Done req) who kept bare = plain_adds name m _ (step m (does.Done req)) refl kept bare (steps_have_effects m (does.Done req))
-step_adds name m does.Take who kept bare = plain_adds name m _ (step m does.Take) refl kept bare (steps_have_effects m does.Take)
-step_adds name m does.Join who kept bare = plain_adds name m _ (step m does.Join) refl kept bare (steps_have_effects m does.Join)
-step_adds name m does.State who kept bare = plain_adds name m _ (step m does.State) refl kept bare (steps_have_effects m does.State)
-step_adds name m does.Leave who kept bare = plain_adds name m _ (step m does.Leave) refl kept bare (steps_have_effects m does.Leave)
-step_adds name m (does.Reset least resilience) who kept bare =
-    plain_adds name m _ (step m (does.Reset least resilience)) refl kept bare (steps_have_effects m (does.Reset least resilience))
-step_adds name m (does.Ask round) who kept bare = plain_adds name m _ (step m (does.Ask round)) refl kept bare (steps_have_effects m (does.Ask round))
-step_adds name m (does.GiveUp other) who kept bare = plain_adds name m _ (step m (does.GiveUp other)) refl kept bare (steps_have_effects m (does.GiveUp other))
-step_adds name m does.Tick who kept bare = plain_adds name m _ (step m does.Tick) refl kept bare (steps_have_effects m does.Tick)
 step_adds name m (does.Hear bytes) who kept bare = read_adds name m (reading bytes) who kept bare
+step_adds name m event who kept bare = plain_adds name m _ (step m event) refl kept bare (steps_have_effects m event)
 
 -- ---- what is told
 
 both_false : (a b : Bool) → a ≡ false → b ≡ false → (a || b) ≡ false
-both_false true b h k = absurd (cc)
-both_false false b h k = k
+both_false a b h k = rw (h, k) refl
 
 not_begun : (a b : Bool) → (b ≡ true → a ≡ true) → (not a && b) ≡ false
-not_begun true b h = refl
-not_begun false true h = absurd (let t = h refl in cc)
-not_begun false false h = refl
+not_begun a b h = grind arith
 
 just_begun : (a b : Bool) → a ≡ false → b ≡ true → (not a && b) ≡ true
-just_begun true b h k = absurd (cc)
-just_begun false b h k = k
+just_begun a b h k = rw (h, k) refl
 
 -- the Views of what is told are those that were added
 pub told_is : (name : ℕ) (m n : Node) (what : NodeEvent) (v : Stamp) → Adds name (one_of (entry_in what)) m n.status n.core.log
     → has_view n.core.log v ≡ (has_view m.core.log v || any_of (stored_of name (standing_of m) (standing_of n) (view_of n) what) v)
 told_is name m n what v (none views same) =
-    let old = has_view m.core.log v in
-    let told : Bool → List Entry = λ b. if b then [] else (if decides (standing_of m) name (standing_of n) then one_of (entry_in what) else [])
-    ++ last_view (view_of n) ∷ [] in
     let is : (begins (standing_of m) n.status || stamp_eq (view m) (view n)) ≡ true =
     or_right (begins (standing_of m) n.status) _ (ap (stamp_eq (view m)) same ∙ stamp_itself (view m)) in
-    views v ∙ sym (or-false old) ∙ ap (λ b. old || any_of (told b) v) (sym is)
+    rw is (views v ∙ sym (or-false (has_view m.core.log v)))
 told_is name m n what v (last views above member absorbed) =
-    let old = has_view m.core.log v in
     let es = one_of (entry_in what) in
     let l = last_view (view_of n) in
     let same = stamp_eq (view n) v in
-    let with_ : Bool → List Entry = λ d. (if d then es else []) ++ l ∷ [] in
-    let d = decides (standing_of m) name (standing_of n) in
-    let told : Bool → List Entry = λ b. if b then [] else with_ d in
     let is : (begins (standing_of m) n.status || stamp_eq (view m) (view n)) ≡ false =
     both_false (begins (standing_of m) n.status) _ (not_begun (has_log m.status) (is_member n.status) (λ t. logged m.status (member t)))
     (differs (view m) (view n) above) in
-    let all : (any_of es v || same) ≡ any_of (with_ d) v = split d
-    (λ t. ap (λ b. any_of es v || b) (sym (or-false same)) ∙ sym (list_any-append (is_view_of v) es (l ∷ [])) ∙ ap (λ b. any_of (with_ b) v) (sym t))
-    (λ f. absorbed f v ∙ sym (or-false same) ∙ ap (λ b. any_of (with_ b) v) (sym f)) in
-    views v ∙ ap (λ b. old || b) all ∙ ap (λ b. old || any_of (told b) v) (sym is)
+    rw is (views v ∙ ap (λ b. has_view m.core.log v || b) (split (decides (standing_of m) name (standing_of n))
+    (λ t. rw t (ap (λ b. any_of es v || b) (sym (or-false same)) ∙ sym (list_any-append (is_view_of v) es (l ∷ []))))
+    (λ f. rw f (absorbed f v ∙ sym (or-false same)))))
 told_is name m n what v (began views bare was is_) =
-    let old = has_view m.core.log v in
-    let told : Bool → List Entry = λ b. if b then [] else (if decides (standing_of m) name (standing_of n) then one_of (entry_in what) else [])
-    ++ last_view (view_of n) ∷ [] in
     let is : (begins (standing_of m) n.status || stamp_eq (view m) (view n)) ≡ true =
     or_left (begins (standing_of m) n.status) _ (just_begun (has_log m.status) (is_member n.status) was is_) in
-    views v ∙ sym (bare v) ∙ sym (or-false old) ∙ ap (λ b. old || any_of (told b) v) (sym is)
+    rw is (views v ∙ sym (bare v) ∙ sym (or-false (has_view m.core.log v)))

@@ -86,39 +86,41 @@ pub record BringsNone (c : Cause) : Type 0 where
 
 -- ---- no View more
 
-still_same : (m x y : Node) → y.status ≡ x.status → y.core.promise ≡ x.core.promise → y.core.log ≡ x.core.log → y.ballot ≡ x.ballot → Still m x → Still m y
-still_same m x y stays promise log ballot h = record {
-  views = λ v. ap (λ (l : Log). has_view l v) log ∙ h.views v;
-  same = ap view_in log ∙ h.same;
-  high = (λ i. stamp_lt (promise i) (view_in (log i))) ∙ h.high;
-  opened = subst (IsAbove (view y)) (sym ballot) (subst (λ (l : Log). IsAbove (view_in l) x.ballot) (sym log) h.opened);
-  member = λ t. h.member (ap is_member (sym stays) ∙ t);
-  bare = λ f. h.bare (ap has_log (sym stays) ∙ f);
+-- with the same list
+still_as : (m x y : Node) → y.core.log ≡ x.core.log → stamp_lt y.core.promise (view x) ≡ false → IsAbove (view x) y.ballot
+    → (is_member y.status ≡ true → is_member x.status ≡ true) → (has_log y.status ≡ false → has_log x.status ≡ false) → Still m x → Still m y
+still_as m x y log high opened member bare h = record {
+  views = λ v. rw log (h.views v);
+  same = rw log h.same;
+  high = rw log high;
+  opened = rw log opened;
+  member = λ t. h.member (member t);
+  bare = λ f. h.bare (bare f);
 }
+
+still_same : (m x y : Node) → y.status ≡ x.status → y.core.promise ≡ x.core.promise → y.core.log ≡ x.core.log → y.ballot ≡ x.ballot → Still m x → Still m y
+still_same m x y stays promise log ballot h =
+    still_as m x y log (rw promise h.high) (rw ballot h.opened) (λ t. ap is_member (sym stays) ∙ t) (λ f. ap has_log (sym stays) ∙ f) h
 
 still_plain : (m x y : Node) (e : Entry) → is_view e ≡ false → y.status ≡ x.status → y.core.promise ≡ x.core.promise → y.core.log ≡ (push_entry x e).core.log
     → y.ballot ≡ x.ballot → Still m x → Still m y
 still_plain m x y e plain stays promise log ballot h =
     let p = push_entry x e in
+    let last = view_pushed x e plain in
     let k : Still m p = record {
       views = λ v. has_view_plain x e v plain ∙ h.views v;
-      same = view_pushed x e plain ∙ h.same;
-      high = ap (λ (v : Stamp). stamp_lt x.core.promise v) (view_pushed x e plain) ∙ h.high;
-      opened = subst (λ (v : Stamp). IsAbove v x.ballot) (sym (view_pushed x e plain)) h.opened;
+      same = last ∙ h.same;
+      high = rw last h.high;
+      opened = rw last h.opened;
       member = h.member;
       bare = h.bare;
     } in
     still_same m p y stays promise log ballot k
 
 departed : (m x y : Node) → y.core ≡ x.core → y.ballot ≡ x.ballot → y.status ≡ status.Departed → Still m x → Still m y
-departed m x y core ballot gone h = record {
-  views = λ v. ap (λ k. has_view k.log v) core ∙ h.views v;
-  same = ap (λ k. view_in k.log) core ∙ h.same;
-  high = ap (λ k. stamp_lt k.promise (view_in k.log)) core ∙ h.high;
-  opened = subst (IsAbove (view y)) (sym ballot) (subst (λ k. IsAbove (view_in k.log) x.ballot) (sym core) h.opened);
-  member = λ t. absurd (let u = ap is_member gone in cc);
-  bare = λ f. absurd (let u = ap has_log gone in cc);
-}
+departed m x y core ballot gone h =
+    still_as m x y (ap (λ k. k.log) core) (rw core h.high) (rw ballot h.opened) (λ t. absurd (let u = ap is_member gone in cc))
+    (λ f. absurd (let u = ap has_log gone in cc)) h
 
 above_overtaken : (v by : Stamp) (ballot : Option Ballot) → IsAbove v ballot → IsAbove v (overtake by ballot)
 above_overtaken v by None h = tt
@@ -134,21 +136,10 @@ above_looked m x b (with_more old s v shown is by low high open_ same stays) h =
 above_looked m x b (without_one old name is open_ other) h = above_last m x old open_ h
 above_looked m x b (as_it_is old open_ on) h = above_last m x old open_ h
 
-still_ballot : (m x y : Node) → y.status ≡ x.status → y.core.promise ≡ x.core.promise → y.core.log ≡ x.core.log → IsAbove (view x) y.ballot → Still m x
-    → Still m y
-still_ballot m x y stays promise log opened h = record {
-  views = λ v. ap (λ (l : Log). has_view l v) log ∙ h.views v;
-  same = ap view_in log ∙ h.same;
-  high = (λ i. stamp_lt (promise i) (view_in (log i))) ∙ h.high;
-  opened = subst (λ (l : Log). IsAbove (view_in l) y.ballot) (sym log) opened;
-  member = λ t. h.member (ap is_member (sym stays) ∙ t);
-  bare = λ f. h.bare (ap has_log (sym stays) ∙ f);
-}
-
 look_still : {c : Cause} (o : Outcome) (m x : Node) (b : Ballot) (v : Verdict) → Looks x b v → o ≡ v.outcome → stamp_lt (view x) b.stamp ≡ true → Still m x
     → Walked c o m v.node
-look_still o m x b v (waits y z) is up h = still (still_ballot m x v.node refl refl refl (λ over. up) h)
-look_still o m x b v (fetches_from_best y z u) is up h = still (still_ballot m x v.node refl refl refl (λ over. up) h)
+look_still o m x b v (waits y z) is up h = still (still_as m x v.node refl h.high (λ over. up) (λ t. t) (λ f. f) h)
+look_still o m x b v (fetches_from_best y z u) is up h = still (still_as m x v.node refl h.high (λ over. up) (λ t. t) (λ f. f) h)
 look_still o m x b v (decides may) is up h =
     let names = left_in b (need_of x b) in
     let t = trim_for x b names in
@@ -162,7 +153,7 @@ look_still o m x b v (decides may) is up h =
       is = is;
       low = simp length-append (omega arith);
     })
-look_still o m x b v _ is up h = still (still_ballot m x v.node refl refl refl (λ over. absurd (cc)) h)
+look_still o m x b v _ is up h = still (still_as m x v.node refl h.high (λ over. absurd (cc)) (λ t. t) (λ f. f) h)
 
 welcomed_still : {c : Cause} {o : Outcome} (m x : Node) (s : ℕ) (v : Stamp) (base join : ℕ) (image : Image) → c ≡ hears (packet.Welcome s v base join image)
     → o ≡ said.Welcomed join → MayBeWelcomed x s v base join image → Still m x → Walked c o m (begin_list x v base join image)
@@ -193,36 +184,16 @@ change_still {c} m x y brings (numbers e leads room why) h = still (still_plain 
 change_still m x y brings (stores s v base acc number e by from plain may) h = still (still_plain m x y e plain refl refl refl refl h)
 change_still m x y brings (begins_list s v base join image is o may) h = welcomed_still m x s v base join image is o may h
 change_still m x y brings (departs s v number is by leaves) h = still (departed m x y refl refl refl h)
-change_still m x y brings (promises v low why) h = still (record {
-  views = h.views;
-  same = h.same;
-  high = at_most (view x) x.core.promise v h.high low;
-  opened = above_overtaken (view x) v x.ballot h.opened;
-  member = h.member;
-  bare = h.bare;
-})
+change_still m x y brings (promises v low why) h =
+    still (still_as m x y refl (at_most (view x) x.core.promise v h.high low) (above_overtaken (view x) v x.ballot h.opened) (λ t. t) (λ f. f) h)
 change_still m x y brings (opens least resilience by may) h =
     let up = at_most_below (view x) x.core.promise (next_stamp x) h.high (next_above x.core.promise x.core.who) in
-    still (record {
-      views = h.views;
-      same = h.same;
-      high = not_above (view x) (next_stamp x) up;
-      opened = λ over. up;
-      member = h.member;
-      bare = h.bare;
-    })
+    still (still_as m x y refl (not_above (view x) (next_stamp x) up) (λ over. up) (λ t. t) (λ f. f) h)
 change_still {c} {o} m x y brings (looks b verdict over why look is) h = look_still o m x b verdict look is (above_looked m x b why h) h
 change_still m x y brings (fetches s v base number e is by promise below from may) h = absurd (brings.pieces s v base number e is)
 change_still m x y brings (stores_view s base number v is by own other promise below may) h =
     absurd (brings.results s base number v is)
-change_still m x y brings (asks_to_join is was) h = still (record {
-  views = h.views;
-  same = h.same;
-  high = h.high;
-  opened = h.opened;
-  member = λ t. absurd (cc);
-  bare = λ f. h.bare (ap has_log was);
-})
+change_still m x y brings (asks_to_join is was) h = still (still_as m x y refl h.high h.opened (λ t. absurd (cc)) (λ f. ap has_log was) h)
 change_still m x y brings (closes leads leaves alone room) h =
     let p = push_entry x (Leave x.core.who) in
     let r = rests_at_end p in
@@ -234,13 +205,13 @@ change_still m x y brings _ h = still (still_same m x y refl refl refl refl h)
 
 more_same : (o : Outcome) (m x y : Node) → (is_member y.status ≡ true → is_member x.status ≡ true) → y.core.log ≡ x.core.log → OneMore o m x → OneMore o m y
 more_same o m x y stays log h = record {
-  views = λ v. ap (λ (l : Log). has_view l v) log ∙ h.views v ∙ ap (λ (l : Log). has_view m.core.log v || stamp_eq (view_in l) v) (sym log);
-  above = ap (λ (l : Log). stamp_lt (view m) (view_in l)) log ∙ h.above;
+  views = λ v. rw log (h.views v);
+  above = rw log h.above;
   member = λ t. h.member (stays t);
   number = h.number;
   names = h.names;
   is = h.is;
-  low = subst (λ (l : Log). h.number ≤ l.start + length l.entries) (sym log) h.low;
+  low = rw log h.low;
 }
 
 more_plain : (o : Outcome) (m x y : Node) (e : Entry) → is_view e ≡ false → (is_member y.status ≡ true → is_member x.status ≡ true)
@@ -303,11 +274,7 @@ new_same c o m x y who stays promise log h = record {
 
 look_new : (c : Cause) (o : Outcome) (m x : Node) (b : Ballot) (v : Verdict) → Looks x b v → o ≡ v.outcome → Begun c o m x → Begun c o m v.node
 look_new c o m x b v (finds_itself_out y) is h = absurd (let first = h.is in cc)
-look_new c o m x b v (waits y z) is h = absurd (let first = h.is in cc)
-look_new c o m x b v (fetches_from_best y z u) is h = absurd (let first = h.is in cc)
-look_new c o m x b v (finds_too_few y z) is h = absurd (let first = h.is in cc)
-look_new c o m x b v (finds_no_room y) is h = absurd (let first = h.is in cc)
-look_new c o m x b v (decides may) is h = absurd (let first = h.is in cc)
+look_new c o m x b v _ is h = absurd (let first = h.is in cc)
 
 promises_new : {A : Type 0} (c : Cause) (o : Outcome) (m x : Node) (v : Stamp) → Promises c x v → Begun c o m x → A
 promises_new c o m x v (invited s u is by own) h = absurd (let first = h.heard in cc)
@@ -333,11 +300,7 @@ change_new {c} {o} m x y brings refreshes h = let r = rests_refresh x in
 change_new {c} {o} m x y brings settles h = let e = settle_is x in
     new_same c o m x (settle x) (ap (λ (n : Node). n.core.who) e) (ap (λ (n : Node). n.status) e) (ap (λ (n : Node). n.core.promise) e)
     (λ v. ap (λ (n : Node). has_view n.core.log v) e) h
-change_new {c} {o} m x y brings (takes_report s v report by may) h = new_same c o m x y refl refl refl (λ v. refl) h
-change_new {c} {o} m x y brings (admits s v is leads fit) h = new_same c o m x y refl refl refl (λ v. refl) h
 change_new {c} {o} m x y brings (numbers e leads room why) h = new_same c o m x y refl refl refl (λ v. has_view_plain x e v (numbers_plain c x e why)) h
-change_new {c} {o} m x y brings (keeps_body s v report req body is by) h = new_same c o m x y refl refl refl (λ v. refl) h
-change_new {c} {o} m x y brings (notes s v base acc by from) h = new_same c o m x y refl refl refl (λ v. refl) h
 change_new {c} {o} m x y brings (stores s v base acc number e by from plain may) h = new_same c o m x y refl refl refl (λ u. has_view_plain x e u plain) h
 change_new {c} {o} m x y brings (begins_list s v base join image is says may) h = absurd (let t = ap is_member h.member in let f = may.no_member in cc)
 change_new {c} {o} m x y brings (departs s v number is by leaves) h = absurd (let first = h.heard in cc)
@@ -347,12 +310,9 @@ change_new {c} {o} m x y brings (looks b verdict over why look is) h = look_new 
 change_new {c} {o} m x y brings (fetches s v base number e is by promise below from may) h = absurd (brings.pieces s v base number e is)
 change_new {c} {o} m x y brings (stores_view s base number v is by own other promise below may) h =
     absurd (brings.results s base number v is)
-change_new {c} {o} m x y brings (queues body is says member stays few) h = new_same c o m x y refl refl refl (λ v. refl) h
-change_new {c} {o} m x y brings (collects req is) h = new_same c o m x y refl refl refl (λ v. refl) h
-change_new {c} {o} m x y brings (takes e is says member some there) h = new_same c o m x y refl refl refl (λ v. refl) h
 change_new {c} {o} m x y brings (asks_to_join is was) h = absurd (let t = h.member in cc)
-change_new {c} {o} m x y brings (asks_to_leave is was stays done) h = new_same c o m x y refl refl refl (λ v. refl) h
 change_new {c} {o} m x y brings (closes leads leaves alone room) h = leads_new c o m x leads h
+change_new {c} {o} m x y brings _ h = new_same c o m x y refl refl refl (λ v. refl) h
 
 -- ---- all of them
 

@@ -241,26 +241,16 @@ fetched_view m s v w (for_ballot b open_ from past) other same = absurd (
 -- and no fetched entry makes a sequencer
 pub fetch_follows : (m : Node) (s : ℕ) (v : Stamp) (base : ℕ) (e : Entry) → Fetches m s v e → (s == m.core.who) ≡ false → stamp_eq v m.core.promise ≡ true
     → stamp_eq (view m) v ≡ false → is_sequencer (push_entry (trim_up_to m base) e) ≡ true → ⊥
-fetch_follows m s v base (Data from req body) why other same below t =
-    let p = promise_is (push_entry (trim_up_to m base) (Data from req body)) t ∙ view_pushed (trim_up_to m base) (Data from req body) refl in
-    let z : stamp_eq (view m) v ≡ true = subst (λ x. stamp_eq x v
-    ≡ true) p (subst (λ x. stamp_eq m.core.promise x ≡ true) (sym (same_stamp v m.core.promise same)) (stamp_itself m.core.promise)) in
-    cc
-fetch_follows m s v base (Join name) why other same below t =
-    let p = promise_is (push_entry (trim_up_to m base) (Join name)) t ∙ view_pushed (trim_up_to m base) (Join name) refl in
-    let z : stamp_eq (view m) v ≡ true = subst (λ x. stamp_eq x v
-    ≡ true) p (subst (λ x. stamp_eq m.core.promise x ≡ true) (sym (same_stamp v m.core.promise same)) (stamp_itself m.core.promise)) in
-    cc
-fetch_follows m s v base (Leave name) why other same below t =
-    let p = promise_is (push_entry (trim_up_to m base) (Leave name)) t ∙ view_pushed (trim_up_to m base) (Leave name) refl in
-    let z : stamp_eq (view m) v ≡ true = subst (λ x. stamp_eq x v
-    ≡ true) p (subst (λ x. stamp_eq m.core.promise x ≡ true) (sym (same_stamp v m.core.promise same)) (stamp_itself m.core.promise)) in
-    cc
 fetch_follows m s v base (View w) why other same below t =
     let n = push_entry (trim_up_to m base) (View w) in
     let last = view_last (trim_up_to m base) w in
     let is : w.stamp ≡ v = sym (promise_is n t ∙ last) ∙ sym (same_stamp v m.core.promise same) in
     not_own n w.stamp.by (ap (λ (x : Stamp). x.by) last) (fetched_view m s v w why other is) t
+fetch_follows m s v base e why other same below t =
+    let p = promise_is (push_entry (trim_up_to m base) e) t ∙ view_pushed (trim_up_to m base) e refl in
+    let z : stamp_eq (view m) v ≡ true = subst (λ x. stamp_eq x v
+    ≡ true) p (subst (λ x. stamp_eq m.core.promise x ≡ true) (sym (same_stamp v m.core.promise same)) (stamp_itself m.core.promise)) in
+    cc
 
 -- a promise that isn't below the view, by whom it is made
 promised_follows : (c : Cause) (m : Node) (v : Stamp) → Promises c m v → stamp_lt v m.core.promise ≡ false → Balloted m → is_sequencer (with_promise m v) ≡ true

@@ -1,17 +1,18 @@
 -- The effect of the tick.
-use Rattle.am_laws.proofs.EffectWords.{not-false, ◌≡◌, ◌==◌, ◌&&◌, nat_lt, nat_le, [], length, not, true, false, Option, Some, None, refl, sym, ap, ◌∙◌, arith}
+use Rattle.am_laws.proofs.EffectWords.{[], not-false, ◌≡◌, ◌==◌, ◌&&◌, nat_lt, nat_le, length, not, true, false, Option, Some, None, refl, sym, ap, ◌∙◌, arith}
 use Rattle.am_laws.proofs.EffectWords.{nat_tests, Stamp, Outcome, Data, size, entry_at, OwnSend, Status, Node, Ballot, image_of, view, others, only_name, acts}
 use Rattle.am_laws.proofs.EffectWords.{has_room, is_asking, is_member, is_sequencer, waiting, quiet, ack_of, invite_of, fetch_of, result_of, would_emit, emit}
 use Rattle.am_laws.proofs.EffectWords.{go, tick_ballot, tick_promised, tick_member, put_off, behind_view, viewed_by, and_result, tick_sequencer, tick_acting}
-use Rattle.am_laws.proofs.EffectWords.{tick_with, tick_by, tick_row, split, Cause, calls, nothing_yet, HasOpen, Says, invite, fetch, result, goes_on, for_ballot}
+use Rattle.am_laws.proofs.EffectWords.{tick_with, tick_by, split, Cause, calls, nothing_yet, HasOpen, Says, invite, fetch, result, goes_on, for_ballot}
 use Rattle.am_laws.proofs.EffectWords.{of_promise, leads, Answers}
 use Rattle.am_base.specs.declared.outcome.Outcome.TheVariants as said
 use Rattle.am_base.specs.declared.event.NodeEvent.TheVariants as does
 use Rattle.am_model.specs.declared.status.Status.TheVariants as status
 use Rattle.am_laws.proofs.Plans.{Does, and_says, HasEffect, effect_if, effect_of, does_quiet, does_telling, tightly, rows}
-use Rattle.am_laws.proofs.{Rests.Rests, Rests.RestsWhole, Rests.leads_rests, Alone.IsAlone, Alone.gone, Alone.alone_after, Alone.sent_others}
-use Rattle.am_laws.proofs.{Alone.those_none, Says.leads_pushed, Says.view_pushed, Says.tells_ack, Calls.does_emit, Calls.comes_emit, Calls.node_if}
-use Rattle.am_laws.proofs.{Calls.row_ask_to_join, Calls.row_go}
+use Rattle.am_laws.proofs.Rests.{Rests, RestsWhole, leads_rests}
+use Rattle.am_laws.proofs.Alone.{IsAlone, gone, alone_after, sent_others, those_none}
+use Rattle.am_laws.proofs.Says.{leads_pushed, view_pushed, tells_ack}
+use Rattle.am_laws.proofs.Calls.{does_emit, comes_emit, node_if, row_ask_to_join, row_go}
 
 abbrev pub tick : Cause
 tick = calls does.Tick
@@ -133,12 +134,8 @@ row_tick_with m (Some b) is member =
     effect_if m tick b.is_over _ _ (λ t. row_tick_acting m member)
     (λ f. row_tick_ballot m b b.answer (record { last = is; open_ = f }) refl)
 
-row_tick_by : (m : Node) (s : Status) → m.status ≡ s → HasEffect m tick (tick_by m s)
+pub row_tick_by : (m : Node) (s : Status) → m.status ≡ s → HasEffect m tick (tick_by m s)
 row_tick_by m status.Stranger is = search rows
 row_tick_by m status.Asking is = row_ask_to_join m tick m said.Ticked nothing_yet (λ n. tt) (ap is_asking is)
 row_tick_by m status.Member is = row_tick_with m m.ballot refl (ap is_member is)
 row_tick_by m status.Departed is = search rows
-
-pub row_tick : (m : Node) → HasEffect m tick (tick_row m)
-unfolding tick_row
-row_tick m = row_tick_by m m.status refl

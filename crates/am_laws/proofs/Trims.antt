@@ -7,6 +7,7 @@ use Rattle.am_laws.proofs.Words.{row_at, used_fold, member_row, leave_life, leas
 use Rattle.am_laws.proofs.Words.{Ballot, top, image_of, members, others, is_sequencer, push_entry, trim_up_to, advance, lead, refresh, settle, refresh_at_end}
 use Rattle.am_laws.proofs.Words.{split, settle_is, told_pushed, JoinFits, JoinsFit}
 use Rattle.am_packet.specs.declared.packet.Packet.TheVariants as packet
+use Rattle.am_state.proofs.Leaders.{none_in}
 use Rattle.am_laws.proofs.{Counts.over_acc, Counts.base_low, Counts.base_above, LeaderRows.joins_push, LeaderRows.least_within}
 
 -- ---- what a node has
@@ -147,18 +148,9 @@ members_at_last_leave image n name up long member =
     let none : member_life (record (at_place image name) { left = n }) ≡ 0 = grind (arith, nat_tests) in
     rw alive (map-set member_life image.rows (place_of name) (record (at_place image name) { left = n }) ∙ ap (set (members_of image) (place_of name)) none)
 
--- nobody is in an empty set
-none_from : (names : List ℕ) (from : ℕ) → size names ≡ 0 → names_from from names ≡ []
-none_from [] from h = refl
-none_from (zero ∷ lives) from h = none_from lives (from + 1) (let c = count_cons (λ life. nat_lt 0 life) zero lives in omega arith)
-none_from (suc before ∷ lives) from h =
-    let t : nat_lt 0 (suc before) ≡ true = grind (arith, nat_tests) in
-    let more = count_cons (λ life. nat_lt 0 life) (suc before) lives ∙ ap (λ (b : Bool). (if b then 1 else 0) + size lives) t in
-    absurd (omega arith)
-
 none_least : (f : ℕ → ℕ) (names : List ℕ) (to : ℕ) → size names ≡ 0 → least_of f (names_of names) ≡ Some to → ⊥
 unfolding least_of
-none_least f names to none is = let e : None ≡ Some to = sym (ap (least_of f) (none_from names 0 none)) ∙ is in cc
+none_least f names to none is = let e : None ≡ Some to = sym (ap (least_of f) (none_in names 0 none)) ∙ is in cc
 
 pub closed_leads : (m : Node) → Fronts m → has (members m) m.core.who ≡ true → nat_lt 0 (size (others m)) ≡ false → MayLead (push_entry m (Leave m.core.who))
 unfolding unions

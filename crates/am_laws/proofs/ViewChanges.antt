@@ -57,21 +57,12 @@ does_plain m n e plain who stays promise log ballot h =
     record {
       goes = λ t. goes_then m.core.log (push_entry m e).core.log n.core.log (goes_plain m e plain) (goes_to (push_entry m e).core.log n.core.log log);
       log_ = λ t. stays;
-      balloted = record {
-        high = (λ i. stamp_lt (promise i) (v i)) ∙ h.high;
-        none = λ f. absurd (cc);
-        opened = subst (OpenBallot n.core.who n.core.promise (view n)) (sym ballot)
-            (subst (λ (x : Stamp). OpenBallot n.core.who n.core.promise x m.ballot) (sym v)
-            (subst (λ (p : Stamp). OpenBallot n.core.who p (view m) m.ballot) (sym promise)
-            (subst (λ (k : ℕ). OpenBallot k m.core.promise (view m) m.ballot) (sym who) h.opened)));
-      };
+      balloted = record { high = rw (promise, v) h.high; none = λ f. absurd (cc); opened = rw (who, promise, v, ballot) h.opened };
     }
 
 pub numbers_plain : (c : Cause) (m : Node) (e : Entry) → Numbers c m e → is_view e ≡ false
 numbers_plain c m e (asked_send s v report req body by known stays next) = refl
-numbers_plain c m e (own_send s is last) = refl
-numbers_plain c m e (asked_join s v is other fit) = refl
-numbers_plain c m e (asked_leave s v report is other known stays) = refl
+numbers_plain c m e _ = refl
 
 -- ---- who has a list
 
@@ -101,9 +92,6 @@ overtaken_open who promise v by (Some b) k l low h = split (not b.is_over && sta
     let up : stamp_lt promise by ≡ false = subst (λ (s : Stamp). stamp_lt s by ≡ false) (sym o.promised) stays in
     let same : by ≡ promise = equal_stamps by promise k l low up in
     record { above = o.above; promised = same ∙ o.promised; own = o.own }))
-
-none_overtaken : (by : Stamp) (ballot : Option Ballot) → ballot ≡ None → overtake by ballot ≡ None
-none_overtaken by ballot is = ap (overtake by) is
 
 pub next_above : (promise : Stamp) (who : ℕ) → stamp_lt promise (record { round = promise.round + 1; by = who }) ≡ true
 next_above promise who = let t : nat_lt promise.round (promise.round + 1) ≡ true = grind (arith, nat_tests) in rw t refl
@@ -162,8 +150,7 @@ look_does m b v (decides may) l h =
       goes = λ t. goes_view before (decided_view m b names) o.above;
       log_ = λ t. t;
       balloted = record {
-        high = subst (λ (s : Stamp). stamp_lt m.core.promise s
-            ≡ false) (sym same) (subst (λ (p : Stamp). stamp_lt p b.stamp ≡ false) (sym o.promised) (not_above_itself b.stamp));
+        high = rw (same, o.promised) (not_above_itself b.stamp);
         none = λ f. absurd (let t = l.has_list in cc);
         opened = λ x. absurd (cc);
       };
@@ -202,19 +189,13 @@ does_fetch m s v base (View w) is few named log from fit h =
       goes = λ t. goes_fit (trim_up_to m base) (View w) fit;
       log_ = λ t. t;
       balloted = record {
-        high = subst (λ (x : Stamp). stamp_lt m.core.promise x ≡ false) (sym same) k.0;
+        high = rw same k.0;
         none = h.none;
-        opened = subst (λ (x : Stamp). OpenBallot m.core.who m.core.promise x m.ballot) (sym same) k.1;
+        opened = rw same k.1;
       };
     }
-does_fetch m s v base (Data from_ req body) is few named log from fit h =
-    let d = does_plain (trim_up_to m base) (push_entry (trim_up_to m base) (Data from_ req body)) (Data from_ req body) refl refl log refl refl refl h in
-    record { goes = d.goes; log_ = d.log_; balloted = d.balloted }
-does_fetch m s v base (Join name) is few named log from fit h =
-    let d = does_plain (trim_up_to m base) (push_entry (trim_up_to m base) (Join name)) (Join name) refl refl log refl refl refl h in
-    record { goes = d.goes; log_ = d.log_; balloted = d.balloted }
-does_fetch m s v base (Leave name) is few named log from fit h =
-    let d = does_plain (trim_up_to m base) (push_entry (trim_up_to m base) (Leave name)) (Leave name) refl refl log refl refl refl h in
+does_fetch m s v base e is few named log from fit h =
+    let d = does_plain (trim_up_to m base) (push_entry (trim_up_to m base) e) e refl refl log refl refl refl h in
     record { goes = d.goes; log_ = d.log_; balloted = d.balloted }
 
 -- the View of a Result is of another name
@@ -235,11 +216,9 @@ does_result m base v is other fit h =
       goes = λ t. goes_fit (trim_up_to m base) (View v) fit;
       log_ = λ t. t;
       balloted = record {
-        high = subst (λ (x : Stamp). stamp_lt m.core.promise x ≡ false) (sym same)
-            (subst (λ (p : Stamp). stamp_lt p v.stamp ≡ false) (sym is) (not_above_itself v.stamp));
+        high = rw (same, is) (not_above_itself v.stamp);
         none = h.none;
-        opened = subst (λ (x : Stamp). OpenBallot m.core.who m.core.promise x m.ballot) (sym same)
-            (other_open m.core.who m.core.promise (view m) v.stamp m.ballot is other h.opened);
+        opened = rw same (other_open m.core.who m.core.promise (view m) v.stamp m.ballot is other h.opened);
       };
     }
 
@@ -283,7 +262,7 @@ change_does heard m n (promises v low why) k h = record {
   log_ = λ t. t;
   balloted = record {
     high = at_most (view m) m.core.promise v h.high low;
-    none = λ f. none_overtaken v m.ballot (h.none f);
+    none = λ f. (ap (overtake v) (h.none f));
     opened = overtaken_open m.core.who m.core.promise (view m) v m.ballot (promised_named _ m v why heard) k.promise_ low h.opened;
   };
 }

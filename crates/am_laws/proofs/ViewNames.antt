@@ -41,9 +41,7 @@ no_view _ h = tt
 
 numbers_no_view : (c : Cause) (m : Node) (e : Entry) → Numbers c m e → ViewNamed e
 numbers_no_view c m e (asked_send s v report req body by known stays next) = tt
-numbers_no_view c m e (own_send s is last) = tt
-numbers_no_view c m e (asked_join s v is other fit) = tt
-numbers_no_view c m e (asked_leave s v report is other known stays) = tt
+numbers_no_view c m e _ = tt
 
 one_more : (m : Node) (e : Entry) → ViewNamed e → All ViewNamed m.core.log.entries → All ViewNamed (m.core.log.entries ++ e ∷ [])
 one_more m e is h = All-append ViewNamed m.core.log.entries (e ∷ []) h (All-cons ViewNamed e [] is (All-nil ViewNamed))

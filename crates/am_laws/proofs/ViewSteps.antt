@@ -134,11 +134,9 @@ goes_view m v above = record {
 -- any entry that fits
 pub goes_fit : (m : Node) (e : Entry) → fits (image_of m) e ≡ true → Goes m.core.log (push_entry m e).core.log
 unfolding fits
-goes_fit m (Data from req body) fit = goes_other m (Data from req body) refl
-goes_fit m (Join name) fit = goes_other m (Join name) refl
-goes_fit m (Leave name) fit = goes_other m (Leave name) refl
 goes_fit m (View v) fit = goes_view m v
     (split (stamp_lt (view m) v.stamp) (λ t. t) (λ f. absurd (let g = rw f at fit in cc)))
+goes_fit m e fit = goes_other m e refl
 
 pub goes_plain : (m : Node) (e : Entry) → is_view e ≡ false → Goes m.core.log (push_entry m e).core.log
 goes_plain m e plain = goes_other m e plain

@@ -23,56 +23,51 @@ pub use Rattle.am_laws.proofs.EffectWords.{without_ballot, takes_report, admits,
 pub use Rattle.am_laws.proofs.EffectWords.{WasSentTo, Happens, Looks, finds_itself_out, HasOpen, Balloting, with_more, without_one, as_it_is, decides}
 pub use Rattle.am_laws.proofs.EffectWords.{finds_no_room, waits, fetches_from_best, finds_too_few, just_joined, asks_again, Says, bcast, order, hold, join_ask}
 pub use Rattle.am_laws.proofs.EffectWords.{welcome, gone, invite, fetch, piece, result, HasSend, request, spread, vote, LetterSays, Effect}
+pub use Rattle.am_laws.proofs.Rests.{rests_refresh, settle_is, rests_at_end, with_fronts, refresh_is, passed}
+pub use Rattle.am_laws.proofs.EffectRuns.{EachKeeps, runs_keep, along, StepsKeep, SameParts, law_keeps}
+pub use Rattle.am_laws.proofs.Items.{all_get, all_item, all_find, get_front, get_last}
+pub use Rattle.am_laws.proofs.{Nodes.Each, Nodes.each_node_keeps, Nodes.first_has, Statuses.logged, Statuses.asking_log, Says.view_pushed, Says.told_pushed}
+pub use Rattle.am_laws.proofs.{Tests.equals_itself, Tests.or_first, Tests.or_second, Events.events_have_effects, Hearing.other_heard, Resets.stamp_itself}
+pub use Rattle.am_laws.proofs.{Resets.same_stamp, Ballots.entry_is, Kept.HasItself, Kept.Keeps, Changes.itself, Changes.kept_change, BoundedRuns.kept_own}
 unfoldable pub use Rattle.am_laws.proofs.EffectWords.{fits, after, fold, pass_over, own_report, tell, go_on, those, decide, begin, keep_vote, give_up, best_of}
 unfoldable pub use Rattle.am_laws.proofs.EffectWords.{give_up_row, reset_row, send_row, done_row, take_row, join_row, state_row, leave_row, ask_row, refresh}
 unfoldable pub use Rattle.am_laws.proofs.EffectWords.{lead, settle, refresh_at_end, finish, spread_row, bcast_row, order_row, accept_row, hold_row, tick_row}
 unfoldable pub use Rattle.am_laws.proofs.EffectWords.{step, hear, hear_refusal, row, request_row, ack_row, nack_row, join_ask_row, welcome_row, leave_ask_row}
 unfoldable pub use Rattle.am_laws.proofs.EffectWords.{gone_row, invite_row, vote_row, fetch_row, piece_row, result_row, hear_row, with_record, with_step}
 unfoldable pub use Rattle.am_laws.proofs.EffectWords.{happens, happen}
-pub use Rattle.std.{proofs.Math.Seq.take-length, proofs.lemmas.Bool.cases_lt, proofs.lemmas.List.Folds.list_any-append, proofs.lemmas.List.Sums.sum_by-cons}
-pub use Rattle.std.{specs.List.count_by, specs.List.range_with_len}
 pub use Rattle.std.proofs.Common.{unwrap_or, filter, ⊎_elim, take, slice_index_or, map, set, length-drop, get_or}
 pub use Rattle.std.proofs.lemmas.List.{length-take, get_or-replicate, length-map, set-get_or, ext_get_or}
 pub use Rattle.std.proofs.lemmas.List.Elements.{All-map, All-set, All-weaker, All-replicate, All-get_or, All-from_get_or, All-filter}
-pub use Rattle.am_base.specs.declared.entry.GroupView.{GroupView}
-pub use Rattle.am_base.specs.{Names.names_of, Names.IsSet, Names.nobody, Names.name_at, Names.rank_of, Names.names_from, Founding.MayFound, Fronts.accept_front}
-pub use Rattle.am_base.specs.{Most.most_body, Most.most_number, Limits.IsNumber, Limits.IsReport, Limits.IsImage, Limits.IsEntry, Votes.Shown, Votes.vote_lt}
-pub use Rattle.am_base.specs.{Votes.all_names, Votes.better_of}
+pub use Rattle.std.{proofs.Math.Seq.take-length, proofs.lemmas.Bool.cases_lt, proofs.lemmas.List.Folds.list_any-append, proofs.lemmas.List.Sums.sum_by-cons}
+pub use Rattle.std.{specs.List.count_by, specs.List.range_with_len}
+pub use Rattle.am_base.specs.Names.{names_of, IsSet, nobody, name_at, rank_of, names_from}
+pub use Rattle.am_base.specs.Limits.{IsNumber, IsReport, IsImage, IsEntry}
+pub use Rattle.am_base.specs.Votes.{Shown, vote_lt, all_names, better_of}
 pub use Rattle.am_base.specs.Lists.{blank, blank_row, is_blank, row_after_view, image_at, members_at, with_entry}
+pub use Rattle.am_base.specs.{declared.entry.GroupView.GroupView, Founding.MayFound, Fronts.accept_front, Most.most_body, Most.most_number}
 unfoldable pub use Rattle.am_base.specs.{Names.by_place, Votes.best_from}
 pub use Rattle.am_packet.specs.{Limits.IsPacket, Limits.HasEntryParts, Spelling.stamp_of, Spelling.sender_of}
-unfoldable pub use Rattle.am_packet.specs.Limits.{IsWithin, HasParts}
-pub use Rattle.am_packet.proofs.Again.{spelling_again}
-pub use Rattle.am_state.specs.Cores.{CoreState, since_accepted}
-unfoldable pub use Rattle.am_state.specs.Cores.{accept, unions}
+unfoldable pub use Rattle.am_packet.specs.{Limits.IsWithin, Limits.HasParts}
+pub use Rattle.am_packet.proofs.{Again.spelling_again}
+pub use Rattle.am_state.specs.{Cores.CoreState, Cores.since_accepted, Reports.lesser, Reports.least_taken, declared.bodies.KeptBody.KeptBody, Bodies.find_body}
+pub use Rattle.am_state.specs.{Sends.Sends, Sends.is_unsettled}
+unfoldable pub use Rattle.am_state.specs.{Cores.accept, Cores.unions, Reports.least_of, Refresh.let_go}
 pub use Rattle.am_state.proofs.Lives.{JoinFits, IsUsed, row_at, used_after, used_fold, life_fold, member_at, unions_most, unions_least, unions_long, any_fits}
 pub use Rattle.am_state.proofs.Lives.{member_row, leave_life}
-pub use Rattle.am_state.proofs.Ends.{image-top, image-push}
-unfoldable pub use Rattle.am_state.proofs.Lives.{JoinsFit}
-pub use Rattle.am_state.specs.Reports.{lesser, least_taken}
-unfoldable pub use Rattle.am_state.specs.{Reports.least_of, Refresh.let_go}
-pub use Rattle.am_state.proofs.{Leaders.least_reported, Leaders.least_in, ReportLaws.count_cons}
-pub use Rattle.am_state.specs.{declared.bodies.KeptBody.KeptBody, Bodies.find_body}
-pub use Rattle.am_state.specs.Sends.{Sends, is_unsettled}
-pub use Rattle.am_model.specs.{Node.set_at, Node.founders_view, Node.founding_stamp, Receiving.own_body, Receiving.first_body, Sequencing.number_data}
-pub use Rattle.am_model.specs.{Joining.asks_to_leave}
+pub use Rattle.am_state.proofs.{Ends.image-top, Ends.image-push, Leaders.least_reported, Leaders.least_in, ReportLaws.count_cons}
+unfoldable pub use Rattle.am_state.proofs.{Lives.JoinsFit}
+pub use Rattle.am_model.specs.Node.{set_at, founders_view, founding_stamp, founding_view}
 pub use Rattle.am_model.specs.Ballots.{taken_by, goes_on, ends as ended, decide_view, restart_reports, overtake, own_vote, decided_view}
-pub use Rattle.am_model.proofs.Founders.{first_founder}
-pub use Rattle.am_play.specs.{Claims.Begins, Lawful.broken_at, Lawful.before_break}
+pub use Rattle.am_model.specs.{Receiving.own_body, Receiving.first_body, Sequencing.number_data, Joining.asks_to_leave}
+pub use Rattle.am_model.proofs.{Founders.first_founder}
 pub use Rattle.am_play.specs.World.{lives_on, group_with, group_after, Decided, founders_decided, last_view, views_after}
-pub use Rattle.am_play.proofs.Beginnings.{runs_begin}
-pub use Rattle.am_base.proofs.{Requests.has_in, Order.rank_same, Members.index_members}
+pub use Rattle.am_play.specs.{Claims.Begins, Lawful.broken_at, Lawful.before_break}
+pub use Rattle.am_play.proofs.{Beginnings.runs_begin}
 pub use Rattle.am_base.proofs.Rows.{and_right, In, mod16, long_after, set_keeps, row_view, Spares, in_after, and_left, blank_joined}
+pub use Rattle.am_base.proofs.{Requests.has_in, Order.rank_same, Members.index_members}
 pub use Rattle.am_meaning.proofs.{AcceptFronts.accept_front_is, Bytes.spelling_is_heard, Bytes.cut_is_heard}
-pub use Rattle.am_laws.proofs.{Nodes.Each, Nodes.each_node_keeps, Nodes.first_has, Statuses.logged, Statuses.asking_log, Rests.rests_refresh, Rests.settle_is}
-pub use Rattle.am_laws.proofs.{Rests.rests_at_end, Rests.with_fronts, Rests.refresh_is, Rests.passed, EffectRuns.EachKeeps, EffectRuns.runs_keep}
-pub use Rattle.am_laws.proofs.{EffectRuns.along, EffectRuns.StepsKeep, EffectRuns.SameParts, EffectRuns.law_keeps, Says.view_pushed, Says.told_pushed}
-pub use Rattle.am_laws.proofs.{Tests.equals_itself, Tests.or_first, Tests.or_second, Items.all_get, Items.all_item, Items.all_find, Items.get_front}
-pub use Rattle.am_laws.proofs.{Items.get_last, Events.events_have_effects, Hearing.other_heard, Resets.stamp_itself, Resets.same_stamp, Ballots.entry_is}
-pub use Rattle.am_laws.specs.{Changes.Numbers, Changes.Promises, Changes.overtaken as overtaken_by, Changes.Fetches, Changes.for_ballot, Letters.MayWelcome}
-pub use Rattle.am_laws.proofs.{Kept.HasItself, Kept.Keeps, Changes.itself, Changes.kept_change, BoundedRuns.kept_own}
-pub use Rattle.am_laws.specs.{Packets.Bounds, Packets.up, Packets.UpTo, Blank.BlankHolds, Begins.FrontBegins, GivenUp.OnlyStoppedGivenUp, Named.NamesHold}
-pub use Rattle.am_laws.specs.{Numbers.NumbersHold, Taken.TakenHolds, Views.ViewsHold}
+pub use Rattle.am_laws.specs.Changes.{Numbers, Promises, overtaken as overtaken_by, Fetches, for_ballot}
 pub use Rattle.am_laws.specs.Bytes.{BodyWithin, IsShort, LettersArePackets, LettersAreRead, acts_by_bytes, RunsAreOfBytes}
-pub use Rattle.am_model.specs.Node.{founding_view}
-unfoldable pub use Rattle.am_laws.specs.Bytes.{happen_by_bytes}
+pub use Rattle.am_laws.specs.{Letters.MayWelcome, Packets.Bounds, Packets.up, Packets.UpTo, Blank.BlankHolds, Begins.FrontBegins, GivenUp.OnlyStoppedGivenUp}
+pub use Rattle.am_laws.specs.{Named.NamesHold, Numbers.NumbersHold, Taken.TakenHolds, Views.ViewsHold}
+unfoldable pub use Rattle.am_laws.specs.{Bytes.happen_by_bytes}

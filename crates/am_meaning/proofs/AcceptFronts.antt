@@ -1,12 +1,8 @@
 -- The accept front is the greatest, and the walk upwards gives it.
-use Rattle.std.proofs.Common.{◌≡◌, ℕ, zero, suc, ◌+◌, ◌-◌, ◌<◌, ◌≤◌, Bool, true, false, ◌&&◌, nat_le, refl, sym, ap, ◌∙◌, inl, inr, arith}
-use Rattle.std.proofs.lemmas.Bool.{cases_lt}
-use Rattle.std.proofs.lemmas.Bool.Decides.{nat_tests}
-use Rattle.am_base.specs.declared.image.Report.{Report}
-use Rattle.am_base.specs.Lists.{Log, top_of, told_by}
-use Rattle.am_base.specs.Fronts.{is_held, is_satisfied, is_front, accept_front}
-use Rattle.am_meaning.specs.Laws.{AllSatisfied, IsGreatestFront, AcceptFrontIsGreatest, climb, climb_over, walk, AcceptFrontByWalking}
-use Rattle.am_base.proofs.Greatest.{split, range_passes, passes_range, IsGreatest, greatest_is}
+use Rattle.am_meaning.proofs.Words.{◌≡◌, ℕ, zero, suc, ◌+◌, ◌-◌, ◌<◌, ◌≤◌, Bool, true, false, ◌&&◌, nat_le, refl, sym, ap, ◌∙◌, inl, inr, arith, cases_lt}
+use Rattle.am_meaning.proofs.Words.{nat_tests, Report, Log, top_of, told_by, is_held, is_satisfied, is_front, accept_front, AllSatisfied, IsGreatestFront}
+use Rattle.am_meaning.proofs.Words.{AcceptFrontIsGreatest, climb, climb_over, walk, AcceptFrontByWalking, split, range_passes, passes_range, IsGreatest}
+use Rattle.am_meaning.proofs.Words.{greatest_is}
 
 -- as far up as each number in turn passes
 pub record IsClimb (passes : ℕ → Bool) (from more c : ℕ) : Type 0 where

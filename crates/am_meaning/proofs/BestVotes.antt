@@ -1,123 +1,55 @@
 -- The best vote is the greatest.
-use Rattle.std.proofs.lemmas.Bool.{lt-ltb}
-use Rattle.std.proofs.lemmas.Bool.{eq-eqb}
-use Rattle.std.proofs.lemmas.Bool.{ltb-true}
-use Rattle.std.proofs.lemmas.Bool.{eqb-true}
-use Rattle.std.proofs.Common.{◌≡◌, ℕ, zero, suc, ◌+◌, ◌*◌, ◌/◌, ◌%◌, ◌<◌, ◌≤◌, ◌⊎◌, Bool, true, false, ◌&&◌, ◌||◌, ◌==◌, nat_lt, Option, Some, None, refl, sym}
-use Rattle.std.proofs.Common.{ap, subst, map, ◌∙◌, inl, inr, arith}
-use Rattle.std.specs.List.{range_with_len}
-use Rattle.std.proofs.lemmas.Bool.{cases_lt}
-use Rattle.std.proofs.lemmas.Bool.Decides.{nat_tests}
-use Rattle.am_base.specs.declared.image.Vote.{Vote}
-use Rattle.am_base.specs.Names.{rank_of, name_lt}
-use Rattle.am_base.specs.Votes.{Shown, vote_lt, better_of, best_from, best_vote}
-use Rattle.am_meaning.specs.Laws.{IsBestVote, BestVoteIsGreatest}
-use Rattle.am_base.proofs.Greatest.{split}
+use Rattle.am_meaning.proofs.Words.{ltb-true, ◌≡◌, ℕ, zero, suc, ◌+◌, ◌*◌, ◌/◌, ◌%◌, ◌<◌, ◌≤◌, ◌⊎◌, Bool, true, false, ◌&&◌, ◌||◌, ◌==◌, nat_lt, Option, Some}
+use Rattle.am_meaning.proofs.Words.{None, refl, sym, ap, subst, map, ◌∙◌, inl, inr, arith, range_with_len, cases_lt, nat_tests, Vote, rank_of, name_lt, Shown}
+use Rattle.am_meaning.proofs.Words.{vote_lt, better_of, best_from, best_vote, IsBestVote, BestVoteIsGreatest, split}
 
--- ---- the order of votes, as facts
+-- ---- the order of votes
 
-abbrev Later : ℕ → ℕ → ℕ → ℕ → Type 0
-Later k t l u = (k < l) ⊎ ((k ≡ l) × (t < u))
+-- of three numbers, each of which counts before the next
+abbrev lt : ℕ → ℕ → ℕ → ℕ → ℕ → ℕ → Bool
+lt r k t s l u = nat_lt r s || ((r == s) && (nat_lt k l || ((k == l) && nat_lt t u)))
 
-abbrev Lower : ℕ → ℕ → ℕ → ℕ → ℕ → ℕ → Type 0
-Lower r k t s l u = (r < s) ⊎ ((r ≡ s) × Later k t l u)
-
-later_trans : (k t l u y w : ℕ) → Later k t l u → Later l u y w → Later k t y w
-later_trans k t l u y w (inl a) (inl b) = inl (omega arith)
-later_trans k t l u y w (inl a) (inr b) = let e = b.0 in inl (omega arith)
-later_trans k t l u y w (inr a) (inl b) = let e = a.0 in inl (omega arith)
-later_trans k t l u y w (inr a) (inr b) = let e = a.0 in let f = b.0 in let g = a.1 in let h = b.1 in inr (omega arith, omega arith)
-
-lower_trans : (r k t s l u x y w : ℕ) → Lower r k t s l u → Lower s l u x y w → Lower r k t x y w
-lower_trans r k t s l u x y w (inl a) (inl b) = inl (omega arith)
-lower_trans r k t s l u x y w (inl a) (inr b) = let e = b.0 in inl (omega arith)
-lower_trans r k t s l u x y w (inr a) (inl b) = let e = a.0 in inl (omega arith)
-lower_trans r k t s l u x y w (inr a) (inr b) = let e = a.0 in let f = b.0 in inr (omega arith, later_trans k t l u y w a.1 b.1)
+lt_trans : (r k t s l u x y w : ℕ) → lt r k t s l u ≡ true → lt s l u x y w ≡ true → lt r k t x y w ≡ true
+lt_trans r k t s l u x y w a b = grind (arith, nat_tests)
 
 -- what isn't above one is below whatever that is below
-later_under : (k t l u y w : ℕ) → ¬ (Later k t l u) → Later k t y w → Later l u y w
-later_under k t l u y w not_ (inl b) = elim (cases_lt k l) [ inl a ↦ absurd (not_ (inl a)) | inr a ↦ inl (omega arith) ]
-later_under k t l u y w not_ (inr b) =
-    elim (cases_lt k l) [
-      | inl a ↦ absurd (not_ (inl a))
-      | inr a ↦ elim (cases_lt l k) [
-        | inl c ↦ inl (omega arith)
-        | inr c ↦ elim (cases_lt t u) [ inl d ↦ absurd (not_ (inr (omega arith, d))) | inr d ↦ inr (omega arith, omega arith) ]
-      ]
-    ]
+lt_under : (r k t s l u x y w : ℕ) → lt r k t s l u ≡ false → lt r k t x y w ≡ true → lt s l u x y w ≡ true
+lt_under r k t s l u x y w a b = grind (arith, nat_tests)
 
-lower_under : (r k t s l u x y w : ℕ) → ¬ (Lower r k t s l u) → Lower r k t x y w → Lower s l u x y w
-lower_under r k t s l u x y w not_ (inl b) = elim (cases_lt r s) [ inl a ↦ absurd (not_ (inl a)) | inr a ↦ inl (omega arith) ]
-lower_under r k t s l u x y w not_ (inr b) =
-    elim (cases_lt r s) [
-      | inl a ↦ absurd (not_ (inl a))
-      | inr a ↦ elim (cases_lt s r) [
-        | inl c ↦ inl (omega arith)
-        | inr c ↦ (let same : r ≡ s = omega arith in inr (omega arith, later_under k t l u y w (λ p. not_ (inr (same, p))) b.1))
-      ]
-    ]
-
--- ---- the test
-
-tests_true : (p e q d x : Bool) → ((p || (e && q)) || ((e && d) && x)) ≡ true → (p ≡ true) ⊎ ((e ≡ true) × ((q ≡ true) ⊎ ((d ≡ true) × (x ≡ true))))
-tests_true true e q d x h = inl refl
-tests_true false true true d x h = inr (refl, inl refl)
-tests_true false true false true true h = inr (refl, inr (refl, refl))
-tests_true false true false true false h = absurd (cc)
-tests_true false true false false x h = absurd (cc)
-tests_true false false q d x h = absurd (cc)
-
-true_second : (p e q d x : Bool) → e ≡ true → (q ≡ true) ⊎ ((d ≡ true) × (x ≡ true)) → ((p || (e && q)) || ((e && d) && x)) ≡ true
-true_second true e q d x h k = refl
-true_second false e q d x h (inl a) = rw (h, a) refl
-true_second false e q d x h (inr a) = let y = a.0 in let z = a.1 in grind (arith, nat_tests)
-
-true_tests : (p e q d x : Bool) → (p ≡ true) ⊎ ((e ≡ true) × ((q ≡ true) ⊎ ((d ≡ true) × (x ≡ true)))) → ((p || (e && q)) || ((e && d) && x)) ≡ true
-true_tests p e q d x (inl h) = rw h refl
-true_tests p e q d x (inr h) = true_second p e q d x h.0 h.1
+lt_self : (r k t : ℕ) → lt r k t r k t ≡ false
+lt_self r k t = grind (arith, nat_tests)
 
 abbrev LowerVote : Vote → Vote → Type 0
-LowerVote a b = Lower a.view.round (rank_of a.view.by) a.top b.view.round (rank_of b.view.by) b.top
+LowerVote a b = lt a.view.round (rank_of a.view.by) a.top b.view.round (rank_of b.view.by) b.top ≡ true
 
-rank_one : (n m : ℕ) → n < 256 → m < 256 → rank_of n ≡ rank_of m → n ≡ m
-rank_one n m h k e = omega arith
+-- names are the same where their ranks are
+by_ranks : (r k t s l u n m : ℕ) → (n ≡ m → k ≡ l) → ((nat_lt r s || ((r == s) && nat_lt k l)) || (((r == s) && (n == m)) && nat_lt t u)) ≡ true
+    → lt r k t s l u ≡ true
+by_ranks r k t s l u n m same h = grind (arith, nat_tests)
+
+by_names : (r k t s l u n m : ℕ) → (k ≡ l → n ≡ m) → lt r k t s l u ≡ true
+    → ((nat_lt r s || ((r == s) && nat_lt k l)) || (((r == s) && (n == m)) && nat_lt t u)) ≡ true
+by_names r k t s l u n m same h = grind (arith, nat_tests)
 
 vote_lower : (a b : Vote) → vote_lt a b ≡ true → LowerVote a b
-vote_lower a b h = elim (tests_true (nat_lt a.view.round b.view.round) (a.view.round == b.view.round) (name_lt a.view.by b.view.by) (a.view.by == b.view.by)
-    (nat_lt a.top b.top) h) [
-      | inl p ↦ inl (ltb-true a.view.round b.view.round p)
-      | inr q ↦ inr (
-        eqb-true a.view.round b.view.round q.0,
-        elim q.1 [
-          | inl p ↦ inl (ltb-true (rank_of a.view.by) (rank_of b.view.by) p)
-          | inr x ↦ inr (ap (λ n. rank_of n) (eqb-true a.view.by b.view.by x.0), ltb-true a.top b.top x.1)
-        ],
-      )
-    ]
-
-later_vote : (a b : Vote) → a.view.by < 256 → b.view.by < 256 → Later (rank_of a.view.by) a.top (rank_of b.view.by) b.top
-    → (name_lt a.view.by b.view.by ≡ true) ⊎ (((a.view.by == b.view.by) ≡ true) × (nat_lt a.top b.top ≡ true))
-later_vote a b x y (inl h) = inl (lt-ltb (rank_of a.view.by) (rank_of b.view.by) h)
-later_vote a b x y (inr h) = inr (eq-eqb a.view.by b.view.by (rank_one a.view.by b.view.by x y h.0), lt-ltb a.top b.top h.1)
+vote_lower a b h = by_ranks a.view.round (rank_of a.view.by) a.top b.view.round (rank_of b.view.by) b.top a.view.by b.view.by (λ e. ap (λ n. rank_of n) e) h
 
 lower_vote : (a b : Vote) → a.view.by < 256 → b.view.by < 256 → LowerVote a b → vote_lt a b ≡ true
-lower_vote a b x y (inl h) = true_tests (nat_lt a.view.round b.view.round) (a.view.round == b.view.round) (name_lt a.view.by b.view.by) (a.view.by == b.view.by)
-    (nat_lt a.top b.top) (inl (lt-ltb a.view.round b.view.round h))
-lower_vote a b x y (inr h) = true_tests (nat_lt a.view.round b.view.round) (a.view.round == b.view.round) (name_lt a.view.by b.view.by) (a.view.by == b.view.by)
-    (nat_lt a.top b.top) (inr (eq-eqb a.view.round b.view.round h.0, later_vote a b x y h.1))
+lower_vote a b x y h = by_names a.view.round (rank_of a.view.by) a.top b.view.round (rank_of b.view.by) b.top a.view.by b.view.by (λ e. omega arith) h
 
 not_lower : (a b : Vote) → ¬ (LowerVote a b) → vote_lt a b ≡ false
 not_lower a b h = split (vote_lt a b) (λ t. absurd (h (vote_lower a b t))) (λ f. f)
 
 lower_irrefl : (a : Vote) → ¬ (LowerVote a a)
-lower_irrefl a (inl h) = omega arith
-lower_irrefl a (inr h) = elim h.1 [ inl k ↦ omega arith | inr k ↦ (let l = k.1 in omega arith) ]
+lower_irrefl a h = absurd (let z = lt_self a.view.round (rank_of a.view.by) a.top in cc)
 
 votes_trans : (a b c : Vote) → LowerVote a b → LowerVote b c → LowerVote a c
-votes_trans a b c h k = lower_trans a.view.round (rank_of a.view.by) a.top b.view.round (rank_of b.view.by) b.top c.view.round (rank_of c.view.by) c.top h k
+votes_trans a b c h k = lt_trans a.view.round (rank_of a.view.by) a.top b.view.round (rank_of b.view.by) b.top c.view.round (rank_of c.view.by) c.top h k
 
 votes_under : (a b c : Vote) → ¬ (LowerVote a b) → LowerVote a c → LowerVote b c
-votes_under a b c h k = lower_under a.view.round (rank_of a.view.by) a.top b.view.round (rank_of b.view.by) b.top c.view.round (rank_of c.view.by) c.top h k
+votes_under a b c h k = split (lt a.view.round (rank_of a.view.by) a.top b.view.round (rank_of b.view.by) b.top)
+    (λ t. absurd (h t))
+    (λ f. lt_under a.view.round (rank_of a.view.by) a.top b.view.round (rank_of b.view.by) b.top c.view.round (rank_of c.view.by) c.top f k)
 
 -- ---- names by their rank
 

@@ -1,25 +1,9 @@
 -- Bytes that are heard.
-use Rattle.std.proofs.Common.{◌≡◌, ℕ, ◌+◌, ◌<◌, ◌≤◌, nat_lt, nat_le, List, length, take, Ok, Err, refl, ap, ◌∙◌, arith}
-use Rattle.std.proofs.lemmas.Bool.Decides.{nat_tests}
-use Rattle.std.proofs.lemmas.List.{take_all}
-use Rattle.am_base.specs.declared.entry.Entry.{Entry}
-use Rattle.am_base.specs.declared.entry.Entry.TheVariants.{Data}
-use Rattle.am_base.specs.declared.event.NodeEvent.TheVariants.{Hear}
-use Rattle.am_packet.specs.declared.packet.Packet.{Packet}
+use Rattle.am_meaning.proofs.Words.{◌≡◌, ℕ, ◌+◌, ◌<◌, ◌≤◌, nat_lt, nat_le, List, length, take, Ok, Err, refl, ap, ◌∙◌, arith, nat_tests, take_all, Entry, Data}
+use Rattle.am_meaning.proofs.Words.{Hear, Packet, Short, BadLength, IsPacket, HasParts, spelling, fields_of, entry_bytes, Read, reading, length-rows_bytes}
+use Rattle.am_meaning.proofs.Words.{length-spelling, spelling_again, part_refused, Node, finish, read_row, row, step, hear, hear_refusal, entry_length}
+use Rattle.am_meaning.proofs.Words.{packet_length, SpellingIsHeard, CutIsHeard, split}
 use Rattle.am_packet.specs.declared.packet.Packet.TheVariants as packets
-use Rattle.am_packet.specs.declared.refusal.PacketRefusal.TheVariants.{Short, BadLength}
-use Rattle.am_packet.specs.Limits.{IsPacket, HasParts}
-use Rattle.am_packet.specs.Spelling.{spelling, fields_of, entry_bytes}
-use Rattle.am_packet.specs.Reading.{Read, reading}
-use Rattle.am_packet.proofs.Lengths.{length-rows_bytes}
-use Rattle.am_packet.proofs.Again.{length-spelling, spelling_again}
-use Rattle.am_packet.proofs.Whole.{part_refused}
-use Rattle.am_model.specs.Node.{Node}
-use Rattle.am_model.specs.Emit.{finish}
-use Rattle.am_model.specs.Step.{read_row, row, step, hear, hear_refusal}
-use Rattle.am_model.specs.Lengths.{entry_length, packet_length}
-use Rattle.am_meaning.specs.Laws.{SpellingIsHeard, CutIsHeard}
-use Rattle.am_base.proofs.Greatest.{split}
 
 -- bytes, by what is read of them
 by_reading : (m : Node) (bytes : List ℕ) (read : Read Packet) → reading bytes ≡ read → step m (Hear bytes) ≡ finish m (read_row m read)

@@ -1,39 +1,22 @@
 -- When a send is held.
-use Rattle.am_base.proofs.Greatest.{and_both}
-use Rattle.std.proofs.Common.{◌≡◌, ℕ, ◌+◌, Bool, true, false, not, if◌then◌else◌, nat_lt, nat_le, List, Option, Some, None, refl, sym, ap, ◌∙◌, arith}
-use Rattle.std.proofs.lemmas.Bool.Decides.{nat_tests}
-use Rattle.am_base.specs.declared.image.Report.{Report}
-use Rattle.am_base.specs.declared.name.Stamp.{Stamp}
-use Rattle.am_base.specs.declared.entry.Entry.TheVariants.{Data}
-use Rattle.am_base.specs.declared.outcome.Outcome.{Outcome}
+use Rattle.am_meaning.proofs.Words.{and_both, ◌≡◌, ℕ, ◌+◌, Bool, true, false, not, if◌then◌else◌, nat_lt, nat_le, List, Option, Some, None, refl, sym, ap, ◌∙◌}
+use Rattle.am_meaning.proofs.Words.{arith, nat_tests, Report, Stamp, Data, Outcome, Log, row_of, told_by, top_of, with_entry, CoreState, accept, pass_over}
+use Rattle.am_meaning.proofs.Words.{own_report, tell, go_on, let_go, OwnSend, Node, top, report_fits, has_room, is_sequencer, only_name, waiting, push_entry}
+use Rattle.am_meaning.proofs.Words.{with_report, Plan, quiet, polling, and_telling, hold_of, finish, refresh, lead, advance, accepted_at, settle_at}
+use Rattle.am_meaning.proofs.Words.{settle_waiting, settle, refresh_at_end, row_at, is_unknown, take_report, number_data, answer_request, request_row}
+use Rattle.am_meaning.proofs.Words.{hears_in_view, hears_as_sequencer, hear_row, hear, send_packet, IsNextSend, IsHeld, HeldExactly, IsTurnedDown, elsewhere}
+use Rattle.am_meaning.proofs.Words.{stranger, unfit, again, early, IsAnswered, numbered, held, turned_down, SendsAnswered, split}
 use Rattle.am_base.specs.declared.outcome.Outcome.TheVariants as said
-use Rattle.am_base.specs.Lists.{Log, row_of, told_by, top_of, with_entry}
-use Rattle.am_state.specs.Cores.{CoreState, accept, pass_over}
-use Rattle.am_state.specs.Refresh.{own_report, tell, go_on, let_go}
-use Rattle.am_state.specs.declared.sender.OwnSend.{OwnSend}
-use Rattle.am_model.specs.Node.{Node, top, report_fits, has_room, is_sequencer, only_name, waiting, push_entry, with_report}
-use Rattle.am_model.specs.Emit.{Plan, quiet, polling, and_telling, hold_of, finish}
-use Rattle.am_model.specs.Refresh.{refresh, lead, advance, accepted_at, settle_at, settle_waiting, settle, refresh_at_end}
-use Rattle.am_model.specs.Sequencing.{row_at, is_unknown, take_report, number_data, answer_request, request_row}
-use Rattle.am_model.specs.Hearing.{hears_in_view, hears_as_sequencer, hear_row}
-use Rattle.am_model.specs.Step.{hear}
-use Rattle.am_meaning.specs.Laws.{send_packet, IsNextSend, IsHeld, HeldExactly, IsTurnedDown, elsewhere, stranger, unfit, again, early, IsAnswered, numbered}
-use Rattle.am_meaning.specs.Laws.{held, turned_down, SendsAnswered}
-use Rattle.am_base.proofs.Greatest.{split}
-use Rattle.am_meaning.proofs.Refreshes.{refresh_twice}
+use Rattle.am_meaning.proofs.{Refreshes.refresh_twice}
 
 -- the refresh leaves the list
 lead_log : (m : Node) → (lead m).core.log ≡ m.core.log
 unfolding lead own_report tell go_on let_go accept pass_over
 lead_log m = refl
 
-advance_log : (m : Node) → (advance m).core.log ≡ m.core.log
-unfolding accept pass_over
-advance_log m = refl
-
 refresh_log : (m : Node) → (refresh m).core.log ≡ m.core.log
-unfolding refresh
-refresh_log m = split (is_sequencer m) (λ t. rw t (lead_log m)) (λ f. rw f (advance_log m))
+unfolding refresh accept pass_over
+refresh_log m = split (is_sequencer m) (λ t. rw t (lead_log m)) (λ f. rw f (refl))
 
 same_row : (m : Node) (s : ℕ) (report : Report) → row_at (take_report m s report) s ≡ row_at m s
 same_row m s report = ap (λ log. row_of (told_by log) s) (refresh_log (with_report m s report))

@@ -1,3 +1,4 @@
+pub mod Words
 pub mod AcceptFronts
 pub mod Refreshes
 pub mod BestVotes

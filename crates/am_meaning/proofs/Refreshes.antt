@@ -1,19 +1,10 @@
 -- A second refresh in a row changes nothing.
-use Rattle.std.proofs.Common.{◌≡◌, ℕ, ◌-◌, ◌≤◌, max, min, true, ◌==◌, nat_lt, nat_le, if◌then◌else◌, Option, Some, None, refl, sym, ap, subst, ◌∙◌, inl, inr}
-use Rattle.std.proofs.Common.{arith}
-use Rattle.std.proofs.lemmas.Bool.{cases_lt}
-use Rattle.std.proofs.lemmas.Bool.Decides.{nat_tests}
-use Rattle.am_base.specs.declared.image.Report.{Report}
-use Rattle.am_base.specs.Lists.{Log, top_of, told_by}
-use Rattle.am_base.specs.Fronts.{is_held, is_satisfied, accept_front}
+use Rattle.am_meaning.proofs.Words.{◌≡◌, ℕ, ◌-◌, ◌≤◌, max, min, true, ◌==◌, nat_lt, nat_le, if◌then◌else◌, Option, Some, None, refl, sym, ap, subst, ◌∙◌, inl}
+use Rattle.am_meaning.proofs.Words.{inr, arith, cases_lt, nat_tests, Report, Log, top_of, told_by, is_held, is_satisfied, accept_front, CoreState, accept}
+use Rattle.am_meaning.proofs.Words.{pass_over, raise_report, least_taken, base_after, own_report, tell, go_on, let_go, Node, top, is_sequencer, report_of}
+use Rattle.am_meaning.proofs.Words.{set_at, with_report, concerned_names, advance, lead, refresh, IsGreatestFront, RefreshOnce, split, and_both}
 use Rattle.am_state.specs.Cores as cores
-use Rattle.am_state.specs.Cores.{CoreState, accept, pass_over}
-use Rattle.am_state.specs.Reports.{raise_report, least_taken}
-use Rattle.am_state.specs.Refresh.{base_after, own_report, tell, go_on, let_go}
-use Rattle.am_model.specs.Node.{Node, top, is_sequencer, report_of, set_at, with_report}
-use Rattle.am_model.specs.Refresh.{concerned_names, advance, lead, refresh}
-use Rattle.am_meaning.specs.Laws.{IsGreatestFront, RefreshOnce}
-use Rattle.am_base.proofs.Greatest.{split, and_both}
+use Rattle.am_state.proofs.Refreshes.{base_again as trim_again}
 use Rattle.am_meaning.proofs.AcceptFronts.{above_view, below_view, one_front, accept_front_is}
 
 -- ---- the parts of a refresh
@@ -48,10 +39,6 @@ pass_again k a s = split (nat_lt k (s - 1))
     (λ u. rw u (omega arith))
     (λ u. rw u refl)))
     (λ f. rw (f, f) refl)
-
-trim_again : (least : Option ℕ) (b : ℕ) → base_after least (base_after least b) ≡ base_after least b
-trim_again None b = refl
-trim_again (Some n) b = omega arith
 
 -- ---- reports
 
@@ -132,9 +119,6 @@ record IsFresh (m : Node) : Type 0 where
   passed : passed_over m.core.taken m.core.acc m.core.start ≡ m.core.taken
   base : base_after (least_taken m.reports (concerned_names m)) m.core.base ≡ m.core.base
 
-tell_again : (m : Node) → accept_front m.reports m.core.log m.core.acc ≡ m.core.told → find_front m ≡ m
-tell_again m e = λ i. record m { core = record (m.core) { told = e i } }
-
 advanced_again : (c : CoreState) → known_accepted c ≡ c.acc → passed_over c.taken c.acc c.start ≡ c.taken → cores.advance c ≡ c
 unfolding accept pass_over
 advanced_again c e f = (λ i. record c { acc = e i; taken = passed_over c.taken (e i) c.start }) ∙ (λ i. record c { taken = f i })
@@ -150,7 +134,7 @@ lead_fresh m h =
     let self = self_again m h.self in
     lead_is m
     ∙ ap (λ n. trim (report_self (advance (find_front n)))) self
-    ∙ ap (λ n. trim (report_self (advance n))) (tell_again m h.told)
+    ∙ ap (λ n. trim (report_self (advance n))) (λ i. record m { core = record (m.core) { told = h.told i } })
     ∙ ap (λ n. trim (report_self n)) (advance_again m h.known h.passed)
     ∙ ap trim self
     ∙ base_again m h.base
@@ -173,9 +157,6 @@ leads_fresh m =
       base = trim_again (least_taken (report_self n).reports (concerned_names (report_self n))) m.core.base;
     }
 
-is_fresh : (m : Node) → IsFresh (lead m)
-is_fresh m = subst IsFresh (sym (lead_is m)) (leads_fresh m)
-
 -- it leads after it as before
 leads : (m : Node) → is_sequencer (lead m) ≡ is_sequencer m
 unfolding accept pass_over
@@ -192,5 +173,5 @@ advance_twice m = advance_again (advance m) (known_again m.core.acc m.core.told 
 pub refresh_twice : RefreshOnce
 unfolding refresh
 refresh_twice m = split (is_sequencer m)
-    (λ t. rw t (rw (leads m ∙ t) (lead_fresh (lead m) (is_fresh m))))
+    (λ t. rw t (rw (leads m ∙ t) (lead_fresh (lead m) (subst IsFresh (sym (lead_is m)) (leads_fresh m)))))
     (λ f. rw f (rw (follows m ∙ f) (advance_twice m)))

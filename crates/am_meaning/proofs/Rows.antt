@@ -1,26 +1,10 @@
 -- What becomes of a row.
-use Rattle.am_base.specs.declared.entry.GroupView.{GroupView}
-use Rattle.std.proofs.lemmas.Bool.{eqb-false, eq-eqb, ltb-true, eqb-true}
-use Rattle.std.proofs.Common.{◌≡◌, ◌≢◌, ℕ, ◌+◌, ◌<◌, Bool, true, false, ◌&&◌, ◌||◌, ◌==◌, not, nat_lt, List, [], ◌∷◌, length, get_or, refl, sym, ap, subst, ◌∙◌}
-use Rattle.std.proofs.Common.{inl, inr, arith}
-use Rattle.std.specs.Prelude.{slice_index, slice_index_or}
-use Rattle.std.specs.List.{list_all}
-use Rattle.std.proofs.lemmas.List.Folds.{list_all_at}
-use Rattle.std.proofs.Math.ListN.{get_or-map}
-use Rattle.std.proofs.lemmas.Bool.{cases_lt}
-use Rattle.std.proofs.lemmas.Bool.Decides.{nat_tests}
-use Rattle.std.proofs.lemmas.List.{get_or_past, get_or-set_other}
-use Rattle.std.proofs.lemmas.Grind.{get_or-set_at}
-use Rattle.am_base.specs.declared.image.Row.{Row}
-use Rattle.am_base.specs.declared.image.Image.{Image}
-use Rattle.am_base.specs.declared.entry.Entry.TheVariants.{Data, Join, Leave, View}
-use Rattle.am_base.specs.Stamps.{stamp_eq, no_stamp}
-use Rattle.am_base.specs.Names.{place_of, life_of, has}
-use Rattle.am_base.specs.Lists.{blank_row, is_blank_row, is_blank, at_place, row_of, member_life, members_of, with_row, row_after_view, after, fits, fold}
-use Rattle.am_base.specs.Lists.{AllFit}
-use Rattle.am_base.proofs.Places.{get_or-by_place}
-use Rattle.am_meaning.specs.Laws.{RowStep, RowsGoOn, DataGoesOn, IsSameMembership, GoesOn, MembershipsGoOn}
-use Rattle.am_base.proofs.Greatest.{split, and_both}
+use Rattle.am_meaning.proofs.Words.{GroupView, eqb-false, eq-eqb, ltb-true, eqb-true, ◌≡◌, ◌≢◌, ℕ, ◌+◌, ◌<◌, Bool, true, false, ◌&&◌, ◌||◌, ◌==◌, not, nat_lt}
+use Rattle.am_meaning.proofs.Words.{List, [], ◌∷◌, length, get_or, refl, sym, ap, subst, ◌∙◌, inl, inr, arith, slice_index, slice_index_or, list_all}
+use Rattle.am_meaning.proofs.Words.{list_all_at, get_or-map, cases_lt, nat_tests, get_or_past, get_or-set_other, get_or-set_at, Row, Image, Data, Join, Leave}
+use Rattle.am_meaning.proofs.Words.{View, stamp_eq, no_stamp, place_of, life_of, has, blank_row, is_blank_row, is_blank, at_place, row_of, member_life}
+use Rattle.am_meaning.proofs.Words.{members_of, with_row, row_after_view, after, fits, fold, AllFit, get_or-by_place, RowStep, RowsGoOn, DataGoesOn}
+use Rattle.am_meaning.proofs.Words.{IsSameMembership, GoesOn, MembershipsGoOn, split, and_both}
 
 -- ---- rows by place
 
@@ -166,10 +150,7 @@ viewed_row number life r = split (nat_lt 0 (member_life r) && not (member_life r
     (λ f. rw f (inl (inl refl)))
 
 last_false : (a b c d : Bool) → d ≡ false → (a && (b && (c && d))) ≡ false
-last_false true true true d h = h
-last_false true true false d h = refl
-last_false true false c d h = refl
-last_false false b c d h = refl
+last_false a b c d h = grind arith
 
 not_blank : (image : Image) (name : ℕ) → 0 < (at_place image name).joined → is_blank image ≡ false
 not_blank image name j =
@@ -219,12 +200,9 @@ goes_on_trans q r s (inl a) (inr b) = let l = a.life in inr (omega arith)
 goes_on_trans q r s (inr a) (inl b) = let l = b.life in inr (omega arith)
 goes_on_trans q r s (inr a) (inr b) = inr (omega arith)
 
-goes_on_same : (r : Row) → GoesOn r r
-goes_on_same r = inl (record { life = refl; joined = refl; last = omega arith; left = λ h. refl })
-
 pub memberships_go_on : MembershipsGoOn
 unfolding fold AllFit
-memberships_go_on image number [] name n fit j = goes_on_same (at_place image name)
+memberships_go_on image number [] name n fit j = inl (record { life = refl; joined = refl; last = omega arith; left = λ h. refl })
 memberships_go_on image number (e ∷ es) name n fit j =
     let s = rows_go_on image number e name fit.0 j in
     let k = still_joined number (at_place image name) (at_place (after image number e) name) n j s in

@@ -1,5 +1,5 @@
 -- Ballots, on the kept end of a list as on all of it.
-use Rattle.am_model.proofs.EndWords.{Entry, ◌≡◌, ℕ, ◌+◌, ◌-◌, max, min, Bool, true, false, not, ◌&&◌, ◌==◌, nat_lt, if◌then◌else◌, List, [], Option, Some, None}
+use Rattle.am_model.proofs.EndWords.{[], Entry, ◌≡◌, ℕ, ◌+◌, ◌-◌, max, min, Bool, true, false, not, ◌&&◌, ◌==◌, nat_lt, if◌then◌else◌, List, Option, Some, None}
 use Rattle.am_model.proofs.EndWords.{unwrap_or, refl, ◌∙◌, ap, Vote, Stamp, View, Outcome, has, size, minus, without_name, names_of, Shown, best_vote, Log}
 use Rattle.am_model.proofs.EndWords.{members_of, with_entry, least_of, Letter, with_letter, Node, Ballot, top, image_of, those, is_member, push_entry}
 use Rattle.am_model.proofs.EndWords.{only_name, invite_of, result_of, Verdict, with_promise, best_of, has_voted, is_waited_for, left_in, taken_by, ends}

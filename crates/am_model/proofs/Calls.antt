@@ -1,18 +1,16 @@
 -- Calls and ticks, on the kept end of a list as on all of it.
-use Rattle.am_model.proofs.EndWords.{◌≡◌, ℕ, ◌+◌, ◌-◌, ◌<◌, true, not, ◌&&◌, ◌||◌, ◌==◌, nat_lt, nat_le, if◌then◌else◌, List, Option, Some, None, refl, sym, ◌∙◌}
-use Rattle.am_model.proofs.EndWords.{ap, subst, arith, is_some, nat_tests, Entry, Data, Leave, Outcome, without_name, size, nobody, stamp_eq, Log, members_of}
-use Rattle.am_model.proofs.EndWords.{row_of, entry_at, with_entry, split, Packet, Letter, with_letter, OwnSend, Status, Node, Ballot, top, image_of, view, others}
-use Rattle.am_model.proofs.EndWords.{only_name, lowest_or_first, those, acts, is_member, is_sequencer, has_room, waiting, unsettled_count, push_entry, Plan}
-use Rattle.am_model.proofs.EndWords.{bcast_of, join_ask_of, leave_ask_of, invite_of, fetch_of, result_of, everywhere_else, would_emit, hand_in}
-use Rattle.am_model.proofs.EndWords.{number_send, emit, with_queued, queue, send_row, done_row, give_out, take_row, ask_to_join, join_by, join_row, state_by}
-use Rattle.am_model.proofs.EndWords.{state_row, go, is_unfinished, leave_now, leave_by, leave_row, ask_of, ask_row, tick_ballot, tick_promised, tick_member}
-use Rattle.am_model.proofs.EndWords.{put_off, behind_view, viewed_by, and_result, tick_sequencer, tick_acting, tick_with, tick_by, tick_row, with_log}
-use Rattle.am_model.specs.Emit.{hand_over_of}
+use Rattle.am_model.proofs.EndWords.{◌≡◌, ℕ, ◌+◌, ◌-◌, ◌<◌, true, not, ◌&&◌, ◌||◌, ◌==◌, nat_lt, nat_le, if◌then◌else◌, List, Option, Some, None, refl, sym}
+use Rattle.am_model.proofs.EndWords.{◌∙◌, ap, subst, arith, is_some, nat_tests, Entry, Data, Leave, Outcome, without_name, size, nobody, stamp_eq, Log}
+use Rattle.am_model.proofs.EndWords.{members_of, row_of, entry_at, with_entry, split, Packet, Letter, with_letter, OwnSend, Status, Node, Ballot, top, image_of}
+use Rattle.am_model.proofs.EndWords.{view, others, only_name, lowest_or_first, those, acts, is_member, is_sequencer, has_room, waiting, unsettled_count}
+use Rattle.am_model.proofs.EndWords.{push_entry, Plan, bcast_of, join_ask_of, leave_ask_of, invite_of, fetch_of, result_of, everywhere_else, would_emit}
+use Rattle.am_model.proofs.EndWords.{hand_in, number_send, emit, with_queued, queue, give_out, take_row, ask_to_join, join_by, state_by, go, is_unfinished}
+use Rattle.am_model.proofs.EndWords.{leave_now, leave_by, ask_of, tick_ballot, tick_promised, tick_member, put_off, behind_view, viewed_by, and_result}
+use Rattle.am_model.proofs.EndWords.{tick_sequencer, tick_acting, tick_with, tick_by, with_log, hand_over_of}
 use Rattle.am_base.specs.declared.outcome.Outcome.TheVariants as said
-use Rattle.am_state.specs.Sends as own
 use Rattle.am_model.specs.declared.status.Status.TheVariants as status
-use Rattle.am_model.proofs.Plans.{Alike, same_others, says_request, says_spread, says_ack, says_leave_ask, says_fetch, alike_if, alike_case, alike_quiet}
-use Rattle.am_model.proofs.Plans.{alike, alike_with, alike_telling, alike_and, alike_numbering}
+use Rattle.am_model.proofs.Plans.{Alike, same_others, says_request, says_spread, says_ack, says_leave_ask, says_fetch, alike_if, alike_case, alike_quiet, alike}
+use Rattle.am_model.proofs.Plans.{alike_with, alike_telling, alike_and, alike_numbering}
 use Rattle.am_model.proofs.Nodes.{Keeps, reads, same_entry, same_sequencer, keeps_pushed}
 
 -- ---- what a node tells
@@ -54,14 +52,6 @@ alike_queue all m body h =
     alike_case (is_some (waiting m)) _ _ _ _ (λ t. alike_quiet all (with_queued m body) _ _ k refl)
     (λ f. alike_emit all (with_queued m body) (waiting (with_queued m body)) _ _ k refl)
 
-pub alike_send : (all : Log) (m : Node) (body : List ℕ) → Keeps all m → Alike (send_row (with_log m all) body) (send_row m body)
-unfolding send_row
-alike_send all m body h = search (alike, alike_queue)
-
-pub alike_done : (all : Log) (m : Node) (req : ℕ) → Keeps all m → Alike (done_row (with_log m all) req) (done_row m req)
-unfolding done_row
-alike_done all m req h = alike_quiet all (record m { sends = own.collect req m.sends }) _ _ (record { kept = h.kept; order = h.order }) refl
-
 -- ---- what is accepted
 
 pub alike_given : (all : Log) (m : Node) (e : Option Entry) → Keeps all m → m.core.taken < m.core.acc → Alike (give_out (with_log m all) e) (give_out m e)
@@ -93,17 +83,9 @@ alike_join_by all m status.Stranger h =
     alike_ask_to_join all (record m { status = status.Asking }) said.Asked (record { kept = h.kept; order = h.order })
 alike_join_by all m _ h = alike_quiet all m _ _ h refl
 
-pub alike_join : (all : Log) (m : Node) → Keeps all m → Alike (join_row (with_log m all)) (join_row m)
-unfolding join_row
-alike_join all m h = alike_join_by all m m.status h
-
 pub alike_state_by : (all : Log) (m : Node) (s : Status) → Keeps all m → Alike (state_by (with_log m all) s) (state_by m s)
 alike_state_by all m status.Member h = search alike
 alike_state_by all m _ h = alike_quiet all m _ _ h refl
-
-pub alike_state : (all : Log) (m : Node) → Keeps all m → Alike (state_row (with_log m all)) (state_row m)
-unfolding state_row
-alike_state all m h = alike_state_by all m m.status h
 
 -- the last member leaves
 abbrev last_leave : Plan → Plan
@@ -153,19 +135,11 @@ pub alike_leave_by : (all : Log) (m : Node) (s : Status) → Keeps all m → Ali
 alike_leave_by all m status.Member h = alike_leave_now all m h
 alike_leave_by all m _ h = alike_quiet all m _ _ h refl
 
-pub alike_leave : (all : Log) (m : Node) → Keeps all m → Alike (leave_row (with_log m all)) (leave_row m)
-unfolding leave_row
-alike_leave all m h = alike_leave_by all m m.status h
-
 -- ---- ballots
 
 pub alike_ask_of : (all : Log) (m : Node) (round : ℕ) (b : Option Ballot) → Keeps all m → Alike (ask_of (with_log m all) round b) (ask_of m round b)
 alike_ask_of all m round None h = alike_quiet all m _ _ h refl
 alike_ask_of all m round (Some b) h = search alike
-
-pub alike_ask : (all : Log) (m : Node) (round : ℕ) → Keeps all m → Alike (ask_row (with_log m all) round) (ask_row m round)
-unfolding ask_row
-alike_ask all m round h = alike_ask_of all m round m.ballot h
 
 -- ---- the tick
 
@@ -234,7 +208,3 @@ alike_tick_by all m status.Stranger h = alike_quiet all m _ _ h refl
 alike_tick_by all m status.Asking h = alike_ask_to_join all m said.Ticked h
 alike_tick_by all m status.Member h = alike_tick_with all m m.ballot h
 alike_tick_by all m status.Departed h = alike_quiet all m _ _ h refl
-
-pub alike_tick : (all : Log) (m : Node) → Keeps all m → Alike (tick_row (with_log m all)) (tick_row m)
-unfolding tick_row
-alike_tick all m h = alike_tick_by all m m.status h

@@ -27,7 +27,7 @@ pub use Rattle.am_model.specs.{Refresh.settle_waiting, declared.status.Status.Th
 pub use Rattle.am_model.specs.Node.{Node, Ballot, top, image_of, those, is_member, push_entry, only_name, view, others, lowest_or_first, acts, is_sequencer}
 pub use Rattle.am_model.specs.Node.{has_room, waiting, unsettled_count, has_own_leave, is_within_bound, trim_up_to, entries_above, report_fits, with_report}
 pub use Rattle.am_model.specs.Emit.{invite_of, result_of, Plan, bcast_of, join_ask_of, leave_ask_of, fetch_of, ack_of, nack_of, piece_of}
-pub use Rattle.am_model.specs.Emit.{put_all, Step, quiet, telling, polling, and_telling, and_where, numbering, request_of, spread_of, hold_of, welcome_of}
+pub use Rattle.am_model.specs.Emit.{Step, quiet, telling, polling, and_telling, and_where, numbering, request_of, spread_of, hold_of, welcome_of}
 pub use Rattle.am_model.specs.Emit.{with_accept, order_of, gone_of, entries_to_serve}
 pub use Rattle.am_model.specs.Ballots.{Verdict, with_promise, has_voted, is_waited_for, left_in, taken_by, ends, restart_reports, decide_view, trim_for}
 pub use Rattle.am_model.specs.Ballots.{with_result, with_fetch, verdict_plan, next_stamp, new_ballot, with_vote, newly_needed, without_voter, vote_of}
@@ -40,7 +40,7 @@ pub use Rattle.am_model.specs.Ticks.{tick_with, tick_by}
 pub use Rattle.am_model.specs.Sequencing.{if_risen, row_at, is_unknown, take_report, number_data, answer_request, serve, serve_again}
 pub use Rattle.am_model.specs.Receiving.{body_of, bodies_after, is_view, with_noted, acknowledges, store_fitting, store, receive_entry, data_of, answer_hold}
 pub use Rattle.am_model.specs.Joining.{with_admitted, number_join, asks_to_join, begin_list, ask_next, all_stored, may_go, and_gone, asks_to_leave}
-unfoldable pub use Rattle.am_model.specs.{Emit.finish, Ballots.best_of, Ballots.decide, Ballots.begin, Ballots.keep_vote, Ballots.give_up, Resets.invite_row}
+unfoldable pub use Rattle.am_model.specs.{Emit.put_all, Emit.finish, Ballots.best_of, Ballots.decide, Ballots.begin, Ballots.keep_vote, Ballots.give_up, Resets.invite_row}
 unfoldable pub use Rattle.am_model.specs.{Resets.vote_row, Resets.fetch_row, Resets.piece_row, Resets.result_row, Ticks.tick_row}
 unfoldable pub use Rattle.am_model.specs.{Sequencing.request_row, Sequencing.ack_row, Sequencing.nack_row, Receiving.spread_row, Receiving.bcast_row}
 unfoldable pub use Rattle.am_model.specs.{Receiving.order_row, Receiving.accept_row, Receiving.hold_row, Hearing.hear_row, Step.row, Step.step, Refresh.lead}
@@ -49,3 +49,9 @@ unfoldable pub use Rattle.am_model.specs.{Joining.leave_ask_row, Joining.gone_ro
 unfoldable pub use Rattle.am_model.specs.Calls.{reset_row, give_up_row, everywhere_else, send_row, done_row, take_row, join_row, state_row, leave_row}
 unfoldable pub use Rattle.am_model.specs.Calls.{ask_row}
 pub use Rattle.am_model.specs.Order.{StepsKeepOrder, IsOrdered}
+pub use Rattle.std.proofs.lemmas.List.{length-take}
+pub use Rattle.am_model.specs.Emit.{tells_accepted, accept_of}
+pub use Rattle.std.proofs.lemmas.List.Edits.{length-insert}
+pub use Rattle.am_packet.specs.Kinds.{kind_of}
+pub use Rattle.am_packet.specs.Boxes.{letter_to, place_for}
+pub use Rattle.am_model.specs.Emit.{hand_over_of}

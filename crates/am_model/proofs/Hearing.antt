@@ -1,27 +1,30 @@
 -- What a member does with packets, and a whole step, on the kept end of a list as on all of it.
-use Rattle.am_base.specs.declared.entry.GroupView.{GroupView}
-use Rattle.am_model.proofs.EndWords.{◌≡◌, ℕ, ◌+◌, ◌≤◌, max, Bool, true, false, not, ◌&&◌, ◌||◌, ◌==◌, nat_lt, nat_le, List, [], length, take, Option, Some}
-use Rattle.am_model.proofs.EndWords.{None, refl, sym, ap, subst, arith, Ok, Err, list_any, nat_tests, Vote, Stamp, Entry, View, Outcome, NodeEvent}
-use Rattle.am_model.proofs.EndWords.{without_name, names_of, stamp_lt, stamp_eq, Log, fits, row_of, members_of, with_entry, end-self, Packet, Read, reading}
-use Rattle.am_model.proofs.EndWords.{OwnSend, is_of, keep_body, Node, Ballot, image_of, view, only_name, is_member, has_own_leave, is_within_bound, waiting}
-use Rattle.am_model.proofs.EndWords.{push_entry, trim_up_to, Plan, ack_of, nack_of, fetch_of, piece_of, put_all, if_risen, spread_row, body_of, bodies_after}
-use Rattle.am_model.proofs.EndWords.{is_view, with_noted, acknowledges, store_fitting, store, receive_entry, bcast_row, data_of, order_row, accept_row}
-use Rattle.am_model.proofs.EndWords.{answer_hold, hold_row, with_promise, vote_of, invite_row, take_vote, vote_row, serve_pieces, fetch_row, is_view_past}
-use Rattle.am_model.proofs.EndWords.{push_fetched, catch_up, decide_anew, fetches_from, piece_promised, piece_for, piece_row, hears_result, result_row}
-use Rattle.am_model.proofs.EndWords.{reset_row, hears_member, hears_in_view, hears_as_sequencer, hears_sequencer, where_heard, passes, heard_row, hear_row}
-use Rattle.am_model.proofs.EndWords.{read_row, row, step, with_log, StepsAlike, EndsStepAlike, StepsKeepOrder}
+use Rattle.am_model.proofs.EndWords.{[], ◌≡◌, ℕ, ◌+◌, ◌≤◌, max, Bool, true, false, not, ◌&&◌, ◌||◌, ◌==◌, nat_lt, nat_le, List, length, take, Option, Some, None}
+use Rattle.am_model.proofs.EndWords.{refl, sym, ap, subst, arith, Ok, Err, list_any, nat_tests, Vote, Stamp, Entry, View, Outcome, NodeEvent, without_name}
+use Rattle.am_model.proofs.EndWords.{names_of, stamp_lt, stamp_eq, Log, fits, row_of, members_of, with_entry, end-self, Packet, Read, reading, OwnSend, is_of}
+use Rattle.am_model.proofs.EndWords.{keep_body, Node, Ballot, image_of, view, only_name, is_member, has_own_leave, is_within_bound, waiting, push_entry}
+use Rattle.am_model.proofs.EndWords.{trim_up_to, Plan, ack_of, nack_of, fetch_of, piece_of, put_all, if_risen, spread_row, body_of, bodies_after, is_view}
+use Rattle.am_model.proofs.EndWords.{with_noted, acknowledges, store_fitting, store, receive_entry, bcast_row, data_of, order_row, accept_row, answer_hold}
+use Rattle.am_model.proofs.EndWords.{hold_row, with_promise, vote_of, invite_row, take_vote, vote_row, serve_pieces, fetch_row, is_view_past, push_fetched}
+use Rattle.am_model.proofs.EndWords.{catch_up, decide_anew, fetches_from, piece_promised, piece_for, piece_row, hears_result, result_row, reset_row}
+use Rattle.am_model.proofs.EndWords.{hears_member, hears_in_view, hears_as_sequencer, hears_sequencer, where_heard, passes, heard_row, hear_row, read_row, row}
+use Rattle.am_model.proofs.EndWords.{step, with_log, StepsAlike, EndsStepAlike, StepsKeepOrder, send_row, done_row, join_row, state_row, leave_row, ask_row}
+use Rattle.am_model.proofs.EndWords.{tick_row}
 use Rattle.am_base.specs.declared.outcome.Outcome.TheVariants as said
 use Rattle.am_base.specs.declared.event.NodeEvent.TheVariants as does
-use Rattle.am_packet.specs.declared.kind.Gate.{Gate}
 use Rattle.am_packet.specs.declared.kind.Gate.TheVariants as gates
 use Rattle.am_packet.specs.declared.packet.Packet.TheVariants as packet
-use Rattle.am_packet.specs.{Kinds.table, Kinds.head_of, Spelling.sender_of, Spelling.stamp_of}
+use Rattle.am_state.specs.Sends as own
+use Rattle.am_base.specs.declared.entry.GroupView.{GroupView}
+use Rattle.am_packet.specs.declared.kind.Gate.{Gate}
+use Rattle.am_packet.specs.Kinds.{table, head_of}
+use Rattle.am_packet.specs.Spelling.{sender_of, stamp_of}
 use Rattle.am_model.proofs.Plans.{alike, Alike, says_ack, says_nack, says_fetch, says_vote, alike_if, alike_case, alike_quiet, alike_saying, alike_sending}
 use Rattle.am_model.proofs.Plans.{alike_telling, alike_where, finish_alike, finish_ordered}
-use Rattle.am_model.proofs.Calls.{alike_send, alike_done, alike_take, alike_join, alike_state, alike_leave, alike_ask, alike_tick}
+use Rattle.am_model.proofs.Calls.{alike_queue, alike_take, alike_join_by, alike_state_by, alike_leave_by, alike_ask_of, alike_tick_by}
 use Rattle.am_model.proofs.Sequencing.{same_served, alike_request, alike_ack, alike_nack, alike_join_ask, alike_welcome, alike_leave_ask, alike_gone_row}
-use Rattle.am_model.proofs.{Nodes.Keeps, Nodes.keeps_end, Nodes.reads, Nodes.same_sequencer, Nodes.keeps_pushed, Nodes.keeps_trimmed, Ballots.keeps_promised}
-use Rattle.am_model.proofs.{Ballots.alike_keep_vote, Ballots.alike_fetched_for, Ballots.alike_reset, Ballots.alike_give_up_row}
+use Rattle.am_model.proofs.Nodes.{Keeps, keeps_end, reads, same_sequencer, keeps_pushed, keeps_trimmed}
+use Rattle.am_model.proofs.Ballots.{keeps_promised, alike_keep_vote, alike_fetched_for, alike_reset, alike_give_up_row}
 
 -- ---- bodies and entries
 
@@ -69,17 +72,6 @@ alike_received all m s base number e missing h =
     (λ k. alike_case (nat_lt m.core.taken base) _ _ _ _ (λ t. alike_quiet all m _ _ h refl)
     (λ l. alike_store all m s number e missing h))))
 
-pub alike_bcast : (all : Log) (m : Node) (s base acc number : ℕ) (e : Entry) → Keeps all m
-    → Alike (bcast_row (with_log m all) s base acc number e) (bcast_row m s base acc number e)
-unfolding bcast_row
-alike_bcast all m s base acc number e h = alike_received all (with_noted m base acc) s base number (Some e) said.Known (keeps_noted all m base acc h)
-
-pub alike_order : (all : Log) (m : Node) (s base acc number from req : ℕ) → Keeps all m
-    → Alike (order_row (with_log m all) s base acc number from req) (order_row m s base acc number from req)
-unfolding order_row
-alike_order all m s base acc number from req h = alike_received all (with_noted m base acc) s base number (data_of from req (body_of m from req))
-    (said.NoBody from req) (keeps_noted all m base acc h)
-
 pub alike_accept : (all : Log) (m : Node) (s base acc high : ℕ) (poll : Bool) → Keeps all m
     → Alike (accept_row (with_log m all) s base acc high poll) (accept_row m s base acc high poll)
 unfolding accept_row
@@ -95,10 +87,6 @@ pub alike_held_up : (all : Log) (m : Node) (base high req : ℕ) (w : Option Own
     → Alike (answer_hold (with_log m all) base high req w) (answer_hold m base high req w)
 alike_held_up all m base high req None h = alike_quiet all m _ _ h refl
 alike_held_up all m base high req (Some s) h = alike_case (s.req == req) _ _ _ _ (λ t. alike_quiet all m _ _ h refl) (λ f. alike_quiet all m _ _ h refl)
-
-pub alike_hold : (all : Log) (m : Node) (base high req : ℕ) → Keeps all m → Alike (hold_row (with_log m all) base high req) (hold_row m base high req)
-unfolding hold_row
-alike_hold all m base high req h = alike_held_up all m base high req (waiting m) h
 
 -- ---- votes
 
@@ -219,17 +207,11 @@ alike_reset_so all m least h =
 same_in_view : (all : Log) (m : Node) (s : ℕ) (v : Stamp) → Keeps all m → hears_in_view (with_log m all) s v ≡ hears_in_view m s v
 same_in_view all m s v h = reads all m (λ i t. hears_member m s && ((is_member m.status && stamp_eq m.core.promise i.view) && stamp_eq v i.view)) h
 
-same_as_sequencer : (all : Log) (m : Node) (s : ℕ) (v : Stamp) → Keeps all m → hears_as_sequencer (with_log m all) s v ≡ hears_as_sequencer m s v
-same_as_sequencer all m s v h = λ i. same_in_view all m s v h i && same_sequencer all m h i
-
-same_of_sequencer : (all : Log) (m : Node) (s : ℕ) (v : Stamp) → Keeps all m → hears_sequencer (with_log m all) s v ≡ hears_sequencer m s v
-same_of_sequencer all m s v h = λ i. same_in_view all m s v h i && (v.by == s)
-
 same_passes : (all : Log) (m : Node) (g : Gate) (s : ℕ) (v : Stamp) → Keeps all m → passes g (with_log m all) s v ≡ passes g m s v
 same_passes all m gates.Leading s v h = ap (λ b. hears_member m s && b) (same_sequencer all m h)
 same_passes all m gates.InView s v h = same_in_view all m s v h
-same_passes all m gates.AsSequencer s v h = same_as_sequencer all m s v h
-same_passes all m gates.OfSequencer s v h = same_of_sequencer all m s v h
+same_passes all m gates.AsSequencer s v h = λ i. same_in_view all m s v h i && same_sequencer all m h i
+same_passes all m gates.OfSequencer s v h = λ i. same_in_view all m s v h i && (v.by == s)
 same_passes all m _ s v h = refl
 
 alike_heard : (all : Log) (m : Node) (b c : Bool) (p q : Plan) → Keeps all m → b ≡ c → Alike p q
@@ -239,12 +221,9 @@ alike_heard all m b c p q h e a = alike_if b c p q _ _ e (λ t. a) (λ f. alike_
 -- the rows that packets are heard by
 ruleset rows = (
   alike_request,
-  alike_bcast,
-  alike_order,
   alike_accept,
   alike_ack,
   alike_nack,
-  alike_hold,
   alike_join_ask,
   alike_welcome,
   alike_leave_ask,
@@ -258,7 +237,13 @@ ruleset rows = (
 )
 
 alike_heard_row : (all : Log) (m : Node) (p : Packet) → Keeps all m → Alike (heard_row (with_log m all) p) (heard_row m p)
+unfolding bcast_row order_row hold_row
 alike_heard_row all m (packet.Spread s v report req body) h = search (alike, same_sequencer, alike_request, alike_spread)
+alike_heard_row all m (packet.Bcast s v base acc number e) h =
+    alike_received all (with_noted m base acc) s base number (Some e) said.Known (keeps_noted all m base acc h)
+alike_heard_row all m (packet.Order s v base acc number from req) h =
+    alike_received all (with_noted m base acc) s base number (data_of from req (body_of m from req)) (said.NoBody from req) (keeps_noted all m base acc h)
+alike_heard_row all m (packet.Hold s v base high req) h = alike_held_up all m base high req (waiting m) h
 alike_heard_row all m _ h = search (alike, rows)
 
 pub alike_hear : (all : Log) (m : Node) (p : Packet) → Keeps all m → Alike (hear_row (with_log m all) p) (hear_row m p)
@@ -273,17 +258,18 @@ alike_read all m (Err refusal) h = alike_quiet all m _ _ h refl
 -- ---- a step
 
 pub alike_row : (all : Log) (m : Node) (event : NodeEvent) → Keeps all m → Alike (row (with_log m all) event) (row m event)
-unfolding row
-alike_row all m (does.Send body) h = alike_send all m body h
-alike_row all m (does.Done req) h = alike_done all m req h
+unfolding row send_row done_row join_row state_row leave_row ask_row tick_row
+alike_row all m (does.Send body) h = search (alike, alike_queue)
+alike_row all m (does.Done req) h =
+    alike_quiet all (record m { sends = own.collect req m.sends }) _ _ (record { kept = h.kept; order = h.order }) refl
 alike_row all m does.Take h = alike_take all m h
-alike_row all m does.Join h = alike_join all m h
-alike_row all m does.State h = alike_state all m h
-alike_row all m does.Leave h = alike_leave all m h
+alike_row all m does.Join h = alike_join_by all m m.status h
+alike_row all m does.State h = alike_state_by all m m.status h
+alike_row all m does.Leave h = alike_leave_by all m m.status h
 alike_row all m (does.Reset least resilience) h = alike_reset all m least resilience h
-alike_row all m (does.Ask round) h = alike_ask all m round h
+alike_row all m (does.Ask round) h = alike_ask_of all m round m.ballot h
 alike_row all m (does.GiveUp name) h = alike_give_up_row all m name h
-alike_row all m does.Tick h = alike_tick all m h
+alike_row all m does.Tick h = alike_tick_by all m m.status h
 alike_row all m (does.Hear bytes) h = alike_read all m (reading bytes) h
 
 step_alike : (all : Log) (m : Node) (event : NodeEvent) → Keeps all m → StepsAlike (step (with_log m all) event) (step m event)

@@ -1,31 +1,14 @@
 -- How many letters a step sends.
-use Rattle.std.proofs.Common.{◌≡◌, ℕ, zero, suc, ◌+◌, ◌-◌, ◌<◌, ◌≤◌, min, Bool, true, false, ◌==◌, not, if◌then◌else◌, nat_lt, List, []}
-use Rattle.std.proofs.Common.{◌∷◌, length, Option, Some, None, refl, ap, arith}
-use Rattle.std.proofs.lemmas.List.{length-take}
-use Rattle.std.proofs.lemmas.List.Edits.{length-insert}
-use Rattle.am_base.specs.declared.image.Vote.{Vote}
-use Rattle.am_base.specs.declared.entry.Entry.{Entry}
-use Rattle.am_base.specs.declared.outcome.Outcome.{Outcome}
+use Rattle.am_model.proofs.EndWords.{[], ◌≡◌, ℕ, ◌+◌, ◌-◌, ◌<◌, ◌≤◌, min, Bool, true, false, ◌==◌, not, if◌then◌else◌, nat_lt, List, ◌∷◌, length, Option, Some}
+use Rattle.am_model.proofs.EndWords.{None, refl, ap, arith, length-take, length-insert, Vote, Entry, Outcome, size, without_name, entry_at, Status, Packet}
+use Rattle.am_model.proofs.EndWords.{Letter, kind_of, letter_to, place_for, with_letter, OwnSend, Node, Ballot, image_of, others, only_name, lowest_or_first}
+use Rattle.am_model.proofs.EndWords.{waiting, is_sequencer, has_room, Plan, quiet, telling, and_telling, and_where, numbering, polling, leave_ask_of}
+use Rattle.am_model.proofs.EndWords.{hand_over_of, invite_of, fetch_of, result_of, put_all, Verdict, with_promise, next_stamp, new_ballot, decide, verdict_plan}
+use Rattle.am_model.proofs.EndWords.{with_result, with_fetch, begin, with_vote, newly_needed, keep_vote, without_voter, give_up, tick_ballot, tick_member}
+use Rattle.am_model.proofs.EndWords.{put_off, behind_view, viewed_by, and_result, tick_sequencer, tick_with, tick_by, emit, give_out, go, leave_now, leave_by}
+use Rattle.am_model.proofs.EndWords.{ask_of, give_up_of}
 use Rattle.am_base.specs.declared.outcome.Outcome.TheVariants as said
-use Rattle.am_base.specs.Names.{size, without_name}
-use Rattle.am_base.specs.Lists.{entry_at}
-use Rattle.am_model.specs.declared.status.Status.{Status}
 use Rattle.am_model.specs.declared.status.Status.TheVariants as status
-use Rattle.am_packet.specs.declared.packet.Packet.{Packet}
-use Rattle.am_packet.specs.Boxes.{Letter}
-use Rattle.am_packet.specs.Kinds.{kind_of}
-use Rattle.am_packet.specs.Boxes.{letter_to, place_for, with_letter}
-use Rattle.am_state.specs.declared.sender.OwnSend.{OwnSend}
-use Rattle.am_model.specs.Node.{Node, Ballot, image_of, others, only_name, lowest_or_first, waiting, is_sequencer, has_room}
-use Rattle.am_model.specs.Emit.{Plan, quiet, telling, and_telling, and_where, numbering, polling, leave_ask_of, hand_over_of, invite_of, fetch_of, result_of}
-use Rattle.am_model.specs.Emit.{put_all}
-use Rattle.am_model.specs.Ballots.{Verdict, with_promise, next_stamp, new_ballot, decide, verdict_plan, with_result, with_fetch, begin, with_vote, newly_needed}
-use Rattle.am_model.specs.Ballots.{keep_vote, without_voter, give_up}
-use Rattle.am_model.specs.Ticks.{tick_ballot, tick_member, put_off, behind_view, viewed_by, and_result, tick_sequencer, tick_acting, tick_with, tick_by}
-use Rattle.am_model.specs.Ticks.{tick_row}
-use Rattle.am_model.specs.Calls.{emit, give_out, join_by, state_by, go, leave_now, leave_by, ask_of, give_up_of, send_row, done_row, take_row, join_row}
-use Rattle.am_model.specs.Calls.{state_row}
-use Rattle.am_model.specs.Calls.{leave_row, reset_row, ask_row, give_up_row}
 use Rattle.am_base.proofs.Greatest.{split}
 
 -- one more at most
@@ -79,29 +62,9 @@ pub few_emit : (most : ℕ) (m : Node) (w : Option OwnSend) (o : Outcome) → 1 
 few_emit most m None o l = few_quiet most m o
 few_emit most m (Some s) o l = search few
 
-pub few_send : (m : Node) (body : List ℕ) → Few 8 (send_row m body)
-unfolding send_row
-few_send m body = search (few, few_emit)
-
-pub few_done : (m : Node) (req : ℕ) → Few 8 (done_row m req)
-unfolding done_row
-few_done m req = search few
-
 pub few_given : (m : Node) (e : Option Entry) → Few 8 (give_out m e)
 few_given m None = search few
 few_given m (Some e) = search few
-
-pub few_take : (m : Node) → Few 8 (take_row m)
-unfolding take_row
-few_take m = search (few, few_given)
-
-pub few_join : (m : Node) → Few 8 (join_row m)
-unfolding join_row
-few_join m = elim m.status as (λ s. Few 8 (join_by m s)) [ status.Stranger ↦ search few | _ ↦ search few ]
-
-pub few_state : (m : Node) → Few 8 (state_row m)
-unfolding state_row
-few_state m = elim m.status as (λ s. Few 8 (state_by m s)) [ status.Stranger ↦ search few | _ ↦ search few ]
 
 -- leaving adds one letter
 pub few_same : (most less : ℕ) (p q : Plan) → less ≤ most → p.letters ≡ q.letters → Few less p → Few most q
@@ -119,14 +82,8 @@ few_leave_now m =
     search (few, h)
 
 pub few_leave_by : (m : Node) (s : Status) → Few 8 (leave_by m s)
-few_leave_by m status.Stranger = search few
-few_leave_by m status.Asking = search few
 few_leave_by m status.Member = few_leave_now m
-few_leave_by m status.Departed = search few
-
-pub few_leave : (m : Node) → Few 8 (leave_row m)
-unfolding leave_row
-few_leave m = few_leave_by m m.status
+few_leave_by m _ = search few
 
 -- ---- ballots
 
@@ -162,25 +119,13 @@ few_give_up m b name =
     let verdict = decide m (without_voter b name) in
     few_answered 8 1 verdict (λ n. with_fetch verdict.outcome n []) (omega arith) (λ n. with_fetch_more verdict.outcome n [])
 
-pub few_reset : (m : Node) (least resilience : ℕ) → Few 8 (reset_row m least resilience)
-unfolding reset_row
-few_reset m least resilience = search (few, few_begin)
-
 pub few_ask_of : (m : Node) (round : ℕ) (b : Option Ballot) → Few 8 (ask_of m round b)
 few_ask_of m round None = search few
 few_ask_of m round (Some b) = search few
 
-pub few_ask : (m : Node) (round : ℕ) → Few 8 (ask_row m round)
-unfolding ask_row
-few_ask m round = few_ask_of m round m.ballot
-
 pub few_give_up_of : (m : Node) (name : ℕ) (b : Option Ballot) → Few 8 (give_up_of m name b)
 few_give_up_of m name None = search few
 few_give_up_of m name (Some b) = search (few, few_give_up)
-
-pub few_give_up_row : (m : Node) (name : ℕ) → Few 8 (give_up_row m name)
-unfolding give_up_row
-few_give_up_row m name = few_give_up_of m name m.ballot
 
 -- ---- the tick
 
@@ -207,19 +152,10 @@ few_tick_sequencer m =
     few_if 8 m.leaving (go (and_result p)) (and_result p) (few_go 8 7 (and_result p) (omega arith) h)
     (few_same 8 7 (and_result p) (and_result p) (omega arith) refl h)
 
-pub few_tick_acting : (m : Node) → Few 8 (tick_acting m)
-few_tick_acting m = search (few, few_tick_sequencer, few_tick_member)
-
 pub few_tick_with : (m : Node) (b : Option Ballot) → Few 8 (tick_with m b)
-few_tick_with m None = few_tick_acting m
-few_tick_with m (Some b) = search (few, few_tick_acting, few_tick_ballot)
+few_tick_with m None = search (few, few_tick_sequencer, few_tick_member)
+few_tick_with m (Some b) = search (few, few_tick_sequencer, few_tick_member, few_tick_ballot)
 
 pub few_tick_by : (m : Node) (s : Status) → Few 8 (tick_by m s)
-few_tick_by m status.Stranger = search few
-few_tick_by m status.Asking = search few
 few_tick_by m status.Member = few_tick_with m m.ballot
-few_tick_by m status.Departed = search few
-
-pub few_tick : (m : Node) → Few 8 (tick_row m)
-unfolding tick_row
-few_tick m = few_tick_by m m.status
+few_tick_by m _ = search few

@@ -1,10 +1,10 @@
 -- A node and the same node with all of a list: what they tell, and what the refresh makes of them.
-use Rattle.am_model.proofs.EndWords.{◌≡◌, ℕ, ◌+◌, ◌-◌, ◌<◌, ◌≤◌, List, [], ◌∷◌, length-append, drop, take, position, refl, sym, ◌∙◌, ap, arith, Option, Some}
-use Rattle.am_model.proofs.EndWords.{None, true, false, ◌&&◌, ◌==◌, drop-drop, Entry, Image, Log, told_by, image_at, entry_at, with_entry, stamp_eq, IsEnd}
-use Rattle.am_model.proofs.EndWords.{IsInOrder, CoreState, whole, accept, pass_over, since_accepted, split, end-top, end-told, end-image, end-entry, end-push}
-use Rattle.am_model.proofs.EndWords.{since_whole, least_taken, Led, own_report, tell, go_on, let_go, base_after, go_up, whole_led, go_up_whole, OwnSend, Node}
-use Rattle.am_model.proofs.EndWords.{is_member, top, image_of, is_sequencer, waiting, entries_above, push_entry, trim_up_to, advance, lead, refresh, led_of}
-use Rattle.am_model.proofs.EndWords.{is_data_of, accepted_at, settle_at, settle_waiting, settle, refresh_at_end, with_log, IsEndOf, IsOrdered}
+use Rattle.am_model.proofs.EndWords.{[], ◌≡◌, ℕ, ◌+◌, ◌-◌, ◌<◌, ◌≤◌, List, ◌∷◌, length-append, drop, take, position, refl, sym, ◌∙◌, ap, arith, Option, Some, None}
+use Rattle.am_model.proofs.EndWords.{true, false, ◌&&◌, ◌==◌, drop-drop, Entry, Image, Log, told_by, image_at, entry_at, with_entry, stamp_eq, IsEnd, IsInOrder}
+use Rattle.am_model.proofs.EndWords.{CoreState, whole, accept, pass_over, since_accepted, split, end-top, end-told, end-image, end-entry, end-push, since_whole}
+use Rattle.am_model.proofs.EndWords.{least_taken, Led, own_report, tell, go_on, let_go, base_after, go_up, whole_led, go_up_whole, OwnSend, Node, is_member}
+use Rattle.am_model.proofs.EndWords.{top, image_of, is_sequencer, waiting, entries_above, push_entry, trim_up_to, advance, lead, refresh, led_of, is_data_of}
+use Rattle.am_model.proofs.EndWords.{accepted_at, settle_at, settle_waiting, settle, refresh_at_end, with_log, IsEndOf, IsOrdered}
 
 -- the node keeps an end of this list, and its numbers stand in their order
 pub record Keeps (all : Log) (m : Node) : Type 0 where
@@ -128,14 +128,10 @@ let_go_end all s e = ap (λ since. let l : Led = record {
   reports = s.reports;
 } in l) e
 
-risen_since : (all : Log) (m : Node) → Keeps all m → since_accepted (whole all (go_up (led_of m)).core) ≡ since_accepted (go_up (led_of m)).core
-unfolding risen
-risen_since all m h = same_since all (risen m) (keeps_risen all m h)
-
 lead_end : (all : Log) (m : Node) → Keeps all m → lead (with_log m all) ≡ with_log (lead m) all
-unfolding lead
+unfolding lead risen
 lead_end all m h = ap (λ (l : Led). let n : Node = record m { core = l.core; reports = l.reports } in n)
-    (ap let_go (go_up_end all m h) ∙ let_go_end all (go_up (led_of m)) (risen_since all m h))
+    (ap let_go (go_up_end all m h) ∙ let_go_end all (go_up (led_of m)) (same_since all (risen m) (keeps_risen all m h)))
 
 pub same_sequencer : (all : Log) (m : Node) → Keeps all m → is_sequencer (with_log m all) ≡ is_sequencer m
 same_sequencer all m h = reads all m (λ i t. is_member m.status && stamp_eq m.core.promise i.view && (i.view.by == m.core.who)) h

@@ -1,5 +1,5 @@
 -- Plans that are alike: the first comes to the node of the second with all of a list, and both say and send the same.
-use Rattle.am_model.proofs.EndWords.{◌≡◌, ℕ, Bool, true, false, not, ◌&&◌, ◌||◌, nat_lt, if◌then◌else◌, List, [], refl, sym, ◌∙◌, ap, subst, Entry, Outcome}
+use Rattle.am_model.proofs.EndWords.{[], ◌≡◌, ℕ, Bool, true, false, not, ◌&&◌, ◌||◌, nat_lt, if◌then◌else◌, List, refl, sym, ◌∙◌, ap, subst, Entry, Outcome}
 use Rattle.am_model.proofs.EndWords.{without_name, Log, image_at, members_of, row_of, with_entry, IsEnd, Packet, Letter, with_letter, Departed, Node, image_of}
 use Rattle.am_model.proofs.EndWords.{others, refresh_at_end, Step, Plan, quiet, telling, polling, and_telling, and_where, numbering, request_of, spread_of}
 use Rattle.am_model.proofs.EndWords.{ack_of, nack_of, hold_of, welcome_of, leave_ask_of, fetch_of, with_accept, finish, vote_of, with_log, IsEndOf, ComesTo}

@@ -1,9 +1,5 @@
 -- The entry that a send becomes.
-use Rattle.std.proofs.Common.{◌≡◌, ℕ, true, List, arith}
-use Rattle.std.proofs.lemmas.Bool.Decides.{nat_tests}
-use Rattle.am_base.specs.declared.entry.Entry.{Entry}
-use Rattle.am_base.specs.declared.entry.Entry.TheVariants.{Data, Join, Leave, View}
-use Rattle.am_model.specs.Refresh.{is_data_of}
+use Rattle.am_model.proofs.EndWords.{◌≡◌, ℕ, true, List, arith, nat_tests, Entry, Data, Join, Leave, View, is_data_of}
 
 -- an entry that is the Data of a send has its sender and its request, and some body
 pub own_data : (who req : ℕ) (e : Entry) → is_data_of who req e ≡ true → (body : List ℕ) × (e ≡ Data who req body)
@@ -11,6 +7,4 @@ own_data who req (Data from r body) is =
     let a : from ≡ who = grind (arith, nat_tests) in
     let b : r ≡ req = grind (arith, nat_tests) in
     (body, λ k. Data (a k) (b k) body)
-own_data who req (Join name) is = absurd (cc)
-own_data who req (Leave name) is = absurd (cc)
-own_data who req (View v) is = absurd (cc)
+own_data who req _ is = absurd (cc)

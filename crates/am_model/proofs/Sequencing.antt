@@ -1,17 +1,18 @@
 -- What the sequencer does, on the kept end of a list as on all of it.
-use Rattle.am_model.proofs.EndWords.{◌≡◌, ℕ, ◌+◌, ◌-◌, ◌≤◌, Bool, not, ◌&&◌, ◌||◌, ◌==◌, nat_lt, nat_le, if◌then◌else◌, List, [], length, take, refl, sym, ◌∙◌}
-use Rattle.am_model.proofs.EndWords.{ap, subst, arith, nat_tests, Report, Row, Image, Stamp, Data, Join, Leave, life_of, without_name, stamp_lt, stamp_eq, Log}
+use Rattle.am_model.proofs.EndWords.{[], ◌≡◌, ℕ, ◌+◌, ◌-◌, ◌≤◌, Bool, not, ◌&&◌, ◌||◌, ◌==◌, nat_lt, nat_le, if◌then◌else◌, List, length, take, refl, sym, ◌∙◌, ap}
+use Rattle.am_model.proofs.EndWords.{subst, arith, nat_tests, Report, Row, Image, Stamp, Data, Join, Leave, life_of, without_name, stamp_lt, stamp_eq, Log}
 use Rattle.am_model.proofs.EndWords.{fits, at_place, row_of, whole, since_accepted, end-self, Node, top, image_of, only_name, is_member, is_within_bound}
 use Rattle.am_model.proofs.EndWords.{report_fits, with_report, Plan, bcast_of, order_of, hold_of, nack_of, welcome_of, gone_of, fetch_of, entries_to_serve}
 use Rattle.am_model.proofs.EndWords.{put_all, row_at, is_unknown, take_report, number_data, answer_request, request_row, ack_row, serve, serve_again, nack_row}
 use Rattle.am_model.proofs.EndWords.{with_admitted, number_join, asks_to_join, join_ask_row, begin_list, ask_next, welcome_row, all_stored, may_go, and_gone}
 use Rattle.am_model.proofs.EndWords.{asks_to_leave, leave_ask_row, gone_row, with_log}
-use Rattle.am_model.specs.Joining.{let_go}
 use Rattle.am_base.specs.declared.outcome.Outcome.TheVariants as said
 use Rattle.am_model.specs.declared.status.Status.TheVariants as status
+use Rattle.am_model.specs.Joining.{let_go}
 use Rattle.am_model.proofs.Plans.{Says, Alike, says_hold, says_nack, says_fetch, says_welcome, alike_if, alike_case, alike_quiet, alike_polling, alike_saying}
 use Rattle.am_model.proofs.Plans.{alike_sending, alike_telling, alike_and, alike_where, alike_numbering}
-use Rattle.am_model.proofs.{Nodes.Keeps, Nodes.reads, Nodes.same_entries, Nodes.same_since, Nodes.refresh_end, Nodes.keeps_refresh, Calls.same_room}
+use Rattle.am_model.proofs.Nodes.{Keeps, reads, same_entries, same_since, refresh_end, keeps_refresh}
+use Rattle.am_model.proofs.{Calls.same_room}
 
 -- ---- reports
 

@@ -1,14 +1,15 @@
 -- What a node's step comes to in the world of which the records tell.
-use Rattle.am_races.proofs.Words.{◌≡◌, ℕ, ◌<◌, ◌≤◌, List, [], ◌∷◌, ◌++◌, length, map, Bool, true, false, true≢false, Option, Some, sym, refl, ap, ◌∙◌}
-use Rattle.am_races.proofs.Words.{subst, arith, if◌then◌else◌, not, ◌==◌, nat_tests, length-map, none-some, most_events, NodeEvent, Rules, place_of, name_at}
-use Rattle.am_races.proofs.Words.{IsPacket, spelling, IsInOrder, Letter, Act, Event, Record, is_for, letters_of, letter_at, Step, step, hear, row, World}
-use Rattle.am_races.proofs.Words.{is_stopped, with_record, with_step, does_event, hears_letter, acts_as, happens, record_of, current, no_caller, start, run}
-use Rattle.am_races.proofs.Words.{happen, Node, with_tag, IsEndOf, Does, spelling_is_heard, HasNumbersLeft, step_end, end_high, runs_go_on, numbers_hold}
-use Rattle.am_races.proofs.Words.{Terms, Follows, has_stopped, world_after, IsNext, IsLawful, what_of, MayAct}
-use Rattle.am_races.proofs.{Legality.next_tells, Knows.knows, Knows.name_now, Knows.each_keeps, Knows.told_more}
+use Rattle.am_races.proofs.Words.{◌≡◌, ℕ, ◌<◌, ◌≤◌, List, [], ◌∷◌, ◌++◌, length, map, true, false, true≢false, Option, Some, sym, refl, ap, ◌∙◌, subst, arith}
+use Rattle.am_races.proofs.Words.{if◌then◌else◌, ◌==◌, nat_tests, length-map, none-some, most_events, NodeEvent, Rules, place_of, name_at, IsPacket, spelling}
+use Rattle.am_races.proofs.Words.{IsInOrder, Letter, Act, Event, Record, is_for, letters_of, letter_at, Step, step, hear, row, World, is_stopped, with_step}
+use Rattle.am_races.proofs.Words.{does_event, hears_letter, acts_as, happens, record_of, current, no_caller, start, run, happen, Node, with_tag, IsEndOf, Does}
+use Rattle.am_races.proofs.Words.{spelling_is_heard, HasNumbersLeft, step_end, end_high, runs_go_on, numbers_hold, Terms, Follows, has_stopped, world_after}
+use Rattle.am_races.proofs.Words.{IsNext, IsLawful, what_of, MayAct}
 use Rattle.am_base.specs.declared.outcome.Outcome.TheVariants as said
 use Rattle.am_base.specs.declared.event.NodeEvent.TheVariants as does
 use Rattle.am_group.specs.declared.event.Act.TheVariants as act
+use Rattle.am_races.proofs.Knows.{knows, name_now, each_keeps, told_more}
+use Rattle.am_races.proofs.{Legality.next_tells}
 
 -- ---- the run
 
@@ -56,54 +57,31 @@ numbers_left terms before name m follows few is =
 some_is : {A : Type 0} (x y : A) → Some x ≡ Some y → x ≡ y
 some_is x y e = cc
 
-if_runs : {A : Type 0} (b : Bool) (x y : A) → b ≡ false → (if b then x else y) ≡ y
-if_runs true x y e = absurd (true≢false e)
-if_runs false x y e = refl
-
-if_stopped : {A : Type 0} (b : Bool) (x y : A) → b ≡ true → (if b then x else y) ≡ x
-if_stopped true x y e = refl
-if_stopped false x y e = absurd (true≢false (sym e))
-
 does_steps : (w : World) (e : Event) (name : ℕ) (mine what : NodeEvent) → Some mine ≡ Some what → is_stopped w name ≡ false
     → does_event w e name mine ≡ with_step w e name (step (w.nodes name) what)
-does_steps w e name mine what is runs =
-    if_runs (is_stopped w name) (with_record w e said.IsStopped) (with_step w e name (step (w.nodes name) mine)) runs
-    ∙ ap (λ (x : NodeEvent). with_step w e name (step (w.nodes name) x)) (some_is mine what is)
+does_steps w e name mine what is runs = rw runs (ap (λ (x : NodeEvent). with_step w e name (step (w.nodes name) x)) (some_is mine what is))
 
 hears_steps : (w : World) (e : Event) (name : ℕ) (l : Letter) (what : NodeEvent) → Some (does.Hear (spelling l.packet)) ≡ Some what → is_stopped w name ≡ false
     → is_for l name ≡ true → IsPacket l.packet → hears_letter w e name (hear (w.nodes name)) (Some l) ≡ with_step w e name (step (w.nodes name) what)
 hears_steps w e name l what is runs its packet =
-    let hears : World = with_step w e name (hear (w.nodes name) l.packet) in
-    if_runs (not (is_for l name)) (with_record w e said.NotAddressed) (if is_stopped w name then with_record w e said.IsStopped else hears) (ap not its)
-    ∙ if_runs (is_stopped w name) (with_record w e said.IsStopped) hears runs
-    ∙ ap (with_step w e name) (sym (spelling_is_heard (w.nodes name) l.packet packet))
-    ∙ ap (λ (x : NodeEvent). with_step w e name (step (w.nodes name) x)) (some_is (does.Hear (spelling l.packet)) what is)
+    rw (its, runs) (ap (with_step w e name) (sym (spelling_is_heard (w.nodes name) l.packet packet))
+    ∙ ap (λ (x : NodeEvent). with_step w e name (step (w.nodes name) x)) (some_is (does.Hear (spelling l.packet)) what is))
 
 pub acts_step : (w : World) (e : Event) (before : List Record) (name : ℕ) (a : Act) (l : Option Letter) (what : NodeEvent) → what_of a l ≡ Some what
     → is_stopped w name ≡ false → w.letters ≡ letters_of before → ((k : ℕ) → is_stopped w k ≡ has_stopped before k) → MayAct before name a l
     → acts_as w e name a ≡ with_step w e name (step (w.nodes name) what)
-acts_step w e before name (act.Send body) l what is runs sent stopped may = does_steps w e name (does.Send body) what is runs
-acts_step w e before name (act.Done req) l what is runs sent stopped may = does_steps w e name (does.Done req) what is runs
-acts_step w e before name act.Take l what is runs sent stopped may = does_steps w e name does.Take what is runs
-acts_step w e before name act.Join l what is runs sent stopped may = does_steps w e name does.Join what is runs
-acts_step w e before name act.State l what is runs sent stopped may = does_steps w e name does.State what is runs
-acts_step w e before name act.Leave l what is runs sent stopped may = does_steps w e name does.Leave what is runs
-acts_step w e before name (act.Reset least resilience) l what is runs sent stopped may = does_steps w e name (does.Reset least resilience) what is runs
-acts_step w e before name (act.Ask round) l what is runs sent stopped may = does_steps w e name (does.Ask round) what is runs
 acts_step w e before name (act.GiveUp other) l what is runs sent stopped may =
-    let given : World = with_step w e name (step (w.nodes name) (does.GiveUp other)) in
-    let not_stopped : World = with_record w e said.NotStopped in
-    if_runs (is_stopped w name) (with_record w e said.IsStopped) (if is_stopped w other then given else not_stopped) runs
-    ∙ if_stopped (is_stopped w other) given not_stopped (stopped other ∙ may.given other refl)
-    ∙ ap (λ (x : NodeEvent). with_step w e name (step (w.nodes name) x)) (some_is (does.GiveUp other) what is)
+    let gone : is_stopped w other ≡ true = stopped other ∙ may.given other refl in
+    rw (runs, gone) (ap (λ (x : NodeEvent). with_step w e name (step (w.nodes name) x)) (some_is (does.GiveUp other) what is))
 acts_step w e before name act.Stop l what is runs sent stopped may = absurd (none-some what is)
-acts_step w e before name act.Tick l what is runs sent stopped may = does_steps w e name does.Tick what is runs
 acts_step w e before name (act.Hear number) l what is runs sent stopped may =
     let h = may.hears number refl in
     let there : letter_at w.letters number ≡ Some h.letter = ap (λ (ls : List Letter). letter_at ls number) sent ∙ h.sent in
     let same : Some (does.Hear (spelling h.letter.packet)) ≡ Some what = sym (ap (what_of (act.Hear number)) h.is) ∙ is in
     ap (hears_letter w e name (hear (w.nodes name))) there ∙ hears_steps w e name h.letter what same runs h.its h.packet
-acts_step w e before name _ l what is runs sent stopped may = absurd (true≢false (sym may.race))
+acts_step w e before name (act.Cut number keep) l what is runs sent stopped may = absurd (true≢false (sym may.race))
+acts_step w e before name act.Return l what is runs sent stopped may = absurd (true≢false (sym may.race))
+acts_step w e before name _ l what is runs sent stopped may = does_steps w e name _ what is runs
 
 -- ---- what comes next
 

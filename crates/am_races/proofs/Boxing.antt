@@ -15,6 +15,7 @@ use Rattle.am_base.specs.declared.outcome.Outcome.TheVariants as said
 use Rattle.am_group.specs.declared.event.Act.TheVariants as act
 use Rattle.am_sharing.specs.declared.terms.WireRefusal.TheVariants as refusals
 use Rattle.std.proofs.lemmas.Bool.{or_left}
+use Rattle.am_races.proofs.Words.{map-append}
 
 -- ---- records of a key
 
@@ -39,15 +40,11 @@ pub none_of : (key : Key) (seen more : List Record) → of_key key (seen ++ more
 none_of key seen more e = none_kept key more (empty_rest (of_key key seen) (of_key key more) (sym (filter-append (is_of key) seen more) ∙ e))
 
 pub own_key : (key : Key) → 0 < times key (key ∷ [])
-own_key key = let e = times_cons key key [] in let s = itself key in let o = one_if (same_key key key) s in omega arith
+own_key key = let e = times_cons key key [] in let s = itself key in let o : ◌≡◌ {A = ℕ} (cond (same_key key key) 1 0) 1 = rw s refl in omega arith
   where
     itself : (k : Key) → same_key k k ≡ true
     itself (Place place) = eq-eqb place place refl
     itself (Caller caller) = eq-eqb caller caller refl
-
-    one_if : (b : Bool) → b ≡ true → ◌≡◌ {A = ℕ} (cond b 1 0) 1
-    one_if true is = refl
-    one_if false is = absurd (true≢false (sym is))
 
 -- ---- what others added
 
@@ -120,8 +117,7 @@ stops_then before name _ l may e = absurd (none-some _ (sym e))
 stop_now : (w : World) (e : Event) (name : ℕ) (b : Bool) → b ≡ false
     → (if b then with_record w e said.IsStopped else with_record (record w { stopped = w.stopped ++ name ∷ [] }) e said.Stopped)
     ≡ with_record (record w { stopped = w.stopped ++ name ∷ [] }) e said.Stopped
-stop_now w e name true runs = absurd (true≢false runs)
-stop_now w e name false runs = refl
+stop_now w e name b runs = rw runs refl
 
 left_alone : (w : World) (e : Event) (name k : ℕ) (outcome : Outcome)
     → (with_record (record w { stopped = w.stopped ++ k ∷ [] }) e outcome).nodes name ≡ w.nodes name
@@ -239,10 +235,6 @@ lands plan name seen before m n a by l what outcome letters low beyond_ follows 
 fold_last : (numbers : List ℕ) (n : ℕ) → greatest (numbers ++ n ∷ []) ≡ max (greatest numbers) n
 fold_last numbers n = fold-append max 0 numbers (n ∷ [])
 
-map_last : (f : Record → ℕ) (records : List Record) (r : Record) → map f (records ++ r ∷ []) ≡ map f records ++ f r ∷ []
-map_last f [] r = refl
-map_last f (q ∷ records) r = ap (λ (ns : List ℕ). f q ∷ ns) (map_last f records r)
-
 -- the greatest of what the records of a place say, behind one of its records
 pub place_last : (f : Record → ℕ) (place : ℕ) (before : List Record) (r : Record) → (place_of r.event.node == place) ≡ true
     → greatest (map f (of_place place (before ++ r ∷ []))) ≡ max (greatest (map f (of_place place before))) (f r)
@@ -250,7 +242,7 @@ place_last f place before r its =
     let split : of_place place (before ++ r ∷ []) ≡ of_place place before ++ r ∷ [] =
     filter-append (λ (q : Record). place_of q.event.node == place) before (r ∷ []) ∙ ap (λ (b : Bool). of_place place before ++ cond b (r ∷ []) []) its
     in
-    ap (λ (rs : List Record). greatest (map f rs)) split ∙ ap greatest (map_last f (of_place place before) r) ∙ fold_last (map f (of_place place before)) (f r)
+    ap (λ (rs : List Record). greatest (map f rs)) split ∙ ap greatest (map-append f (of_place place before) (r ∷ [])) ∙ fold_last (map f (of_place place before)) (f r)
 
 max_thrice : (a b c : ℕ) → max (max a b) c ≡ max a (max b c)
 max_thrice a b c = omega arith

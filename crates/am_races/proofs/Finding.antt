@@ -13,18 +13,16 @@ use Rattle.am_races.proofs.{Stays.first_apart, Boxing.Beyond, Boxing.beyond, Box
 use Rattle.am_group.specs.declared.event.Act.TheVariants as act
 use Rattle.am_sharing.specs.declared.choice.Choice.TheVariants as choice
 use Rattle.std.proofs.lemmas.Bool.{and_parts, and_from, not-true, or_left}
+use Rattle.am_races.proofs.Words.{split}
 
 -- ---- what is known
 
 known_first : (place caller : ℕ) (before : List Record) → (rest : List Record) × (before ≡ up_to_last place caller before ++ rest)
 unfolding up_to_last
 known_first place caller [] = ([], refl)
-known_first place caller (r ∷ before) = let k = known_first place caller before in by_any (list_any (is_either place caller) (r ∷ before)) k.0 k.1
-  where
-    by_any : (b : Bool) (rest : List Record) → before ≡ up_to_last place caller before ++ rest
-        → (others : List Record) × (r ∷ before ≡ (if b then r ∷ up_to_last place caller before else []) ++ others)
-    by_any true rest is = (rest, ap (λ (rs : List Record). r ∷ rs) is)
-    by_any false rest is = (r ∷ before, refl)
+known_first place caller (r ∷ before) = let k = known_first place caller before in split (list_any (is_either place caller) (r ∷ before))
+    (λ t. (k.0, rw t (ap (λ (rs : List Record). r ∷ rs) k.1)))
+    (λ n. (r ∷ before, rw n refl))
 
 -- what others added leaves it, and what its caller and its call did
 left_by : (place caller call : ℕ) (before more : List Record) → All (IsApart place caller) more → IsLeft place caller call before (before ++ more)
@@ -45,16 +43,9 @@ left_by place caller call before (r ∷ rest) apart =
 
 fewer : {A : Type 0} (f g : A → Bool) (xs : List A) → ((x : A) → f x ≡ true → g x ≡ true) → list_any g xs ≡ false → list_any f xs ≡ false
 fewer f g [] sub none = refl
-fewer f g (x ∷ xs) sub none = let n = split (g x) (list_any g xs) none in
-    ap (λ (b : Bool). b || list_any f xs) (no_more (f x) (g x) (sub x) n.0) ∙ fewer f g xs sub n.1
-  where
-    split : (a b : Bool) → (a || b) ≡ false → (a ≡ false) × (b ≡ false)
-    split true b e = absurd (true≢false e)
-    split false b e = (refl, e)
-
-    no_more : (a b : Bool) → (a ≡ true → b ≡ true) → b ≡ false → a ≡ false
-    no_more true b go e = absurd (true≢false (sym (go refl) ∙ e))
-    no_more false b go e = refl
+fewer f g (x ∷ xs) sub none = split (g x)
+    (λ t. let e = rw t at none in absurd (cc))
+    (λ no. split (f x) (λ t. let e = sub x t in absurd (cc)) (λ n. rw n (fewer f g xs sub (rw no at none))))
 
 waited_more : (m : Node) (before more : List Record) (name : ℕ) → is_waited m before name ≡ true → is_waited m (before ++ more) name ≡ true
 waited_more m before more name is =

@@ -4,6 +4,7 @@ use Rattle.am_races.proofs.Words.{append_assoc, append-nil, eq-eqb, ne_eqb, All,
 use Rattle.am_races.proofs.Words.{Record, Caller, GoesOn, starts_by, starts_through, Tag, of_caller, of_call, Grown, Grows}
 use Rattle.am_races.proofs.Boxing.{own_key}
 use Rattle.std.proofs.lemmas.Bool.{and_from}
+use Rattle.am_races.proofs.Words.{split}
 
 -- ---- tests of lists
 
@@ -29,18 +30,9 @@ none_kept p (x ∷ xs) none = ap (λ (b : Bool). cond b (x ∷ filter p xs) (fil
 -- of those of its caller
 of_call_is : (caller call : ℕ) (seen : List Record) → of_call caller call seen ≡ filter (λ r. r.by.call == call) (of_caller caller seen)
 of_call_is caller call [] = refl
-of_call_is caller call (r ∷ rest) = by_caller (r.by.caller == caller) refl (of_call_is caller call rest)
-  where
-    by_caller : (b : Bool) → (r.by.caller == caller) ≡ b → of_call caller call rest ≡ filter (λ q. q.by.call == call) (of_caller caller rest)
-        → cond ((r.by.caller == caller) && (r.by.call == call)) (r ∷ of_call caller call rest) (of_call caller call rest)
-        ≡ filter (λ q. q.by.call == call) (cond (r.by.caller == caller) (r ∷ of_caller caller rest) (of_caller caller rest))
-    by_caller true e so =
-        ap (λ (b : Bool). cond (b && (r.by.call == call)) (r ∷ of_call caller call rest) (of_call caller call rest)) e
-        ∙ ap (λ (l : List Record). cond (r.by.call == call) (r ∷ l) l) so
-        ∙ sym (ap (λ (b : Bool). filter (λ q. q.by.call == call) (cond b (r ∷ of_caller caller rest) (of_caller caller rest))) e)
-    by_caller false e so =
-        ap (λ (b : Bool). cond (b && (r.by.call == call)) (r ∷ of_call caller call rest) (of_call caller call rest)) e
-        ∙ so ∙ sym (ap (λ (b : Bool). filter (λ q. q.by.call == call) (cond b (r ∷ of_caller caller rest) (of_caller caller rest))) e)
+of_call_is caller call (r ∷ rest) = let so = of_call_is caller call rest in split (r.by.caller == caller)
+    (λ t. rw t (ap (λ (l : List Record). cond (r.by.call == call) (r ∷ l) l) so))
+    (λ f. rw f so)
 
 -- no call has been made under a number that is above all so far
 pub none_of_call : (caller call : ℕ) (seen : List Record) → All (λ r. r.by.call < call) (of_caller caller seen) → of_call caller call seen ≡ []

@@ -1,24 +1,25 @@
 -- What a caller's hand is behind a record, when its call is ready, and which acts it may do.
 use Rattle.am_races.proofs.Words.{◌≡◌, ℕ, zero, suc, ◌+◌, ◌<◌, ◌≤◌, List, [], ◌∷◌, ◌++◌, cond, max, Bool, true, false, true≢false, Option, Some, None, sym}
-use Rattle.am_races.proofs.Words.{refl, ap, ◌∙◌, subst, arith, nat_lt, nat_le, count_by, sum_by, ◌==◌, ◌&&◌, ◌||◌, if◌then◌else◌, not, and_parts, lt-ltb}
-use Rattle.am_races.proofs.Words.{le-leb, sum_by-cons, sum_by-append, none-some, TableId, Outcome, NodeEvent, place_of, name_at, Letter, Act, By, Part, Call}
-use Rattle.am_races.proofs.Words.{Turn, Check, Record, RacePlan, heard_by, Node, World, current, IsEndOf, Choice, Luck, again, draw, after_draw, choice_of}
-use Rattle.am_races.proofs.Words.{act_of, step_end, Caller, WireRefusal, Known, GoesOn, has_stopped, Tag, Came, world_after, of_caller, of_call, own_of}
-use Rattle.am_races.proofs.Words.{is_turn_part, up_to_last, is_take, is_end_of, passed_number, lost_by, words_drawn, later, is_waited, is_least, is_turn_of}
-use Rattle.am_races.proofs.Words.{is_turn, unless_nought, is_due, may_end, is_ready, is_ready_after, may_take, is_of_race, plan_by, terms_of, IsHand}
-use Rattle.am_races.proofs.Words.{luck_after, is_call, Steps, MayAct, Hears, Boxed, Keeps, IsBox, IsShareOf, IsTimely, node_by, lost_in, event_at, by_of}
-use Rattle.am_races.proofs.Words.{end_act, end_part, IsOwn, IsCame, luck_behind, is_asked, ToldBy, EndTells, Grown, Grows}
-use Rattle.am_races.proofs.{Acting.told_is_run, Acting.events_of, Boxing.same_closed, Knows.knows, Knows.name_now, Growing.one_grown, Growing.not_grown}
-use Rattle.am_races.proofs.{Requests.requests_once, Requests.Once, Telling.after_tells, Telling.take_tells}
+use Rattle.am_races.proofs.Words.{refl, ap, ◌∙◌, subst, arith, nat_lt, count_by, sum_by, ◌==◌, ◌&&◌, ◌||◌, if◌then◌else◌, not, and_parts, lt-ltb, le-leb}
+use Rattle.am_races.proofs.Words.{sum_by-cons, sum_by-append, none-some, TableId, Outcome, NodeEvent, place_of, name_at, Letter, Act, By, Part, Turn, Record}
+use Rattle.am_races.proofs.Words.{RacePlan, heard_by, Node, World, current, IsEndOf, Choice, Luck, again, draw, after_draw, choice_of, act_of, step_end, Caller}
+use Rattle.am_races.proofs.Words.{WireRefusal, Known, GoesOn, has_stopped, Tag, Came, world_after, of_caller, of_call, own_of, is_turn_part, up_to_last}
+use Rattle.am_races.proofs.Words.{is_take, is_end_of, passed_number, lost_by, words_drawn, later, is_waited, is_least, is_turn_of, is_turn, unless_nought}
+use Rattle.am_races.proofs.Words.{is_due, may_end, is_ready, is_ready_after, may_take, is_of_race, plan_by, terms_of, IsHand, luck_after, is_call, Steps}
+use Rattle.am_races.proofs.Words.{MayAct, Hears, Boxed, Keeps, IsBox, IsShareOf, IsTimely, node_by, lost_in, event_at, by_of, end_act, end_part, IsOwn, IsCame}
+use Rattle.am_races.proofs.Words.{luck_behind, is_asked, ToldBy, EndTells, Grown, Grows, split, append-nil}
 use Rattle.am_group.specs.declared.event.Act.TheVariants as act
 use Rattle.am_sharing.specs.declared.choice.Choice.TheVariants as choice
 use Rattle.am_sharing.specs.Choices as pump
+use Rattle.std.proofs.Math.Bool.{or-true}
+use Rattle.am_races.proofs.{Acting.told_is_run, Acting.events_of, Boxing.same_closed, Knows.knows, Knows.name_now, Growing.one_grown, Growing.not_grown}
+use Rattle.am_races.proofs.{Requests.requests_once, Requests.Once, Telling.after_tells, Telling.take_tells}
 
 -- ---- words
 
 -- where a letter was heard or lost, one word was drawn
 one_word : (luck : Luck) (a : Act) (lost : ℕ) → 0 < max (heard_by a) lost → record luck { words = after_draw luck.words } ≡ luck_behind luck a lost
-one_word luck a lost some = sym (ap (λ (b : Bool). if b then record luck { words = after_draw luck.words } else luck) (lt-ltb 0 (max (heard_by a) lost) some))
+one_word luck a lost some = rw (lt-ltb 0 (max (heard_by a) lost) some) refl
 
 pub luck_drawn : (luck : Luck) (ahead last : Option ℕ) → ((n : ℕ) → ahead ≡ Some n → 0 < n) → ((k : ℕ) → last ≡ Some k → 0 < k)
     → pump.luck_after luck ahead ≡ luck_behind luck (act_of (choice_of luck ahead last)) (lost_in (choice_of luck ahead last))
@@ -64,11 +65,7 @@ words_more place tag old new item grows =
 
 words_same : (place : ℕ) (tag : Tag) (old new : List Record) → Grows place tag old new [] → words_drawn tag.caller new ≡ words_drawn tag.caller old
 words_same place tag old new grows = ap (count_by (λ r. is_turn_part r.by.part && nat_lt 0 (passed_number r)))
-    (grows.all ∙ nothing_behind (of_caller tag.caller old))
-  where
-    nothing_behind : (l : List Record) → l ++ [] ≡ l
-    nothing_behind [] = refl
-    nothing_behind (x ∷ l) = ap (λ (m : List Record). x ∷ m) (nothing_behind l)
+    (grows.all ∙ append-nil (of_caller tag.caller old))
 
 -- ---- hands
 
@@ -166,8 +163,7 @@ own_ready : (all m : Node) (a : Act) (came : Came) (r : Record) → IsEndOf all 
     → is_ready_after m a came.outcome came.round ≡ is_ready all (Some r)
 unfolding is_ready
 own_ready all m a came r is own =
-    ap (λ (n : Node). is_ready_after n a came.outcome came.round) is.same ∙ ap (λ (x : Act). is_ready_after all x came.outcome came.round) (sym own.act_)
-    ∙ ap (λ (o : Outcome). is_ready_after all r.event.act o came.round) (sym own.outcome) ∙ ap (is_ready_after all r.event.act r.outcome) (sym own.round)
+    rw (own.act_, own.outcome, own.round) (ap (λ (n : Node). is_ready_after n a came.outcome came.round) is.same)
 
 module _ (wire : TableId) (plan : RacePlan) (name : ℕ) (pass : Known) (m : Node) (far : ℕ) (last : Option ℕ) (stopped : Bool) (closed : Option WireRefusal)
     (b : Boxed)
@@ -270,15 +266,11 @@ turn_timely plan seen name name' a by tag lost same is turn = record {
 
 -- a call is due where it is ready, or where its turns are used
 pub ready_due : (plan : RacePlan) (m : Node) (mine : List Record) → is_ready m (own_of mine) ≡ true → is_due plan m mine ≡ true
-ready_due plan m mine is = ap (λ (b : Bool). b || nat_le plan.turns (count_by (λ r. is_turn_part r.by.part) mine)) is
+ready_due plan m mine is = rw is refl
 
 pub used_due : (plan : RacePlan) (m : Node) (mine : List Record) → plan.turns ≤ count_by (λ r. is_turn_part r.by.part) mine → is_due plan m mine ≡ true
-used_due plan m mine used = either_way (is_ready m (own_of mine)) (le-leb plan.turns (count_by (λ r. is_turn_part r.by.part) mine) used)
-  where
-    either_way : (b : Bool) → nat_le plan.turns (count_by (λ r. is_turn_part r.by.part) mine) ≡ true
-        → (b || nat_le plan.turns (count_by (λ r. is_turn_part r.by.part) mine)) ≡ true
-    either_way true h = refl
-    either_way false h = h
+used_due plan m mine used =
+    rw (le-leb plan.turns (count_by (λ r. is_turn_part r.by.part) mine) used) (or-true (is_ready m (own_of mine)))
 
 pub call_asks : (a : Act) → is_call a ≡ true → is_asked a ≡ true
 call_asks (act.Hear number) e = e
@@ -297,8 +289,4 @@ end_asks (act.Reset least resilience) (Some came) = refl
 end_asks _ came = refl
 
 pub end_no_turn : (a : Act) → is_turn_part (end_part a) ≡ false
-end_no_turn a = by_take (is_take a)
-  where
-    by_take : (b : Bool) → is_turn_part (if b then Call else Check) ≡ false
-    by_take true = refl
-    by_take false = refl
+end_no_turn a = split (is_take a) (λ t. rw t refl) (λ f. rw f refl)

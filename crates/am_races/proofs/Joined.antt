@@ -5,6 +5,7 @@ use Rattle.am_races.proofs.Words.{get_or-map, length-map, get_or-range_with_len,
 use Rattle.am_races.proofs.Words.{Caller, times, same_key, Known, Joined, HasAll, GoesOn, times_append, times_cons, goes_through, of_caller, is_callers}
 use Rattle.am_races.proofs.Words.{Calling, HasMade, HasPlaces, IsIn, EndsFor, numbers_of, calls_made, calls_by}
 use Rattle.am_races.proofs.Boxing.{own_key}
+use Rattle.am_races.proofs.Words.{split}
 
 -- ---- one key
 
@@ -13,20 +14,13 @@ same_is (Place a) (Place b) e = ap Place (eqb-true a b e)
 same_is (Caller a) (Caller b) e = ap Caller (eqb-true a b e)
 same_is _ _ e = absurd (true≢false (sym e))
 
-none_if : (b : Bool) → b ≡ false → ◌≡◌ {A = ℕ} (cond b 1 0) 0
-none_if false e = refl
-none_if true e = absurd (true≢false e)
-
 only_key : (key own : Key) → 0 < times key (own ∷ []) → key ≡ own
-only_key key own has = by_test (same_key key own) refl
-  where
-    by_test : (b : Bool) → same_key key own ≡ b → key ≡ own
-    by_test true e = same_is key own e
-    by_test false e =
-        let c = times_cons key own [] in
-        let o = none_if (same_key key own) e in
-        let z : times key [] ≡ 0 = refl in
-        absurd (omega arith)
+only_key key own has = split (same_key key own) (same_is key own)
+    (λ f.
+    let c = times_cons key own [] in
+    let o : ◌≡◌ {A = ℕ} (cond (same_key key own) 1 0) 0 = rw f refl in
+    let z : times key [] ≡ 0 = refl in
+    absurd (omega arith))
 
 keeps_key : (key : Key) (p q p' : Known) → Joined p q p' → 0 < times key p.keys → 0 < times key p'.keys
 keeps_key key p q p' j has =
@@ -51,10 +45,7 @@ place_more count p q p' has j its place h = ⊎_elim
     (below_or_last place count (omega arith))
   where
     below_or_last : (a n : ℕ) → a ≤ n → (a < n) ⊎ (a ≡ n)
-    below_or_last zero zero le = inr refl
-    below_or_last zero (suc n) le = inl (omega arith)
-    below_or_last (suc a) zero le = absurd (omega arith)
-    below_or_last (suc a) (suc n) le = ⊎_elim (λ (h : a < n). inl (omega arith)) (λ (e : a ≡ n). inr (ap suc e)) (below_or_last a n (omega arith))
+    below_or_last a n le = grind arith
 
 pub places_stay : (count : ℕ) (p q p' : Known) → HasPlaces count p → Joined p q p' → HasPlaces count p'
 places_stay count p q p' has j place h = keeps_key (Place place) p q p' j (has place h)

@@ -1,13 +1,13 @@
 -- What is known of the world of which a lawful journal tells.
 use Rattle.am_races.proofs.Words.{◌≡◌, ℕ, List, [], ◌∷◌, ◌++◌, Bool, true, false, true≢false, Option, Some, None, sym, refl, ap, ◌∙◌, subst, append_assoc}
-use Rattle.am_races.proofs.Words.{append-nil, if◌then◌else◌, not, ◌==◌, ◌&&◌, ◌||◌, list_any, list_any-append, fold-append, flat_map-append, Outcome}
-use Rattle.am_races.proofs.Words.{NodeEvent, Rules, place_of, name_at, Packet, Letter, Act, Event, Record, is_for, name_of, letters_of, letter_at, Step}
-use Rattle.am_races.proofs.Words.{step, hear, World, start, is_stopped, with_record, with_step, does_event, gives_up, hears_letter, acts_as, happens}
-use Rattle.am_races.proofs.Words.{current, Terms, Follows, is_stop, has_stopped, tells, world_after, is_of_race, IsLawful}
-use Rattle.am_races.proofs.Apart.{or_false}
+use Rattle.am_races.proofs.Words.{append-nil, if◌then◌else◌, ◌==◌, ◌&&◌, ◌||◌, list_any, list_any-append, fold-append, flat_map-append, Outcome, NodeEvent}
+use Rattle.am_races.proofs.Words.{Rules, place_of, name_at, Packet, Letter, Act, Event, Record, name_of, letters_of, letter_at, Step, hear, World, start}
+use Rattle.am_races.proofs.Words.{is_stopped, with_record, with_step, does_event, gives_up, hears_letter, acts_as, happens, current, Terms, Follows, is_stop}
+use Rattle.am_races.proofs.Words.{has_stopped, tells, world_after, is_of_race, IsLawful}
 use Rattle.am_base.specs.declared.outcome.Outcome.TheVariants as said
 use Rattle.am_base.specs.declared.event.NodeEvent.TheVariants as does
 use Rattle.am_group.specs.declared.event.Act.TheVariants as act
+use Rattle.am_races.proofs.{Apart.or_false}
 
 -- ---- journals by record
 
@@ -43,27 +43,17 @@ either_still : (w x y : World) (b : Bool) → Still w x → Still w y → Still 
 either_still w x y true p q = p
 either_still w x y false p q = q
 
+ruleset still = (either_still, unchanged_still, stepped_still)
+
 does_still : (w : World) (e : Event) (name : ℕ) (event : NodeEvent) → Still w (does_event w e name event)
-does_still w e name event =
-    either_still w (with_record w e said.IsStopped) (with_step w e name (step (w.nodes name) event)) (is_stopped w name) (unchanged_still w e said.IsStopped)
-    (stepped_still w e name (step (w.nodes name) event))
+does_still w e name event = search still
 
 gives_up_still : (w : World) (e : Event) (name other : ℕ) → Still w (gives_up w e name other)
-gives_up_still w e name other =
-    let given : World = with_step w e name (step (w.nodes name) (does.GiveUp other)) in
-    let not_stopped : World = with_record w e said.NotStopped in
-    either_still w (with_record w e said.IsStopped) (if is_stopped w other then given else not_stopped) (is_stopped w name) (unchanged_still w e said.IsStopped)
-    (either_still w given not_stopped (is_stopped w other) (stepped_still w e name (step (w.nodes name) (does.GiveUp other)))
-    (unchanged_still w e said.NotStopped))
+gives_up_still w e name other = search still
 
 heard_still : (w : World) (e : Event) (name : ℕ) (hearing : Packet → Step) (letter : Option Letter) → Still w (hears_letter w e name hearing letter)
 heard_still w e name hearing None = unchanged_still w e said.NoPacket
-heard_still w e name hearing (Some letter) =
-    let hears : World = with_step w e name (hearing letter.packet) in
-    let stopped : World = with_record w e said.IsStopped in
-    either_still w (with_record w e said.NotAddressed) (if is_stopped w name then stopped else hears) (not (is_for letter name))
-    (unchanged_still w e said.NotAddressed)
-    (either_still w stopped hears (is_stopped w name) (unchanged_still w e said.IsStopped) (stepped_still w e name (hearing letter.packet)))
+heard_still w e name hearing (Some letter) = search still
 
 acts_still : (w : World) (e : Event) (name : ℕ) (a : Act) → is_of_race a ≡ true → is_stop a ≡ false → Still w (acts_as w e name a)
 acts_still w e name (act.GiveUp other) its other_act = gives_up_still w e name other
@@ -81,8 +71,7 @@ record Stops (w w' : World) (name : ℕ) : Type 0 where
 stop_case : (w : World) (e : Event) (name : ℕ) (b : Bool) → b ≡ false
     → Stops w (if b then with_record w e said.IsStopped else with_record (record w { stopped = w.stopped ++ name ∷ [] }) e said.Stopped) name
 unfolding with_record
-stop_case w e name true runs = absurd (true≢false runs)
-stop_case w e name false runs = record { lives = refl; stopped = refl }
+stop_case w e name b runs = rw runs (record { lives = refl; stopped = refl })
 
 stop_acts : (w : World) (e : Event) (name : ℕ) (a : Act) → is_stop a ≡ true → is_stopped w name ≡ false → Stops w (acts_as w e name a) name
 stop_acts w e name act.Stop its runs = stop_case w e name (is_stopped w name) runs

@@ -17,6 +17,9 @@ use Rattle.am_races.specs.declared.answer.Answer.TheVariants as answer
 use Rattle.std.proofs.lemmas.Bool.{and_from}
 use Rattle.std.proofs.lemmas.List.{take-append-le}
 use Rattle.am_laws.proofs.Items.{get_last}
+use Rattle.am_races.proofs.Words.{split}
+use Rattle.std.proofs.lemmas.List.{take_all, drop_all, drop-append-le}
+use Rattle.std.proofs.lemmas.List.Elements.{All-drop}
 
 -- ---- answers of records, and refusals
 
@@ -67,8 +70,7 @@ one_turned plan node tag request old middle new spent its outcome so t =
       turns = all_more (λ (r : Record). is_turn_part r.by.part) so.mine (t.item ∷ []) so.turns
           (just_one (λ (r : Record). is_turn_part r.by.part) t.item t.is.part);
       count = let l = length-append so.mine (t.item ∷ []) in let c = so.count in omega arith;
-      late_ = ap (λ (x : Answer). late_after request x outcome) so.late_ ∙ ap (late_after request (late plan.turns request so.mine)) (sym t.is.came)
-          ∙ sym (late_more plan.turns request so.mine t.item);
+      late_ = rw (so.late_, ← t.is.came) (sym (late_more plan.turns request so.mine t.item));
     }
 
 -- the records of a call begin with those before its turns
@@ -79,7 +81,7 @@ first_few a (Some came) first begun = let e : length first ≡ length (begun.2.0
 -- what came of its own act is what its records say, also behind turns
 none_own : (ts : List Record) → AreTurns ts → own_of ts ≡ None
 none_own [] all = refl
-none_own (t ∷ ts) all = ap (λ (b : Bool). cond b (Some t) (own_of ts)) (no_own t.by.part (head_turn t ts all)) ∙ none_own ts (tail_turns t ts all)
+none_own (t ∷ ts) all = rw (no_own t.by.part (head_turn t ts all)) (none_own ts (tail_turns t ts all))
 
 own_came : (a : Act) (came : Option Came) (first ts : List Record) → HasBegun a came first → AreTurns ts → IsCame a came (own_of (first ++ ts))
 own_came a None first ts begun all = (begun.0, ap (λ (l : List Record). own_of (l ++ ts)) begun.1 ∙ none_own ts all)
@@ -90,8 +92,7 @@ pub came_still : (plan : RacePlan) (node : ℕ) (tag : Tag) (a : Act) (came : Op
     → HasBegun a came (of_call tag.caller tag.call old) → HasTurned plan node tag request old new spent its
     → IsCame a came (own_of (of_call tag.caller tag.call new))
 came_still plan node tag a came request old new spent its begun so =
-    subst (λ (l : List Record). IsCame a came (own_of l)) (sym (call_grows (place_of node) tag old new so.mine so.grows))
-    (own_came a came (of_call tag.caller tag.call old) so.mine begun so.turns)
+    rw (call_grows (place_of node) tag old new so.mine so.grows) (own_came a came (of_call tag.caller tag.call old) so.mine begun so.turns)
 
 -- all turns that it made are among its records
 pub turns_used : (plan : RacePlan) (node : ℕ) (tag : Tag) (request : Option ℕ) (old new : List Record) (spent : ℕ) (its : Answer)
@@ -128,7 +129,7 @@ refused_call plan node tag a came request old middle new spent late its begun so
 
 told_or_late : (turns spent : ℕ) (o : Option Answer) (its : Answer) → (o ≡ None → turns ≤ spent)
     → or_else o (if nat_le turns spent then Some its else None) ≡ Some (unwrap_or o its)
-told_or_late turns spent None its used = ap (λ (b : Bool). if b then Some its else None) (le-leb turns spent (used refl))
+told_or_late turns spent None its used = rw (le-leb turns spent (used refl)) refl
 told_or_late turns spent (Some x) its used = refl
 
 -- it came to its end
@@ -150,11 +151,8 @@ ended_call plan node tag a came old middle new spent its outcome begun so le use
     let plain : is_plain its ≡ true = ap is_plain so.late_ ∙ plain_lates plan.turns request so.mine in
     let plain_ = plain_at_end a request outcome its plain in
     let told : ended_answer plan.turns a request so.mine end.item ≡ Some (unwrap_or (told_at_end a outcome) (late_after request its outcome)) =
-    ap (λ (o : Outcome). or_else (told_at_end a o) (if nat_le plan.turns (length so.mine) then Some
-    (late_after request (late plan.turns request so.mine) o) else None)) end.is.told
-    ∙ ap (λ (x : Answer). or_else (told_at_end a outcome) (if nat_le plan.turns (length so.mine) then Some (late_after request x outcome) else None))
-    (sym so.late_)
-    ∙ told_or_late plan.turns (length so.mine) (told_at_end a outcome) (late_after request its outcome) (λ none. let u = used none in omega arith)
+    rw (end.is.told, ← so.late_)
+    (told_or_late plan.turns (length so.mine) (told_at_end a outcome) (late_after request its outcome) (λ none. let u = used none in omega arith))
     in record {
       mine = so.mine ++ end.item ∷ [];
       grows = grows_through (place_of node) tag old middle new so.mine (end.item ∷ []) so.grows one;
@@ -172,11 +170,7 @@ receive_begins a first take none = (take, none)
 
 none_planned : (turns : ℕ) (a : Act) → is_one_call turns a [] ≡ true
 unfolding is_receive
-none_planned turns a = either_way (is_take a)
-  where
-    either_way : (b : Bool) → (if b then true else true) ≡ true
-    either_way true = refl
-    either_way false = refl
+none_planned turns a = split (is_take a) (λ t. rw t refl) (λ f. rw f refl)
 
 nothing_answers : (turns : ℕ) → IsUnanswered turns []
 unfolding answer_of
@@ -272,14 +266,9 @@ stuck turns n (a ∷ calls) r rs low is =
     let other : (r.by.call == n) ≡ false = ne_eqb r.by.call n (λ e. omega arith) in
     let none : first_call n (r ∷ rs) ≡ [] = ap (λ (b : Bool). take (cond b (1 + prefix_len (λ (q : Record). q.by.call == n) rs) 0) (r ∷ rs)) other in
     let same : behind n (r ∷ rs) ≡ r ∷ rs = ap (λ (l : List Record). drop (length l) (r ∷ rs)) none in
-    let rest : are_calls turns (n + 1) calls (behind n (r ∷ rs)) ≡ true =
-    last_of (is_one_call turns a (first_call n (r ∷ rs))) (at_one_place (first_call n (r ∷ rs))) _ is in
+    let all = and_parts (is_one_call turns a (first_call n (r ∷ rs))) _ is in
+    let rest = (and_parts (at_one_place (first_call n (r ∷ rs))) _ all.1).1 in
     stuck turns (n + 1) calls r rs (omega arith) (ap (are_calls turns (n + 1) calls) (sym same) ∙ rest)
-  where
-    last_of : (a b c : Bool) → (a && (b && c)) ≡ true → c ≡ true
-    last_of true true c e = e
-    last_of true false c e = absurd (true≢false (sym e))
-    last_of false b c e = absurd (true≢false (sym e))
 
 pub AreOf : ℕ → List Record → Type 0
 AreOf call records = list_all (λ r. r.by.call == call) records ≡ true
@@ -288,30 +277,16 @@ whole_prefix : (call : ℕ) (mine : List Record) → AreOf call mine → prefix_
 unfolding AreOf
 whole_prefix call [] own = refl
 whole_prefix call (r ∷ mine) own =
-    let p = first_two (r.by.call == call) (list_all (λ q. q.by.call == call) mine) own in
-    let e : prefix_len (λ (q : Record). q.by.call == call) (r ∷ mine) ≡ 1 + prefix_len (λ (q : Record). q.by.call == call) mine =
-    ap (λ (b : Bool). cond b (1 + prefix_len (λ (q : Record). q.by.call == call) mine) 0) p.0
-    in
+    let p = and_parts (r.by.call == call) (list_all (λ q. q.by.call == call) mine) own in
+    let e : prefix_len (λ (q : Record). q.by.call == call) (r ∷ mine) ≡ 1 + prefix_len (λ (q : Record). q.by.call == call) mine = rw p.0 refl in
     let rest = whole_prefix call mine p.1 in
     omega arith
-  where
-    first_two : (a b : Bool) → (a && b) ≡ true → (a ≡ true) × (b ≡ true)
-    first_two true b e = (refl, e)
-    first_two false b e = absurd (true≢false (sym e))
-
-take_all : (xs : List Record) → take (length xs) xs ≡ xs
-take_all [] = refl
-take_all (x ∷ xs) = ap (λ (l : List Record). x ∷ l) (take_all xs)
-
-drop_whole : (xs : List Record) → drop (length xs) xs ≡ []
-drop_whole [] = refl
-drop_whole (x ∷ xs) = drop_whole xs
 
 first_whole : (call : ℕ) (mine : List Record) → AreOf call mine → first_call call mine ≡ mine
-first_whole call mine own = ap (λ (n : ℕ). take n mine) (whole_prefix call mine own) ∙ take_all mine
+first_whole call mine own = ap (λ (n : ℕ). take n mine) (whole_prefix call mine own) ∙ take_all (length mine) mine (omega arith)
 
 behind_whole : (call : ℕ) (mine : List Record) → AreOf call mine → behind call mine ≡ []
-behind_whole call mine own = ap (λ (l : List Record). drop (length l) mine) (first_whole call mine own) ∙ drop_whole mine
+behind_whole call mine own = ap (λ (l : List Record). drop (length l) mine) (first_whole call mine own) ∙ drop_all (length mine) mine (omega arith)
 
 -- records of another call behind leave the first call
 prefix_apart : (n call : ℕ) (xs mine : List Record) → n < call → AreOf call mine
@@ -319,26 +294,13 @@ prefix_apart : (n call : ℕ) (xs mine : List Record) → n < call → AreOf cal
 unfolding AreOf
 prefix_apart n call [] [] low own = refl
 prefix_apart n call [] (r ∷ mine) low own =
-    let e : r.by.call ≡ call = eqb-true r.by.call call (left_is (r.by.call == call) (list_all (λ q. q.by.call == call) mine) own) in
-    ap (λ (b : Bool). cond b (1 + prefix_len (λ (q : Record). q.by.call == n) mine) 0) (ne_eqb r.by.call n (λ s. omega arith))
-  where
-    left_is : (a b : Bool) → (a && b) ≡ true → a ≡ true
-    left_is true b e = refl
-    left_is false b e = absurd (true≢false (sym e))
+    let e : r.by.call ≡ call = eqb-true r.by.call call (and_parts (r.by.call == call) (list_all (λ q. q.by.call == call) mine) own).0 in
+    rw (ne_eqb r.by.call n (λ s. omega arith)) refl
 prefix_apart n call (x ∷ xs) mine low own = ap (λ (k : ℕ). cond (x.by.call == n) (1 + k) 0) (prefix_apart n call xs mine low own)
 
 prefix_low : (p : Record → Bool) (xs : List Record) → prefix_len p xs ≤ length xs
 prefix_low p [] = omega arith
-prefix_low p (x ∷ xs) = by_test (p x) (prefix_low p xs)
-  where
-    by_test : (b : Bool) → prefix_len p xs ≤ length xs → cond b (1 + prefix_len p xs) 0 ≤ length (x ∷ xs)
-    by_test true h = omega arith
-    by_test false h = omega arith
-
-drop_front : (k : ℕ) (xs ys : List Record) → k ≤ length xs → drop k (xs ++ ys) ≡ drop k xs ++ ys
-drop_front zero xs ys le = refl
-drop_front (suc k) [] ys le = absurd (omega arith)
-drop_front (suc k) (x ∷ xs) ys le = drop_front k xs ys (omega arith)
+prefix_low p (x ∷ xs) = let h = prefix_low p xs in split (p x) (λ t. rw t (omega arith)) (λ f. rw f (omega arith))
 
 first_apart : (n call : ℕ) (xs mine : List Record) → n < call → AreOf call mine → first_call n (xs ++ mine) ≡ first_call n xs
 first_apart n call xs mine low own =
@@ -356,11 +318,7 @@ first_short n xs = take_short (prefix_len (λ (r : Record). r.by.call == n) xs) 
 behind_apart : (n call : ℕ) (xs mine : List Record) → n < call → AreOf call mine → behind n (xs ++ mine) ≡ behind n xs ++ mine
 behind_apart n call xs mine low own =
     ap (λ (l : List Record). drop (length l) (xs ++ mine)) (first_apart n call xs mine low own)
-    ∙ drop_front (length (first_call n xs)) xs mine (first_short n xs)
-
-all_drop : (P : Record → Type 0) (k : ℕ) (xs : List Record) → All P xs → All P (drop k xs)
-all_drop P (suc k) (x ∷ xs) all = all_drop P k xs (λ i d h. all (suc i) d (omega arith))
-all_drop P _ _ all = all
+    ∙ drop-append-le (length (first_call n xs)) xs mine (first_short n xs)
 
 -- the records of the next call come behind those of the calls before
 pub calls_more : (turns n call : ℕ) (calls : List Act) (a : Act) (done mine : List Record) → n ≤ call → slice_get calls (call - n) ≡ Some a
@@ -372,55 +330,35 @@ calls_more turns n call [] a done mine le there is low own one at = absurd (none
 calls_more turns n call (b ∷ calls) a done mine le there is low own one at =
     by_order (call - n) refl there (λ next at_ rest.
     calls_more turns (n + 1) call calls a (behind n done) mine next at_ rest
-    (all_drop (λ (r : Record). r.by.call < call) (length (first_call n done)) done low) own one at)
+    (All-drop (λ (r : Record). r.by.call < call) (length (first_call n done)) done low) own one at)
   where
-    parts : (x y z : Bool) → (x && (y && z)) ≡ true → (x ≡ true) × (y ≡ true) × (z ≡ true)
-    parts true true z e = (refl, refl, e)
-    parts true false z e = absurd (true≢false (sym e))
-    parts false y z e = absurd (true≢false (sym e))
-
-    some_act : Act → Option Act → Act
-    some_act d None = d
-    some_act d (Some x) = x
-
     here : n ≡ call → a ≡ b → (rs : List Record) → are_calls turns n (b ∷ calls) rs ≡ true → All (λ r. r.by.call < call) rs
         → are_calls turns n (b ∷ calls) (rs ++ mine) ≡ true
     here e same [] so below =
         let own_ : AreOf n mine = subst (λ (k : ℕ). AreOf k mine) (sym e) own in
-        ap (λ (l : List Record). is_one_call turns b l && (at_one_place l && are_calls turns (n + 1) calls (behind n mine))) (first_whole n mine own_)
-        ∙ ap (λ (l : List Record). is_one_call turns b mine && (at_one_place mine && are_calls turns (n + 1) calls l)) (behind_whole n mine own_)
-        ∙ and_from (is_one_call turns b mine) (at_one_place mine && are_calls turns (n + 1) calls []) (ap (λ (x : Act). is_one_call turns x mine) (sym same) ∙ one)
-        (and_from (at_one_place mine) (are_calls turns (n + 1) calls []) at (none_called turns (n + 1) calls))
+        rw (behind_whole n mine own_, first_whole n mine own_, ← same, one, at) (none_called turns (n + 1) calls)
     here e same (r ∷ rs) so below = absurd (stuck turns n (b ∷ calls) r rs (let l : r.by.call < call = below 0 r (omega arith) in omega arith) so)
 
     by_order : (k : ℕ) → call - n ≡ k → slice_get (b ∷ calls) k ≡ Some a
         → (n + 1 ≤ call → slice_get calls (call - (n + 1)) ≡ Some a → are_calls turns (n + 1) calls (behind n done) ≡ true
         → are_calls turns (n + 1) calls (behind n done ++ mine) ≡ true)
         → are_calls turns n (b ∷ calls) (done ++ mine) ≡ true
-    by_order zero e at_ deeper = here (omega arith) (sym (ap (some_act b) at_)) done is low
+    by_order zero e at_ deeper = here (omega arith) (cc) done is low
     by_order (suc k) e at_ deeper =
-        let p = parts (is_one_call turns b (first_call n done)) (at_one_place (first_call n done)) (are_calls turns (n + 1) calls (behind n done)) is in
+        let p = and_parts (is_one_call turns b (first_call n done)) (at_one_place (first_call n done) && are_calls turns (n + 1) calls (behind n done)) is in
+        let q = and_parts (at_one_place (first_call n done)) (are_calls turns (n + 1) calls (behind n done)) p.1 in
         let further : n < call = omega arith in
         let next : call - (n + 1) ≡ k = omega arith in
-        ap (λ (l : List Record). is_one_call turns b l && (at_one_place l && are_calls turns (n + 1) calls (behind n (done ++ mine))))
-        (first_apart n call done mine further own)
-        ∙ ap (λ (l : List Record). is_one_call turns b (first_call n done) && (at_one_place (first_call n done) && are_calls turns (n + 1) calls l))
-        (behind_apart n call done mine further own)
-        ∙ and_from (is_one_call turns b (first_call n done)) (at_one_place (first_call n done) && are_calls turns (n + 1) calls (behind n done ++ mine)) p.0
-        (and_from (at_one_place (first_call n done)) (are_calls turns (n + 1) calls (behind n done ++ mine)) p.1
-        (deeper (omega arith) (ap (slice_get calls) next ∙ at_) p.2))
+        rw (behind_apart n call done mine further own, first_apart n call done mine further own, p.0, q.0)
+        (deeper (omega arith) (ap (slice_get calls) next ∙ at_) q.1)
 
 -- ---- the caller behind a call
 
 one_place : (place : ℕ) (mine : List Record) → list_all (λ r. place_of r.event.node == place) mine ≡ true → at_one_place mine ≡ true
 one_place place [] all = refl
 one_place place (r ∷ rs) all =
-    let p = first_two (place_of r.event.node == place) (list_all (λ q. place_of q.event.node == place) rs) all in
-    ap (λ (k : ℕ). list_all (λ q. place_of q.event.node == k) rs) (eqb-true (place_of r.event.node) place p.0) ∙ p.1
-  where
-    first_two : (a b : Bool) → (a && b) ≡ true → (a ≡ true) × (b ≡ true)
-    first_two true b e = (refl, e)
-    first_two false b e = absurd (true≢false (sym e))
+    let p = and_parts (place_of r.event.node == place) (list_all (λ q. place_of q.event.node == place) rs) all in
+    rw (eqb-true (place_of r.event.node) place p.0) p.1
 
 all_low : (call : ℕ) (mine : List Record) → AreOf call mine → (k : ℕ) (d : Record) → k < length mine → (get_or mine k d).by.call < call + 1
 unfolding AreOf
@@ -440,8 +378,7 @@ calls_longer turns n (a ∷ calls) more records is =
     let at : Bool = at_one_place (first_call n records) in
     let p = and_parts first (at && are_calls turns (n + 1) calls (behind n records)) is in
     let q = and_parts at (are_calls turns (n + 1) calls (behind n records)) p.1 in
-    and_from first (at && are_calls turns (n + 1) (calls ++ more) (behind n records)) p.0
-    (and_from at (are_calls turns (n + 1) (calls ++ more) (behind n records)) q.0 (calls_longer turns (n + 1) calls more (behind n records) q.1))
+    rw (p.0, q.0) (calls_longer turns (n + 1) calls more (behind n records) q.1)
 
 -- one call more was made
 pub has_made_more : (plan : RacePlan) (node number : ℕ) (calls : List Act) (a : Act) (old new : List Record) (its : Answer) → HasMade plan number calls old

@@ -4,6 +4,7 @@ use Rattle.am_races.proofs.Words.{ne_eqb, if◌then◌else◌, ◌==◌, ◌&&�
 use Rattle.am_races.proofs.Words.{fold-append, dite, ℕ_discrete, place_of, life_of, name_at, has, nobody, with_name, Record, name_of, Terms, Follows}
 use Rattle.am_races.proofs.Words.{is_stop, has_life, with_stop, stopped_names, has_stopped, IsLawful}
 use Rattle.am_races.proofs.{Apart.or_false, Knows.each_keeps, Knows.stopped_more}
+use Rattle.am_races.proofs.Words.{split}
 
 -- ---- who stopped
 
@@ -44,7 +45,7 @@ added set place name was few many each fresh low = dite (ℕ_discrete (place_of 
     ∙ sym (ap (λ (b : Bool). was name || b) (eq-eqb place name is) ∙ or_right (was name) true refl))
     (λ isnt.
     let one : slice_index (slice_set set place 1) (place_of name) ≡ 1 = ap (slice_index (slice_set set place 1)) here ∙ set_here set place 1 (omega arith) in
-    let high : was name ≡ false = not_true (was name) (λ w. let l = low name w in absurd (omega arith)) in
+    let high : was name ≡ false = split (was name) (λ w. let l = low name w in absurd (omega arith)) (λ f. f) in
     ne_eqb (slice_index (slice_set set place 1) (place_of name)) (life_of name) (λ e. let f : life_of name ≡ 1 = sym e ∙ one in absurd (omega arith))
     ∙ sym (ap (λ (b : Bool). was name || b) (ne_eqb place name isnt) ∙ or_false (was name) ∙ high)))
     (λ there.
@@ -52,10 +53,6 @@ added set place name was few many each fresh low = dite (ℕ_discrete (place_of 
     set_there set place (place_of name) 1 (λ e. there (sym e)) in
     ap (λ (k : ℕ). k == life_of name) same ∙ each name
     ∙ sym (ap (λ (b : Bool). was name || b) (ne_eqb place name (λ e. there (omega arith))) ∙ or_false (was name)))
-  where
-    not_true : (b : Bool) → (b ≡ true → b ≡ false) → b ≡ false
-    not_true true f = f refl
-    not_true false f = refl
 
 with_next : (before : List Record) (r : Record) (b : Bool) → is_stop r.event.act ≡ b → r.life ≡ 1 → has_stopped before (name_of r) ≡ false → AreStopped before
     → AreStopped (before ++ r ∷ [])
@@ -91,13 +88,9 @@ with_next before r true its_stop life fresh so_far =
       each = λ name. ap (λ (s : List ℕ). has s name) now
           ∙ added (stopped_names before) place name (has_stopped before) few so_far.many so_far.each (ap (has_stopped before) (sym first) ∙ fresh) so_far.low
           ∙ sym (more name);
-      low = λ name e. is_low before name place few so_far (has_stopped before name) refl (sym (more name) ∙ e);
+      low = λ name e. split (has_stopped before name) (so_far.low name)
+          (λ f. let all = sym (more name) ∙ e in let same = eqb-true place name (rw f at all) in omega arith);
     }
-  where
-    is_low : (done : List Record) (name place : ℕ) → place < 16 → AreStopped done → (b : Bool) → has_stopped done name ≡ b
-        → (has_stopped done name || (place == name)) ≡ true → name < 16
-    is_low done name place few are true is e = are.low name is
-    is_low done name place few are false is e = let same = eqb-true place name (either_true (has_stopped done name) (place == name) e is) in omega arith
 
 no_names : (places name : ℕ) → (slice_index (replicate places 0) (place_of name) == life_of name) ≡ false
 no_names places name = ne_eqb (slice_index (replicate places 0) (place_of name)) (life_of name) (λ e. let z = nought places (place_of name) in

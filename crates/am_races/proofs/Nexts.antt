@@ -4,6 +4,7 @@ use Rattle.am_races.proofs.Words.{append-nil, ne_eqb, ◌==◌, ◌&&◌, ◌||�
 use Rattle.am_races.proofs.Words.{name_of, item_at, Terms, Follows, is_stop, has_stopped, world_after, IsLawful}
 use Rattle.am_races.proofs.{Others.others_stay, Stays.first_apart, Stays.same_place}
 use Rattle.am_laws.proofs.Items.{get_front}
+use Rattle.am_races.proofs.Words.{split}
 
 -- ---- others' records
 
@@ -27,12 +28,8 @@ none_stop (r ∷ rest) name apart lives few =
     let l = first_apart (λ (q : Record). q.life ≡ 1) r rest lives in
     let other : (name_of r == name) ≡ false = ne_eqb (name_of r) name
     (λ s. a.0 (sym (same_place r.event.node) ∙ ap place_of (sym (ap (name_at (place_of r.event.node)) l.0 ∙ omega arith) ∙ s))) in
-    ap (λ (b : Bool). (is_stop r.event.act && b) || has_stopped rest name) other ∙ and_no (is_stop r.event.act) (has_stopped rest name)
-    ∙ none_stop rest name a.1 l.1 few
-  where
-    and_no : (b c : Bool) → ((b && false) || c) ≡ c
-    and_no true c = refl
-    and_no false c = refl
+    let none = none_stop rest name a.1 l.1 few in
+    rw other (split (is_stop r.event.act) (λ t. rw t none) (λ f. rw f none))
 
 pub or_none : (a b : Bool) → b ≡ false → (a || b) ≡ a
 or_none true b e = refl

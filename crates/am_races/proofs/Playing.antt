@@ -10,6 +10,8 @@ use Rattle.am_races.proofs.Running.{next_call, calls_so_far}
 use Rattle.am_sharing.specs.declared.terms.WireRefusal.TheVariants as refusals
 use Rattle.am_races.specs.declared.answer.Answer.TheVariants as answer
 use Rattle.std.proofs.lemmas.Bool.{and_from}
+use Rattle.std.proofs.lemmas.List.Elements.{All-cons}
+use Rattle.am_races.proofs.Words.{split}
 
 -- ---- the records of one call
 
@@ -19,13 +21,10 @@ IsOf call records = All (λ r. (r.by.call == call) ≡ true) records
 its_call : (caller call : ℕ) (seen : List Record) → IsOf call (of_call caller call seen)
 unfolding IsOf
 its_call caller call [] = λ k d h. absurd (omega arith)
-its_call caller call (r ∷ rest) = by_test (its_call caller call rest) ((r.by.caller == caller) && (r.by.call == call)) refl
-  where
-    by_test : All (λ (q : Record). (q.by.call == call) ≡ true) (of_call caller call rest) → (b : Bool) → ((r.by.caller == caller) && (r.by.call == call)) ≡ b
-        → All (λ (q : Record). (q.by.call == call) ≡ true) (cond b (r ∷ of_call caller call rest) (of_call caller call rest))
-    by_test others false e k d h = others k d h
-    by_test others true e zero d h = (and_parts (r.by.caller == caller) (r.by.call == call) e).1
-    by_test others true e (suc k) d h = others k d (omega arith)
+its_call caller call (r ∷ rest) = split ((r.by.caller == caller) && (r.by.call == call))
+    (λ e. rw e (All-cons (λ (q : Record). (q.by.call == call) ≡ true) r (of_call caller call rest)
+    (and_parts (r.by.caller == caller) (r.by.call == call) e).1 (its_call caller call rest)))
+    (λ f. rw f (its_call caller call rest))
 
 prefix_is : (call : ℕ) (mine more : List Record) → IsOf call mine → All (λ r. call + 1 ≤ r.by.call) more
     → prefix_len (λ (r : Record). r.by.call == call) (mine ++ more) ≡ length mine
@@ -33,13 +32,11 @@ unfolding IsOf
 prefix_is call [] [] own later = refl
 prefix_is call [] (r ∷ rest) own later =
     let high : call + 1 ≤ r.by.call = later 0 r (omega arith) in
-    let other : (r.by.call == call) ≡ false = ne_eqb r.by.call call (λ e. omega arith) in
-    ap (λ (b : Bool). cond b (1 + prefix_len (λ (q : Record). q.by.call == call) rest) 0) other
+    rw (ne_eqb r.by.call call (λ e. omega arith)) refl
 prefix_is call (r ∷ mine) more own later =
-    let e : prefix_len (λ (q : Record). q.by.call == call) ((r ∷ mine) ++ more) ≡ 1 + prefix_len (λ (q : Record). q.by.call == call) (mine ++ more) =
-    ap (λ (b : Bool). cond b (1 + prefix_len (λ (q : Record). q.by.call == call) (mine ++ more)) 0) (own 0 r (omega arith)) in
+    let here : (r.by.call == call) ≡ true = own 0 r (omega arith) in
     let more_is = prefix_is call mine more (λ k d h. own (suc k) d (omega arith)) later in
-    omega arith
+    rw here (omega arith)
 
 first_is : (call : ℕ) (mine more : List Record) → IsOf call mine → All (λ r. call + 1 ≤ r.by.call) more → first_call call (mine ++ more) ≡ mine
 first_is call mine more own later = ap (λ (n : ℕ). take n (mine ++ more)) (prefix_is call mine more own later) ∙ take-append_seam mine more
@@ -52,12 +49,7 @@ one_more : (turns call : ℕ) (stopped : Bool) (a : Act) (calls : List Act) (min
     → are_finished turns stopped call (a ∷ calls) (mine ++ more)
     ≡ goes_on stopped (list_any is_end mine) (answer_of turns mine) (are_finished turns stopped (call + 1) calls more) more
 unfolding are_finished
-one_more turns call stopped a calls mine more own later =
-    ap (λ (l : List Record). goes_on stopped (list_any is_end l) (answer_of turns l) (are_finished turns stopped (call + 1) calls (behind call (mine ++ more)))
-    (behind call (mine ++ more)))
-    (first_is call mine more own later)
-    ∙ ap (λ (l : List Record). goes_on stopped (list_any is_end mine) (answer_of turns mine) (are_finished turns stopped (call + 1) calls l) l)
-    (behind_is call mine more own later)
+one_more turns call stopped a calls mine more own later = rw (behind_is call mine more own later, first_is call mine more own later) refl
 
 -- ---- answers
 
@@ -109,10 +101,7 @@ record Grows (plan : RacePlan) (thread : ThreadPlan) (number i : ℕ) (old new :
 
 low_call : (i : ℕ) (mine : List Record) → IsOf i mine → All (λ r. i ≤ r.by.call) mine
 unfolding IsOf
-low_call i mine own = λ k d h. by_eq (get_or mine k d).by.call (own k d h)
-  where
-    by_eq : (call : ℕ) → (call == i) ≡ true → i ≤ call
-    by_eq call e = let s : call ≡ i = eqb-true call i e in omega arith
+low_call i mine own = λ k d h. (let s = eqb-true (get_or mine k d).by.call i (own k d h) in omega arith)
 
 grows : (plan : RacePlan) (thread : ThreadPlan) (number i : ℕ) (a : Act) (old new : Calling) (its : Answer) → Plays plan thread number i old
     → Called plan thread.node a old new its → i < length thread.calls → a ≡ get_or thread.calls i a
@@ -155,11 +144,7 @@ plays_on plan thread number i a old new its plays called goes below there =
           (ap length g.all ∙ length-append (of_caller number old.seen) mine);
       place = g.place;
       goes = λ stopped more later h. g.goes stopped more later
-          (ap (λ (l : List Act). are_finished plan.turns stopped i l (mine ++ more)) (next_call thread.calls i a below there)
-          ∙ one_more plan.turns i stopped a (drop (i + 1) thread.calls) mine more g.own later
-          ∙ ap (λ (o : Option Answer). goes_on stopped (list_any is_end mine) o
-          (are_finished plan.turns stopped (i + 1) (drop (i + 1) thread.calls) more) more) on.0
-          ∙ ap (λ (b : Bool). if b then is_empty more else are_finished plan.turns stopped (i + 1) (drop (i + 1) thread.calls) more) on.1 ∙ h);
+          (rw (next_call thread.calls i a below there, one_more plan.turns i stopped a (drop (i + 1) thread.calls) mine more g.own later, on.0, on.1) h);
     }
 
 -- ---- a thread's end
@@ -175,17 +160,13 @@ refused_no r e = true≢false (ap is_some e)
 -- where the node stopped, a call without an answer and without an end may be the last
 may_end : (turns : ℕ) (mine : List Record) (stopped others : Bool) → IsUnanswered turns mine → stopped ≡ true
     → goes_on stopped (list_any is_end mine) (answer_of turns mine) others [] ≡ true
-may_end turns mine stopped others none by =
-    ap (λ (o : Option Answer). goes_on stopped (list_any is_end mine) o others []) none.none
-    ∙ and_from stopped (not (list_any is_end mine) && true) by (ap (λ (b : Bool). not b && true) none.unended)
+may_end turns mine stopped others none by = rw (none.none, by, none.unended) refl
 
 last_one : (turns : ℕ) (mine seen : List Record) (node : ℕ) (its : Answer) → IsAnswer turns mine seen node its → ends_thread its ≡ true → refusal_in its ≡ None
     → (stopped others : Bool) → (has_stopped seen (place_of node) ≡ true → stopped ≡ true)
     → goes_on stopped (list_any is_end mine) (answer_of turns mine) others [] ≡ true
-last_one turns mine seen node (answer.Late count) is ends none stopped others by =
-    ap (λ (o : Option Answer). goes_on stopped (list_any is_end mine) o others []) is
-last_one turns mine seen node (answer.PutOff req base top) is ends none stopped others by =
-    ap (λ (o : Option Answer). goes_on stopped (list_any is_end mine) o others []) is
+last_one turns mine seen node (answer.Late count) is ends none stopped others by = rw is refl
+last_one turns mine seen node (answer.PutOff req base top) is ends none stopped others by = rw is refl
 last_one turns mine seen node answer.Stopped is ends none stopped others by = may_end turns mine stopped others is.1 (by is.0)
 last_one turns mine seen node answer.Spent is ends none stopped others by = absurd (refused_no refusals.Spent none)
 last_one turns mine seen node answer.NoMemory is ends none stopped others by = absurd (refused_no refusals.NoMemory none)

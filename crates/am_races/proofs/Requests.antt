@@ -1,13 +1,14 @@
 -- A node's own sends have different requests, so that what is settled is told.
-use Rattle.am_races.proofs.Words.{◌≡◌, ℕ, suc, ◌+◌, ◌<◌, ◌≤◌, ◌==◌, not, Bool, true, false, true≢false, List, [], ◌∷◌, ◌++◌, map, filter, find, Option, Some}
-use Rattle.am_races.proofs.Words.{None, is_some, refl, sym, ap, ◌∙◌, subst, arith, cond, ne_eqb, All, ◌&&◌, ◌||◌, list_any, eqb-true, All-push, All-filter}
-use Rattle.am_races.proofs.Words.{All-map, All-weaker, Outcome, Leave, Rules, has, OwnSend, Sends, Event, Node, push_entry, waiting, Verdict, refresh}
-use Rattle.am_races.proofs.Words.{accepted_at, settle_at, settle_waiting, settle, refresh_at_end, World, start, with_record, with_step, run, split, Cause}
-use Rattle.am_races.proofs.Words.{actor, steps, refresh_is, along, EachKeeps, runs_keep}
-use Rattle.am_laws.specs.Looks.{Looks, finds_itself_out, waits, fetches_from_best, finds_too_few, finds_no_room, decides}
-use Rattle.am_laws.specs.Changes.{Change, refreshes, settles}
-use Rattle.am_laws.specs.Changes.{looks, queues, collects, closes}
+use Rattle.am_races.proofs.Words.{◌≡◌, ℕ, suc, ◌+◌, ◌<◌, ◌≤◌, ◌==◌, not, Bool, true, false, true≢false, List, [], ◌∷◌, ◌++◌, map, filter, find, Some, None}
+use Rattle.am_races.proofs.Words.{is_some, refl, sym, ap, ◌∙◌, subst, arith, ne_eqb, All, ◌&&◌, ◌||◌, list_any, eqb-true, All-push, All-filter, All-map}
+use Rattle.am_races.proofs.Words.{All-weaker, Outcome, Leave, Rules, OwnSend, Sends, Event, Node, push_entry, Verdict, refresh, settle, refresh_at_end, run}
+use Rattle.am_races.proofs.Words.{split, Cause, refresh_is}
 use Rattle.am_state.specs.Sends as own
+use Rattle.am_laws.specs.Looks.{Looks, finds_itself_out}
+use Rattle.am_laws.specs.Changes.{Change, refreshes, settles, looks, queues, collects, closes}
+use Rattle.std.proofs.Math.Bool.{or-false}
+use Rattle.am_laws.proofs.Nodes.{nodes_keep, IsOwn}
+use Rattle.am_laws.proofs.Rests.{settle_keeps}
 
 -- ---- sends with different requests
 
@@ -84,17 +85,8 @@ once_settle req number s h = record {
 abbrev pub NodeOnce : Node → Type 0
 NodeOnce m = Once m.sends
 
-once_settled_at : (m : Node) (req : ℕ) (at : Option ℕ) → NodeOnce m → NodeOnce (settle_at m req at)
-once_settled_at m req None h = h
-once_settled_at m req (Some k) h = once_settle req (m.core.base + 1 + k) m.sends h
-
-once_settled : (m : Node) (w : Option OwnSend) → NodeOnce m → NodeOnce (settle_waiting m w)
-once_settled m None h = h
-once_settled m (Some s) h = once_settled_at m s.req (accepted_at m s.req) h
-
 once_at_end : (m : Node) → NodeOnce m → NodeOnce (settle m)
-unfolding settle
-once_at_end m h = once_settled m (waiting m) h
+once_at_end m h = settle_keeps NodeOnce m h (λ s k w at. once_settle s.req (m.core.base + 1 + k) m.sends h)
 
 once_refreshed : (m : Node) → NodeOnce m → NodeOnce (refresh m)
 once_refreshed m h = subst NodeOnce (sym (refresh_is m)) h
@@ -105,11 +97,7 @@ once_refreshed_at_end m h = once_at_end (refresh m) (once_refreshed m h)
 
 look_once : (m : Node) (b : _) (v : Verdict) → Looks m b v → NodeOnce m → NodeOnce v.node
 look_once m b v (finds_itself_out x) h = h
-look_once m b v (waits x y) h = h
-look_once m b v (fetches_from_best x y z) h = h
-look_once m b v (finds_too_few x y) h = h
-look_once m b v (finds_no_room x) h = h
-look_once m b v (decides may) h = h
+look_once m b v _ h = h
 
 change_once : {c : Cause} {o : Outcome} → (m n : Node) → Change c o m n → NodeOnce m → NodeOnce n
 change_once m n refreshes h = once_refreshed m h
@@ -122,23 +110,14 @@ change_once m n _ h = h
 
 -- ---- runs
 
-abbrev AllOnce : World → Type 0
-AllOnce w = (name : ℕ) → NodeOnce (w.nodes name)
+first_once : Once own.no_sends
+first_once = record { low = λ k d lt. absurd (omega arith); apart = tt }
 
-each_once : EachKeeps AllOnce
-unfolding with_record with_step
-each_once w e v (steps c s runs cause effect) h =
-    λ name. split (name == actor w e) (λ t. rw t (along NodeOnce change_once effect.changes (h (actor w e)))) (λ f. rw f (h name))
-each_once w e v _ h = h
-
-once_start : (rules : Rules) → AllOnce (start rules)
-once_start rules name = split (has rules.founders name) (λ t. rw t first) (λ f. rw f first)
-  where
-    first : Once own.no_sends
-    first = record { low = λ k d lt. absurd (omega arith); apart = tt }
+once_own : (rules : Rules) → IsOwn rules NodeOnce
+once_own rules = record { founder_has = λ name. first_once; stranger_has = λ name. first_once; change_keeps = λ m n. change_once m n }
 
 pub requests_once : (rules : Rules) (events : List Event) (name : ℕ) → Once ((run rules events).nodes name).sends
-requests_once rules events = runs_keep AllOnce each_once (start rules) events (once_start rules)
+requests_once rules = nodes_keep rules NodeOnce (once_own rules)
 
 -- ---- what is settled is told
 
@@ -159,14 +138,8 @@ settled_send req (s ∷ q) h is = split (s.req == req)
     let rest = lacks_none req q (subst (λ (n : ℕ). Lack n q) same h.0) in (
       s,
       rw t refl,
-      first (is_some s.number) (sym (ap (λ (b : Bool). (b && is_some s.number) || list_any (λ send. (send.req == req) && is_some send.number) q) t
-          ∙ ap (λ (b : Bool). is_some s.number || b) rest) ∙ is),
+      sym (or-false (is_some s.number)) ∙ rw (t, rest) at is,
     ))
     (λ f.
-    let more = settled_send req q h.1 (sym (ap (λ (b : Bool). (b && is_some s.number) || list_any (λ send. (send.req == req) && is_some send.number) q) f)
-    ∙ is) in
-    (more.0, ap (λ (b : Bool). cond b (Some s) (find (own.is_request req) q)) f ∙ more.1, more.2))
-  where
-    first : (b : Bool) → (b || false) ≡ true → b ≡ true
-    first true e = refl
-    first false e = e
+    let more = settled_send req q h.1 (rw f at is) in
+    (more.0, rw f more.1, more.2))

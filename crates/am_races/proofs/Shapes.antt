@@ -11,6 +11,9 @@ use Rattle.am_base.specs.declared.outcome.Outcome.TheVariants as said
 use Rattle.am_group.specs.declared.event.Act.TheVariants as act
 use Rattle.am_races.specs.declared.answer.Answer.TheVariants as answer
 use Rattle.std.proofs.lemmas.Bool.{and_from}
+use Rattle.am_races.proofs.Words.{split}
+use Rattle.am_races.proofs.Words.{append-nil}
+use Rattle.std.proofs.Math.Bool.{or-true}
 
 -- ---- parts
 
@@ -41,18 +44,13 @@ followed : (turns : ℕ) (own : Record) (ts more : List Record) → AreTurns ts 
     → is_followed turns own (ts ++ more) ≡ true
 unfolding is_followed
 followed turns own [] more all few rest = rest turns
-followed turns own (t ∷ ts) more all few rest =
-    ap (λ (b : Bool). if b then nat_lt 0 turns && is_followed (turns - 1) own (ts ++ more) else (checks own t && is_empty (ts ++ more))) (head_turn t ts all)
-    ∙ and_from (nat_lt 0 turns) (is_followed (turns - 1) own (ts ++ more)) (lt-ltb 0 turns (omega arith))
+followed turns own (t ∷ ts) more all few rest = rw (head_turn t ts all, lt-ltb 0 turns (omega arith))
     (followed (turns - 1) own ts more (tail_turns t ts all) (omega arith) rest)
 
 received : (turns : ℕ) (ts more : List Record) → AreTurns ts → length ts ≤ turns → ((k : ℕ) → is_receive k more ≡ true) → is_receive turns (ts ++ more) ≡ true
 unfolding is_receive
 received turns [] more all few rest = rest turns
-received turns (t ∷ ts) more all few rest =
-    ap (λ (b : Bool). if b then nat_lt 0 turns && is_receive (turns - 1) (ts ++ more) else (is_own t.by.part && (is_take t.event.act && is_empty (ts ++ more))))
-    (head_turn t ts all)
-    ∙ and_from (nat_lt 0 turns) (is_receive (turns - 1) (ts ++ more)) (lt-ltb 0 turns (omega arith))
+received turns (t ∷ ts) more all few rest = rw (head_turn t ts all, lt-ltb 0 turns (omega arith))
     (received (turns - 1) ts more (tail_turns t ts all) (omega arith) rest)
 
 same_body : (a : List ℕ) → same_bytes a a ≡ true
@@ -86,28 +84,16 @@ no_receive _ e = absurd (true≢false (sym e))
 pub other_call : (turns : ℕ) (a : Act) (records : List Record) → is_take a ≡ false → is_one_call turns a records ≡ is_other turns a records
 other_call turns a records no_ = ap (λ (b : Bool). if b then is_receive turns records else is_other turns a records) no_
 
-receives : (turns : ℕ) (a : Act) (records : List Record) → is_take a ≡ true → is_one_call turns a records ≡ is_receive turns records
-receives turns a records yes_ = ap (λ (b : Bool). if b then is_receive turns records else is_other turns a records) yes_
-
 -- behind an own act without an answer
 other_goes : (turns : ℕ) (a : Act) (own : Record) (rest : List Record) → is_own own.by.part ≡ true → same_act a own.event.act ≡ true
     → own_answer a own.outcome ≡ None
     → is_followed turns own rest ≡ true → is_other turns a (own ∷ rest) ≡ true
-other_goes turns a own rest part same none goes =
-    and_from (is_own own.by.part) (same_act a own.event.act && (if is_some (own_answer a own.outcome) then is_empty rest else is_followed turns own rest)) part
-    (and_from (same_act a own.event.act) (if is_some (own_answer a own.outcome) then is_empty rest else is_followed turns own rest) same
-    (ap (λ (o : Option Answer). if is_some o then is_empty rest else is_followed turns own rest) none ∙ goes))
+other_goes turns a own rest part same none goes = rw (part, same, none) goes
 
 -- alone
 pub other_alone : (turns : ℕ) (a : Act) (own : Record) → is_own own.by.part ≡ true → same_act a own.event.act ≡ true → is_other turns a (own ∷ []) ≡ true
 unfolding is_followed
-other_alone turns a own part same =
-    and_from (is_own own.by.part) (same_act a own.event.act && (if is_some (own_answer a own.outcome) then true else true)) part
-    (and_from (same_act a own.event.act) (if is_some (own_answer a own.outcome) then true else true) same (either_way (is_some (own_answer a own.outcome))))
-  where
-    either_way : (b : Bool) → (if b then true else true) ≡ true
-    either_way true = refl
-    either_way false = refl
+other_alone turns a own part same = rw (part, same) (split (is_some (own_answer a own.outcome)) (λ t. rw t refl) (λ f. rw f refl))
 
 same_as : (a : Act) (own : Record) → is_call a ≡ true → own.event.act ≡ a → same_act a own.event.act ≡ true
 same_as a own call e = ap (same_act a) e ∙ same_call a call
@@ -115,9 +101,7 @@ same_as a own call e = ap (same_act a) e ∙ same_call a call
 ends_with : (own e : Record) (k : ℕ) → is_check e.by.part ≡ true → asks own.event.act own.outcome own.packets e.event.act ≡ true
     → is_followed k own (e ∷ []) ≡ true
 unfolding is_followed
-ends_with own e k part is =
-    ap (λ (b : Bool). if b then nat_lt 0 k && true else (checks own e && true)) (check_turns e.by.part part)
-    ∙ and_from (checks own e) true (and_from (is_check e.by.part) (asks own.event.act own.outcome own.packets e.event.act) part is) refl
+ends_with own e k part is = rw (check_turns e.by.part part, part, is) refl
   where
     check_turns : (p : Part) → is_check p ≡ true → is_turn_part p ≡ false
     check_turns Call c = refl
@@ -126,9 +110,7 @@ ends_with own e k part is =
 
 takes_at_end : (e : Record) (k : ℕ) → is_own e.by.part ≡ true → is_take e.event.act ≡ true → is_receive k (e ∷ []) ≡ true
 unfolding is_receive
-takes_at_end e k part is =
-    ap (λ (b : Bool). if b then nat_lt 0 k && true else (is_own e.by.part && (is_take e.event.act && true))) (own_turns e.by.part part)
-    ∙ and_from (is_own e.by.part) (is_take e.event.act && true) part (and_from (is_take e.event.act) true is refl)
+takes_at_end e k part is = rw (own_turns e.by.part part, part, is) refl
 
 -- what a check asks
 asks_it : (a : Act) (came : Came) (own : Record) → has_check a ≡ true → own.event.act ≡ a → own.outcome ≡ came.outcome → round_in own.packets ≡ came.round
@@ -150,23 +132,13 @@ pub record IsEnd (a : Act) (came : Option Came) (e : Record) : Type 0 where
 pub turns_planned : (turns : ℕ) (a : Act) (came : Option Came) (first ts : List Record) → HasBegun a came first → AreTurns ts → length ts ≤ turns
     → is_one_call turns a (first ++ ts) ≡ true
 unfolding is_followed is_receive
-turns_planned turns a None first ts begun all few =
-    ap (λ (l : List Record). is_one_call turns a (l ++ ts)) begun.1 ∙ receives turns a ts begun.0 ∙ ap (is_receive turns) (sym (nothing_behind ts))
-    ∙ received turns ts [] all few (λ k. refl)
-  where
-    nothing_behind : (l : List Record) → l ++ [] ≡ l
-    nothing_behind [] = refl
-    nothing_behind (x ∷ l) = ap (λ (m : List Record). x ∷ m) (nothing_behind l)
+turns_planned turns a None first ts begun all few = rw (begun.1, begun.0) (rw append-nil at (received turns ts [] all few (λ k. refl)))
 turns_planned turns a (Some came) first ts begun all few =
     let own : Record = begun.2.0 in
     let is = begun.2.2 in
-    ap (λ (l : List Record). is_one_call turns a (l ++ ts)) begun.2.1 ∙ other_call turns a (own ∷ ts) (no_receive a begun.0)
-    ∙ other_goes turns a own ts is.part (same_as a own (check_calls a begun.0) is.act_) (ap (own_answer a) is.outcome ∙ begun.1)
-    (ap (is_followed turns own) (sym (nothing_behind ts)) ∙ followed turns own ts [] all few (λ k. refl))
-  where
-    nothing_behind : (l : List Record) → l ++ [] ≡ l
-    nothing_behind [] = refl
-    nothing_behind (x ∷ l) = ap (λ (m : List Record). x ∷ m) (nothing_behind l)
+    rw (begun.2.1, no_receive a begun.0)
+    (other_goes turns a own ts is.part (same_as a own (check_calls a begun.0) is.act_) (ap (own_answer a) is.outcome ∙ begun.1)
+    (rw append-nil at (followed turns own ts [] all few (λ k. refl))))
 
 part_of_take : (a : Act) → is_take a ≡ true → end_part a ≡ Call
 part_of_take a yes_ = ap (λ (b : Bool). if b then Call else Check) yes_
@@ -181,64 +153,46 @@ take_is _ e = absurd (true≢false (sym e))
 pub end_planned : (turns : ℕ) (a : Act) (came : Option Came) (first ts : List Record) (e : Record) → HasBegun a came first → AreTurns ts → length ts ≤ turns
     → IsEnd a came e
     → is_one_call turns a (first ++ (ts ++ e ∷ [])) ≡ true
-end_planned turns a None first ts e begun all few is =
-    ap (λ (l : List Record). is_one_call turns a (l ++ (ts ++ e ∷ []))) begun.1 ∙ receives turns a (ts ++ e ∷ []) begun.0
-    ∙ received turns ts (e ∷ []) all few (λ k. takes_at_end e k (ap is_own (is.part ∙ part_of_take a begun.0))
-    (ap is_take (is.act_ ∙ ap (λ (x : Act). end_act x None) (take_is a begun.0))))
+end_planned turns a None first ts e begun all few is = rw (begun.1, begun.0)
+    (received turns ts (e ∷ []) all few (λ k. takes_at_end e k (ap is_own (is.part ∙ part_of_take a begun.0))
+    (ap is_take (is.act_ ∙ ap (λ (x : Act). end_act x None) (take_is a begun.0)))))
 end_planned turns a (Some came) first ts e begun all few is =
     let own : Record = begun.2.0 in
     let its = begun.2.2 in
-    ap (λ (l : List Record). is_one_call turns a (l ++ (ts ++ e ∷ []))) begun.2.1 ∙ other_call turns a (own ∷ (ts ++ e ∷ [])) (no_receive a begun.0)
-    ∙ other_goes turns a own (ts ++ e ∷ []) its.part (same_as a own (check_calls a begun.0) its.act_) (ap (own_answer a) its.outcome ∙ begun.1)
+    rw (begun.2.1, no_receive a begun.0)
+    (other_goes turns a own (ts ++ e ∷ []) its.part (same_as a own (check_calls a begun.0) its.act_) (ap (own_answer a) its.outcome ∙ begun.1)
     (followed turns own ts (e ∷ []) all few (λ k. ends_with own e k (ap is_check (is.part ∙ part_of_check a (no_receive a begun.0)))
-    (ap (asks own.event.act own.outcome own.packets) is.act_ ∙ asks_it a came own begun.0 its.act_ its.outcome its.round)))
+    (ap (asks own.event.act own.outcome own.packets) is.act_ ∙ asks_it a came own begun.0 its.act_ its.outcome its.round))))
 
 -- ---- answers
 
 nothing_told : (own : Act) (r : Record) → is_turn_part r.by.part ≡ true → answer_in own r ≡ None
-nothing_told own r is =
-    ap (λ (b : Bool). if b then own_answer r.event.act r.outcome else if is_check r.by.part then end_answer own r.outcome else None) (no_own r.by.part is)
-    ∙ ap (λ (b : Bool). if b then end_answer own r.outcome else None) (no_check r.by.part is)
+nothing_told own r is = rw (no_own r.by.part is, no_check r.by.part is) refl
 
 turns_tell_nothing : (own : Act) (ts more : List Record) → AreTurns ts → first_answer own (ts ++ more) ≡ first_answer own more
 turns_tell_nothing own [] more all = refl
-turns_tell_nothing own (t ∷ ts) more all =
-    ap (λ (o : Option Answer). or_else o (first_answer own (ts ++ more))) (nothing_told own t (head_turn t ts all))
-    ∙ turns_tell_nothing own ts more (tail_turns t ts all)
+turns_tell_nothing own (t ∷ ts) more all = rw (nothing_told own t (head_turn t ts all)) (turns_tell_nothing own ts more (tail_turns t ts all))
 
 none_behind : (o : Option Answer) → or_else o None ≡ o
 none_behind None = refl
 none_behind (Some a) = refl
 
--- the end alone
-end_alone : (own : Act) (e : Record) → first_answer own (e ∷ []) ≡ answer_in own e
-end_alone own e = none_behind (answer_in own e)
-
 own_behind : (ts : List Record) (e : Record) → AreTurns ts → is_own e.by.part ≡ true → own_of (ts ++ e ∷ []) ≡ Some e
-own_behind [] e all is = ap (λ (b : Bool). cond b (Some e) None) is
-own_behind (t ∷ ts) e all is =
-    ap (λ (b : Bool). cond b (Some t) (own_of (ts ++ e ∷ []))) (no_own t.by.part (head_turn t ts all)) ∙ own_behind ts e (tail_turns t ts all) is
+own_behind [] e all is = rw is refl
+own_behind (t ∷ ts) e all is = rw (no_own t.by.part (head_turn t ts all)) (own_behind ts e (tail_turns t ts all) is)
 
 pub own_first : (own : Record) (rest : List Record) → is_own own.by.part ≡ true → own_of (own ∷ rest) ≡ Some own
-own_first own rest is = ap (λ (b : Bool). cond b (Some own) (own_of rest)) is
+own_first own rest is = rw is refl
 
 -- how many turns there are
 counts : Record → ℕ
 counts r = cond (is_turn_part r.by.part) 1 0
 
-one_if : (b : Bool) → b ≡ true → ◌≡◌ {A = ℕ} (cond b 1 0) 1
-one_if true h = refl
-one_if false h = absurd (true≢false (sym h))
-
-none_if : (b : Bool) → b ≡ false → ◌≡◌ {A = ℕ} (cond b 1 0) 0
-none_if true h = absurd (true≢false h)
-none_if false h = refl
-
 pub turns_count : (ts : List Record) → AreTurns ts → count_by (λ r. is_turn_part r.by.part) ts ≡ length ts
 turns_count [] all = refl
 turns_count (t ∷ ts) all =
     let e = sum_by-cons (λ (r : Record). cond (is_turn_part r.by.part) 1 0) t ts in
-    let one = one_if (is_turn_part t.by.part) (head_turn t ts all) in
+    let one : ◌≡◌ {A = ℕ} (cond (is_turn_part t.by.part) 1 0) 1 = rw (head_turn t ts all) refl in
     let rest = turns_count ts (tail_turns t ts all) in
     omega arith
 
@@ -246,18 +200,14 @@ with_end : (ts : List Record) (e : Record) → AreTurns ts → is_turn_part e.by
 with_end ts e all no_ =
     let both_ = sum_by-append (λ (r : Record). cond (is_turn_part r.by.part) 1 0) ts (e ∷ []) in
     let last = sum_by-cons (λ (r : Record). cond (is_turn_part r.by.part) 1 0) e [] in
-    let none = none_if (is_turn_part e.by.part) no_ in
+    let none : ◌≡◌ {A = ℕ} (cond (is_turn_part e.by.part) 1 0) 0 = rw no_ refl in
     let zero_ : sum_by (λ (r : Record). cond (is_turn_part r.by.part) 1 0) [] ≡ 0 = refl in
     let rest = turns_count ts all in
     omega arith
 
 any_last : (ts : List Record) (e : Record) → is_end e ≡ true → list_any is_end (ts ++ e ∷ []) ≡ true
-any_last [] e is = ap (λ (b : Bool). b || false) is
-any_last (t ∷ ts) e is = by_first (is_end t) (any_last ts e is)
-  where
-    by_first : (b : Bool) → list_any is_end (ts ++ e ∷ []) ≡ true → (b || list_any is_end (ts ++ e ∷ [])) ≡ true
-    by_first true h = refl
-    by_first false h = h
+any_last [] e is = rw is refl
+any_last (t ∷ ts) e is = rw (any_last ts e is) (or-true (is_end t))
 
 pub late_more : (turns : ℕ) (request : Option ℕ) (xs : List Record) (e : Record)
     → late turns request (xs ++ e ∷ []) ≡ late_after request (late turns request xs) e.outcome
@@ -282,13 +232,7 @@ ends_as : (turns many : ℕ) (recs : List Record) (told : Option Answer) (last :
     → list_any is_end recs ≡ true → count_by (λ r. is_turn_part r.by.part) recs ≡ many → late turns (request_by (own_of recs)) recs ≡ last
     → answer_of turns recs ≡ or_else told (if nat_le turns many then Some last else None)
 unfolding answer_of
-ends_as turns many recs told last first ends counted lates =
-    ap (λ (o : Option Answer). or_else o (if list_any is_end recs
-    && nat_le turns (count_by (λ r. is_turn_part r.by.part) recs) then Some (late turns (request_by (own_of recs)) recs) else None)) first
-    ∙ ap (λ (o : Option Answer). or_else told o)
-    (ap (λ (b : Bool). if b && nat_le turns (count_by (λ r. is_turn_part r.by.part) recs) then Some (late turns (request_by (own_of recs)) recs) else None) ends
-    ∙ ap (λ (n : ℕ). if nat_le turns n then Some (late turns (request_by (own_of recs)) recs) else None) counted
-    ∙ ap (λ (x : Answer). if nat_le turns many then Some x else None) lates)
+ends_as turns many recs told last first ends counted lates = rw (first, ends, counted, lates) refl
 
 take_answers : (turns : ℕ) (a : Act) (ts : List Record) (e : Record) → is_take a ≡ true → AreTurns ts → is_own e.by.part ≡ true → e.event.act ≡ act.Take
     → answer_of turns (ts ++ e ∷ []) ≡ ended_answer turns a None ts e
@@ -296,22 +240,12 @@ take_answers turns a ts e take all part is =
     let recs : List Record = ts ++ e ∷ [] in
     let own : own_of recs ≡ Some e = own_behind ts e all part in
     let first : first_answer (act_of_call (own_of recs)) recs ≡ told_at_end a e.outcome =
-    ap (λ (o : Option Record). first_answer (act_of_call o) recs) own ∙ turns_tell_nothing e.event.act ts (e ∷ []) all ∙ end_alone e.event.act e
-    ∙ ap (λ (b : Bool). if b then own_answer e.event.act e.outcome else if is_check e.by.part then end_answer e.event.act e.outcome else None) part
-    ∙ ap (λ (x : Act). own_answer x e.outcome) (is ∙ sym (take_is a take))
-    ∙ sym (ap (λ (b : Bool). if b then own_answer a e.outcome else end_answer a e.outcome) take)
-    in
-    let ends : list_any is_end recs ≡ true = any_last ts e (or_true (is_check e.by.part) (is_own e.by.part && is_take e.event.act)
-    (and_from (is_own e.by.part) (is_take e.event.act) part (ap is_take is))) in
+    rw (own, turns_tell_nothing e.event.act ts (e ∷ []) all, part, is, take, take_is a take) (none_behind (own_answer act.Take e.outcome)) in
+    let ends : list_any is_end recs ≡ true = any_last ts e (rw (part, is) (or-true (is_check e.by.part))) in
     let counted : count_by (λ r. is_turn_part r.by.part) recs ≡ length ts = with_end ts e all (own_turns e.by.part part) in
     let lates : late turns (request_by (own_of recs)) recs ≡ late_after None (late turns None ts) e.outcome =
-    ap (λ (o : Option Record). late turns (request_by o) recs) own ∙ ap (λ (x : Act). late turns (request_of x e.outcome) recs) is ∙ late_more turns None ts e
-    in
+    rw own (ap (λ (x : Act). late turns (request_of x e.outcome) recs) is ∙ late_more turns None ts e) in
     ends_as turns (length ts) recs (told_at_end a e.outcome) (late_after None (late turns None ts) e.outcome) first ends counted lates
-  where
-    or_true : (b c : Bool) → c ≡ true → (b || c) ≡ true
-    or_true true c h = refl
-    or_true false c h = h
 
 check_answers : (turns : ℕ) (a : Act) (came : Came) (own : Record) (ts : List Record) (e : Record) → has_check a ≡ true → own_answer a came.outcome ≡ None
     → IsOwn a came own → AreTurns ts
@@ -321,34 +255,23 @@ check_answers turns a came own ts e has none is all part =
     let recs : List Record = own ∷ rest in
     let request : Option ℕ = request_of a came.outcome in
     let found : own_of recs ≡ Some own = own_first own rest is.part in
-    let own_none : answer_in own.event.act own ≡ None =
-    ap (λ (b : Bool). if b then own_answer own.event.act own.outcome else if is_check own.by.part then end_answer own.event.act own.outcome else None) is.part
-    ∙ ap (λ (x : Act). own_answer x own.outcome) is.act_ ∙ ap (own_answer a) is.outcome ∙ none
-    in
+    let own_none : answer_in own.event.act own ≡ None = rw (is.part, is.act_, is.outcome) none in
     let first : first_answer (act_of_call (own_of recs)) recs ≡ told_at_end a e.outcome =
-    ap (λ (o : Option Record). first_answer (act_of_call o) recs) found ∙ ap (λ (o : Option Answer). or_else o (first_answer own.event.act rest)) own_none
-    ∙ turns_tell_nothing own.event.act ts (e ∷ []) all ∙ end_alone own.event.act e
-    ∙ ap (λ (b : Bool). if b then own_answer e.event.act e.outcome else if is_check e.by.part then end_answer own.event.act e.outcome else None)
-    (no_own_check e.by.part part)
-    ∙ ap (λ (b : Bool). if b then end_answer own.event.act e.outcome else None) part
-    ∙ ap (λ (x : Act). end_answer x e.outcome) is.act_ ∙ sym
-    (ap (λ (b : Bool). if b then own_answer a e.outcome else end_answer a e.outcome) (no_receive a has))
-    in
+    subst (λ (o : Option Record). first_answer (act_of_call o) recs ≡ told_at_end a e.outcome) (sym found)
+    (rw (own_none, turns_tell_nothing own.event.act ts (e ∷ []) all, no_own_check e.by.part part, part, is.act_, no_receive a has)
+    (none_behind (end_answer a e.outcome))) in
     let ends : list_any is_end recs ≡ true = any_last (own ∷ ts) e (ap (λ (b : Bool). b || (is_own e.by.part && is_take e.event.act)) part) in
     let counted : count_by (λ r. is_turn_part r.by.part) recs ≡ length ts =
     (let c = sum_by-cons (λ (r : Record). cond (is_turn_part r.by.part) 1 0) own rest in
-    let z = none_if (is_turn_part own.by.part) (own_turns own.by.part is.part) in
+    let z : ◌≡◌ {A = ℕ} (cond (is_turn_part own.by.part) 1 0) 0 = rw (own_turns own.by.part is.part) refl in
     let w = with_end ts e all (check_no_turn e.by.part part) in
     omega arith)
     in
-    let asked : request_by (Some own) ≡ request = ap (λ (x : Act). request_of x own.outcome) is.act_ ∙ ap (request_of a) is.outcome in
+    let asked : request_by (Some own) ≡ request = rw (is.act_, is.outcome) refl in
     let begins : late_after request (answer.Late turns) own.outcome ≡ answer.Late turns =
-    ap (late_after request (answer.Late turns)) is.outcome ∙ own_puts_nothing_off a came.outcome (answer.Late turns)
-    in
+    rw is.outcome (own_puts_nothing_off a came.outcome (answer.Late turns)) in
     let lates : late turns (request_by (own_of recs)) recs ≡ late_after request (late turns request ts) e.outcome =
-    ap (λ (o : Option Record). late turns (request_by o) recs) found ∙ ap (λ (q : Option ℕ). late turns q recs) asked
-    ∙ ap (λ (x : Answer). fold (λ y (r : Record). late_after request y r.outcome) x rest) begins ∙ late_more turns request ts e
-    in
+    rw (found, asked) (ap (λ (x : Answer). fold (λ y (r : Record). late_after request y r.outcome) x rest) begins ∙ late_more turns request ts e) in
     ends_as turns (length ts) recs (told_at_end a e.outcome) (late_after request (late turns request ts) e.outcome) first ends counted lates
   where
     no_own_check : (p : Part) → is_check p ≡ true → is_own p ≡ false
@@ -376,22 +299,14 @@ pub own_answers : (turns : ℕ) (a : Act) (came : Came) (own : Record) (its : An
 unfolding answer_of
 own_answers turns a came own its is told =
     let found : own_of (own ∷ []) ≡ Some own = own_first own [] is.part in
-    let here : answer_in own.event.act own ≡ Some its =
-    ap (λ (b : Bool). if b then own_answer own.event.act own.outcome else if is_check own.by.part then end_answer own.event.act own.outcome else None) is.part
-    ∙ ap (λ (x : Act). own_answer x own.outcome) is.act_ ∙ ap (own_answer a) is.outcome ∙ told
-    in
-    let first : first_answer (act_of_call (own_of (own ∷ []))) (own ∷ []) ≡ Some its =
-    ap (λ (o : Option Record). first_answer (act_of_call o) (own ∷ [])) found ∙ end_alone own.event.act own ∙ here
-    in
-    ap (λ (o : Option Answer). or_else o (if list_any is_end (own ∷ [])
-    && nat_le turns (count_by (λ r. is_turn_part r.by.part) (own ∷ [])) then Some (late turns (request_by (own_of (own ∷ []))) (own ∷ [])) else None)) first
+    let here : answer_in own.event.act own ≡ Some its = rw (is.part, is.act_, is.outcome) told in
+    rw (found, here) refl
 
 -- ---- records without an answer
 
 turns_end_nothing : (ts : List Record) → AreTurns ts → list_any is_end ts ≡ false
 turns_end_nothing [] all = refl
-turns_end_nothing (t ∷ ts) all =
-    ap (λ (b : Bool). b || list_any is_end ts) (no_end t.by.part t.event.act (head_turn t ts all)) ∙ turns_end_nothing ts (tail_turns t ts all)
+turns_end_nothing (t ∷ ts) all = rw (no_end t.by.part t.event.act (head_turn t ts all)) (turns_end_nothing ts (tail_turns t ts all))
   where
     no_end : (p : Part) (a : Act) → is_turn_part p ≡ true → is_end_of p a ≡ false
     no_end Call a e = absurd (true≢false (sym e))
@@ -402,36 +317,24 @@ turns_end_nothing (t ∷ ts) all =
 tells_none : (turns : ℕ) (recs : List Record) → first_answer (act_of_call (own_of recs)) recs ≡ None → list_any is_end recs ≡ false
     → IsUnanswered turns recs
 unfolding answer_of
-tells_none turns recs first ends = record {
-  none = ap (λ (o : Option Answer). or_else o (if list_any is_end recs
-      && nat_le turns (count_by (λ r. is_turn_part r.by.part) recs) then Some (late turns (request_by (own_of recs)) recs) else None)) first
-      ∙ ap (λ (b : Bool). if b && nat_le turns (count_by (λ r. is_turn_part r.by.part) recs) then Some
-      (late turns (request_by (own_of recs)) recs) else None) ends;
-  unended = ends;
-}
+tells_none turns recs first ends = record { none = rw (first, ends) refl; unended = ends }
 
 alone_tell_nothing : (own : Act) (ts : List Record) → AreTurns ts → first_answer own ts ≡ None
 alone_tell_nothing own [] all = refl
-alone_tell_nothing own (t ∷ ts) all =
-    ap (λ (o : Option Answer). or_else o (first_answer own ts)) (nothing_told own t (head_turn t ts all)) ∙ alone_tell_nothing own ts (tail_turns t ts all)
+alone_tell_nothing own (t ∷ ts) all = rw (nothing_told own t (head_turn t ts all)) (alone_tell_nothing own ts (tail_turns t ts all))
 
 -- a call's own act without an answer, and turns behind it
 pub unanswered : (turns : ℕ) (a : Act) (came : Option Came) (first ts : List Record) → HasBegun a came first → AreTurns ts → IsUnanswered turns (first ++ ts)
 unanswered turns a None first ts begun all =
-    subst (λ (l : List Record). IsUnanswered turns (l ++ ts)) (sym begun.1)
-    (tells_none turns ts (alone_tell_nothing (act_of_call (own_of ts)) ts all) (turns_end_nothing ts all))
+    rw begun.1 (tells_none turns ts (alone_tell_nothing (act_of_call (own_of ts)) ts all) (turns_end_nothing ts all))
 unanswered turns a (Some came) first ts begun all =
     let own : Record = begun.2.0 in
     let is = begun.2.2 in
-    let silent : answer_in own.event.act own ≡ None =
-    ap (λ (b : Bool). if b then own_answer own.event.act own.outcome else if is_check own.by.part then end_answer own.event.act own.outcome else None) is.part
-    ∙ ap (λ (x : Act). own_answer x own.outcome) is.act_ ∙ ap (own_answer a) is.outcome ∙ begun.1 in
-    subst (λ (l : List Record). IsUnanswered turns (l ++ ts)) (sym begun.2.1)
-    (tells_none turns (own ∷ ts)
-    (ap (λ (o : Option Record). first_answer (act_of_call o) (own ∷ ts)) (own_first own ts is.part)
-    ∙ ap (λ (o : Option Answer). or_else o (first_answer own.event.act ts)) silent ∙ alone_tell_nothing own.event.act ts all)
-    (ap (λ (x : Act). is_end_of own.by.part x || list_any is_end ts) is.act_
-    ∙ ap (λ (b : Bool). b || list_any is_end ts) (no_end own.by.part (no_receive a begun.0) is.part) ∙ turns_end_nothing ts all))
+    let silent : answer_in own.event.act own ≡ None = rw (is.part, is.act_, is.outcome) begun.1 in
+    rw begun.2.1 (tells_none turns (own ∷ ts)
+    (subst (λ (o : Option Record). first_answer (act_of_call o) (own ∷ ts) ≡ None) (sym (own_first own ts is.part))
+    (rw silent (alone_tell_nothing own.event.act ts all)))
+    (rw (is.act_, no_end own.by.part (no_receive a begun.0) is.part) (turns_end_nothing ts all)))
   where
     no_end : (p : Part) → is_take a ≡ false → is_own p ≡ true → is_end_of p a ≡ false
     no_end Call no_ e = no_
@@ -497,18 +400,10 @@ plain_end (act.Reset least resilience) o = plain_ballot o
 plain_end _ o = refl
 
 plain_told : (a : Act) (o : Outcome) → all_plain (told_at_end a o) ≡ true
-plain_told a o = by_take (is_take a)
-  where
-    by_take : (b : Bool) → all_plain (if b then own_answer a o else end_answer a o) ≡ true
-    by_take true = plain_own a o
-    by_take false = plain_end a o
+plain_told a o = split (is_take a) (λ t. rw t (plain_own a o)) (λ f. rw f (plain_end a o))
 
 plain_put_off : (request : Option ℕ) (o : Outcome) → all_plain (put_off_in request o) ≡ true
-plain_put_off (Some req) (said.PutOff its base top) = by_same (its == req)
-  where
-    by_same : (b : Bool) → all_plain (if b then Some (answer.PutOff req base top) else None) ≡ true
-    by_same true = refl
-    by_same false = refl
+plain_put_off (Some req) (said.PutOff its base top) = split (its == req) (λ t. rw t refl) (λ f. rw f refl)
 plain_put_off _ _ = refl
 
 plain_or : (o : Option Answer) (a : Answer) → all_plain o ≡ true → is_plain a ≡ true → is_plain (unwrap_or o a) ≡ true

@@ -1,34 +1,22 @@
 -- A turn stays one, whatever records of other places and callers come between.
 use Rattle.am_races.proofs.Words.{◌≡◌, ℕ, zero, suc, ◌+◌, List, [], ◌∷◌, ◌++◌, drop, Bool, true, false, true≢false, Option, Some, None, sym, refl, ap, ◌∙◌}
 use Rattle.am_races.proofs.Words.{subst, arith, append_assoc, append-nil, if◌then◌else◌, not, ◌&&◌, All, map, count_by, nat_lt, is_none, eqb-true}
-use Rattle.am_races.proofs.Words.{list_any-append, place_of, name_at, Letter, Act, By, Event, Record, RacePlan, is_for, first_for, next_for}
-use Rattle.am_races.proofs.Words.{letters_of, heard_by, Node, World, current, has_stopped, world_after, of_place, of_caller, of_call, own_of, is_turn_part}
-use Rattle.am_races.proofs.Words.{up_to_last, is_ready, cursor, last_heard, words_drawn, unless_nought, choice_after, follows, is_waited, is_choice}
-use Rattle.am_races.proofs.Words.{is_turn_of, turns_at, is_turn, lost_by, is_due, may_end, greatest, passed_number, IsApart, IsLeft}
-use Rattle.am_races.proofs.{Apart.others_are_apart, Others.others_stay}
+use Rattle.am_races.proofs.Words.{list_any-append, place_of, name_at, Letter, Act, By, Event, Record, RacePlan, is_for, first_for, next_for, letters_of}
+use Rattle.am_races.proofs.Words.{heard_by, Node, World, current, has_stopped, world_after, of_place, of_caller, of_call, own_of, is_turn_part, up_to_last}
+use Rattle.am_races.proofs.Words.{is_ready, cursor, last_heard, words_drawn, unless_nought, choice_after, follows, is_waited, is_choice, is_turn_of, turns_at}
+use Rattle.am_races.proofs.Words.{is_turn, lost_by, is_due, may_end, greatest, passed_number, IsApart, IsLeft, and_parts, none-some, split}
 use Rattle.am_group.specs.declared.event.Act.TheVariants as act
-use Rattle.std.proofs.lemmas.Bool.{and_parts, and_from, or_left}
+use Rattle.std.proofs.lemmas.Bool.{and_from, or_left}
 use Rattle.am_group.proofs.Places.{letters_more}
+use Rattle.am_races.proofs.{Apart.others_are_apart, Others.others_stay}
 
 -- ---- letters
 
-is_none_ : Option ℕ → Bool
-is_none_ None = true
-is_none_ (Some k) = false
-
-none_is_no_some : (k : ℕ) → None ≡ Some k → ⊥
-unfolding is_none_
-none_is_no_some k same = true≢false (ap is_none_ same)
-
-if_else : (b : Bool) (x y z t : Option ℕ) → (y ≡ t → z ≡ t) → (if b then x else y) ≡ t → (if b then x else z) ≡ t
-if_else true x y z t go is = is
-if_else false x y z t go is = go is
-
 first_stays : (letters more : List Letter) (number name n : ℕ) → first_for letters number name ≡ Some n → first_for (letters ++ more) number name ≡ Some n
-first_stays [] more number name n e = absurd (none_is_no_some n e)
-first_stays (l ∷ letters) more number name n e =
-    if_else (is_for l name) (Some number) (first_for letters (number + 1) name) (first_for (letters ++ more) (number + 1) name) (Some n)
-    (first_stays letters more (number + 1) name n) e
+first_stays [] more number name n e = absurd (none-some n e)
+first_stays (l ∷ letters) more number name n e = split (is_for l name)
+    (λ t. rw t (rw t at e))
+    (λ f. rw f (first_stays letters more (number + 1) name n (rw f at e)))
 
 dropped : (letters more : List Letter) (count : ℕ) → (rest : List Letter) × (drop count (letters ++ more) ≡ drop count letters ++ rest)
 dropped letters more zero = (more, refl)
@@ -150,26 +138,17 @@ module _ (plan : RacePlan) (before : List Record) (r : Record) (e : Event) (by :
       let knew : up_to_last (place_of name) by.caller more ≡ up_to_last (place_of name) by.caller before = ap (λ (k : ℕ). up_to_last k by.caller more) its
       ∙ left.known ∙ ap (λ (k : ℕ). up_to_last k by.caller before) (sym its) in
       let both = and_parts _ _ is in
-      let ready : not (is_ready (new.nodes name) (own_of (of_call by.caller by.call more))) ≡ true =
-      subst (λ (m : Node). not (is_ready m (own_of (of_call by.caller by.call more))) ≡ true) (sym node)
-      (subst (λ (rs : List Record). not (is_ready (old.nodes name) (own_of rs)) ≡ true) (sym left.call) both.0)
-      in
+      let ready : not (is_ready (new.nodes name) (own_of (of_call by.caller by.call more))) ≡ true = rw (node, left.call) both.0 in
       let turn : is_turn_of plan more (up_to_last (place_of name) by.caller more) (new.nodes name) name by.caller e.act (lost_by by.part) ≡ true =
-      subst (λ (m : Node). is_turn_of plan more (up_to_last (place_of name) by.caller more) m name by.caller e.act (lost_by by.part) ≡ true) (sym node)
-      (subst (λ (rs : List Record). is_turn_of plan more rs (old.nodes name) name by.caller e.act (lost_by by.part) ≡ true) (sym knew)
-      (turn_of_stays plan before (up_to_last (place_of name) by.caller before) r (old.nodes name) name by.caller e.act (lost_by by.part) its_place left.caller
-      both.1))
-      in
+      rw (node, knew) (turn_of_stays plan before (up_to_last (place_of name) by.caller before) r (old.nodes name) name by.caller e.act (lost_by by.part)
+      its_place left.caller both.1) in
       subst (λ (k : ℕ). turns_at plan more new k e by ≡ true) (sym here) (and_from _ _ ready turn)
 
   -- an end stays one, too
   end_stays : may_end plan before e by ≡ true → may_end plan more e by ≡ true
   unfolding may_end
   end_stays is =
-      let due : is_due plan (new.nodes name) (of_call by.caller by.call more) ≡ true =
-      subst (λ (m : Node). is_due plan m (of_call by.caller by.call more) ≡ true) (sym node)
-      (subst (λ (rs : List Record). is_due plan (old.nodes name) rs ≡ true) (sym left.call) is)
-      in
+      let due : is_due plan (new.nodes name) (of_call by.caller by.call more) ≡ true = rw (node, left.call) is in
       subst (λ (k : ℕ). is_due plan (new.nodes k) (of_call by.caller by.call more) ≡ true) (sym here) due
 
 pub first_apart : (P : Record → Type 0) (r : Record) (rest : List Record) → All P (r ∷ rest) → P r × All P rest

@@ -12,6 +12,7 @@ use Rattle.am_base.specs.declared.outcome.Outcome.TheVariants as said
 use Rattle.am_base.specs.declared.event.NodeEvent.TheVariants as does
 use Rattle.am_group.specs.declared.event.Act.TheVariants as act
 use Rattle.am_model.specs.declared.status.Status.TheVariants as status
+use Rattle.am_races.proofs.Words.{split}
 
 -- what a step answers, where its row answers one thing
 answered : (all : Node) (what : NodeEvent) (o : Outcome) → ((n : Node) → (row all what).outcome n ≡ o) → (step all what).outcome ≡ o
@@ -139,23 +140,14 @@ leave_tells all m came is ready outcome told =
 -- ---- a reset
 
 ended_of : (b : Ballot) → is_ended (Some (end_of b)) ≡ true → is_some (ballot_answer b.answer) ≡ true
-ended_of b e = by_over b.is_over b.answer e
-  where
-    by_over : (over : Bool) (o : Outcome) → is_ended (Some (if over then Ended o else Going o)) ≡ true → is_some (ballot_answer o) ≡ true
-    by_over true o e = e
-    by_over false o e = absurd (true≢false (sym e))
+ended_of b e = split b.is_over (λ t. rw t at e) (λ f. let going = rw f at e in absurd (cc))
 
 ask_by_ballot : (all n : Node) (round : ℕ) (ballot : Option Ballot) → is_ended (ballot_end round ballot) ≡ true
     → is_some (ballot_answer ((ask_of all round ballot).outcome n)) ≡ true
 ask_by_ballot all n round None e = absurd (true≢false (sym e))
-ask_by_ballot all n round (Some b) e = by_round (nat_lt b.stamp.round round) (nat_lt round b.stamp.round) e
-  where
-    by_round : (low high : Bool) → is_ended (if low then None else if high then Some (Ended (said.Overtaken b.stamp)) else Some (end_of b)) ≡ true
-        → is_some (ballot_answer ((if low then quiet all said.Unknown else if high then quiet all (said.Overtaken b.stamp) else quiet all b.answer).outcome n))
-        ≡ true
-    by_round true high e = absurd (true≢false (sym e))
-    by_round false true e = refl
-    by_round false false e = ended_of b e
+ask_by_ballot all n round (Some b) e = split (nat_lt b.stamp.round round)
+    (λ t. let none = rw t at e in absurd (cc))
+    (λ f. split (nat_lt round b.stamp.round) (λ t. rw (f, t) refl) (λ g. rw (f, g) (ended_of b (rw (f, g) at e))))
 
 ask_step : (all : Node) (round : ℕ) → (step all (does.Ask round)).outcome
     ≡ (ask_of all round all.ballot).outcome (refresh_at_end (row all (does.Ask round)).node)

@@ -4,14 +4,14 @@ use Rattle.am_races.proofs.Words.{Option, Some, None, cond, sym, refl, ap, ◌�
 use Rattle.am_races.proofs.Words.{if◌then◌else◌, not, ◌==◌, ◌&&◌, ◌||◌, slice_index, slice_get, list_any, eqb-true, ltb-true, none-some, same_Some}
 use Rattle.am_races.proofs.Words.{flat_map-append, place_of, life_of, name_at, name_lt, rank_of, has, names_of, names_from, Letter, Act, Record, RacePlan}
 use Rattle.am_races.proofs.Words.{is_for, first_for, next_for, name_of, letters_of, letter_at, slice_get-drop, heard_by, IsEndOf, Node, waited_for, Terms}
-use Rattle.am_races.proofs.Words.{Follows, StartsWith, GoesOn, stopped_names, has_stopped, of_place, is_waited, is_least, waits_in_vain, greatest}
-use Rattle.am_races.proofs.Words.{last_heard, unless_nought, or_nought, IsLawful, IsSent, is_of_race, terms_of, InBoth, IsLeastOf, IsBox, Boxed, Looks}
-use Rattle.am_races.proofs.Words.{GivesUp, Hears, heard_in, node_by, Choice, Luck, again, choice_of, Place, IsPacket, rest_of, goes_through, filter-append}
-use Rattle.am_races.proofs.{Knows.each_keeps, Boxing.place_last, Names.are_stopped, Nexts.item_more}
+use Rattle.am_races.proofs.Words.{Follows, StartsWith, GoesOn, stopped_names, has_stopped, of_place, is_waited, is_least, waits_in_vain, greatest, last_heard}
+use Rattle.am_races.proofs.Words.{unless_nought, or_nought, IsLawful, IsSent, is_of_race, terms_of, InBoth, IsLeastOf, IsBox, Boxed, Looks, GivesUp, Hears}
+use Rattle.am_races.proofs.Words.{heard_in, node_by, Choice, Luck, again, choice_of, Place, IsPacket, rest_of, goes_through, filter-append, and_parts, split}
 use Rattle.am_group.specs.declared.event.Act.TheVariants as act
 use Rattle.am_sharing.specs.declared.choice.Choice.TheVariants as choice
-use Rattle.std.proofs.lemmas.Bool.{and_parts, and_from, false_from_ne_true}
+use Rattle.std.proofs.lemmas.Bool.{and_from, false_from_ne_true}
 use Rattle.std.proofs.lemmas.Option.{IfSome_then}
+use Rattle.am_races.proofs.{Knows.each_keeps, Boxing.place_last, Names.are_stopped, Nexts.item_more}
 
 -- ---- names of a set
 
@@ -81,14 +81,9 @@ least_waits m seen waited stopped name is many known least = (
 first_there : (letters : List Letter) (from name n : ℕ) → first_for letters from name ≡ Some n → (k : ℕ) × (n ≡ from + k)
     × ((l : Letter) × ((slice_get letters k ≡ Some l) × (is_for l name ≡ true)))
 first_there [] from name n e = absurd (none-some n e)
-first_there (l ∷ letters) from name n e = by_first (is_for l name) refl e (λ is. first_there letters (from + 1) name n is)
-  where
-    by_first : (b : Bool) → is_for l name ≡ b → (if b then Some from else first_for letters (from + 1) name) ≡ Some n
-        → (first_for letters (from + 1) name ≡ Some n → (k : ℕ) × (n ≡ from + 1 + k)
-        × ((x : Letter) × ((slice_get letters k ≡ Some x) × (is_for x name ≡ true))))
-        → (k : ℕ) × (n ≡ from + k) × ((x : Letter) × ((slice_get (l ∷ letters) k ≡ Some x) × (is_for x name ≡ true)))
-    by_first true its is rest = (0, (let s = same_Some from n is in omega arith), (l, (refl, its)))
-    by_first false its is rest = let r = rest is in (suc r.0, omega (arith, r.1), r.2)
+first_there (l ∷ letters) from name n e = split (is_for l name)
+    (λ t. (0, (let s = same_Some from n (rw t at e) in omega arith), (l, (refl, t))))
+    (λ f. let r = first_there letters (from + 1) name n (rw f at e) in (suc r.0, omega (arith, r.1), r.2))
 
 -- the next letter for a name was sent to it
 pub ahead_is_sent : (seen : List Record) (name after n : ℕ) → next_for (letters_of seen) name after ≡ Some n → IsSent seen name n × (after < n)
@@ -158,12 +153,7 @@ higher before name a b p q = elim (order a b) [
 ]
   where
     order : (x y : ℕ) → (max x y ≡ x) ⊎ (max x y ≡ y)
-    order zero y = inr (omega arith)
-    order (suc x) zero = inl (omega arith)
-    order (suc x) (suc y) = elim (order x y) [
-      | inl e ↦ inl (omega arith)
-      | inr e ↦ inr (omega arith)
-    ]
+    order x y = grind arith
 
 still_sent : (before : List Record) (r : Record) (name number : ℕ) → is_nought_or before name number → is_nought_or (before ++ r ∷ []) name number
 still_sent before r name number p = elim p [

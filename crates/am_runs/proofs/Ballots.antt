@@ -85,9 +85,6 @@ overtaken_ok w i promise v (Some b) low h = split (not b.is_over && stamp_lt b.s
       answer = h.answer;
     }))
 
-overtaken_none : (v : Stamp) (b : Option Ballot) → b ≡ None → overtake v b ≡ None
-overtaken_none v b e = ap (overtake v) e
-
 ballot_change : (w : World) (i : ℕ) (c : Cause) (o : Outcome) (m n : Node) → MayGive w c → Change c o m n → NodeOk w i m → NodeOk w i n
 ballot_change w i c o m n g refreshes h = let r = (rests_refresh m).rests in same_ballot w i m n r.who r.promise r.ballot (ap has_log r.status) h
 ballot_change w i c o m n g settles h = subst (NodeOk w i) (sym (settle_is m)) (same_ballot w i m _ refl refl refl refl h)
@@ -99,7 +96,7 @@ ballot_change w i c o m n g (departs s v number is heard leaves) h =
 ballot_change w i c o m n g (promises v low why) h = record {
   who = h.who;
   last = overtaken_ok w i m.core.promise v m.ballot low h.last;
-  blank = λ f. overtaken_none v m.ballot (h.blank f);
+  blank = λ f. (ap (overtake v) (h.blank f));
 }
 ballot_change w i c o m n g (opens least resilience by may) h = record {
   who = h.who;

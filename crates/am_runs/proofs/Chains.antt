@@ -99,17 +99,13 @@ pub passed_front : (taken acc start : ℕ) → max (if nat_lt taken (start - 1) 
 passed_front taken acc start = split (nat_lt taken (start - 1)) (λ t. let z : taken < start - 1 = grind (arith, nat_tests) in
     rw t (omega arith)) (λ f. rw f refl)
 
-lead_front : (m : Node) → (front (lead m) ≡ front m) × ((lead m).core.start ≡ m.core.start)
-unfolding lead own_report tell go_on let_go accept pass_over
-lead_front m = (passed_front m.core.taken _ m.core.start, refl)
-
 advance_front : (m : Node) → (front (advance m) ≡ front m) × ((advance m).core.start ≡ m.core.start)
 unfolding accept pass_over
 advance_front m = (passed_front m.core.taken _ m.core.start, refl)
 
 refresh_front : (m : Node) → (front (refresh m) ≡ front m) × ((refresh m).core.start ≡ m.core.start)
-unfolding refresh
-refresh_front m = split (is_sequencer m) (λ t. rw t (lead_front m)) (λ f. rw f (advance_front m))
+unfolding refresh lead own_report tell go_on let_go accept pass_over
+refresh_front m = split (is_sequencer m) (λ t. rw t ((passed_front m.core.taken _ m.core.start, refl))) (λ f. rw f (advance_front m))
 
 settle_front : (m : Node) → (front (settle m) ≡ front m) × ((settle m).core.start ≡ m.core.start)
 settle_front m = (ap front (settle_is m), ap (λ (x : Node). x.core.start) (settle_is m))

@@ -1,26 +1,26 @@
 -- What each change of the first founder keeps, as long as its ballot is none.
 use Rattle.am_runs.proofs.UnballotedWords.{stamp_itself, ◌≡◌, ℕ, ◌+◌, ◌-◌, ◌<◌, ◌≤◌, max, min, ◌==◌, ◌&&◌, ◌||◌, not, nat_lt, true, false, if◌then◌else◌, List}
-use Rattle.am_runs.proofs.UnballotedWords.{[], length, map, Option, Some, None, refl, sym, ap, ◌∙◌, subst, append-nil, arith, nat_tests, Stamp, Report, Row}
-use Rattle.am_runs.proofs.UnballotedWords.{Image, Entry, Data, Join, Leave, Outcome, Rules, life_of, stamp_eq, Log, fits, at_place, row_of, requests_of, accept}
-use Rattle.am_runs.proofs.UnballotedWords.{pass_over, own_report, tell, go_on, let_go, OwnSend, Status, Node, top, view, is_member, is_asking, acts}
-use Rattle.am_runs.proofs.UnballotedWords.{is_sequencer, push_entry, waiting, founding_stamp, has_log, advance, lead, refresh, accepted_at, settle_at}
-use Rattle.am_runs.proofs.UnballotedWords.{settle_waiting, settle, refresh_at_end, is_view, hears_member, hears_in_view, hears_sequencer, split, and_both}
-use Rattle.am_runs.proofs.UnballotedWords.{image_of, mem, mem_in, in_mem, mem_push, request_within, next_in, Cause, Numbers, asked_send, own_send, asked_join}
-use Rattle.am_runs.proofs.UnballotedWords.{asked_leave, MayBeWelcomed, Change, refreshes, settles, numbers, notes, stores, begins_list, departs, promises}
-use Rattle.am_runs.proofs.UnballotedWords.{opens, looks, fetches, stores_view, queues, collects, takes, asks_to_join, closes, base_up, rests_refresh, settle_is}
-use Rattle.am_runs.proofs.UnballotedWords.{logged}
+use Rattle.am_runs.proofs.UnballotedWords.{[], length, map, Some, None, refl, sym, ap, ◌∙◌, subst, append-nil, arith, nat_tests, Stamp, Report, Row, Image}
+use Rattle.am_runs.proofs.UnballotedWords.{Entry, Data, Join, Leave, Outcome, Rules, life_of, stamp_eq, Log, fits, at_place, row_of, requests_of, accept}
+use Rattle.am_runs.proofs.UnballotedWords.{pass_over, own_report, tell, go_on, let_go, Status, Node, top, view, is_member, is_asking, acts, is_sequencer}
+use Rattle.am_runs.proofs.UnballotedWords.{push_entry, founding_stamp, has_log, lead, refresh, accepted_at, settle, refresh_at_end, is_view, hears_member}
+use Rattle.am_runs.proofs.UnballotedWords.{hears_in_view, hears_sequencer, split, and_both, image_of, mem, mem_in, in_mem, mem_push, request_within, next_in}
+use Rattle.am_runs.proofs.UnballotedWords.{Cause, Numbers, asked_send, own_send, asked_join, asked_leave, MayBeWelcomed, Change, refreshes, settles, numbers}
+use Rattle.am_runs.proofs.UnballotedWords.{notes, stores, begins_list, departs, promises, opens, looks, fetches, stores_view, queues, collects, takes}
+use Rattle.am_runs.proofs.UnballotedWords.{asks_to_join, closes, base_up, rests_refresh, settle_is, logged}
 use Rattle.am_state.specs.Sends as own
 use Rattle.am_model.specs.declared.status.Status.TheVariants as status
 use Rattle.am_model.specs.Node as nodes
 use Rattle.am_base.proofs.Rows as rows
-use Rattle.am_runs.proofs.{UnballotedKept.first_of, UnballotedKept.NodeOk, UnballotedKept.CauseOk, UnballotedKept.node_more, UnballotedChanges.found_at}
-use Rattle.am_runs.proofs.{UnballotedChanges.settle_ok, UnballotedChanges.queued_ok, UnballotedChanges.collected_ok, Others.same_node, Others.looks_leave}
-use Rattle.am_runs.proofs.{Others.promised_first, Others.with_status, Others.with_promise, Others.taken_ok, Turns.Turn, Turns.waiting_is, Turns.one_more}
-use Rattle.am_runs.proofs.{Turns.waiting_settled, Turns.collected_turn, First.group_view, First.base_as, First.OwnOk, First.FirstBase, First.FirstOk}
-use Rattle.am_runs.proofs.{First.first_told, First.first_push}
+use Rattle.am_runs.proofs.UnballotedKept.{first_of, NodeOk, CauseOk, node_more}
+use Rattle.am_runs.proofs.UnballotedChanges.{found_at, settle_ok, queued_ok, collected_ok}
+use Rattle.am_runs.proofs.Others.{same_node, looks_leave, promised_first, with_status, with_promise, taken_ok}
+use Rattle.am_runs.proofs.Turns.{Turn, waiting_is, one_more, waiting_settled, collected_turn}
+use Rattle.am_runs.proofs.First.{group_view, base_as, OwnOk, FirstBase, FirstOk, first_told, first_push}
 use Rattle.am_chain.proofs.Quiet.{leave_fits}
 use Rattle.am_laws.proofs.ViewChanges.{leads_member}
 use Rattle.am_laws.proofs.Counts.{over_acc}
+use Rattle.am_laws.proofs.Rests.{settle_keeps}
 
 -- ---- what is accepted goes on
 
@@ -75,17 +75,11 @@ first_rise rules m told base reports up h =
       own = h.own;
     }
 
-first_lead : (rules : Rules) (m : Node) → FirstBase rules m → FirstBase rules (lead m)
-unfolding lead own_report tell go_on let_go accept pass_over
-first_lead rules m h = first_rise rules m _ _ _ (base_up _ m.core.base) h
-
-first_advance : (rules : Rules) (m : Node) → FirstBase rules m → FirstBase rules (advance m)
-unfolding accept pass_over
-first_advance rules m h = first_rise rules m m.core.told m.core.base m.reports (omega arith) h
-
 first_refresh : (rules : Rules) (m : Node) → FirstBase rules m → FirstBase rules (refresh m)
-unfolding refresh
-first_refresh rules m h = split (is_sequencer m) (λ t. rw t (first_lead rules m h)) (λ f. rw f (first_advance rules m h))
+unfolding refresh lead own_report tell go_on let_go accept pass_over
+first_refresh rules m h = split (is_sequencer m)
+    (λ t. rw t (first_rise rules m _ _ _ (base_up _ m.core.base) h))
+    (λ f. rw f (first_rise rules m m.core.told m.core.base m.reports (omega arith) h))
 
 -- ---- its waiting send is settled
 
@@ -101,10 +95,9 @@ asked_there rules m req k h is =
     let there = f.there ∙ ap (λ w. Some (Data w req f.body)) h.node.who in
     request_within m.core.log.entries (first_of rules) req f.body ((m.core.base - m.core.log.start) + k) h.good.fit there
 
-first_settled_at : (rules : Rules) (m : Node) (s : OwnSend) (at : Option ℕ) → waiting m ≡ Some s → accepted_at m s.req ≡ at
-    → NodeOk rules m.core.log.entries m.core.acc (first_of rules) (settle_at m s.req at) → FirstBase rules m → FirstBase rules (settle_at m s.req at)
-first_settled_at rules m s None w is n h = h
-first_settled_at rules m s (Some k) w is n h =
+first_settle : (rules : Rules) (m : Node) → FirstBase rules m → FirstBase rules (settle m)
+first_settle rules m h = settle_keeps (λ n. NodeOk rules m.core.log.entries m.core.acc (first_of rules) n → FirstBase rules n) m (λ n. h)
+    (λ s k w is n.
     let o = h.own in
     let number = m.core.base + 1 + k in
     let same = waiting_is o.next o.next m.sends.last m.sends.queue s o.turn w in
@@ -115,20 +108,8 @@ first_settled_at rules m s (Some k) w is n h =
       next = o.next + 1;
       turn = subst (λ r. Turn (o.next + 1) (o.next + 1) (map (own.settle_send r number) m.sends.queue) m.sends.last) (sym same) turn;
       low = omega arith;
-    }) h
-
-first_settled : (rules : Rules) (m : Node) (w : Option OwnSend) → waiting m ≡ w
-    → NodeOk rules m.core.log.entries m.core.acc (first_of rules) (settle_waiting m w) → FirstBase rules m → FirstBase rules (settle_waiting m w)
-first_settled rules m None w n h = h
-first_settled rules m (Some s) w n h = first_settled_at rules m s (accepted_at m s.req) w refl n h
-
-first_settle : (rules : Rules) (m : Node) → FirstBase rules m → FirstBase rules (settle m)
-unfolding settle
-first_settle rules m h = first_settled rules m (waiting m) refl (settle_ok rules m.core.log.entries m.core.acc (first_of rules) m h.node) h
-
-pub first_at_end : (rules : Rules) (m : Node) → FirstBase rules m → FirstBase rules (refresh_at_end m)
-unfolding refresh_at_end
-first_at_end rules m h = first_settle rules (refresh m) (first_refresh rules m h)
+    }) h)
+    (settle_ok rules m.core.log.entries m.core.acc (first_of rules) m h.node)
 
 -- ---- what it numbers
 
@@ -244,9 +225,7 @@ not_welcomed m s v base join image h log =
   where
     none : (x : Status) → is_member x ≡ false → (is_member x || is_asking x) ≡ true → has_log x ≡ true → ⊥
     none status.Stranger b a l = absurd (cc)
-    none status.Asking b a l = absurd (cc)
-    none status.Member b a l = absurd (cc)
-    none status.Departed b a l = absurd (cc)
+    none _ b a l = absurd (cc)
 
 -- collecting changes no request number
 collected_last : (next req : ℕ) (sends : own.Sends) → Turn next next sends.queue sends.last
@@ -277,6 +256,7 @@ numbered rules c m e leads why h =
 
 closed : (rules : Rules) (m : Node) → is_sequencer m ≡ true → FirstOk rules m
     → FirstOk rules (record (refresh_at_end (push_entry m (Leave m.core.who))) { status = status.Departed })
+unfolding refresh_at_end
 closed rules m leads h =
     let i = first_of rules in
     let list = m.core.log.entries in
@@ -284,7 +264,7 @@ closed rules m leads h =
     let fit : fits (image_of list) (Leave m.core.who) ≡ true = leave_fits list m.core.who (ap (mem list) h.base.node.who ∙ member) in
     let p = push_entry m (Leave m.core.who) in
     let n = refresh_at_end p in
-    let base = first_at_end rules p (first_push rules m (Leave m.core.who) refl fit h.base) in
+    let base = first_settle rules (refresh p) (first_refresh rules p (first_push rules m (Leave m.core.who) refl fit h.base)) in
     record {
       base = base_as rules n (record n { status = status.Departed }) refl refl refl
           (with_status rules n.core.log.entries n.core.acc i n status.Departed (sym base.log) base.node) base;

@@ -1,12 +1,11 @@
 -- What holds of each run in which nobody began a ballot.
-use Rattle.am_runs.proofs.UnballotedWords.{◌≡◌, ◌≢◌, ℕ, ◌+◌, true, List, [], Some, refl, sym, ◌∙◌, subst, arith, Entry, Data, Join, Rules, blank, AllFit, item_at}
-use Rattle.am_runs.proofs.UnballotedWords.{deliveries, World, run, accepted_sends, has_log, BeginsAt, UnballotedHolds, split, good_begins, begins_take}
-use Rattle.am_runs.proofs.UnballotedWords.{senders_in_order, send_stands_once, bounded_holds, sent_holds, all_get}
+use Rattle.am_runs.proofs.PromisedWords.{◌≡◌, ℕ, ◌+◌, true, List, [], Some, refl, sym, ◌∙◌, subst, arith, Entry, Data, Rules, World, run, has_log, split}
+use Rattle.am_runs.proofs.PromisedWords.{all_get, Once, ListFits, UnballotedListsFit, nil_from_length}
+use Rattle.am_runs.proofs.UnballotedWords.{◌≢◌, Join, blank, AllFit, item_at, deliveries, accepted_sends, BeginsAt, UnballotedHolds, good_begins, begins_take}
+use Rattle.am_runs.proofs.UnballotedWords.{senders_in_order, send_stands_once, bounded_holds, sent_holds}
 use Rattle.std.specs.List.{All}
-use Rattle.am_play.specs.Claims.{Once}
-use Rattle.am_runs.specs.Lists.{ListFits, UnballotedListsFit}
-use Rattle.am_runs.proofs.{Lists.item_taken, UnballotedKept.first_of, UnballotedKept.At, Worlds.StandsAt, Worlds.Kept, Worlds.WorldOk, UnballotedRuns.world_ok}
-use Rattle.std.proofs.lemmas.List.{nil_from_length}
+use Rattle.am_runs.proofs.Worlds.{StandsAt, Kept, WorldOk}
+use Rattle.am_runs.proofs.{Lists.item_taken, UnballotedKept.first_of, UnballotedKept.At, UnballotedRuns.world_ok}
 
 -- what is accepted stands in the group's list
 in_group : (rules : Rules) (list : List Entry) (acc : ℕ) (w : World) (number : ℕ) (e : Entry) → Kept rules list acc w → At list acc number e

@@ -78,9 +78,6 @@ record Does (w : World) (i : ℕ) (n : Node) (o : Outcome) : Type 0 where
 log_front : (m : Node) → has_log m.status ≡ true → front_of m ≡ Some (front m)
 log_front m t = rw t refl
 
-no_front : (m : Node) → has_log m.status ≡ false → front_of m ≡ None
-no_front m f = rw f refl
-
 grows_to : (group : List Entry) (fronts other : List (Option ℕ)) (n : Node) → fronts ≡ other
     → Grows (record { entries = group; fronts = fronts }) (record { entries = group_after group n; fronts = other })
 grows_to group fronts other n same =
@@ -136,7 +133,7 @@ moves_step rules list next acc to w v i n c o small h low k high is grew none_ a
     let long : length (group_after w.group n) ≡ to = ap length (sym grew ∙ k.group) ∙ length-take-le to next high in
     let g : Group = record { entries = w.group; fronts = fronts_of w.nodes } in
     let mid : Group = record { entries = group_after w.group n; fronts = fronts_of w.nodes } in
-    let blank : slice_get mid.fronts i ≡ Some None = front_get w.nodes i small ∙ ap Some (no_front m lm) in
+    let blank : slice_get mid.fronts i ≡ Some None = front_get w.nodes i small ∙ ap Some (rw lm refl) in
     let new : Some (join - 1) ≡ front_of n = sym (log_front n ln ∙ ap Some f) in
     let fronts : with_admitted mid.fronts i join ≡ fronts_of (set_at w.nodes i n) = ap (slice_set (fronts_of w.nodes) i) new
     ∙ sym (fronts_set w.nodes i n small) in

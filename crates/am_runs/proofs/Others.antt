@@ -173,17 +173,13 @@ fronts_told : (rules : Rules) (list : List Entry) (acc i : ℕ) (c : Cause) (s :
 fronts_told rules list acc i c s v base a (alone s1 v1 base1 acc1 high poll) h = h
 fronts_told rules list acc i c s v base a _ h = h.0
 
-found_is : (all : List Record) (from req : ℕ) (body other : List ℕ) (found : Option (List ℕ)) → found ≡ Some body → Unique all → MaySend all from req found
-    → WasSent all from req other → body ≡ other
-found_is all from req body other found is u sent was = u.one from req body other (subst (MaySend all from req) is sent) was
-
 carried_ok : (rules : Rules) (list : List Entry) (acc i : ℕ) (all : List Record) (c : Cause) (m : Node) (s : ℕ) (v : Stamp) (base a number : ℕ) (e : Entry)
     → Unique all → All (EntrySent all) list → Keeps all i m → Carries c m s v base a number e → CauseOk rules list acc i c → item_at list number ≡ Some e
 carried_ok rules list acc i all c m s v base a number e one sent k (whole_entry x is) h = (subst (CauseOk rules list acc i) is h).1
 carried_ok rules list acc i all c m s v base a number e one sent k (by_number from req body is found) h =
     let p = subst (CauseOk rules list acc i) is h in
     let was : WasSent all from req p.1 = all_item (EntrySent all) list number (Data from req p.1) sent p.2 in
-    let same = found_is all from req body p.1 (body_of m from req) found one (body_of_sent all i m from req k) was in
+    let same = one.one from req body p.1 (subst (MaySend all from req) found (body_of_sent all i m from req k)) was in
     p.2 ∙ ap (λ b. Some (Data from req b)) (sym same)
 
 -- ---- ballots

@@ -1,33 +1,13 @@
 -- What each change keeps, and what letters carry.
-use Rattle.std.proofs.Common.{◌≡◌, ℕ, ◌+◌, ◌==◌, ◌&&◌, nat_le, not, true, List, find, Option, Some, None, option_map, refl, subst, arith}
-use Rattle.std.specs.Prelude.{All}
-use Rattle.std.proofs.lemmas.Bool.Decides.{nat_tests}
-use Rattle.std.proofs.lemmas.List.Elements.{All-nil, All-filter, All-weaker}
-use Rattle.am_base.specs.declared.name.Stamp.{Stamp}
-use Rattle.am_base.specs.declared.image.Report.{Report}
-use Rattle.am_base.specs.declared.entry.Entry.{Entry}
-use Rattle.am_base.specs.declared.entry.Entry.TheVariants.{Data, Leave, View}
-use Rattle.am_base.specs.declared.outcome.Outcome.{Outcome}
+use Rattle.am_runs.proofs.PromisedWords.{◌≡◌, ℕ, ◌+◌, ◌==◌, ◌&&◌, nat_le, not, true, List, find, Option, Some, None, option_map, refl, subst, arith, All}
+use Rattle.am_runs.proofs.PromisedWords.{nat_tests, All-nil, All-filter, All-weaker, Stamp, Report, Entry, Data, Leave, View, Outcome, Packet, Record, OwnSend}
+use Rattle.am_runs.proofs.PromisedWords.{KeptBody, is_of, find_body, Node, Ballot, push_entry, trim_up_to, waiting, own_body, first_body, body_of, bodies_after}
+use Rattle.am_runs.proofs.PromisedWords.{Verdict, Step, split, Cause, calls, hears, BringsSend, by_request, by_spread, Looks, decides, Numbers, asked_send}
+use Rattle.am_runs.proofs.PromisedWords.{own_send, Carries, whole_entry, by_number, Change, refreshes, settles, numbers, keeps_body, stores, begins_list, looks}
+use Rattle.am_runs.proofs.PromisedWords.{fetches, stores_view, queues, collects, closes, HasSend, EntryStands, Says, request, spread, bcast, piece, LetterSays}
+use Rattle.am_runs.proofs.PromisedWords.{Effect, all_get, all_find, along}
 use Rattle.am_base.specs.declared.outcome.Outcome.TheVariants as said
 use Rattle.am_base.specs.declared.event.NodeEvent.TheVariants as does
-use Rattle.am_packet.specs.declared.packet.Packet.{Packet}
-use Rattle.am_group.specs.declared.event.Record.{Record}
-use Rattle.am_state.specs.declared.sender.OwnSend.{OwnSend}
-use Rattle.am_state.specs.declared.bodies.KeptBody.{KeptBody}
-use Rattle.am_state.specs.Bodies.{is_of, find_body}
-use Rattle.am_model.specs.Node.{Node, Ballot, push_entry, trim_up_to, waiting}
-use Rattle.am_model.specs.Receiving.{own_body, first_body, body_of, bodies_after}
-use Rattle.am_model.specs.Ballots.{Verdict}
-use Rattle.am_model.specs.Emit.{Step}
-use Rattle.am_base.proofs.Greatest.{split}
-use Rattle.am_laws.specs.Causes.{Cause, calls, hears, BringsSend, by_request, by_spread}
-use Rattle.am_laws.specs.Looks.{Looks, decides}
-use Rattle.am_laws.specs.Changes.{Numbers, asked_send, own_send, Carries, whole_entry, by_number, Change, refreshes, settles, numbers, keeps_body, stores}
-use Rattle.am_laws.specs.Changes.{begins_list, looks, fetches, stores_view, queues, collects, closes}
-use Rattle.am_laws.specs.Letters.{HasSend, EntryStands, Says, request, spread, bcast, piece, LetterSays}
-use Rattle.am_laws.specs.Effects.{Effect}
-use Rattle.am_laws.proofs.Items.{all_get, all_find}
-use Rattle.am_laws.proofs.EffectRuns.{along}
 use Rattle.am_runs.proofs.SentKept.{WasSent, EntrySent, PacketSent, LetterSent, SendSent, BodySent, Keeps, as_sent, kept_pushed, kept_queued, kept_collected}
 use Rattle.am_runs.proofs.SentKept.{kept_body, kept_refresh, kept_settle, kept_at_end, waiting_sent}
 

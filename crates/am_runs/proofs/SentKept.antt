@@ -1,26 +1,10 @@
 -- What each step of a node keeps: all that it has was sent by its sender, and the changes that keep this.
-use Rattle.std.proofs.Common.{◌≡◌, ℕ, ◌+◌, ◌==◌, nat_le, not, List, ◌++◌, drop, length, Option, Some, None, slice_get, sym, subst}
-use Rattle.std.specs.Prelude.{All}
-use Rattle.std.specs.List.{list_any}
-use Rattle.std.proofs.lemmas.List.Elements.{All-push, All-drop, All-filter, All-map, All-weaker}
-use Rattle.am_base.specs.declared.entry.Entry.{Entry}
-use Rattle.am_base.specs.declared.entry.Entry.TheVariants.{Data}
-use Rattle.am_packet.specs.declared.packet.Packet.{Packet}
-use Rattle.am_packet.specs.declared.packet.Packet.TheVariants.{Request, Spread, Bcast, Piece}
-use Rattle.am_packet.specs.Boxes.{Letter}
-use Rattle.am_state.specs.Cores.{accept, pass_over}
-use Rattle.am_state.specs.Refresh.{own_report, tell, go_on, let_go}
-use Rattle.am_group.specs.declared.event.Record.{Record}
-use Rattle.am_state.specs.declared.sender.OwnSend.{OwnSend}
+use Rattle.am_runs.proofs.PromisedWords.{◌≡◌, ℕ, ◌+◌, ◌==◌, nat_le, not, List, ◌++◌, drop, length, Some, slice_get, sym, subst, All, list_any, All-push}
+use Rattle.am_runs.proofs.PromisedWords.{All-drop, All-filter, All-map, All-weaker, Entry, Data, Packet, Request, Spread, Bcast, Piece, Letter, accept}
+use Rattle.am_runs.proofs.PromisedWords.{pass_over, own_report, tell, go_on, let_go, Record, OwnSend, KeptBody, is_of, with_body, keep_body, Node, is_sequencer}
+use Rattle.am_runs.proofs.PromisedWords.{push_entry, waiting, lead, refresh, settle, refresh_at_end, with_queued, IsSend, split, get_front, all_find}
 use Rattle.am_state.specs.Sends as own
-use Rattle.am_state.specs.declared.bodies.KeptBody.{KeptBody}
-use Rattle.am_state.specs.Bodies.{is_of, with_body, keep_body}
-use Rattle.am_model.specs.Node.{Node, is_sequencer, push_entry, waiting}
-use Rattle.am_model.specs.Refresh.{advance, lead, refresh, accepted_at, settle_at, settle_waiting, settle, refresh_at_end}
-use Rattle.am_model.specs.Calls.{with_queued}
-use Rattle.am_play.specs.Claims.{IsSend}
-use Rattle.am_base.proofs.Greatest.{split}
-use Rattle.am_laws.proofs.Items.{get_front, all_find}
+use Rattle.am_laws.proofs.Rests.{settle_keeps}
 
 -- ---- what was sent
 
@@ -144,42 +128,25 @@ kept_body all who m from req body sent h = split (list_any (is_of from req) m.bo
 
 -- ---- the refresh
 
-kept_lead : (all : List Record) (who : ℕ) (m : Node) → Keeps all who m → Keeps all who (lead m)
-unfolding lead own_report tell go_on let_go accept pass_over
-kept_lead all who m h = h
-
-kept_advance : (all : List Record) (who : ℕ) (m : Node) → Keeps all who m → Keeps all who (advance m)
-unfolding accept pass_over
-kept_advance all who m h = h
-
 pub kept_refresh : (all : List Record) (who : ℕ) (m : Node) → Keeps all who m → Keeps all who (refresh m)
-unfolding refresh
-kept_refresh all who m h = split (is_sequencer m) (λ t. rw t (kept_lead all who m h)) (λ f. rw f (kept_advance all who m h))
+unfolding refresh lead own_report tell go_on let_go accept pass_over
+kept_refresh all who m h = split (is_sequencer m) (λ t. rw t (h)) (λ f. rw f (h))
 
 -- ---- the end of a step
 
 same_send : (all : List Record) (who req number : ℕ) (s : OwnSend) → SendSent all who s → SendSent all who (own.settle_send req number s)
 same_send all who req number s h = split (s.req == req) (λ t. rw t h) (λ f. rw f h)
 
-kept_settled_at : (all : List Record) (who : ℕ) (m : Node) (req : ℕ) (at : Option ℕ) → Keeps all who m → Keeps all who (settle_at m req at)
-kept_settled_at all who m req None h = h
-kept_settled_at all who m req (Some k) h =
-    let f = own.settle_send req (m.core.base + 1 + k) in
+pub kept_settle : (all : List Record) (who : ℕ) (m : Node) → Keeps all who m → Keeps all who (settle m)
+kept_settle all who m h = settle_keeps (Keeps all who) m h (λ s k w at.
+    let f = own.settle_send s.req (m.core.base + 1 + k) in
     record {
       name = h.name;
       entries = h.entries;
       sends = All-map (SendSent all who) f m.sends.queue (All-weaker (SendSent all who) (λ s. SendSent all who (f s))
-          (same_send all who req (m.core.base + 1 + k)) m.sends.queue h.sends);
+          (same_send all who s.req (m.core.base + 1 + k)) m.sends.queue h.sends);
       bodies = h.bodies;
-    }
-
-kept_settled : (all : List Record) (who : ℕ) (m : Node) (w : Option OwnSend) → Keeps all who m → Keeps all who (settle_waiting m w)
-kept_settled all who m None h = h
-kept_settled all who m (Some s) h = kept_settled_at all who m s.req (accepted_at m s.req) h
-
-pub kept_settle : (all : List Record) (who : ℕ) (m : Node) → Keeps all who m → Keeps all who (settle m)
-unfolding settle
-kept_settle all who m h = kept_settled all who m (waiting m) h
+    })
 
 pub kept_at_end : (all : List Record) (who : ℕ) (m : Node) → Keeps all who m → Keeps all who (refresh_at_end m)
 unfolding refresh_at_end

@@ -1,32 +1,10 @@
 -- What every run keeps.
-use Rattle.std.proofs.Common.{◌≡◌, ℕ, ◌-◌, ◌<◌, ◌==◌, List, [], ◌∷◌, ◌++◌, length, take, slice_get, Some, refl, subst, arith}
-use Rattle.std.specs.Prelude.{All}
-use Rattle.std.proofs.lemmas.Option.{slice_get_within}
-use Rattle.std.proofs.lemmas.List.{length-take}
-use Rattle.std.proofs.lemmas.Bool.Decides.{nat_tests}
-use Rattle.std.proofs.lemmas.List.Elements.{All-nil, All-cons, All-append, All-take, All-drop, All-weaker}
-use Rattle.am_base.specs.declared.entry.Entry.{Entry}
-use Rattle.am_base.specs.declared.entry.Entry.TheVariants.{Data}
-use Rattle.am_base.specs.declared.event.NodeEvent.{NodeEvent}
-use Rattle.am_base.specs.Founding.{Rules}
-use Rattle.am_base.specs.Names.{has}
-use Rattle.am_packet.specs.Boxes.{Letter}
-use Rattle.am_group.specs.declared.event.Act.{Act}
-use Rattle.am_group.specs.declared.event.Event.{Event}
-use Rattle.am_group.specs.declared.event.Record.{Record}
-use Rattle.am_model.specs.Node.{Node, view, set_at, founder, stranger, founders_view}
-use Rattle.am_model.specs.Emit.{Step}
-use Rattle.am_play.specs.World.{World, start, record_of, group_after, with_record, with_step, run}
-use Rattle.am_play.specs.Claims.{heard_by}
-use Rattle.am_base.proofs.Greatest.{split}
-use Rattle.am_laws.specs.Causes.{Cause, calls, hears, refuses}
+use Rattle.am_runs.proofs.PromisedWords.{◌≡◌, ℕ, ◌-◌, ◌<◌, ◌==◌, List, [], ◌∷◌, ◌++◌, length, take, slice_get, Some, refl, subst, arith, All, slice_get_within}
+use Rattle.am_runs.proofs.PromisedWords.{length-take, nat_tests, All-nil, All-cons, All-append, All-take, All-drop, All-weaker, Entry, Data, NodeEvent, Rules}
+use Rattle.am_runs.proofs.PromisedWords.{has, Letter, Act, Event, Record, Node, view, set_at, founder, stranger, founders_view, Step, World, start, record_of}
+use Rattle.am_runs.proofs.PromisedWords.{group_after, with_record, with_step, run, heard_by, split, Cause, calls, hears, refuses, actor, IsCall, IsCause, steps}
+use Rattle.am_runs.proofs.PromisedWords.{get_front, get_last, all_item, EachKeeps, runs_keep, SentHolds, one_record_each, runs_begin}
 use Rattle.am_laws.specs.Events as event
-use Rattle.am_laws.specs.Events.{actor, IsCall, IsCause, steps}
-use Rattle.am_laws.proofs.Items.{get_front, get_last, all_item}
-use Rattle.am_laws.proofs.EffectRuns.{EachKeeps, runs_keep}
-use Rattle.am_runs.specs.SentClaim.{SentHolds}
-use Rattle.am_play.proofs.Runs.{one_record_each}
-use Rattle.am_play.proofs.Beginnings.{runs_begin}
 use Rattle.am_runs.proofs.SentKept.{WasSent, EntrySent, PacketSent, LetterSent, Keeps, entry_more, letter_more, kept_more}
 use Rattle.am_runs.proofs.SentChanges.{CauseSent, StepSent, step_sent}
 

@@ -1,12 +1,14 @@
 -- What a step of a name makes of what a world keeps.
-use Rattle.am_runs.proofs.UnballotedWords.{◌≡◌, ◌⊎◌, ⊎_elim, inl, inr, ℕ, suc, ◌+◌, ◌-◌, ◌<◌, ◌≤◌, nat_le, List, [], ◌∷◌, ◌++◌, length, Some, None, slice_get}
-use Rattle.am_runs.proofs.UnballotedWords.{refl, sym, ap, ◌∙◌, subst, append-nil, length-append, arith, All, nat_tests, All-nil, All-cons, Entry, Data, Outcome}
-use Rattle.am_runs.proofs.UnballotedWords.{Rules, Log, entry_at, item_at, taken_in, Node, sent_in, split, entry-get, Cause, Answers, HasTaken, AnswersAsk}
-use Rattle.am_runs.proofs.UnballotedWords.{WasSettled, all_get, get_push}
+use Rattle.am_runs.proofs.PromisedWords.{◌≡◌, ◌⊎◌, ⊎_elim, inl, inr, ℕ, ◌+◌, ◌-◌, ◌<◌, nat_le, List, [], ◌∷◌, ◌++◌, length, Some, None, slice_get, refl, sym}
+use Rattle.am_runs.proofs.PromisedWords.{ap, ◌∙◌, subst, arith, All, nat_tests, All-nil, All-cons, Entry, Data, Outcome, Rules, Node, split, Cause, all_get}
+use Rattle.am_runs.proofs.PromisedWords.{nil_from_length}
 use Rattle.am_base.specs.declared.outcome.Outcome.TheVariants as said
-use Rattle.am_runs.proofs.{Lists.get_item, Lists.item_more, Lists.within_get, UnballotedKept.At, UnballotedKept.at_more, UnballotedKept.SendOk, UnballotedKept.IsSettled, UnballotedKept.NodeOk}
-use Rattle.am_runs.proofs.{Worlds.GivenOk, Worlds.StandsAt, Chains.front, Chains.at_least, Chains.Gave, Chains.nothing, Chains.took, Chains.began}
-use Rattle.std.proofs.lemmas.List.{nil_from_length}
+use Rattle.am_runs.proofs.UnballotedWords.{suc, ◌≤◌, append-nil, length-append, Log, entry_at, item_at, taken_in, sent_in, entry-get, Answers, HasTaken}
+use Rattle.am_runs.proofs.UnballotedWords.{AnswersAsk, WasSettled, get_push}
+use Rattle.am_runs.proofs.Lists.{get_item, item_more, within_get}
+use Rattle.am_runs.proofs.UnballotedKept.{At, at_more, SendOk, IsSettled, NodeOk}
+use Rattle.am_runs.proofs.Chains.{front, at_least, Gave, nothing, took, began}
+use Rattle.am_runs.proofs.{Worlds.GivenOk, Worlds.StandsAt}
 
 -- ---- answers
 

@@ -1,11 +1,13 @@
 -- What each change of a node keeps, as long as its ballot is none: of any name but the first founder, and of that.
-use Rattle.am_runs.proofs.UnballotedWords.{◌≡◌, ℕ, ◌+◌, ◌-◌, ◌<◌, ◌≤◌, ◌==◌, nat_lt, true, not, List, take, get_or, Option, Some, None, slice_get, refl, sym, ap}
-use Rattle.am_runs.proofs.UnballotedWords.{◌∙◌, subst, arith, All, nat_tests, length-take, position-Some, slice_get-get_or, All-push, All-filter, All-map}
-use Rattle.am_runs.proofs.UnballotedWords.{All-weaker, Stamp, Entry, Data, Join, Rules, stamp_eq, CoreState, accept, pass_over, slice_get-drop, OwnSend, item_at}
-use Rattle.am_runs.proofs.UnballotedWords.{Node, view, is_member, acts, is_sequencer, entries_above, waiting, is_data_of, accepted_at, settle_at, settle_waiting}
-use Rattle.am_runs.proofs.UnballotedWords.{settle, split, and_both, own_data, logged, get_take}
+use Rattle.am_runs.proofs.UnballotedWords.{◌≡◌, ℕ, ◌+◌, ◌-◌, ◌<◌, ◌≤◌, ◌==◌, nat_lt, true, not, List, take, get_or, Some, slice_get, sym, ap, ◌∙◌, subst, arith}
+use Rattle.am_runs.proofs.UnballotedWords.{All, nat_tests, length-take, position-Some, slice_get-get_or, All-push, All-filter, All-map, All-weaker, Stamp}
+use Rattle.am_runs.proofs.UnballotedWords.{Entry, Data, Join, Rules, stamp_eq, CoreState, accept, pass_over, slice_get-drop, OwnSend, item_at, Node, view}
+use Rattle.am_runs.proofs.UnballotedWords.{is_member, acts, is_sequencer, entries_above, is_data_of, accepted_at, settle, split, and_both, own_data, logged}
+use Rattle.am_runs.proofs.UnballotedWords.{get_take}
 use Rattle.am_state.specs.Sends as own
-use Rattle.am_runs.proofs.{Lists.get_item, Lists.within_get, UnballotedKept.first_of, UnballotedKept.At, UnballotedKept.FrontsOk, UnballotedKept.SendOk, UnballotedKept.NodeOk}
+use Rattle.am_runs.proofs.UnballotedKept.{first_of, At, FrontsOk, SendOk, NodeOk}
+use Rattle.am_laws.proofs.Rests.{settle_keeps}
+use Rattle.am_runs.proofs.{Lists.get_item, Lists.within_get}
 
 -- ---- who leads
 
@@ -92,25 +94,14 @@ with_queue : (rules : Rules) (list : List Entry) (acc i : ℕ) (m : Node) (sends
     → NodeOk rules list acc i (record m { sends = sends })
 with_queue rules list acc i m sends q h = record { who = h.who; log = h.log; fronts = h.fronts; status = h.status; sends = q }
 
-settled_at_ok : (rules : Rules) (list : List Entry) (acc i : ℕ) (m : Node) (req : ℕ) (at : Option ℕ) → accepted_at m req ≡ at → NodeOk rules list acc i m
-    → NodeOk rules list acc i (settle_at m req at)
-settled_at_ok rules list acc i m req None is h = h
-settled_at_ok rules list acc i m req (Some k) is h =
-    let number = m.core.base + 1 + k in
-    let stands = settled_stands rules list acc i m req k h is in
-    with_queue rules list acc i m (own.settle req number m.sends)
-    (All-map (SendOk list acc i) (own.settle_send req number) m.sends.queue
-    (All-weaker (SendOk list acc i) (λ s. SendOk list acc i (own.settle_send req number s))
-    (λ s. settled_send list acc i req number s stands) m.sends.queue h.sends)) h
-
-settled_ok : (rules : Rules) (list : List Entry) (acc i : ℕ) (m : Node) (w : Option OwnSend) → NodeOk rules list acc i m
-    → NodeOk rules list acc i (settle_waiting m w)
-settled_ok rules list acc i m None h = h
-settled_ok rules list acc i m (Some s) h = settled_at_ok rules list acc i m s.req (accepted_at m s.req) refl h
-
 pub settle_ok : (rules : Rules) (list : List Entry) (acc i : ℕ) (m : Node) → NodeOk rules list acc i m → NodeOk rules list acc i (settle m)
-unfolding settle
-settle_ok rules list acc i m h = settled_ok rules list acc i m (waiting m) h
+settle_ok rules list acc i m h = settle_keeps (NodeOk rules list acc i) m h (λ s k w is.
+    let number = m.core.base + 1 + k in
+    let stands = settled_stands rules list acc i m s.req k h is in
+    with_queue rules list acc i m (own.settle s.req number m.sends)
+    (All-map (SendOk list acc i) (own.settle_send s.req number) m.sends.queue
+    (All-weaker (SendOk list acc i) (λ x. SendOk list acc i (own.settle_send s.req number x))
+    (λ x. settled_send list acc i s.req number x stands) m.sends.queue h.sends)) h)
 
 -- ---- sends
 

@@ -1,14 +1,8 @@
 -- From an accept front on, the accept front is that front.
-use Rattle.std.proofs.Common.{◌≡◌, ⊎_elim, ℕ, zero, suc, ◌+◌, ◌-◌, ◌<◌, ◌≤◌, refl, sym, ◌∙◌, ap, Bool, true, false, ◌&&◌, nat_le, arith}
-use Rattle.std.proofs.lemmas.Bool.Decides.{nat_tests}
-use Rattle.std.proofs.lemmas.Bool.{cases_lt}
-use Rattle.std.proofs.Math.Nat.{eq-or-lt_of_le}
-use Rattle.am_base.specs.declared.image.Report.{Report}
-use Rattle.am_base.specs.Lists.{Log, top_of, told_by}
-use Rattle.am_base.specs.Fronts.{greatest, is_held, accept_front}
-use Rattle.am_state.proofs.Folds.{split}
-use Rattle.am_state.proofs.Ranges.{all_true, all_at}
+use Rattle.am_state.proofs.Words.{◌≡◌, ⊎_elim, ℕ, zero, suc, ◌+◌, ◌-◌, ◌<◌, ◌≤◌, refl, sym, ◌∙◌, ap, Bool, true, false, ◌&&◌, nat_le, arith, nat_tests}
+use Rattle.am_state.proofs.Words.{cases_lt, eq-or-lt_of_le, Report, Log, top_of, told_by, greatest, is_held, accept_front}
 use Rattle.am_state.proofs.Walks.{greatest_is, satisfied_by, front_by, satisfied_high, satisfied_low}
+use Rattle.am_state.proofs.{Folds.split, Ranges.all_true, Ranges.all_at}
 
 pub greatest_low : (passes : ℕ → Bool) (from more : ℕ) → (from ≤ greatest passes from more) × (greatest passes from more ≤ from + more)
 unfolding greatest

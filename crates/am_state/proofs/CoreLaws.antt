@@ -1,12 +1,7 @@
 -- A core that keeps the end of a list, one change after another.
-use Rattle.std.proofs.Common.{◌≡◌, ℕ, zero, suc, ◌+◌, ◌-◌, ◌≤◌, max, refl, sym, ◌∙◌, ap, arith}
-use Rattle.std.proofs.Math.Nat.{sub_self}
-use Rattle.am_base.specs.Names.{union_of}
-use Rattle.am_base.specs.declared.entry.Entry.{Entry}
-use Rattle.am_base.specs.Lists.{Log, top_of, members_of, members_at, with_entry}
-use Rattle.am_state.specs.Kept.{IsEnd, above}
-use Rattle.am_state.specs.Cores.{CoreState, Stands, Keeps, Adds, Sends, Makes, whole, accept, pass_over, advance, trim_to, unions, since_accepted}
-use Rattle.am_state.specs.Laws.{TellsTheSame}
+use Rattle.am_state.proofs.Words.{◌≡◌, ℕ, zero, suc, ◌+◌, ◌-◌, ◌≤◌, max, refl, sym, ◌∙◌, ap, arith, sub_self, union_of, Entry, Log, top_of, members_of}
+use Rattle.am_state.proofs.Words.{members_at, with_entry, IsEnd, above, CoreState, Stands, Keeps, Adds, Sends, Makes, whole, accept, pass_over, advance}
+use Rattle.am_state.proofs.Words.{trim_to, unions, since_accepted, TellsTheSame}
 use Rattle.am_state.proofs.Ends.{end-same, end-top, end-image, end-push, end-above, end-self}
 
 pub stands_same : (all : Log) (c : CoreState) → Stands all c → TellsTheSame all c.log

@@ -1,19 +1,11 @@
 -- The end of a list tells the same as all of it.
-use Rattle.std.proofs.Common.{◌≡◌, ℕ, zero, suc, ◌+◌, ◌-◌, ◌<◌, ◌≤◌, List, [], ◌∷◌, ◌++◌, length, take, drop, refl, sym, ◌∙◌, ap, subst, arith, length-append}
-use Rattle.std.proofs.Common.{length-drop, slice_get, Some, true, nat_le, add-one}
-use Rattle.std.proofs.lemmas.List.{take-append-le, drop-append-le, length-take-le, take-append-drop, drop-drop, take_more}
-use Rattle.std.proofs.lemmas.List.Elements.{All-push, All-drop}
-use Rattle.std.proofs.lemmas.Option.{slice_get_within, get_or_from_slice_get}
-use Rattle.std.proofs.lemmas.Bool.Decides.{nat_tests}
-use Rattle.std.proofs.Math.Seq.{take-add, take-length}
-use Rattle.std.proofs.Math.Nat.{sub_self}
-use Rattle.am_base.specs.Most.{most_number}
-use Rattle.am_base.specs.declared.entry.Entry.{Entry}
-use Rattle.am_base.specs.Lists.{fold, after, fits, AllFit, Log, top_of, image_at, entry_at, told_by, with_entry}
-use Rattle.am_base.specs.Limits.{IsImage, IsEntry}
-use Rattle.am_state.specs.Kept.{IsEnd, IsKept, above}
-use Rattle.am_state.specs.Laws.{EndsTellTheSame, EndsStay}
-use Rattle.am_state.proofs.Folds.{fold-append, fold-push, AllFit-push, AllFit-drop, slice_get-drop}
+use Rattle.am_state.proofs.Words.{◌≡◌, ℕ, zero, suc, ◌+◌, ◌-◌, ◌<◌, ◌≤◌, List, [], ◌∷◌, ◌++◌, length, take, drop, refl, sym, ◌∙◌, ap, subst, arith}
+use Rattle.am_state.proofs.Words.{length-append, length-drop, slice_get, Some, true, nat_le, add-one, take-append-le, drop-append-le, length-take-le}
+use Rattle.am_state.proofs.Words.{take-append-drop, drop-drop, take_more, All-push, All-drop, slice_get_within, get_or_from_slice_get, nat_tests, take-add}
+use Rattle.am_state.proofs.Words.{take-length, sub_self, most_number, Entry, fold, after, fits, AllFit, Log, top_of, image_at, entry_at, told_by, with_entry}
+use Rattle.am_state.proofs.Words.{IsImage, IsEntry, IsEnd, IsKept, above, EndsTellTheSame, EndsStay}
+use Rattle.am_base.proofs.Folds.{fold_append}
+use Rattle.am_state.proofs.Folds.{fold-push, AllFit-push, AllFit-drop, slice_get-drop}
 
 -- how many entries all of it has more
 abbrev pub gone : Log → Log → ℕ
@@ -34,7 +26,7 @@ end-fold all kept xs is =
     let l = length-take-le (gone all kept) all.entries (omega arith) in
     let at : all.start + 1 + length (take (gone all kept) all.entries) ≡ kept.start + 1 = omega arith in
     ap (λ i. fold i (kept.start + 1) xs) is.image ∙ ap (λ k. fold (image_at all kept.start) k xs) (sym at)
-    ∙ sym (fold-append all.image (all.start + 1) (take (gone all kept) all.entries) xs)
+    ∙ sym (fold_append all.image (all.start + 1) (take (gone all kept) all.entries) xs)
 
 pub end-told : (all kept : Log) → IsEnd all kept → told_by kept ≡ told_by all
 end-told all kept is =

@@ -1,26 +1,18 @@
 -- Folding a list in two parts.
-use Rattle.std.proofs.Common.{Bool, false, ◌≡◌, ℕ, zero, suc, ◌+◌, ◌≤◌, List, [], ◌∷◌, ◌++◌, length, take, drop, refl, sym, ◌∙◌, ap, subst, true, slice_get}
-use Rattle.std.proofs.Common.{arith, add-zero, zero-add}
-use Rattle.am_base.specs.declared.image.Image.{Image}
-use Rattle.am_base.specs.declared.entry.Entry.{Entry}
-use Rattle.am_base.specs.Lists.{fold, after, fits, AllFit}
+use Rattle.am_state.proofs.Words.{Bool, false, ◌≡◌, ℕ, zero, suc, ◌+◌, ◌≤◌, List, [], ◌∷◌, ◌++◌, length, take, drop, refl, sym, ◌∙◌, ap, subst, true, slice_get}
+use Rattle.am_state.proofs.Words.{arith, add-zero, zero-add, Image, Entry, fold, after, fits, AllFit}
+use Rattle.am_base.proofs.Folds.{fold_append}
 
 -- by what a test says
 pub split : {G : Type 0} (b : Bool) → (b ≡ true → G) → (b ≡ false → G) → G
 split true f g = f refl
 split false f g = g refl
 
-pub fold-append : (image : Image) (number : ℕ) (xs ys : List Entry) → fold image number (xs ++ ys) ≡ fold (fold image number xs) (number + length xs) ys
-unfolding fold
-fold-append image number [] ys = ap (λ k. fold image k ys) (sym (add-zero number))
-fold-append image number (e ∷ es) ys = fold-append (after image number e) (number + 1) es ys
-    ∙ ap (λ k. fold (fold (after image number e) (number + 1) es) k ys) (omega arith)
-
 -- one entry more
 pub fold-push : (image : Image) (number : ℕ) (xs : List Entry) (e : Entry)
     → fold image number (xs ++ e ∷ []) ≡ after (fold image number xs) (number + length xs) e
 unfolding fold
-fold-push image number xs e = fold-append image number xs (e ∷ [])
+fold-push image number xs e = fold_append image number xs (e ∷ [])
 
 pub AllFit-append : (image : Image) (number : ℕ) (xs ys : List Entry) → AllFit image number xs → AllFit (fold image number xs) (number + length xs) ys
     → AllFit image number (xs ++ ys)

@@ -1,21 +1,11 @@
 -- Who leads is among those who may need its list, so no more is let go than it has taken itself.
-use Rattle.std.proofs.Common.{◌≡◌, ◌⊎◌, ⊎_elim, inl, inr, ℕ, zero, suc, ◌+◌, ◌-◌, ◌<◌, ◌≤◌, min, List, [], ◌∷◌, length, refl, sym, ◌∙◌, ap, true, nat_lt}
-use Rattle.std.proofs.Common.{Option, Some, None, slice_index, if◌then◌else◌, arith}
-use Rattle.std.proofs.lemmas.Bool.Decides.{nat_tests}
-use Rattle.std.proofs.Math.Nat.{eq-or-lt_of_le}
-use Rattle.am_base.specs.declared.image.Report.{Report}
-use Rattle.am_base.specs.declared.image.Image.{Image}
-use Rattle.am_base.specs.declared.entry.Entry.TheVariants.{Leave}
-use Rattle.am_base.specs.Names.{place_of, life_of, name_at, names_from, has, size}
-use Rattle.am_base.specs.Lists.{top_of, told_by, image_at, members_of, members_at, entry_at, fits}
-use Rattle.am_state.specs.Kept.{IsKept, above}
-use Rattle.am_state.specs.Cores.{CoreState, unions, since_accepted, trim_list}
-use Rattle.am_state.proofs.Folds.{split}
+use Rattle.am_state.proofs.Words.{◌≡◌, ◌⊎◌, ⊎_elim, inl, inr, ℕ, zero, suc, ◌+◌, ◌-◌, ◌<◌, ◌≤◌, min, List, [], ◌∷◌, length, refl, sym, ◌∙◌, ap, true, nat_lt}
+use Rattle.am_state.proofs.Words.{Option, Some, None, slice_index, if◌then◌else◌, arith, nat_tests, eq-or-lt_of_le, Report, Image, Leave, place_of, life_of}
+use Rattle.am_state.proofs.Words.{name_at, names_from, has, size, top_of, told_by, image_at, members_of, members_at, entry_at, fits, IsKept, above, CoreState}
+use Rattle.am_state.proofs.Words.{unions, since_accepted, trim_list, lesser, least_of, least_taken, MayLead}
 use Rattle.am_state.proofs.Ends.{end-self, end-above, end-told, end-top, end-entry, image-top, image-next, entry-get}
 use Rattle.am_state.proofs.Lives.{member_most, member_row, row_at, image_used, unions_most, unions_least, unions_long, fit_at, leave_life}
-use Rattle.am_state.specs.Reports.{lesser, least_of, least_taken}
-use Rattle.am_state.specs.Refresh.{MayLead}
-use Rattle.am_state.proofs.ReportLaws.{count_cons}
+use Rattle.am_state.proofs.{Folds.split, ReportLaws.count_cons}
 
 lesser_some : (a y : ℕ) → (x : ℕ) × (lesser (Some a) (Some y) ≡ Some x) × (x ≤ y)
 lesser_some a y = (min a y, refl, omega arith)
@@ -56,17 +46,13 @@ size_cons before lives =
     let t : nat_lt 0 (suc before) ≡ true = grind (arith, nat_tests) in
     count_cons (λ life. nat_lt 0 life) (suc before) lives ∙ ap (λ b. (if b then 1 else 0) + size lives) t
 
-none_in : (set : List ℕ) (from : ℕ) → size set ≡ 0 → names_from from set ≡ []
+pub none_in : (set : List ℕ) (from : ℕ) → size set ≡ 0 → names_from from set ≡ []
 none_in [] from h = refl
 none_in (zero ∷ lives) from h = none_in lives (from + 1) (let c = count_cons (λ life. nat_lt 0 life) zero lives in omega arith)
 none_in (suc before ∷ lives) from h = let more = size_cons before lives in absurd (omega arith)
 
 is_there : (set : List ℕ) (name : ℕ) → has set name ≡ true → slice_index set (place_of name) ≡ life_of name
 is_there set name h = grind (arith, nat_tests)
-
-leave_fits : (image : Image) (name : ℕ) → fits image (Leave name) ≡ true → has (members_of image) name ≡ true
-unfolding fits
-leave_fits image name h = h
 
 -- the union has the life of who leads
 leader_there : (c : CoreState) (capacity number : ℕ) → IsKept c.log capacity → c.log.start ≤ c.acc → c.acc ≤ number → number ≤ top_of c.log
@@ -82,7 +68,7 @@ leader_there c capacity number is low after high member row =
 
 leader_in : (c : CoreState) (capacity : ℕ) → IsKept c.log capacity → c.log.start ≤ c.acc → c.acc ≤ top_of c.log → MayLead c
     → (slice_index (since_accepted c) (place_of c.who) ≡ life_of c.who) ⊎ (size (since_accepted c) ≡ 0)
-unfolding unions
+unfolding unions fits
 leader_in c capacity is low high leads = ⊎_elim
     (λ (member : has (members_of (told_by c.log)) c.who ≡ true).
     let top = image-top c.log in
@@ -100,7 +86,7 @@ leader_in c capacity is low high leads = ⊎_elim
     let entry : entry_at c.log (before + 1) ≡ Some (Leave c.who) = ap (entry_at c.log) next ∙ left.0 in
     let get = entry-get c.log before (Leave c.who) (omega arith) entry in
     let fit = fit_at c.log.image (c.log.start + 1) (before - c.log.start) c.log.entries (Leave c.who) is.fit get in
-    let member : has (members_at c.log before) c.who ≡ true = leave_fits (image_at c.log before) c.who fit in
+    let member : has (members_at c.log before) c.who ≡ true = fit in
     let used = image_used c.log capacity before is in
     let after = image-next c.log before (Leave c.who) (omega arith) entry in
     let told = ap (λ i. (row_at i (place_of c.who)).life) (sym (image-top c.log) ∙ ap (image_at c.log) (sym next) ∙ after) in

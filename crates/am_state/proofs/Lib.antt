@@ -1,3 +1,4 @@
+pub mod Words
 pub mod CoreLaws
 pub mod Ends
 pub mod Folds

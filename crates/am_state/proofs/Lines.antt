@@ -1,19 +1,9 @@
 -- Sends stand in line through each change.
-use Rattle.std.proofs.Common.{length-append, take, drop, ◌≡◌, ℕ, ◌+◌, ◌<◌, ◌≤◌, List, [], ◌∷◌, ◌++◌, map, filter, find, length, option_map, Bool, true, false}
-use Rattle.std.proofs.Common.{not, ◌&&◌, ◌==◌, nat_lt, if◌then◌else◌, Option, Some, None, is_none, is_some, refl, sym, ◌∙◌, ap, subst, arith}
-use Rattle.std.specs.List.{list_any, list_all, refill}
-use Rattle.std.specs.Prelude.{IfSome}
-use Rattle.std.proofs.lemmas.Bool.Decides.{nat_tests}
-use Rattle.std.proofs.lemmas.List.{length-map, take-append-le}
-use Rattle.std.proofs.Math.Seq.{take-length}
-use Rattle.am_base.specs.Most.{most_number}
-use Rattle.am_state.specs.declared.sender.OwnSend.{OwnSend}
-use Rattle.am_state.specs.Sends.{is_request, is_unsettled, settle_send, next_in, are_in_line, AreKept}
-
--- by what a test says
-split : {G : Type 0} (b : Bool) → (b ≡ true → G) → (b ≡ false → G) → G
-split true f g = f refl
-split false f g = g refl
+use Rattle.am_state.proofs.Words.{length-append, take, drop, ◌≡◌, ℕ, ◌+◌, ◌<◌, ◌≤◌, List, [], ◌∷◌, ◌++◌, map, filter, find, length, option_map, Bool, true}
+use Rattle.am_state.proofs.Words.{false, not, ◌&&◌, ◌==◌, nat_lt, if◌then◌else◌, Option, Some, None, is_none, is_some, refl, sym, ◌∙◌, ap, subst, arith}
+use Rattle.am_state.proofs.Words.{list_any, list_all, refill, IfSome, nat_tests, length-map, take-append-le, take-length, most_number, OwnSend, is_request}
+use Rattle.am_state.proofs.Words.{is_unsettled, settle_send, next_in, are_in_line, AreKept}
+use Rattle.am_state.proofs.{Folds.split}
 
 -- ---- what a line says of its first send
 

@@ -1,26 +1,12 @@
 -- The lives of a place only grow.
-use Rattle.std.proofs.Common.{◌≡◌, ◌⊎◌, ⊎_elim, inl, inr, ℕ, zero, suc, ◌+◌, ◌-◌, ◌<◌, ◌≤◌, max, List, [], ◌∷◌, length, take, drop, refl, sym, ◌∙◌, ap, subst}
-use Rattle.std.proofs.Common.{Bool, true, false, ◌==◌, ◌&&◌, ◌||◌, nat_lt, Some, slice_get, slice_index, slice_index_or, arith}
-use Rattle.std.specs.List.{list_all}
-use Rattle.std.proofs.lemmas.List.{get_or-map, length-map, length-set, get_or-set_other}
-use Rattle.std.proofs.lemmas.Grind.{get_or-set_at}
-use Rattle.std.proofs.Math.Nat.{eq-or-lt_of_le}
-use Rattle.std.proofs.lemmas.Bool.Decides.{nat_tests, eqb_tells}
-use Rattle.am_base.specs.declared.image.Row.{Row}
-use Rattle.am_base.specs.declared.image.Image.{Image}
-use Rattle.am_base.specs.declared.entry.Entry.{Entry}
-use Rattle.am_base.specs.declared.entry.Entry.TheVariants.{Data, Join, Leave, View}
-use Rattle.am_base.specs.Names.{place_of, life_of, has, union_of}
-use Rattle.am_base.specs.Stamps.{stamp_eq, no_stamp}
-use Rattle.am_base.specs.Lists.{Log, blank_row, is_blank, is_blank_row, at_place, member_life, members_of, members_at, row_after_view, with_row, after, fits}
-use Rattle.am_base.specs.Lists.{fold, AllFit, image_at, told_by, top_of}
-use Rattle.am_base.proofs.Places.{get_or-by_place, slice_index-by_place, length-by_place, by_place_all}
-use Rattle.am_base.specs.Limits.{IsImage}
-use Rattle.am_state.specs.Kept.{IsKept, above}
-use Rattle.am_state.specs.Cores.{unions}
-use Rattle.am_state.proofs.Folds.{split, AllFit-drop}
+use Rattle.am_state.proofs.Words.{◌≡◌, ◌⊎◌, ⊎_elim, inl, inr, ℕ, zero, suc, ◌+◌, ◌-◌, ◌<◌, ◌≤◌, max, List, [], ◌∷◌, length, take, drop, refl, sym, ◌∙◌, ap}
+use Rattle.am_state.proofs.Words.{subst, Bool, true, false, ◌==◌, ◌&&◌, ◌||◌, nat_lt, Some, slice_get, slice_index, slice_index_or, arith, list_all, get_or-map}
+use Rattle.am_state.proofs.Words.{length-map, length-set, get_or-set_other, get_or-set_at, eq-or-lt_of_le, nat_tests, eqb_tells, Row, Image, Entry, Data, Join}
+use Rattle.am_state.proofs.Words.{Leave, View, place_of, life_of, has, union_of, stamp_eq, no_stamp, Log, blank_row, is_blank, is_blank_row, at_place}
+use Rattle.am_state.proofs.Words.{member_life, members_of, members_at, row_after_view, with_row, after, fits, fold, AllFit, image_at, told_by, top_of}
+use Rattle.am_state.proofs.Words.{get_or-by_place, slice_index-by_place, length-by_place, by_place_all, IsImage, IsKept, above, unions}
 use Rattle.am_state.proofs.Ends.{end-self, end-above, end-told}
-use Rattle.am_state.proofs.CoreLaws.{unions_more}
+use Rattle.am_state.proofs.{Folds.split, Folds.AllFit-drop, CoreLaws.unions_more}
 
 abbrev pub row_at : Image → ℕ → Row
 row_at image place = slice_index_or image.rows place blank_row
@@ -49,10 +35,6 @@ with_row_used image name r is row = record {
       ⊎_elim (λ p. subst P (sym p.1) row) (λ p. subst P (sym p) (is.unused place h)) (with_row_at image name r place is.places h);
 }
 
-viewed_used : (first : Bool) (number life : ℕ) (r : Row) → (r.joined ≡ 0 → r.life ≡ 0) → (row_after_view first number life r).joined ≡ 0
-    → (row_after_view first number life r).life ≡ 0
-viewed_used first number life r is = grind (arith, nat_tests)
-
 pub used_after : (image : Image) (number : ℕ) (e : Entry) → 0 < number → IsUsed image → IsUsed (after image number e)
 unfolding after
 used_after image number (Data from req body) n is = split ((at_place image from).life == life_of from)
@@ -68,21 +50,15 @@ used_after image number (View v) n is = record {
   unused = λ place h.
       let P : Row → Type 0 = λ x. x.joined ≡ 0 → x.life ≡ 0 in
       subst P (sym (get_or-by_place (λ place. row_after_view (is_blank image) number (slice_index v.members place) (row_at image place)) place blank_row h))
-      (viewed_used (is_blank image) number (slice_index v.members place) (row_at image place) (is.unused place h));
+      (grind (arith, nat_tests));
 }
 
 blank_all : (a b c d : Bool) → (a && (b && (c && d))) ≡ true → d ≡ true
-blank_all true true true d h = h
-blank_all true true false d h = absurd (cc)
-blank_all true false c d h = absurd (cc)
-blank_all false b c d h = absurd (cc)
-
-blank_row_life : (r : Row) → is_blank_row r ≡ true → r.life ≡ 0
-blank_row_life r h = grind (arith, nat_tests)
+blank_all a b c d h = grind arith
 
 blank_lives : (rows : List Row) (place : ℕ) → list_all is_blank_row rows ≡ true → (slice_index_or rows place blank_row).life ≡ 0
 blank_lives [] place h = refl
-blank_lives (r ∷ rs) zero h = blank_row_life r (split (is_blank_row r) (λ t. t) (λ f. absurd (let g = rw f at h in cc)))
+blank_lives (r ∷ rs) zero h = grind (arith, nat_tests)
 blank_lives (r ∷ rs) (suc place) h = blank_lives rs place (split (is_blank_row r) (λ t. rw t at h) (λ f. absurd (let g = rw f at h in cc)))
 
 viewed_grows : (first : Bool) (number life : ℕ) (r : Row) → (first ≡ true → r.life ≡ 0) → r.life ≤ (row_after_view first number life r).life
@@ -98,9 +74,6 @@ with_row_grows image name r place long h le = ⊎_elim
     omega arith)
     (λ (p : row_at (with_row image name r) place ≡ row_at image place). let b = ap (λ (x : Row). x.life) p in omega arith)
     (with_row_at image name r place long h)
-
-join_grows : (r : Row) (life : ℕ) → (r.joined ≡ 0 → r.life ≡ 0) → ((r.joined == 0) || (nat_lt 0 r.left && nat_lt r.life life)) ≡ true → r.life ≤ life
-join_grows r life unused fit = grind (arith, nat_tests)
 
 -- ---- lists in which each Join fits
 
@@ -136,7 +109,7 @@ life_after image number (Data from req body) place h is fit = split ((at_place i
 life_after image number (Join name) place h is fit =
     let unused = is.unused (place_of name) (omega arith) in
     with_row_grows image name (record { life = life_of name; joined = number; left = 0; last = 0 }) place is.places h
-    (join_grows (at_place image name) (life_of name) unused fit)
+    (grind (arith, nat_tests))
 life_after image number (Leave name) place h is fit = split ((at_place image name).life == life_of name)
     (λ t. rw t (with_row_grows image name (record (at_place image name) { left = number }) place is.places h (omega arith)))
     (λ f. rw f (omega arith))

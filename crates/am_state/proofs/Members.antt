@@ -1,12 +1,7 @@
 -- A Data leaves the members as they were.
-use Rattle.std.proofs.Common.{◌≡◌, ℕ, ◌+◌, ◌-◌, ◌<◌, List, ◌==◌, Some, refl, sym, ap, ◌∙◌, arith}
-use Rattle.std.proofs.Math.Seq.{map-set_same}
-use Rattle.am_base.specs.declared.image.Image.{Image}
-use Rattle.am_base.specs.declared.entry.Entry.TheVariants.{Data}
-use Rattle.am_base.specs.Names.{place_of, life_of}
-use Rattle.am_base.specs.Lists.{at_place, blank_row, member_life, members_of, members_at, image_at, entry_at, after, told_by, top_of, Log, with_entry}
-use Rattle.am_state.proofs.Folds.{split}
-use Rattle.am_state.proofs.Ends.{told-push, image-next}
+use Rattle.am_state.proofs.Words.{◌≡◌, ℕ, ◌+◌, ◌-◌, ◌<◌, List, ◌==◌, Some, refl, sym, ap, ◌∙◌, arith, map-set_same, Image, Data, place_of, life_of, at_place}
+use Rattle.am_state.proofs.Words.{blank_row, member_life, members_of, members_at, image_at, entry_at, after, told_by, top_of, Log, with_entry}
+use Rattle.am_state.proofs.{Folds.split, Ends.told-push, Ends.image-next}
 
 pub members_data : (image : Image) (number from req : ℕ) (body : List ℕ) → members_of (after image number (Data from req body)) ≡ members_of image
 unfolding after

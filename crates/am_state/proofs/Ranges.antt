@@ -1,9 +1,7 @@
 -- A test of each of some numbers in a row.
-use Rattle.std.proofs.Common.{◌≡◌, ℕ, zero, suc, ◌+◌, ◌-◌, ◌<◌, ◌≤◌, refl, ◌∙◌, ap, Bool, true, false, arith}
-use Rattle.std.specs.List.{list_all, range_with_len}
-use Rattle.std.proofs.lemmas.List.FromFn.{get_or-range_with_len, length-range_with_len}
-use Rattle.std.proofs.lemmas.List.Folds.{list_all_at}
-use Rattle.am_state.proofs.Folds.{split}
+use Rattle.am_state.proofs.Words.{◌≡◌, ℕ, zero, suc, ◌+◌, ◌-◌, ◌<◌, ◌≤◌, refl, ◌∙◌, ap, Bool, true, false, arith, list_all, range_with_len}
+use Rattle.am_state.proofs.Words.{get_or-range_with_len, length-range_with_len, list_all_at}
+use Rattle.am_state.proofs.{Folds.split}
 
 pub all_true : (p : ℕ → Bool) (a n : ℕ) → ((k : ℕ) → a ≤ k → k < a + n → p k ≡ true) → list_all p (range_with_len a n) ≡ true
 all_true p a zero each = refl

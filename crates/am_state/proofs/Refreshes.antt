@@ -1,21 +1,11 @@
 -- A refresh, on the end of a list and on all of it, once and twice.
-use Rattle.std.proofs.Common.{◌≡◌, ℕ, ◌-◌, ◌<◌, ◌≤◌, max, min, List, refl, sym, ◌∙◌, ap, subst, true, ◌==◌, nat_lt, if◌then◌else◌, Option, Some, None, arith}
-use Rattle.std.proofs.lemmas.Bool.Decides.{nat_tests}
-use Rattle.am_base.specs.declared.image.Report.{Report}
-use Rattle.am_base.specs.Lists.{Log, top_of, told_by}
-use Rattle.am_base.specs.Fronts.{accept_front, is_held}
-use Rattle.am_state.specs.Kept.{IsKept}
-use Rattle.am_state.specs.Cores.{CoreState, Stands, Keeps, whole, accept, pass_over, advance, trim_to, trim_list, unions, since_accepted}
-use Rattle.am_state.proofs.Folds.{split}
-use Rattle.am_state.proofs.Ends.{end-top}
-use Rattle.am_state.proofs.CoreLaws.{advance_whole, since_whole}
-use Rattle.am_state.specs.Reports.{reports_of, raise_report, after_report, least_taken}
-use Rattle.am_state.specs.Refresh.{Led, report_of, own_report, tell, go_on, let_go, base_after, go_up, refresh, whole_led, core_and_reports, LeadsBy, StaysAt}
-use Rattle.am_state.specs.Refresh.{MayLead}
-use Rattle.am_state.proofs.Leaders.{let_go_within}
-use Rattle.am_state.proofs.Again.{greatest_low, accept_front_again}
-use Rattle.am_state.proofs.Walks.{front_by}
-use Rattle.am_state.proofs.Same.{front_same}
+use Rattle.am_state.proofs.Words.{◌≡◌, ℕ, ◌-◌, ◌<◌, ◌≤◌, max, min, List, refl, sym, ◌∙◌, ap, subst, true, ◌==◌, nat_lt, if◌then◌else◌, Option, Some, None}
+use Rattle.am_state.proofs.Words.{arith, nat_tests, Report, Log, top_of, told_by, accept_front, is_held, IsKept, CoreState, Stands, Keeps, whole, accept}
+use Rattle.am_state.proofs.Words.{pass_over, advance, trim_to, trim_list, unions, since_accepted, reports_of, raise_report, after_report, least_taken, Led}
+use Rattle.am_state.proofs.Words.{report_of, own_report, tell, go_on, let_go, base_after, go_up, refresh, whole_led, core_and_reports, LeadsBy, StaysAt}
+use Rattle.am_state.proofs.Words.{MayLead}
+use Rattle.am_state.proofs.{Folds.split, Ends.end-top, CoreLaws.advance_whole, CoreLaws.since_whole, Leaders.let_go_within, Again.greatest_low}
+use Rattle.am_state.proofs.{Again.accept_front_again, Walks.front_by, Same.front_same}
 
 -- reports of a name
 pub reported_self : (reports : ℕ → Report) (name : ℕ) (report : Report) → after_report reports name report name ≡ raise_report (reports name) report
@@ -49,10 +39,6 @@ own_stays : (s : Led) → IsRefreshed s → own_report s ≡ s
 unfolding own_report
 own_stays s is = ap (λ r. let l : Led = record { core = s.core; reports = r } in l) (reported_below s.reports s.core.who (report_of s.core) is.stored is.taken)
 
-tell_stays : (s : Led) → IsRefreshed s → tell s ≡ s
-unfolding tell
-tell_stays s is = ap (λ (t : ℕ). record s { core = record s.core { told = t } }) (sym is.told)
-
 go_stays : (s : Led) → IsRefreshed s → go_on s ≡ s
 unfolding go_on accept pass_over
 go_stays s is =
@@ -68,9 +54,10 @@ unfolding let_go
 let_go_stays s is = ap (λ (b : ℕ). record s { core = record s.core { base = b } }) is.trimmed
 
 pub refresh_stays : (s : Led) → IsRefreshed s → refresh s ≡ s
+unfolding tell
 refresh_stays s is =
     ap (λ x. let_go (own_report (go_on (tell x)))) (own_stays s is)
-    ∙ ap (λ x. let_go (own_report (go_on x))) (tell_stays s is)
+    ∙ ap (λ x. let_go (own_report (go_on x))) (ap (λ (t : ℕ). record s { core = record s.core { told = t } }) (sym is.told))
     ∙ ap (λ x. let_go (own_report x)) (go_stays s is)
     ∙ ap let_go (own_stays s is)
     ∙ let_go_stays s is
@@ -88,7 +75,7 @@ same_stored reports name report h other = split (other == name)
     (λ u. let e : other ≡ name = grind (arith, nat_tests) in let s = ap (λ n. (reports n).stored) e in rw u (omega arith))
     (λ u. rw u refl)
 
-base_again : (o : Option ℕ) (base : ℕ) → base_after o (base_after o base) ≡ base_after o base
+pub base_again : (o : Option ℕ) (base : ℕ) → base_after o (base_after o base) ≡ base_after o base
 base_again None base = refl
 base_again (Some to) base = omega arith
 
@@ -136,10 +123,6 @@ is_refreshed s high =
       passed = passed_over c.taken acc c.start;
       trimmed = base_again (least_taken second (unions c.log acc (t - acc))) c.base;
     }
-
--- doing it again changes nothing
-pub refresh_again : (s : Led) → s.core.acc ≤ top_of s.core.log → refresh (refresh s) ≡ refresh s
-refresh_again s high = refresh_stays (refresh s) (is_refreshed s high)
 
 -- on all of the list as on its end
 own_whole : (all : Log) (s : Led) → Stands all s.core → own_report (whole_led all s) ≡ whole_led all (own_report s)
@@ -211,7 +194,7 @@ pub leads_again : (old new : Led) → LeadsBy refresh old new → old.core.acc �
 leads_again old new leads high = λ all st.
     let e = (leads all st).1 in
     let t = end-top all old.core.log st.kept in
-    ap refresh e ∙ refresh_again (whole_led all old) (omega arith) ∙ sym e
+    ap refresh e ∙ (refresh_stays (refresh (whole_led all old)) (is_refreshed (whole_led all old) (omega arith))) ∙ sym e
 
 -- its own report has what it has taken
 pub go_up_own : (s : Led) → (s.reports s.core.who).taken ≤ s.core.taken → ((go_up s).reports (go_up s).core.who).taken ≡ (go_up s).core.taken

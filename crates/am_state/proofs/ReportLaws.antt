@@ -1,13 +1,9 @@
 -- Reports by the names' bytes, and the least of them.
-use Rattle.std.proofs.Common.{◌≡◌, ℕ, zero, suc, ◌+◌, ◌<◌, ◌≤◌, List, [], ◌∷◌, length, drop, replicate, refl, sym, ◌∙◌, ap, Bool, true, false, min, nat_lt, ◌&&◌}
-use Rattle.std.proofs.Common.{if◌then◌else◌, Option, Some, None, slice_index, count_by, zero-add, arith}
-use Rattle.std.proofs.lemmas.List.{get_or-replicate, get_or_past, length-replicate, drop_more, drop_all}
-use Rattle.std.proofs.lemmas.List.Sums.{sum_by-cons}
-use Rattle.std.proofs.lemmas.Bool.Decides.{nat_tests}
-use Rattle.am_base.specs.declared.image.Report.{Report}
-use Rattle.am_base.specs.Names.{names_from, name_at, size}
-use Rattle.am_state.proofs.Folds.{split}
-use Rattle.am_state.specs.Reports.{no_report, no_reports, reports_of, all_up_to, lesser, least_of}
+use Rattle.am_state.proofs.Words.{◌≡◌, ℕ, zero, suc, ◌+◌, ◌<◌, ◌≤◌, List, [], ◌∷◌, length, drop, replicate, refl, sym, ◌∙◌, ap, Bool, true, false, min, nat_lt}
+use Rattle.am_state.proofs.Words.{◌&&◌, if◌then◌else◌, Option, Some, None, slice_index, count_by, zero-add, arith, get_or-replicate, get_or_past}
+use Rattle.am_state.proofs.Words.{length-replicate, drop_more, drop_all, sum_by-cons, nat_tests, Report, names_from, name_at, size, no_report, no_reports}
+use Rattle.am_state.proofs.Words.{reports_of, all_up_to, lesser, least_of}
+use Rattle.am_state.proofs.{Folds.split}
 
 -- the same report for so many names
 pub all_same : (n : ℕ) (report : Report) (name : ℕ) → reports_of (replicate n report) name ≡ (if nat_lt name n then report else no_report)

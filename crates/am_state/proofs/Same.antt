@@ -1,15 +1,10 @@
 -- The end of a list has the accept front of all of it.
-use Rattle.std.proofs.Common.{◌≡◌, ⊎_elim, ℕ, zero, suc, ◌+◌, ◌-◌, ◌<◌, ◌≤◌, min, refl, sym, ◌∙◌, ap, Bool, ◌&&◌, nat_le, List, count_by, arith}
-use Rattle.std.proofs.lemmas.Bool.{cases_lt}
-use Rattle.am_base.specs.declared.image.Report.{Report}
-use Rattle.am_base.specs.declared.image.Image.{Image}
-use Rattle.am_base.specs.Names.{size, names_of}
-use Rattle.am_base.specs.Lists.{Log, top_of, told_by, image_at, members_of, members_at, entry_at}
-use Rattle.am_base.specs.Fronts.{counted_of, counted_at, holders_at, is_held, is_satisfied, is_front, greatest, accept_front}
-use Rattle.am_state.specs.Kept.{IsEnd}
-use Rattle.am_state.proofs.Ranges.{all_same}
+use Rattle.am_state.proofs.Words.{◌≡◌, ⊎_elim, ℕ, zero, suc, ◌+◌, ◌-◌, ◌<◌, ◌≤◌, min, refl, sym, ◌∙◌, ap, Bool, ◌&&◌, nat_le, List, count_by, arith, cases_lt}
+use Rattle.am_state.proofs.Words.{Report, Image, size, names_of, Log, top_of, told_by, image_at, members_of, members_at, entry_at, counted_of, counted_at}
+use Rattle.am_state.proofs.Words.{holders_at, is_held, is_satisfied, is_front, greatest, accept_front, IsEnd}
 use Rattle.am_state.proofs.Walks.{satisfied_by, satisfied_high, satisfied_low}
 use Rattle.am_state.proofs.Ends.{end-top, end-told, end-image, end-entry}
+use Rattle.am_state.proofs.{Ranges.all_same}
 
 pub greatest_same : (p q : ℕ → Bool) (from more : ℕ) → ((g : ℕ) → from < g → g ≤ from + more → p g ≡ q g) → greatest p from more ≡ greatest q from more
 unfolding greatest

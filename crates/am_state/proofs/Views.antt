@@ -1,13 +1,8 @@
 -- The last view and its resilience.
-use Rattle.std.proofs.Common.{◌≡◌, ◌⊎◌, ⊎_elim, inl, inr, ℕ, ◌+◌, ◌-◌, ◌<◌, ◌≤◌, List, [], ◌∷◌, drop, refl, sym, ◌∙◌, ap, ◌==◌, arith}
-use Rattle.am_base.specs.declared.image.Image.{Image}
-use Rattle.am_base.specs.declared.entry.Entry.{Entry}
-use Rattle.am_base.specs.declared.entry.Entry.TheVariants.{Data, Join, Leave, View}
-use Rattle.am_base.specs.Names.{life_of}
-use Rattle.am_base.specs.Lists.{Log, fold, after, at_place, image_at, told_by, top_of}
-use Rattle.am_state.specs.Kept.{above}
-use Rattle.am_state.proofs.Folds.{split}
+use Rattle.am_state.proofs.Words.{◌≡◌, ◌⊎◌, ⊎_elim, inl, inr, ℕ, ◌+◌, ◌-◌, ◌<◌, ◌≤◌, List, [], ◌∷◌, drop, refl, sym, ◌∙◌, ap, ◌==◌, arith, Image, Entry, Data}
+use Rattle.am_state.proofs.Words.{Join, Leave, View, life_of, Log, fold, after, at_place, image_at, told_by, top_of, above}
 use Rattle.am_state.proofs.Ends.{end-self, end-above, end-told}
+use Rattle.am_state.proofs.{Folds.split}
 
 -- what one entry does to the last view
 same_view : (image : Image) (number : ℕ) (e : Entry) → (((after image number e).view_number ≡ image.view_number)

@@ -1,13 +1,7 @@
 -- Where a walk upwards stops is the greatest front.
-use Rattle.std.proofs.Common.{◌≡◌, ⊎_elim, ℕ, zero, suc, ◌+◌, ◌-◌, ◌<◌, ◌≤◌, refl, sym, ◌∙◌, ap, Bool, true, false, ◌&&◌, nat_le, if◌then◌else◌, arith}
-use Rattle.std.specs.List.{list_all, range_with_len}
-use Rattle.std.proofs.lemmas.Bool.Decides.{nat_tests}
-use Rattle.std.proofs.lemmas.Bool.{cases_lt}
-use Rattle.std.proofs.Math.Nat.{eq-or-lt_of_le}
-use Rattle.am_base.specs.declared.image.Report.{Report}
-use Rattle.am_base.specs.Lists.{Log, top_of, told_by}
-use Rattle.am_base.specs.Fronts.{greatest, is_held, accept_front}
-use Rattle.am_state.proofs.Ranges.{all_true, one_false}
+use Rattle.am_state.proofs.Words.{◌≡◌, ⊎_elim, ℕ, zero, suc, ◌+◌, ◌-◌, ◌<◌, ◌≤◌, refl, sym, ◌∙◌, ap, Bool, true, false, ◌&&◌, nat_le, if◌then◌else◌, arith}
+use Rattle.am_state.proofs.Words.{list_all, range_with_len, nat_tests, cases_lt, eq-or-lt_of_le, Report, Log, top_of, told_by, greatest, is_held, accept_front}
+use Rattle.am_state.proofs.{Ranges.all_true, Ranges.one_false}
 
 pub greatest_is : (passes : ℕ → Bool) (from more front : ℕ) → from ≤ front → front ≤ from + more → (from < front → passes front ≡ true)
     → ((g : ℕ) → front < g → g ≤ from + more → passes g ≡ false) → greatest passes from more ≡ front

@@ -7,19 +7,11 @@ use Rattle.am_base.specs.Lists.{after}
 use Rattle.am_watching.specs.Watching as kept
 use Rattle.am_watching.proofs.Order.{lt_self}
 
-founder_shown : (rules : Rules) (name : ℕ) → standing_of (founder rules name)
-    ≡ record { status = (founder rules name).status; view = (first_view rules).view.stamp; start = 1; from = 0 }
-unfolding fold after
-founder_shown rules name = refl
-
-stranger_shown : (rules : Rules) (name : ℕ) → standing_of (stranger rules name) ≡ blank_standing
-unfolding fold
-stranger_shown rules name = refl
-
 first_shown : (rules : Rules) (name : ℕ) → first_standing rules name ≡ standing_of (first_node rules name)
+unfolding fold after
 first_shown rules name = split (has rules.founders name)
-    (λ t. rw t (sym (founder_shown rules name)))
-    (λ t. rw t (sym (stranger_shown rules name)))
+    (λ t. rw t (sym (refl)))
+    (λ t. rw t (sym (refl)))
 
 nobody_else : (rules : Rules) (name : ℕ) → MayFound rules → 256 ≤ name → has rules.founders name ≡ false
 nobody_else rules name may high = split (has rules.founders name)
@@ -41,21 +33,14 @@ standing_first rules name may = elim (cases_lt name 256) [
       (sym (nobody_else rules name may high)) ∙ first_shown rules name)
 ]
 
-begins_within : (rules : Rules) (name : ℕ) → (first_node rules name).core.log.start ≤ 1
-begins_within rules name = split (has rules.founders name) (λ t. rw t (omega arith)) (λ t. rw t (omega arith))
-
-lawful_first : (rules : Rules) → kept.is_lawful (first_watching rules) (first_view rules) ≡ true
-unfolding kept.is_lawful
-lawful_first rules = grind (arith, nat_tests)
-
 pub beginning_is_watched : BeginningIsWatched
-unfolding Each
+unfolding Each kept.is_lawful
 beginning_is_watched rules may = record {
   sees = record {
     names = λ name. standing_first rules name may;
     places = length-map-range_with_len (first_standing rules) 0 256;
     stopped = refl;
-    within = λ name. begins_within rules name;
+    within = λ name. (split (has rules.founders name) (λ t. rw t (omega arith)) (λ t. rw t (omega arith)));
     more = [];
     goes_on = refl;
   };
@@ -66,5 +51,5 @@ beginning_is_watched rules may = record {
   complete = refl;
   count = refl;
   broken = refl;
-  lawful = λ h. lawful_first rules;
+  lawful = λ h. (grind (arith, nat_tests));
 }

@@ -3,7 +3,8 @@ use Rattle.am_watching.proofs.Words.{◌≡◌, Bool, true, false, ◌&&◌, if�
 use Rattle.am_watching.proofs.Words.{split, DecidedView, Pending, Watching, greater, greatest, decided_of, comes_after, Each}
 use Rattle.am_play.specs.Lawful as law
 use Rattle.am_watching.specs.Watching as kept
-use Rattle.am_watching.proofs.Order.{lt_trans, lt_self}
+use Rattle.am_base.proofs.Rows.{and_left}
+use Rattle.am_watching.proofs.{Order.lt_trans, Order.lt_self}
 
 pub each_of : {A : Type 0} (P Q : A → Type 0) → ((x : A) → P x → Q x) → (xs : List A) → Each P xs → Each Q xs
 unfolding Each
@@ -39,13 +40,9 @@ not_both b t f = absurd (cc)
 pub up_lt : (a b : Stamp) → stamp_lt a b ≡ true → IsUpTo a b
 up_lt a b h = record { keeps = λ s f. split (stamp_lt b s) (λ t. not_both (stamp_lt a s) (lt_trans a b s h t) f) (λ t. t) }
 
-and_first : (a b : Bool) → (a && b) ≡ true → a ≡ true
-and_first true b h = refl
-and_first false b h = h
-
 pub up_greater : (k : Watching) (best : DecidedView) (v : Pending) → IsUpTo best.view.stamp (greater k best v).view.stamp
 up_greater k best v = split (stamp_lt best.view.stamp v.decided.view.stamp && kept.is_complete k v)
-    (λ t. rw t (up_lt best.view.stamp v.decided.view.stamp (and_first _ _ t)))
+    (λ t. rw t (up_lt best.view.stamp v.decided.view.stamp (and_left _ _ t)))
     (λ t. rw t (up_self best.view.stamp))
 
 pub up_greatest : (k : Watching) (best : DecidedView) (vs : List Pending) → IsUpTo best.view.stamp (greatest k best vs).view.stamp
@@ -99,7 +96,7 @@ greatest_is k w best (v ∷ vs) (h, hs) =
 
 up_complete : (w : World) (best v : Decided) → IsUpTo best.stamp (law.greater_complete w best v).stamp
 up_complete w best v = split (stamp_lt best.stamp v.stamp && law.is_complete w v)
-    (λ t. rw t (up_lt best.stamp v.stamp (and_first _ _ t)))
+    (λ t. rw t (up_lt best.stamp v.stamp (and_left _ _ t)))
     (λ t. rw t (up_self best.stamp))
 
 -- the views that aren't above one that is complete don't count

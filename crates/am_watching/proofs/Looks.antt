@@ -56,14 +56,6 @@ lawful_cases k v None h = split (kept.is_lawful k v)
 
 -- ---- looked
 
-same_complete : (k : Watching) (best : DecidedView) (v : Pending) → kept.is_complete (end_event k best) v ≡ kept.is_complete k v
-unfolding kept.is_complete
-same_complete k best v = refl
-
-same_lawful : (k : Watching) (best v : DecidedView) → kept.is_lawful (end_event k best) v ≡ kept.is_lawful k v
-unfolding kept.is_lawful
-same_lawful k best v = refl
-
 left_over : (group : List Entry) (k : Watching) (s : Watch) (w : World) → IsReady group k s w
     → let best = greatest k k.complete k.pending in map (λ v. decided_of v.decided) (filter (is_above best.view.stamp) k.pending)
     ≡ filter (comes_after (law.greatest_complete w s.complete w.views).stamp) w.views
@@ -77,7 +69,7 @@ left_over group k s w r =
     ∙ ap (λ (v : Decided). filter (comes_after v.stamp) w.views) (best_is group k s w r)
 
 pub looks : (group : List Entry) (k : Watching) (s : Watch) (w : World) → IsReady group k s w → WatchesUpTo group (look k) (after s w)
-unfolding look
+unfolding look kept.is_complete kept.is_lawful
 looks group k s w r =
     let best = greatest k k.complete k.pending in
     let is = best_is group k s w r in
@@ -86,13 +78,13 @@ looks group k s w r =
       due = refl;
       noted = each_of _ (IsNoted w group) (λ v h. h.0) _ (each_filter (IsNoted w group) (is_above best.view.stamp) k.pending r.noted);
       pending = left_over group k s w r;
-      rest = each_of _ (λ v. kept.is_complete (end_event k best) v ≡ false) (λ v h. same_complete k best v
+      rest = each_of _ (λ v. kept.is_complete (end_event k best) v ≡ false) (λ v h. refl
           ∙ h.0.waits h.1) _ (each_filter (IsLeft k best.view.stamp) (is_above best.view.stamp) k.pending (each_left k k.complete k.pending));
       complete = is;
       count = ap (λ c. c + 1) r.count;
       broken = ap (kept.broken_now k best) r.broken ∙ broken_cases k w best s.count s.broken r.count (lawful_is k w group best r.sees)
           ∙ ap (λ v. law.broken_now w v (s.count + 1) s.broken) is;
-      lawful = λ h. same_lawful k best best ∙ lawful_cases k best k.broken h;
+      lawful = λ h. refl ∙ lawful_cases k best k.broken h;
     }
 
 -- ---- passed
@@ -108,20 +100,13 @@ stays k best (v ∷ vs) (h, hs) =
     either true b x y h = rw h refl
     either false b x y h = refl
 
-passed_complete : (k : Watching) (v : Pending) → kept.is_complete (pass k) v ≡ kept.is_complete k v
-unfolding kept.is_complete
-passed_complete k v = refl
-
-passed_lawful : (k : Watching) (v : DecidedView) → kept.is_lawful (pass k) v ≡ kept.is_lawful k v
-unfolding kept.is_lawful
-passed_lawful k v = refl
-
 unbroken : (w : World) (v : Decided) (count : ℕ) (broken : Option ℕ) → (broken ≡ None → law.is_lawful w v ≡ true) → broken ≡ law.broken_now w v count broken
 unbroken w v count (Some at) h = refl
 unbroken w v count None h = let t = h refl in rw t refl
 
 pub passes : (group : List Entry) (k : Watching) (s : Watch) (w : World) → IsReady group k s w → k.is_due ≡ false
     → Each (λ v. kept.is_complete k v ≡ false) k.pending → (k.broken ≡ None → kept.is_lawful k k.complete ≡ true) → WatchesUpTo group (pass k) (after s w)
+unfolding kept.is_complete kept.is_lawful
 passes group k s w r due rest lawful =
     let is : decided_of k.complete ≡ law.greatest_complete w s.complete w.views = ap decided_of (sym (stays k k.complete k.pending rest))
     ∙ best_is group k s w r in
@@ -131,10 +116,10 @@ passes group k s w r due rest lawful =
       due = due;
       noted = r.noted;
       pending = r.pending ∙ ap (λ (v : Decided). filter (comes_after v.stamp) w.views) same;
-      rest = each_of (λ v. kept.is_complete k v ≡ false) (λ v. kept.is_complete (pass k) v ≡ false) (λ v h. passed_complete k v ∙ h) k.pending rest;
+      rest = each_of (λ v. kept.is_complete k v ≡ false) (λ v. kept.is_complete (pass k) v ≡ false) (λ v h. refl ∙ h) k.pending rest;
       complete = is;
       count = ap (λ c. c + 1) r.count;
       broken = r.broken ∙ unbroken w (law.greatest_complete w s.complete w.views) (s.count + 1) s.broken (λ h. ap (law.is_lawful w) (sym is)
           ∙ sym (lawful_is k w group k.complete r.sees) ∙ lawful (r.broken ∙ h));
-      lawful = λ h. passed_lawful k k.complete ∙ lawful h;
+      lawful = λ h. refl ∙ lawful h;
     }

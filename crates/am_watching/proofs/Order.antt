@@ -1,6 +1,6 @@
 -- Stamps in order.
-use Rattle.am_watching.proofs.Words.{eqb-true, ◌≡◌, ℕ, Bool, true, false, nat_lt, ◌&&◌, ◌||◌, ◌==◌, refl, arith, nat_tests, Stamp, rank_of, stamp_lt}
-use Rattle.am_watching.proofs.Words.{stamp_eq}
+use Rattle.am_watching.proofs.Words.{eqb-true, ◌≡◌, ℕ, Bool, true, false, nat_lt, ◌&&◌, ◌||◌, ◌==◌, arith, nat_tests, Stamp, rank_of, stamp_lt, stamp_eq}
+use Rattle.am_base.proofs.Rows.{and_left, and_right}
 
 -- by the first number, then by the second
 abbrev pub pair_lt : ℕ → ℕ → ℕ → ℕ → Bool
@@ -18,16 +18,5 @@ lt_trans a b c g h = pair_trans a.round (rank_of a.by) b.round (rank_of b.by) c.
 pub lt_self : (a : Stamp) → stamp_lt a a ≡ false
 lt_self a = pair_self a.round (rank_of a.by)
 
-and_first : (a b : Bool) → (a && b) ≡ true → a ≡ true
-and_first true b h = refl
-and_first false b h = h
-
-and_second : (a b : Bool) → (a && b) ≡ true → b ≡ true
-and_second true b h = h
-and_second false b h = absurd (cc)
-
-same_parts : (a b : Stamp) → a.round ≡ b.round → a.by ≡ b.by → a ≡ b
-same_parts a b h g = λ i. record { round = h i; by = g i }
-
 pub same_stamp : (a b : Stamp) → stamp_eq a b ≡ true → a ≡ b
-same_stamp a b h = same_parts a b (eqb-true a.round b.round (and_first _ _ h)) (eqb-true a.by b.by (and_second _ _ h))
+same_stamp a b h = λ i. record { round = (eqb-true a.round b.round (and_left _ _ h)) i; by = (eqb-true a.by b.by (and_right _ _ h)) i }

@@ -237,9 +237,7 @@ stepping_ready k s w name n entries more is steps to =
 -- ---- a step that changes nothing of what views ask for
 
 same_both : (a b : Bool) → same_flag a b ≡ true → b ≡ a
-same_both true b h = h
-same_both false true h = sym h
-same_both false false h = refl
+same_both a b h = grind arith
 
 number_same : (a b : ℕ) → (a == b) ≡ true → b ≡ a
 number_same a b h = grind (arith, nat_tests)
@@ -262,9 +260,6 @@ alike_parts before after h =
       start = number_same before.start after.start c.1;
     }
 
-alike_self : (m : Standing) → IsAlike m m
-alike_self m = record { view = refl; gone = refl; from = refl; start = refl }
-
 standings_alike : (k : Watching) (name other : ℕ) (after : Standing) → name < length k.names → IsAlike (standing k name) after
     → IsAlike (standing k other) (standing (with_standing k name after) other)
 standings_alike k name other after h alike =
@@ -276,7 +271,7 @@ standings_alike k name other after h alike =
     subst (λ m. IsAlike (standing k other) m) (sym g) (subst (λ x. IsAlike (standing k x) after) (sym same) alike))
     (λ t.
     let g : standing (with_standing k name after) other ≡ standing k other = e ∙ ap (λ b. if b then after else standing k other) t in
-    subst (λ m. IsAlike (standing k other) m) (sym g) (alike_self (standing k other)))
+    subst (λ m. IsAlike (standing k other) m) (sym g) (record { view = refl; gone = refl; from = refl; start = refl }))
 
 abbrev pub AreAlike : Watching → ℕ → Standing → Type 0
 AreAlike k name after = (other : ℕ) → IsAlike (standing k other) (standing (with_standing k name after) other)
@@ -308,9 +303,7 @@ lawful_alike k name after v alike =
     ap (λ (f : ℕ → Bool). nat_le (count_by f k.stopped) v.view.resilience) lost
 
 not_decided : (a b c : Bool) → c ≡ true → (a && (b && not c)) ≡ false
-not_decided true true c h = rw h refl
-not_decided true false c h = refl
-not_decided false b c h = refl
+not_decided a b c h = grind arith
 
 pub view_one : (s : Stamp) (e : Entry) → is_view e ≡ false → is_view_of s e ≡ false
 view_one s (View v) h = absurd (cc)
@@ -327,16 +320,6 @@ noted_none name (e ∷ es) ps h =
     let both = or_parts (is_view e) (list_any is_view es) h in
     noted_none name es (note_entry name e ps) both.1 ∙ entry_none name e ps both.0
 
-stepping_complete : (k : Watching) (name : ℕ) (after : Standing) (view : DecidedView) (entries : List Entry) (v : Pending)
-    → kept.is_complete (stepping k name after view entries) v ≡ kept.is_complete (with_standing k name after) v
-unfolding kept.is_complete
-stepping_complete k name after view entries v = refl
-
-stepping_lawful : (k : Watching) (name : ℕ) (after : Standing) (view : DecidedView) (entries : List Entry) (v : DecidedView)
-    → kept.is_lawful (stepping k name after view entries) v ≡ kept.is_lawful (with_standing k name after) v
-unfolding kept.is_lawful
-stepping_lawful k name after view entries v = refl
-
 -- the views that wait are as before
 stepping_same : (k : Watching) (name : ℕ) (after : Standing) (view : DecidedView) (entries : List Entry) → stamp_eq (standing k name).view after.view ≡ true
     → list_any is_view entries ≡ false → (stepping k name after view entries).pending ≡ k.pending
@@ -348,6 +331,7 @@ stepping_same k name after view entries same none =
 alike_step : (k : Watching) (s : Watch) (w : World) (name : ℕ) (n : Node) (entries more : List Entry) → Watches k s → Steps s.world name n entries
     → SteppedTo s.world w name n more → (is_alike (standing k name) (standing_of n) && not (k.is_due || list_any is_view entries)) ≡ true
     → WatchesUpTo s.world.group (pass (stepping k name (standing_of n) (view_of n) entries)) (after s w)
+unfolding kept.is_complete kept.is_lawful
 alike_step k s w name n entries more is steps to both =
     let n1 = standing_of n in
     let h : name < length k.names = let p = is.sees.places in let q = steps.within in omega arith in
@@ -357,11 +341,11 @@ alike_step k s w name n entries more is steps to both =
     let same : stamp_eq (standing k name).view n1.view ≡ true = (and_both _ _ alike).0 in
     let each : AreAlike k name n1 = λ other. standings_alike k name other n1 h (alike_parts _ _ alike) in
     let j = stepping k name n1 (view_of n) entries in
-    let rest = each_of (λ v. kept.is_complete k v ≡ false) (λ v. kept.is_complete j v ≡ false) (λ v g. stepping_complete k name n1 (view_of n) entries v
+    let rest = each_of (λ v. kept.is_complete k v ≡ false) (λ v. kept.is_complete j v ≡ false) (λ v g. refl
     ∙ complete_alike k name n1 v each ∙ g) k.pending is.rest in
     passes s.world.group j s w (stepping_ready k s w name n entries more is steps to) due
     (subst (Each (λ v. kept.is_complete j v ≡ false)) (sym (stepping_same k name n1 (view_of n) entries same none)) rest)
-    (λ g. stepping_lawful k name n1 (view_of n) entries k.complete ∙ lawful_alike k name n1 k.complete each ∙ is.lawful g)
+    (λ g. refl ∙ lawful_alike k name n1 k.complete each ∙ is.lawful g)
 
 -- ---- the group list
 
@@ -378,10 +362,6 @@ accepted_view w group more p e noted =
           ∙ ap (number_of p.decided.view.stamp 1) (sym e);
     }
 
-accepted_lawful : (k : Watching) (number : ℕ) (more : List Entry) (v : DecidedView) → kept.is_lawful (accept k number more) v ≡ kept.is_lawful k v
-unfolding kept.is_lawful
-accepted_lawful k number more v = refl
-
 -- a view that was noted, and what is said of it
 record IsWaiting (k : Watching) (w : World) (group : List Entry) (v : Pending) : Type 0 where
   noted : IsNoted w group v
@@ -395,6 +375,7 @@ waiting_each k w group (v ∷ vs) (h, hs) (g, gs) = (record { noted = h; waits =
 
 accepts : (group more : List Entry) (k : Watching) (s : Watch) → WatchesUpTo group k s → s.world.group ≡ group ++ more
     → Watches (accept k (length group + 1) more) s
+unfolding kept.is_lawful
 accepts group more k s is e =
     let w = s.world in
     let j = accept k (length group + 1) more in
@@ -419,7 +400,7 @@ accepts group more k s is e =
       complete = is.complete;
       count = is.count;
       broken = is.broken;
-      lawful = λ h. accepted_lawful k (length group + 1) more k.complete ∙ is.lawful h;
+      lawful = λ h. refl ∙ is.lawful h;
     }
 
 -- ---- the laws
