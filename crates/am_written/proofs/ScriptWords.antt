@@ -1,4 +1,4 @@
--- The words of this crate's proofs, of the crates and definitions that they come from.
+-- The words of this crate's proofs on scripts and races, of the crates and definitions that they come from.
 pub use Rattle.std.proofs.Common.{◌≡◌, ℕ, ◌+◌, ◌/◌, List, [], ◌∷◌, length, Result, Ok, Err, Bool, true, false, is_some, ◌&&◌, nat_le, subst, Option, Some}
 pub use Rattle.std.proofs.Common.{None, ◌*◌, ◌≤◌, not, true≢false, if◌then◌else◌, ◌++◌, refl, sym, ap, ◌∙◌, arith, append-nil, zero, suc, ◌-◌, ◌==◌, min}
 pub use Rattle.std.proofs.Common.{max, nat_lt, take, drop, slice_index, slice_set, get_or-set_other, filter, slice_get, ap₂, ◌⊎◌, inl, inr, append_assoc}

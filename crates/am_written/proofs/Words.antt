@@ -1,4 +1,4 @@
--- The words of this crate's proofs, of the crates and definitions that they come from.
+-- The words of this crate's proofs on the texts of runs, of the crates and definitions that they come from.
 pub use Rattle.std.proofs.Common.{◌≡◌, ℕ, suc, ◌≤◌, ◌==◌, true, false, if◌then◌else◌, List, [], ◌∷◌, length, take, unwrap_or, refl, sym, ap, ◌∙◌, arith, subst}
 pub use Rattle.std.proofs.Common.{Option, None, ⊎_elim, zero, ◌+◌, ◌&&◌, Bool, ◌++◌, Some, slice_get, ◌||◌, not, cond, ◌<◌, lit<, Result, Ok, Err, nat_le, map}
 pub use Rattle.std.proofs.Common.{get_or, ◌≢◌, ◌*◌, ◌/◌, ◌%◌, ◌⊎◌, inl, inr, IsErr, append_assoc, length-append, nat_lt, ap₂, zero-add}

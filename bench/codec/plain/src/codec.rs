@@ -67,12 +67,12 @@ pub struct Packet {
 
 #[derive(Clone, Copy, PartialEq, Eq, Debug)]
 pub enum Refusal {
-    Short,
-    BadMark,
-    BadVersion(u8),
+    BadField { at: u32 },
     BadKind(u8),
     BadLength { said: u32, found: u32 },
-    BadField { at: u32 },
+    BadMark,
+    BadVersion(u8),
+    Short,
 }
 
 impl Packet {
