@@ -1,15 +1,9 @@
-ghost use Rattle.std.specs.Prelude.{◌≡◌};
-
 use am_base::NoMemory;
 use am_base::founding::Founding;
 use am_base::items::Items;
 use am_base::name::Name;
 use am_base::names::Names;
-use am_calls::caller::Caller;
-use am_calls::gate::{Gate, Meeting, NoGate};
-use am_calls::job::{Job, let_do};
-use am_calls::kernels::Kernels;
-use am_calls::naming::Racing;
+use am_calls::gate::{Gate, Meeting};
 use am_calls::plans::may_race;
 use am_calls::race::race;
 use am_group::event::{Act, By};
@@ -127,67 +121,5 @@ fn each_act_passes_the_gate(rt: HostRuntime) -> Result<(), Fail> {
     let gate = Counting::new();
     assert!(rt; records_of(&rt, rt.alloc(), &plan, &gate) == 6);
     assert!(rt; gate.counts() == [5, 1, 1, 5]);
-    Ok(())
-}
-
-/// Asks what a node knows; how many of two names told the number of the last entry.
-#[derive(Drop)]
-struct Asks {
-    told: AtomicU64,
-}
-
-impl Asks {
-    fn ask<R: Wait, N: Racing, G: Gate>(
-        &self,
-        rt: &R,
-        kernels: &Kernels<N, G>,
-        caller: &mut Caller<N>,
-        name: Name,
-    )
-        ensures { caller.new.number ≡ caller.old.number }
-    {
-        if let Ok(info) = kernels.info(rt, caller, name)
-            && info.top == 1
-        {
-            self.told.fetch_add(1, Ordering::SeqCst);
-        }
-    }
-}
-
-impl Job for Asks {
-    fn run<R: Wait, N: Racing, G: Gate>(
-        &self,
-        rt: &R,
-        kernels: &Kernels<N, G>,
-        caller: &mut Caller<N>,
-    ) {
-        self.ask(rt, kernels, caller, Name::of_byte(0));
-        self.ask(rt, kernels, caller, Name::of_byte(16));
-    }
-}
-
-/// How many records a job leaves; none where there was no memory, or there are too many threads.
-fn records_by<R: Threads + Wait + Sync, J: Job + Sync>(
-    rt: &R,
-    alloc: Global,
-    plan: &RacePlan,
-    job: &J,
-) -> Option<usize> {
-    if plan.threads.as_slice().len() > 16 {
-        return None;
-    }
-    let journal = let_do(rt, alloc, plan, &NoGate, job).ok()?;
-    Some(journal.records().len())
-}
-
-// A founder's list has the founders' View.
-#[test]
-fn both_lives_are_asked(rt: HostRuntime) -> Result<(), Fail> {
-    let plan = plan_of(rt.alloc(), 1, &[(0, 0)], 3)?;
-    let job = Asks {
-        told: AtomicU64::new(0),
-    };
-    assert!(rt; records_by(&rt, rt.alloc(), &plan, &job) == Some(0));
-    assert!(rt; job.told.load(Ordering::SeqCst) == 2);
     Ok(())
 }
