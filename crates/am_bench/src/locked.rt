@@ -1,10 +1,10 @@
 use am_base::outcome::Outcome;
 use am_calls::ready::may_take;
 use am_chooser::chooser::Chooser;
-use am_sharing::progress::Progress;
 use am_group::event::{Act, Event};
 use am_group::plan::{RacePlan, ThreadPlan};
 use am_node::node::Node;
+use am_sharing::progress::Progress;
 use am_world::world::{World, WorldRefusal};
 use std::alloc::Global;
 use std::sync::{Mutex, Wait};

@@ -16,10 +16,10 @@ use crate::naming::{RaceLaw, Racing};
 use am_answers::acts::least_of_both;
 use am_base::name::Name;
 use am_chooser::chooser::Chooser;
-use am_sharing::choice::Choice;
 use am_group::event::Act;
 use am_packet::letter::LetterCopy;
 use am_races::call::Came;
+use am_sharing::choice::Choice;
 use am_wire::wire::{Share, Wire};
 use std::sync::Wait;
 
