@@ -4,8 +4,8 @@ ghost use Rattle.am_group.specs.Deliveries.{given_to, deliveries};
 use am_base::NoMemory;
 use am_base::entry::Entry;
 use am_base::name::Name;
-use am_journal::delivered::given_to;
 use am_group::event::Record;
+use am_journal::delivered::given_to;
 use std::alloc::Global;
 
 /// Adds the entry that a record gave to a name's application, if it gave one.

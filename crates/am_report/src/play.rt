@@ -10,10 +10,10 @@ use crate::lines::{push_empty_log, push_group_line, push_log_line, push_mark, pu
 use am_base::entry::Entry;
 use am_base::founding::Founding;
 use am_base::name::Name;
-use am_journal::delivered::given_to;
 use am_group::event::Record;
-use am_journal::journal::Journal;
 use am_io::writer::Writer;
+use am_journal::delivered::given_to;
+use am_journal::journal::Journal;
 
 // Adds the lines of a run's events.
 #[tactic(auto, unfolding(am_play::specs::Text::records_text))]

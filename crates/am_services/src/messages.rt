@@ -8,8 +8,8 @@ ghost use Rattle.am_services.specs.Telling.{assembled_with, messages_told};
 
 use am_base::NoMemory;
 use am_base::name::Name;
-use am_journal::delivered::given_to;
 use am_group::event::Record;
+use am_journal::delivered::given_to;
 use am_seg::assembler::Assembler;
 use am_seg::fed::Fed;
 use am_seg::parts::{part_count, part_of};

@@ -7,8 +7,8 @@ ghost use Rattle.am_world.specs.Settling.{schedule_of, is_running, is_meant, act
 
 use crate::world::{World, WorldRefusal};
 use am_base::name::Name;
-use am_journal::addressed::is_for;
 use am_group::event::{Act, Event};
+use am_journal::addressed::is_for;
 
 /// How much of the lossless schedule was done.
 #[derive(Clone, Copy, PartialEq, Eq, Debug)]

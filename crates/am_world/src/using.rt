@@ -12,8 +12,8 @@ ghost use Rattle.am_world.specs.declared.world.WorldRefusal.{WorldRefusal};
 use crate::world::{World, WorldRefusal};
 use am_base::entry::Entry;
 use am_base::name::Name;
-use am_journal::delivered::given_to;
 use am_group::event::{Act, Event, Record};
+use am_journal::delivered::given_to;
 
 impl World {
     /// The record of the last event; None exactly where none was done.
