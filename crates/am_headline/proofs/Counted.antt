@@ -14,10 +14,23 @@ use Rattle.am_stands.proofs.Parts.{image_whole}
 use Rattle.am_base.proofs.Prefixes.{take_begins}
 use Rattle.am_base.specs.Lists.{image_at, members_at}
 use Rattle.am_headline.proofs.{OneList.leading, Upheld.Upheld, Upheld.upheld_start, Upheld.upheld_keeps}
+use Rattle.am_base.specs.declared.entry.GroupView.{GroupView}
 
 -- ---- who counts for a number
 
 -- ---- how a membership ends behind the last View
+
+-- a View in a list is no later than its last one
+viewed_low : (list before : List Entry) (v : GroupView) → Begins (before ++ View v ∷ []) list → length before < (image_of list).view_number
+viewed_low list before v within =
+    let a = before ++ View v ∷ [] in
+    let long = length_push before (View v) in
+    let its = after_view (image_of before) (1 + length before) v in
+    let here : (image_of a).view_number ≡ 1 + length before = ap (λ (g : Image). g.view_number) (told_push before (View v)) ∙ its.1 in
+    let all : image_of list ≡ fold (image_of a) (1 + length a) within.rest = ap image_of (sym within.same) ∙ fold_append blank 1 a within.rest in
+    let number = ap (λ (g : Image). g.view_number) all in
+    let more = view_grows (image_of a) (1 + length a) within.rest (omega arith) in
+    omega arith
 
 -- by its own Leave, as no View stands there
 leaves_last : (list before : List Entry) (name : ℕ) (e : Entry) → IsGood list → Begins (before ++ e ∷ []) list → (image_of list).view_number ≤ length before
@@ -32,15 +45,7 @@ leaves_last list before name (Leave leaver) good within view_ is none = split (l
   where
     other : (a b : ℕ) → (a == b) ≡ false → a ≢ b
     other a b f = λ u. grind (arith, nat_tests)
-leaves_last list before name (View v) good within view_ is none = absurd (
-    let a = before ++ View v ∷ [] in
-    let long = length_push before (View v) in
-    let its = after_view (image_of before) (1 + length before) v in
-    let here : (image_of a).view_number ≡ 1 + length before = ap (λ (g : Image). g.view_number) (told_push before (View v)) ∙ its.1 in
-    let all : image_of list ≡ fold (image_of a) (1 + length a) within.rest = ap image_of (sym within.same) ∙ fold_append blank 1 a within.rest in
-    let number = ap (λ (g : Image). g.view_number) all in
-    let more = view_grows (image_of a) (1 + length a) within.rest (omega arith) in
-    omega arith)
+leaves_last list before name (View v) good within view_ is none = absurd (let high = viewed_low list before v within in omega arith)
 
 -- ---- of a group
 
@@ -136,23 +141,9 @@ module _ (rules : Rules) (events : List Event) (place : ℕ) (may : MayFound rul
         let by : s.views.current.by ≡ q = ap (λ u. u.by) (sym (ap view_of is ∙ kept.views.view)) ∙ leads.by in
         let acc = ap (λ k. (w.nodes k).core.acc) by in
         let size = ap length old.stands.group in
-        let reach = reached ch.before opens in
+        let reach = viewed_low list ch.before ch.view opens in
         let num = numbered in
         omega arith
-      where
-        reached : (before : List Entry)
-            → Begins (before ++ View (current_of s.views).view ∷ []) list
-            → length before < (image_of list).view_number
-        reached before on =
-            let e = View (current_of s.views).view in
-            let a = before ++ e ∷ [] in
-            let long = length_push before e in
-            let its = after_view (image_of before) (1 + length before) (current_of s.views).view in
-            let here : (image_of a).view_number ≡ 1 + length before = ap (λ (g : Image). g.view_number) (told_push before e) ∙ its.1 in
-            let all : image_of list ≡ fold (image_of a) (1 + length a) on.rest = ap image_of (sym on.same) ∙ fold_append blank 1 a on.rest in
-            let same = ap (λ (g : Image). g.view_number) all in
-            let more = view_grows (image_of a) (1 + length a) on.rest (omega arith) in
-            omega arith
 
     start_low : m.core.log.start < number
     start_low =

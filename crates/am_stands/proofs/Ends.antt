@@ -7,28 +7,8 @@ use Rattle.am_stands.proofs.Words.{rises, Learns, departed, bare, before_end, En
 use Rattle.am_stands.specs.Ends.{learns}
 use Rattle.am_chain.specs.Group as groups
 use Rattle.am_chain.specs.Moves as group
-use Rattle.am_stands.proofs.Names.{no_move, one_move, views_noted}
+use Rattle.am_stands.proofs.Names.{no_move, one_move, views_noted, taken_more, name_grows}
 use Rattle.std.proofs.lemmas.List.{take-append-le}
-
--- ---- a longer group list
-
-pub taken_more : (n : ℕ) (old new : List Entry) → Begins old new → n ≤ length old → take n new ≡ take n old
-taken_more n old new h low = ap (take n) (sym h.same) ∙ take-append-le n old h.rest low
-
-pub name_grows : (w v : World) (i : ℕ) (m : Node) (a : groups.Node) → Begins w.group v.group → is_stopped v i ≡ is_stopped w i → NameStands w i m a
-    → NameStands v i m a
-name_grows w v i m a grows stopped h =
-    let low = h.begins.within in
-    let more = begins_length grows in
-    let same = taken_more m.core.log.start w.group v.group grows low in
-    record {
-      begins = record { within = omega arith; image = h.begins.image ∙ ap image_of (sym same) };
-      list = h.list ∙ ap (λ l. l ++ m.core.log.entries) (sym same);
-      flags = record { log_ = h.log_; stopped = h.stopped ∙ sym stopped; departed = h.departed; leaving = h.leaving };
-      promise = h.promise;
-      ballot = h.ballot;
-      start = h.start;
-    }
 
 -- ---- the world at the end
 

@@ -9,7 +9,7 @@ use Rattle.am_stands.proofs.Words.{opening, is_view, split, after_same, line, Is
 use Rattle.am_stands.proofs.Words.{IsNew, NotView, low_or_above}
 use Rattle.am_chain.specs.Group as groups
 use Rattle.am_stands.proofs.{Joins.Becomes, Joins.stayed, Joins.joins, Joins.founds, Joins.became, Joins.blank_nil, Parts.number_low, Parts.view_its}
-use Rattle.am_stands.proofs.{Sending.last_view_at, Ends.taken_more}
+use Rattle.am_stands.proofs.{Sending.last_view_at, Names.taken_more}
 
 -- ---- who is concerned by a list with one entry more, and what is reported of it
 

@@ -50,7 +50,7 @@ pub use Rattle.am_stands.proofs.{Parts.view_its, ChainNames.front_named, ChainNa
 pub use Rattle.am_stands.proofs.{Closing.close_stands, Entries.name_longer, Entries.key_stamp, Entries.view_whole, Keeping.kept, Keeping.old}
 pub use Rattle.am_stands.proofs.{Keeping.may_move, Keeping.whole, Lasts.closing_accepts, Names.name_in, Names.views_in, Names.views_noted, Names.each_within}
 pub use Rattle.am_stands.proofs.{Names.fronts_within, Names.lines_within, Stepped.changes_go_on, Learning.advanced, Learning.same_by, Learning.refresh_learns}
-pub use Rattle.am_stands.proofs.{Sending.nothing_viewed, Sending.sent_says, Ends.then_moves, Ends.accept_moves, Ends.taken_more, Ends.name_grows}
+pub use Rattle.am_stands.proofs.{Sending.nothing_viewed, Sending.sent_says, Ends.then_moves, Ends.accept_moves, Names.taken_more, Names.name_grows}
 pub use Rattle.am_stands.proofs.{Onward.grows_trans, Onward.grows_same, Onward.goes_on, Onward.group_whole, Opens.list_opens, Letters.letters_stay}
 pub use Rattle.am_stands.proofs.{Letters.trimmed_stays, Letters.all_stay, Letters.sequencer_stays, Stepped.keeps_in, Stepped.others_keep}
 pub use Rattle.am_stands.proofs.{Refreshing.refreshes_keep, Sent.Speaks, Sent.leading, Keeping.not_above_key, Silent.departed_silent}

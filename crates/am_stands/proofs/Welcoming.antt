@@ -7,7 +7,7 @@ use Rattle.am_stands.proofs.Words.{just_joined, asks_again, NameStands, FrontsSt
 use Rattle.am_stands.proofs.Words.{is_leaving, may_begin, RowsLive}
 use Rattle.am_chain.specs.Group as groups
 use Rattle.am_model.specs.Node as nodes
-use Rattle.am_stands.proofs.{Changes.told_all, Changes.long_all, Ends.taken_more, Joins.joined_in, Joins.JoinsAt, Joins.joins_at, Parts.image_whole}
+use Rattle.am_stands.proofs.{Changes.told_all, Changes.long_all, Names.taken_more, Joins.joined_in, Joins.JoinsAt, Joins.joins_at, Parts.image_whole}
 use Rattle.am_stands.proofs.{Parts.next_part, Sent.Speaks, Sent.leading, Sent.list_item}
 
 -- ---- who is welcomed
