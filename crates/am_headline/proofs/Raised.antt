@@ -1,6 +1,6 @@
 -- What a change keeps of a node whose Views have no less resilience than the founding.
 use Rattle.am_model.specs.Ballots.{decided_view}
-use Rattle.am_laws.proofs.Words.{◌≡◌, inl, inr, ℕ, suc, ◌+◌, ◌-◌, ◌<◌, ◌≤◌, ◌==◌, ◌&&◌, nat_lt, true, false, List, [], ◌∷◌, ◌++◌, length, take, Option}
+use Rattle.am_laws.proofs.Words.{◌≡◌, inl, inr, ℕ, suc, ◌+◌, ◌-◌, ◌<◌, ◌≤◌, ◌==◌, nat_lt, true, false, List, [], ◌∷◌, ◌++◌, length, take, Option}
 use Rattle.am_laws.proofs.Words.{Some, None, refl, sym, ap, ◌∙◌, subst, arith, nat_tests, length-append, All, All-nil, All-cons, All-head, All-tail, All-append}
 use Rattle.am_laws.proofs.Words.{All-take, split, and_both, place_of, has, Stamp, stamp_lt, stamp_eq, Entry, Data, Join, Leave, View, Image, Outcome, Rules}
 use Rattle.am_laws.proofs.Words.{Log, blank, top_of, told_by, image_at, with_entry, members_of, after, fold, Packet, Node, Ballot, top, view, members, acts}

@@ -6,7 +6,7 @@ use Rattle.am_headline.proofs.RepairWords.{only_name, is_sequencer, has_room, wa
 use Rattle.am_headline.proofs.RepairWords.{request_of, spread_of, join_ask_of, accept_of, result_of, tells_accepted, with_accept, finish, step, row}
 use Rattle.am_headline.proofs.RepairWords.{is_unfinished, would_emit, emit, everywhere_else, tick_row, tick_by, tick_acting, and_result, put_off, behind_view}
 use Rattle.am_headline.proofs.RepairWords.{viewed_by, event_at, running, ticks, World, is_stopped, with_record, with_step, happens, happen, split, Cause}
-use Rattle.am_headline.proofs.RepairWords.{hears, actor, IsCause, all_letter, all_get, inr, Repair, IsApart, IsLeaver, our_ticks}
+use Rattle.am_headline.proofs.RepairWords.{hears, actor, IsCause, all_letter, all_get, inr, Repair, our_ticks}
 use Rattle.am_model.specs.Emit.{leave_ask_of}
 use Rattle.am_base.specs.declared.event.NodeEvent.TheVariants as does
 use Rattle.am_base.specs.declared.outcome.Outcome.TheVariants as said

@@ -1,7 +1,7 @@
 -- What each record of a run tells is within its limits, and each name's requests are 1, 2, 3 and so on.
 use Rattle.am_laws.proofs.Words.{◌≡◌, ℕ, zero, suc, ◌+◌, ◌-◌, ◌<◌, ◌≤◌, ◌==◌, nat_le, Bool, true, false, if◌then◌else◌, List, [], ◌∷◌, ◌++◌, length, ◌⊎◌, inl}
 use Rattle.am_laws.proofs.Words.{inr, Option, Some, None, slice_get, refl, sym, ap, ◌∙◌, subst, arith, nat_tests, All, All-nil, All-cons, All-head}
-use Rattle.am_laws.proofs.Words.{All-tail, All-append, range_with_len, length-append, most_number, most_body, split, Entry, Data, Leave, View, Outcome, Log}
+use Rattle.am_laws.proofs.Words.{All-tail, All-append, range_with_len, length-append, most_number, split, Entry, Data, Leave, View, Outcome, Log}
 use Rattle.am_laws.proofs.Words.{entry_at, top_of, Rules, MayFound, Act, Event, Node, Ballot, push_entry, Verdict, Step, World, start, run, happen, happens}
 use Rattle.am_laws.proofs.Words.{with_record, with_step, Cause, calls, Looks, finds_itself_out, Change, Changes, no_change, changed, refreshes, settles, looks}
 use Rattle.am_laws.proofs.Words.{queues, collects, closes, Effect, actor, IsCall, IsCause, Happens, idles, stops, returns, steps, all_get, first_has, current}
@@ -14,7 +14,6 @@ use Rattle.std.proofs.lemmas.Grind.{flat_map-append}
 use Rattle.am_base.specs.declared.outcome.Outcome.TheVariants as said
 use Rattle.am_base.specs.declared.event.NodeEvent.TheVariants as does
 use Rattle.am_base.specs.Names.{place_of}
-use Rattle.am_packet.specs.Laws.{IsBytes}
 use Rattle.am_state.specs.Sends as own
 use Rattle.am_group.specs.declared.event.Act.TheVariants as act
 use Rattle.am_group.specs.declared.event.Record.{Record}
@@ -29,7 +28,7 @@ use Rattle.am_laws.proofs.Limits.{EntryWithin, AreNumbers}
 use Rattle.am_laws.proofs.NodeLimits.{SendWithin}
 use Rattle.am_laws.proofs.RunLimits.{first_bounds, small_run}
 use Rattle.am_laws.proofs.Named.{run_named}
-use Rattle.am_runs.proofs.SentKept.{WasSent, EntrySent}
+use Rattle.am_runs.proofs.SentKept.{EntrySent}
 use Rattle.am_runs.proofs.SentRuns.{AllSent, each_keeps, sent_start}
 use Rattle.am_laws.proofs.EffectRuns.{runs_keep}
 use Rattle.am_runs.specs.Ballots.{IsOfBallot, LastOk, BallotsOk}

@@ -8,7 +8,7 @@ use Rattle.am_headline.proofs.RepairWords.{MayTell, leads, decided, Ballot}
 use Rattle.am_headline.proofs.Going.{OurStep, Ours, idles, steps, ours, lead_changes, follow_changes, apart_changes, left_changes, sender_is, member_there}
 use Rattle.am_headline.proofs.{Nodes.CalmCause, Nodes.acting, Nodes.leading, Nodes.leads_not, RepairLeading.Goes, RepairLeading.told_taken, RepairLeading.Trusts}
 use Rattle.am_headline.proofs.{RepairLeading.TellsTaken, RepairLists.LogGrows, RepairLists.grows_same, Following.Skips, Saying.Grow, Saying.calm_stays, Saying.Sends}
-use Rattle.am_headline.proofs.{Saying.says_calm, Leaving.leads_not as leads_not_left, Silent.Here, Silent.none_or_here, Silent.same_sender}
+use Rattle.am_headline.proofs.{Saying.says_calm, Leaving.leads_not as leads_not_left, Silent.none_or_here, Silent.same_sender}
 
 -- ---- names
 

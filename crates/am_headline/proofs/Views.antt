@@ -1,8 +1,7 @@
 -- A View that leaves somebody out always fits: what each run keeps of it up to its lawful front.
-use Rattle.am_headline.proofs.Words.{◌≡◌, ◌≢◌, ◌⊎◌, either, ℕ, ◌+◌, ◌-◌, ◌<◌, ◌≤◌, true, List, [], ◌∷◌, ◌++◌, length, take, Some, refl, sym, ap, ◌∙◌, subst}
-use Rattle.am_headline.proofs.Words.{append_assoc, arith, Entry, Image, Stamp, Rules, size, members_of, Packet, item_at, Begins, view_of, key, begins_trans}
-use Rattle.am_headline.proofs.Words.{begins_length, length_push, Group, IsUp, Kept, Node, top, World, NameStands, LinesOpen, Grows, long_all, taken_more}
-use Rattle.am_headline.proofs.Words.{image_whole}
+use Rattle.am_headline.proofs.Words.{◌≡◌, ◌≢◌, either, ℕ, ◌+◌, ◌-◌, ◌≤◌, true, List, [], ◌∷◌, ◌++◌, length, take, Some, sym, ap, ◌∙◌, subst, append_assoc}
+use Rattle.am_headline.proofs.Words.{arith, Entry, Image, Stamp, Rules, size, members_of, Packet, item_at, Begins, view_of, key, begins_trans, begins_length}
+use Rattle.am_headline.proofs.Words.{length_push, Group, IsUp, Kept, Node, top, World, NameStands, LinesOpen, Grows, long_all, taken_more, image_whole}
 use Rattle.am_base.specs.Whole.{image_of}
 use Rattle.am_packet.specs.declared.packet.Packet.TheVariants as packet
 use Rattle.am_chain.specs.Group as groups

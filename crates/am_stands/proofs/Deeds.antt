@@ -1,11 +1,10 @@
 -- A look at a ballot, which comes last before the end of a step: a view that it decided was noted.
 use Rattle.am_model.specs.Ballots.{decided_view}
 use Rattle.am_stands.proofs.StepWords.{logged, ◌≡◌, ◌⊎◌, inl, inr, either, ℕ, true, false, List, [], ◌∷◌, ◌++◌, refl, sym, ap, ◌∙◌, subst, Stamp, Entry}
-use Rattle.am_stands.proofs.StepWords.{Outcome, Rules, stamp_lt, Group, Node, Ballot, view, is_member, image_of, Verdict, trim_for, left_in, need_of, Decided}
-use Rattle.am_stands.proofs.StepWords.{World, last_view, Cause, Balloting, Looks, finds_itself_out, waits, fetches_from_best, finds_too_few, finds_no_room}
-use Rattle.am_stands.proofs.StepWords.{decides, looks, Course, nothing_yet, used_report, and_then, Deeds, plainly, looked, course_changes, rests_refresh, below}
-use Rattle.am_stands.proofs.StepWords.{not_above, SameView, Stood, view_last, changes_do, looked_at, CauseSent, after_look, Stepping, looked_open}
-use Rattle.am_stands.proofs.StepWords.{changes_go_on}
+use Rattle.am_stands.proofs.StepWords.{Outcome, Rules, stamp_lt, Group, Node, Ballot, view, is_member, Verdict, trim_for, left_in, need_of, Decided, World}
+use Rattle.am_stands.proofs.StepWords.{last_view, Cause, Balloting, Looks, finds_itself_out, waits, fetches_from_best, finds_too_few, finds_no_room, decides}
+use Rattle.am_stands.proofs.StepWords.{looks, Course, nothing_yet, used_report, and_then, Deeds, plainly, looked, course_changes, rests_refresh, below}
+use Rattle.am_stands.proofs.StepWords.{not_above, view_last, changes_do, looked_at, CauseSent, after_look, Stepping, looked_open, changes_go_on}
 use Rattle.am_stands.proofs.{Worlds.growing, Refreshed.Fronted, Refreshed.Changed, Refreshed.then_changed, Courses.was_welcomed, Courses.look_brings}
 use Rattle.am_stands.proofs.{Courses.both_ways, Courses.stays, StepGoing.fronts_next, StepGoing.Grown, StepGoing.as_before, StepGoing.by_reports}
 use Rattle.am_stands.proofs.{StepGoing.going_on}

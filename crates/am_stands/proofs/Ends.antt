@@ -1,14 +1,12 @@
 -- At the end of a step the group accepts what its sequencer does, and the name learns how far that is.
-use Rattle.am_stands.proofs.Words.{equals_itself, ◌≡◌, ◌≢◌, ℕ, ◌<◌, ◌≤◌, ◌==◌, max, true, false, if◌then◌else◌, List, [], ◌∷◌, ◌++◌, length, take}
-use Rattle.am_stands.proofs.Words.{Some, slice_get, refl, sym, ap, ◌∙◌, subst, arith, nat_tests, Entry, Stamp, Event, Begins, image_of, begins_length, Group}
-use Rattle.am_stands.proofs.Words.{put, with_node, Node, set_at, has_departed, Step, Decided, World, is_stopped, group_after, views_after, with_step}
-use Rattle.am_stands.proofs.Words.{up_to_next, line_of, split, NameStands, FrontsStand, ViewsStand, Stands, Moves, none, moves, Leads, Accepts, no_more}
-use Rattle.am_stands.proofs.Words.{rises, Learns, departed, bare, before_end, EndsStand}
+use Rattle.am_stands.proofs.Words.{equals_itself, ◌≡◌, ◌≢◌, ℕ, ◌<◌, ◌≤◌, ◌==◌, max, true, false, if◌then◌else◌, List, ◌++◌, length, Some, slice_get, refl, sym}
+use Rattle.am_stands.proofs.Words.{ap, ◌∙◌, subst, arith, nat_tests, Entry, Stamp, Event, Begins, Group, put, with_node, Node, set_at, has_departed, Step}
+use Rattle.am_stands.proofs.Words.{Decided, World, group_after, views_after, with_step, up_to_next, line_of, split, NameStands, FrontsStand, ViewsStand, Stands}
+use Rattle.am_stands.proofs.Words.{Moves, none, moves, Leads, Accepts, no_more, rises, Learns, departed, bare, before_end, EndsStand}
 use Rattle.am_stands.specs.Ends.{learns}
 use Rattle.am_chain.specs.Group as groups
 use Rattle.am_chain.specs.Moves as group
 use Rattle.am_stands.proofs.Names.{no_move, one_move, views_noted, taken_more, name_grows}
-use Rattle.std.proofs.lemmas.List.{take-append-le}
 
 -- ---- the world at the end
 

@@ -1,6 +1,6 @@
 -- What stands for a world goes on standing through an event that no node does.
-use Rattle.am_stands.proofs.Words.{◌≡◌, ℕ, ◌+◌, ◌≤◌, ◌==◌, ◌||◌, Bool, true, false, if◌then◌else◌, List, [], ◌∷◌, ◌++◌, refl, sym, ap, ◌∙◌, subst, arith}
-use Rattle.am_stands.proofs.Words.{length, take, list_any, nat_tests, list_any-append, Outcome, Entry, Event, image_of, Group, put, with_node, Node, set_at}
+use Rattle.am_stands.proofs.Words.{◌≡◌, ℕ, ◌+◌, ◌==◌, ◌||◌, Bool, true, false, if◌then◌else◌, List, [], ◌∷◌, ◌++◌, refl, sym, ap, ◌∙◌, subst, arith}
+use Rattle.am_stands.proofs.Words.{take, list_any, nat_tests, list_any-append, Outcome, Event, Group, put, with_node, Node, set_at}
 use Rattle.am_stands.proofs.Words.{has_departed, up_to_next, World, current, is_stopped, with_record, lives_on, split, actor, idles, returns, steps}
 use Rattle.am_stands.proofs.Words.{NameStands, FrontsStand, Stands, EventsStand, EventStands, no_move, stop, begins_refl, Begins}
 use Rattle.am_laws.specs.Events.{stops}

@@ -1,7 +1,7 @@
 -- A world within a step whose group list, and views, have gone on.
 use Rattle.am_stands.proofs.StepWords.{◌≡◌, ℕ, ◌<◌, List, ◌++◌, Some, slice_get, refl, sym, ap, ◌∙◌, Entry, Record, Begins, Group, with_node, Node, Decided, World}
 use Rattle.am_stands.proofs.StepWords.{up_to_next, NameStands, StandsBut, within, WasAsked, SendsOnce, views_noted, each_within, fronts_within, lines_within}
-use Rattle.am_stands.proofs.StepWords.{views_in, Unmoved, others_same, others_fronts, same_name, taken_more, name_grows}
+use Rattle.am_stands.proofs.StepWords.{views_in, Unmoved, same_name, taken_more, name_grows}
 use Rattle.am_chain.specs.Group as groups
 
 -- views were noted by names
