@@ -1,6 +1,5 @@
 -- How a name comes to act in a view: it did before, it decided it, or a letter of the view's own name told it, whose base it had taken.
-use Rattle.am_model.specs.Ballots.{decided_view}
-use Rattle.am_base.specs.declared.entry.GroupView.{GroupView}
+use Rattle.am_headline.proofs.Words.{decided_view, GroupView}
 use Rattle.am_headline.proofs.RepairedWords.{numbers_plain, stamp_by, other_asks, other_heard, stamp_itself, same_stamp, ◌≡◌, either, ℕ, ◌<◌, ◌≤◌, ◌==◌, ◌&&◌}
 use Rattle.am_headline.proofs.RepairedWords.{true, false, [], refl, sym, ap, ◌∙◌, subst, arith, nat_tests, Entry, View, Image, Stamp, Outcome, Rules, stamp_lt}
 use Rattle.am_headline.proofs.RepairedWords.{stamp_eq, Log, blank, fold, told_by, Node, Ballot, view, acts, is_member, push_entry, trim_up_to, has_log, Verdict}

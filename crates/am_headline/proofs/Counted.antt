@@ -1,20 +1,18 @@
 -- Whose storage counts behind the last View, where a run may be repaired: each of them is a member still.
+use Rattle.am_headline.proofs.Words.{image_whole, image_at, GroupView}
 use Rattle.am_headline.proofs.RepairedWords.{◌≡◌, ◌≢◌, ℕ, zero, suc, ◌+◌, ◌<◌, ◌≤◌, ◌==◌, true, false, List, [], ◌∷◌, ◌++◌, length, slice_index, All, sym, ap}
 use Rattle.am_headline.proofs.RepairedWords.{◌∙◌, subst, arith, nat_tests, All-nil, All-cons, Entry, Data, Join, Leave, View, Image, Rules, MayFound, IsSet}
-use Rattle.am_headline.proofs.RepairedWords.{has, place_of, name_at, names_from, names_of, fold, blank, members_of, counted_at, Event, view_grows}
-use Rattle.am_headline.proofs.RepairedWords.{Begins, IsGood, mem, view_of, begins_trans, begins_length, length_push, good_begins, told_push, mem_push}
-use Rattle.am_headline.proofs.RepairedWords.{ends_of, Group, Leads, counted_in, opening, chain_of, current_of, Kept, Node, top, told_at, members}
-use Rattle.am_headline.proofs.RepairedWords.{lowest_or_first, MayRepair, lawful_front, has_departed, take, World, current, run, fold_append, split, names_hold}
-use Rattle.am_headline.proofs.RepairedWords.{numbers_hold, taken_holds, after_view, NameStands, NamesNamed, Following, told_all, long_all, counts_names}
-use Rattle.am_headline.proofs.RepairedWords.{name_small, group_kept, stood, counted_whole, steps_move, held, eqb-true}
+use Rattle.am_headline.proofs.RepairedWords.{has, place_of, name_at, names_from, names_of, fold, blank, members_of, counted_at, Event, view_grows, Begins}
+use Rattle.am_headline.proofs.RepairedWords.{IsGood, mem, view_of, begins_trans, begins_length, length_push, good_begins, told_push, mem_push, ends_of, Group}
+use Rattle.am_headline.proofs.RepairedWords.{Leads, counted_in, opening, chain_of, current_of, Kept, Node, top, told_at, members, lowest_or_first, MayRepair}
+use Rattle.am_headline.proofs.RepairedWords.{lawful_front, has_departed, take, World, current, run, fold_append, split, names_hold, numbers_hold, taken_holds}
+use Rattle.am_headline.proofs.RepairedWords.{after_view, NameStands, NamesNamed, Following, told_all, long_all, counts_names, name_small, group_kept, stood}
+use Rattle.am_headline.proofs.RepairedWords.{counted_whole, steps_move, held, eqb-true}
 use Rattle.am_base.specs.Whole.{image_of}
-use Rattle.am_headline.proofs.{Left.AllLeft, Left.accepted, Left.last, Left.once, Left.runs_left, OneList.lawful_events, OneList.small_name}
+use Rattle.am_headline.proofs.{Left.AllLeft, Left.accepted, Left.last, Left.once, Left.runs_left, OneList.lawful_events, OneList.small_name, OneList.leading}
+use Rattle.am_headline.proofs.{Upheld.Upheld, Upheld.upheld_start, Upheld.upheld_keeps}
 use Rattle.am_headline.proofs.OneList.{leader_runs}
-use Rattle.am_stands.proofs.Parts.{image_whole}
 use Rattle.am_base.proofs.Prefixes.{take_begins}
-use Rattle.am_base.specs.Lists.{image_at}
-use Rattle.am_headline.proofs.{OneList.leading, Upheld.Upheld, Upheld.upheld_start, Upheld.upheld_keeps}
-use Rattle.am_base.specs.declared.entry.GroupView.{GroupView}
 
 -- ---- who counts for a number
 

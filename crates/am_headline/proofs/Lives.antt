@@ -1,31 +1,20 @@
 -- The life of each record is what the last return of its place told.
-use Rattle.std.proofs.Common.{◌≡◌, ℕ, ◌+◌, ◌<◌, ◌≤◌, ◌==◌, ◌||◌, Bool, if◌then◌else◌, List, [], ◌∷◌, ◌++◌, map, get_or}
-use Rattle.std.proofs.Common.{Option, Some, None, refl, sym, ap, ◌∙◌, subst, arith}
+use Rattle.am_headline.proofs.Words.{◌≡◌, ℕ, ◌+◌, ◌<◌, ◌≤◌, ◌==◌, ◌||◌, Bool, if◌then◌else◌, List, [], ◌∷◌, ◌++◌, Option, Some, None, refl, sym, ap, ◌∙◌, subst}
+use Rattle.am_headline.proofs.Words.{arith, nat_tests, place_of, name_at, Outcome, split, Letter, Packet, Act, Event, Record, is_for, name_of, letter_at, Step}
+use Rattle.am_headline.proofs.Words.{has_departed, World, start, current, is_stopped, with_record, with_step, record_of, hears_letter, acts_as, happens, happen}
+use Rattle.std.proofs.Common.{map, get_or}
 use Rattle.std.specs.Prelude.{slice_index, slice_set}
 use Rattle.std.specs.List.{range_with_len}
-use Rattle.std.proofs.lemmas.Bool.Decides.{nat_tests}
 use Rattle.std.proofs.lemmas.List.{get_or-set_same, get_or-set_other, length-set}
 use Rattle.std.proofs.lemmas.List.FromFn.{get_or-map-range_with_len}
-use Rattle.am_base.specs.Names.{place_of, name_at, by_place}
-use Rattle.am_base.specs.declared.outcome.Outcome.{Outcome}
+use Rattle.am_base.specs.Names.{by_place}
 use Rattle.am_base.specs.declared.outcome.Outcome.TheVariants as said
 use Rattle.am_base.specs.declared.event.NodeEvent.{NodeEvent}
-use Rattle.am_base.proofs.Greatest.{split}
 use Rattle.am_base.proofs.Places.{by_place_all}
-use Rattle.am_packet.specs.Boxes.{Letter}
-use Rattle.am_packet.specs.declared.packet.Packet.{Packet}
-use Rattle.am_group.specs.declared.event.Act.{Act}
 use Rattle.am_group.specs.declared.event.Act.TheVariants as act
-use Rattle.am_group.specs.declared.event.Event.{Event}
-use Rattle.am_group.specs.declared.event.Record.{Record}
-use Rattle.am_group.specs.Addressed.{is_for}
-use Rattle.am_group.specs.Deliveries.{name_of}
-use Rattle.am_group.specs.Journals.{letter_at}
-use Rattle.am_model.specs.Emit.{Step}
-use Rattle.am_model.specs.Node.{set_at, has_departed}
+use Rattle.am_model.specs.Node.{set_at}
 use Rattle.am_model.specs.Step.{step}
-use Rattle.am_play.specs.World.{World, start, current, is_stopped, with_record, with_step, record_of, does_event, gives_up, stops, hears_letter}
-use Rattle.am_play.specs.World.{comes_back, acts_as, happens, happen}
+use Rattle.am_play.specs.World.{does_event, gives_up, stops, comes_back}
 use Rattle.am_headline.specs.Records.{returned_as, names_after, names_told, AreTold, first_names, names_in, LivesTold, LivesAreTold, HasLife, IsBack}
 
 -- ---- one event

@@ -1,32 +1,19 @@
 -- Each event of a run is a part of one node, or of none.
-use Rattle.std.proofs.Common.{◌≡◌, ℕ, List, [], ◌∷◌, ◌++◌, length, take, Option, Some, None, Bool, true, false, not, ◌||◌, ◌==◌, ◌+◌, if◌then◌else◌, refl, sym, ap, ◌∙◌, subst, arith}
-use Rattle.std.proofs.Common.{append_assoc, append-nil, length-append}
-use Rattle.std.specs.Prelude.{All}
-use Rattle.std.proofs.lemmas.Bool.{eqb-true}
+use Rattle.am_headline.proofs.Words.{◌≡◌, ℕ, List, [], ◌∷◌, ◌++◌, length, take, Option, Some, None, Bool, true, false, not, ◌||◌, ◌==◌, ◌+◌, if◌then◌else◌}
+use Rattle.am_headline.proofs.Words.{refl, sym, ap, ◌∙◌, subst, arith, append_assoc, append-nil, length-append, All, eqb-true, Rules, place_of, Outcome, Letter}
+use Rattle.am_headline.proofs.Words.{Packet, Act, Event, Record, letter_at, is_for, Node, has_departed, Step, hear, World, start, first_node, current}
+use Rattle.am_headline.proofs.Words.{is_stopped, record_of, with_record, with_step, hears_letter, hear_cut, lives_on, acts_as, happens, happen, run, runs_go_on}
 use Rattle.std.proofs.Math.Seq.{take-append_seam}
 use Rattle.std.proofs.lemmas.List.Elements.{All-take}
-use Rattle.am_base.specs.Founding.{Rules}
-use Rattle.am_base.specs.Names.{place_of}
-use Rattle.am_base.specs.declared.outcome.Outcome.{Outcome}
 use Rattle.am_base.specs.declared.outcome.Outcome.TheVariants as said
 use Rattle.am_base.specs.declared.event.NodeEvent.{NodeEvent}
 use Rattle.am_base.specs.declared.event.NodeEvent.TheVariants as does
-use Rattle.am_packet.specs.Boxes.{Letter}
-use Rattle.am_packet.specs.declared.packet.Packet.{Packet}
 use Rattle.am_packet.specs.Limits.{IsPacket}
 use Rattle.am_packet.specs.Spelling.{spelling}
-use Rattle.am_group.specs.declared.event.Act.{Act}
 use Rattle.am_group.specs.declared.event.Act.TheVariants as act
-use Rattle.am_group.specs.declared.event.Event.{Event}
-use Rattle.am_group.specs.declared.event.Record.{Record}
-use Rattle.am_group.specs.Journals.{letter_at}
-use Rattle.am_group.specs.Addressed.{is_for}
-use Rattle.am_model.specs.Node.{Node, has_departed}
-use Rattle.am_model.specs.Emit.{Step}
-use Rattle.am_model.specs.Step.{step, hear}
+use Rattle.am_model.specs.Step.{step}
 use Rattle.am_meaning.proofs.Bytes.{spelling_is_heard, cut_is_heard}
-use Rattle.am_play.specs.World.{World, start, first_node, current, is_stopped, record_of, with_record, with_step, does_event, hears_letter, hear_cut, lives_on, acts_as, happens, happen, run}
-use Rattle.am_play.proofs.Runs.{runs_go_on}
+use Rattle.am_play.specs.World.{does_event}
 use Rattle.am_laws.specs.Bytes.{BodyWithin, IsShort}
 use Rattle.am_laws.proofs.RunLimits.{letters_are_packets}
 use Rattle.am_headline.specs.Parts.{Part, unless_stopped, hearing_of, own_event, part_of, part_at, parts_of, node_by, Answered, IsMade, RunsAreMadeOfNodes}
