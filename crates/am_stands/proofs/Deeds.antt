@@ -63,11 +63,6 @@ world_after : {x : Node} {b : Ballot} {v : Verdict} (look : Looks x b v) (w : Wo
 world_after (finds_itself_out a) w group = refl
 world_after _ w group = refl
 
--- a sequencer that took a report looks at no ballot
-before_look : {c : Cause} {x y : Node} (b : Ballot) (old group : List Entry) → Balloting c x b → Grown c old group x → Grown c old group y
-before_look b old group why (as_before is) = as_before is
-before_look b old group why (by_reports brings leads start is) = absurd (both_ways _ brings (look_brings b why).brings)
-
 view_up : (a b stamp : Stamp) → (b ≡ a) ⊎ (stamp_lt a b ≡ true) → stamp_lt b stamp ≡ true → stamp_lt a stamp ≡ true
 view_up a b stamp h above = either h
     (λ same. ap (λ u. stamp_lt u stamp) (sym same) ∙ above)
@@ -101,6 +96,9 @@ deeds_on rules w name c o m x s (looked {n = n} b verdict course over why look i
         goes = goes;
         fronts = record { low = fronts.low; heard = fronts.heard; word = fronts.word; acc = fronts.acc; told = fronts.told };
       });
-      grown = before_look b w.group g.group why g.grown;
+      grown = elim g.grown [
+        | as_before is ↦ as_before is
+        | by_reports brings leads start is ↦ absurd (both_ways _ brings (look_brings b why).brings)
+      ];
       seen = seen_by look w m member open_.own (view_up (view m) (view n) b.stamp up open_.above);
     }

@@ -118,12 +118,6 @@ learn_stands w e name step s same h few (learns m) =
 
 -- ---- the end
 
--- what is learned looks at no group list but that after the step
-same_learns : (w : World) (s : Group) (g : List Entry) (name : ℕ) (n : Node) → Learns w s name n → Learns w (record s { group = g }) name n
-same_learns w s g name n (departed d) = departed d
-same_learns w s g name n (bare f) = bare f
-same_learns w s g name n (learns m) = learns (record { up = m.up; told = m.told; before = m.before; up_to = m.up_to; given = m.given; within = m.within })
-
 pub ends_stand : EndsStand
 unfolding with_step
 ends_stand w e name step s needs h =
@@ -137,5 +131,9 @@ ends_stand w e name step s needs h =
       views = views_grow w e name step s needs.grows needs.noted h.each h.views;
       group_ = refl;
     } in
-    let last = learn_stands w e name step t refl ended needs.few (same_learns w s g name n needs.learns) in
+    let last = learn_stands w e name step t refl ended needs.few (elim needs.learns [
+      | departed d ↦ departed d
+      | bare f ↦ bare f
+      | learns m ↦ learns (record { up = m.up; told = m.told; before = m.before; up_to = m.up_to; given = m.given; within = m.within })
+    ]) in
     record { to = last.to; path = then_moves path last.path; is = last.is }
