@@ -33,10 +33,6 @@ viewed_low list before v within =
 -- by its own Leave, as no View stands there
 leaves_last : (list before : List Entry) (name : ℕ) (e : Entry) → IsGood list → Begins (before ++ e ∷ []) list → (image_of list).view_number ≤ length before
     → mem before name ≡ true → mem (before ++ e ∷ []) name ≡ false → e ≡ Leave name
-leaves_last list before name (Data from req body) good within view_ is none =
-    absurd (let z = mem_push before (Data from req body) name (good_begins within good) tt is in cc)
-leaves_last list before name (Join joiner) good within view_ is none =
-    absurd (let z = mem_push before (Join joiner) name (good_begins within good) tt is in cc)
 leaves_last list before name (Leave leaver) good within view_ is none = split (leaver == name)
     (λ t. ap (λ k. Leave k) (eqb-true leaver name t))
     (λ f. absurd (let z = mem_push before (Leave leaver) name (good_begins within good) (other leaver name f) is in cc))
@@ -44,6 +40,7 @@ leaves_last list before name (Leave leaver) good within view_ is none = split (l
     other : (a b : ℕ) → (a == b) ≡ false → a ≢ b
     other a b f = λ u. grind (arith, nat_tests)
 leaves_last list before name (View v) good within view_ is none = absurd (let high = viewed_low list before v within in omega arith)
+leaves_last list before name e good within view_ is none = absurd (let z = mem_push before e name (good_begins within good) tt is in cc)
 
 -- ---- of a group
 

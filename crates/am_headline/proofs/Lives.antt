@@ -117,21 +117,13 @@ back_tells w e place is = split (is_stopped w (current w place) || has_departed 
     (λ f. rw f (unmoved w e (said.Running (w.lives place)) refl tt))
 
 act_tells : (w : World) (e : Event) (name : ℕ) (a : Act) → place_of name ≡ place_of e.node → Tells w e a (acts_as w e name a)
-act_tells w e name (act.Send body) is = does_tells w e (act.Send body) name _ (record { same = λ o. refl; back = λ o. tt })
-act_tells w e name (act.Done req) is = does_tells w e (act.Done req) name _ (record { same = λ o. refl; back = λ o. tt })
-act_tells w e name act.Take is = does_tells w e act.Take name _ (record { same = λ o. refl; back = λ o. tt })
-act_tells w e name act.Join is = does_tells w e act.Join name _ (record { same = λ o. refl; back = λ o. tt })
-act_tells w e name act.State is = does_tells w e act.State name _ (record { same = λ o. refl; back = λ o. tt })
-act_tells w e name act.Leave is = does_tells w e act.Leave name _ (record { same = λ o. refl; back = λ o. tt })
-act_tells w e name (act.Reset least resilience) is = does_tells w e (act.Reset least resilience) name _ (record { same = λ o. refl; back = λ o. tt })
-act_tells w e name (act.Ask round) is = does_tells w e (act.Ask round) name _ (record { same = λ o. refl; back = λ o. tt })
 act_tells w e name (act.GiveUp other) is = gives_tells w e (act.GiveUp other) name other (record { same = λ o. refl; back = λ o. tt })
 act_tells w e name act.Stop is = stops_tells w e act.Stop name (record { same = λ o. refl; back = λ o. tt })
-act_tells w e name act.Tick is = does_tells w e act.Tick name _ (record { same = λ o. refl; back = λ o. tt })
 act_tells w e name (act.Hear number) is = hears_tells w e (act.Hear number) name _ (letter_at w.letters number) (record { same = λ o. refl; back = λ o. tt })
 act_tells w e name (act.Cut number keep) is = hears_tells w e (act.Cut number keep) name _ (letter_at w.letters number)
     (record { same = λ o. refl; back = λ o. tt })
 act_tells w e name act.Return is = back_tells w e (place_of name) is
+act_tells w e name a is = does_tells w e a name _ (record { same = λ o. refl; back = λ o. tt })
 
 pub tells : (w : World) (e : Event) → Tells w e e.act (happens w e)
 unfolding happens
