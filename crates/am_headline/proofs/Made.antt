@@ -129,23 +129,15 @@ abbrev HoldsPackets : World → Type 0
 HoldsPackets w = (number : ℕ) (letter : Letter) → letter_at w.letters number ≡ Some letter → IsPacket letter.packet
 
 acts_made : (w : World) (e : Event) (n name : ℕ) (a : Act) → HoldsPackets w → Made w n name (own_event w n a) (acts_as w e n a)
-acts_made w e n name (act.Send body) holds = does_made w e n name (does.Send body)
-acts_made w e n name (act.Done req) holds = does_made w e n name (does.Done req)
-acts_made w e n name act.Take holds = does_made w e n name does.Take
-acts_made w e n name act.Join holds = does_made w e n name does.Join
-acts_made w e n name act.State holds = does_made w e n name does.State
-acts_made w e n name act.Leave holds = does_made w e n name does.Leave
-acts_made w e n name (act.Reset least resilience) holds = does_made w e n name (does.Reset least resilience)
-acts_made w e n name (act.Ask round) holds = does_made w e n name (does.Ask round)
 acts_made w e n name (act.GiveUp other) holds = gives_by (is_stopped w n) (is_stopped w other) w e n name other
 acts_made w e n name act.Stop holds = stops_by (is_stopped w n) w e n name (w.stopped ++ n ∷ [])
-acts_made w e n name act.Tick holds = does_made w e n name does.Tick
 acts_made w e n name (act.Hear number) holds =
     hears_made w e n name (hear (w.nodes n)) (λ bytes. bytes) (letter_at w.letters number) (λ l is. sym (spelling_is_heard (w.nodes n) l.packet (holds number l is)))
 acts_made w e n name (act.Cut number keep) holds =
     hears_made w e n name (hear_cut (w.nodes n) keep) (take keep) (letter_at w.letters number) (λ l is. sym (cut_is_heard (w.nodes n) l.packet keep (holds number l is)))
 acts_made w e n name act.Return holds =
     returns_by (not (is_stopped w (current w (place_of n)) || has_departed (w.nodes (current w (place_of n))).status)) (w.lives (place_of n) == 16) w e n name (place_of n)
+acts_made w e n name _ holds = does_made w e n name _
 
 event_made : (w : World) (e : Event) (name : ℕ) → HoldsPackets w → Made w (current w (place_of e.node)) name (own_event w (current w (place_of e.node)) e.act) (happens w e)
 unfolding happens
