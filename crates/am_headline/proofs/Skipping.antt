@@ -102,7 +102,8 @@ tick_either : (w : World) (place k : ℕ) (l : Letter) → (let e = event_at pla
 unfolding happens with_record with_step
 tick_either w place k l there =
     let e = event_at place act.Tick in
-    split (is_stopped w (actor w e)) (λ t. inl (rw t at there)) (λ f. either (letter_either w.letters (step (w.nodes (actor w e)) does.Tick).letters k l (rw f at there))
+    split (is_stopped w (actor w e)) (λ t. inl (rw t at there)) (λ f. either
+    (letter_either w.letters (step (w.nodes (actor w e)) does.Tick).letters k l (rw f at there))
     (λ old. inl old)
     (λ new. inr (f, new)))
 

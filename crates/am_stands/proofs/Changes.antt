@@ -96,7 +96,12 @@ name_as w name x y a stamp open_ log status leaving start_ promise ballot k = re
     image = subst (λ (l : Log). l.image ≡ image_of (take l.start w.group)) (sym log) k.begins.image;
   };
   list = k.list ∙ ap (λ (l : Log). take l.start w.group ++ l.entries) (sym log);
-  flags = assumption (k.log_ ∙ ap has_log (sym status), k.departed ∙ ap has_departed (sym status), k.leaving ∙ sym leaving);
+  flags = record {
+    log_ = k.log_ ∙ ap has_log (sym status);
+    stopped = k.stopped;
+    departed = k.departed ∙ ap has_departed (sym status);
+    leaving = k.leaving ∙ sym leaving;
+  };
   promise = promise;
   ballot = ballot;
   start = λ t. k.start (ap has_log (sym status) ∙ t) ∙ sym start_;

@@ -35,7 +35,12 @@ name_longer w name x y e a l h = record {
     image = subst (λ (g : Log). g.image ≡ image_of (take g.start w.group)) (sym l.log) h.begins.image;
   };
   list = ap (λ k. k ++ e ∷ []) h.list ∙ sym (whole_longer w name x y e l);
-  flags = assumption (h.log_ ∙ ap has_log (sym l.stays), h.departed ∙ ap has_departed (sym l.stays), h.leaving ∙ sym l.leaving);
+  flags = record {
+    log_ = h.log_ ∙ ap has_log (sym l.stays);
+    stopped = h.stopped;
+    departed = h.departed ∙ ap has_departed (sym l.stays);
+    leaving = h.leaving ∙ sym l.leaving;
+  };
   promise = h.promise ∙ sym l.promise;
   ballot = h.ballot ∙ ap is_unfinished (sym l.ballot);
   start = λ t. h.start (ap has_log (sym l.stays) ∙ t) ∙ sym l.start;

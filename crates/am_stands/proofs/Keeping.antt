@@ -239,7 +239,8 @@ module _ (rules : Rules) (w : World) (name : ℕ) (c : Cause) (x : Node) (s : Gr
       → stamp_eq v x.core.promise ≡ true → Fetches x from v e → MayStore x (max x.core.base base) base number e → NeedsPiece s name x e
   fetch_ok from v base number e is heard promise why may =
       let o = other_heard from heard in
-      piece_needs w name from base number x v e s (assumption (whole, h, o)) o.0 (sym (same_stamp v x.core.promise promise)) why may (h.heard (packet.Piece from v base number e) is).says.1
+      piece_needs w name from base number x v e s (assumption (whole, h, o)) o.0 (sym (same_stamp v x.core.promise promise)) why may
+      (h.heard (packet.Piece from v base number e) is).says.1
 
   result_ok : (from base number : ℕ) (v : GroupView) → c ≡ hears (packet.Result from base number v)
       → hears_member x from ≡ true → (v.stamp.by == from) ≡ true → (v.stamp.by == x.core.who) ≡ false → x.core.promise ≡ v.stamp
