@@ -4,7 +4,6 @@ use Rattle.am_headline.proofs.RepairWords.{Rules, place_of, life_of, has, member
 use Rattle.am_headline.proofs.RepairWords.{is_member, stranger, has_departed, World, current, is_stopped, run, MayRepair, AllOwned, run_owned}
 use Rattle.am_headline.proofs.RepairWords.{IsAtRest, Repair, Leads, ◌≤◌, split, FollowsView, IsApart, IsLeaver, is_past, Calm, Agree, RepairsWhereListsAgree}
 use Rattle.am_headline.specs.Claim.{IsOut}
-use Rattle.am_model.specs.declared.status.Status.TheVariants as status
 use Rattle.am_headline.proofs.{Nodes.acting, Nodes.leading, Nodes.no_open, Going.member_there, Schedules.letter_within, Fine.Fine, Fine.IsThere}
 use Rattle.am_headline.proofs.{Repaired.AllStored, Repaired.all_catch_up, OldLives.OldStopped, OldLives.old_lives, Leavers.Leaves, Leavers.run_leaves}
 use Rattle.am_stands.proofs.Courses.{bare_status}

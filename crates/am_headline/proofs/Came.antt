@@ -1,16 +1,14 @@
 -- How a name comes to act in a view: it did before, it decided it, or a letter of the view's own name told it, whose base it had taken.
-use Rattle.am_model.specs.Ballots.{decided_view}
-use Rattle.am_base.specs.declared.entry.GroupView.{GroupView}
+use Rattle.am_headline.proofs.Words.{decided_view, GroupView}
 use Rattle.am_headline.proofs.RepairedWords.{numbers_plain, stamp_by, other_asks, other_heard, stamp_itself, same_stamp, ◌≡◌, either, ℕ, ◌<◌, ◌≤◌, ◌==◌, ◌&&◌}
 use Rattle.am_headline.proofs.RepairedWords.{true, false, [], refl, sym, ap, ◌∙◌, subst, arith, nat_tests, Entry, View, Image, Stamp, Outcome, Rules, stamp_lt}
 use Rattle.am_headline.proofs.RepairedWords.{stamp_eq, Log, blank, fold, told_by, Node, Ballot, view, acts, is_member, push_entry, trim_up_to, has_log, Verdict}
 use Rattle.am_headline.proofs.RepairedWords.{with_promise, next_stamp, trim_for, left_in, need_of, is_view, split, Cause, hears, Looks, fetches_from_best}
-use Rattle.am_headline.proofs.RepairedWords.{decides, Fetches, without_ballot, for_ballot, Change, refreshes, settles, admits, numbers, keeps_body, notes}
-use Rattle.am_headline.proofs.RepairedWords.{stores, begins_list, departs, promises, opens, looks, fetches, stores_view, collects, takes, asks_to_join}
-use Rattle.am_headline.proofs.RepairedWords.{asks_to_leave, closes, Changes, unchanged, changed, view_pushed, Blanked, not_above_itself, not_above}
-use Rattle.am_headline.proofs.RepairedWords.{equal_stamps, at_most, at_most_below, HasNames, HeardNames, SameView, Stood, view_last, Balloted, next_above}
-use Rattle.am_headline.proofs.RepairedWords.{looked_at, change_does, HeardUsed, Along, along_changes, acting, alike_refresh, alike_settle, view_alike}
-use Rattle.am_headline.proofs.RepairedWords.{acts_alike, Alike}
+use Rattle.am_headline.proofs.RepairedWords.{decides, Fetches, without_ballot, for_ballot, Change, refreshes, settles, numbers, stores, begins_list, departs}
+use Rattle.am_headline.proofs.RepairedWords.{promises, opens, looks, fetches, stores_view, takes, asks_to_join, asks_to_leave, closes, Changes, unchanged}
+use Rattle.am_headline.proofs.RepairedWords.{changed, view_pushed, Blanked, not_above_itself, not_above, equal_stamps, at_most, at_most_below, HasNames}
+use Rattle.am_headline.proofs.RepairedWords.{HeardNames, view_last, Balloted, next_above, looked_at, change_does, HeardUsed, Along, along_changes, acting}
+use Rattle.am_headline.proofs.RepairedWords.{alike_refresh, alike_settle, view_alike, acts_alike, Alike}
 use Rattle.am_packet.specs.declared.packet.Packet.TheVariants as packet
 
 -- ---- names

@@ -1,38 +1,26 @@
 -- Whose storage counts behind the last View, where a run may be repaired: each of them is a member still.
+use Rattle.am_headline.proofs.Words.{image_whole, image_at, GroupView}
 use Rattle.am_headline.proofs.RepairedWords.{◌≡◌, ◌≢◌, ℕ, zero, suc, ◌+◌, ◌<◌, ◌≤◌, ◌==◌, true, false, List, [], ◌∷◌, ◌++◌, length, slice_index, All, sym, ap}
 use Rattle.am_headline.proofs.RepairedWords.{◌∙◌, subst, arith, nat_tests, All-nil, All-cons, Entry, Data, Join, Leave, View, Image, Rules, MayFound, IsSet}
-use Rattle.am_headline.proofs.RepairedWords.{has, place_of, life_of, name_at, names_from, names_of, fold, blank, members_of, counted_at, Event, view_grows}
-use Rattle.am_headline.proofs.RepairedWords.{Begins, IsGood, mem, view_of, key, begins_trans, begins_length, length_push, good_begins, told_push, mem_push}
-use Rattle.am_headline.proofs.RepairedWords.{ends_of, Group, Leads, counted_in, opening, chain_of, current_of, Kept, Node, top, told_at, members}
-use Rattle.am_headline.proofs.RepairedWords.{lowest_or_first, MayRepair, lawful_front, has_departed, take, World, current, run, fold_append, split, names_hold}
-use Rattle.am_headline.proofs.RepairedWords.{numbers_hold, taken_holds, after_view, NameStands, NamesNamed, Following, told_all, long_all, counts_names}
-use Rattle.am_headline.proofs.RepairedWords.{name_small, group_kept, stood, counted_whole, steps_move, held, eqb-true}
+use Rattle.am_headline.proofs.RepairedWords.{has, place_of, name_at, names_from, names_of, fold, blank, members_of, counted_at, Event, view_grows, Begins}
+use Rattle.am_headline.proofs.RepairedWords.{IsGood, mem, view_of, begins_trans, begins_length, length_push, good_begins, told_push, mem_push, ends_of, Group}
+use Rattle.am_headline.proofs.RepairedWords.{Leads, counted_in, opening, chain_of, current_of, Kept, Node, top, told_at, members, lowest_or_first, MayRepair}
+use Rattle.am_headline.proofs.RepairedWords.{lawful_front, has_departed, take, World, current, run, fold_append, split, names_hold, numbers_hold, taken_holds}
+use Rattle.am_headline.proofs.RepairedWords.{after_view, NameStands, NamesNamed, Following, told_all, long_all, counts_names, name_small, group_kept, stood}
+use Rattle.am_headline.proofs.RepairedWords.{counted_whole, steps_move, held, eqb-true}
 use Rattle.am_base.specs.Whole.{image_of}
-use Rattle.am_headline.proofs.{Left.AllLeft, Left.GoneBy, Left.accepted, Left.last, Left.once, Left.runs_left, OneList.lawful_events, OneList.small_name}
+use Rattle.am_headline.proofs.{Left.AllLeft, Left.accepted, Left.last, Left.once, Left.runs_left, OneList.lawful_events, OneList.small_name, OneList.leading}
+use Rattle.am_headline.proofs.{Upheld.Upheld, Upheld.upheld_start, Upheld.upheld_keeps}
 use Rattle.am_headline.proofs.OneList.{leader_runs}
-use Rattle.am_stands.proofs.Parts.{image_whole}
 use Rattle.am_base.proofs.Prefixes.{take_begins}
-use Rattle.am_base.specs.Lists.{image_at, members_at}
-use Rattle.am_headline.proofs.{OneList.leading, Upheld.Upheld, Upheld.upheld_start, Upheld.upheld_keeps}
 
 -- ---- who counts for a number
 
 -- ---- how a membership ends behind the last View
 
--- by its own Leave, as no View stands there
-leaves_last : (list before : List Entry) (name : ℕ) (e : Entry) → IsGood list → Begins (before ++ e ∷ []) list → (image_of list).view_number ≤ length before
-    → mem before name ≡ true → mem (before ++ e ∷ []) name ≡ false → e ≡ Leave name
-leaves_last list before name (Data from req body) good within view_ is none =
-    absurd (let z = mem_push before (Data from req body) name (good_begins within good) tt is in cc)
-leaves_last list before name (Join joiner) good within view_ is none =
-    absurd (let z = mem_push before (Join joiner) name (good_begins within good) tt is in cc)
-leaves_last list before name (Leave leaver) good within view_ is none = split (leaver == name)
-    (λ t. ap (λ k. Leave k) (eqb-true leaver name t))
-    (λ f. absurd (let z = mem_push before (Leave leaver) name (good_begins within good) (other leaver name f) is in cc))
-  where
-    other : (a b : ℕ) → (a == b) ≡ false → a ≢ b
-    other a b f = λ u. grind (arith, nat_tests)
-leaves_last list before name (View v) good within view_ is none = absurd (
+-- a View in a list is no later than its last one
+viewed_low : (list before : List Entry) (v : GroupView) → Begins (before ++ View v ∷ []) list → length before < (image_of list).view_number
+viewed_low list before v within =
     let a = before ++ View v ∷ [] in
     let long = length_push before (View v) in
     let its = after_view (image_of before) (1 + length before) v in
@@ -40,7 +28,19 @@ leaves_last list before name (View v) good within view_ is none = absurd (
     let all : image_of list ≡ fold (image_of a) (1 + length a) within.rest = ap image_of (sym within.same) ∙ fold_append blank 1 a within.rest in
     let number = ap (λ (g : Image). g.view_number) all in
     let more = view_grows (image_of a) (1 + length a) within.rest (omega arith) in
-    omega arith)
+    omega arith
+
+-- by its own Leave, as no View stands there
+leaves_last : (list before : List Entry) (name : ℕ) (e : Entry) → IsGood list → Begins (before ++ e ∷ []) list → (image_of list).view_number ≤ length before
+    → mem before name ≡ true → mem (before ++ e ∷ []) name ≡ false → e ≡ Leave name
+leaves_last list before name (Leave leaver) good within view_ is none = split (leaver == name)
+    (λ t. ap (λ k. Leave k) (eqb-true leaver name t))
+    (λ f. absurd (let z = mem_push before (Leave leaver) name (good_begins within good) (other leaver name f) is in cc))
+  where
+    other : (a b : ℕ) → (a == b) ≡ false → a ≢ b
+    other a b f = λ u. grind (arith, nat_tests)
+leaves_last list before name (View v) good within view_ is none = absurd (let high = viewed_low list before v within in omega arith)
+leaves_last list before name e good within view_ is none = absurd (let z = mem_push before e name (good_begins within good) tt is in cc)
 
 -- ---- of a group
 
@@ -136,23 +136,9 @@ module _ (rules : Rules) (events : List Event) (place : ℕ) (may : MayFound rul
         let by : s.views.current.by ≡ q = ap (λ u. u.by) (sym (ap view_of is ∙ kept.views.view)) ∙ leads.by in
         let acc = ap (λ k. (w.nodes k).core.acc) by in
         let size = ap length old.stands.group in
-        let reach = reached ch.before opens in
+        let reach = viewed_low list ch.before ch.view opens in
         let num = numbered in
         omega arith
-      where
-        reached : (before : List Entry)
-            → Begins (before ++ View (current_of s.views).view ∷ []) list
-            → length before < (image_of list).view_number
-        reached before on =
-            let e = View (current_of s.views).view in
-            let a = before ++ e ∷ [] in
-            let long = length_push before e in
-            let its = after_view (image_of before) (1 + length before) (current_of s.views).view in
-            let here : (image_of a).view_number ≡ 1 + length before = ap (λ (g : Image). g.view_number) (told_push before e) ∙ its.1 in
-            let all : image_of list ≡ fold (image_of a) (1 + length a) on.rest = ap image_of (sym on.same) ∙ fold_append blank 1 a on.rest in
-            let same = ap (λ (g : Image). g.view_number) all in
-            let more = view_grows (image_of a) (1 + length a) on.rest (omega arith) in
-            omega arith
 
     start_low : m.core.log.start < number
     start_low =

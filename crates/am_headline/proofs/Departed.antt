@@ -1,5 +1,5 @@
 -- Who has departed does nothing more.
-use Rattle.am_headline.proofs.RepairWords.{◌≡◌, ◌&&◌, Bool, true, false, [], refl, sym, ap, ◌∙◌, subst, Outcome, Packet, Status}
+use Rattle.am_headline.proofs.RepairWords.{◌≡◌, true, false, [], refl, sym, ap, ◌∙◌, subst, Outcome, Packet}
 use Rattle.am_headline.proofs.RepairWords.{Node, is_member, is_asking, is_sequencer, has_departed, refresh_at_end, Plan, Step, quiet, finish, step, row, hear}
 use Rattle.am_headline.proofs.RepairWords.{tick_row, tick_by, hear_row, rests_at_end, leads_rests}
 use Rattle.am_base.specs.declared.outcome.Outcome.TheVariants as said

@@ -1,7 +1,7 @@
 -- What the first wave of a round brings about: a member asks for what is missing, the sequencer keeps reports, and a member accepts.
 use Rattle.am_headline.proofs.RepairWords.{and_from, stamp_itself, has_in, ◌≡◌, ℕ, zero, suc, ◌<◌, ◌≤◌, ◌==◌, not, nat_le, true, false, List, length, Some, refl, sym}
 use Rattle.am_headline.proofs.RepairWords.{ap, ◌∙◌, subst, arith, Contains, nat_tests, Stamp, Report, Rules, place_of, life_of, has, stamp_eq, at_place, Packet}
-use Rattle.am_headline.proofs.RepairWords.{Accept, Nack, Letter, letter_to, Event, is_for, letter_at, Node, top, image_of, view, members, only_name, report_of}
+use Rattle.am_headline.proofs.RepairWords.{Accept, Letter, letter_to, Event, is_for, letter_at, Node, top, image_of, view, members, only_name, report_of}
 use Rattle.am_headline.proofs.RepairWords.{report_fits, nack_of, hear, event_at, hearings, is_unknown, hears_sequencer, hears_as_sequencer, World, is_stopped}
 use Rattle.am_headline.proofs.RepairWords.{happens, happen, IsUsed, Cause, hears, IsCause, told_used, IsReport, ack, nack, request, spread, Asks}
 use Rattle.am_headline.proofs.RepairWords.{HearsFront, Repair, Leads, FollowsView, ReportIs, IsCalm, Calm, IsSent, Polled, Reported, Asked, hears_}

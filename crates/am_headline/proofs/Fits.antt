@@ -97,18 +97,21 @@ push_fits rules c x y e log up new h number above within =
     (λ high. (let is : top x + 1 ≡ number = omega arith in
     subst (λ k. FitsAt rules y k ⊎ BringsEntry c k) is new))
 
+-- what is told at an entry more
+image_more : (x : Node) (e : Entry) → image_at (with_entry x.core.log e) (top x + 1) ≡ after (image_of x) (top x + 1) e
+image_more x e =
+    let long = length-append x.core.log.entries (e ∷ []) in
+    let all : top_of (with_entry x.core.log e) ≡ top x + 1 = omega arith in
+    ap (image_at (with_entry x.core.log e)) (sym all) ∙ image-top (with_entry x.core.log e) ∙ told_pushed x e
+
 -- there are at most sixteen members after an entry
 few_members : (x : Node) (e : Entry) → Fronts x → size (members_at (with_entry x.core.log e) (top x + 1)) ≤ 16
 few_members x e h =
     let used = told_used x h in
     let rows = long_after (image_of x) (top x + 1) e used.places in
-    let long = length-append x.core.log.entries (e ∷ []) in
-    let all : top_of (with_entry x.core.log e) ≡ top x + 1 = omega arith in
-    let is : image_at (with_entry x.core.log e) (top x + 1) ≡ after (image_of x) (top x + 1) e = ap (image_at (with_entry x.core.log e)) (sym all)
-    ∙ image-top (with_entry x.core.log e) ∙ told_pushed x e in
     let count = length-map (after (image_of x) (top x + 1) e).rows member_life in
     let most = few_size (members_of (after (image_of x) (top x + 1) e)) in
-    let same = ap (λ i. size (members_of i)) is in
+    let same = ap (λ i. size (members_of i)) (image_more x e) in
     omega arith
 
 -- what is numbered fits where there is room
@@ -130,11 +133,7 @@ look_fits rules c x b v same fronts (decides may) h =
     let used = told_used x fronts in
     let few = viewed_few (image_of x) (top x + 1) (decided_view x b names) used.places (omega arith)
     (those_long (λ name. not (b.given_up name)) (need_of x b)) in
-    let long = length-append x.core.log.entries (e ∷ []) in
-    let all : top_of (with_entry x.core.log e) ≡ top x + 1 = omega arith in
-    let is : image_at (with_entry x.core.log e) (top x + 1) ≡ after (image_of x) (top x + 1) e = ap (image_at (with_entry x.core.log e)) (sym all)
-    ∙ image-top (with_entry x.core.log e) ∙ told_pushed x e in
-    let sizes = ap (λ i. size (members_of i)) is in
+    let sizes = ap (λ i. size (members_of i)) (image_more x e) in
     let window = ap (λ (r : Rules). r.window) same in
     let low : top x + 1 - before.core.base ≤ x.core.rules.window + 16 - size names = grind (arith, nat_tests) in
     push_fits rules c x v.node e refl (omega arith) (inl (omega arith)) h

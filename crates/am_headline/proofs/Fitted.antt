@@ -1,17 +1,16 @@
 -- Up to its lawful front each node of a run has room for a View that leaves somebody out.
 use Rattle.am_headline.proofs.Words.{eqb-true, not_view, same_stamp, low_or_above, ◌≡◌, ◌⊎◌, either, inl, inr, ℕ, zero, suc, ◌+◌, ◌-◌, ◌<◌, ◌≤◌, ◌==◌, true}
-use Rattle.am_headline.proofs.Words.{false, List, [], ◌∷◌, ◌++◌, length, take, Some, slice_get, refl, sym, ap, ◌∙◌, subst, arith, length-map, Entry, Data, View}
+use Rattle.am_headline.proofs.Words.{false, List, [], ◌∷◌, ◌++◌, length, take, Some, slice_get, sym, ap, ◌∙◌, subst, arith, length-map, Entry, Data, View}
 use Rattle.am_headline.proofs.Words.{GroupView, Stamp, Rules, MayFound, has, size, top_of, told_by, member_life, members_of, members_at, CoreState, stamp_eq}
 use Rattle.am_headline.proofs.Words.{Packet, Letter, Event, item_at, Begins, view_of, key, key_by, view_push, view_viewed, long_told, begins_both}
-use Rattle.am_headline.proofs.Words.{begins_length, begins_push, begins_trans, Group, IsUp, Status, is_unfinished, Node, top, view, is_member, acts, founder}
+use Rattle.am_headline.proofs.Words.{begins_length, begins_push, begins_trans, Group, IsUp, is_unfinished, Node, top, view, is_member, acts, founder}
 use Rattle.am_headline.proofs.Words.{founders_view, has_departed, Step, hears_member, hears_in_view, hears_sequencer, heard_by, FitsView, ViewsFit}
 use Rattle.am_headline.proofs.Words.{lawful_front, World, start, with_step, run, split, and_both, front_is_lawful, Cause, hears, Says, bcast, order, piece}
 use Rattle.am_headline.proofs.Words.{result, LetterSays, IsCause, WasSentTo, all_get, logged, numbers_hold, each_along, heard_used, run_owned, heard_names}
-use Rattle.am_headline.proofs.Words.{lists_go_on, item_get, item_within, PacketSays, PieceSays, told_all, long_all, number_low, departed_silent, departed_quiet}
+use Rattle.am_headline.proofs.Words.{lists_go_on, item_get, item_within, PacketSays, told_all, long_all, number_low, departed_silent, departed_quiet}
 use Rattle.am_headline.proofs.Words.{departed_is, steps_move, member_stays}
 use Rattle.am_base.specs.Whole.{image_of}
 use Rattle.am_packet.specs.declared.packet.Packet.TheVariants as packet
-use Rattle.am_model.specs.declared.status.Status.TheVariants as status
 use Rattle.am_model.specs.Node as nodes
 use Rattle.am_model.specs.Hearing as rows
 use Rattle.am_stands.specs.Letters as says
@@ -19,7 +18,7 @@ use Rattle.am_headline.proofs.Rows.{Stores, Does, OrderDoes, InView, Piecewise, 
 use Rattle.am_headline.proofs.Views.{FitIn, fit_more, fit_less, fit_low, node_fit, LineFits, PieceFits, of_line, of_shown, over, PacketFits, packet_on}
 use Rattle.am_headline.proofs.Views.{promised_line, last_line, stored_list, stored_fits}
 use Rattle.am_headline.proofs.{OneStep.OneStep, OneStep.parts, OneStep.plain, Fold.KeptBy, Begun.held, Fits.BringsEntry, Fits.by_bcast, Fits.by_order}
-use Rattle.am_headline.proofs.{Fits.by_piece, Fits.by_result, Fits.FitsAt, Fits.few_size, Fits.fitting_changes, Heard.HeardAs, Heard.whole_packet}
+use Rattle.am_headline.proofs.{Fits.by_piece, Fits.by_result, Fits.FitsAt, Fits.few_size, Fits.fitting_changes, Heard.whole_packet}
 use Rattle.am_headline.proofs.{Heard.too_short, Heard.heard_as, Heard.sender_stays}
 use Rattle.am_headline.proofs.Rows as done
 

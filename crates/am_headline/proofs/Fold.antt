@@ -1,5 +1,5 @@
 -- Up to its lawful front each run has a group that follows it, whose marks are the views that became complete.
-use Rattle.am_headline.proofs.Words.{watch_push, ◌≡◌, ◌⊎◌, either, inl, inr, ℕ, ◌<◌, ◌≤◌, ◌==◌, ◌&&◌, ◌||◌, Bool, true, false, List, [], ◌∷◌, ◌++◌, length}
+use Rattle.am_headline.proofs.Words.{watch_push, ◌≡◌, ◌⊎◌, either, inl, inr, ℕ, ◌≤◌, ◌==◌, ◌&&◌, ◌||◌, Bool, true, List, [], ◌∷◌, ◌++◌, length}
 use Rattle.am_headline.proofs.Words.{Some, None, slice_get, refl, sym, ap, ◌∙◌, subst, arith, length-append, Contains, not, list_any, nat_tests, low_or_above}
 use Rattle.am_headline.proofs.Words.{take-append-le, take_all, list_any-append, slice_get-get_or, Rules, MayFound, Event, Record, Outcome, key, Group}
 use Rattle.am_headline.proofs.Words.{how_many, Move, Completes, counts_for, Node, lowest_or_first, Step, Decided, World, start, current, is_stopped}

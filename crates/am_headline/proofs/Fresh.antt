@@ -1,7 +1,7 @@
 -- Whose Join fits the sequencer's list has no list, and no Welcome could make it begin one.
 use Rattle.am_headline.proofs.RepairedWords.{member_stays, ◌≡◌, inl, either, ℕ, ◌<◌, ◌==◌, true, false, List, Some, slice_get, take, refl, sym, ap, ◌∙◌, subst, arith}
 use Rattle.am_headline.proofs.RepairedWords.{nat_tests, Entry, Join, Image, Stamp, Rules, place_of, life_of, has, at_place, fits, Packet, Letter, is_for, Begins, mem}
-use Rattle.am_headline.proofs.RepairedWords.{In, Past, Was, row_at, mem_in, was_begins, begins_take, begins_trans, Group, IsUp, chain_of, Kept, Node, image_of, acts}
+use Rattle.am_headline.proofs.RepairedWords.{Was, row_at, mem_in, was_begins, begins_take, begins_trans, Group, IsUp, chain_of, Kept, Node, image_of, acts}
 use Rattle.am_headline.proofs.RepairedWords.{is_member, is_sequencer, has_log, has_departed, World, is_stopped, Status, split, and_both, logged, NameStands}
 use Rattle.am_headline.proofs.RepairedWords.{PacketSays, WelcomeTo, has_begun, has_gone, has_left, is_leaving, may_begin, Following, told_all, leading, GoesSo}
 use Rattle.am_packet.specs.Kinds.{kind_of}

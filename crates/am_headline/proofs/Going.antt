@@ -1,6 +1,6 @@
 -- A calm world stays calm while a schedule runs.
 use Rattle.am_headline.proofs.RepairWords.{not-false, ◌≡◌, ◌⊎◌, inl, inr, ℕ, ◌<◌, ◌==◌, not, Bool, true, false, if◌then◌else◌, Option, Some, None, refl, sym}
-use Rattle.am_headline.proofs.RepairWords.{ap, ◌∙◌, Outcome, Rules, Letter, Event, is_for, letter_at, Status, Node, is_member, has_departed, Step, step, hear}
+use Rattle.am_headline.proofs.RepairWords.{ap, ◌∙◌, Outcome, Rules, Letter, Event, is_for, letter_at, Node, is_member, has_departed, Step, step, hear}
 use Rattle.am_headline.proofs.RepairWords.{event_at, World, is_stopped, with_record, with_step, happens, hears_letter, Cause, calls, hears, Changes}
 use Rattle.am_headline.proofs.RepairWords.{no_change, changed, Effect, actor, IsCause, tick, steps_have_effects, hearing_has_effects, HeardNames, HeardUsed}
 use Rattle.am_headline.proofs.RepairWords.{Along, along_changes, IsOurs, hears_, Repair, Calm}

@@ -1,10 +1,10 @@
 -- The headline, of every run.
-use Rattle.am_headline.proofs.Words.{watch_push, ◌≡◌, ◌≢◌, ◌⊎◌, either, ℕ, ◌<◌, ◌≤◌, true, List, [], ◌∷◌, ◌++◌, length, take, Some, None, slice_get, refl}
+use Rattle.am_headline.proofs.Words.{watch_push, ◌≡◌, ◌≢◌, either, ℕ, ◌<◌, ◌≤◌, true, List, [], ◌∷◌, ◌++◌, length, take, Some, None, slice_get, refl}
 use Rattle.am_headline.proofs.Words.{sym, ap, ◌∙◌, subst, arith, append-nil, append_assoc, drop, take-append-drop, Entry, Rules, MayFound, stamp_lt, blank}
-use Rattle.am_headline.proofs.Words.{AllFit, Event, Record, deliveries, item_at, Begins, IsGood, view_of, key, key_lt, view_small, view_up, view_viewed}
+use Rattle.am_headline.proofs.Words.{AllFit, Event, deliveries, item_at, Begins, IsGood, view_of, key, key_lt, view_small, view_up, view_viewed}
 use Rattle.am_headline.proofs.Words.{begins_both, begins_take, begins_trans, length_take, length_push, good_begins, Group, opening, view, lowest_or_first}
 use Rattle.am_headline.proofs.Words.{has_log, Decided, World, happens, run, Watch, watch_run, watch_start, broken_at, lawful_front, BeginsAt}
-use Rattle.am_headline.proofs.Words.{Segment, line_of, BecameComplete, KeepsView, Holds, HeadlineHolds, split, runs_begin, front_is_lawful, actor, IsIdle}
+use Rattle.am_headline.proofs.Words.{Segment, line_of, BecameComplete, KeepsView, Holds, HeadlineHolds, split, runs_begin, front_is_lawful, actor}
 use Rattle.am_headline.proofs.Words.{events_have_effects, all_get, senders_in_order, bounded_holds, sent_holds, front_begins, few_names}
 use Rattle.am_headline.proofs.Words.{run_owned, IsNoted, nil_from_length, NameStands, NotedStands, told_all, group_kept, steps_move, Following}
 use Rattle.am_chain.specs.Kept as groups

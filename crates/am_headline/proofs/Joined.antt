@@ -3,8 +3,7 @@ use Rattle.am_headline.proofs.Words.{◌≡◌, ◌⊎◌, either, inl, inr, ℕ
 use Rattle.am_headline.proofs.Words.{refl, sym, ap, ◌∙◌, subst, arith, All, Entry, Join, Image, Stamp, Rules, place_of, life_of, has, Letter, goes_to_any}
 use Rattle.am_headline.proofs.Words.{is_for, item_at, Begins, IsGood, mem, In, row_at, begins_take, length_take, good_begins, told_push, long_told, mem_in}
 use Rattle.am_headline.proofs.Words.{in_mem, mem_viewed, Group, is_asking, founders_view, World, is_stopped, all_get, asking_log, PacketSays, WelcomeSays}
-use Rattle.am_headline.proofs.Words.{WelcomeTo, has_begun, has_gone, has_left, is_leaving, may_begin, Becomes, stayed, joins, founds, became, blank_nil}
-use Rattle.am_headline.proofs.Words.{Following}
+use Rattle.am_headline.proofs.Words.{has_begun, has_gone, has_left, is_leaving, may_begin, Becomes, stayed, joins, founds, became, blank_nil, Following}
 use Rattle.am_base.specs.Whole.{image_of}
 use Rattle.am_packet.specs.declared.packet.Packet.TheVariants as packet
 use Rattle.am_headline.proofs.{Inside.asking_stays, Fitted.letter_there}

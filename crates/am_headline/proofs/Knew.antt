@@ -1,7 +1,7 @@
 -- What a sequencer knows of others to be taken, through a step that neither decides a view nor hears a request to join.
 use Rattle.am_model.specs.Ballots.{decided_view}
 use Rattle.am_headline.proofs.RepairedWords.{◌≡◌, ℕ, ◌≤◌, ◌==◌, max, true, false, refl, sym, ap, ◌∙◌, subst, arith, nat_tests, Report, Leave, Outcome, Rules}
-use Rattle.am_headline.proofs.RepairedWords.{stamp_lt, Node, Ballot, view, push_entry, Verdict, trim_for, left_in, need_of, refresh, split, Cause, Looks}
+use Rattle.am_headline.proofs.RepairedWords.{stamp_lt, Node, Ballot, view, push_entry, Verdict, trim_for, left_in, need_of, split, Cause, Looks}
 use Rattle.am_headline.proofs.RepairedWords.{decides, Change, refreshes, settles, takes_report, admits, looks, stores_view, closes, Changes, unchanged, changed}
 use Rattle.am_headline.proofs.RepairedWords.{settle_is, rests_refresh, rests_at_end, not_above_itself, at_most, at_most_below, below, HeardNames, view_last}
 use Rattle.am_headline.proofs.RepairedWords.{Balloted, looked_at, HeardUsed, Along, along_changes, NoJoin, CauseTaken, told_so, refresh_same, end_same}

@@ -1,5 +1,5 @@
 -- A sequencer trims no more than it knows each member of its list to have taken: each change keeps it.
-use Rattle.am_headline.proofs.RepairWords.{fetch_follows, stamp_by, other_asks, promise_is, not_above_view, not_own, base_low, other_heard, has_in, ◌≡◌, ◌≢◌}
+use Rattle.am_headline.proofs.RepairWords.{fetch_follows, stamp_by, other_asks, promise_is, not_above_view, not_own, base_low, other_heard, has_in, ◌≡◌}
 use Rattle.am_headline.proofs.RepairWords.{either, ℕ, ◌+◌, ◌<◌, ◌≤◌, ◌==◌, nat_lt, true, false, List, length, refl, sym, ap, ◌∙◌, subst, arith, nat_tests}
 use Rattle.am_headline.proofs.RepairWords.{Stamp, Image, Report, Row, Entry, Data, Join, Leave, Outcome, place_of, life_of, has, at_place, members_of, with_row}
 use Rattle.am_headline.proofs.RepairWords.{after, row_at, In, row_set, long_after, accept, pass_over, own_report, tell, go_on, let_go, Node, Ballot, top}

@@ -1,5 +1,5 @@
 -- In each run whoever is leaving has or had a list, and has no open ballot.
-use Rattle.am_headline.proofs.RepairWords.{◌≡◌, ℕ, ◌||◌, true, false, List, refl, sym, ap, ◌∙◌, Outcome, Rules, Event, Node, Ballot, has_log}
+use Rattle.am_headline.proofs.RepairWords.{◌≡◌, ℕ, true, false, List, refl, sym, ap, ◌∙◌, Outcome, Rules, Event, Node, Ballot, has_log}
 use Rattle.am_headline.proofs.RepairWords.{is_unfinished, Verdict, run, Cause, Looks, Change, refreshes, settles, begins_list, departs, promises, opens}
 use Rattle.am_headline.proofs.RepairWords.{looks, asks_to_join, asks_to_leave, closes, rests_refresh, settle_is, welcomed_none}
 use Rattle.am_laws.proofs.{Nodes.nodes_keep, Rests.rests_closed, Tests.or_second}

@@ -1,7 +1,7 @@
 -- Who left: whose Leave stands on the chain asked to leave, and who departed has its Leave accepted, unless nobody is left.
 use Rattle.am_base.specs.declared.entry.GroupView.{GroupView}
 use Rattle.am_chain.specs.Runs.{first_choice}
-use Rattle.am_headline.proofs.RepairedWords.{same_from_push, ◌≡◌, ◌⊎◌, either, inl, inr, ℕ, ◌+◌, ◌<◌, ◌≤◌, List, [], ◌∷◌, ◌++◌, length, true, false, refl, sym}
+use Rattle.am_headline.proofs.RepairedWords.{same_from_push, ◌≡◌, ◌⊎◌, either, inl, inr, ℕ, ◌+◌, ◌<◌, List, [], ◌∷◌, ◌++◌, length, true, refl, sym}
 use Rattle.am_headline.proofs.RepairedWords.{subst, arith, Entry, Leave, View, Image, place_of, life_of, Begins, IsGood, mem, view_of, key, In, row_at, ap, ◌∙◌}
 use Rattle.am_headline.proofs.RepairedWords.{begins_refl, begins_more, begins_trans, begins_both, begins_same, begins_length, begins_pushed, length_push}
 use Rattle.am_headline.proofs.RepairedWords.{good_begins, told_push, long_told, mem_in, in_mem, mem_between, leaver_in, leaver_out, Group, put, opening, Leads}

@@ -1,7 +1,6 @@
 -- Each entry that a node has or a group lists is within its limits.
-use Rattle.am_laws.proofs.Words.{length, List, All, All-weaker, Entry, Rules, MayFound, Event}
-use Rattle.am_laws.proofs.Words.{World, start, happens, run, with_record, with_step, actor, Happens, steps, events_have_effects, equals_itself}
-use Rattle.am_laws.proofs.Words.{Bounds, up, BodyWithin}
+use Rattle.am_laws.proofs.Words.{length, List, All, All-weaker, Entry, Rules, MayFound, Event, World, start, happens, run, with_record, with_step, actor}
+use Rattle.am_laws.proofs.Words.{Happens, steps, events_have_effects, equals_itself, Bounds, up, BodyWithin}
 use Rattle.am_laws.proofs.RunCounts.{bounds_after, counted_happen}
 use Rattle.am_laws.proofs.NodeLimits.{Within}
 use Rattle.am_laws.proofs.{Limits.EntryWithin, Limits.entry_more}

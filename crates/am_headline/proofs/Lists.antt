@@ -1,5 +1,5 @@
 -- Lists, their lines, and where a View stands in them.
-use Rattle.am_headline.proofs.Words.{same_stamp, low_or_above, ◌≡◌, either, ℕ, zero, suc, ◌<◌, ◌≤◌, true, List, [], ◌∷◌, ◌++◌, length, Some, slice_get, sym, ap}
+use Rattle.am_headline.proofs.Words.{same_stamp, low_or_above, ◌≡◌, either, ℕ, zero, suc, ◌≤◌, true, List, [], ◌∷◌, ◌++◌, length, Some, slice_get, sym, ap}
 use Rattle.am_headline.proofs.Words.{◌∙◌, subst, arith, list_any, Entry, View, GroupView, Stamp, item_at, get_before, Begins, IsGood, view_of, key, begins_nil}
 use Rattle.am_headline.proofs.Words.{begins_both, begins_more, begins_same, length_push, good_begins, view_up, view_below, view_viewed, is_view, is_view_of}
 use Rattle.am_headline.proofs.Words.{up_to_view, up_to_next, split, item_more, refl}

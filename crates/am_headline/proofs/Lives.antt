@@ -1,31 +1,20 @@
 -- The life of each record is what the last return of its place told.
-use Rattle.std.proofs.Common.{◌≡◌, ℕ, ◌+◌, ◌<◌, ◌≤◌, ◌==◌, ◌||◌, Bool, if◌then◌else◌, List, [], ◌∷◌, ◌++◌, map, get_or}
-use Rattle.std.proofs.Common.{Option, Some, None, refl, sym, ap, ◌∙◌, subst, arith}
+use Rattle.am_headline.proofs.Words.{◌≡◌, ℕ, ◌+◌, ◌<◌, ◌≤◌, ◌==◌, ◌||◌, Bool, if◌then◌else◌, List, [], ◌∷◌, ◌++◌, Option, Some, None, refl, sym, ap, ◌∙◌, subst}
+use Rattle.am_headline.proofs.Words.{arith, nat_tests, place_of, name_at, Outcome, split, Letter, Packet, Act, Event, Record, is_for, name_of, letter_at, Step}
+use Rattle.am_headline.proofs.Words.{has_departed, World, start, current, is_stopped, with_record, with_step, record_of, hears_letter, acts_as, happens, happen}
+use Rattle.std.proofs.Common.{map, get_or}
 use Rattle.std.specs.Prelude.{slice_index, slice_set}
 use Rattle.std.specs.List.{range_with_len}
-use Rattle.std.proofs.lemmas.Bool.Decides.{nat_tests}
 use Rattle.std.proofs.lemmas.List.{get_or-set_same, get_or-set_other, length-set}
 use Rattle.std.proofs.lemmas.List.FromFn.{get_or-map-range_with_len}
-use Rattle.am_base.specs.Names.{place_of, name_at, by_place}
-use Rattle.am_base.specs.declared.outcome.Outcome.{Outcome}
+use Rattle.am_base.specs.Names.{by_place}
 use Rattle.am_base.specs.declared.outcome.Outcome.TheVariants as said
 use Rattle.am_base.specs.declared.event.NodeEvent.{NodeEvent}
-use Rattle.am_base.proofs.Greatest.{split}
 use Rattle.am_base.proofs.Places.{by_place_all}
-use Rattle.am_packet.specs.Boxes.{Letter}
-use Rattle.am_packet.specs.declared.packet.Packet.{Packet}
-use Rattle.am_group.specs.declared.event.Act.{Act}
 use Rattle.am_group.specs.declared.event.Act.TheVariants as act
-use Rattle.am_group.specs.declared.event.Event.{Event}
-use Rattle.am_group.specs.declared.event.Record.{Record}
-use Rattle.am_group.specs.Addressed.{is_for}
-use Rattle.am_group.specs.Deliveries.{name_of}
-use Rattle.am_group.specs.Journals.{letter_at}
-use Rattle.am_model.specs.Emit.{Step}
-use Rattle.am_model.specs.Node.{set_at, has_departed}
+use Rattle.am_model.specs.Node.{set_at}
 use Rattle.am_model.specs.Step.{step}
-use Rattle.am_play.specs.World.{World, start, current, is_stopped, with_record, with_step, record_of, does_event, gives_up, stops, hears_letter}
-use Rattle.am_play.specs.World.{comes_back, acts_as, happens, happen}
+use Rattle.am_play.specs.World.{does_event, gives_up, stops, comes_back}
 use Rattle.am_headline.specs.Records.{returned_as, names_after, names_told, AreTold, first_names, names_in, LivesTold, LivesAreTold, HasLife, IsBack}
 
 -- ---- one event
@@ -128,21 +117,13 @@ back_tells w e place is = split (is_stopped w (current w place) || has_departed 
     (λ f. rw f (unmoved w e (said.Running (w.lives place)) refl tt))
 
 act_tells : (w : World) (e : Event) (name : ℕ) (a : Act) → place_of name ≡ place_of e.node → Tells w e a (acts_as w e name a)
-act_tells w e name (act.Send body) is = does_tells w e (act.Send body) name _ (record { same = λ o. refl; back = λ o. tt })
-act_tells w e name (act.Done req) is = does_tells w e (act.Done req) name _ (record { same = λ o. refl; back = λ o. tt })
-act_tells w e name act.Take is = does_tells w e act.Take name _ (record { same = λ o. refl; back = λ o. tt })
-act_tells w e name act.Join is = does_tells w e act.Join name _ (record { same = λ o. refl; back = λ o. tt })
-act_tells w e name act.State is = does_tells w e act.State name _ (record { same = λ o. refl; back = λ o. tt })
-act_tells w e name act.Leave is = does_tells w e act.Leave name _ (record { same = λ o. refl; back = λ o. tt })
-act_tells w e name (act.Reset least resilience) is = does_tells w e (act.Reset least resilience) name _ (record { same = λ o. refl; back = λ o. tt })
-act_tells w e name (act.Ask round) is = does_tells w e (act.Ask round) name _ (record { same = λ o. refl; back = λ o. tt })
 act_tells w e name (act.GiveUp other) is = gives_tells w e (act.GiveUp other) name other (record { same = λ o. refl; back = λ o. tt })
 act_tells w e name act.Stop is = stops_tells w e act.Stop name (record { same = λ o. refl; back = λ o. tt })
-act_tells w e name act.Tick is = does_tells w e act.Tick name _ (record { same = λ o. refl; back = λ o. tt })
 act_tells w e name (act.Hear number) is = hears_tells w e (act.Hear number) name _ (letter_at w.letters number) (record { same = λ o. refl; back = λ o. tt })
 act_tells w e name (act.Cut number keep) is = hears_tells w e (act.Cut number keep) name _ (letter_at w.letters number)
     (record { same = λ o. refl; back = λ o. tt })
 act_tells w e name act.Return is = back_tells w e (place_of name) is
+act_tells w e name a is = does_tells w e a name _ (record { same = λ o. refl; back = λ o. tt })
 
 pub tells : (w : World) (e : Event) → Tells w e e.act (happens w e)
 unfolding happens

@@ -1,32 +1,19 @@
 -- Each event of a run is a part of one node, or of none.
-use Rattle.std.proofs.Common.{◌≡◌, ℕ, List, [], ◌∷◌, ◌++◌, length, take, Option, Some, None, Bool, true, false, not, ◌||◌, ◌==◌, ◌+◌, if◌then◌else◌, refl, sym, ap, ◌∙◌, subst, arith}
-use Rattle.std.proofs.Common.{append_assoc, append-nil, length-append}
-use Rattle.std.specs.Prelude.{All}
-use Rattle.std.proofs.lemmas.Bool.{eqb-true}
+use Rattle.am_headline.proofs.Words.{◌≡◌, ℕ, List, [], ◌∷◌, ◌++◌, length, take, Option, Some, None, Bool, true, false, not, ◌||◌, ◌==◌, ◌+◌, if◌then◌else◌}
+use Rattle.am_headline.proofs.Words.{refl, sym, ap, ◌∙◌, subst, arith, append_assoc, append-nil, length-append, All, eqb-true, Rules, place_of, Outcome, Letter}
+use Rattle.am_headline.proofs.Words.{Packet, Act, Event, Record, letter_at, is_for, Node, has_departed, Step, hear, World, start, first_node, current}
+use Rattle.am_headline.proofs.Words.{is_stopped, record_of, with_record, with_step, hears_letter, hear_cut, lives_on, acts_as, happens, happen, run, runs_go_on}
 use Rattle.std.proofs.Math.Seq.{take-append_seam}
 use Rattle.std.proofs.lemmas.List.Elements.{All-take}
-use Rattle.am_base.specs.Founding.{Rules}
-use Rattle.am_base.specs.Names.{place_of}
-use Rattle.am_base.specs.declared.outcome.Outcome.{Outcome}
 use Rattle.am_base.specs.declared.outcome.Outcome.TheVariants as said
 use Rattle.am_base.specs.declared.event.NodeEvent.{NodeEvent}
 use Rattle.am_base.specs.declared.event.NodeEvent.TheVariants as does
-use Rattle.am_packet.specs.Boxes.{Letter}
-use Rattle.am_packet.specs.declared.packet.Packet.{Packet}
 use Rattle.am_packet.specs.Limits.{IsPacket}
 use Rattle.am_packet.specs.Spelling.{spelling}
-use Rattle.am_group.specs.declared.event.Act.{Act}
 use Rattle.am_group.specs.declared.event.Act.TheVariants as act
-use Rattle.am_group.specs.declared.event.Event.{Event}
-use Rattle.am_group.specs.declared.event.Record.{Record}
-use Rattle.am_group.specs.Journals.{letter_at}
-use Rattle.am_group.specs.Addressed.{is_for}
-use Rattle.am_model.specs.Node.{Node, has_departed}
-use Rattle.am_model.specs.Emit.{Step}
-use Rattle.am_model.specs.Step.{step, hear}
+use Rattle.am_model.specs.Step.{step}
 use Rattle.am_meaning.proofs.Bytes.{spelling_is_heard, cut_is_heard}
-use Rattle.am_play.specs.World.{World, start, first_node, current, is_stopped, record_of, with_record, with_step, does_event, hears_letter, hear_cut, lives_on, acts_as, happens, happen, run}
-use Rattle.am_play.proofs.Runs.{runs_go_on}
+use Rattle.am_play.specs.World.{does_event}
 use Rattle.am_laws.specs.Bytes.{BodyWithin, IsShort}
 use Rattle.am_laws.proofs.RunLimits.{letters_are_packets}
 use Rattle.am_headline.specs.Parts.{Part, unless_stopped, hearing_of, own_event, part_of, part_at, parts_of, node_by, Answered, IsMade, RunsAreMadeOfNodes}
@@ -142,23 +129,15 @@ abbrev HoldsPackets : World → Type 0
 HoldsPackets w = (number : ℕ) (letter : Letter) → letter_at w.letters number ≡ Some letter → IsPacket letter.packet
 
 acts_made : (w : World) (e : Event) (n name : ℕ) (a : Act) → HoldsPackets w → Made w n name (own_event w n a) (acts_as w e n a)
-acts_made w e n name (act.Send body) holds = does_made w e n name (does.Send body)
-acts_made w e n name (act.Done req) holds = does_made w e n name (does.Done req)
-acts_made w e n name act.Take holds = does_made w e n name does.Take
-acts_made w e n name act.Join holds = does_made w e n name does.Join
-acts_made w e n name act.State holds = does_made w e n name does.State
-acts_made w e n name act.Leave holds = does_made w e n name does.Leave
-acts_made w e n name (act.Reset least resilience) holds = does_made w e n name (does.Reset least resilience)
-acts_made w e n name (act.Ask round) holds = does_made w e n name (does.Ask round)
 acts_made w e n name (act.GiveUp other) holds = gives_by (is_stopped w n) (is_stopped w other) w e n name other
 acts_made w e n name act.Stop holds = stops_by (is_stopped w n) w e n name (w.stopped ++ n ∷ [])
-acts_made w e n name act.Tick holds = does_made w e n name does.Tick
 acts_made w e n name (act.Hear number) holds =
     hears_made w e n name (hear (w.nodes n)) (λ bytes. bytes) (letter_at w.letters number) (λ l is. sym (spelling_is_heard (w.nodes n) l.packet (holds number l is)))
 acts_made w e n name (act.Cut number keep) holds =
     hears_made w e n name (hear_cut (w.nodes n) keep) (take keep) (letter_at w.letters number) (λ l is. sym (cut_is_heard (w.nodes n) l.packet keep (holds number l is)))
 acts_made w e n name act.Return holds =
     returns_by (not (is_stopped w (current w (place_of n)) || has_departed (w.nodes (current w (place_of n))).status)) (w.lives (place_of n) == 16) w e n name (place_of n)
+acts_made w e n name _ holds = does_made w e n name _
 
 event_made : (w : World) (e : Event) (name : ℕ) → HoldsPackets w → Made w (current w (place_of e.node)) name (own_event w (current w (place_of e.node)) e.act) (happens w e)
 unfolding happens

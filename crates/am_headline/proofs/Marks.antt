@@ -1,7 +1,7 @@
 -- A view that is complete in a world completes in the group that stands for it.
 use Rattle.am_headline.proofs.Words.{not-true, ◌≡◌, ℕ, zero, suc, ◌+◌, ◌<◌, ◌≤◌, ◌==◌, ◌&&◌, not, nat_lt, nat_le, min, Bool, true, false, List, [], ◌∷◌, ◌++◌}
 use Rattle.am_headline.proofs.Words.{length, Some, slice_get, slice_index, count_by, sym, ap, ◌∙◌, subst, arith, list_any, nat_tests, Entry, View, IsSet}
-use Rattle.am_headline.proofs.Words.{place_of, life_of, name_at, has, size, names_from, names_of, stamp_lt, Begins, IsGood, view_of, key, mod16, begins_trans}
+use Rattle.am_headline.proofs.Words.{place_of, life_of, name_at, has, size, names_from, names_of, stamp_lt, Begins, IsGood, view_of, key, begins_trans}
 use Rattle.am_headline.proofs.Words.{good_begins, lt_key, view_small, view_viewed, Group, how_many, opening, IsThere, Completes, Decided, World, is_stopped}
 use Rattle.am_headline.proofs.Words.{has_departed, is_view_of, has_stored, lags, is_complete, up_to_next, split, and_both, NotedStands, Stands, LinesOpen}
 use Rattle.am_headline.proofs.Words.{told_all, names_pass, names_few, name_small}

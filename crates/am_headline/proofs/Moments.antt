@@ -1,8 +1,7 @@
 -- What a record of a run tells of the moment when its event was done.
 use Rattle.am_headline.proofs.Words.{◌≡◌, ℕ, zero, suc, ◌+◌, ◌<◌, List, [], ◌∷◌, ◌++◌, length, take, Some, slice_get, refl, sym, ap, ◌∙◌, subst, arith}
 use Rattle.am_headline.proofs.Words.{length-take-le, slice_get_within, Entry, Outcome, Rules, MayFound, Event, Record, name_of, get_before, World, record_of}
-use Rattle.am_headline.proofs.Words.{with_record, with_step, happens, run, runs_begin, one_record_each, actor, IsIdle, Happens, idles, returns, steps}
-use Rattle.am_headline.proofs.Words.{get_last}
+use Rattle.am_headline.proofs.Words.{with_record, with_step, happens, run, runs_begin, one_record_each, actor, IsIdle, Happens, idles, returns, steps, get_last}
 use Rattle.am_base.specs.declared.outcome.Outcome.TheVariants as said
 use Rattle.am_laws.specs.Events as event
 use Rattle.am_headline.proofs.{OneStep.run_push, Told.Told, Told.Taking, Told.taking}

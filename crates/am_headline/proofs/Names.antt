@@ -171,10 +171,7 @@ said_keeps : (rules : Rules) → EachKeeps (AllSaid rules)
 unfolding with_record
 said_keeps rules w e v (steps c s runs cause effect) h =
     stepped_named rules w e c s (each_named rules w e v (steps c s runs cause effect) h.base) cause effect h
-said_keeps rules w e v (idles o idle) h = record { base = each_named rules w e v (idles o idle) h.base; each = h.each; letters = h.letters; group = h.group }
-said_keeps rules w e v (stops runs) h = record { base = each_named rules w e v (stops runs) h.base; each = h.each; letters = h.letters; group = h.group }
-said_keeps rules w e v (returns place is left more) h =
-    record { base = each_named rules w e v (returns place is left more) h.base; each = h.each; letters = h.letters; group = h.group }
+said_keeps rules w e v other h = record { base = each_named rules w e v other h.base; each = h.each; letters = h.letters; group = h.group }
 
 -- ---- runs
 

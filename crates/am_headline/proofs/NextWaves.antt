@@ -2,8 +2,8 @@
 use Rattle.am_headline.proofs.RepairWords.{◌≡◌, ℕ, zero, suc, ◌+◌, ◌-◌, ◌<◌, ◌≤◌, ◌==◌, min, true, false, List, [], ◌∷◌, length, drop, Some, slice_get, refl, sym, ap}
 use Rattle.am_headline.proofs.RepairWords.{◌∙◌, subst, arith, length-drop, nat_tests, length-take, Stamp, Report, Entry, Packet, Rules, place_of, has, Log, top_of}
 use Rattle.am_headline.proofs.RepairWords.{entry_at, fits, Bcast, Nack, Letter, letter_to, slice_get-drop, Event, is_for, letter_at, Node, top, only_name}
-use Rattle.am_headline.proofs.RepairWords.{with_report, Step, bcast_of, entries_to_serve, hear, event_at, hearings, take_report, World, happens, happen, Cause, calls}
-use Rattle.am_headline.proofs.RepairWords.{hears, refuses, BringsReport, with_send, by_request, by_spread, by_ack, by_nack, by_leave_ask, IsCause, get_take}
+use Rattle.am_headline.proofs.RepairWords.{with_report, Step, bcast_of, entries_to_serve, hear, event_at, hearings, take_report, World, happens, happen, Cause}
+use Rattle.am_headline.proofs.RepairWords.{hears, BringsReport, with_send, by_request, by_spread, by_ack, by_nack, by_leave_ask, IsCause, get_take}
 use Rattle.am_headline.proofs.RepairWords.{get_front, Fronts, reporting, told_used, bcasts, Serves, Repair, Leads, IsCalm, IsServed, Served, IsOurs, hears_}
 use Rattle.am_group.specs.declared.event.Act.TheVariants as act
 use Rattle.am_headline.specs.Rows as rows

@@ -1,6 +1,6 @@
 -- Nodes that differ in nothing that a calm world speaks of.
 use Rattle.am_headline.proofs.RepairWords.{not-false, same_stamp, ◌≡◌, ℕ, ◌≤◌, ◌==◌, ◌&&◌, true, false, Option, Some, None, refl, sym, ap, ◌∙◌, subst, arith}
-use Rattle.am_headline.proofs.RepairWords.{nat_tests, Stamp, stamp_lt, stamp_eq, Log, told_by, Node, Ballot, view, acts, is_member, is_sequencer, is_unfinished}
+use Rattle.am_headline.proofs.RepairWords.{nat_tests, stamp_eq, Log, told_by, Node, Ballot, view, acts, is_member, is_sequencer, is_unfinished}
 use Rattle.am_headline.proofs.RepairWords.{refresh, settle, World, split, and_both, Cause, calls, hears, refuses, HasOpen, SameStanding, with_sends, rests_refresh}
 use Rattle.am_headline.proofs.RepairWords.{settle_is, not_above_itself, Balloted, OpenBallot, IsAtRest, Repair, IsCalm}
 use Rattle.am_base.specs.declared.event.NodeEvent.TheVariants as does

@@ -1,10 +1,10 @@
 -- Where a run may be repaired, its sequencer has the whole chain, and each member's list begins it.
 use Rattle.am_headline.proofs.RepairedWords.{member_stays, same_stamp, ◌≡◌, ℕ, ◌<◌, ◌≤◌, ◌==◌, nat_lt, true, false, List, take, None, sym, ap, ◌∙◌, subst}
-use Rattle.am_headline.proofs.RepairedWords.{arith, nat_tests, Rules, MayFound, place_of, life_of, Event, Begins, IsGood, mem, view_of, begins_take}
+use Rattle.am_headline.proofs.RepairedWords.{arith, nat_tests, Rules, MayFound, place_of, Event, Begins, IsGood, mem, view_of, begins_take}
 use Rattle.am_headline.proofs.RepairedWords.{begins_trans, Group, IsUp, Leads, chain_of, Kept, Node, acts, view, is_member, lowest_or_first, whole, broken_at}
 use Rattle.am_headline.proofs.RepairedWords.{MayRepair, World, current, is_stopped, run, split, and_both, front_is_lawful, logged, names_hold, Following}
 use Rattle.am_headline.proofs.RepairedWords.{told_all, group_kept, steps_move, KeptBy, held, IsOneList, RepairableIsOneList, lawful_front, inl, either, has}
-use Rattle.am_headline.proofs.RepairedWords.{members, run_owned, in_mem, In, mem_in, row_at, Past, was_begins, eqb-true}
+use Rattle.am_headline.proofs.RepairedWords.{members, run_owned, in_mem, mem_in, was_begins, eqb-true}
 use Rattle.am_stands.specs.States.{OwnDecided}
 use Rattle.am_stands.proofs.Sending.{tells_leads}
 use Rattle.am_stands.proofs.Owns.{run_owns}

@@ -106,13 +106,7 @@ view_at image n (View w) es h = inl (record {
   number = (let at = h.1 in omega arith);
   there = refl;
 })
-view_at image n (Data from req body) es h = inr (
-  h.0 ∙ (after_same image n (Data from req body) refl).view,
-  h.1
-      ∙ (after_same image n (Data from req body) refl).number,
-)
-view_at image n (Join name) es h = inr h
-view_at image n (Leave name) es h = inr (h.0 ∙ (after_same image n (Leave name) refl).view, h.1 ∙ (after_same image n (Leave name) refl).number)
+view_at image n e es h = inr (h.0 ∙ (after_same image n e refl).view, h.1 ∙ (after_same image n e refl).number)
 
 view_in : (image : Image) (n : ℕ) (es : List Entry) → ViewIn image n es ⊎ Unviewed image n es
 unfolding fold Unviewed

@@ -3,7 +3,7 @@ use Rattle.am_headline.proofs.RepairedWords.{item_get, eqb-true, equals_itself, 
 use Rattle.am_headline.proofs.RepairedWords.{Stamp, Rules, Letter, Event, Group, Node, view, acts, is_sequencer, has_log, Step, is_stopped, run, heard_by}
 use Rattle.am_headline.proofs.RepairedWords.{split, and_both, Cause, actor, WasSentTo, IsCause, parts, plain, Rises}
 use Rattle.am_packet.specs.declared.packet.Packet.TheVariants as packet
-use Rattle.am_headline.proofs.Came.{Tells, by_piece, by_result, by_welcome, Came, before as went_on, own, told_so}
+use Rattle.am_headline.proofs.Came.{Tells, by_piece, by_result, by_welcome, before as went_on, own, told_so}
 use Rattle.am_headline.proofs.Trims.{LetterLow, Knows, took, joins, halts, Settles, TrimStep, Sent, before, now, along, heard, used, who_v, who_n, stopped_v}
 use Rattle.am_headline.proofs.Trims.{letter_v, came_n}
 use Rattle.am_headline.proofs.{Began.Began, Began.begins, Began.rises_along, Fresh.Welcomed, Fresh.welcomed_in, Mailed.says_apart, Mailed.says_welcome}

@@ -1,5 +1,5 @@
 -- What a name accepted of its own list stands in the group list.
-use Rattle.am_headline.proofs.Words.{◌≡◌, ◌⊎◌, either, ℕ, suc, ◌+◌, ◌-◌, ◌<◌, ◌≤◌, ◌==◌, List, ◌++◌, length, take, drop, Some, slice_get, refl, sym, ap, ◌∙◌}
+use Rattle.am_headline.proofs.Words.{◌≡◌, either, ℕ, suc, ◌+◌, ◌-◌, ◌<◌, ◌≤◌, ◌==◌, List, ◌++◌, length, take, drop, Some, slice_get, refl, sym, ap, ◌∙◌}
 use Rattle.am_headline.proofs.Words.{subst, arith, length-take-le, Entry, slice_get-drop, item_at, get_behind, Begins, Group, Kept, Node, view, whole, World}
 use Rattle.am_headline.proofs.Words.{group_with, group_after, split, NameStands, FrontsStand, get_item, item_taken, low_or_above}
 use Rattle.am_headline.proofs.{Lists.item_begins, Shapes.Along}

@@ -1,6 +1,6 @@
 -- What a change keeps of a node whose Views have no less resilience than the founding.
 use Rattle.am_model.specs.Ballots.{decided_view}
-use Rattle.am_laws.proofs.Words.{◌≡◌, inl, inr, ℕ, suc, ◌+◌, ◌-◌, ◌<◌, ◌≤◌, ◌==◌, ◌&&◌, nat_lt, true, false, List, [], ◌∷◌, ◌++◌, length, take, Option}
+use Rattle.am_laws.proofs.Words.{◌≡◌, inl, inr, ℕ, suc, ◌+◌, ◌-◌, ◌<◌, ◌≤◌, ◌==◌, nat_lt, true, false, List, [], ◌∷◌, ◌++◌, length, take, Option}
 use Rattle.am_laws.proofs.Words.{Some, None, refl, sym, ap, ◌∙◌, subst, arith, nat_tests, length-append, All, All-nil, All-cons, All-head, All-tail, All-append}
 use Rattle.am_laws.proofs.Words.{All-take, split, and_both, place_of, has, Stamp, stamp_lt, stamp_eq, Entry, Data, Join, Leave, View, Image, Outcome, Rules}
 use Rattle.am_laws.proofs.Words.{Log, blank, top_of, told_by, image_at, with_entry, members_of, after, fold, Packet, Node, Ballot, top, view, members, acts}
@@ -19,10 +19,8 @@ use Rattle.am_laws.proofs.Receiving.{heard_acts}
 
 least_after : (rules : Rules) (image : Image) (number : ℕ) (e : Entry) → rules.resilience ≤ image.resilience → IsRaised rules e
     → rules.resilience ≤ (after image number e).resilience
-least_after rules image number (Data from req body) h raised = let same = (after_same image number (Data from req body) refl).resilience in omega arith
-least_after rules image number (Join name) h raised = let same = (after_same image number (Join name) refl).resilience in omega arith
-least_after rules image number (Leave name) h raised = let same = (after_same image number (Leave name) refl).resilience in omega arith
 least_after rules image number (View v) h raised = let is = (after_view image number v).2 in omega arith
+least_after rules image number e h raised = let same = (after_same image number e refl).resilience in omega arith
 
 least_fold : (rules : Rules) (image : Image) (number : ℕ) (es : List Entry) → rules.resilience ≤ image.resilience → All (IsRaised rules) es
     → rules.resilience ≤ (fold image number es).resilience

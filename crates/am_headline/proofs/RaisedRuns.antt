@@ -1,27 +1,21 @@
 -- In each run no View has less resilience than the founding, whoever stops.
-use Rattle.am_laws.proofs.Words.{◌≡◌, inl, ℕ, ◌<◌, ◌≤◌, ◌==◌, true, List, [], ◌∷◌, ◌++◌, Some, slice_get, refl, sym, ap}
-use Rattle.am_laws.proofs.Words.{◌∙◌, subst, arith, nat_tests, All, All-nil, All-cons, All-append, All-weaker, split, Entry, Image, Outcome}
-use Rattle.am_laws.proofs.Words.{Stamp, Rules, MayFound, Packet, Event, Node, Ballot, top, image_of, has_log, founder, stranger, founders_view}
-use Rattle.am_laws.proofs.Words.{is_view, Verdict, Step, World, start, run, happen, happens, with_record, with_step, heard_by, Cause, hears, Looks}
-use Rattle.am_laws.proofs.Words.{finds_itself_out, Change, refreshes, settles, begins_list, looks, closes, push_entry, Leave, Says, welcome, piece, result}
-use Rattle.am_laws.proofs.Words.{LetterSays, Effect, actor, IsCause, Happens, idles, steps, all_get, all_item, equals_itself, along, EachKeeps}
-use Rattle.am_laws.proofs.Words.{StepsKeep, SameParts, law_keeps, runs_keep, first_has, rests_refresh, rests_at_end, settle_is, events_have_effects, logged}
+use Rattle.am_headline.proofs.Words.{Record, Answers, IsIdle, few_names, leads_member, ballots_are_own}
+use Rattle.am_laws.proofs.Words.{◌≡◌, inl, ℕ, ◌<◌, ◌≤◌, ◌==◌, true, List, [], ◌∷◌, ◌++◌, Some, slice_get, refl, sym, ap, ◌∙◌, subst, arith, nat_tests, All}
+use Rattle.am_laws.proofs.Words.{All-nil, All-cons, All-append, All-weaker, split, Entry, Image, Outcome, Stamp, Rules, MayFound, Packet, Event, Node, Ballot}
+use Rattle.am_laws.proofs.Words.{top, image_of, has_log, founder, stranger, founders_view, is_view, Verdict, Step, World, start, run, happen, happens}
+use Rattle.am_laws.proofs.Words.{with_record, with_step, heard_by, Cause, hears, Looks, finds_itself_out, Change, refreshes, settles, begins_list, looks}
+use Rattle.am_laws.proofs.Words.{closes, push_entry, Leave, Says, welcome, piece, result, LetterSays, Effect, actor, IsCause, Happens, idles, steps, all_get}
+use Rattle.am_laws.proofs.Words.{all_item, equals_itself, along, EachKeeps, StepsKeep, SameParts, law_keeps, runs_keep, first_has, rests_refresh, rests_at_end}
+use Rattle.am_laws.proofs.Words.{settle_is, events_have_effects, logged}
 use Rattle.am_stands.proofs.Words.{either}
 use Rattle.am_base.specs.declared.outcome.Outcome.TheVariants as said
 use Rattle.am_packet.specs.declared.packet.Packet.TheVariants as packet
-use Rattle.am_group.specs.declared.event.Record.{Record}
-use Rattle.am_laws.specs.Effects.{Answers}
-use Rattle.am_laws.specs.Events.{IsIdle}
-use Rattle.am_laws.proofs.Named.{few_names}
 use Rattle.am_laws.proofs.RunCounts.{was_heard, set_same}
 use Rattle.am_laws.proofs.Trims.{Owned}
 use Rattle.am_laws.proofs.TakenRuns.{AllOwned, each_owned, owned_start}
-use Rattle.am_laws.proofs.ViewChanges.{leads_member}
 use Rattle.am_runs.proofs.SentRuns.{grown_all}
 use Rattle.am_runs.specs.Ballots.{BallotsOk}
-use Rattle.am_runs.proofs.Ballots.{ballots_are_own}
-use Rattle.am_headline.specs.Resiliences.{IsRaised, GivesRaised, GaveRaised, FirstIsView, ListRaised, NodeRaised, PacketRaised, LetterRaised}
-use Rattle.am_headline.specs.Resiliences.{ResiliencesHold}
+use Rattle.am_headline.specs.Resiliences.{IsRaised, GivesRaised, GaveRaised, FirstIsView, ListRaised, NodeRaised, PacketRaised, LetterRaised, ResiliencesHold}
 use Rattle.am_headline.proofs.Raised.{least_told, begins_at, blank_told, acting_listed, leads_acts, HeardRaised, change_raised}
 use Rattle.am_headline.proofs.Sound.{has_entry, of_ballot, by_last}
 use Rattle.am_headline.proofs.OneStep.{run_push}

@@ -1,6 +1,6 @@
 -- What follows a world goes on through marks, stops and events that change no node.
-use Rattle.am_headline.proofs.Words.{◌≡◌, ◌≢◌, ◌⊎◌, either, inl, inr, ℕ, ◌<◌, ◌≤◌, length, List, [], ◌++◌, Bool, true, false, Some, slice_get, refl, sym, ap}
-use Rattle.am_headline.proofs.Words.{◌∙◌, subst, append-nil, arith, Rules, Letter, Record, Begins, BeginsBelow, key, begins_refl, Group, IsUp, put, Move}
+use Rattle.am_headline.proofs.Words.{◌≡◌, ◌⊎◌, either, inl, inr, ℕ, ◌<◌, ◌≤◌, length, List, [], ◌++◌, Bool, true, false, Some, slice_get, refl, sym, ap}
+use Rattle.am_headline.proofs.Words.{◌∙◌, subst, append-nil, arith, Rules, Letter, Record, Begins, BeginsBelow, key, begins_refl, Group, IsUp, Move}
 use Rattle.am_headline.proofs.Words.{with_node, gives_over, stops, Completes, IsLawful, Run, more, put_cases, put_other, Node, lowest_or_first, has_departed}
 use Rattle.am_headline.proofs.Words.{is_unfinished, World, is_stopped, NameStands, FrontsStand, Stands, LinesOpen, Grows, OnBranch, on_chain, left_out}
 use Rattle.am_headline.proofs.Words.{BranchesOk, ChainNamed, NodeKeeps, same_name, grows_names, node_grows, letters_stay, group_kept, move_on, grows_same}

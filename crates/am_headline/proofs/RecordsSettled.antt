@@ -1,12 +1,10 @@
 -- A send of a node's own that is settled has a number that the node has accepted, and who has no list has no sends.
-use Rattle.am_laws.proofs.Words.{◌≡◌, ℕ, ◌+◌, ◌-◌, ◌<◌, ◌≤◌, ◌==◌, not, Bool, true, false, ◌||◌, filter, List, [], ◌∷◌, length, take, Option, Some, None}
-use Rattle.am_laws.proofs.Words.{refl, sym, ap, ◌∙◌, subst, arith, nat_tests}
-use Rattle.am_laws.proofs.Words.{All, All-nil, All-cons, All-append, All-map, All-filter, All-weaker, length-take, split, Leave, Outcome, Rules, OwnSend}
-use Rattle.am_laws.proofs.Words.{Event, Node, Ballot}
-use Rattle.am_laws.proofs.Words.{push_entry, waiting, has_log, is_member, is_asking, founder, stranger, accepted_at, settle_at, settle_waiting, settle, refresh}
-use Rattle.am_laws.proofs.Words.{refresh_at_end, Verdict, run, Cause, nat_lt, Looks, finds_itself_out, Change, refreshes, settles, begins_list, looks}
-use Rattle.am_laws.proofs.Words.{queues, collects, closes, departs, asks_to_join}
-use Rattle.am_laws.proofs.Words.{refresh_is, rests_refresh, logged, asking_log}
+use Rattle.am_laws.proofs.Words.{◌≡◌, ℕ, ◌+◌, ◌-◌, ◌<◌, ◌≤◌, ◌==◌, not, Bool, true, false, ◌||◌, filter, List, [], ◌∷◌, length, take, Option, Some, None, refl}
+use Rattle.am_laws.proofs.Words.{sym, ap, ◌∙◌, subst, arith, nat_tests, All, All-nil, All-cons, All-append, All-map, All-filter, All-weaker, length-take, split}
+use Rattle.am_laws.proofs.Words.{Leave, Outcome, Rules, OwnSend, Event, Node, Ballot, push_entry, waiting, has_log, is_member, is_asking, founder, stranger}
+use Rattle.am_laws.proofs.Words.{accepted_at, settle_at, settle_waiting, settle, refresh, refresh_at_end, Verdict, run, Cause, nat_lt, Looks, finds_itself_out}
+use Rattle.am_laws.proofs.Words.{Change, refreshes, settles, begins_list, looks, queues, collects, closes, departs, asks_to_join, refresh_is, rests_refresh}
+use Rattle.am_laws.proofs.Words.{logged, asking_log}
 use Rattle.std.proofs.Common.{cond, map}
 use Rattle.std.specs.List.{position, position_or_len}
 use Rattle.am_state.specs.Sends as own

@@ -4,8 +4,8 @@ use Rattle.am_headline.proofs.RepairWords.{inr, ◌-◌, ◌≡◌, ℕ, ◌+◌
 use Rattle.am_headline.proofs.RepairWords.{cases_lt, Join, nat_tests, Stamp, Image, Report, Entry, Outcome, has, names_of, stamp_eq, Log, top_of, told_by}
 use Rattle.am_headline.proofs.RepairWords.{members_of, members_at, entry_at, fits, image_at, counted_at, CoreState, accept, pass_over, since_accepted}
 use Rattle.am_headline.proofs.RepairWords.{image-top, IsUsed, used_fold, member_row, least_taken, own_report, tell, go_on, let_go, Node, Ballot, top, image_of}
-use Rattle.am_headline.proofs.RepairWords.{view, members, acts, is_member, push_entry, with_report, lead, refresh, settle, with_admitted, World, split}
-use Rattle.am_headline.proofs.RepairWords.{and_both, Cause, BringsReport, HasOpen, BeginsBy, by_reset, Balloting, with_more, without_one, as_it_is, Promises}
+use Rattle.am_headline.proofs.RepairWords.{view, members, acts, push_entry, with_report, lead, refresh, settle, with_admitted, World, split}
+use Rattle.am_headline.proofs.RepairWords.{Cause, BringsReport, HasOpen, BeginsBy, by_reset, Balloting, with_more, without_one, as_it_is, Promises}
 use Rattle.am_headline.proofs.RepairWords.{invited, overtaken, told_result, Numbers, asked_send, own_send, asked_join, asked_leave, Change, refreshes, settles}
 use Rattle.am_headline.proofs.RepairWords.{takes_report, admits, numbers, keeps_body, notes, stores, begins_list, departs, promises, opens, looks, fetches}
 use Rattle.am_headline.proofs.RepairWords.{stores_view, queues, collects, takes, asks_to_join, asks_to_leave, closes, settle_is, told_pushed, view_pushed}
@@ -230,14 +230,6 @@ goes_pushed r taken q m e f joins h = record {
 
 -- ---- each change
 
--- a promise of the view itself is no promise of its own name's
-no_promise : (r : Repair) (w : World) (c : Cause) (m : Node) (v : Stamp) → r.view.by ≡ m.core.who → CalmCause r w c → Promises c m v → ⊥
-no_promise r w c m v by h (invited s v_ is heard own) = subst (CalmCause r w) is h
-no_promise r w c m v by h (overtaken s v_ vote is heard above) = subst (CalmCause r w) is h
-no_promise r w c m v by h (told_result s base number u is heard own other) =
-    let same : v ≡ r.view = (subst (CalmCause r w) is h) (eqb-true v.by s own) in
-    let z : ⊥ = grind (arith, nat_tests) in z
-
 pub no_ballot_begun : (r : Repair) (w : World) (c : Cause) (m : Node) → CalmCause r w c → BeginsBy m c → ⊥
 no_ballot_begun r w c m h (by_reset least resilience) = h
 no_ballot_begun r w c m h _ = h
@@ -279,7 +271,13 @@ lead_change r taken w q c o m n by calm tells f (stores s v base acc number e ca
 lead_change r taken w q c o m n by calm tells f (begins_list s v base join image is says may) h =
     absurd (let a = (acting m (leading m h.leads.leads).0).0 in let b = may.no_member in cc)
 lead_change r taken w q c o m n by calm tells f (departs s v number is heard leaves) h = absurd (let a = h.leads.rest.stays in cc)
-lead_change r taken w q c o m n by calm tells f (promises v low why) h = absurd (no_promise r w c m v (by ∙ sym h.own) calm why)
+lead_change r taken w q c o m n by calm tells f (promises v low why) h = absurd (elim why [
+  | invited s v_ is heard own ↦ subst (CalmCause r w) is calm
+  | overtaken s v_ vote is heard above ↦ subst (CalmCause r w) is calm
+  | told_result s base number u is heard own other ↦
+      let same : v ≡ r.view = (subst (CalmCause r w) is calm) (eqb-true v.by s own) in
+      let z : ⊥ = grind (arith, nat_tests) in z
+])
 lead_change r taken w q c o m n by calm tells f (opens least resilience begins may) h = absurd (no_ballot_begun r w c m calm begins)
 lead_change r taken w q c o m n by calm tells f (looks b verdict over why look is) h = absurd
     (let k = looked_open c m b why in not_open m k.0 k.1 h.leads.rest.no_ballot)

@@ -1,11 +1,10 @@
 -- What a run that may be repaired comes to by a lossless schedule.
-use Rattle.am_headline.proofs.RepairedWords.{lawful_front, ◌≡◌, ℕ, ◌<◌, ◌≤◌, ◌==◌, List, ◌++◌, true, subst, sym, arith, nat_tests, Rules, MayFound}
-use Rattle.am_headline.proofs.RepairedWords.{has, Event, is_member, top, members, World, start, current, run, settle_events, MayRepair}
-use Rattle.am_headline.proofs.RepairedWords.{HasCaughtUp, Repairs, split, runs_go_on, taken_holds, steps_move, held, repairs_where_lists_agree}
-use Rattle.am_headline.proofs.RepairedWords.{sequencers_trim_known, acting, one_list_agrees, RepairableTrims, RepairableCounts}
-use Rattle.am_headline.proofs.{OneList.lawful_events, OneList.small_name, OneList.member_small, OneList.listed_runs}
-use Rattle.am_headline.proofs.{OneList.leader_runs, OneList.repairable_is_one_list, Counted.repairable_counts}
-use Rattle.am_headline.proofs.{Trims.Trims, Trims.settled_trims, Kept.trims_start, Kept.trims_keeps}
+use Rattle.am_headline.proofs.RepairedWords.{lawful_front, ◌≡◌, ℕ, ◌<◌, ◌≤◌, ◌==◌, List, ◌++◌, true, subst, sym, arith, nat_tests, Rules, MayFound, has, Event}
+use Rattle.am_headline.proofs.RepairedWords.{is_member, top, members, World, start, current, run, settle_events, MayRepair, HasCaughtUp, Repairs, split}
+use Rattle.am_headline.proofs.RepairedWords.{runs_go_on, taken_holds, steps_move, held, repairs_where_lists_agree, sequencers_trim_known, acting}
+use Rattle.am_headline.proofs.RepairedWords.{one_list_agrees, RepairableTrims, RepairableCounts}
+use Rattle.am_headline.proofs.{OneList.lawful_events, OneList.small_name, OneList.member_small, OneList.listed_runs, OneList.leader_runs}
+use Rattle.am_headline.proofs.{OneList.repairable_is_one_list, Counted.repairable_counts, Trims.Trims, Trims.settled_trims, Kept.trims_start, Kept.trims_keeps}
 
 pub counts_members : RepairableCounts
 counts_members rules events place may low lawful repair = repairable_counts rules events place may low lawful repair

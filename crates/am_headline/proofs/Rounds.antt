@@ -3,7 +3,7 @@ use Rattle.am_headline.proofs.RepairWords.{◌≡◌, inl, inr, ℕ, ◌+◌, �
 use Rattle.am_headline.proofs.RepairWords.{Event, top, Settling, event_at, running, ticks, hearings, waves, round, World, happens, happen, happen_begins, Repair}
 use Rattle.am_headline.proofs.RepairWords.{IsOurs, our_ticks, hears_}
 use Rattle.am_group.specs.declared.event.Act.TheVariants as act
-use Rattle.am_headline.proofs.{Schedules.acts_keep, Schedules.wave_keeps, Fine.fine_goes, Fine.grow_goes, Ticking.Bounds, Ticking.ticks_poll}
+use Rattle.am_headline.proofs.{Schedules.acts_keep, Schedules.wave_keeps, Fine.fine_goes, Fine.grow_goes, Ticking.ticks_poll}
 use Rattle.am_headline.proofs.{Skipping.ticks_wait, FirstWave.first_wave_asks, NextWaves.second_wave_serves, ThirdWave.HasStored, ThirdWave.third_wave_stores}
 
 -- ---- the world after a round

@@ -1,7 +1,7 @@
 -- A step's letters tell of the node after it: who departs in it, or had departed, sends nothing.
 use Rattle.am_headline.proofs.RepairedWords.{◌≡◌, ◌⊎◌, inl, inr, either, ◌<◌, List, [], sym, Rules, Event, Group, Step, has_departed, with_step, happens, run}
 use Rattle.am_headline.proofs.RepairedWords.{split, Cause, Effect, actor, Following, departed_silent, departed_quiet, departed_is}
-use Rattle.am_headline.proofs.Silent.{Here, none_or_here, same_sender}
+use Rattle.am_headline.proofs.Silent.{none_or_here, same_sender}
 
 pub sent_by : (rules : Rules) (events : List Event) (e : Event) (c : Cause) (step : Step) (s : Group)
     → (effect : Effect ((run rules events).nodes (actor (run rules events) e)) c step)

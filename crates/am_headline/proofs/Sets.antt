@@ -1,7 +1,7 @@
 -- Names in sets.
 use Rattle.am_headline.proofs.RepairWords.{some_size, ◌≡◌, ◌≢◌, ℕ, zero, suc, ◌+◌, ◌==◌, Bool, true, false, nat_lt, if◌then◌else◌, List, [], ◌∷◌, slice_index}
-use Rattle.am_headline.proofs.RepairWords.{slice_set, get_or-set_same, get_or-set_other, count_by, refl, sym, ap, ◌∙◌, arith, All, nat_tests, All-head, All-tail}
-use Rattle.am_headline.proofs.RepairWords.{place_of, life_of, nobody, has, without_name, size, names_from, count_cons, only_name, split}
+use Rattle.am_headline.proofs.RepairWords.{slice_set, get_or-set_other, count_by, refl, sym, ap, ◌∙◌, arith, All, nat_tests, All-head, All-tail}
+use Rattle.am_headline.proofs.RepairWords.{place_of, life_of, has, without_name, size, names_from, count_cons, only_name, split}
 
 -- ---- who is there
 

@@ -2,7 +2,6 @@
 use Rattle.am_headline.proofs.RepairWords.{◌≡◌, ◌⊎◌, inl, inr, either, false, List, [], refl, sym, ap, ◌∙◌, Outcome, Letter, Status, Verdict, Step, Node}
 use Rattle.am_headline.proofs.RepairWords.{Ballot, with_report, has_departed, Cause, Looks, Change, refreshes, settles, begins_list, departs, looks}
 use Rattle.am_headline.proofs.RepairWords.{asks_to_join, closes, Effect, rests_refresh, rests_at_end, settle_is}
-use Rattle.am_model.specs.declared.status.Status.TheVariants as status
 use Rattle.am_laws.specs.Looks.{finds_itself_out}
 use Rattle.am_laws.specs.Courses.{IsPlain, Course, nothing_yet, used_report, and_then, Deeds, plainly, looked, Ending, at_end}
 

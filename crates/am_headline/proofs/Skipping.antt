@@ -6,7 +6,7 @@ use Rattle.am_headline.proofs.RepairWords.{only_name, is_sequencer, has_room, wa
 use Rattle.am_headline.proofs.RepairWords.{request_of, spread_of, join_ask_of, accept_of, result_of, tells_accepted, with_accept, finish, step, row}
 use Rattle.am_headline.proofs.RepairWords.{is_unfinished, would_emit, emit, everywhere_else, tick_row, tick_by, tick_acting, and_result, put_off, behind_view}
 use Rattle.am_headline.proofs.RepairWords.{viewed_by, event_at, running, ticks, World, is_stopped, with_record, with_step, happens, happen, split, Cause}
-use Rattle.am_headline.proofs.RepairWords.{hears, actor, IsCause, all_letter, all_get, inr, Repair, IsApart, IsLeaver, our_ticks}
+use Rattle.am_headline.proofs.RepairWords.{hears, actor, IsCause, all_letter, all_get, inr, Repair, our_ticks}
 use Rattle.am_model.specs.Emit.{leave_ask_of}
 use Rattle.am_base.specs.declared.event.NodeEvent.TheVariants as does
 use Rattle.am_base.specs.declared.outcome.Outcome.TheVariants as said
@@ -102,7 +102,8 @@ tick_either : (w : World) (place k : ℕ) (l : Letter) → (let e = event_at pla
 unfolding happens with_record with_step
 tick_either w place k l there =
     let e = event_at place act.Tick in
-    split (is_stopped w (actor w e)) (λ t. inl (rw t at there)) (λ f. either (letter_either w.letters (step (w.nodes (actor w e)) does.Tick).letters k l (rw f at there))
+    split (is_stopped w (actor w e)) (λ t. inl (rw t at there)) (λ f. either
+    (letter_either w.letters (step (w.nodes (actor w e)) does.Tick).letters k l (rw f at there))
     (λ old. inl old)
     (λ new. inr (f, new)))
 

@@ -1,39 +1,31 @@
 -- What each record of a run tells is within its limits, and each name's requests are 1, 2, 3 and so on.
+use Rattle.am_headline.proofs.Words.{slice_get_within, append-nil, append_assoc, place_of, Record, name_of, record_of, IsIdle, Answers, AnswersAsk, HasTaken}
+use Rattle.am_headline.proofs.Words.{WasSettled, numbers_hold, runs_keep, IsOfBallot, LastOk, ballots_are_own}
 use Rattle.am_laws.proofs.Words.{◌≡◌, ℕ, zero, suc, ◌+◌, ◌-◌, ◌<◌, ◌≤◌, ◌==◌, nat_le, Bool, true, false, if◌then◌else◌, List, [], ◌∷◌, ◌++◌, length, ◌⊎◌, inl}
-use Rattle.am_laws.proofs.Words.{inr, Option, Some, None, slice_get, refl, sym, ap, ◌∙◌, subst, arith, nat_tests, All, All-nil, All-cons, All-head}
-use Rattle.am_laws.proofs.Words.{All-tail, All-append, range_with_len, length-append, most_number, most_body, split, Entry, Data, Leave, View, Outcome, Log}
-use Rattle.am_laws.proofs.Words.{entry_at, top_of, Rules, MayFound, Act, Event, Node, Ballot, push_entry, Verdict, Step, World, start, run, happen, happens}
-use Rattle.am_laws.proofs.Words.{with_record, with_step, Cause, calls, Looks, finds_itself_out, Change, Changes, no_change, changed, refreshes, settles, looks}
-use Rattle.am_laws.proofs.Words.{queues, collects, closes, Effect, actor, IsCall, IsCause, Happens, idles, stops, returns, steps, all_get, first_has, current}
+use Rattle.am_laws.proofs.Words.{inr, Option, Some, None, slice_get, refl, sym, ap, ◌∙◌, subst, arith, nat_tests, All, All-nil, All-cons, All-head, All-tail}
+use Rattle.am_laws.proofs.Words.{All-append, range_with_len, length-append, most_number, split, Entry, Data, Leave, View, Outcome, Log, entry_at, top_of, Rules}
+use Rattle.am_laws.proofs.Words.{MayFound, Act, Event, Node, Ballot, push_entry, Verdict, Step, World, start, run, happen, happens, with_record, with_step}
+use Rattle.am_laws.proofs.Words.{Cause, calls, Looks, finds_itself_out, Change, Changes, no_change, changed, refreshes, settles, looks, queues, collects}
+use Rattle.am_laws.proofs.Words.{closes, Effect, actor, IsCall, IsCause, Happens, idles, stops, returns, steps, all_get, first_has, current}
 use Rattle.am_laws.proofs.Words.{events_have_effects, rests_refresh, settle_is, rests_at_end, BodyWithin, IsShort, Bounds}
 use Rattle.am_stands.proofs.Words.{either}
-use Rattle.std.proofs.lemmas.Option.{slice_get_within}
 use Rattle.std.proofs.lemmas.List.FromFn.{length-range_with_len}
-use Rattle.std.proofs.Common.{append-nil, append_assoc}
 use Rattle.std.proofs.lemmas.Grind.{flat_map-append}
 use Rattle.am_base.specs.declared.outcome.Outcome.TheVariants as said
 use Rattle.am_base.specs.declared.event.NodeEvent.TheVariants as does
-use Rattle.am_base.specs.Names.{place_of}
-use Rattle.am_packet.specs.Laws.{IsBytes}
 use Rattle.am_state.specs.Sends as own
 use Rattle.am_group.specs.declared.event.Act.TheVariants as act
-use Rattle.am_group.specs.declared.event.Record.{Record}
-use Rattle.am_group.specs.Deliveries.{name_of}
-use Rattle.am_play.specs.World.{record_of}
 use Rattle.am_laws.specs.Events as event
-use Rattle.am_laws.specs.Events.{IsIdle}
-use Rattle.am_laws.specs.Effects.{Answers, AnswersAsk, WasQueued, HasTaken, WasSettled}
+use Rattle.am_laws.specs.Effects.{WasQueued}
 use Rattle.am_laws.specs.Numbers.{NodeNumbers}
-use Rattle.am_laws.proofs.RunCounts.{numbers_hold, bounds_after}
+use Rattle.am_laws.proofs.RunCounts.{bounds_after}
 use Rattle.am_laws.proofs.Limits.{EntryWithin, AreNumbers}
 use Rattle.am_laws.proofs.NodeLimits.{SendWithin}
 use Rattle.am_laws.proofs.RunLimits.{first_bounds, small_run}
 use Rattle.am_laws.proofs.Named.{run_named}
-use Rattle.am_runs.proofs.SentKept.{WasSent, EntrySent}
+use Rattle.am_runs.proofs.SentKept.{EntrySent}
 use Rattle.am_runs.proofs.SentRuns.{AllSent, each_keeps, sent_start}
-use Rattle.am_laws.proofs.EffectRuns.{runs_keep}
-use Rattle.am_runs.specs.Ballots.{IsOfBallot, LastOk, BallotsOk}
-use Rattle.am_runs.proofs.Ballots.{ballots_are_own}
+use Rattle.am_runs.specs.Ballots.{BallotsOk}
 use Rattle.am_headline.specs.Records.{AsksBytes, IsSayable, IsAnswer, IsSound, RecordsAreSound, queued_in, queued_by, requests_given, RequestsInTurn, IsBack}
 use Rattle.am_headline.proofs.Names.{EntryNamed, run_said}
 use Rattle.am_headline.proofs.Limits.{Held, run_held}

@@ -8,7 +8,7 @@ use Rattle.am_headline.proofs.RepairWords.{MayTell, leads, decided, Ballot}
 use Rattle.am_headline.proofs.Going.{OurStep, Ours, idles, steps, ours, lead_changes, follow_changes, apart_changes, left_changes, sender_is, member_there}
 use Rattle.am_headline.proofs.{Nodes.CalmCause, Nodes.acting, Nodes.leading, Nodes.leads_not, RepairLeading.Goes, RepairLeading.told_taken, RepairLeading.Trusts}
 use Rattle.am_headline.proofs.{RepairLeading.TellsTaken, RepairLists.LogGrows, RepairLists.grows_same, Following.Skips, Saying.Grow, Saying.calm_stays, Saying.Sends}
-use Rattle.am_headline.proofs.{Saying.says_calm, Leaving.leads_not as leads_not_left, Silent.Here, Silent.none_or_here, Silent.same_sender}
+use Rattle.am_headline.proofs.{Saying.says_calm, Leaving.leads_not as leads_not_left, Silent.none_or_here, Silent.same_sender}
 
 -- ---- names
 
@@ -317,11 +317,6 @@ elsewhere_step r w e s h other none who apart letters =
       letters = letters;
     }
 
--- who has no ballot and doesn't lead tells no View
-no_tell : (n : Node) → n.ballot ≡ None → (is_sequencer n ≡ true → ⊥) → MayTell n → ⊥
-no_tell n none no_leader (leads t) = no_leader t
-no_tell n none no_leader (decided b number names is answer same) = absurd (cc)
-
 -- whoever isn't the leader, nor a member of its view, and hasn't departed
 module _ (r : Repair) (w : World) (e : Event) (s : Step) (h : Calm r w) (k : OurStep r w e s) (other : (actor w e == r.by) ≡ false)
     (none : has r.members (actor w e) ≡ false) (there : has_departed (w.nodes (actor w e)).status ≡ false) where
@@ -342,7 +337,10 @@ module _ (r : Repair) (w : World) (e : Event) (s : Step) (h : Calm r w) (k : Our
         leaves = λ t. absurd (let f = g.apart.stays in cc);
         no_ballot = ap is_unfinished a.no_ballot;
         begins_none = λ b some next. (let x = g.apart.no_ballot in cc);
-        tells = λ t mine. absurd (no_tell now_ g.apart.no_ballot no_leader t);
+        tells = λ t mine. absurd (elim t [
+          | leads t ↦ no_leader t
+          | decided b number names is answer same ↦ absurd (cc)
+        ]);
         no_leader = no_leader;
       }) (sender_is now_ k.effect.sender k.effect.is k.effect.stays g.there))
 

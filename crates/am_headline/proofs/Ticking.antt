@@ -1,6 +1,6 @@
 -- What the ticks of a round bring about: a poll, and reports.
 use Rattle.am_headline.proofs.RepairWords.{◌≡◌, ℕ, ◌+◌, ◌≤◌, ◌==◌, true, false, length, sym, ap, ◌∙◌, subst, arith, Contains, Stamp, Image, Rules, place_of, has}
-use Rattle.am_headline.proofs.RepairWords.{members_of, members_at, Accept, Letter, letter_to, Event, is_for, letter_at, Node, top, view, members, others}
+use Rattle.am_headline.proofs.RepairWords.{members_of, members_at, Letter, letter_to, Event, is_for, letter_at, Node, top, view, members, others}
 use Rattle.am_headline.proofs.RepairWords.{is_sequencer, report_of, Step, accept_of, step, event_at, running, ticks, World, is_stopped, with_step, happens, happen}
 use Rattle.am_headline.proofs.RepairWords.{split, IsReport, Repair, Leads, FollowsView, IsSent, Polled, Reported, IsOurs, our_ticks}
 use Rattle.am_base.specs.declared.event.NodeEvent.TheVariants as does

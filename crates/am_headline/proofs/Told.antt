@@ -5,7 +5,7 @@ use Rattle.am_headline.proofs.Words.{nat_tests, All-nil, All-cons, All-append, A
 use Rattle.am_headline.proofs.Words.{entry_at, entry-get, Letter, Event, Record, name_of, taken_in, given_to, deliveries, item_at, IsGood, begins_refl}
 use Rattle.am_headline.proofs.Words.{begins_trans, good_begins, Group, Node, waiting, is_asking, founder, stranger, founders_view, lowest_or_first, has_log}
 use Rattle.am_headline.proofs.Words.{has_departed, Step, sent_in, accepted_sends, whole, World, record_of, start, with_step, run, heard_by, split, Cause}
-use Rattle.am_headline.proofs.Words.{hears, Changes, unchanged, changed, Effect, Answers, HasTaken, AnswersAsk, WasSettled, LetterSays, actor, IsCause}
+use Rattle.am_headline.proofs.Words.{hears, Changes, unchanged, changed, Effect, Answers, HasTaken, AnswersAsk, LetterSays, actor, IsCause}
 use Rattle.am_headline.proofs.Words.{IsIdle, WasSentTo, all_get, IsBlank, Blanked, change_blank, blank_holds, numbers_hold, few_names, run_owned, HasNames}
 use Rattle.am_headline.proofs.Words.{HeardNames, change_names, Balloted, change_does, heard_names, IsOfBallot, LastOk, ballots_are_own, lists_go_on, front}
 use Rattle.am_headline.proofs.Words.{Gave, nothing, took, began, at_least, At, BeginsOk, SendOk, IsSettled, sends_more, item_within, idle_takes}

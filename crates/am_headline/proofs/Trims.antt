@@ -1,5 +1,5 @@
 -- What a sequencer trimmed, its members have taken: what a run keeps of it, with the group that follows.
-use Rattle.am_headline.proofs.RepairedWords.{item_get, ◌≡◌, either, ℕ, ◌<◌, ◌≤◌, ◌==◌, max, true, false, List, [], ◌++◌, Some, slice_get, refl, sym, ap, ◌∙◌}
+use Rattle.am_headline.proofs.RepairedWords.{item_get, ◌≡◌, either, ℕ, ◌<◌, ◌≤◌, ◌==◌, max, true, false, List, ◌++◌, Some, slice_get, refl, sym, ap, ◌∙◌}
 use Rattle.am_headline.proofs.RepairedWords.{subst, arith, All, All-nil, All-append, All-weaker, slice_get-get_or, Entry, Image, Stamp, Rules, Packet, Letter}
 use Rattle.am_headline.proofs.RepairedWords.{Event, key, key_by, Group, Node, view, acts, is_member, is_sequencer, has_log, Step, World, is_stopped, with_step}
 use Rattle.am_headline.proofs.RepairedWords.{run, heard_by, and_both, Cause, LetterSays, WasSentTo, IsCause, steps, all_get, logged, heard_names, HeardNames}

@@ -1,5 +1,5 @@
 -- What the group accepted behind the last View its coordinator accepted.
-use Rattle.am_headline.proofs.RepairedWords.{◌≡◌, ◌≢◌, ◌⊎◌, either, ℕ, zero, suc, ◌+◌, ◌-◌, ◌<◌, ◌≤◌, max, ◌==◌, true, false, if◌then◌else◌, List, [], ◌∷◌}
+use Rattle.am_headline.proofs.RepairedWords.{◌≡◌, ◌≢◌, either, ℕ, zero, suc, ◌+◌, ◌-◌, ◌<◌, ◌≤◌, max, ◌==◌, true, false, if◌then◌else◌, List, [], ◌∷◌}
 use Rattle.am_headline.proofs.RepairedWords.{◌++◌, length, take, drop, Some, slice_get, refl, sym, ap, ◌∙◌, subst, arith, length-append, append_assoc}
 use Rattle.am_headline.proofs.RepairedWords.{nat_tests, take-append-drop, length-take, take_all, take-append-add, Entry, View, Outcome, Rules, MayFound, Event}
 use Rattle.am_headline.proofs.RepairedWords.{Begins, view_of, key, key_by, view_small, view_up, view_viewed, begins_refl, begins_take, begins_trans}
@@ -7,7 +7,7 @@ use Rattle.am_headline.proofs.RepairedWords.{begins_both, begins_same, begins_le
 use Rattle.am_headline.proofs.RepairedWords.{Node, top, view, is_member, founding_stamp, lowest_or_first, has_log, has_departed, Step, is_unfinished, Letter}
 use Rattle.am_headline.proofs.RepairedWords.{Decided, World, start, founders_decided, group_with, run, split, and_both, Cause, Changes, unchanged, changed}
 use Rattle.am_headline.proofs.RepairedWords.{Ending, at_end, let_go, closing, all_get, asking, rests_refresh, rests_closed, settle_is, asking_log, numbers_hold}
-use Rattle.am_headline.proofs.RepairedWords.{first_founder, run_owned, IsNoted, lists_go_on, NameStands, Moves, NewView, GroupOk, Following, told_all, long_all}
+use Rattle.am_headline.proofs.RepairedWords.{first_founder, run_owned, IsNoted, lists_go_on, NameStands, Moves, GroupOk, Following, told_all, long_all}
 use Rattle.am_headline.proofs.RepairedWords.{taken_more, group_kept, rests_step, rests_course, departed_is, OneStep, parts, plain, KeptBy, ListGoes, same, up}
 use Rattle.am_headline.proofs.RepairedWords.{gone, list_moves, Kind, kind_of}
 use Rattle.am_chain.specs.Group as groups

@@ -1,8 +1,7 @@
 -- A View that leaves somebody out always fits: what each run keeps of it up to its lawful front.
-use Rattle.am_headline.proofs.Words.{◌≡◌, ◌≢◌, ◌⊎◌, either, ℕ, ◌+◌, ◌-◌, ◌<◌, ◌≤◌, true, List, [], ◌∷◌, ◌++◌, length, take, Some, refl, sym, ap, ◌∙◌, subst}
-use Rattle.am_headline.proofs.Words.{append_assoc, arith, Entry, Image, Stamp, Rules, size, members_of, Packet, item_at, Begins, view_of, key, begins_trans}
-use Rattle.am_headline.proofs.Words.{begins_length, length_push, Group, IsUp, Kept, Node, top, World, NameStands, LinesOpen, Grows, long_all, taken_more}
-use Rattle.am_headline.proofs.Words.{image_whole}
+use Rattle.am_headline.proofs.Words.{◌≡◌, ◌≢◌, either, ℕ, ◌+◌, ◌-◌, ◌≤◌, true, List, [], ◌∷◌, ◌++◌, length, take, Some, sym, ap, ◌∙◌, subst, append_assoc}
+use Rattle.am_headline.proofs.Words.{arith, Entry, Image, Stamp, Rules, size, members_of, Packet, item_at, Begins, view_of, key, begins_trans, begins_length}
+use Rattle.am_headline.proofs.Words.{length_push, Group, IsUp, Kept, Node, top, World, NameStands, LinesOpen, Grows, long_all, taken_more, image_whole}
 use Rattle.am_base.specs.Whole.{image_of}
 use Rattle.am_packet.specs.declared.packet.Packet.TheVariants as packet
 use Rattle.am_chain.specs.Group as groups
@@ -83,16 +82,14 @@ line_on rules s t v base number g h = record {
   fits = fit_more rules (s.views.line (key v)) (t.views.line (key v)) base number (g.lines (key v) h.decided) h.fits;
 }
 
-piece_on : (rules : Rules) (s t : Group) (i : ℕ) (v : Stamp) (base number : ℕ) (e : Entry) → Grows s t → PieceFits rules s i v base number e
-    → PieceFits rules t i v base number e
-piece_on rules s t i v base number e g (of_line h at) = of_line (line_on rules s t v base number g h) (item_begins number e (g.lines (key v) h.decided) at)
-piece_on rules s t i v base number e g (of_shown list is served at h) = of_shown list (g.shown (key v) i list is) (g.served (key v) i served) at h
-piece_on rules s t i v base number e g (over other d) = over other (g.decided (key v) d).0
-
 pub packet_on : (rules : Rules) (s t : Group) (p : Packet) → Grows s t → PacketFits rules s p → PacketFits rules t p
 packet_on rules s t (packet.Bcast i v base acc number e) g h = line_on rules s t v base number g h
 packet_on rules s t (packet.Order i v base acc number from req) g h = line_on rules s t v base number g h
-packet_on rules s t (packet.Piece i v base number e) g h = piece_on rules s t i v base number e g h
+packet_on rules s t (packet.Piece i v base number e) g h = elim h [
+  | of_line h at ↦ of_line (line_on rules s t v base number g h) (item_begins number e (g.lines (key v) h.decided) at)
+  | of_shown list is served at h ↦ of_shown list (g.shown (key v) i list is) (g.served (key v) i served) at h
+  | over other d ↦ over other (g.decided (key v) d).0
+]
 packet_on rules s t (packet.Result i base number v) g h = λ by. line_on rules s t v.stamp base number g (h by)
 packet_on rules s t _ g h = tt
 

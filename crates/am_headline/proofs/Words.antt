@@ -1,15 +1,15 @@
 -- The words of this crate's proofs, of the crates and definitions that they come from.
 pub use Rattle.am_runs.proofs.UnballotedWords.{◌≡◌, ℕ, zero, suc, ◌<◌, ◌≤◌, ◌==◌, true, List, [], ◌∷◌, ◌++◌, length, take, None, Some, refl, sym, ap, ◌∙◌}
-pub use Rattle.am_runs.proofs.UnballotedWords.{arith, ◌⊎◌, inl, inr, ◌+◌, ◌-◌, max, ◌&&◌, not, nat_lt, Bool, if◌then◌else◌, slice_index, length-append}
-pub use Rattle.am_runs.proofs.UnballotedWords.{false, slice_get, ◌||◌, Option, nat_le, ◌≢◌, append-nil, append_assoc, drop, min, find, nat_tests}
-pub use Rattle.am_runs.proofs.UnballotedWords.{take-append-drop, length-take-le, All-nil, All-cons, All-push, All-filter, All-map, All-weaker, All-append}
-pub use Rattle.am_runs.proofs.UnballotedWords.{slice_get-get_or, slice_get_within, list_any, flat_map, All, View, Leave, Data, Join, Rules, MayFound, has}
-pub use Rattle.am_runs.proofs.UnballotedWords.{place_of, life_of, split, and_both, Entry, Image, Row, Stamp, Outcome, Log, blank_row, image_at, top_of, after}
-pub use Rattle.am_runs.proofs.UnballotedWords.{told_by, blank, AllFit, fits, entry_at, stamp_eq, stamp_lt, Packet, Letter, goes_to_any, entry-get, CoreState}
-pub use Rattle.am_runs.proofs.UnballotedWords.{slice_get-drop, OwnSend, Event, item_at, letter_at, Record, Act, is_for, deliveries, name_of, taken_in, given_to}
-pub use Rattle.am_runs.proofs.UnballotedWords.{get_before, get_behind, founding_stamp, Node, Ballot, top, push_entry, view, is_member, acts, founder, subst}
-pub use Rattle.am_runs.proofs.UnballotedWords.{founders_view, has_log, is_asking, is_sequencer, waiting, trim_up_to, stranger, first_founder, Verdict, Status}
-pub use Rattle.am_runs.proofs.UnballotedWords.{Step, hears_member, hears_in_view, hears_sequencer, begin_list, advance, settle_waiting, settle_at, accepted_at}
+pub use Rattle.am_runs.proofs.UnballotedWords.{arith, ◌⊎◌, inl, inr, ◌+◌, ◌-◌, max, ◌&&◌, not, nat_lt, Bool, if◌then◌else◌, slice_index, length-append, false}
+pub use Rattle.am_runs.proofs.UnballotedWords.{slice_get, ◌||◌, Option, nat_le, ◌≢◌, append-nil, append_assoc, drop, min, find, nat_tests, take-append-drop}
+pub use Rattle.am_runs.proofs.UnballotedWords.{length-take-le, All-nil, All-cons, All-push, All-filter, All-map, All-weaker, All-append, slice_get-get_or}
+pub use Rattle.am_runs.proofs.UnballotedWords.{slice_get_within, list_any, flat_map, All, View, Leave, Data, Join, Rules, MayFound, has, place_of, life_of}
+pub use Rattle.am_runs.proofs.UnballotedWords.{split, and_both, Entry, Image, Row, Stamp, Outcome, Log, blank_row, image_at, top_of, after, told_by, blank}
+pub use Rattle.am_runs.proofs.UnballotedWords.{AllFit, fits, entry_at, stamp_eq, stamp_lt, Packet, Letter, goes_to_any, entry-get, CoreState, slice_get-drop}
+pub use Rattle.am_runs.proofs.UnballotedWords.{OwnSend, Event, item_at, letter_at, Record, Act, is_for, deliveries, name_of, taken_in, given_to, get_before}
+pub use Rattle.am_runs.proofs.UnballotedWords.{get_behind, founding_stamp, Node, Ballot, top, push_entry, view, is_member, acts, founder, subst, founders_view}
+pub use Rattle.am_runs.proofs.UnballotedWords.{has_log, is_asking, is_sequencer, waiting, trim_up_to, stranger, first_founder, Verdict, Status, Step}
+pub use Rattle.am_runs.proofs.UnballotedWords.{hears_member, hears_in_view, hears_sequencer, begin_list, advance, settle_waiting, settle_at, accepted_at}
 pub use Rattle.am_runs.proofs.UnballotedWords.{is_view, body_of, Departed, World, start, run, record_of, group_after, heard_by, BeginsAt, accepted_sends}
 pub use Rattle.am_runs.proofs.UnballotedWords.{IsGood, Begins, mem, begins_push, begins_take, length_take, length_push, begins_same, good_begins, long_told}
 pub use Rattle.am_runs.proofs.UnballotedWords.{told_push, mem_in, in_mem, row_at, Cause, hears, Looks, Carries, whole_entry, by_number, Change, refreshes}
@@ -20,9 +20,9 @@ pub use Rattle.am_runs.proofs.UnballotedWords.{get_last, logged, asking_log, eve
 pub use Rattle.am_runs.proofs.UnballotedWords.{WasSettled, bounded_holds, senders_in_order, send_stands_once, sent_holds, take-append-le, order}
 unfoldable pub use Rattle.am_runs.proofs.UnballotedWords.{accept, pass_over, own_report, tell, go_on, lead, refresh, settle, refresh_at_end, with_step}
 unfoldable pub use Rattle.am_runs.proofs.UnballotedWords.{with_record}
-pub use Rattle.am_stands.proofs.Words.{either, count_by, eqb-true, not-true, length-map, list_any-append, size, IsSet, name_at, names_from, names_of, member_life}
-pub use Rattle.am_stands.proofs.Words.{members_of, members_at, count_cons, lowest_or_first, has_departed, unsettled_count, has_own_leave, those, need_of}
-pub use Rattle.am_stands.proofs.Words.{left_in, trim_for, with_promise, restart_reports, best_of, is_waited_for, is_unfinished, Plan, quiet, Decided}
+pub use Rattle.am_stands.proofs.Words.{either, count_by, eqb-true, not-true, length-map, list_any-append, size, IsSet, name_at, names_from, names_of}
+pub use Rattle.am_stands.proofs.Words.{member_life, members_of, members_at, count_cons, lowest_or_first, has_departed, unsettled_count, has_own_leave, those}
+pub use Rattle.am_stands.proofs.Words.{need_of, left_in, trim_for, with_promise, restart_reports, best_of, is_waited_for, is_unfinished, Plan, quiet, Decided}
 pub use Rattle.am_stands.proofs.Words.{first_node, founders_decided, current, is_stopped, views_after, lives_on, group_with, is_view_of, whole, line_of, key}
 pub use Rattle.am_stands.proofs.Words.{BeginsBelow, begins_refl, begins_nil, begins_both, begins_length, begins_trans, begins_more, mem_viewed, In, long_after}
 pub use Rattle.am_stands.proofs.Words.{low_or_above, mod16, key_by, view_push, view_viewed, key_lt, view_small, view_up, view_below, decides, rests_at_end}
@@ -56,9 +56,8 @@ pub use Rattle.am_laws.specs.Courses.{at_end}
 pub use Rattle.am_laws.proofs.Tests.{or_first}
 pub use Rattle.am_laws.proofs.Changes.{kept_change}
 pub use Rattle.am_laws.proofs.{Blank.change_blank, Blank.no_member, Blank.Blanked, Blank.blank_holds, Taken.change_owned, Trims.Fronts, Fronts.front_begins}
-pub use Rattle.am_laws.proofs.{CallCounts.fewer_wait}
+pub use Rattle.am_laws.proofs.{CallCounts.fewer_wait, Watched.watch_push, Lists.lists_go_on, ViewChanges.leads_member}
 pub use Rattle.am_laws.specs.Blank.{IsBlank}
-pub use Rattle.am_laws.proofs.{Watched.watch_push, Lists.lists_go_on, ViewChanges.leads_member}
 pub use Rattle.am_chain.specs.Runs.{MayBegin, Completes, Run}
 pub use Rattle.am_runs.specs.Ballots.{IsOfBallot, LastOk}
 pub use Rattle.am_runs.proofs.Ballots.{ballots_are_own}
@@ -72,8 +71,8 @@ pub use Rattle.am_stands.proofs.{Begun.start_keeps, Branches.branches_begin, Bra
 pub use Rattle.am_stands.proofs.{Pieces.plain as not_view, Changes.told_all, Changes.long_all, Parts.number_low, Parts.image_whole, Events.idle_stands}
 pub use Rattle.am_stands.proofs.{Events.stop_stands, Events.return_stands, Joins.Becomes, Joins.stayed, Joins.joins, Joins.founds, Joins.became}
 pub use Rattle.am_stands.proofs.{Joins.blank_nil, Counting.count_up_to, Counting.names_pass, Counting.names_few, Counting.name_small, Opens.runs_open}
-pub use Rattle.am_stands.proofs.{Opens.moves_open, Growing.same_name, Growing.grows_names, Growing.node_grows}
+pub use Rattle.am_stands.proofs.{Opens.moves_open, Growing.same_name, Growing.grows_names, Growing.node_grows, StepSilent.departed_quiet, Courses.departed_is}
+pub use Rattle.am_stands.proofs.{Steps.steps_move, Steps.deeds_there}
 pub use Rattle.am_stands.specs.Branches.{ChainNamed}
-pub use Rattle.am_stands.proofs.{StepSilent.departed_quiet, Courses.departed_is, Steps.steps_move, Steps.deeds_there}
 pub use Rattle.am_model.specs.Ballots.{decided_view}
 pub use Rattle.am_model.specs.Node.{founding_view}

@@ -1,7 +1,7 @@
 -- What stopped names have is on the chain, or was left out of it; so a decision finds what each of its members has.
 use Rattle.am_stands.proofs.Words.{low_or_above, split, ◌≡◌, ◌⊎◌, inl, inr, either, ℕ, ◌<◌, ◌≤◌, ◌==◌, ◌||◌, List, [], ◌∷◌, ◌++◌, length, take, true, false}
-use Rattle.am_stands.proofs.Words.{Some, slice_index, refl, sym, ap, ◌∙◌, subst, arith, nat_tests, Entry, Leave, View, GroupView, Stamp, place_of, life_of, has}
-use Rattle.am_stands.proofs.Words.{is_within, members_of, all_at, Begins, BeginsBelow, IsGood, image_of, mem, view_of, key, begins_refl, begins_nil}
+use Rattle.am_stands.proofs.Words.{Some, slice_index, refl, sym, ap, ◌∙◌, subst, arith, nat_tests, Entry, Leave, View, GroupView, Stamp, place_of, has}
+use Rattle.am_stands.proofs.Words.{is_within, members_of, all_at, Begins, BeginsBelow, IsGood, image_of, mem, key, begins_refl, begins_nil}
 use Rattle.am_stands.proofs.Words.{begins_more, begins_trans, begins_both, begins_take, below_of, below_length, length_push, mod16, good_begins, mem_between}
 use Rattle.am_stands.proofs.Words.{mem_viewed, key_by, view_up, Group, put, put2, opening, chain_of, IsUp, NoBetter, MayDecide, Voted, with_choice, choice_of}
 use Rattle.am_stands.proofs.Words.{own_stamp, longer, Kept, IsLawful, first_choice, start_kept, put_same, put_at, put2_cases, own_above, ballot_ok, list_chain}

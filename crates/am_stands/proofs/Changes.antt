@@ -61,13 +61,17 @@ others_fronts w name x y s h i few other = split (i == name)
     (λ t. absurd (let same : i ≡ name = grind (arith, nat_tests) in other same))
     (λ f. rw f (λ d. (let old : has_departed (w.nodes i).status ≡ false → FrontsStand (w.nodes i) (s.node i) = rw f at (h i few other) in old d)))
 
-pub unmoved : (w : World) (name : ℕ) (x y : Node) (s : Group) → Unmoved x y → StandsBut name (within w name x) s → Onto name (within w name y) s
-unmoved w name x y s u h = onto_same name (within w name y) s (record {
+-- a node that is the same to the group
+pub same_stands : (w : World) (name : ℕ) (x y : Node) (s : Group) → Unmoved x y → StandsBut name (within w name x) s → StandsBut name (within w name y) s
+same_stands w name x y s u h = record {
   each = others_same w name x y s u h.each;
   fronts = others_fronts w name x y s h.fronts;
   views = views_in (within w name x) (within w name y) s.views refl (lines_within w name x y u.log) h.views;
   group = h.group;
-})
+}
+
+pub unmoved : (w : World) (name : ℕ) (x y : Node) (s : Group) → Unmoved x y → StandsBut name (within w name x) s → Onto name (within w name y) s
+unmoved w name x y s u h = onto_same name (within w name y) s (same_stands w name x y s u h)
 
 -- ---- a move of one node, whose list stays
 
@@ -92,7 +96,12 @@ name_as w name x y a stamp open_ log status leaving start_ promise ballot k = re
     image = subst (λ (l : Log). l.image ≡ image_of (take l.start w.group)) (sym log) k.begins.image;
   };
   list = k.list ∙ ap (λ (l : Log). take l.start w.group ++ l.entries) (sym log);
-  flags = assumption (k.log_ ∙ ap has_log (sym status), k.departed ∙ ap has_departed (sym status), k.leaving ∙ sym leaving);
+  flags = record {
+    log_ = k.log_ ∙ ap has_log (sym status);
+    stopped = k.stopped;
+    departed = k.departed ∙ ap has_departed (sym status);
+    leaving = k.leaving ∙ sym leaving;
+  };
   promise = promise;
   ballot = ballot;
   start = λ t. k.start (ap has_log (sym status) ∙ t) ∙ sym start_;

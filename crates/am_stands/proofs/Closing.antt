@@ -5,8 +5,8 @@ use Rattle.am_stands.proofs.Words.{has_departed, Step, is_unfinished, Decided, W
 use Rattle.am_stands.proofs.Words.{NameStands, FrontsStand, StandsBut, Stands, within, NeedsClose, after_closing, CloseStands, MoveOk}
 use Rattle.am_chain.specs.Group as groups
 use Rattle.am_chain.specs.Moves as group
-use Rattle.am_stands.proofs.{Names.one_move, Names.views_noted, Changes.own_name, Changes.is_up, Entries.is_leading, Entries.numbered_stands, Ends.taken_more}
-use Rattle.am_stands.proofs.{Ends.name_grows}
+use Rattle.am_stands.proofs.{Names.one_move, Names.views_noted, Changes.own_name, Changes.is_up, Entries.is_leading, Entries.numbered_stands, Names.taken_more}
+use Rattle.am_stands.proofs.{Names.name_grows}
 
 -- what stands for who has gone so
 gone_name : (w : World) (name : ℕ) (x : Node) (b : groups.Node) → b.has_log ≡ true

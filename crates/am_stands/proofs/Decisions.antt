@@ -5,7 +5,7 @@ use Rattle.am_stands.proofs.Words.{with_choice, choice_of, put_same, Node, Ballo
 use Rattle.am_stands.proofs.Words.{Decided, World, last_view, whole, is_view_of, up_to_view, up_to_next, line_of, split, Cause, HasOpen, Balloting, with_more}
 use Rattle.am_stands.proofs.Words.{without_one, as_it_is, get_front, get_last, get_push, told_pushed, after_view, NameStands, NotedStands, ViewsStand}
 use Rattle.am_stands.proofs.Words.{StandsBut, within, MayMove, NeedsDecision, noting, decided_view}
-use Rattle.std.proofs.lemmas.List.{append-nil}
+use Rattle.std.proofs.lemmas.List.{append-nil, same_from_push}
 use Rattle.am_chain.specs.Group as groups
 use Rattle.am_chain.specs.Moves as group
 use Rattle.am_model.specs.Node as nodes
@@ -13,7 +13,6 @@ use Rattle.am_base.specs.declared.outcome.Outcome.TheVariants as said
 use Rattle.am_laws.specs.Looks as looks
 use Rattle.am_stands.proofs.{Names.Onto, Names.onto_move, Names.name_in, Names.each_within, Names.fronts_within, Changes.own_name, Changes.long_all}
 use Rattle.am_stands.proofs.{Lines.line_ends, Entries.noted_stands, Entries.line_here}
-use Rattle.std.proofs.lemmas.List.{same_from_push}
 
 -- ---- lists
 

@@ -1,11 +1,10 @@
 -- A look at a ballot, which comes last before the end of a step: a view that it decided was noted.
 use Rattle.am_model.specs.Ballots.{decided_view}
 use Rattle.am_stands.proofs.StepWords.{logged, ◌≡◌, ◌⊎◌, inl, inr, either, ℕ, true, false, List, [], ◌∷◌, ◌++◌, refl, sym, ap, ◌∙◌, subst, Stamp, Entry}
-use Rattle.am_stands.proofs.StepWords.{Outcome, Rules, stamp_lt, Group, Node, Ballot, view, is_member, image_of, Verdict, trim_for, left_in, need_of, Decided}
-use Rattle.am_stands.proofs.StepWords.{World, last_view, Cause, Balloting, Looks, finds_itself_out, waits, fetches_from_best, finds_too_few, finds_no_room}
-use Rattle.am_stands.proofs.StepWords.{decides, looks, Course, nothing_yet, used_report, and_then, Deeds, plainly, looked, course_changes, rests_refresh, below}
-use Rattle.am_stands.proofs.StepWords.{not_above, SameView, Stood, view_last, changes_do, looked_at, CauseSent, after_look, Stepping, looked_open}
-use Rattle.am_stands.proofs.StepWords.{changes_go_on}
+use Rattle.am_stands.proofs.StepWords.{Outcome, Rules, stamp_lt, Group, Node, Ballot, view, is_member, Verdict, trim_for, left_in, need_of, Decided, World}
+use Rattle.am_stands.proofs.StepWords.{last_view, Cause, Balloting, Looks, finds_itself_out, waits, fetches_from_best, finds_too_few, finds_no_room, decides}
+use Rattle.am_stands.proofs.StepWords.{looks, Course, nothing_yet, used_report, and_then, Deeds, plainly, looked, course_changes, rests_refresh, below}
+use Rattle.am_stands.proofs.StepWords.{not_above, view_last, changes_do, looked_at, CauseSent, after_look, Stepping, looked_open, changes_go_on}
 use Rattle.am_stands.proofs.{Worlds.growing, Refreshed.Fronted, Refreshed.Changed, Refreshed.then_changed, Courses.was_welcomed, Courses.look_brings}
 use Rattle.am_stands.proofs.{Courses.both_ways, Courses.stays, StepGoing.fronts_next, StepGoing.Grown, StepGoing.as_before, StepGoing.by_reports}
 use Rattle.am_stands.proofs.{StepGoing.going_on}
@@ -64,11 +63,6 @@ world_after : {x : Node} {b : Ballot} {v : Verdict} (look : Looks x b v) (w : Wo
 world_after (finds_itself_out a) w group = refl
 world_after _ w group = refl
 
--- a sequencer that took a report looks at no ballot
-before_look : {c : Cause} {x y : Node} (b : Ballot) (old group : List Entry) → Balloting c x b → Grown c old group x → Grown c old group y
-before_look b old group why (as_before is) = as_before is
-before_look b old group why (by_reports brings leads start is) = absurd (both_ways _ brings (look_brings b why).brings)
-
 view_up : (a b stamp : Stamp) → (b ≡ a) ⊎ (stamp_lt a b ≡ true) → stamp_lt b stamp ≡ true → stamp_lt a stamp ≡ true
 view_up a b stamp h above = either h
     (λ same. ap (λ u. stamp_lt u stamp) (sym same) ∙ above)
@@ -102,6 +96,9 @@ deeds_on rules w name c o m x s (looked {n = n} b verdict course over why look i
         goes = goes;
         fronts = record { low = fronts.low; heard = fronts.heard; word = fronts.word; acc = fronts.acc; told = fronts.told };
       });
-      grown = before_look b w.group g.group why g.grown;
+      grown = elim g.grown [
+        | as_before is ↦ as_before is
+        | by_reports brings leads start is ↦ absurd (both_ways _ brings (look_brings b why).brings)
+      ];
       seen = seen_by look w m member open_.own (view_up (view m) (view n) b.stamp up open_.above);
     }

@@ -1,34 +1,12 @@
 -- At the end of a step the group accepts what its sequencer does, and the name learns how far that is.
-use Rattle.am_stands.proofs.Words.{equals_itself, ◌≡◌, ◌≢◌, ℕ, ◌<◌, ◌≤◌, ◌==◌, max, true, false, if◌then◌else◌, List, [], ◌∷◌, ◌++◌, length, take}
-use Rattle.am_stands.proofs.Words.{Some, slice_get, refl, sym, ap, ◌∙◌, subst, arith, nat_tests, Entry, Stamp, Event, Begins, image_of, begins_length, Group}
-use Rattle.am_stands.proofs.Words.{put, with_node, Node, set_at, has_departed, Step, Decided, World, is_stopped, group_after, views_after, with_step}
-use Rattle.am_stands.proofs.Words.{up_to_next, line_of, split, NameStands, FrontsStand, ViewsStand, Stands, Moves, none, moves, Leads, Accepts, no_more}
-use Rattle.am_stands.proofs.Words.{rises, Learns, departed, bare, before_end, EndsStand}
+use Rattle.am_stands.proofs.Words.{equals_itself, ◌≡◌, ◌≢◌, ℕ, ◌<◌, ◌≤◌, ◌==◌, max, true, false, if◌then◌else◌, List, ◌++◌, length, Some, slice_get, refl, sym}
+use Rattle.am_stands.proofs.Words.{ap, ◌∙◌, subst, arith, nat_tests, Entry, Stamp, Event, Begins, Group, put, with_node, Node, set_at, has_departed, Step}
+use Rattle.am_stands.proofs.Words.{Decided, World, group_after, views_after, with_step, up_to_next, line_of, split, NameStands, FrontsStand, ViewsStand, Stands}
+use Rattle.am_stands.proofs.Words.{Moves, none, moves, Leads, Accepts, no_more, rises, Learns, departed, bare, before_end, EndsStand}
 use Rattle.am_stands.specs.Ends.{learns}
 use Rattle.am_chain.specs.Group as groups
 use Rattle.am_chain.specs.Moves as group
-use Rattle.am_stands.proofs.Names.{no_move, one_move, views_noted}
-use Rattle.std.proofs.lemmas.List.{take-append-le}
-
--- ---- a longer group list
-
-pub taken_more : (n : ℕ) (old new : List Entry) → Begins old new → n ≤ length old → take n new ≡ take n old
-taken_more n old new h low = ap (take n) (sym h.same) ∙ take-append-le n old h.rest low
-
-pub name_grows : (w v : World) (i : ℕ) (m : Node) (a : groups.Node) → Begins w.group v.group → is_stopped v i ≡ is_stopped w i → NameStands w i m a
-    → NameStands v i m a
-name_grows w v i m a grows stopped h =
-    let low = h.begins.within in
-    let more = begins_length grows in
-    let same = taken_more m.core.log.start w.group v.group grows low in
-    record {
-      begins = record { within = omega arith; image = h.begins.image ∙ ap image_of (sym same) };
-      list = h.list ∙ ap (λ l. l ++ m.core.log.entries) (sym same);
-      flags = record { log_ = h.log_; stopped = h.stopped ∙ sym stopped; departed = h.departed; leaving = h.leaving };
-      promise = h.promise;
-      ballot = h.ballot;
-      start = h.start;
-    }
+use Rattle.am_stands.proofs.Names.{no_move, one_move, views_noted, taken_more, name_grows}
 
 -- ---- the world at the end
 
@@ -140,12 +118,6 @@ learn_stands w e name step s same h few (learns m) =
 
 -- ---- the end
 
--- what is learned looks at no group list but that after the step
-same_learns : (w : World) (s : Group) (g : List Entry) (name : ℕ) (n : Node) → Learns w s name n → Learns w (record s { group = g }) name n
-same_learns w s g name n (departed d) = departed d
-same_learns w s g name n (bare f) = bare f
-same_learns w s g name n (learns m) = learns (record { up = m.up; told = m.told; before = m.before; up_to = m.up_to; given = m.given; within = m.within })
-
 pub ends_stand : EndsStand
 unfolding with_step
 ends_stand w e name step s needs h =
@@ -159,5 +131,9 @@ ends_stand w e name step s needs h =
       views = views_grow w e name step s needs.grows needs.noted h.each h.views;
       group_ = refl;
     } in
-    let last = learn_stands w e name step t refl ended needs.few (same_learns w s g name n needs.learns) in
+    let last = learn_stands w e name step t refl ended needs.few (elim needs.learns [
+      | departed d ↦ departed d
+      | bare f ↦ bare f
+      | learns m ↦ learns (record { up = m.up; told = m.told; before = m.before; up_to = m.up_to; given = m.given; within = m.within })
+    ]) in
     record { to = last.to; path = then_moves path last.path; is = last.is }

@@ -1,11 +1,10 @@
 -- The changes of a node that make its list longer, or let it begin, as moves of the group.
 use Rattle.am_stands.proofs.Words.{numbers_plain, same_stamp, ◌≡◌, ◌≢◌, ℕ, ◌<◌, ◌≤◌, ◌==◌, true, false, List, [], ◌∷◌, ◌++◌, length, take, Some, slice_get}
-use Rattle.am_stands.proofs.Words.{refl, sym, ap, ◌∙◌, subst, arith, nat_tests, append_assoc, Stamp, Image, Entry, View, rank_of, stamp_eq, Log, fits, Begins}
-use Rattle.am_stands.proofs.Words.{image_of, view_of, key, key_by, begins_trans, begins_more, Group, Views, put, opening, Move, with_node, with_line, longer}
-use Rattle.am_stands.proofs.Words.{put_same, Node, view, is_member, acts, is_sequencer, push_entry, has_log, has_departed, is_unfinished, is_view, Decided}
-use Rattle.am_stands.proofs.Words.{World, is_stopped, whole, up_to_next, line_of, split, and_both, begin_list, Cause, Numbers, NameStands, NotedStands}
-use Rattle.am_stands.proofs.Words.{ViewsStand, StandsBut, within, MoveOk, Leads, MayMove, NeedsNumber, IsOthers, NeedsEntry, NeedsPiece, NeedsWelcome}
-use Rattle.am_stands.proofs.Words.{FrontsBegin}
+use Rattle.am_stands.proofs.Words.{refl, sym, ap, ◌∙◌, subst, arith, nat_tests, append_assoc, Stamp, Image, Entry, View, stamp_eq, Log, fits, Begins, image_of}
+use Rattle.am_stands.proofs.Words.{view_of, key, key_by, begins_trans, begins_more, Group, Views, put, opening, Move, with_node, with_line, longer, put_same}
+use Rattle.am_stands.proofs.Words.{Node, view, is_member, acts, is_sequencer, push_entry, has_log, has_departed, is_unfinished, is_view, Decided, World}
+use Rattle.am_stands.proofs.Words.{is_stopped, whole, up_to_next, line_of, split, and_both, begin_list, Cause, Numbers, NameStands, NotedStands, ViewsStand}
+use Rattle.am_stands.proofs.Words.{StandsBut, within, MoveOk, Leads, MayMove, NeedsNumber, IsOthers, NeedsEntry, NeedsPiece, NeedsWelcome, FrontsBegin}
 use Rattle.std.proofs.lemmas.List.{append-nil}
 use Rattle.am_stands.specs.Steps.{of_line, of_shown}
 use Rattle.am_chain.specs.Group as groups
@@ -36,7 +35,12 @@ name_longer w name x y e a l h = record {
     image = subst (λ (g : Log). g.image ≡ image_of (take g.start w.group)) (sym l.log) h.begins.image;
   };
   list = ap (λ k. k ++ e ∷ []) h.list ∙ sym (whole_longer w name x y e l);
-  flags = assumption (h.log_ ∙ ap has_log (sym l.stays), h.departed ∙ ap has_departed (sym l.stays), h.leaving ∙ sym l.leaving);
+  flags = record {
+    log_ = h.log_ ∙ ap has_log (sym l.stays);
+    stopped = h.stopped;
+    departed = h.departed ∙ ap has_departed (sym l.stays);
+    leaving = h.leaving ∙ sym l.leaving;
+  };
   promise = h.promise ∙ sym l.promise;
   ballot = h.ballot ∙ ap is_unfinished (sym l.ballot);
   start = λ t. h.start (ap has_log (sym l.stays) ∙ t) ∙ sym l.start;

@@ -1,12 +1,12 @@
 -- What stands for a world goes on standing through an event that no node does.
-use Rattle.am_stands.proofs.Words.{◌≡◌, ℕ, ◌+◌, ◌≤◌, ◌==◌, ◌||◌, Bool, true, false, if◌then◌else◌, List, [], ◌∷◌, ◌++◌, refl, sym, ap, ◌∙◌, subst, arith}
-use Rattle.am_stands.proofs.Words.{length, take, list_any, nat_tests, list_any-append, Outcome, Entry, Event, image_of, Group, put, with_node, Node, set_at}
+use Rattle.am_stands.proofs.Words.{◌≡◌, ℕ, ◌+◌, ◌==◌, ◌||◌, Bool, true, false, if◌then◌else◌, List, [], ◌∷◌, ◌++◌, refl, sym, ap, ◌∙◌, subst, arith}
+use Rattle.am_stands.proofs.Words.{take, list_any, nat_tests, list_any-append, Outcome, Event, Group, put, with_node, Node, set_at}
 use Rattle.am_stands.proofs.Words.{has_departed, up_to_next, World, current, is_stopped, with_record, lives_on, split, actor, idles, returns, steps}
-use Rattle.am_stands.proofs.Words.{NameStands, FrontsStand, Stands, EventsStand, EventStands, no_move, stop}
+use Rattle.am_stands.proofs.Words.{NameStands, FrontsStand, Stands, EventsStand, EventStands, no_move, stop, begins_refl, Begins}
 use Rattle.am_laws.specs.Events.{stops}
 use Rattle.am_base.specs.declared.outcome.Outcome.TheVariants as said
 use Rattle.am_chain.specs.Group as groups
-use Rattle.am_stands.proofs.Names.{name_in, views_in}
+use Rattle.am_stands.proofs.Names.{name_in, views_in, name_to}
 
 -- ---- a record more
 
@@ -34,17 +34,7 @@ or_some false = refl
 
 with_stop : (w v : World) (i : ℕ) (m : Node) (a : groups.Node) → v.group ≡ w.group → is_stopped v i ≡ true → NameStands w i m a
     → NameStands v i m (record a { stopped = true })
-with_stop w v i m a group_ now h = record {
-  begins = record {
-    within = subst (λ (g : List Entry). m.core.log.start ≤ length g) (sym group_) h.begins.within;
-    image = h.begins.image ∙ ap (λ (g : List Entry). image_of (take m.core.log.start g)) (sym group_);
-  };
-  list = h.list ∙ ap (λ (g : List Entry). take m.core.log.start g ++ m.core.log.entries) (sym group_);
-  flags = record { log_ = h.log_; stopped = sym now; departed = h.departed; leaving = h.leaving };
-  promise = h.promise;
-  ballot = h.ballot;
-  start = h.start;
-}
+with_stop w v i m a group_ now h = name_to w v i m a true (subst (Begins w.group) (sym group_) (begins_refl w.group)) (sym now) h
 
 -- with a name that has stopped
 stopped_more : (w v : World) (name : ℕ) (s : Group) → v.nodes ≡ w.nodes → v.group ≡ w.group → v.views ≡ w.views → v.stopped ≡ w.stopped ++ name ∷ []

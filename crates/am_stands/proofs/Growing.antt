@@ -1,10 +1,9 @@
 -- With each move a group goes on as letters need it.
 use Rattle.am_stands.proofs.Words.{split, ◌≡◌, inl, inr, either, ℕ, ◌==◌, List, [], ◌∷◌, ◌++◌, length, take, true, false, Some, refl, sym, ap, ◌∙◌, subst}
 use Rattle.am_stands.proofs.Words.{arith, nat_tests, GroupView, Entry, Leave, Begins, view_of, key, begins_refl, begins_nil, begins_more, begins_trans}
-use Rattle.am_stands.proofs.Words.{begins_both, begins_take, length_take, Group, put, put2, opening, MayAccept, with_node, with_line, with_choice, choice_of}
-use Rattle.am_stands.proofs.Words.{longer, numbers, stores, accepts, learns, begins, raises, shows, serves, fetches, gives_over, welcomes, asks, departs}
-use Rattle.am_stands.proofs.Words.{closes, stops, Kept, own_above, put_at, put2_cases, NameGrows, NewView, Grows, MovesGrow}
-use Rattle.am_stands.proofs.Words.{◌≤◌, View, Move, own_stamp, begins_length}
+use Rattle.am_stands.proofs.Words.{begins_both, begins_take, length_take, Group, put, MayAccept, with_node, with_choice, choice_of, longer, numbers, stores}
+use Rattle.am_stands.proofs.Words.{accepts, learns, begins, raises, shows, serves, fetches, gives_over, welcomes, asks, departs, closes, stops, Kept, own_above}
+use Rattle.am_stands.proofs.Words.{put_at, put2_cases, NameGrows, NewView, Grows, MovesGrow, ◌≤◌, View, Move, own_stamp, begins_length}
 use Rattle.am_stands.specs.Growing.{DecidesNew}
 use Rattle.am_chain.specs.Group.{Leads}
 use Rattle.am_chain.specs.Moves.{decides}

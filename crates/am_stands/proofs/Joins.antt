@@ -1,11 +1,11 @@
 -- Where a name became a member of a list: its row tells the number.
-use Rattle.am_stands.proofs.Words.{same_name, split, ◌≡◌, ◌≢◌, ◌⊎◌, inl, inr, either, ℕ, ◌+◌, ◌<◌, ◌≤◌, ◌==◌, ◌&&◌, not, nat_lt, true, false, List, [], ◌∷◌}
+use Rattle.am_stands.proofs.Words.{same_name, split, ◌≡◌, ◌⊎◌, inl, inr, either, ℕ, ◌+◌, ◌<◌, ◌≤◌, ◌==◌, ◌&&◌, not, nat_lt, true, false, List, [], ◌∷◌}
 use Rattle.am_stands.proofs.Words.{◌++◌, length, take, slice_index, refl, sym, ap, ◌∙◌, subst, arith, nat_tests, append_assoc, Entry, Data, Join, Leave, View}
 use Rattle.am_stands.proofs.Words.{Row, Image, place_of, life_of, has, is_blank, at_place, row_of, member_life, members_of, with_row, row_after_view, fits}
-use Rattle.am_stands.proofs.Words.{after, Begins, IsGood, image_of, mem, begins_refl, begins_more, begins_both, begins_length, length_push, take_begins}
+use Rattle.am_stands.proofs.Words.{after, Begins, IsGood, image_of, mem, begins_refl, begins_more, begins_both, length_push, take_begins}
 use Rattle.am_stands.proofs.Words.{and_left, row_at, row_view, In, Past, Was, mod16, row_set, blank_joined, past_after, not_both, view_parts, good_begins}
 use Rattle.am_stands.proofs.Words.{told_push, last_fits, long_told, mem_in, in_mem, mem_nil, viewed_mem, was_begins, is_view}
-use Rattle.am_stands.proofs.Ends.{taken_more}
+use Rattle.am_stands.proofs.Names.{taken_more}
 use Rattle.am_stands.proofs.Growing.{nil_begun}
 
 -- ---- a Join

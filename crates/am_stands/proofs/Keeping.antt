@@ -1,14 +1,13 @@
 -- What a node keeps besides what it shares with the group, and what is known of it within a step.
-use Rattle.am_stands.proofs.Words.{not-true, same_stamp, ◌≡◌, ℕ, ◌<◌, ◌==◌, ◌||◌, not, max, true, false, List, Some, refl, sym, ap, ◌∙◌, subst, arith}
-use Rattle.am_stands.proofs.Words.{nat_tests, Entry, View, Image, Vote, GroupView, Stamp, Outcome, Rules, IsSet, has, stamp_eq, members_of, IsGood, mem, key}
-use Rattle.am_stands.proofs.Words.{good_begins, view_small, Group, IsUp, chain_of, Kept, Status, Node, Ballot, view, members, is_member, is_asking}
-use Rattle.am_stands.proofs.Words.{is_sequencer, acts, lowest_or_first, has_log, has_departed, Verdict, is_unfinished, hears_member, hears_sequencer, World}
-use Rattle.am_stands.proofs.Words.{is_stopped, split, and_both, Cause, hears, Balloting, Looks, decides, with_more, without_one, as_it_is, Numbers, MayStore}
-use Rattle.am_stands.proofs.Words.{MayBeWelcomed, Fetches, Promises, invited, overtaken, told_result, Carries, whole_entry, by_number, Change, begins_list}
-use Rattle.am_stands.proofs.Words.{looks, stores_view, looked_vote, told_used, OpenBallot, looked_at, MaySend, body_of_sent, NameStands, within, WasAsked}
-use Rattle.am_stands.proofs.Words.{BodiesAsked, WasBegun, MayMove, NeedsNumber, NeedsEntry, NeedsWelcome, Needs, NeedsLook, NeedsPiece, KeptWhole, BallotStands}
-use Rattle.am_stands.proofs.Words.{LastStands, Stepping, ◌≤◌, take, stamp_lt, begins_trans, begins_take, begins_length, length_take, take_begins, key_lt}
-use Rattle.am_stands.proofs.Words.{equal_stamps, WelcomeSays}
+use Rattle.am_stands.proofs.Words.{not-true, same_stamp, ◌≡◌, ℕ, ◌<◌, ◌==◌, ◌||◌, not, max, true, false, List, refl, sym, ap, ◌∙◌, subst, arith, nat_tests}
+use Rattle.am_stands.proofs.Words.{Entry, View, Image, Vote, GroupView, Stamp, Outcome, Rules, IsSet, has, stamp_eq, members_of, IsGood, mem, key, good_begins}
+use Rattle.am_stands.proofs.Words.{view_small, Group, IsUp, chain_of, Kept, Status, Node, Ballot, view, members, is_member, is_asking, is_sequencer, acts}
+use Rattle.am_stands.proofs.Words.{lowest_or_first, has_log, has_departed, Verdict, is_unfinished, hears_member, hears_sequencer, World, is_stopped, split}
+use Rattle.am_stands.proofs.Words.{and_both, Cause, hears, Balloting, Looks, decides, with_more, without_one, as_it_is, Numbers, MayStore, MayBeWelcomed}
+use Rattle.am_stands.proofs.Words.{Fetches, Promises, invited, overtaken, told_result, Carries, whole_entry, by_number, Change, begins_list, looks, stores_view}
+use Rattle.am_stands.proofs.Words.{looked_vote, told_used, OpenBallot, looked_at, MaySend, body_of_sent, NameStands, within, WasAsked, BodiesAsked, WasBegun}
+use Rattle.am_stands.proofs.Words.{MayMove, NeedsNumber, NeedsEntry, NeedsWelcome, Needs, NeedsLook, NeedsPiece, KeptWhole, BallotStands, LastStands, Stepping}
+use Rattle.am_stands.proofs.Words.{◌≤◌, take, stamp_lt, begins_trans, begins_take, begins_length, length_take, take_begins, key_lt, equal_stamps, WelcomeSays}
 use Rattle.am_laws.specs.Changes.{numbers, stores, fetches, closes}
 use Rattle.am_packet.specs.declared.packet.Packet.TheVariants as packet
 use Rattle.am_model.specs.declared.status.Status.TheVariants as status
@@ -240,7 +239,8 @@ module _ (rules : Rules) (w : World) (name : ℕ) (c : Cause) (x : Node) (s : Gr
       → stamp_eq v x.core.promise ≡ true → Fetches x from v e → MayStore x (max x.core.base base) base number e → NeedsPiece s name x e
   fetch_ok from v base number e is heard promise why may =
       let o = other_heard from heard in
-      piece_needs w name from base number x v e s (assumption (whole, h, o)) o.0 (sym (same_stamp v x.core.promise promise)) why may (h.heard (packet.Piece from v base number e) is).says.1
+      piece_needs w name from base number x v e s (assumption (whole, h, o)) o.0 (sym (same_stamp v x.core.promise promise)) why may
+      (h.heard (packet.Piece from v base number e) is).says.1
 
   result_ok : (from base number : ℕ) (v : GroupView) → c ≡ hears (packet.Result from base number v)
       → hears_member x from ≡ true → (v.stamp.by == from) ≡ true → (v.stamp.by == x.core.who) ≡ false → x.core.promise ≡ v.stamp

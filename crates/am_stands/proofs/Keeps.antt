@@ -297,12 +297,6 @@ keeps_look : (rules : Rules) (w v : World) (name : ℕ) (c : Cause) (x : Node) (
 keeps_look rules w v name c x s t b verdict q why (finds_itself_out a) later =
     looked_plain q (ballots_grow w s t verdict.node.ballot q.g (looked rules w name c x s q.h b verdict why (finds_itself_out a)))
     (over_none rules w name c x s q.h b why verdict.node _ refl) refl refl refl refl refl refl refl
-keeps_look rules w v name c x s t b verdict q why (waits a d) later =
-    looked_plain q (ballots_grow w s t verdict.node.ballot q.g (looked rules w name c x s q.h b verdict why (waits a d)))
-    (open_same rules w name c x s q.h b why verdict.node refl refl) refl refl refl refl refl refl refl
-keeps_look rules w v name c x s t b verdict q why (fetches_from_best a d e) later =
-    looked_plain q (ballots_grow w s t verdict.node.ballot q.g (looked rules w name c x s q.h b verdict why (fetches_from_best a d e)))
-    (open_same rules w name c x s q.h b why verdict.node refl refl) refl refl refl refl refl refl refl
 keeps_look rules w v name c x s t b verdict q why (finds_too_few a d) later =
     looked_plain q (ballots_grow w s t verdict.node.ballot q.g (looked rules w name c x s q.h b verdict why (finds_too_few a d)))
     (over_none rules w name c x s q.h b why verdict.node _ refl) refl refl refl refl refl refl refl
@@ -318,6 +312,9 @@ keeps_look rules w v name c x s t b verdict q why (decides may) later =
     (reporting_anew t.node (t.node name).list y.core.base (base_within q later))
     (λ j new_. split (nat_lt j 256) (λ u. rw u (omega arith)) (λ f. rw f (omega arith)))
     (trimmed_grow w s t y.core.base q.g (trimmed_votes rules w name c x s q.h b why may.learned)) (turn_same q refl refl) (leaves_same q refl refl)
+keeps_look rules w v name c x s t b verdict q why look later =
+    looked_plain q (ballots_grow w s t verdict.node.ballot q.g (looked rules w name c x s q.h b verdict why look))
+    (open_same rules w name c x s q.h b why verdict.node refl refl) refl refl refl refl refl refl refl
 
 -- its own sends, where one is settled
 settled_turns : (rules : Rules) (w : World) (name : ℕ) (c : Cause) (x : Node) (s t : Group) (h : Stepping rules w name c x s) → Grows s t

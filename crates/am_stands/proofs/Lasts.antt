@@ -1,8 +1,8 @@
 -- The last member's own Leave is accepted as far as enough names hold it.
 use Rattle.am_stands.proofs.Words.{split, ◌≡◌, ◌≢◌, ℕ, ◌+◌, ◌<◌, ◌≤◌, ◌==◌, ◌&&◌, not, max, nat_lt, Bool, true, false, List, [], ◌∷◌, ◌++◌, length, take, set}
 use Rattle.am_stands.proofs.Words.{get_or, slice_index, refl, sym, ap, ◌∙◌, subst, arith, nat_tests, length-append, length-map, get_or-set_other, Entry}
-use Rattle.am_stands.proofs.Words.{Leave, Stamp, place_of, life_of, has, size, stamp_eq, member_life, members_of, told_by, CoreState, Begins, image_of, mem}
-use Rattle.am_stands.proofs.Words.{begins_refl, begins_more, begins_trans, begins_length, begins_both, begins_take, length_take, mod16, good_push, long_told}
+use Rattle.am_stands.proofs.Words.{Leave, place_of, life_of, has, size, stamp_eq, member_life, members_of, told_by, CoreState, Begins, image_of, mem}
+use Rattle.am_stands.proofs.Words.{begins_refl, begins_more, begins_trans, begins_length, begins_both, begins_take, length_take, good_push, long_told}
 use Rattle.am_stands.proofs.Words.{Group, put, MayAccept, longer, Kept, put_same, put_at, Node, view, others, is_member, is_sequencer, push_entry, refresh}
 use Rattle.am_stands.proofs.Words.{refresh_at_end, Decided, World, group_with, group_after, views_after, some_size, rests_refresh, settle_is, leads_rests}
 use Rattle.am_stands.proofs.Words.{leads_pushed, view_pushed, leave_fits, NameStands, within, NeedsClose, after_closing, CountsNames, MayCount, CountsAmong}

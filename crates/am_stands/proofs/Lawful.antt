@@ -1,8 +1,7 @@
 -- As long as nobody stops, no move makes a run unlawful.
-use Rattle.am_base.specs.declared.entry.GroupView.{GroupView}
-use Rattle.am_stands.proofs.Words.{split, ◌≡◌, inl, ℕ, ◌==◌, ◌&&◌, ◌||◌, not, nat_lt, Bool, true, false, length, refl, sym, ap, ◌∙◌, subst, arith, nat_tests}
-use Rattle.am_stands.proofs.Words.{has, key, Group, Chosen, put, opening, Move, with_choice, choice_of, longer, numbers, stores, learns, begins, raises}
-use Rattle.am_stands.proofs.Words.{fetches, gives_over, welcomes, asks, departs, closes, stops, more, counts_for, IsLawful, Kept, put_at, count_within}
+use Rattle.am_stands.proofs.Words.{GroupView, split, ◌≡◌, inl, ℕ, ◌==◌, ◌&&◌, ◌||◌, not, nat_lt, Bool, true, false, length, refl, sym, ap, ◌∙◌, subst, arith}
+use Rattle.am_stands.proofs.Words.{nat_tests, has, key, Group, Chosen, put, opening, Move, with_choice, choice_of, longer, numbers, stores, learns, begins}
+use Rattle.am_stands.proofs.Words.{raises, fetches, gives_over, welcomes, asks, departs, closes, stops, more, counts_for, IsLawful, Kept, put_at, count_within}
 use Rattle.am_stands.proofs.Words.{run_keeps, IsNoStop, RunsGoOn}
 use Rattle.am_chain.specs.Moves.{decides}
 use Rattle.am_chain.specs.Group as groups

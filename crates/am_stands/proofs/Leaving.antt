@@ -1,5 +1,5 @@
 -- Where a name left a list: its row tells the number, and there stands its Leave, or a View that left it out.
-use Rattle.am_stands.proofs.Words.{same_name, split, ◌≡◌, ◌≢◌, either, ℕ, ◌+◌, ◌<◌, ◌==◌, ◌&&◌, not, nat_lt, true, false, if◌then◌else◌, List, [], ◌∷◌, ◌++◌}
+use Rattle.am_stands.proofs.Words.{same_name, split, ◌≡◌, either, ℕ, ◌+◌, ◌<◌, ◌==◌, ◌&&◌, not, nat_lt, true, false, if◌then◌else◌, List, [], ◌∷◌, ◌++◌}
 use Rattle.am_stands.proofs.Words.{length, slice_index, refl, sym, ap, ◌∙◌, subst, arith, nat_tests, append_assoc, get_or-replicate, Entry, Data, Join, Leave}
 use Rattle.am_stands.proofs.Words.{View, Row, Image, GroupView, place_of, life_of, has, blank_row, is_blank, at_place, row_of, member_life, with_row}
 use Rattle.am_stands.proofs.Words.{row_after_view, after, fold, Begins, image_of, mem, begins_refl, begins_more, begins_trans, row_at, row_view, In, mod16}

@@ -4,8 +4,7 @@ use Rattle.am_stands.proofs.Words.{GroupView, has, Begins, NotView, mem, view_of
 use Rattle.am_stands.proofs.Words.{good_begins, leaver_in, leaver_out, mem_between, mem_nil, Group, put, opening, chain_of, Move, MayDecide, with_line}
 use Rattle.am_stands.proofs.Words.{with_choice, choice_of, longer, numbers, stores, learns, begins, raises, fetches, gives_over, welcomes, asks, departs}
 use Rattle.am_stands.proofs.Words.{closes, stops, Kept, IsLawful, founded, more, start, put_same, put_at, list_chain, departed_in, run_keeps, LeftOut}
-use Rattle.am_stands.proofs.Words.{RunsLeaveOut, first_choice, ◌≢◌, ◌+◌, ◌<◌, nat_tests, Stamp, own_stamp, first_stamp, put_cases, HasRound, RoundsOk}
-use Rattle.am_stands.proofs.Words.{RunsHaveRounds}
+use Rattle.am_stands.proofs.Words.{RunsLeaveOut, first_choice, ◌+◌, ◌<◌, nat_tests, Stamp, first_stamp, put_cases, HasRound, RoundsOk, RunsHaveRounds}
 use Rattle.am_chain.specs.Group.{Leads}
 use Rattle.am_chain.specs.Moves.{decides}
 use Rattle.am_chain.specs.Group as groups

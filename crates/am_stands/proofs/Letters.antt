@@ -5,8 +5,8 @@ use Rattle.am_stands.proofs.Words.{Ack, Nack, Welcome, LeaveAsk, Gone, VoteOf, F
 use Rattle.am_stands.proofs.Words.{begins_take, begins_both, begins_length, Group, Chosen, IsThere, World, get_front, line, AllShown, Trimmed, SequencerSays}
 use Rattle.am_stands.proofs.Words.{EntrySays, WasAsked, ReportSays, LeaverSays, of_view, before_it, WelcomeSays, WelcomeTo, has_begun, has_gone, has_left}
 use Rattle.am_stands.proofs.Words.{is_leaving, may_begin, GoneSays, has_stopped, may_go, VoteSays, own, tells, over_vote, FetchSays, for_ballot, of_promise}
-use Rattle.am_stands.proofs.Words.{PieceSays, of_line, of_shown, over, NewView, Grows, LettersStay}
-use Rattle.am_stands.proofs.Ends.{taken_more}
+use Rattle.am_stands.proofs.Words.{PieceSays, of_line, of_shown, over, Grows, LettersStay}
+use Rattle.am_stands.proofs.Names.{taken_more}
 
 -- ---- lists
 

@@ -2,8 +2,9 @@
 use Rattle.am_stands.proofs.Words.{◌≡◌, ◌≢◌, ℕ, ◌<◌, ◌≤◌, ◌==◌, false, List, ◌++◌, length, take, slice_get, refl, sym, ap, ◌∙◌, subst, arith, Some, nat_tests}
 use Rattle.am_stands.proofs.Words.{Stamp, Entry, Log, Begins, image_of, key, Group, Views, put, opening, Move, Node, has_departed, Decided, World, is_stopped}
 use Rattle.am_stands.proofs.Words.{up_to_next, line_of, split, NameStands, NotedStands, FrontsStand, ViewsStand, StandsBut, within, FrontsStay, MoveOk, none}
-use Rattle.am_stands.proofs.Words.{moves, Leads}
+use Rattle.am_stands.proofs.Words.{moves, Leads, begins_length, begins_refl, Bool, BeginsIn}
 use Rattle.am_chain.specs.Group as groups
+use Rattle.std.proofs.lemmas.List.{take-append-le}
 
 -- ---- moves in turn
 
@@ -28,19 +29,27 @@ onto_move name v s t move ok b is told_ acc_ h = one_move (λ u. StandsBut name 
 
 -- ---- one name
 
--- in another world with the same group list
+-- ---- a longer group list
+
+pub taken_more : (n : ℕ) (old new : List Entry) → Begins old new → n ≤ length old → take n new ≡ take n old
+taken_more n old new h low = ap (take n) (sym h.same) ∙ take-append-le n old h.rest low
+
+-- in another world, whose group list goes on, where it stopped or not
+pub name_to : (w v : World) (i : ℕ) (m : Node) (a : groups.Node) (stops : Bool) → Begins w.group v.group → stops ≡ is_stopped v i → NameStands w i m a
+    → NameStands v i m (record a { stopped = stops })
+name_to w v i m a stops grows now h =
+    let more = begins_length grows in
+    let same = taken_more m.core.log.start w.group v.group grows h.begins.within in
+    let begins : BeginsIn v m.core.log = record { within = omega arith; image = h.begins.image ∙ ap image_of (sym same) } in
+    assumption (h.list ∙ ap (λ (l : List Entry). l ++ m.core.log.entries) (sym same))
+
+pub name_grows : (w v : World) (i : ℕ) (m : Node) (a : groups.Node) → Begins w.group v.group → is_stopped v i ≡ is_stopped w i → NameStands w i m a
+    → NameStands v i m a
+name_grows w v i m a grows stopped h = name_to w v i m a a.stopped grows (h.stopped ∙ sym stopped) h
+
+-- and with the same group list
 pub name_in : (w v : World) (i : ℕ) (m : Node) (a : groups.Node) → v.group ≡ w.group → is_stopped v i ≡ is_stopped w i → NameStands w i m a → NameStands v i m a
-name_in w v i m a group stopped h = record {
-  begins = record {
-    within = subst (λ (g : List Entry). m.core.log.start ≤ length g) (sym group) h.begins.within;
-    image = h.begins.image ∙ ap (λ (g : List Entry). image_of (take m.core.log.start g)) (sym group);
-  };
-  list = h.list ∙ ap (λ (g : List Entry). take m.core.log.start g ++ m.core.log.entries) (sym group);
-  flags = record { log_ = h.log_; stopped = h.stopped ∙ sym stopped; departed = h.departed; leaving = h.leaving };
-  promise = h.promise;
-  ballot = h.ballot;
-  start = h.start;
-}
+name_in w v i m a group stopped h = name_grows w v i m a (subst (Begins w.group) (sym group) (begins_refl w.group)) stopped h
 
 -- ---- views
 

@@ -1,5 +1,5 @@
 -- Whose own Leave isn't in its list is still a member there, if it ever was.
-use Rattle.am_stands.proofs.Words.{split, ◌≡◌, ◌≢◌, ◌⊎◌, inl, inr, either, ℕ, ◌+◌, ◌==◌, ◌&&◌, not, nat_lt, List, [], ◌∷◌, ◌++◌, length, true, false}
+use Rattle.am_stands.proofs.Words.{split, ◌≡◌, ◌⊎◌, inl, inr, either, ℕ, ◌+◌, ◌==◌, ◌&&◌, not, nat_lt, List, [], ◌∷◌, ◌++◌, length, true, false}
 use Rattle.am_stands.proofs.Words.{slice_index, refl, sym, ap, ◌∙◌, subst, arith, nat_tests, Entry, Data, Join, Leave, View, GroupView, Row, Image, place_of}
 use Rattle.am_stands.proofs.Words.{life_of, is_blank, at_place, row_of, member_life, with_row, row_after_view, after, Begins, BeginsBelow, IsGood, image_of}
 use Rattle.am_stands.proofs.Words.{mem, begins_same, begins_pushed, row_at, In, mod16, row_set, row_view, blank_joined, good_begins, told_push, long_told}

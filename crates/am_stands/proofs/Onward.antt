@@ -1,6 +1,6 @@
 -- Moves in turn, as a step makes them, keep what the group keeps.
 use Rattle.am_stands.proofs.Words.{◌≡◌, inl, inr, either, ℕ, List, true, refl, sym, ◌∙◌, subst, arith, has, Begins, begins_trans, Group, Move, Kept}
-use Rattle.am_stands.proofs.Words.{run_keeps, MoveOk, Moves, none, moves, NewView, Grows, IsNoStop, KeptWhole, GroupOk}
+use Rattle.am_stands.proofs.Words.{run_keeps, MoveOk, Moves, none, moves, Grows, IsNoStop, KeptWhole, GroupOk}
 use Rattle.am_chain.specs.Group as groups
 use Rattle.am_chain.specs.Moves as group
 use Rattle.am_stands.proofs.{Branches.moves_branch, Branches.decisions_are_new, ChainNames.moves_named, Growing.same_name, Growing.grows_names}

@@ -1,7 +1,7 @@
 -- What begins the line of a decided view begins the line of its own last View's, in every lawful run of the group.
-use Rattle.am_stands.proofs.Words.{◌≡◌, ◌≢◌, either, ℕ, ◌==◌, List, [], ◌∷◌, ◌++◌, true, refl, sym, ap, ◌∙◌, subst, arith, nat_tests, Entry, Leave, View}
+use Rattle.am_stands.proofs.Words.{◌≡◌, ◌≢◌, either, ℕ, ◌==◌, List, [], ◌∷◌, ◌++◌, true, refl, sym, ap, ◌∙◌, subst, arith, Entry, Leave, View}
 use Rattle.am_stands.proofs.Words.{GroupView, Stamp, Begins, NotView, view_of, key, view_viewed, view_push, begins_refl, begins_more, begins_trans}
-use Rattle.am_stands.proofs.Words.{begins_pushed, begins_length, Group, put, opening, IsUp, Move, MayNumber, MayDecide, with_line, with_choice, choice_of}
+use Rattle.am_stands.proofs.Words.{begins_pushed, Group, put, opening, IsUp, Move, MayNumber, MayDecide, with_line, with_choice, choice_of}
 use Rattle.am_stands.proofs.Words.{longer, numbers, closes, Kept, founded, more, start, first_stamp, put_same, put_other, put_cases, put_at, run_keeps}
 use Rattle.am_stands.proofs.Words.{LineOpens, LinesOpen, RunsOpen, first_choice, equals_itself}
 use Rattle.am_chain.specs.Group.{Leads}

@@ -10,7 +10,7 @@ use Rattle.am_base.specs.declared.outcome.Outcome.TheVariants as said
 use Rattle.am_chain.specs.Group as groups
 use Rattle.am_chain.specs.Moves as group
 use Rattle.am_model.specs.Node as nodes
-use Rattle.am_stands.proofs.{Courses.bare_status, Worlds.growing, Worlds.grown_stands, Worlds.same_stands, Worlds.learned, Worlds.learned_stands}
+use Rattle.am_stands.proofs.{Courses.bare_status, Worlds.growing, Worlds.grown_stands, Changes.same_stands, Worlds.learned, Worlds.learned_stands}
 use Rattle.am_stands.proofs.{Worlds.once_in}
 
 -- ---- how far a name was told, and gives out, within its step

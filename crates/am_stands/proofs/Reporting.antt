@@ -1,5 +1,5 @@
 -- What is reported to a node stays true through each of its changes.
-use Rattle.am_stands.proofs.Words.{◌≡◌, ◌≢◌, ◌⊎◌, inl, inr, either, ℕ, ◌+◌, ◌<◌, ◌≤◌, ◌==◌, ◌&&◌, max, not, nat_lt, Bool, true, false, List, [], ◌∷◌, ◌++◌}
+use Rattle.am_stands.proofs.Words.{◌≡◌, ◌⊎◌, inl, inr, either, ℕ, ◌+◌, ◌<◌, ◌≤◌, ◌==◌, ◌&&◌, max, not, nat_lt, Bool, true, false, List, [], ◌∷◌, ◌++◌}
 use Rattle.am_stands.proofs.Words.{length, take, slice_index, refl, sym, ap, ◌∙◌, subst, arith, nat_tests, Entry, Data, Join, Leave, View, Report, Row, Image}
 use Rattle.am_stands.proofs.Words.{GroupView, Stamp, place_of, life_of, is_blank, at_place, row_of, member_life, with_row, row_after_view, fits, after}
 use Rattle.am_stands.proofs.Words.{after_report, with_admitted, reports_from, Begins, IsGood, image_of, mem, view_of, key, begins_refl, begins_more}
@@ -9,7 +9,7 @@ use Rattle.am_stands.proofs.Words.{opening, is_view, split, after_same, line, Is
 use Rattle.am_stands.proofs.Words.{IsNew, NotView, low_or_above}
 use Rattle.am_chain.specs.Group as groups
 use Rattle.am_stands.proofs.{Joins.Becomes, Joins.stayed, Joins.joins, Joins.founds, Joins.became, Joins.blank_nil, Parts.number_low, Parts.view_its}
-use Rattle.am_stands.proofs.{Sending.last_view_at, Ends.taken_more}
+use Rattle.am_stands.proofs.{Sending.last_view_at, Names.taken_more}
 
 -- ---- who is concerned by a list with one entry more, and what is reported of it
 

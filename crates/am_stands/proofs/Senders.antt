@@ -4,10 +4,10 @@ use Rattle.am_stands.proofs.StepWords.{Rules, entry_at, key, Group, IsThere, IsU
 use Rattle.am_stands.proofs.StepWords.{World, split, Cause, all_get, logged, OpenBallot, leads_member, IsNoted, AllViews, IsBegun, AllBegun, EntrySent}
 use Rattle.am_stands.proofs.StepWords.{SendSent, WasSent, NameStands, FrontsStand, Stands, WasAsked, AllShown, NamesNamed, OwnDecided, FetchesStand}
 use Rattle.am_stands.proofs.StepWords.{NumbersStand, ListBegins, LeaderStands, BallotStands, SendsStand, Sender, Stepping, front_named, rows_live}
-use Rattle.am_stands.proofs.StepWords.{concerned_small, key_stamp, kept, whole, Speaks, leading, none_of_asking, not-true, same_stamp, zero, suc, ◌+◌, ◌-◌}
+use Rattle.am_stands.proofs.StepWords.{concerned_small, key_stamp, kept, whole, Speaks, leading, none_of_asking, same_stamp, zero, suc, ◌+◌, ◌-◌}
 use Rattle.am_stands.proofs.StepWords.{◌||◌, not, nat_le, [], ◌∷◌, Some, refl, nat_tests, Image, Entry, View, Outcome, stamp_eq, Log, top_of, told_by, after}
 use Rattle.am_stands.proofs.StepWords.{fold, view_grows, Ballot, acts, is_member, is_asking, Verdict, is_view, and_both, Looks, finds_itself_out, Change}
-use Rattle.am_stands.proofs.StepWords.{refreshes, settles, begins_list, promises, opens, looks, stores_view, closes, Changes, unchanged, changed, rests_refresh}
+use Rattle.am_stands.proofs.StepWords.{refreshes, settles, begins_list, promises, opens, looks, closes, Changes, unchanged, changed, rests_refresh}
 use Rattle.am_stands.proofs.StepWords.{rests_closed, settle_is, along, HeardNames, HeardUsed, Along, along_changes, view_its}
 use Rattle.am_packet.specs.declared.packet.Packet.TheVariants as packet
 use Rattle.am_stands.proofs.{Starting.begun_stands}

@@ -5,7 +5,7 @@ use Rattle.am_stands.proofs.Words.{entry_at, image_at, fold, Packet, Begins, mem
 use Rattle.am_stands.proofs.Words.{Status, Node, view, is_member, acts, is_sequencer, only_name, has_log, has_departed, own_vote, may_fetch, viewed_by, World}
 use Rattle.am_stands.proofs.Words.{split, and_both, Cause, hears, MayFetch, MayTell, leads, decided, request, spread, bcast, order, ack, nack, welcome}
 use Rattle.am_stands.proofs.Words.{leave_ask, gone, vote, fetch, piece, result, logged, IsDecided, AllShown, FetchSays, PacketSays, ResultSays, none, Leads}
-use Rattle.am_stands.proofs.Words.{KeptWhole, ListBegins, as_before, just_begun, Sender, ShowsMore, SaysSo, SentSays, suc, ◌+◌, ◌-◌, ◌++◌, Some, slice_get}
+use Rattle.am_stands.proofs.Words.{KeptWhole, as_before, just_begun, Sender, ShowsMore, SaysSo, SentSays, suc, ◌+◌, ◌-◌, ◌++◌, Some, slice_get}
 use Rattle.am_stands.proofs.Words.{list_any, View, GroupView, after, item_at, IsGood, image_of, next_of, told_push, view_viewed, is_view, after_same}
 use Rattle.am_stands.proofs.Words.{after_view, OwnDecided, stamp_itself}
 use Rattle.am_laws.specs.Letters.{for_ballot, of_promise, accept}

@@ -1,5 +1,5 @@
 -- What a sender says is so.
-use Rattle.am_stands.proofs.Words.{same_stamp, ◌≡◌, either, ℕ, suc, ◌+◌, ◌<◌, ◌≤◌, ◌==◌, List, [], ◌∷◌, ◌++◌, length, take, true, Some, slice_get, sym, ap}
+use Rattle.am_stands.proofs.Words.{same_stamp, ◌≡◌, either, ℕ, suc, ◌+◌, ◌≤◌, ◌==◌, List, [], ◌∷◌, ◌++◌, length, take, true, Some, slice_get, sym, ap}
 use Rattle.am_stands.proofs.Words.{◌∙◌, subst, arith, cases_lt, length-take, nat_tests, Entry, Stamp, Image, stamp_eq, item_at, Begins, IsGood, view_of, key}
 use Rattle.am_stands.proofs.Words.{begins_trans, take_begins, begins_refl, Group, IsUp, chain_of, Kept, Node, view, is_member, acts, is_sequencer, World}
 use Rattle.am_stands.proofs.Words.{split, and_both, NameStands, FrontsStand, line, IsDecided, SequencerSays, EntrySays, ReportSays, LeaverSays, of_view}

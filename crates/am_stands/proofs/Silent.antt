@@ -3,13 +3,12 @@ use Rattle.am_stands.proofs.Words.{and-false, ◌≡◌, ℕ, nat_lt, ◌==◌, 
 use Rattle.am_stands.proofs.Words.{State, Ask, GiveUp, Tick, Hear, Packet, Read, reading, Departed, Node, Ballot, is_member, is_sequencer, is_unfinished}
 use Rattle.am_stands.proofs.Words.{join_by, state_by, leave_by, send_row, take_row, join_row, state_row, leave_row, reset_row, ask_row, ask_of, give_up_row}
 use Rattle.am_stands.proofs.Words.{give_up_of, done_row, tick_row, tick_by, hear_row, hears_member, hears_asking, refresh_at_end, Plan, quiet, finish, row}
-use Rattle.am_stands.proofs.Words.{read_row, step, hear, hear_refusal, split, rests_at_end, DepartedSilent}
+use Rattle.am_stands.proofs.Words.{read_row, step, hear, hear_refusal, split, rests_at_end, DepartedSilent, Stamp, stamp_of}
 use Rattle.am_base.specs.declared.event.NodeEvent.TheVariants.{Join, Leave}
 use Rattle.am_base.specs.declared.outcome.Outcome.TheVariants as said
-use Rattle.am_base.specs.declared.name.Stamp.{Stamp}
 use Rattle.am_packet.specs.declared.kind.Gate.{Gate}
 use Rattle.am_packet.specs.declared.kind.Gate.TheVariants as gates
-use Rattle.am_packet.specs.{Kinds.table, Kinds.head_of, Spelling.sender_of, Spelling.stamp_of}
+use Rattle.am_packet.specs.{Kinds.table, Kinds.head_of, Spelling.sender_of}
 use Rattle.am_model.specs.Hearing.{passes}
 
 -- a plan of who has departed, with no letter

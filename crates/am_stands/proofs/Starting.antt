@@ -1,16 +1,15 @@
 -- What is known where a step begins: what the run keeps, with the step's record.
-use Rattle.am_stands.proofs.StepWords.{◌≡◌, either, ℕ, zero, suc, ◌<◌, ◌≤◌, ◌==◌, true, false, List, Some, slice_get, slice_index, get_or-set_same, refl, sym}
-use Rattle.am_stands.proofs.StepWords.{ap, ◌∙◌, subst, arith, All, nat_tests, Stamp, NodeEvent, GiveUp, Rules, MayFound, place_of, life_of, nobody, with_name}
-use Rattle.am_stands.proofs.StepWords.{has, no_stamp, Packet, Letter, goes_to_any, Act, Event, Record, item_at, key, begins_refl, Group, Node, set_at}
-use Rattle.am_stands.proofs.StepWords.{has_departed, Step, World, start, is_stopped, run, heard_by, split, Cause, calls, hears, Effect, actor, WasSentTo}
-use Rattle.am_stands.proofs.StepWords.{IsCall, IsCause, all_get, all_item, runs_keep, stamp_of, few_names, numbers_hold, IsNoted, heard_names, AllOwned}
-use Rattle.am_stands.proofs.StepWords.{run_owned, each_along, heard_used, kept_more, AllSent, after_step, sent_start, AtMost, IsBegun, StampOk, NameStands}
-use Rattle.am_stands.proofs.StepWords.{StandsBut, Stands, within, PacketSays, LetterSays, WasBegun, HeardSo, Stepping, Following, letters_stay, name_in}
-use Rattle.am_stands.proofs.StepWords.{views_in, grows_same, others_keep, not_above_key, All-nil, All-append, All-weaker, with_record, with_step, steps}
-use Rattle.am_stands.proofs.StepWords.{EachKeeps, ◌||◌, [], ◌∷◌, ◌++◌, list_any, list_any-append, current, idles, stops, returns, AllNamed, each_named}
-use Rattle.am_stands.proofs.StepWords.{start_named, idle_queues, ◌+◌, Outcome, Ballot, Verdict, record_of, Looks, finds_itself_out, Change, refreshes, settles}
-use Rattle.am_stands.proofs.StepWords.{looks, queues, collects, closes, Answers, WasQueued, AnswersAsk, rests_refresh, rests_closed, settle_is, along, AskedOk}
-use Rattle.am_stands.proofs.StepWords.{asked_more, asked_other, unique, SendsOnce}
+use Rattle.am_stands.proofs.StepWords.{◌≡◌, either, ℕ, zero, suc, ◌<◌, ◌≤◌, ◌==◌, true, false, List, Some, slice_get, refl, sym, ap, ◌∙◌, subst, arith, All}
+use Rattle.am_stands.proofs.StepWords.{nat_tests, Stamp, NodeEvent, GiveUp, Rules, MayFound, nobody, with_name, has, no_stamp, Packet, Letter, goes_to_any, Act}
+use Rattle.am_stands.proofs.StepWords.{Event, Record, item_at, key, begins_refl, Group, Node, set_at, has_departed, Step, World, start, is_stopped, run}
+use Rattle.am_stands.proofs.StepWords.{heard_by, split, Cause, calls, hears, Effect, actor, WasSentTo, IsCall, IsCause, all_get, all_item, runs_keep, stamp_of}
+use Rattle.am_stands.proofs.StepWords.{few_names, numbers_hold, IsNoted, heard_names, AllOwned, run_owned, each_along, heard_used, kept_more, AllSent}
+use Rattle.am_stands.proofs.StepWords.{after_step, sent_start, IsBegun, StampOk, NameStands, StandsBut, Stands, within, PacketSays, LetterSays, WasBegun}
+use Rattle.am_stands.proofs.StepWords.{HeardSo, Stepping, Following, letters_stay, name_in, views_in, grows_same, others_keep, not_above_key, All-nil}
+use Rattle.am_stands.proofs.StepWords.{All-append, All-weaker, with_record, with_step, steps, EachKeeps, ◌||◌, [], ◌∷◌, ◌++◌, list_any, list_any-append}
+use Rattle.am_stands.proofs.StepWords.{current, idles, stops, returns, AllNamed, each_named, start_named, idle_queues, ◌+◌, Outcome, Ballot, Verdict, record_of}
+use Rattle.am_stands.proofs.StepWords.{Looks, finds_itself_out, Change, refreshes, settles, looks, queues, collects, closes, Answers, rests_refresh}
+use Rattle.am_stands.proofs.StepWords.{rests_closed, settle_is, along, AskedOk, asked_more, asked_other, unique, SendsOnce}
 use Rattle.am_runs.proofs.SentRuns.{each_keeps}
 use Rattle.am_packet.specs.declared.packet.Packet.TheVariants as packet
 use Rattle.am_chain.specs.Group as groups

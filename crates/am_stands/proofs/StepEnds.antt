@@ -2,10 +2,9 @@
 use Rattle.am_stands.proofs.StepWords.{nothing_viewed, member_stays, not-true, logged, stamp_itself, same_stamp, ◌≡◌, ◌≢◌, either, ℕ, ◌<◌, ◌≤◌, ◌==◌, ◌&&◌, not}
 use Rattle.am_stands.proofs.StepWords.{true, false, List, [], ◌∷◌, ◌++◌, slice_get, Some, refl, sym, ap, ◌∙◌, subst, arith, nat_tests, Stamp, Entry, Outcome}
 use Rattle.am_stands.proofs.StepWords.{Rules, Log, told_by, members_of, stamp_lt, stamp_eq, no_stamp, view_of, key, view_small, Group, IsUp, Node, top, view}
-use Rattle.am_stands.proofs.StepWords.{image_of, is_member, has_log, has_departed, refresh, settle, Decided, World, group_after, views_after, split, and_both}
-use Rattle.am_stands.proofs.StepWords.{Cause, settles, rests_refresh, leads_rests, settle_is, not_above_itself, IsNoted, SameView, Stood, Goes, CauseSent}
-use Rattle.am_stands.proofs.StepWords.{FrontsStand, Grows, Moves, Stepping, then_moves, key_stamp, view_whole, old, whole, grows_trans, list_opens}
-use Rattle.am_stands.proofs.StepWords.{changes_go_on}
+use Rattle.am_stands.proofs.StepWords.{is_member, has_log, has_departed, refresh, settle, Decided, World, group_after, views_after, split, and_both, Cause}
+use Rattle.am_stands.proofs.StepWords.{settles, rests_refresh, leads_rests, settle_is, not_above_itself, IsNoted, Goes, CauseSent, FrontsStand, Grows, Moves}
+use Rattle.am_stands.proofs.StepWords.{Stepping, then_moves, key_stamp, view_whole, old, whole, grows_trans, list_opens, changes_go_on}
 use Rattle.am_play.specs.World.{decides}
 use Rattle.am_stands.proofs.{Worlds.growing, Refreshed.refresh_on, Courses.accepted_twice, StepGoing.Grown, StepGoing.as_before, StepGoing.by_reports}
 use Rattle.am_stands.proofs.{Deeds.further, Deeds.Seen, Deeds.none_new, Deeds.one_new, Deeds.Done}

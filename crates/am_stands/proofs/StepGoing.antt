@@ -130,14 +130,6 @@ change_on rules w name c o x y s z plain same h sent f =
       fronts = fronts_next rules w name c o x y s one.to z plain h goes.accepted one.fronts one.grows f;
     }
 
--- the group list stays what it is
-grown_next : {c : Cause} {o : Outcome} (old_ group : List Entry) (x y : Node) (z : Change c o x y) → IsPlain z → x.core.acc ≤ top x → Grown c old_ group x
-    → Grown c old_ group y
-grown_next old_ group x y z plain high (as_before is) = as_before is
-grown_next old_ group x y z plain high (by_reports brings leads start is) =
-    let on = leads_on old_ x y z plain brings leads start high in
-    by_reports brings on.leads on.start (is ∙ sym on.same)
-
 -- ---- the course
 
 pub going_on : (rules : Rules) (w : World) (name : ℕ) (c : Cause) (o : Outcome) (m x : Node) (s : Group) → Course c o m x → Stepping rules w name c m s
@@ -165,5 +157,10 @@ going_on rules w name c o m x s (and_then {n = n} before z plain) h f sent =
     record {
       group = prior.group;
       changed = then_changed prior.path prior.grows one;
-      grown = grown_next w.group prior.group n x z plain prior.goes.along.owned.fronts.accepted prior.grown;
+      grown = elim prior.grown [
+        | as_before is ↦ as_before is
+        | by_reports brings leads start is ↦
+            let on = leads_on w.group n x z plain brings leads start prior.goes.along.owned.fronts.accepted in
+            by_reports brings on.leads on.start (is ∙ sym on.same)
+      ];
     }

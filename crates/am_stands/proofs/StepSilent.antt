@@ -55,20 +55,12 @@ module _ (w : World) (e : Event) (name : ℕ) (h : SendsNothing (w.nodes name)) 
 
   acts : (a : Act) → Same w (acts_as w e name a)
   unfolding with_record
-  acts (act.Send body) = called (does.Send body)
-  acts (act.Done req) = called (does.Done req)
-  acts act.Take = called does.Take
-  acts act.Join = called does.Join
-  acts act.State = called does.State
-  acts act.Leave = called does.Leave
-  acts (act.Reset least resilience) = called (does.Reset least resilience)
-  acts (act.Ask round) = called (does.Ask round)
   acts (act.GiveUp other) = given_up other
   acts act.Stop = same_if w (is_stopped w name) _ _ refl refl
-  acts act.Tick = called does.Tick
   acts (act.Hear number) = heard_so (hear (w.nodes name)) (letter_at w.letters number) h.hears_
   acts (act.Cut number keep) = heard_so (hear_cut (w.nodes name) keep) (letter_at w.letters number) (cut keep)
   acts act.Return = gone_back (place_of name)
+  acts _ = called _
 
 pub departed_quiet : (w : World) (e : Event) (s : Step) → SendsNothing (w.nodes (actor w e)) → happens w e ≡ with_step w e (actor w e) s → s.letters ≡ []
 unfolding happens with_step

@@ -7,7 +7,7 @@ use Rattle.am_stands.proofs.Words.{after_change, after_look, SendsOnce, WasAsked
 use Rattle.am_stands.proofs.Words.{◌∙◌, Begins, IsGood, is_stopped, NameStands, Reporting, LastStands, OwnTurn, OthersKeep}
 use Rattle.am_laws.specs.Changes.{closes}
 use Rattle.am_stands.proofs.{Carried.changes_stand, Changes.own_name, Entries.view_whole, Keeping.may_move, Keeping.needs, Keeping.IsNoClose, Keeps.keeps_next}
-use Rattle.am_stands.proofs.{Letters.letters_stay, Onward.GoesOn, Onward.goes_on, Ends.taken_more, Keeps.trimmed_grow, Keeps.fetches_grow}
+use Rattle.am_stands.proofs.{Letters.letters_stay, Onward.GoesOn, Onward.goes_on, Names.taken_more, Keeps.trimmed_grow, Keeps.fetches_grow}
 use Rattle.am_stands.proofs.{Reporting.reporting_grow, Shown.votes_grow}
 use Rattle.am_chain.specs.Group as groups
 

@@ -14,7 +14,7 @@ use Rattle.am_stands.proofs.StepWords.{old, may_move, closing_accepts, name_in, 
 use Rattle.am_packet.specs.declared.packet.Packet.TheVariants as packet
 use Rattle.am_laws.specs.Letters as letters
 use Rattle.am_stands.proofs.Starting.{acting, recorded, stands_but, run_sent, stepping_begins}
-use Rattle.am_stands.proofs.{Courses.departed_is, Owns.owns_next, Owns.run_owns, Worlds.growing, Worlds.same_stands, Refreshed.Fronted, Courses.brings_report}
+use Rattle.am_stands.proofs.{Courses.departed_is, Owns.owns_next, Owns.run_owns, Worlds.growing, Changes.same_stands, Refreshed.Fronted, Courses.brings_report}
 use Rattle.am_stands.proofs.{Courses.was_welcomed, Courses.both_ways, Courses.stays, StepGoing.looked_fronts, StepGoing.Grown, StepGoing.as_before}
 use Rattle.am_stands.proofs.{StepGoing.by_reports, StepGoing.change_on, StepGoing.going_on, Deeds.further, Deeds.Seen, Deeds.none_new, Deeds.one_new}
 use Rattle.am_stands.proofs.{Deeds.Done, Deeds.deeds_on, StepEnds.AtEnd, StepEnds.ended_on, StepEnds.views_end, Senders.Based, Senders.as_it_was}

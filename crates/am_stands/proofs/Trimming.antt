@@ -2,7 +2,7 @@
 use Rattle.am_stands.proofs.Words.{◌≡◌, ℕ, ◌+◌, ◌<◌, ◌≤◌, ◌==◌, not, max, nat_lt, true, false, List, [], length, take, slice_index, Option, Some, None}
 use Rattle.am_stands.proofs.Words.{unwrap_or, option_map, refl, sym, ap, ◌∙◌, subst, arith, append-nil, nat_tests, Entry, Vote, place_of, life_of, name_at}
 use Rattle.am_stands.proofs.Words.{has, names_of, members_of, accept, pass_over, least_of, least_taken, base_after, own_report, tell, go_on, let_go, least_in}
-use Rattle.am_stands.proofs.Words.{Begins, image_of, mem, key, begins_nil, begins_trans, begins_both, begins_length, begins_take, length_take, mod16}
+use Rattle.am_stands.proofs.Words.{Begins, image_of, mem, key, begins_nil, begins_trans, begins_both, begins_length, begins_take, length_take}
 use Rattle.am_stands.proofs.Words.{mem_between, Group, IsThere, chain_of, Kept, Node, Ballot, is_sequencer, need_of, left_in, taken_by, concerned_names, lead}
 use Rattle.am_stands.proofs.Words.{World, split, HasLearned, own_need, those_at, those_long, within, Trimmed, Reporting}
 use Rattle.am_model.specs.Node as nodes

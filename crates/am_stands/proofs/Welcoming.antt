@@ -1,13 +1,12 @@
 -- The Welcome that is sent is so: it tells a joiner where it became a member, and what is accepted below.
 use Rattle.am_stands.proofs.Words.{only_is, ◌≡◌, ℕ, zero, suc, ◌+◌, ◌<◌, ◌≤◌, ◌==◌, nat_lt, true, List, length, take, Some, refl, sym, ap, ◌∙◌, subst, arith}
-use Rattle.am_stands.proofs.Words.{nat_tests, Entry, Join, Row, Image, Stamp, place_of, life_of, has, Log, at_place, row_of, image_at, told_by, item_at}
-use Rattle.am_stands.proofs.Words.{Begins, IsGood, image_of, mem, begins_refl, begins_trans, begins_both, begins_length, begins_take, length_take}
-use Rattle.am_stands.proofs.Words.{take_begins, row_at, In, mem_in, in_mem, mem_between, Group, Node, is_sequencer, only_name, World, split, MayWelcome}
-use Rattle.am_stands.proofs.Words.{just_joined, asks_again, NameStands, FrontsStand, Trimmed, WelcomeSays, WelcomeTo, has_begun, has_gone, has_left}
-use Rattle.am_stands.proofs.Words.{is_leaving, may_begin, RowsLive}
+use Rattle.am_stands.proofs.Words.{nat_tests, Entry, Join, Row, Image, Stamp, place_of, life_of, has, Log, at_place, row_of, image_at, told_by, item_at, Begins}
+use Rattle.am_stands.proofs.Words.{IsGood, image_of, mem, begins_refl, begins_trans, begins_both, begins_length, begins_take, length_take, take_begins, row_at}
+use Rattle.am_stands.proofs.Words.{In, mem_in, in_mem, mem_between, Group, Node, is_sequencer, only_name, World, split, MayWelcome, just_joined, asks_again}
+use Rattle.am_stands.proofs.Words.{NameStands, FrontsStand, Trimmed, WelcomeSays, WelcomeTo, has_begun, has_gone, has_left, is_leaving, may_begin, RowsLive}
 use Rattle.am_chain.specs.Group as groups
 use Rattle.am_model.specs.Node as nodes
-use Rattle.am_stands.proofs.{Changes.told_all, Changes.long_all, Ends.taken_more, Joins.joined_in, Joins.JoinsAt, Joins.joins_at, Parts.image_whole}
+use Rattle.am_stands.proofs.{Changes.told_all, Changes.long_all, Names.taken_more, Joins.joined_in, Joins.JoinsAt, Joins.joins_at, Parts.image_whole}
 use Rattle.am_stands.proofs.{Parts.next_part, Sent.Speaks, Sent.leading, Sent.list_item}
 
 -- ---- who is welcomed

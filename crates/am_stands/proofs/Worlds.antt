@@ -1,7 +1,7 @@
 -- A world within a step whose group list, and views, have gone on.
 use Rattle.am_stands.proofs.StepWords.{◌≡◌, ℕ, ◌<◌, List, ◌++◌, Some, slice_get, refl, sym, ap, ◌∙◌, Entry, Record, Begins, Group, with_node, Node, Decided, World}
 use Rattle.am_stands.proofs.StepWords.{up_to_next, NameStands, StandsBut, within, WasAsked, SendsOnce, views_noted, each_within, fronts_within, lines_within}
-use Rattle.am_stands.proofs.StepWords.{views_in, Unmoved, others_same, others_fronts, same_name, taken_more, name_grows}
+use Rattle.am_stands.proofs.StepWords.{views_in, Unmoved, same_name, taken_more, name_grows}
 use Rattle.am_chain.specs.Group as groups
 
 -- views were noted by names
@@ -25,16 +25,7 @@ grown_stands v group name s grows noted h = record {
   group = refl;
 }
 
--- a node that is the same to the group
-pub same_stands : (w : World) (name : ℕ) (x y : Node) (s : Group) → Unmoved x y → StandsBut name (within w name x) s → StandsBut name (within w name y) s
-same_stands w name x y s u h = record {
-  each = others_same w name x y s u h.each;
-  fronts = others_fronts w name x y s h.fronts;
-  views = views_in (within w name x) (within w name y) s.views refl (lines_within w name x y u.log) h.views;
-  group = h.group;
-}
-
--- and that has learned
+-- a node that is the same to the group, and that has learned
 abbrev pub learned : groups.Node → ℕ → ℕ → groups.Node
 learned a told acc = record a { told = told; acc = acc }
 
