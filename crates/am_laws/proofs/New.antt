@@ -1,4 +1,5 @@
 -- In every run a view that is decided is a new one: its View stood nowhere before.
+use Rattle.am_laws.proofs.{Taken.promise_is, ViewChanges.leads_member}
 use Rattle.am_laws.proofs.WatchedWords.{view_rises, logged, stamp_itself, same_stamp, ◌≡◌, ◌⊎◌, ⊎_elim, ℕ, ◌-◌, ◌==◌, not, true, false, List, [], length, refl}
 use Rattle.am_laws.proofs.WatchedWords.{sym, ap, ◌∙◌, subst, arith, All, nat_tests, list_any_none, All-nil, All-cons, All-append, All-weaker, All-take}
 use Rattle.am_laws.proofs.WatchedWords.{All-drop, Stamp, Entry, View, Rules, MayFound, has, rank_of, stamp_lt, stamp_eq, no_stamp, fold, after, Packet, Letter}
@@ -90,8 +91,7 @@ says_known nodes m x c to p entries told own (result _ number names is viewed ma
     own may mine (may_view x may told mine))
   where
     may_view : (x : Node) → MayTell x → ToldNode x → x.core.promise.by ≡ x.core.who → view x ≡ x.core.promise
-    may_view x (leads l) told mine = sym (same_stamp x.core.promise (view x)
-        (and_both (is_member x.status) (stamp_eq x.core.promise (view x)) (and_both (acts x) ((view x).by == x.core.who) l).0).1)
+    may_view x (leads l) told mine = sym (promise_is x l)
     may_view x (decided b number names there answer at) told mine = at ∙ sym (told.is b number names there answer mine)
 says_known nodes m x c to p entries told own _ = tt
 
@@ -99,8 +99,7 @@ says_known nodes m x c to p entries told own _ = tt
 tells_list : (n x : Node) → n ≡ record x { status = n.status } → (n.status ≡ x.status) ⊎ (n.status ≡ status.Departed) → Balloted n → MayTell x
     → has_log n.status ≡ true
 tells_list n x is stays b (leads l) = ⊎_elim
-    (λ (e : n.status ≡ x.status). ap has_log e ∙ logged x.status
-    (and_both (is_member x.status) (stamp_eq x.core.promise (view x)) (and_both (acts x) ((view x).by == x.core.who) l).0).0)
+    (λ (e : n.status ≡ x.status). ap has_log e ∙ logged x.status (leads_member x l))
     (λ (e : n.status ≡ status.Departed). ap has_log e)
     stays
 tells_list n x is stays b (decided ballot number names there answer at) = split (has_log n.status)

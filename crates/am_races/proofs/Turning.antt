@@ -69,12 +69,9 @@ least_waits m seen waited stopped name is many known least = (
       let apart : k ≢ place_of name = λ s.
       let same : slice_index waited k ≡ life_of name = ap (slice_index waited) s ∙ here in
       omega arith in
-      least.below k (below_it k (slice_index waited k) name least.low low some lower apart)
+      least.below k (let byte = least.low in omega arith)
       (in_both waited stopped k low some (known (name_at k (slice_index waited k)) ∙ (and_parts _ _ a.1).1))))),
 )
-  where
-    below_it : (k life other : ℕ) → other < 256 → k < 16 → 0 < life → rank_of (name_at k life) < rank_of other → k ≢ place_of other → k < place_of other
-    below_it k life other byte low some lower apart = omega arith
 
 -- ---- letters for a name
 
