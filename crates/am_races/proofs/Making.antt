@@ -55,11 +55,8 @@ pub none_turned : (plan : RacePlan) (node : ℕ) (tag : Tag) (request : Option �
     → HasTurned plan node tag request seen seen 0 (answer.Late plan.turns)
 none_turned plan node tag request seen grows = record { mine = []; grows = grows; turns = refl; count = refl; late_ = refl }
 
-low_place : (node : ℕ) → place_of (place_of node) ≡ place_of node
-low_place node = omega arith
-
 its_place : (node : ℕ) (item : Record) → item.event.node ≡ place_of node → place_of item.event.node ≡ place_of node
-its_place node item e = ap place_of e ∙ low_place node
+its_place node item e = omega arith
 
 pub one_turned : (plan : RacePlan) (node : ℕ) (tag : Tag) (request : Option ℕ) (old middle new : List Record) (spent : ℕ) (its : Answer) (outcome : Outcome)
     → HasTurned plan node tag request old middle spent its → Turned (place_of node) tag outcome middle new
