@@ -4,7 +4,6 @@ use Rattle.am_laws.proofs.Words.{ap, arith, Vote, View, Outcome, names_of, least
 use Rattle.am_laws.proofs.Words.{ended, decide_view, trim_for, restart_reports, decide, next_stamp, new_ballot, begin, with_vote, keep_vote, without_voter}
 use Rattle.am_laws.proofs.Words.{give_up, give_up_of, split, Bounds, up, decided_view}
 use Rattle.am_base.specs.declared.outcome.Outcome.TheVariants as said
-use Rattle.am_state.specs.Reports as reports
 use Rattle.am_laws.proofs.Counts.{Low, Behind, VotesKnown, low_more, low_viewed, low_trimmed, low_promised, least_low, Ends, ends_next, ends as plans}
 
 -- a verdict whose node has at most one more

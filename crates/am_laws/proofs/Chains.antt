@@ -1,8 +1,8 @@
 -- What the changes of a step do to a node's entries, one after another.
-use Rattle.am_laws.proofs.WatchedWords.{in_view_log, welcomed_none, logged, ◌≡◌, ℕ, ◌≤◌, ◌==◌, not, true, false, List, [], ◌∷◌, ◌++◌, refl, sym, ap, ◌∙◌}
-use Rattle.am_laws.proofs.WatchedWords.{append_assoc, arith, Outcome, Stamp, Image, Entry, View, Leave, stamp_eq, Log, Node, Ballot, view, acts, is_sequencer}
-use Rattle.am_laws.proofs.WatchedWords.{is_member, push_entry, has_log, Verdict, refresh, settle, hears_member, split, and_both, Cause, hears, HasOpen}
-use Rattle.am_laws.proofs.WatchedWords.{Balloting, with_more, without_one, as_it_is, Looks, finds_itself_out, decides, Change, refreshes, settles, numbers}
+use Rattle.am_laws.proofs.WatchedWords.{in_view_log, welcomed_none, logged, ◌≡◌, ℕ, ◌≤◌, true, false, List, [], ◌∷◌, ◌++◌, refl, sym, ap, ◌∙◌}
+use Rattle.am_laws.proofs.WatchedWords.{append_assoc, arith, Outcome, Stamp, Image, Entry, View, Leave, Log, Node, Ballot}
+use Rattle.am_laws.proofs.WatchedWords.{push_entry, has_log, Verdict, refresh, settle, Cause, hears}
+use Rattle.am_laws.proofs.WatchedWords.{Looks, finds_itself_out, decides, Change, refreshes, settles, numbers}
 use Rattle.am_laws.proofs.WatchedWords.{stores, begins_list, departs, looks, fetches, stores_view, asks_to_join, closes, Changes, unchanged, changed}
 use Rattle.am_laws.proofs.WatchedWords.{rests_refresh, rests_at_end, settle_is, HasNames, HeardNames, Balloted, changes_do}
 use Rattle.am_laws.proofs.ViewChanges.{leads_member, member_of, looked_at}

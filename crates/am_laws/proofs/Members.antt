@@ -3,7 +3,7 @@ use Rattle.am_model.specs.Ballots.{decided_view}
 use Rattle.am_base.specs.declared.entry.GroupView.{GroupView}
 use Rattle.am_laws.proofs.WatchedWords.{welcomed_none, numbers_plain, or_second, stamp_itself, same_stamp, ◌≡◌, ◌⊎◌, inl, inr, ⊎_elim, ℕ, ◌+◌, ◌<◌, ◌==◌, ◌&&◌}
 use Rattle.am_laws.proofs.WatchedWords.{not, max, nat_lt, Bool, true, false, List, length, slice_index, Option, Some, None, refl, sym, ap, ◌∙◌, subst, arith}
-use Rattle.am_laws.proofs.WatchedWords.{nat_tests, Entry, Data, Join, Leave, View, Vote, Image, Stamp, Outcome, stamp_lt, stamp_eq, Log, members_of, fits}
+use Rattle.am_laws.proofs.WatchedWords.{nat_tests, Entry, Data, Leave, View, Vote, Image, Stamp, Outcome, stamp_lt, stamp_eq, Log, members_of, fits}
 use Rattle.am_laws.proofs.WatchedWords.{entry_at, told_by, Node, Ballot, top, image_of, view, members, unsettled_count, push_entry, trim_up_to, has_log}
 use Rattle.am_laws.proofs.WatchedWords.{Verdict, overtake, need_of, left_in, trim_for, is_unfinished, is_view, refresh, split, and_both, Cause, calls, hears}
 use Rattle.am_laws.proofs.WatchedWords.{was_reset, was_fetched, HasOpen, Balloting, with_more, without_one, as_it_is, Looks, finds_itself_out, decides, Numbers}

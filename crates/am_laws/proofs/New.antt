@@ -3,9 +3,9 @@ use Rattle.am_laws.proofs.{Taken.promise_is, ViewChanges.leads_member}
 use Rattle.am_laws.proofs.WatchedWords.{view_rises, logged, stamp_itself, same_stamp, ◌≡◌, ◌⊎◌, ⊎_elim, ℕ, ◌-◌, ◌==◌, not, true, false, List, [], length, refl}
 use Rattle.am_laws.proofs.WatchedWords.{sym, ap, ◌∙◌, subst, arith, All, nat_tests, list_any_none, All-nil, All-cons, All-append, All-weaker, All-take}
 use Rattle.am_laws.proofs.WatchedWords.{All-drop, Stamp, Entry, View, Rules, MayFound, has, rank_of, stamp_lt, stamp_eq, no_stamp, fold, after, Packet, Letter}
-use Rattle.am_laws.proofs.WatchedWords.{Event, Node, view, acts, is_member, set_at, founders_view, lowest_or_first, has_log, Step, World, start, first_node}
-use Rattle.am_laws.proofs.WatchedWords.{with_step, group_after, run, is_view_of, heard_by, split, and_both, Cause, MayTell, leads, decided, Says, piece, result}
-use Rattle.am_laws.proofs.WatchedWords.{LetterSays, Effect, actor, heard_letter, IsCause, all_get, all_item, EachKeeps, StepsKeep, SameParts, law_keeps, runs_keep}
+use Rattle.am_laws.proofs.WatchedWords.{Event, Node, view, is_member, set_at, founders_view, lowest_or_first, has_log, Step, World, start, first_node}
+use Rattle.am_laws.proofs.WatchedWords.{with_step, group_after, run, is_view_of, split, and_both, Cause, MayTell, leads, decided, Says, piece, result}
+use Rattle.am_laws.proofs.WatchedWords.{LetterSays, Effect, actor, heard_letter, IsCause, all_get, EachKeeps, StepsKeep, SameParts, law_keeps, runs_keep}
 use Rattle.am_laws.proofs.WatchedWords.{stamp_of, first_founder, few_names, at_most, not_above_itself, SameView, Stood, Balloted, Does, changes_do, heard_names}
 use Rattle.am_laws.proofs.WatchedWords.{says_stamp, DecidedAreNew}
 use Rattle.am_packet.specs.declared.packet.Packet.TheVariants as packet

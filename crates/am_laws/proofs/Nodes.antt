@@ -1,6 +1,6 @@
 -- What each node keeps in every run, beside a law of worlds that it may stand on.
 use Rattle.am_laws.proofs.EffectWords.{◌≡◌, ℕ, ◌==◌, List, subst, arith, nat_tests, split, Outcome, Rules, has, Event, Node, founder, stranger, Step, World}
-use Rattle.am_laws.proofs.EffectWords.{start, run, first_node, with_record, with_step, Cause, Change, Effect, actor, IsCause, idles, stops, returns, steps}
+use Rattle.am_laws.proofs.EffectWords.{start, run, first_node, with_record, with_step, Cause, Change, Effect, actor, IsCause, steps}
 use Rattle.am_laws.proofs.EffectWords.{All, Packet, Letter, hears, heard_by, WasSentTo}
 use Rattle.am_laws.proofs.EffectRuns.{along, EachKeeps, runs_keep}
 use Rattle.am_laws.proofs.Items.{all_item}

@@ -2,11 +2,11 @@
 -- each View in its list is of another name's list or is not above its own view.
 use Rattle.am_model.specs.Ballots.{decided_view}
 use Rattle.am_base.specs.declared.entry.GroupView.{GroupView}
-use Rattle.am_laws.proofs.WatchedWords.{eqb-false, not_both, view_rises, of_open, next_above, welcomed_none, eqb-true, ◌≡◌, ◌⊎◌, inl, inr, ⊎_elim, ℕ, ◌==◌}
+use Rattle.am_laws.proofs.WatchedWords.{eqb-false, not_both, view_rises, next_above, welcomed_none, eqb-true, ◌≡◌, ◌⊎◌, inl, inr, ⊎_elim, ℕ, ◌==◌}
 use Rattle.am_laws.proofs.WatchedWords.{◌||◌, not, true, false, List, [], ◌∷◌, ◌++◌, Option, Some, refl, sym, ap, ◌∙◌, subst, arith, All, nat_tests, All-nil}
 use Rattle.am_laws.proofs.WatchedWords.{All-cons, All-append, All-weaker, Outcome, Stamp, Entry, Leave, View, stamp_lt, Log, Packet, Node, Ballot, view}
 use Rattle.am_laws.proofs.WatchedWords.{is_member, is_asking, push_entry, has_log, Verdict, next_stamp, need_of, left_in, trim_for, refresh, settle, is_view}
-use Rattle.am_laws.proofs.WatchedWords.{and_both, Cause, hears, Balloting, with_more, without_one, as_it_is, Looks, decides, Promises, invited, overtaken_by}
+use Rattle.am_laws.proofs.WatchedWords.{and_both, Cause, hears, Looks, decides, Promises, invited, overtaken_by}
 use Rattle.am_laws.proofs.WatchedWords.{told_result, Change, refreshes, settles, numbers, stores, begins_list, promises, opens, looks, fetches, stores_view}
 use Rattle.am_laws.proofs.WatchedWords.{closes, Changes, unchanged, changed, rests_refresh, rests_at_end, settle_is, stamp_of, at_most, not_above}
 use Rattle.am_laws.proofs.WatchedWords.{not_above_itself, HasNames, HeardNames, view_last, Balloted, IsOpen, Does, changes_do, numbers_plain}

@@ -3,8 +3,8 @@ use Rattle.am_laws.proofs.Words.{equals_itself, logged, stamp_itself, and_both, 
 use Rattle.am_laws.proofs.Words.{if◌then◌else◌, List, [], ◌∷◌, ◌++◌, length, Some, slice_get, refl, sym, ap, ◌∙◌, subst, arith, All, nat_tests, All-nil}
 use Rattle.am_laws.proofs.Words.{All-cons, All-append, All-weaker, Stamp, View, Rules, MayFound, has, stamp_lt, stamp_eq, entry_at, fold, after, Packet, Letter}
 use Rattle.am_laws.proofs.Words.{Event, Node, image_of, view, set_at, is_member, founder, stranger, lowest_or_first, founders_view, has_log, Decided, World}
-use Rattle.am_laws.proofs.Words.{start, first_node, founders_decided, last_view, views_after, with_step, run, heard_by, split, Cause, Says, request, LetterSays}
-use Rattle.am_laws.proofs.Words.{actor, heard_letter, IsCause, all_get, all_item, EachKeeps, StepsKeep, SameParts, law_keeps, runs_keep, sender_of, stamp_of}
+use Rattle.am_laws.proofs.Words.{start, first_node, founders_decided, last_view, views_after, with_step, run, split, Cause, Says, request, LetterSays}
+use Rattle.am_laws.proofs.Words.{actor, heard_letter, IsCause, all_get, EachKeeps, StepsKeep, SameParts, law_keeps, runs_keep, sender_of, stamp_of}
 use Rattle.am_laws.proofs.Words.{ViewsHold, first_founder}
 use Rattle.am_play.specs.World.{decides}
 use Rattle.am_laws.proofs.ViewNames.{ViewNamed, HasNames, HeardNames, PieceNamed, pieces_named}
