@@ -109,10 +109,7 @@ not_late views group i m v u staying ok = either (low_or_above (key views.curren
 
 pub own_above : (i : ℕ) (m : Node) → m.promise.by < 256 → key m.promise < key (own_stamp i m)
 unfolding key
-own_above i m h = let r : rank_of m.promise.by < 256 = small m.promise.by h in omega arith
-  where
-    small : (n : ℕ) → n < 256 → rank_of n < 256
-    small n h = omega arith
+own_above i m h = let r : rank_of m.promise.by < 256 = omega arith in omega arith
 
 -- a view that acts is no later than the current one
 pub view_current : (views : Views) (list : List Entry) → ViewsOk views → Begins list (chain_of views) → key (view_of list) ≤ key views.current

@@ -22,31 +22,18 @@ accept_grows node group list chain to g l may =
 
 -- a move leaves what is decided, and what was accepted
 grows_on : {s t : Group} → Kept s → IsLawful s → Move s t → Grows s t
-grows_on k law (numbers {s = s} i e a b c) = record { group = begins_refl s.group; decided = λ x h. h; chosen = λ x h. refl; complete = λ x h. h }
-grows_on k law (stores {s = s} i e a b c d f) = record { group = begins_refl s.group; decided = λ x h. h; chosen = λ x h. refl; complete = λ x h. h }
 grows_on k law (accepts {s = s} i n a b) = record {
   group = accept_grows s.node s.group (s.node i).list (chain_of s.views) n k.group ((k.each i).list a.up) b;
   decided = λ x h. h;
   chosen = λ x h. refl;
   complete = λ x h. h;
 }
-grows_on k law (learns {s = s} i image_of acc a b c d e f g) = record
-    { group = begins_refl s.group; decided = λ x h. h; chosen = λ x h. refl; complete = λ x h. h }
-grows_on k law (begins {s = s} i a b c d) = record { group = begins_refl s.group; decided = λ x h. h; chosen = λ x h. refl; complete = λ x h. h }
-grows_on k law (raises {s = s} i stamp a b) = record { group = begins_refl s.group; decided = λ x h. h; chosen = λ x h. refl; complete = λ x h. h }
-grows_on k law (shows {s = s} i a b c d e) = record { group = begins_refl s.group; decided = λ x h. h; chosen = λ x h. refl; complete = λ x h. h }
-grows_on k law (serves {s = s} i list a b c) = record { group = begins_refl s.group; decided = λ x h. h; chosen = λ x h. refl; complete = λ x h. h }
-grows_on k law (fetches {s = s} i h list e a b c d f) = record { group = begins_refl s.group; decided = λ x h. h; chosen = λ x h. refl; complete = λ x h. h }
 grows_on k law (decides {s = s} i v a) = record {
   group = begins_refl s.group;
   decided = decided_old s k law i v a;
   chosen = chosen_old s k law i v a;
   complete = λ x h. h;
 }
-grows_on k law (gives_over {s = s} i) = record { group = begins_refl s.group; decided = λ x h. h; chosen = λ x h. refl; complete = λ x h. h }
-grows_on k law (welcomes {s = s} j stamp base join a) = record { group = begins_refl s.group; decided = λ x h. h; chosen = λ x h. refl; complete = λ x h. h }
-grows_on k law (asks {s = s} i a b) = record { group = begins_refl s.group; decided = λ x h. h; chosen = λ x h. refl; complete = λ x h. h }
-grows_on k law (departs {s = s} i before a) = record { group = begins_refl s.group; decided = λ x h. h; chosen = λ x h. refl; complete = λ x h. h }
 grows_on k law (closes {s = s} i n a b c d) =
     let o = (k.each i).leads a in
     let whole = begins_more (s.node i).list (Leave i ∷ []) in
@@ -58,7 +45,7 @@ grows_on k law (closes {s = s} i n a b c d) =
       chosen = λ x h. refl;
       complete = λ x h. h;
     }
-grows_on k law (stops {s = s} i) = record { group = begins_refl s.group; decided = λ x h. h; chosen = λ x h. refl; complete = λ x h. h }
+grows_on {s} k law _ = record { group = begins_refl s.group; decided = λ x h. h; chosen = λ x h. refl; complete = λ x h. h }
 
 move_keeps : {s t : Group} → Kept s → IsLawful s → Move s t → Kept t
 move_keeps k law (decides {s = s} i v a) = decides_keeps s k law i v a

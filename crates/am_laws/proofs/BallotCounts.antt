@@ -4,7 +4,6 @@ use Rattle.am_laws.proofs.Words.{ap, arith, Vote, View, Outcome, names_of, least
 use Rattle.am_laws.proofs.Words.{ended, decide_view, trim_for, restart_reports, decide, next_stamp, new_ballot, begin, with_vote, keep_vote, without_voter}
 use Rattle.am_laws.proofs.Words.{give_up, give_up_of, split, Bounds, up, decided_view}
 use Rattle.am_base.specs.declared.outcome.Outcome.TheVariants as said
-use Rattle.am_state.specs.Reports as reports
 use Rattle.am_laws.proofs.Counts.{Low, Behind, VotesKnown, low_more, low_viewed, low_trimmed, low_promised, least_low, Ends, ends_next, ends as plans}
 
 -- a verdict whose node has at most one more
@@ -34,11 +33,8 @@ with_restart most g m h = record {
   order = h.order;
   within = h.within;
   quits = h.quits;
-  tells = record { reported = λ name. restart_low g m.core.base name h.trims; votes = h.votes; known = h.known };
+  tells = record { reported = λ name. split (nat_lt name 256) (λ t. rw t h.trims) (λ f. rw f (omega arith)); votes = h.votes; known = h.known };
 }
-  where
-    restart_low : (g base name : ℕ) → base ≤ g → (reports.reports_from base name).taken ≤ g
-    restart_low g base name low = split (nat_lt name 256) (λ t. rw t low) (λ f. rw f (omega arith))
 
 comes_on : (most : Bounds) (g : ℕ) (m : Node) (b : Ballot) (o : Outcome) → VotesKnown g (Some b) → Low (up most) g m → Comes most g (goes_on m b o)
 comes_on most g m b o votes h = comes_at most g _ (with_ballot (up most) g m (record b { answer = o; is_over = false }) votes h)

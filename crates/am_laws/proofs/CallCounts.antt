@@ -110,11 +110,8 @@ ends_leave_now : (most : Bounds) (g : ℕ) (m : Node) → Low most g m → Ends 
 ends_leave_now most g m h =
     let p = quiet (record m { leaving = true }) said.Asked in
     let k : (nat_lt 0 (unsettled_count m) || is_unfinished m.ballot) ≡ false → Ends most g (go p) = λ f.
-    ends_go most g p (low_leaving most g m (none_waits m (no_more (unsettled_count m) (is_unfinished m.ballot) f)) h) in
+    ends_go most g p (low_leaving most g m (none_waits m (grind (arith, nat_tests))) h) in
     search (ends, k)
-  where
-    no_more : (n : ℕ) (t : Bool) → (nat_lt 0 n || t) ≡ false → n ≡ 0
-    no_more n t f = split (nat_lt 0 n) (λ a. absurd (let x = rw a at f in cc)) (λ a. grind (arith, nat_tests))
 
 pub ends_leave_by : (most : Bounds) (g : ℕ) (m : Node) (s : Status) → Low most g m → Ends most g (leave_by m s)
 ends_leave_by most g m status.Member h = ends_leave_now most g m h

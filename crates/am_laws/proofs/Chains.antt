@@ -1,27 +1,12 @@
 -- What the changes of a step do to a node's entries, one after another.
-use Rattle.am_laws.proofs.WatchedWords.{in_view_log, welcomed_none, logged, ◌≡◌, ℕ, ◌≤◌, ◌==◌, not, true, false, List, [], ◌∷◌, ◌++◌, refl, sym, ap, ◌∙◌}
-use Rattle.am_laws.proofs.WatchedWords.{append_assoc, arith, Outcome, Stamp, Image, Entry, View, Leave, stamp_eq, Log, Node, Ballot, view, acts, is_sequencer}
-use Rattle.am_laws.proofs.WatchedWords.{is_member, push_entry, has_log, Verdict, refresh, settle, hears_member, split, and_both, Cause, hears, HasOpen}
-use Rattle.am_laws.proofs.WatchedWords.{Balloting, with_more, without_one, as_it_is, Looks, finds_itself_out, decides, Change, refreshes, settles, numbers}
+use Rattle.am_laws.proofs.WatchedWords.{in_view_log, welcomed_none, logged, ◌≡◌, ℕ, ◌≤◌, true, false, List, [], ◌∷◌, ◌++◌, refl, sym, ap, ◌∙◌}
+use Rattle.am_laws.proofs.WatchedWords.{append_assoc, arith, Outcome, Stamp, Image, Entry, View, Leave, Log, Node, Ballot}
+use Rattle.am_laws.proofs.WatchedWords.{push_entry, has_log, Verdict, refresh, settle, Cause, hears}
+use Rattle.am_laws.proofs.WatchedWords.{Looks, finds_itself_out, decides, Change, refreshes, settles, numbers}
 use Rattle.am_laws.proofs.WatchedWords.{stores, begins_list, departs, looks, fetches, stores_view, asks_to_join, closes, Changes, unchanged, changed}
 use Rattle.am_laws.proofs.WatchedWords.{rests_refresh, rests_at_end, settle_is, HasNames, HeardNames, Balloted, changes_do}
+use Rattle.am_laws.proofs.ViewChanges.{leads_member, member_of, looked_at}
 use Rattle.am_packet.specs.declared.packet.Packet.TheVariants as packet
-
--- ---- who has a list
-
-leads_log : (m : Node) → is_sequencer m ≡ true → has_log m.status ≡ true
-leads_log m h = logged m.status (and_both (is_member m.status) (stamp_eq m.core.promise (view m)) (and_both (acts m) ((view m).by == m.core.who) h).0).0
-
-hears_log : (m : Node) (s : ℕ) → hears_member m s ≡ true → has_log m.status ≡ true
-hears_log m s h = logged m.status (and_both (not (s == m.core.who)) (is_member m.status) h).1
-
-ballot_log : (m : Node) (b : Ballot) → HasOpen m b → Balloted m → has_log m.status ≡ true
-ballot_log m b open_ h = split (has_log m.status) (λ t. t) (λ f. absurd (let none = h.none f in let is = open_.last in cc))
-
-pub looked_log : {c : Cause} (m : Node) (b : Ballot) → Balloting c m b → Balloted m → has_log m.status ≡ true
-looked_log m b (with_more old s v shown is by low high open_ same stays) h = ballot_log m old open_ h
-looked_log m b (without_one old name is open_ other) h = ballot_log m old open_ h
-looked_log m b (as_it_is old open_ on) h = ballot_log m old open_ h
 
 -- ---- entries
 
@@ -52,16 +37,16 @@ look_longer m x b v _ log h = longer_same m x v.node refl refl h
 change_longer : {c : Cause} {o : Outcome} (m x y : Node) → Change c o x y → Balloted x → IsLonger m x → IsLonger m y
 change_longer m x y refreshes k h = let r = rests_refresh x in longer_same m x (refresh x) r.rests.status r.log h
 change_longer m x y settles k h = longer_same m x (settle x) (ap (λ (n : Node). n.status) (settle_is x)) (ap (λ (n : Node). n.core.log) (settle_is x)) h
-change_longer m x y (numbers e leads room why) k h = longer_pushed m x y e (leads_log x leads) refl h
+change_longer m x y (numbers e leads room why) k h = longer_pushed m x y e (logged x.status (leads_member x leads)) refl h
 change_longer m x y (stores s v base acc number e by from plain may) k h = longer_pushed m x y e (in_view_log x s v from) refl h
 change_longer m x y (begins_list s v base join image is o may) k h =
     let none : x.core.log.entries ≡ [] = h.bare (welcomed_none x s v base join image may) in
     record { bare = λ f. refl; more = h.more; is = sym none ∙ h.is }
 change_longer m x y (departs s v number is by leaves) k h = record { bare = λ f. absurd (cc); more = h.more; is = h.is }
-change_longer m x y (looks b verdict over why look is) k h = look_longer m x b verdict look (looked_log x b why k) h
-change_longer m x y (fetches s v base number e is by promise below from may) k h = longer_pushed m x y e (hears_log x s by) refl h
+change_longer m x y (looks b verdict over why look is) k h = look_longer m x b verdict look (looked_at x b why k).has_list h
+change_longer m x y (fetches s v base number e is by promise below from may) k h = longer_pushed m x y e (member_of x s by) refl h
 change_longer m x y (stores_view s base number v is by own other promise below may) k h =
-    longer_pushed m x y (View v) (hears_log x s by) refl h
+    longer_pushed m x y (View v) (member_of x s by) refl h
 change_longer m x y (asks_to_join is was) k h = record { bare = λ f. h.bare (ap has_log was); more = h.more; is = h.is }
 change_longer m x y (closes leads leaves alone room) k h =
     let p = push_entry x (Leave x.core.who) in

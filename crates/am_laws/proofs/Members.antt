@@ -3,7 +3,7 @@ use Rattle.am_model.specs.Ballots.{decided_view}
 use Rattle.am_base.specs.declared.entry.GroupView.{GroupView}
 use Rattle.am_laws.proofs.WatchedWords.{welcomed_none, numbers_plain, or_second, stamp_itself, same_stamp, ◌≡◌, ◌⊎◌, inl, inr, ⊎_elim, ℕ, ◌+◌, ◌<◌, ◌==◌, ◌&&◌}
 use Rattle.am_laws.proofs.WatchedWords.{not, max, nat_lt, Bool, true, false, List, length, slice_index, Option, Some, None, refl, sym, ap, ◌∙◌, subst, arith}
-use Rattle.am_laws.proofs.WatchedWords.{nat_tests, Entry, Data, Join, Leave, View, Vote, Image, Stamp, Outcome, stamp_lt, stamp_eq, Log, members_of, fits}
+use Rattle.am_laws.proofs.WatchedWords.{nat_tests, Entry, Data, Leave, View, Vote, Image, Stamp, Outcome, stamp_lt, stamp_eq, Log, members_of, fits}
 use Rattle.am_laws.proofs.WatchedWords.{entry_at, told_by, Node, Ballot, top, image_of, view, members, unsettled_count, push_entry, trim_up_to, has_log}
 use Rattle.am_laws.proofs.WatchedWords.{Verdict, overtake, need_of, left_in, trim_for, is_unfinished, is_view, refresh, split, and_both, Cause, calls, hears}
 use Rattle.am_laws.proofs.WatchedWords.{was_reset, was_fetched, HasOpen, Balloting, with_more, without_one, as_it_is, Looks, finds_itself_out, decides, Numbers}
@@ -14,7 +14,8 @@ use Rattle.am_laws.proofs.WatchedWords.{data_members, viewed_members, those_some
 use Rattle.am_base.specs.declared.event.NodeEvent.TheVariants as does
 use Rattle.am_laws.specs.Looks.{was_handed}
 use Rattle.am_packet.specs.declared.packet.Packet.TheVariants as packet
-use Rattle.am_laws.proofs.Own.{Known, HeardOwn, looked_open}
+use Rattle.am_laws.proofs.Own.{Known, HeardOwn}
+use Rattle.am_laws.proofs.ViewChanges.{looked_at}
 
 -- ---- what made a node look at its ballot
 
@@ -232,7 +233,7 @@ change_viewed nodes name c o old m n heard (stores s v base acc number e by from
 change_viewed nodes name c o old m n heard (begins_list s v base join image is says may) log who up long none k q h =
     absurd (let f = welcomed_none m s v base join image may in cc)
 change_viewed nodes name c o old m n heard (looks b verdict over why look is) log who up long none k q h =
-    look_viewed c old m b verdict look (looks_by c m b why (looked_open m b why k).promised) (looked_quiet c m b why q) long (looked_vote c m b why none) h
+    look_viewed c old m b verdict look (looks_by c m b why (looked_at m b why k).open_.promised) (looked_quiet c m b why q) long (looked_vote c m b why none) h
 change_viewed nodes name c o old m n heard (fetches s v base number e is by promise below from may) log who up long none k q h =
     fetch_viewed c old nodes name m s v base number e is below who (heard.piece s v base number e is) up may.fits h
 change_viewed nodes name c o old m n heard (stores_view s base number v is by own other promise below may) log who up long none k q h =

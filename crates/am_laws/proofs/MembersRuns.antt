@@ -3,7 +3,7 @@ use Rattle.am_laws.proofs.WatchedWords.{view_rises, equals_itself, logged, stamp
 use Rattle.am_laws.proofs.WatchedWords.{Some, refl, sym, ap, ◌∙◌, subst, arith, All, nat_tests, All-nil, All-cons, All-append, All-weaker, View, Outcome, Rules}
 use Rattle.am_laws.proofs.WatchedWords.{MayFound, has, stamp_lt, stamp_eq, entry_at, after, fold, Event, Node, image_of, view, set_at, is_member, has_log, Step}
 use Rattle.am_laws.proofs.WatchedWords.{Decided, World, start, first_node, founders_decided, last_view, views_after, with_record, with_step, run, split}
-use Rattle.am_laws.proofs.WatchedWords.{and_both, Cause, Changes, no_change, changed, Effect, actor, IsCause, idles, stops, returns, steps, all_get, EachKeeps}
+use Rattle.am_laws.proofs.WatchedWords.{and_both, Cause, Changes, no_change, changed, Effect, actor, IsCause, steps, all_get, EachKeeps}
 use Rattle.am_laws.proofs.WatchedWords.{runs_keep, at_most, not_above_itself, few_names, change_named, first_founder, HeardNames, Does, change_does, changes_do}
 use Rattle.am_laws.proofs.WatchedWords.{heard_names, told_used, HeardUsed, Along, along_changes, AllOwned, each_along, heard_used, each_owned, owned_start}
 use Rattle.am_laws.proofs.WatchedWords.{MembersHold}

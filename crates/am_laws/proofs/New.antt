@@ -1,10 +1,11 @@
 -- In every run a view that is decided is a new one: its View stood nowhere before.
+use Rattle.am_laws.proofs.{Taken.promise_is, ViewChanges.leads_member}
 use Rattle.am_laws.proofs.WatchedWords.{view_rises, logged, stamp_itself, same_stamp, ◌≡◌, ◌⊎◌, ⊎_elim, ℕ, ◌-◌, ◌==◌, not, true, false, List, [], length, refl}
 use Rattle.am_laws.proofs.WatchedWords.{sym, ap, ◌∙◌, subst, arith, All, nat_tests, list_any_none, All-nil, All-cons, All-append, All-weaker, All-take}
 use Rattle.am_laws.proofs.WatchedWords.{All-drop, Stamp, Entry, View, Rules, MayFound, has, rank_of, stamp_lt, stamp_eq, no_stamp, fold, after, Packet, Letter}
-use Rattle.am_laws.proofs.WatchedWords.{Event, Node, view, acts, is_member, set_at, founders_view, lowest_or_first, has_log, Step, World, start, first_node}
-use Rattle.am_laws.proofs.WatchedWords.{with_step, group_after, run, is_view_of, heard_by, split, and_both, Cause, MayTell, leads, decided, Says, piece, result}
-use Rattle.am_laws.proofs.WatchedWords.{LetterSays, Effect, actor, WasSentTo, IsCause, all_get, all_item, EachKeeps, StepsKeep, SameParts, law_keeps, runs_keep}
+use Rattle.am_laws.proofs.WatchedWords.{Event, Node, view, is_member, set_at, founders_view, lowest_or_first, has_log, Step, World, start, first_node}
+use Rattle.am_laws.proofs.WatchedWords.{with_step, group_after, run, is_view_of, split, and_both, Cause, MayTell, leads, decided, Says, piece, result}
+use Rattle.am_laws.proofs.WatchedWords.{LetterSays, Effect, actor, heard_letter, IsCause, all_get, EachKeeps, StepsKeep, SameParts, law_keeps, runs_keep}
 use Rattle.am_laws.proofs.WatchedWords.{stamp_of, first_founder, few_names, at_most, not_above_itself, SameView, Stood, Balloted, Does, changes_do, heard_names}
 use Rattle.am_laws.proofs.WatchedWords.{says_stamp, DecidedAreNew}
 use Rattle.am_packet.specs.declared.packet.Packet.TheVariants as packet
@@ -90,8 +91,7 @@ says_known nodes m x c to p entries told own (result _ number names is viewed ma
     own may mine (may_view x may told mine))
   where
     may_view : (x : Node) → MayTell x → ToldNode x → x.core.promise.by ≡ x.core.who → view x ≡ x.core.promise
-    may_view x (leads l) told mine = sym (same_stamp x.core.promise (view x)
-        (and_both (is_member x.status) (stamp_eq x.core.promise (view x)) (and_both (acts x) ((view x).by == x.core.who) l).0).1)
+    may_view x (leads l) told mine = sym (promise_is x l)
     may_view x (decided b number names there answer at) told mine = at ∙ sym (told.is b number names there answer mine)
 says_known nodes m x c to p entries told own _ = tt
 
@@ -99,8 +99,7 @@ says_known nodes m x c to p entries told own _ = tt
 tells_list : (n x : Node) → n ≡ record x { status = n.status } → (n.status ≡ x.status) ⊎ (n.status ≡ status.Departed) → Balloted n → MayTell x
     → has_log n.status ≡ true
 tells_list n x is stays b (leads l) = ⊎_elim
-    (λ (e : n.status ≡ x.status). ap has_log e ∙ logged x.status
-    (and_both (is_member x.status) (stamp_eq x.core.promise (view x)) (and_both (acts x) ((view x).by == x.core.who) l).0).0)
+    (λ (e : n.status ≡ x.status). ap has_log e ∙ logged x.status (leads_member x l))
     (λ (e : n.status ≡ status.Departed). ap has_log e)
     stays
 tells_list n x is stays b (decided ballot number names there answer at) = split (has_log n.status)
@@ -118,15 +117,9 @@ grown_known nodes group n h g = split ((view n).by == n.core.who)
 
 pub heard_own : (rules : Rules) (w : World) (e : Event) (c : Cause) → AllOwn rules w → IsCause w (actor w e) e.act c → HeardOwn w.nodes c
 heard_own rules w e c h cause = record {
-  stamp = λ p is. (let was : WasSentTo w (actor w e) e.act p = subst (IsCause w (actor w e) e.act) is cause in
-      subst (λ (x : Packet). Below w.nodes (stamp_of x)) was.is (all_item (StampBelow w.nodes) w.letters (heard_by e.act) was.letter h.stamps was.there));
-  piece = λ s v base number x is. (let was : WasSentTo w (actor w e) e.act (packet.Piece s v base number x) = subst (IsCause w (actor w e) e.act) is cause in
-      let known : PacketKnown w.nodes (packet.Piece s v base number x) =
-      subst (PacketKnown w.nodes) was.is (all_item (LetterKnown w.nodes) w.letters (heard_by e.act) was.letter h.heard was.there) in known);
-  result = λ s base number v is. (let was : WasSentTo w (actor w e) e.act (packet.Result s base number v) =
-      subst (IsCause w (actor w e) e.act) is cause in
-      let known : PacketKnown w.nodes (packet.Result s base number v) =
-      subst (PacketKnown w.nodes) was.is (all_item (LetterKnown w.nodes) w.letters (heard_by e.act) was.letter h.heard was.there) in known);
+  stamp = λ p is. heard_letter (λ (x : Packet). Below w.nodes (stamp_of x)) w e c p cause is h.stamps;
+  piece = λ s v base number x is. heard_letter (PacketKnown w.nodes) w e c (packet.Piece s v base number x) cause is h.heard;
+  result = λ s base number v is. heard_letter (PacketKnown w.nodes) w e c (packet.Result s base number v) cause is h.heard;
 }
 
 -- what a step comes to

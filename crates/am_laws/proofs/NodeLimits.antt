@@ -1,5 +1,5 @@
 -- What a node has is within its limits, and each change keeps it so.
-use Rattle.am_laws.proofs.Words.{◌≡◌, ℕ, ◌+◌, ◌<◌, ◌≤◌, ◌==◌, ◌&&◌, not, nat_le, false, if◌then◌else◌, List, [], ◌∷◌, length, drop, find, Option, Some, None}
+use Rattle.am_laws.proofs.Words.{◌≡◌, ℕ, ◌+◌, ◌<◌, ◌≤◌, ◌==◌, ◌&&◌, not, nat_le, true, false, if◌then◌else◌, List, [], ◌∷◌, length, drop, find, Option, Some, None}
 use Rattle.am_laws.proofs.Words.{option_map, refl, sym, ap, subst, arith, All, list_any, nat_tests, All-nil, All-cons, All-append, All-map, All-filter}
 use Rattle.am_laws.proofs.Words.{All-drop, All-weaker, most_body, Entry, Data, Leave, View, Vote, Report, Stamp, Outcome, IsSet, stamp_lt, Shown, vote_lt}
 use Rattle.am_laws.proofs.Words.{all_names, better_of, best_from, Packet, OwnSend, KeptBody, is_of, find_body, keep_body, Node, Ballot, image_of, waiting}
@@ -121,38 +121,58 @@ numbered_within b c m e (asked_leave s v report is other known stays) from h = t
 
 -- ---- bodies
 
-abbrev OptionWithin : Option (List ℕ) → Type 0
-OptionWithin None = Unit {0}
-OptionWithin (Some body) = length body ≤ most_body
+-- what is so of a body that is found
+abbrev pub OfBody : (ℕ → ℕ → List ℕ → Type 0) → ℕ → ℕ → Option (List ℕ) → Type 0
+OfBody P from req None = Unit {0}
+OfBody P from req (Some body) = P from req body
 
-own_body_within : (b : Bounds) (m : Node) (from req : ℕ) (w : Option OwnSend) → ((s : OwnSend) → w ≡ Some s → SendWithin b s)
-    → OptionWithin (own_body m from req w)
-own_body_within b m from req None h = tt
-own_body_within b m from req (Some s) h = split ((from == m.core.who) && (s.req == req)) (λ t. rw t ((h s refl).body)) (λ f. rw f tt)
+as_asked : (P : ℕ → ℕ → List ℕ → Type 0) (a b from req : ℕ) (body : List ℕ) → ((a == from) && (b == req)) ≡ true → P a b body → P from req body
+as_asked P a b from req body t h =
+    let e : a ≡ from = grind (arith, nat_tests) in
+    let f : b ≡ req = grind (arith, nat_tests) in
+    subst (λ name. P name req body) e (subst (λ r. P a r body) f h)
 
-found_within : (found : Option KeptBody) → ((kept : KeptBody) → found ≡ Some kept → KeptWithin kept) → OptionWithin (option_map (λ kept. kept.body) found)
-found_within None h = tt
-found_within (Some kept) h = h kept refl
+own_body_has : (P : ℕ → ℕ → List ℕ → Type 0) (m : Node) (from req : ℕ) (w : Option OwnSend) → ((s : OwnSend) → w ≡ Some s → P m.core.who s.req s.body)
+    → OfBody P from req (own_body m from req w)
+own_body_has P m from req None h = tt
+own_body_has P m from req (Some s) h = split ((from == m.core.who) && (s.req == req))
+    (λ t.
+    let same : ((m.core.who == from) && (s.req == req)) ≡ true = grind (arith, nat_tests) in
+    rw t (as_asked P m.core.who s.req from req s.body same (h s refl)))
+    (λ f. rw f tt)
 
-first_within : (x y : Option (List ℕ)) → OptionWithin x → OptionWithin y → OptionWithin (first_body x y)
-first_within None y h k = k
-first_within (Some body) y h k = h
+found_has : (P : ℕ → ℕ → List ℕ → Type 0) (from req : ℕ) (found : Option KeptBody)
+    → ((kept : KeptBody) → found ≡ Some kept → P kept.from kept.req kept.body × (is_of from req kept ≡ true))
+    → OfBody P from req (option_map (λ kept. kept.body) found)
+found_has P from req None h = tt
+found_has P from req (Some kept) h = let k = h kept refl in as_asked P kept.from kept.req from req kept.body k.1 k.0
 
-body_of_within : (b : Bounds) (m : Node) (from req : ℕ) → Within b m → OptionWithin (body_of m from req)
-body_of_within b m from req h =
-    first_within (own_body m from req (waiting m)) (find_body from req m.bodies)
-    (own_body_within b m from req (waiting m) (λ s is. waiting_within b m s is h))
-    (found_within (find (is_of from req) m.bodies) (λ kept is. (all_find KeptWithin (is_of from req) m.bodies kept h.bodies is).0))
+either_has : (P : ℕ → ℕ → List ℕ → Type 0) (from req : ℕ) (x y : Option (List ℕ)) → OfBody P from req x → OfBody P from req y
+    → OfBody P from req (first_body x y)
+either_has P from req None y h k = k
+either_has P from req (Some body) y h k = h
+
+-- what is so of the node's own sends and of the bodies that it keeps
+pub body_has : (P : ℕ → ℕ → List ℕ → Type 0) (m : Node) (from req : ℕ) → All (λ (s : OwnSend). P m.core.who s.req s.body) m.sends.queue
+    → All (λ (kept : KeptBody). P kept.from kept.req kept.body) m.bodies → OfBody P from req (body_of m from req)
+body_has P m from req sends bodies =
+    either_has P from req (own_body m from req (waiting m)) (find_body from req m.bodies)
+    (own_body_has P m from req (waiting m)
+    (λ s is. (all_find (λ (s : OwnSend). P m.core.who s.req s.body) own.is_unsettled m.sends.queue s sends is).0))
+    (found_has P from req (find (is_of from req) m.bodies)
+    (λ kept is. all_find (λ (kept : KeptBody). P kept.from kept.req kept.body) (is_of from req) m.bodies kept bodies is))
+
+pub after_bodies : (P : KeptBody → Type 0) (bodies : List KeptBody) (e : Entry) → All P bodies → All P (bodies_after bodies e)
+after_bodies P bodies (Data from req body) h = All-filter (λ kept. not ((kept.from == from) && nat_le kept.req req)) P bodies h
+after_bodies P bodies _ h = h
 
 carried_within : (b : Bounds) (c : Cause) (m : Node) (s : ℕ) (v : Stamp) (base acc number : ℕ) (e : Entry) → Carries c m s v base acc number e
     → CauseWithin b c → Within b m → EntryWithin b e
 carried_within b c m s v base acc number e (whole_entry x is) from h = from.heard (packet.Bcast s v base acc number e) is
 carried_within b c m s v base acc number e (by_number name req body is found) from h =
-    (from.heard (packet.Order s v base acc number name req) is, subst OptionWithin found (body_of_within b m name req h))
-
-after_bodies : (bodies : List KeptBody) (e : Entry) → All KeptWithin bodies → All KeptWithin (bodies_after bodies e)
-after_bodies bodies (Data from req body) h = All-filter (λ kept. not ((kept.from == from) && nat_le kept.req req)) KeptWithin bodies h
-after_bodies bodies _ h = h
+    let P : ℕ → ℕ → List ℕ → Type 0 = λ from req body. length body ≤ most_body in
+    let own = All-weaker (SendWithin b) (λ (s : OwnSend). length s.body ≤ most_body) (λ s k. k.body) m.sends.queue h.sends in
+    (from.heard (packet.Order s v base acc number name req) is, subst (OfBody P name req) found (body_has P m name req own h.bodies))
 
 kept_within : (s req : ℕ) (body : List ℕ) (bodies : List KeptBody) → length body ≤ most_body → All KeptWithin bodies
     → All KeptWithin (keep_body s req body bodies)
@@ -315,7 +335,7 @@ change_within b m n from round last (keeps_body s v report req body is by) h =
     }
 change_within b m n from round last (stores s v base acc number e by seq plain may) h =
     let k = pushed_within b m e (carried_within b _ m s v base acc number e by from h) h in
-    record { image = k.image; entries = k.entries; sends = k.sends; bodies = after_bodies m.bodies e h.bodies; ballot = k.ballot }
+    record { image = k.image; entries = k.entries; sends = k.sends; bodies = after_bodies KeptWithin m.bodies e h.bodies; ballot = k.ballot }
 change_within b m n from round last (begins_list s v base join image is o may) h =
     record {
       image = from.heard (packet.Welcome s v base join image) is;

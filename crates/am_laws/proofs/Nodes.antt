@@ -1,7 +1,9 @@
 -- What each node keeps in every run, beside a law of worlds that it may stand on.
 use Rattle.am_laws.proofs.EffectWords.{◌≡◌, ℕ, ◌==◌, List, subst, arith, nat_tests, split, Outcome, Rules, has, Event, Node, founder, stranger, Step, World}
-use Rattle.am_laws.proofs.EffectWords.{start, run, first_node, with_record, with_step, Cause, Change, Effect, actor, IsCause, idles, stops, returns, steps}
+use Rattle.am_laws.proofs.EffectWords.{start, run, first_node, with_record, with_step, Cause, Change, Effect, actor, IsCause, steps}
+use Rattle.am_laws.proofs.EffectWords.{All, Packet, Letter, hears, heard_by, WasSentTo}
 use Rattle.am_laws.proofs.EffectRuns.{along, EachKeeps, runs_keep}
+use Rattle.am_laws.proofs.Items.{all_item}
 
 -- what is so of each name's node, and a law of the world beside it
 pub record Each (Base : World → Type 0) (P : ℕ → Node → Type 0) (w : World) : Type 0 where
@@ -39,3 +41,10 @@ nodes_keep rules P own events =
     (runs_keep (Each (λ w. Unit {0}) (λ name. P)) (each_node_keeps _ (λ name. P) (λ w e v happens h. tt)
     (λ w e c s cause effect base h. along P (λ m n. own.change_keeps m n) effect.changes h)) (start rules) events
     (record { base = tt; each = λ name. first_has rules P name (own.founder_has name) (own.stranger_has name) })).each
+
+-- what is so of each letter's packet is so of the one that is heard
+pub heard_letter : (P : Packet → Type 0) (w : World) (e : Event) (c : Cause) (p : Packet) → IsCause w (actor w e) e.act c → c ≡ hears p
+    → All (λ (l : Letter). P l.packet) w.letters → P p
+heard_letter P w e c p cause is all =
+    let was : WasSentTo w (actor w e) e.act p = subst (IsCause w (actor w e) e.act) is cause in
+    subst P was.is (all_item (λ (l : Letter). P l.packet) w.letters (heard_by e.act) was.letter all was.there)

@@ -2,17 +2,17 @@
 -- each View in its list is of another name's list or is not above its own view.
 use Rattle.am_model.specs.Ballots.{decided_view}
 use Rattle.am_base.specs.declared.entry.GroupView.{GroupView}
-use Rattle.am_laws.proofs.WatchedWords.{eqb-false, not_both, view_rises, of_open, next_above, welcomed_none, eqb-true, ◌≡◌, ◌⊎◌, inl, inr, ⊎_elim, ℕ, ◌==◌}
+use Rattle.am_laws.proofs.WatchedWords.{eqb-false, not_both, view_rises, next_above, welcomed_none, eqb-true, ◌≡◌, ◌⊎◌, inl, inr, ⊎_elim, ℕ, ◌==◌}
 use Rattle.am_laws.proofs.WatchedWords.{◌||◌, not, true, false, List, [], ◌∷◌, ◌++◌, Option, Some, refl, sym, ap, ◌∙◌, subst, arith, All, nat_tests, All-nil}
 use Rattle.am_laws.proofs.WatchedWords.{All-cons, All-append, All-weaker, Outcome, Stamp, Entry, Leave, View, stamp_lt, Log, Packet, Node, Ballot, view}
 use Rattle.am_laws.proofs.WatchedWords.{is_member, is_asking, push_entry, has_log, Verdict, next_stamp, need_of, left_in, trim_for, refresh, settle, is_view}
-use Rattle.am_laws.proofs.WatchedWords.{and_both, Cause, hears, Balloting, with_more, without_one, as_it_is, Looks, decides, Promises, invited, overtaken_by}
+use Rattle.am_laws.proofs.WatchedWords.{and_both, Cause, hears, Looks, decides, Promises, invited, overtaken_by}
 use Rattle.am_laws.proofs.WatchedWords.{told_result, Change, refreshes, settles, numbers, stores, begins_list, promises, opens, looks, fetches, stores_view}
 use Rattle.am_laws.proofs.WatchedWords.{closes, Changes, unchanged, changed, rests_refresh, rests_at_end, settle_is, stamp_of, at_most, not_above}
 use Rattle.am_laws.proofs.WatchedWords.{not_above_itself, HasNames, HeardNames, view_last, Balloted, IsOpen, Does, changes_do, numbers_plain}
 use Rattle.am_base.specs.declared.outcome.Outcome.TheVariants as said
 use Rattle.am_packet.specs.declared.packet.Packet.TheVariants as packet
-use Rattle.am_laws.proofs.Chains.{looked_log}
+use Rattle.am_laws.proofs.ViewChanges.{looked_at}
 
 -- ---- what is known of nodes before a step
 
@@ -151,13 +151,6 @@ look_along nodes name x b v _ d o log h = record {
   entries = All-weaker (Chained nodes name x) (Chained nodes name v.node) (chained_up nodes name x v.node d) x.core.log.entries h.entries;
 }
 
-pub looked_open : {c : Cause} (m : Node) (b : Ballot) → Balloting c m b → Balloted m → IsOpen m.core.who m.core.promise (view m) b
-looked_open m b (with_more old s v shown is by low high open_ same stays) h =
-    let o = of_open m old open_ h in record { above = o.above; promised = o.promised; own = o.own }
-looked_open m b (without_one old name is open_ other) h =
-    let o = of_open m old open_ h in record { above = o.above; promised = o.promised; own = o.own }
-looked_open m b (as_it_is old open_ on) h = of_open m old open_ h
-
 -- ---- each change
 
 change_along : (nodes : ℕ → Node) (name : ℕ) {c : Cause} {o : Outcome} → HeardOwn nodes c → (x y : Node) → Change c o x y → Does x y → Balloted x
@@ -196,7 +189,8 @@ change_along nodes name heard x y (opens least resilience by may) d k h = record
   entries = All-weaker (Chained nodes name x) (Chained nodes name y) (chained_up nodes name x y d) x.core.log.entries h.entries;
 }
 change_along nodes name heard x y (looks b verdict over why look is) d k h =
-    look_along nodes name x b verdict look d (looked_open x b why k) (looked_log x b why k) h
+    let l = looked_at x b why k in
+    look_along nodes name x b verdict look d l.open_ l.has_list h
 change_along nodes name heard x y (fetches s v base number e is by promise below from may) d k h =
     along_pushed nodes name x y e refl refl refl refl (known_chained nodes name y e (heard.piece s v base number e is)) d h
 change_along nodes name heard x y (stores_view s base number v is by own other promise below may) d k h =

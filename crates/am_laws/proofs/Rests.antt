@@ -2,7 +2,7 @@
 use Rattle.am_laws.proofs.EffectWords.{◌≡◌, ℕ, ◌+◌, ◌-◌, ◌≤◌, ◌==◌, ◌&&◌, max, min, nat_lt, if◌then◌else◌, List, [], ◌∷◌, ◌++◌, length, Option, Some, None}
 use Rattle.am_laws.proofs.EffectWords.{slice_get, option_map, refl, sym, ap, ◌∙◌, subst, arith, length-append, slice_get-map, append-nil, Entry, Leave, Image}
 use Rattle.am_laws.proofs.EffectWords.{stamp_eq, Log, at_place, after, fold, told_by, life_of, pass_over, base_after, own_report, tell, go_on, OwnSend, Node}
-use Rattle.am_laws.proofs.EffectWords.{image_of, view, is_member, acts, is_sequencer, push_entry, waiting, advance, lead, refresh, accepted_at, settle_at}
+use Rattle.am_laws.proofs.EffectWords.{image_of, view, is_member, acts, is_sequencer, push_entry, waiting, lead, refresh, accepted_at, settle_at}
 use Rattle.am_laws.proofs.EffectWords.{settle_waiting, settle, refresh_at_end, fold_append, split, HasSend, EntryStands}
 use Rattle.am_state.specs.Sends as own
 use Rattle.am_state.specs.Cores.{accept}

@@ -1,5 +1,5 @@
 -- How high all numbers of a run are, event by event.
-use Rattle.am_laws.proofs.Words.{equals_itself, Report, OwnSend, false, ◌≡◌, inl, inr, ⊎_elim, ℕ, ◌+◌, ◌-◌, ◌≤◌, ◌==◌, max, min, Bool, true, if◌then◌else◌, List, [], ◌∷◌, length}
+use Rattle.am_laws.proofs.Words.{heard_letter, equals_itself, Report, OwnSend, false, ◌≡◌, inl, inr, ⊎_elim, ℕ, ◌+◌, ◌-◌, ◌≤◌, ◌==◌, max, min, Bool, true, if◌then◌else◌, List, [], ◌∷◌, length}
 use Rattle.am_laws.proofs.Words.{take, drop, Option, Some, None, refl, ap, ◌∙◌, subst, arith, length-append, length-drop, All, length-take, All-nil, All-head, All-tail}
 use Rattle.am_laws.proofs.Words.{All-append, All-weaker, Entry, Rules, has, row_of, Packet, Letter, Event, letter_at, Node, Ballot, top, image_of, set_at}
 use Rattle.am_laws.proofs.Words.{founder, stranger, Step, World, start, first_node, group_with, group_after, with_record, with_step, happens, happen, run}
@@ -137,9 +137,7 @@ pub was_heard : (w : World) (e : Event) (c : Cause) (p : Packet) → c ≡ hears
 was_heard w e c p is cause = subst (IsCause w (actor w e) e.act) is cause
 
 heard_up : (b : Bounds) (w : World) (e : Event) (c : Cause) → AllLow b w → IsCause w (actor w e) e.act c → (p : Packet) → c ≡ hears p → WelcomeUp p
-heard_up b w e c h cause p is =
-    let was = was_heard w e c p is cause in
-    subst WelcomeUp was.is (all_item (λ (l : Letter). WelcomeUp l.packet) w.letters (heard_by e.act) was.letter h.welcomes was.there)
+heard_up b w e c h cause p is = heard_letter WelcomeUp w e c p cause is h.welcomes
 
 low_stepped : (b : Bounds) (w : World) (e : Event) (c : Cause) (s : Step) → IsCause w (actor w e) e.act c → Effect (w.nodes (actor w e)) c s
     → RaisedBy w (with_step w e (actor w e) s) (actor w e) (heard_by e.act) → AllLow b w → AllLow (up b) (with_step w e (actor w e) s)

@@ -1,15 +1,15 @@
 -- Each letter of a run is a packet within its limits, so the run of packets is the run of bytes.
-use Rattle.am_laws.proofs.Words.{equals_itself, ◌≡◌, ℕ, ◌<◌, ◌≤◌, not, if◌then◌else◌, List, [], ◌∷◌, length, Option, Some, None, refl, ap, ◌∙◌, subst}
+use Rattle.am_laws.proofs.Words.{heard_letter, equals_itself, ◌≡◌, ℕ, ◌<◌, ◌≤◌, not, if◌then◌else◌, List, [], ◌∷◌, length, Option, Some, None, refl, ap, ◌∙◌, subst}
 use Rattle.am_laws.proofs.Words.{arith, All, All-nil, All-cons, All-head, All-tail, All-append, All-weaker, most_body, Rules, MayFound, top_of, Packet}
 use Rattle.am_laws.proofs.Words.{Letter, IsPacket, spelling_again, Act, Event, is_for, letter_at, Node, founder, stranger, founders_view, Step, World, start}
-use Rattle.am_laws.proofs.Words.{is_stopped, with_record, with_step, hears_letter, acts_as, happens, happen, run, heard_by, spelling_is_heard, cut_is_heard}
+use Rattle.am_laws.proofs.Words.{is_stopped, with_record, with_step, hears_letter, acts_as, happens, happen, run, spelling_is_heard, cut_is_heard}
 use Rattle.am_laws.proofs.Words.{Cause, LetterSays, Effect, actor, IsCall, IsCause, Happens, steps, all_item, events_have_effects, sender_of, Bounds, up}
 use Rattle.am_laws.proofs.Words.{UpTo, BodyWithin, IsShort, LettersArePackets, LettersAreRead, acts_by_bytes, happen_by_bytes, RunsAreOfBytes}
 use Rattle.am_base.specs.declared.outcome.Outcome.TheVariants as said
 use Rattle.am_base.specs.declared.event.NodeEvent.TheVariants as does
 use Rattle.am_group.specs.declared.event.Act.TheVariants as act
 use Rattle.am_laws.specs.Events as event
-use Rattle.am_laws.proofs.RunCounts.{was_heard, AllLow, low_happens, low_start, sender_list, set_same, bounds_after, counted_happen, first_of}
+use Rattle.am_laws.proofs.RunCounts.{AllLow, low_happens, low_start, sender_list, set_same, bounds_after, counted_happen, first_of}
 use Rattle.am_laws.proofs.NodeLimits.{SendWithin, KeptWithin, Within, PacketWithin, CauseWithin, within_more, packet_more, changes_within}
 use Rattle.am_laws.proofs.{Limits.EntryWithin, Limits.AreNumbers, Limits.is_blank_within, ListImages.WelcomeUp, ListImages.ListUp, LetterLimits.says_within}
 use Rattle.am_laws.proofs.{LetterLimits.is_packet, Named.AllNamed, Named.each_named, Named.start_named}
@@ -40,12 +40,8 @@ called_within w a body h (event.send x) = h
 cause_within : (rules : Rules) (b : Bounds) (w : World) (e : Event) (c : Cause) → BodyWithin e.act → Limited rules b w → IsCause w (actor w e) e.act c
     → CauseWithin (up b) c
 cause_within rules b w e c body h cause = record {
-  heard = λ p is. (let was = was_heard w e c p is cause in
-      packet_more b p (subst (PacketWithin b) was.is (all_item (λ (l : Letter). PacketWithin b l.packet) w.letters
-      (heard_by e.act) was.letter h.within.letters was.there)));
-  senders = λ p is. (let was = was_heard w e c p is cause in
-      subst (λ (x : Packet). sender_of x < 256) was.is (all_item (λ (l : Letter). sender_of l.packet < 256) w.letters
-      (heard_by e.act) was.letter h.named.senders was.there));
+  heard = λ p is. packet_more b p (heard_letter (PacketWithin b) w e c p cause is h.within.letters);
+  senders = λ p is. heard_letter (λ (x : Packet). sender_of x < 256) w e c p cause is h.named.senders;
   called = λ bytes is. called_within w e.act bytes body (subst (IsCause w (actor w e) e.act) is cause);
 }
 

@@ -12,7 +12,7 @@ use Rattle.am_packet.specs.declared.packet.Packet.TheVariants as packet
 use Rattle.am_model.specs.Joining.{asks_to_join, let_go, asks_to_leave}
 use Rattle.am_laws.proofs.Plans.{Comes, Does, HasEffect, effect_if, effect_of, does_quiet, does_saying, does_polling, does_telling, does_and, does_where}
 use Rattle.am_laws.proofs.Plans.{does_numbering, rows}
-use Rattle.am_laws.proofs.Tests.{or_first, or_second, and_first, and_second, then_other}
+use Rattle.am_laws.proofs.Tests.{or_first, or_second, then_other}
 use Rattle.am_laws.proofs.Rests.{RestsWhole, rests_refresh, leads_rests, stands_rests}
 use Rattle.am_laws.proofs.Says.{leads_pushed, stands_pushed, says_served}
 

@@ -1,5 +1,5 @@
 -- The order of stamps.
-use Rattle.am_laws.proofs.Words.{rank_same, ◌≡◌, ◌⊎◌, ℕ, ◌<◌, ◌≤◌, ◌==◌, ◌&&◌, ◌||◌, nat_lt, Bool, true, false, ap, arith, nat_tests, Stamp, rank_of, stamp_lt}
+use Rattle.am_laws.proofs.Words.{rank_same, ◌≡◌, ℕ, ◌<◌, ◌==◌, ◌&&◌, ◌||◌, nat_lt, Bool, true, false, ap, arith, nat_tests, Stamp, rank_of, stamp_lt}
 use Rattle.am_laws.proofs.Words.{stamp_eq, split}
 
 -- of two pairs of numbers, the first of which counts first

@@ -2,15 +2,14 @@
 use Rattle.am_laws.proofs.Words.{equals_itself, logged, ◌≡◌, ℕ, ◌≤◌, ◌==◌, ◌&&◌, ◌||◌, not, Bool, true, false, if◌then◌else◌, List, None, refl, sym, ap, ◌∙◌}
 use Rattle.am_laws.proofs.Words.{subst, arith, nat_tests, Outcome, Stamp, Image, Rules, MayFound, stamp_eq, Log, Packet, Event, pass_over, Status, Ballot, view}
 use Rattle.am_laws.proofs.Words.{is_sequencer, is_member, is_asking, has_log, Verdict, refresh, Step, World, run, happens, with_step, with_record, split}
-use Rattle.am_laws.proofs.Words.{and_both, Cause, calls, hears, Balloting, with_more, without_one, as_it_is, Looks, finds_itself_out, waits, fetches_from_best}
-use Rattle.am_laws.proofs.Words.{finds_too_few, finds_no_room, whole_entry, by_number, Promises, invited, told_result, Change, refreshes, settles, admits}
+use Rattle.am_laws.proofs.Words.{and_both, Cause, calls, hears, Balloting, with_more, without_one, as_it_is, Looks, finds_itself_out}
+use Rattle.am_laws.proofs.Words.{whole_entry, by_number, Promises, invited, told_result, Change, refreshes, settles, admits}
 use Rattle.am_laws.proofs.Words.{numbers, notes, stores, begins_list, departs, promises, opens, looks, fetches, stores_view, asks_to_join, closes, Changes}
 use Rattle.am_laws.proofs.Words.{actor, Happens, steps, events_have_effects, rests_refresh, settle_is, along}
 use Rattle.am_laws.proofs.StoredWords.{refuses, BringsFronts, with_entry, with_number, alone, BeginsBy, by_reset, overtaken, IsBlank, blank_holds, leads_member}
 use Rattle.am_laws.proofs.StoredWords.{member_of, standing_of, HeardLow, change_begins, lists_go_on, begins}
 use Rattle.am_state.specs.Cores.{accept}
 use Rattle.am_model.specs.Node.{Node}
-use Rattle.am_laws.specs.Looks.{decides}
 use Rattle.am_packet.specs.declared.packet.Packet.TheVariants as packet
 use Rattle.am_model.specs.declared.status.Status.TheVariants as status
 

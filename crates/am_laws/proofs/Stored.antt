@@ -1,5 +1,5 @@
 -- What is so of a name's step in every run, as the world tells its watcher of it.
-use Rattle.am_laws.proofs.Words.{equals_itself, stamp_itself, ◌≡◌, ℕ, ◌≤◌, ◌&&◌, ◌||◌, not, Bool, true, false, if◌then◌else◌, List, length, refl, sym, ap}
+use Rattle.am_laws.proofs.Words.{equals_itself, stamp_itself, ◌≡◌, ℕ, ◌≤◌, ◌&&◌, ◌||◌, not, Bool, true, if◌then◌else◌, List, length, refl, sym, ap}
 use Rattle.am_laws.proofs.Words.{subst, arith, list_any, Stamp, NodeEvent, Rules, MayFound, Event, view, step, World, run, happens, with_step, with_record}
 use Rattle.am_laws.proofs.Words.{actor, Happens, idles, steps, events_have_effects}
 use Rattle.am_laws.proofs.StoredWords.{is_view_of, few_names, names_hold, numbers_hold, IsNew, standing_of, view_of, run_lists, lists_go_on, decided_are_new}

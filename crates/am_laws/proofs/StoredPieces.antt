@@ -1,9 +1,9 @@
 -- Which Views a Piece and a Result add to a node's list.
 use Rattle.am_laws.proofs.Words.{same_stamp, ◌≡◌, ℕ, ◌+◌, ◌-◌, max, ◌==◌, ◌&&◌, ◌||◌, not, nat_lt, nat_le, if◌then◌else◌, Bool, true, false, List, [], ◌∷◌}
-use Rattle.am_laws.proofs.Words.{Option, Some, None, refl, sym, ap, ◌∙◌, subst, list_any, Outcome, GroupView, Stamp, Image, Entry, View, has, size, stamp_lt}
+use Rattle.am_laws.proofs.Words.{Option, Some, None, refl, sym, ap, ◌∙◌, list_any, Outcome, GroupView, Stamp, Image, Entry, View, has, size, stamp_lt}
 use Rattle.am_laws.proofs.Words.{stamp_eq, Log, fits, Status, has_log, Ballot, top, image_of, view, those, is_member, is_within_bound, push_entry, trim_up_to}
 use Rattle.am_laws.proofs.Words.{Plan, Step, quiet, finish, Verdict, with_promise, need_of, best_of, left_in, trim_for, decide, decide_view, restart_reports}
-use Rattle.am_laws.proofs.Words.{refresh_at_end, push_fetched, catch_up, decide_anew, piece_promised, piece_for, piece_row, hears_result, result_row}
+use Rattle.am_laws.proofs.Words.{push_fetched, catch_up, decide_anew, piece_promised, piece_for, piece_row, hears_result, result_row}
 use Rattle.am_laws.proofs.Words.{hears_member, hear_row, split, and_both, or_first, rests_at_end, view_pushed, decided_view}
 use Rattle.am_laws.proofs.StoredWords.{or-false, eq-eqb, view_last, not-false, has_own_leave, is_waited_for, ends, is_view_past, fetches_from, is_view_of}
 use Rattle.am_laws.proofs.StoredWords.{not_above_itself, IsOpen, OpenBallot, Balloted}

@@ -1,6 +1,6 @@
 -- Which Views a step of any cause adds to a node's list, and that these are what a watcher is told.
-use Rattle.am_laws.proofs.Words.{arith, logged, stamp_itself, ◌≡◌, ℕ, ◌&&◌, ◌||◌, not, if◌then◌else◌, Bool, true, false, List, [], ◌∷◌, ◌++◌, Option, Some, None, refl}
-use Rattle.am_laws.proofs.Words.{sym, ap, ◌∙◌, list_any, list_any-append, Outcome, Stamp, Entry, NodeEvent, stamp_eq, Packet, Ballot, view, is_member, has_log}
+use Rattle.am_laws.proofs.Words.{arith, logged, stamp_itself, ◌≡◌, ℕ, ◌&&◌, ◌||◌, not, Bool, true, false, [], ◌∷◌, Option, Some, None, refl}
+use Rattle.am_laws.proofs.Words.{sym, ap, ◌∙◌, list_any, list_any-append, Outcome, Stamp, NodeEvent, stamp_eq, Packet, Ballot, view, is_member, has_log}
 use Rattle.am_laws.proofs.Words.{Step, finish, hear_row, step, row, hear, hear_refusal, split, Cause, hears, Effect}
 use Rattle.am_laws.proofs.StoredWords.{or_right, or_left, or-false, Ok, Err, Piece, Read, reading, cause_of, read_row, is_view_of, refuses, steps_have_effects}
 use Rattle.am_laws.proofs.StoredWords.{hearing_has_effects, refusing_has_effects, Balloted, OpenBallot, decides, standing_of, view_of, IsBare, begins, one_of}

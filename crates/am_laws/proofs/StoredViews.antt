@@ -1,14 +1,14 @@
 -- Which Views the changes of a step add to a node's list.
-use Rattle.am_laws.proofs.Words.{same_stamp, ◌≡◌, ℕ, ◌+◌, ◌≤◌, ◌==◌, ◌&&◌, ◌||◌, not, Bool, true, false, List, [], ◌∷◌, length, Option, Some, None, refl, sym}
+use Rattle.am_laws.proofs.Words.{same_stamp, ◌≡◌, ℕ, ◌+◌, ◌≤◌, ◌==◌, ◌&&◌, ◌||◌, not, Bool, true, false, List, [], ◌∷◌, Option, Some, None, refl, sym}
 use Rattle.am_laws.proofs.Words.{ap, ◌∙◌, subst, arith, length-append, list_any, nat_tests, list_any-append, Outcome, GroupView, Stamp, Image, Entry, Leave}
 use Rattle.am_laws.proofs.Words.{stamp_lt, stamp_eq, Log, told_by, Ballot, top, view, acts, is_sequencer, is_member, push_entry, has_log, Verdict, overtake}
 use Rattle.am_laws.proofs.Words.{need_of, left_in, trim_for, next_stamp, refresh, settle, refresh_at_end, is_view, begin_list, split, and_both, Cause, hears}
-use Rattle.am_laws.proofs.Words.{HasOpen, Balloting, with_more, without_one, as_it_is, Looks, finds_itself_out, waits, fetches_from_best, finds_too_few}
-use Rattle.am_laws.proofs.Words.{finds_no_room, Promises, invited, overtaken_by, told_result, MayBeWelcomed, Change, refreshes, settles, takes_report, admits}
-use Rattle.am_laws.proofs.Words.{numbers, keeps_body, notes, stores, begins_list, departs, promises, opens, looks, fetches, stores_view, queues, collects}
-use Rattle.am_laws.proofs.Words.{takes, asks_to_join, closes, Changes, rests_refresh, rests_at_end, settle_is, view_pushed, along, decided_view}
+use Rattle.am_laws.proofs.Words.{HasOpen, Balloting, with_more, without_one, as_it_is, Looks, finds_itself_out, waits, fetches_from_best}
+use Rattle.am_laws.proofs.Words.{Promises, invited, overtaken_by, told_result, MayBeWelcomed, Change, refreshes, settles}
+use Rattle.am_laws.proofs.Words.{numbers, stores, begins_list, departs, promises, opens, looks, fetches, stores_view}
+use Rattle.am_laws.proofs.Words.{asks_to_join, closes, Changes, rests_refresh, rests_at_end, settle_is, view_pushed, along, decided_view}
 use Rattle.am_laws.proofs.StoredWords.{view_one, or-false, view_last, next_above, welcomed_none, numbers_plain, not-true, is_view_of, BeginsBy, by_reset}
-use Rattle.am_laws.proofs.StoredWords.{asks_to_leave, at_most, at_most_below, not_above}
+use Rattle.am_laws.proofs.StoredWords.{at_most, at_most_below, not_above}
 use Rattle.am_model.specs.Node.{Node}
 use Rattle.am_laws.specs.Looks.{decides}
 use Rattle.am_base.specs.declared.outcome.Outcome.TheVariants as said

@@ -1,8 +1,8 @@
 -- In each run no node trims more than its own application has taken.
 use Rattle.am_laws.proofs.Words.{first_has, kept_own, ◌≡◌, ℕ, ◌+◌, ◌<◌, ◌==◌, true, List, slice_index, subst, arith, All, nat_tests, All-nil, All-append}
 use Rattle.am_laws.proofs.Words.{All-weaker, Outcome, Rules, MayFound, place_of, life_of, has, fold, Packet, Letter, used_fold, Event, Node, founder, stranger}
-use Rattle.am_laws.proofs.Words.{World, start, with_step, run, heard_by, split, Cause, Says, welcome, LetterSays, Changes, no_change, changed, actor, WasSentTo}
-use Rattle.am_laws.proofs.Words.{IsCause, all_item, EachKeeps, StepsKeep, SameParts, law_keeps, runs_keep, Keeps, kept_change, TakenHolds, JoinsFit}
+use Rattle.am_laws.proofs.Words.{World, start, with_step, run, split, Cause, Says, welcome, LetterSays, Changes, no_change, changed, actor, heard_letter}
+use Rattle.am_laws.proofs.Words.{IsCause, EachKeeps, StepsKeep, SameParts, law_keeps, runs_keep, Keeps, kept_change, TakenHolds, JoinsFit}
 use Rattle.am_laws.proofs.Words.{founding_view}
 use Rattle.am_laws.proofs.{LeaderRows.first_member, LeaderRows.used_blank, Named.few_names, ViewNames.HasNames, ViewNames.HeardNames, ViewNames.change_names}
 use Rattle.am_laws.proofs.{ViewChanges.Balloted, ViewChanges.change_does, Views.heard_names, Views.views_start, Blank.Blanked, Blank.change_blank}
@@ -52,9 +52,7 @@ pub record AllOwned (rules : Rules) (w : World) : Type 0 where
   pub open owned use *
 
 pub heard_used : (rules : Rules) (w : World) (e : Event) (c : Cause) → AllOwned rules w → IsCause w (actor w e) e.act c → HeardUsed c
-heard_used rules w e c h cause p is =
-    let was : WasSentTo w (actor w e) e.act p = subst (IsCause w (actor w e) e.act) is cause in
-    subst WelcomeUsed was.is (all_item UsedLetter w.letters (heard_by e.act) was.letter h.letters was.there)
+heard_used rules w e c h cause p is = heard_letter WelcomeUsed w e c p cause is h.letters
 
 pub each_along : (rules : Rules) (w : World) (name : ℕ) → name < 256 → AllOwned rules w → Along rules (w.nodes name)
 each_along rules w name few h =

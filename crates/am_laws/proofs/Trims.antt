@@ -1,9 +1,9 @@
 -- What a node keeps of its numbers and its list: it trims no more than its own application has taken, through a refresh and through its end.
-use Rattle.am_laws.proofs.Words.{passed, has_in, ◌≡◌, ⊎_elim, ℕ, zero, suc, ◌+◌, ◌-◌, ◌<◌, ◌≤◌, ◌==◌, max, nat_lt, Bool, true, false, if◌then◌else◌, List, []}
-use Rattle.am_laws.proofs.Words.{◌∷◌, length, set, Option, Some, None, refl, sym, ap, ◌∙◌, subst, arith, length-append, cases_lt, nat_tests, map-set, Entry}
-use Rattle.am_laws.proofs.Words.{Leave, Report, Image, place_of, life_of, has, size, names_from, names_of, Log, member_life, top_of, told_by, members_at}
+use Rattle.am_laws.proofs.Words.{passed, has_in, ◌≡◌, ⊎_elim, ℕ, ◌+◌, ◌-◌, ◌<◌, ◌≤◌, ◌==◌, max, nat_lt, Bool, true, false, if◌then◌else◌, List}
+use Rattle.am_laws.proofs.Words.{length, set, Option, Some, None, refl, sym, ap, ◌∙◌, subst, arith, length-append, cases_lt, nat_tests, map-set, Entry}
+use Rattle.am_laws.proofs.Words.{Leave, Report, Image, place_of, life_of, has, size, names_of, Log, member_life, top_of, told_by, members_at}
 use Rattle.am_laws.proofs.Words.{members_of, at_place, after, Packet, CoreState, accept, pass_over, unions, since_accepted, image-top, image-push, IsUsed}
-use Rattle.am_laws.proofs.Words.{row_at, used_fold, member_row, leave_life, least_of, least_taken, own_report, tell, go_on, let_go, count_cons, mod16, Node}
+use Rattle.am_laws.proofs.Words.{row_at, used_fold, member_row, leave_life, least_of, least_taken, own_report, tell, go_on, let_go, mod16, Node}
 use Rattle.am_laws.proofs.Words.{Ballot, top, image_of, members, others, is_sequencer, push_entry, trim_up_to, advance, lead, refresh, settle, refresh_at_end}
 use Rattle.am_laws.proofs.Words.{split, settle_is, told_pushed, JoinFits, JoinsFit}
 use Rattle.am_packet.specs.declared.packet.Packet.TheVariants as packet

@@ -1,10 +1,10 @@
 -- What changes do to views, to lists and to ballots: an open ballot is above the view, and is what was promised.
 use Rattle.am_laws.proofs.Words.{logged, same_stamp, and_right, and_left, ◌≡◌, ℕ, ◌+◌, ◌<◌, ◌==◌, ◌&&◌, ◌||◌, not, max, nat_lt, Bool, true, false, Option, Some}
-use Rattle.am_laws.proofs.Words.{None, refl, sym, ap, ◌∙◌, subst, arith, nat_tests, Outcome, GroupView, Stamp, Image, Entry, Data, Join, Leave, View, stamp_lt}
+use Rattle.am_laws.proofs.Words.{None, refl, sym, ap, ◌∙◌, subst, arith, nat_tests, Outcome, GroupView, Stamp, Image, Entry, Leave, View, stamp_lt}
 use Rattle.am_laws.proofs.Words.{stamp_eq, Log, fits, fold, told_by, Status, Node, Ballot, image_of, view, acts, is_sequencer, is_member, is_asking, push_entry}
 use Rattle.am_laws.proofs.Words.{trim_up_to, has_log, Verdict, overtake, need_of, left_in, trim_for, next_stamp, is_unfinished, is_view, refresh, hears_member}
 use Rattle.am_laws.proofs.Words.{hears_in_view, hears_sequencer, split, Cause, HasOpen, Balloting, with_more, without_one, as_it_is, Looks, finds_itself_out}
-use Rattle.am_laws.proofs.Words.{waits, fetches_from_best, finds_too_few, finds_no_room, decides, Numbers, asked_send, own_send, asked_join, asked_leave}
+use Rattle.am_laws.proofs.Words.{waits, fetches_from_best, finds_too_few, finds_no_room, decides, Numbers, asked_send}
 use Rattle.am_laws.proofs.Words.{Fetches, without_ballot, for_ballot, MayBeWelcomed, Change, refreshes, settles, numbers, stores, begins_list, departs}
 use Rattle.am_laws.proofs.Words.{promises, opens, looks, fetches, stores_view, asks_to_join, closes, Changes, unchanged, changed, or_first, or_second}
 use Rattle.am_laws.proofs.Words.{view_pushed, rests_refresh, rests_at_end, settle_is, decided_view}

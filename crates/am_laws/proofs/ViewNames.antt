@@ -2,7 +2,7 @@
 use Rattle.am_laws.proofs.Words.{◌≡◌, ℕ, ◌<◌, ◌&&◌, not, false, List, [], ◌∷◌, ◌++◌, Option, Some, None, sym, subst, arith, All, nat_tests, All-nil, All-cons}
 use Rattle.am_laws.proofs.Words.{All-append, Outcome, Stamp, Entry, Leave, View, stamp_lt, Packet, Node, Ballot, push_entry, Verdict, overtake, is_view}
 use Rattle.am_laws.proofs.Words.{refresh, refresh_at_end, split, Cause, hears, HasOpen, Balloting, with_more, without_one, as_it_is, Looks, decides, Says}
-use Rattle.am_laws.proofs.Words.{piece, Promises, invited, overtaken_by, told_result, Numbers, asked_send, own_send, asked_join, asked_leave, Change, refreshes}
+use Rattle.am_laws.proofs.Words.{piece, Promises, invited, overtaken_by, told_result, Numbers, asked_send, Change, refreshes}
 use Rattle.am_laws.proofs.Words.{settles, numbers, stores, begins_list, promises, opens, looks, fetches, stores_view, closes, all_get, rests_refresh}
 use Rattle.am_laws.proofs.Words.{rests_at_end, settle_is, sender_of, stamp_of}
 use Rattle.am_packet.specs.declared.packet.Packet.TheVariants as packet

@@ -90,8 +90,8 @@ goes_then a b c h k = record {
 
 -- ---- an entry more
 
-goes_other : (m : Node) (e : Entry) → is_view e ≡ false → Goes m.core.log (push_entry m e).core.log
-goes_other m e plain =
+pub goes_plain : (m : Node) (e : Entry) → is_view e ≡ false → Goes m.core.log (push_entry m e).core.log
+goes_plain m e plain =
     let same = after_same (image_of m) (top m + 1) e plain in
     let is = told_pushed m e in
     record {
@@ -136,7 +136,4 @@ pub goes_fit : (m : Node) (e : Entry) → fits (image_of m) e ≡ true → Goes 
 unfolding fits
 goes_fit m (View v) fit = goes_view m v
     (split (stamp_lt (view m) v.stamp) (λ t. t) (λ f. absurd (let g = rw f at fit in cc)))
-goes_fit m e fit = goes_other m e refl
-
-pub goes_plain : (m : Node) (e : Entry) → is_view e ≡ false → Goes m.core.log (push_entry m e).core.log
-goes_plain m e plain = goes_other m e plain
+goes_fit m e fit = goes_plain m e refl

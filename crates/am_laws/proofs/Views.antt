@@ -3,8 +3,8 @@ use Rattle.am_laws.proofs.Words.{equals_itself, logged, stamp_itself, and_both, 
 use Rattle.am_laws.proofs.Words.{if◌then◌else◌, List, [], ◌∷◌, ◌++◌, length, Some, slice_get, refl, sym, ap, ◌∙◌, subst, arith, All, nat_tests, All-nil}
 use Rattle.am_laws.proofs.Words.{All-cons, All-append, All-weaker, Stamp, View, Rules, MayFound, has, stamp_lt, stamp_eq, entry_at, fold, after, Packet, Letter}
 use Rattle.am_laws.proofs.Words.{Event, Node, image_of, view, set_at, is_member, founder, stranger, lowest_or_first, founders_view, has_log, Decided, World}
-use Rattle.am_laws.proofs.Words.{start, first_node, founders_decided, last_view, views_after, with_step, run, heard_by, split, Cause, Says, request, LetterSays}
-use Rattle.am_laws.proofs.Words.{actor, WasSentTo, IsCause, all_get, all_item, EachKeeps, StepsKeep, SameParts, law_keeps, runs_keep, sender_of, stamp_of}
+use Rattle.am_laws.proofs.Words.{start, first_node, founders_decided, last_view, views_after, with_step, run, split, Cause, Says, request, LetterSays}
+use Rattle.am_laws.proofs.Words.{actor, heard_letter, IsCause, all_get, EachKeeps, StepsKeep, SameParts, law_keeps, runs_keep, sender_of, stamp_of}
 use Rattle.am_laws.proofs.Words.{ViewsHold, first_founder}
 use Rattle.am_play.specs.World.{decides}
 use Rattle.am_laws.proofs.ViewNames.{ViewNamed, HasNames, HeardNames, PieceNamed, pieces_named}
@@ -49,13 +49,9 @@ pub record AllViews (rules : Rules) (w : World) : Type 0 where
 
 pub heard_names : (rules : Rules) (w : World) (e : Event) (c : Cause) → AllViews rules w → IsCause w (actor w e) e.act c → HeardNames c
 heard_names rules w e c h cause = record {
-  pieces = λ p is. (let was : WasSentTo w (actor w e) e.act p = subst (IsCause w (actor w e) e.act) is cause in
-      subst PieceNamed was.is (all_item PieceLetter w.letters (heard_by e.act) was.letter h.pieces was.there));
-  senders = λ p is. (let was : WasSentTo w (actor w e) e.act p = subst (IsCause w (actor w e) e.act) is cause in
-      subst (λ (x : Packet). sender_of x < 256) was.is (all_item (λ (l : Letter). sender_of l.packet < 256) w.letters
-      (heard_by e.act) was.letter h.named.senders was.there));
-  stamps = λ p is. (let was : WasSentTo w (actor w e) e.act p = subst (IsCause w (actor w e) e.act) is cause in
-      subst (λ (x : Packet). (stamp_of x).by < 256) was.is (all_item StampLetter w.letters (heard_by e.act) was.letter h.stamps was.there));
+  pieces = λ p is. heard_letter PieceNamed w e c p cause is h.pieces;
+  senders = λ p is. heard_letter (λ (x : Packet). sender_of x < 256) w e c p cause is h.named.senders;
+  stamps = λ p is. heard_letter (λ (x : Packet). (stamp_of x).by < 256) w e c p cause is h.stamps;
 }
 
 -- the view doesn't fall

@@ -11,7 +11,7 @@ pub use Rattle.am_laws.proofs.Words.{is_stopped, heard_by, logged, Cause, hears,
 pub use Rattle.am_laws.proofs.Words.{finds_itself_out, decides, Change, refreshes, settles, numbers, stores, begins_list, departs, looks, fetches, stores_view}
 pub use Rattle.am_laws.proofs.Words.{asks_to_join, closes, Changes, unchanged, changed, Numbers, asked_send, own_send, asked_join, asked_leave, Carries}
 pub use Rattle.am_laws.proofs.Words.{whole_entry, by_number, promises, opens, no_change, Promises, invited, overtaken_by, told_result, rests_refresh}
-pub use Rattle.am_laws.proofs.Words.{rests_at_end, settle_is, Each, each_node_keeps, first_has, equals_itself, or_second, Effect, actor, WasSentTo, IsCause}
+pub use Rattle.am_laws.proofs.Words.{rests_at_end, settle_is, heard_letter, Each, each_node_keeps, first_has, equals_itself, or_second, Effect, actor, WasSentTo, IsCause}
 pub use Rattle.am_laws.proofs.Words.{steps, idles, stops, returns, along, EachKeeps, runs_keep, StepsKeep, SameParts, law_keeps, stamp_itself, same_stamp}
 pub use Rattle.am_laws.proofs.Words.{told_pushed, view_pushed, all_get, all_item, Says, piece, result, LetterSays}
 pub use Rattle.am_laws.proofs.Named.{AllNamed, few_names, each_named, change_named}

@@ -26,7 +26,7 @@ pub use Rattle.am_laws.proofs.EffectWords.{welcome, gone, invite, fetch, piece, 
 pub use Rattle.am_laws.proofs.Rests.{rests_refresh, settle_is, rests_at_end, with_fronts, refresh_is, passed}
 pub use Rattle.am_laws.proofs.EffectRuns.{EachKeeps, runs_keep, along, StepsKeep, SameParts, law_keeps}
 pub use Rattle.am_laws.proofs.Items.{all_get, all_item, all_find, get_front, get_last}
-pub use Rattle.am_laws.proofs.{Nodes.Each, Nodes.each_node_keeps, Nodes.first_has, Statuses.logged, Statuses.asking_log, Says.view_pushed, Says.told_pushed}
+pub use Rattle.am_laws.proofs.{Nodes.Each, Nodes.each_node_keeps, Nodes.heard_letter, Nodes.first_has, Statuses.logged, Statuses.asking_log, Says.view_pushed, Says.told_pushed}
 pub use Rattle.am_laws.proofs.{Tests.equals_itself, Tests.or_first, Tests.or_second, Events.events_have_effects, Hearing.other_heard, Resets.stamp_itself}
 pub use Rattle.am_laws.proofs.{Resets.same_stamp, Ballots.entry_is, Kept.HasItself, Kept.Keeps, Changes.itself, Changes.kept_change, BoundedRuns.kept_own}
 unfoldable pub use Rattle.am_laws.proofs.EffectWords.{fits, after, fold, pass_over, own_report, tell, go_on, those, decide, begin, keep_vote, give_up, best_of}

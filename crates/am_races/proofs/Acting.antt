@@ -108,8 +108,9 @@ step_comes terms before name m n l what item follows low_name node life may is e
     let w : World = world_after terms.founding before in
     let kn = knows terms before follows in
     let e : Event = item.event in
+    let first : name_at (place_of name) 1 ≡ name = omega arith in
     let here : current w (place_of e.node) ≡ name = name_now terms.founding before kn (place_of e.node) ∙ ap (λ (k : ℕ). name_at (place_of k) 1) node
-    ∙ low_one name low_name in
+    ∙ first in
     let runs : is_stopped w name ≡ false = kn.stopped name ∙ may.runs in
     let s : Step = step (w.nodes name) what in
     let c = step_end (w.nodes name) m n what item.outcome item.packets end order does in
@@ -126,6 +127,3 @@ step_comes terms before name m n l what item follows low_name node life may is e
           (sym (ap (λ (v : World). v.nodes name) (told_more terms.founding before item ∙ next_tells terms.founding before item next ∙ did)
           ∙ own_node w e name s)) c.node;
     }
-  where
-    low_one : (k : ℕ) → k < 16 → name_at (place_of k) 1 ≡ k
-    low_one k h = omega arith

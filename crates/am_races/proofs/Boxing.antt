@@ -15,7 +15,7 @@ use Rattle.am_base.specs.declared.outcome.Outcome.TheVariants as said
 use Rattle.am_group.specs.declared.event.Act.TheVariants as act
 use Rattle.am_sharing.specs.declared.terms.WireRefusal.TheVariants as refusals
 use Rattle.std.proofs.lemmas.Bool.{or_left}
-use Rattle.am_races.proofs.Words.{map-append}
+use Rattle.am_races.proofs.Words.{map-append, split}
 
 -- ---- records of a key
 
@@ -239,10 +239,8 @@ fold_last numbers n = fold-append max 0 numbers (n ∷ [])
 pub place_last : (f : Record → ℕ) (place : ℕ) (before : List Record) (r : Record) → (place_of r.event.node == place) ≡ true
     → greatest (map f (of_place place (before ++ r ∷ []))) ≡ max (greatest (map f (of_place place before))) (f r)
 place_last f place before r its =
-    let split : of_place place (before ++ r ∷ []) ≡ of_place place before ++ r ∷ [] =
-    filter-append (λ (q : Record). place_of q.event.node == place) before (r ∷ []) ∙ ap (λ (b : Bool). of_place place before ++ cond b (r ∷ []) []) its
-    in
-    ap (λ (rs : List Record). greatest (map f rs)) split ∙ ap greatest (map-append f (of_place place before) (r ∷ [])) ∙ fold_last (map f (of_place place before)) (f r)
+    rw (filter-append (λ (q : Record). place_of q.event.node == place) before (r ∷ []), its, map-append f (of_place place before) (r ∷ []))
+    (fold_last (map f (of_place place before)) (f r))
 
 max_thrice : (a b c : ℕ) → max (max a b) c ≡ max a (max b c)
 max_thrice a b c = omega arith
@@ -362,20 +360,11 @@ module _ (wire : TableId) (plan : RacePlan) (name : ℕ) (pass share : Known) (m
             ∙ ap unless_nought (sym (place_last heard name before r here)) ∙ ap (last_heard name) (sym seen);
         stopped_ = λ _.
             stopped_is ∙ ap (λ (b : Bool). b || is_stop a) (d.box.stopped_ d.runs ∙ d.may.runs ∙ sym runs)
-            ∙ sym (stopped_more before r name ∙ ap (λ (b : Bool). has_stopped before name || (is_stop a && b)) is_first
-            ∙ ap (λ (b : Bool). has_stopped before name || b) (and_true (is_stop a)))
+            ∙ sym (stopped_more before r name ∙ rw is_first (split (is_stop a) (λ t. rw t refl) (λ f. rw f refl)))
             ∙ ap (λ (rs : List Record). has_stopped rs name) (sym seen);
         spent = λ e. absurd (none-some _ (sym d.runs ∙ e));
       }
-    where
-      and_true : (b : Bool) → (b && true) ≡ b
-      and_true true = refl
-      and_true false = refl
 
-module _ (wire : TableId) (plan : RacePlan) (name : ℕ) (pass share : Known) (m n : Node) (far : ℕ) (last : Option ℕ) (stopped : Bool)
-    (closed : Option WireRefusal)
-    (a : Act) (by : By) (l : Option Letter) (what : Option NodeEvent) (outcome : Outcome) (letters : List Letter)
-    (d : Doing wire plan name pass share m n far last stopped closed a by l what outcome letters) where
   -- what it leaves
   pub box_acted : (b : Boxed) (item : Record) (count : ℕ) (pass' share' : Known) (came : Came) → record { name = name; seen = pass.seen; closed = closed } ≡ b
       → item ≡ item_of name a by outcome letters → Committed (IsLawful pass.terms) pass share item count pass' share' → came.outcome ≡ outcome

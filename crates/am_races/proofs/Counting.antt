@@ -31,10 +31,7 @@ unfolding counted
 counts_it from [] r rest low high = absurd (omega arith)
 counts_it from (t ∷ threads) r rest low high = dite (ℕ_discrete r.by.caller from)
     (λ e. omega (arith, its_own from r rest e, counts_on (from + 1) threads r rest))
-    (λ (other : r.by.caller ≡ from → ⊥). omega (arith, no_fewer from r rest, counts_it (from + 1) threads r rest (above other) (omega arith)))
-  where
-    above : (r.by.caller ≡ from → ⊥) → from + 1 ≤ r.by.caller
-    above other = omega arith
+    (λ (other : r.by.caller ≡ from → ⊥). omega (arith, no_fewer from r rest, counts_it (from + 1) threads r rest (omega arith) (omega arith)))
 
 all_counted : (threads : List ThreadPlan) (journal : List Record) → All (λ r. r.by.caller < length threads) journal → length journal ≤ counted 0 threads journal
 unfolding counted

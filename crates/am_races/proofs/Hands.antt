@@ -26,17 +26,14 @@ pub luck_drawn : (luck : Luck) (ahead last : Option ℕ) → ((n : ℕ) → ahea
 luck_drawn luck None last a l = refl
 luck_drawn luck (Some n) last a l = by_tests (nat_lt (draw luck.words 100) luck.loss) (nat_lt (draw luck.words 100) (luck.loss + luck.repeat)) last l
   where
-    some : 0 < n
-    some = a n refl
-
     by_tests : (b c : Bool) (o : Option ℕ) → ((k : ℕ) → o ≡ Some k → 0 < k)
         → record luck { words = after_draw luck.words }
         ≡ luck_behind luck (act_of (if b then choice.Lose n else if c then again n o else choice.Hear n))
         (lost_in (if b then choice.Lose n else if c then again n o else choice.Hear n))
-    by_tests true c o h = one_word luck act.Tick n (let s = some in omega arith)
-    by_tests false true None h = one_word luck (act.Hear n) 0 (let s = some in omega arith)
+    by_tests true c o h = one_word luck act.Tick n (let s = a n refl in omega arith)
+    by_tests false true None h = one_word luck (act.Hear n) 0 (let s = a n refl in omega arith)
     by_tests false true (Some k) h = one_word luck (act.Hear k) 0 (let s = h k refl in omega arith)
-    by_tests false false o h = one_word luck (act.Hear n) 0 (let s = some in omega arith)
+    by_tests false false o h = one_word luck (act.Hear n) 0 (let s = a n refl in omega arith)
 
 -- as a box chooses
 pub drawn_by : (luck luck' : Luck) (ahead last : Option ℕ) (said : Choice) (a : Act) (lost : ℕ) → ((n : ℕ) → ahead ≡ Some n → 0 < n)
@@ -240,20 +237,15 @@ pub asked_timely : (wire : TableId) (plan : RacePlan) (name : ℕ) (pass : Known
     → IsTimely plan b.seen (record { node = b.name; act = a }) by
 unfolding may_end
 asked_timely wire plan name pass m far last stopped closed b a by is box none_ due =
+    let low = box.place in
+    let first : name_at (place_of name) 1 ≡ name = omega arith in
+    let its_name : current (world_after plan.founding pass.seen) (place_of name) ≡ name =
+    name_now plan.founding pass.seen (knows (terms_of plan) pass.seen box.lawful) (place_of name) ∙ first in
     subst (λ (x : Boxed). (is_end_of by.part a ≡ true → is_due plan (node_by plan x.seen x.name) (of_call by.caller by.call x.seen) ≡ true)
-    → IsTimely plan x.seen (record { node = x.name; act = a }) by) is timely due
-  where
-    its_name : current (world_after plan.founding pass.seen) (place_of name) ≡ name
-    its_name =
-        name_now plan.founding pass.seen (knows (terms_of plan) pass.seen box.lawful) (place_of name)
-        ∙ (let low = box.place in let n : name_at (place_of name) 1 ≡ name = omega arith in n)
-
-    timely : (is_end_of by.part a ≡ true → is_due plan (node_by plan pass.seen name) (of_call by.caller by.call pass.seen) ≡ true)
-        → IsTimely plan pass.seen (record { node = name; act = a }) by
-    timely d = record {
+    → IsTimely plan x.seen (record { node = x.name; act = a }) by) is (λ d. record {
       turn = λ turn. absurd (true≢false (sym turn ∙ none_));
       end_ = λ end. subst (λ (k : ℕ). is_due plan (node_by plan pass.seen k) (of_call by.caller by.call pass.seen) ≡ true) (sym its_name) (d end);
-    }
+    }) due
 
 -- a turn is no end
 pub turn_timely : (plan : RacePlan) (seen : List Record) (name name' : ℕ) (a : Act) (by : By) (tag : Tag) (lost : ℕ) → name' ≡ name → by ≡ by_of tag (Turn lost)

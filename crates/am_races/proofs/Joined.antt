@@ -39,13 +39,12 @@ gets_key key p q p' j its =
 -- ---- places
 
 pub place_more : (count : ℕ) (p q p' : Known) → HasPlaces count p → Joined p q p' → q.keys ≡ Place count ∷ [] → HasPlaces (count + 1) p'
-place_more count p q p' has j its place h = ⊎_elim
+place_more count p q p' has j its place h =
+    let one : (place < count) ⊎ (place ≡ count) = grind arith in
+    ⊎_elim
     (λ (below : place < count). keeps_key (Place place) p q p' j (has place below))
     (λ (last : place ≡ count). subst (λ (n : ℕ). 0 < times (Place n) p'.keys) (sym last) (gets_key (Place count) p q p' j its))
-    (below_or_last place count (omega arith))
-  where
-    below_or_last : (a n : ℕ) → a ≤ n → (a < n) ⊎ (a ≡ n)
-    below_or_last a n le = grind arith
+    one
 
 pub places_stay : (count : ℕ) (p q p' : Known) → HasPlaces count p → Joined p q p' → HasPlaces count p'
 places_stay count p q p' has j place h = keeps_key (Place place) p q p' j (has place h)

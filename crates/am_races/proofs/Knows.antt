@@ -1,5 +1,5 @@
 -- What is known of the world of which a lawful journal tells.
-use Rattle.am_races.proofs.Words.{◌≡◌, ℕ, List, [], ◌∷◌, ◌++◌, Bool, true, false, true≢false, Option, Some, None, sym, refl, ap, ◌∙◌, subst, append_assoc}
+use Rattle.am_races.proofs.Words.{split, ◌≡◌, ℕ, List, [], ◌∷◌, ◌++◌, Bool, true, false, true≢false, Option, Some, None, sym, refl, ap, ◌∙◌, subst, append_assoc}
 use Rattle.am_races.proofs.Words.{append-nil, if◌then◌else◌, ◌==◌, ◌&&◌, ◌||◌, list_any, list_any-append, fold-append, flat_map-append, Outcome, NodeEvent}
 use Rattle.am_races.proofs.Words.{Rules, place_of, name_at, Packet, Letter, Act, Event, Record, name_of, letters_of, letter_at, Step, hear, World, start}
 use Rattle.am_races.proofs.Words.{is_stopped, with_record, with_step, does_event, gives_up, hears_letter, acts_as, happens, current, Terms, Follows, is_stop}
@@ -102,41 +102,31 @@ any_more names last name = list_any-append (λ (x : ℕ). x == name) names (last
 knows_next : (terms : Terms) (before : List Record) (r : Record) → IsLawful terms before r → Knows terms.founding before
     → Knows terms.founding (before ++ r ∷ [])
 unfolding happens
-knows_next terms before r lawful knows = by_stop (is_stop r.event.act) refl
-  where
-    w : World
-    w = world_after terms.founding before
-
-    name : ℕ
-    name = current w (place_of r.event.node)
-
-    its : name ≡ name_of r
-    its = name_now terms.founding before knows (place_of r.event.node) ∙ ap (name_at (place_of r.event.node)) (sym lawful.life)
-
-    more : world_after terms.founding (before ++ r ∷ []) ≡ tells w r
-    more = told_more terms.founding before r
-
-    letters : (world_after terms.founding (before ++ r ∷ [])).letters ≡ letters_of (before ++ r ∷ [])
-    letters = ap (λ (v : World). v.letters) more ∙ ap (λ (ls : List Letter). ls ++ r.packets) knows.letters
-        ∙ sym (flat_map-append (λ (q : Record). q.packets) before (r ∷ []) ∙ ap (λ (ls : List Letter). letters_of before ++ ls) (append-nil r.packets))
-
-    by_stop : (b : Bool) → is_stop r.event.act ≡ b → Knows terms.founding (before ++ r ∷ [])
-    by_stop false other_act =
-        let still = acts_still w r.event name r.event.act lawful.act_ other_act in record {
-          stopped = λ x. ap (λ (v : World). is_stopped v x) more ∙ ap (list_any (λ y. y == x)) still.stopped ∙ knows.stopped x
-              ∙ sym (stopped_more before r x ∙ ap (λ (b : Bool). has_stopped before x || (b && (name_of r == x))) other_act ∙ or_false (has_stopped before x));
-          lives = λ p. ap (λ (v : World). v.lives p) more ∙ ap (λ (f : ℕ → ℕ). f p) still.lives ∙ knows.lives p;
-          letters = letters;
-        }
-    by_stop true its_stop =
-        let runs : is_stopped w name ≡ false = knows.stopped name ∙ ap (has_stopped before) its ∙ lawful.stop in
-        let s = stop_acts w r.event name r.event.act its_stop runs in record {
-          stopped = λ x. ap (λ (v : World). is_stopped v x) more ∙ ap (list_any (λ y. y == x)) s.stopped ∙ any_more w.stopped name x
-              ∙ ap (λ (b : Bool). b || (name == x)) (knows.stopped x) ∙ ap (λ (k : ℕ). has_stopped before x || (k == x)) its
-              ∙ sym (stopped_more before r x ∙ ap (λ (b : Bool). has_stopped before x || (b && (name_of r == x))) its_stop);
-          lives = λ p. ap (λ (v : World). v.lives p) more ∙ ap (λ (f : ℕ → ℕ). f p) s.lives ∙ knows.lives p;
-          letters = letters;
-        }
+knows_next terms before r lawful knows =
+    let w : World = world_after terms.founding before in
+    let name : ℕ = current w (place_of r.event.node) in
+    let its : name ≡ name_of r = name_now terms.founding before knows (place_of r.event.node) ∙ ap (name_at (place_of r.event.node)) (sym lawful.life) in
+    let more : world_after terms.founding (before ++ r ∷ []) ≡ tells w r = told_more terms.founding before r in
+    let letters : (world_after terms.founding (before ++ r ∷ [])).letters ≡ letters_of (before ++ r ∷ []) =
+    ap (λ (v : World). v.letters) more ∙ ap (λ (ls : List Letter). ls ++ r.packets) knows.letters
+    ∙ sym (flat_map-append (λ (q : Record). q.packets) before (r ∷ []) ∙ ap (λ (ls : List Letter). letters_of before ++ ls) (append-nil r.packets)) in
+    split (is_stop r.event.act)
+    (λ its_stop.
+    let runs : is_stopped w name ≡ false = knows.stopped name ∙ ap (has_stopped before) its ∙ lawful.stop in
+    let s = stop_acts w r.event name r.event.act its_stop runs in record {
+      stopped = λ x. ap (λ (v : World). is_stopped v x) more ∙ ap (list_any (λ y. y == x)) s.stopped ∙ any_more w.stopped name x
+          ∙ ap (λ (b : Bool). b || (name == x)) (knows.stopped x) ∙ ap (λ (k : ℕ). has_stopped before x || (k == x)) its
+          ∙ sym (stopped_more before r x ∙ ap (λ (b : Bool). has_stopped before x || (b && (name_of r == x))) its_stop);
+      lives = λ p. ap (λ (v : World). v.lives p) more ∙ ap (λ (f : ℕ → ℕ). f p) s.lives ∙ knows.lives p;
+      letters = letters;
+    })
+    (λ other_act.
+    let still = acts_still w r.event name r.event.act lawful.act_ other_act in record {
+      stopped = λ x. ap (λ (v : World). is_stopped v x) more ∙ ap (list_any (λ y. y == x)) still.stopped ∙ knows.stopped x
+          ∙ sym (stopped_more before r x ∙ ap (λ (b : Bool). has_stopped before x || (b && (name_of r == x))) other_act ∙ or_false (has_stopped before x));
+      lives = λ p. ap (λ (v : World). v.lives p) more ∙ ap (λ (f : ℕ → ℕ). f p) still.lives ∙ knows.lives p;
+      letters = letters;
+    })
 
 pub knows : (terms : Terms) (before : List Record) → Follows (IsLawful terms) before → Knows terms.founding before
 unfolding world_after

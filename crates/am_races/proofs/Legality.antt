@@ -49,11 +49,7 @@ cancel : (xs ys zs : List Record) → xs ++ ys ≡ xs ++ zs → ys ≡ zs
 cancel xs ys zs e = sym (drop-append_seam xs ys) ∙ ap (drop (length xs)) e ∙ drop-append_seam xs zs
 
 head_is : (x y : Record) (xs ys : List Record) → x ∷ xs ≡ y ∷ ys → x ≡ y
-head_is x y xs ys e = ap (first x) e
-  where
-    first : Record → List Record → Record
-    first z [] = z
-    first z (u ∷ us) = u
+head_is x y xs ys e = cc
 
 tail_is : (x y : Record) (xs ys : List Record) → x ∷ xs ≡ y ∷ ys → xs ≡ ys
 tail_is x y xs ys e = ap (drop 1) e

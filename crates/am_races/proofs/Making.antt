@@ -18,8 +18,9 @@ use Rattle.std.proofs.lemmas.Bool.{and_from}
 use Rattle.std.proofs.lemmas.List.{take-append-le}
 use Rattle.am_laws.proofs.Items.{get_last}
 use Rattle.am_races.proofs.Words.{split}
-use Rattle.std.proofs.lemmas.List.{take_all, drop_all, drop-append-le}
+use Rattle.std.proofs.lemmas.List.{take_all, drop_all, drop-append-le, length-take}
 use Rattle.std.proofs.lemmas.List.Elements.{All-drop}
+use Rattle.std.proofs.lemmas.List.Sums.{prefix_len-le-length}
 
 -- ---- answers of records, and refusals
 
@@ -54,11 +55,8 @@ pub none_turned : (plan : RacePlan) (node : ℕ) (tag : Tag) (request : Option �
     → HasTurned plan node tag request seen seen 0 (answer.Late plan.turns)
 none_turned plan node tag request seen grows = record { mine = []; grows = grows; turns = refl; count = refl; late_ = refl }
 
-low_place : (node : ℕ) → place_of (place_of node) ≡ place_of node
-low_place node = omega arith
-
 its_place : (node : ℕ) (item : Record) → item.event.node ≡ place_of node → place_of item.event.node ≡ place_of node
-its_place node item e = ap place_of e ∙ low_place node
+its_place node item e = omega arith
 
 pub one_turned : (plan : RacePlan) (node : ℕ) (tag : Tag) (request : Option ℕ) (old middle new : List Record) (spent : ℕ) (its : Answer) (outcome : Outcome)
     → HasTurned plan node tag request old middle spent its → Turned (place_of node) tag outcome middle new
@@ -298,22 +296,13 @@ prefix_apart n call [] (r ∷ mine) low own =
     rw (ne_eqb r.by.call n (λ s. omega arith)) refl
 prefix_apart n call (x ∷ xs) mine low own = ap (λ (k : ℕ). cond (x.by.call == n) (1 + k) 0) (prefix_apart n call xs mine low own)
 
-prefix_low : (p : Record → Bool) (xs : List Record) → prefix_len p xs ≤ length xs
-prefix_low p [] = omega arith
-prefix_low p (x ∷ xs) = let h = prefix_low p xs in split (p x) (λ t. rw t (omega arith)) (λ f. rw f (omega arith))
-
 first_apart : (n call : ℕ) (xs mine : List Record) → n < call → AreOf call mine → first_call n (xs ++ mine) ≡ first_call n xs
 first_apart n call xs mine low own =
     ap (λ (k : ℕ). take k (xs ++ mine)) (prefix_apart n call xs mine low own)
-    ∙ take-append-le (prefix_len (λ (r : Record). r.by.call == n) xs) xs mine (prefix_low (λ (r : Record). r.by.call == n) xs)
+    ∙ take-append-le (prefix_len (λ (r : Record). r.by.call == n) xs) xs mine (prefix_len-le-length (λ (r : Record). r.by.call == n) xs)
 
 first_short : (n : ℕ) (xs : List Record) → length (first_call n xs) ≤ length xs
-first_short n xs = take_short (prefix_len (λ (r : Record). r.by.call == n) xs) xs
-  where
-    take_short : (k : ℕ) (ys : List Record) → length (take k ys) ≤ length ys
-    take_short zero ys = omega arith
-    take_short (suc k) [] = omega arith
-    take_short (suc k) (y ∷ ys) = let h = take_short k ys in omega arith
+first_short n xs = omega (arith, length-take (prefix_len (λ (r : Record). r.by.call == n) xs) xs)
 
 behind_apart : (n call : ℕ) (xs mine : List Record) → n < call → AreOf call mine → behind n (xs ++ mine) ≡ behind n xs ++ mine
 behind_apart n call xs mine low own =
@@ -387,7 +376,7 @@ unfolding AreOf
 has_made_more plan node number calls a old new its has made = record {
   made = ap (is_callers plan.turns (calls ++ a ∷ [])) made.grows.all
       ∙ calls_more plan.turns 0 (length calls) (calls ++ a ∷ []) a (of_caller number old) made.mine (omega arith)
-      (ap (slice_get (calls ++ a ∷ [])) from_none ∙ get_last calls a)
+      (let from_none : length calls - 0 ≡ length calls = omega arith in ap (slice_get (calls ++ a ∷ [])) from_none ∙ get_last calls a)
       (calls_longer plan.turns 0 calls (a ∷ []) (of_caller number old) has.made) has.earlier made.grows.call made.planned
       (one_place (place_of node) made.mine made.grows.place_);
   earlier = subst (λ (n : ℕ). All (λ r. r.by.call < n) (of_caller number new)) (sym (length-append calls (a ∷ [])))
@@ -395,9 +384,6 @@ has_made_more plan node number calls a old new its has made = record {
       (All-append (λ (r : Record). r.by.call < length calls + 1) (of_caller number old) made.mine (λ k d h. let l = has.earlier k d h in
       omega arith) (all_low (length calls) made.mine made.grows.call)));
 }
-  where
-    from_none : length calls - 0 ≡ length calls
-    from_none = omega arith
 
 -- behind records of others
 pub has_made_still : (plan : RacePlan) (number : ℕ) (calls : List Act) (old new : List Record) → HasMade plan number calls old → GoesOn (Caller number ∷ []) old new

@@ -52,19 +52,16 @@ all_did_from : {X : Type 0} (call : X → Calling) (refused : X → Option WireR
     → numbers_of (map call xs) ≡ range_with_len 0 (length plan.threads) → All (λ x. HasRun plan (call x) (refused x)) xs → All (EndsFor journal) (map call xs)
     → AllDid plan journal (map refused xs)
 unfolding AllDid
-all_did_from call refused plan journal d xs numbers ran ends = (length-map xs refused ∙ many, did)
+all_did_from call refused plan journal d xs numbers ran ends =
+    let a = length-map xs call in
+    let b = length-map (map call xs) (λ (c : Calling). c.number) in
+    let e : length (numbers_of (map call xs)) ≡ length (range_with_len 0 (length plan.threads)) = ap length numbers in
+    let r = length-range_with_len 0 (length plan.threads) in
+    let many : length xs ≡ length plan.threads = omega arith in
+    (length-map xs refused ∙ many, did many)
   where
-    many : length xs ≡ length plan.threads
-    many =
-        let a = length-map xs call in
-        let b = length-map (map call xs) (λ (c : Calling). c.number) in
-        let e : length (numbers_of (map call xs)) ≡ length (range_with_len 0 (length plan.threads)) = ap length numbers in
-        let r = length-range_with_len 0 (length plan.threads) in
-        omega arith
-
-    did : (i : ℕ) → i < length plan.threads → Did plan journal i (get_or (map refused xs) i None)
-    did i below =
-        let m = many in
+    did : length xs ≡ length plan.threads → (i : ℕ) → i < length plan.threads → Did plan journal i (get_or (map refused xs) i None)
+    did many i below =
         let here : i < length xs = omega arith in
         let there : i < length (map call xs) = let a = length-map xs call in omega arith in
         let is : get_or (map call xs) i (call d) ≡ call (get_or xs i d) = get_or-map call xs i d (call d) here in record {

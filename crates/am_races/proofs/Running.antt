@@ -30,10 +30,8 @@ given_numbers of its (j ∷ jobs) [] many each = absurd (omega arith)
 given_numbers {J} {X} of its (j ∷ jobs) (x ∷ xs) many each =
     let first = each 0 x (omega arith) in
     ap (λ (n : ℕ). n ∷ map its xs) (first.number ∙ ap of (sym (first.is j)))
-    ∙ ap (λ (l : List ℕ). of j ∷ l) (given_numbers of its jobs xs (omega arith) (λ i d h. later i (get_or xs i d) (each (suc i) d (omega arith))))
-  where
-    later : (i : ℕ) (y : X) → Gives of its (j ∷ jobs) (suc i) y → Gives of its jobs i y
-    later i y g = record { job = g.job; is = g.is; number = g.number }
+    ∙ ap (λ (l : List ℕ). of j ∷ l) (given_numbers of its jobs xs (omega arith) (λ i d h.
+    let g = each (suc i) d (omega arith) in record { job = g.job; is = g.is; number = g.number }))
 
 -- the callers' numbers
 pub called_numbers : {X : Type 0} (call : X → Calling) (xs : List X) → numbers_of (map call xs) ≡ map (λ x. (call x).number) xs

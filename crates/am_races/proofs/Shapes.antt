@@ -32,6 +32,14 @@ own_turns : (p : Part) → is_own p ≡ true → is_turn_part p ≡ false
 own_turns (Turn lost) e = absurd (true≢false (sym e))
 own_turns _ e = refl
 
+check_turns : (p : Part) → is_check p ≡ true → is_turn_part p ≡ false
+check_turns (Turn lost) e = absurd (true≢false (sym e))
+check_turns _ e = refl
+
+own_check : (p : Part) → is_check p ≡ true → is_own p ≡ false
+own_check Call e = absurd (true≢false (sym e))
+own_check _ e = refl
+
 pub head_turn : (r : Record) (rs : List Record) → AreTurns (r ∷ rs) → is_turn_part r.by.part ≡ true
 head_turn r rs all = (and_parts (is_turn_part r.by.part) (list_all (λ q. is_turn_part q.by.part) rs) all).0
 
@@ -102,11 +110,6 @@ ends_with : (own e : Record) (k : ℕ) → is_check e.by.part ≡ true → asks 
     → is_followed k own (e ∷ []) ≡ true
 unfolding is_followed
 ends_with own e k part is = rw (check_turns e.by.part part, part, is) refl
-  where
-    check_turns : (p : Part) → is_check p ≡ true → is_turn_part p ≡ false
-    check_turns Call c = refl
-    check_turns (Turn lost) c = absurd (true≢false (sym c))
-    check_turns Check c = refl
 
 takes_at_end : (e : Record) (k : ℕ) → is_own e.by.part ≡ true → is_take e.event.act ≡ true → is_receive k (e ∷ []) ≡ true
 unfolding is_receive
@@ -185,9 +188,6 @@ pub own_first : (own : Record) (rest : List Record) → is_own own.by.part ≡ t
 own_first own rest is = rw is refl
 
 -- how many turns there are
-counts : Record → ℕ
-counts r = cond (is_turn_part r.by.part) 1 0
-
 pub turns_count : (ts : List Record) → AreTurns ts → count_by (λ r. is_turn_part r.by.part) ts ≡ length ts
 turns_count [] all = refl
 turns_count (t ∷ ts) all =
@@ -258,13 +258,13 @@ check_answers turns a came own ts e has none is all part =
     let own_none : answer_in own.event.act own ≡ None = rw (is.part, is.act_, is.outcome) none in
     let first : first_answer (act_of_call (own_of recs)) recs ≡ told_at_end a e.outcome =
     subst (λ (o : Option Record). first_answer (act_of_call o) recs ≡ told_at_end a e.outcome) (sym found)
-    (rw (own_none, turns_tell_nothing own.event.act ts (e ∷ []) all, no_own_check e.by.part part, part, is.act_, no_receive a has)
+    (rw (own_none, turns_tell_nothing own.event.act ts (e ∷ []) all, own_check e.by.part part, part, is.act_, no_receive a has)
     (none_behind (end_answer a e.outcome))) in
     let ends : list_any is_end recs ≡ true = any_last (own ∷ ts) e (ap (λ (b : Bool). b || (is_own e.by.part && is_take e.event.act)) part) in
     let counted : count_by (λ r. is_turn_part r.by.part) recs ≡ length ts =
     (let c = sum_by-cons (λ (r : Record). cond (is_turn_part r.by.part) 1 0) own rest in
     let z : ◌≡◌ {A = ℕ} (cond (is_turn_part own.by.part) 1 0) 0 = rw (own_turns own.by.part is.part) refl in
-    let w = with_end ts e all (check_no_turn e.by.part part) in
+    let w = with_end ts e all (check_turns e.by.part part) in
     omega arith)
     in
     let asked : request_by (Some own) ≡ request = rw (is.act_, is.outcome) refl in
@@ -273,16 +273,6 @@ check_answers turns a came own ts e has none is all part =
     let lates : late turns (request_by (own_of recs)) recs ≡ late_after request (late turns request ts) e.outcome =
     rw (found, asked) (ap (λ (x : Answer). fold (λ y (r : Record). late_after request y r.outcome) x rest) begins ∙ late_more turns request ts e) in
     ends_as turns (length ts) recs (told_at_end a e.outcome) (late_after request (late turns request ts) e.outcome) first ends counted lates
-  where
-    no_own_check : (p : Part) → is_check p ≡ true → is_own p ≡ false
-    no_own_check Call h = absurd (true≢false (sym h))
-    no_own_check (Turn lost) h = refl
-    no_own_check Check h = refl
-
-    check_no_turn : (p : Part) → is_check p ≡ true → is_turn_part p ≡ false
-    check_no_turn Call h = refl
-    check_no_turn (Turn lost) h = absurd (true≢false (sym h))
-    check_no_turn Check h = refl
 
 pub end_answers : (turns : ℕ) (a : Act) (came : Option Came) (first ts : List Record) (e : Record) → HasBegun a came first → AreTurns ts → IsEnd a came e
     → answer_of turns (first ++ (ts ++ e ∷ [])) ≡ ended_answer turns a (request_in_call a came) ts e
@@ -309,9 +299,8 @@ turns_end_nothing [] all = refl
 turns_end_nothing (t ∷ ts) all = rw (no_end t.by.part t.event.act (head_turn t ts all)) (turns_end_nothing ts (tail_turns t ts all))
   where
     no_end : (p : Part) (a : Act) → is_turn_part p ≡ true → is_end_of p a ≡ false
-    no_end Call a e = absurd (true≢false (sym e))
     no_end (Turn lost) a e = refl
-    no_end Check a e = absurd (true≢false (sym e))
+    no_end _ a e = absurd (true≢false (sym e))
 
 -- records that tell nothing, and come to no end, have no answer
 tells_none : (turns : ℕ) (recs : List Record) → first_answer (act_of_call (own_of recs)) recs ≡ None → list_any is_end recs ≡ false
@@ -338,8 +327,7 @@ unanswered turns a (Some came) first ts begun all =
   where
     no_end : (p : Part) → is_take a ≡ false → is_own p ≡ true → is_end_of p a ≡ false
     no_end Call no_ e = no_
-    no_end (Turn lost) no_ e = absurd (true≢false (sym e))
-    no_end Check no_ e = absurd (true≢false (sym e))
+    no_end _ no_ e = absurd (true≢false (sym e))
 
 -- ---- answers that are of records
 

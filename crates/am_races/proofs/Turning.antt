@@ -69,12 +69,9 @@ least_waits m seen waited stopped name is many known least = (
       let apart : k ≢ place_of name = λ s.
       let same : slice_index waited k ≡ life_of name = ap (slice_index waited) s ∙ here in
       omega arith in
-      least.below k (below_it k (slice_index waited k) name least.low low some lower apart)
+      least.below k (let byte = least.low in omega arith)
       (in_both waited stopped k low some (known (name_at k (slice_index waited k)) ∙ (and_parts _ _ a.1).1))))),
 )
-  where
-    below_it : (k life other : ℕ) → other < 256 → k < 16 → 0 < life → rank_of (name_at k life) < rank_of other → k ≢ place_of other → k < place_of other
-    below_it k life other byte low some lower apart = omega arith
 
 -- ---- letters for a name
 
@@ -147,13 +144,12 @@ abbrev LastSent : ℕ → List Record → Type 0
 LastSent name before = is_nought_or before name (greatest (map (λ r. heard_by r.event.act) (of_place name before)))
 
 higher : (before : List Record) (name a b : ℕ) → is_nought_or before name a → is_nought_or before name b → is_nought_or before name (max a b)
-higher before name a b p q = elim (order a b) [
-  | inl e ↦ subst (is_nought_or before name) (sym e) p
-  | inr e ↦ subst (is_nought_or before name) (sym e) q
-]
-  where
-    order : (x y : ℕ) → (max x y ≡ x) ⊎ (max x y ≡ y)
-    order x y = grind arith
+higher before name a b p q =
+    let one : (max a b ≡ a) ⊎ (max a b ≡ b) = grind arith in
+    elim one [
+      | inl e ↦ rw e p
+      | inr e ↦ rw e q
+    ]
 
 still_sent : (before : List Record) (r : Record) (name number : ℕ) → is_nought_or before name number → is_nought_or (before ++ r ∷ []) name number
 still_sent before r name number p = elim p [
@@ -167,38 +163,24 @@ heard_next terms before r lawful = by_act r.event.act refl
     by_act : (a : Act) → r.event.act ≡ a → is_nought_or before (name_of r) (heard_by r.event.act)
     by_act (act.Hear number) e = inr (subst (IsSent before (name_of r)) (sym (ap heard_by e)) (lawful.hears number e))
     by_act (act.Cut number keep) e = absurd (true≢false (sym lawful.act_ ∙ ap is_of_race e))
-    by_act (act.Send body) e = inl (ap heard_by e)
-    by_act (act.Done req) e = inl (ap heard_by e)
-    by_act act.Take e = inl (ap heard_by e)
-    by_act act.Join e = inl (ap heard_by e)
-    by_act act.State e = inl (ap heard_by e)
-    by_act act.Leave e = inl (ap heard_by e)
-    by_act (act.Reset least resilience) e = inl (ap heard_by e)
-    by_act (act.Ask round) e = inl (ap heard_by e)
-    by_act (act.GiveUp other) e = inl (ap heard_by e)
-    by_act act.Stop e = inl (ap heard_by e)
-    by_act act.Tick e = inl (ap heard_by e)
-    by_act act.Return e = inl (ap heard_by e)
+    by_act _ e = inl (ap heard_by e)
 
 last_next : (terms : Terms) (name : ℕ) (before : List Record) (r : Record) → name < 16 → IsLawful terms before r → LastSent name before
     → LastSent name (before ++ r ∷ [])
-last_next terms name before r low lawful so_far = by_place (place_of r.event.node == name) refl
-  where
-    heard : Record → ℕ
-    heard q = heard_by q.event.act
-
-    by_place : (b : Bool) → (place_of r.event.node == name) ≡ b → LastSent name (before ++ r ∷ [])
-    by_place true here =
+last_next terms name before r low lawful so_far =
+    let heard : Record → ℕ = λ q. heard_by q.event.act in
+    split (place_of r.event.node == name)
+    (λ here.
         let first : name_of r ≡ name = ap (name_at (place_of r.event.node)) lawful.life ∙ (let e = eqb-true (place_of r.event.node) name here in omega arith) in
         subst (is_nought_or (before ++ r ∷ []) name) (sym (place_last heard name before r here))
         (higher (before ++ r ∷ []) name (greatest (map heard (of_place name before))) (heard r) (still_sent before r name _ so_far)
-        (still_sent before r name (heard r) (subst (λ (k : ℕ). is_nought_or before k (heard r)) first (heard_next terms before r lawful))))
-    by_place false there =
+        (still_sent before r name (heard r) (subst (λ (k : ℕ). is_nought_or before k (heard r)) first (heard_next terms before r lawful)))))
+    (λ there.
         let same : of_place name (before ++ r ∷ []) ≡ of_place name before =
         filter-append (λ (q : Record). place_of q.event.node == name) before (r ∷ []) ∙ ap (λ (b : Bool). of_place name before ++ cond b (r ∷ []) []) there
         ∙ append-nil (of_place name before)
         in
-        subst (λ (rs : List Record). is_nought_or (before ++ r ∷ []) name (greatest (map heard rs))) (sym same) (still_sent before r name _ so_far)
+        subst (λ (rs : List Record). is_nought_or (before ++ r ∷ []) name (greatest (map heard rs))) (sym same) (still_sent before r name _ so_far))
 
 pub last_is_sent : (terms : Terms) (name number : ℕ) (before : List Record) → name < 16 → Follows (IsLawful terms) before → last_heard name before ≡ Some number
     → IsSent before name number

@@ -18,7 +18,7 @@ use Rattle.am_runs.proofs.Others.{same_node, looks_leave, promised_first, with_s
 use Rattle.am_runs.proofs.Turns.{Turn, waiting_is, one_more, waiting_settled, collected_turn}
 use Rattle.am_runs.proofs.First.{group_view, base_as, OwnOk, FirstBase, FirstOk, first_told, first_push}
 use Rattle.am_chain.proofs.Quiet.{leave_fits}
-use Rattle.am_laws.proofs.ViewChanges.{leads_member}
+use Rattle.am_laws.proofs.ViewChanges.{leads_member, welcomed_none}
 use Rattle.am_laws.proofs.Counts.{over_acc}
 use Rattle.am_laws.proofs.Rests.{settle_keeps}
 
@@ -218,23 +218,14 @@ not_fetched rules m v h member promise below =
 
 -- who has a list joins no more
 pub not_welcomed : (m : Node) (s : ℕ) (v : Stamp) (base join : ℕ) (image : Image) → MayBeWelcomed m s v base join image → has_log m.status ≡ true → ⊥
-not_welcomed m s v base join image h log =
-    let a = (and_both (not (s == m.core.who)) (is_member m.status || is_asking m.status) h.asks).1 in
-    let b = h.no_member in
-    none m.status b a log
-  where
-    none : (x : Status) → is_member x ≡ false → (is_member x || is_asking x) ≡ true → has_log x ≡ true → ⊥
-    none status.Stranger b a l = absurd (cc)
-    none _ b a l = absurd (cc)
+not_welcomed m s v base join image h log = let none = welcomed_none m s v base join image h in cc
 
 -- collecting changes no request number
 collected_last : (next req : ℕ) (sends : own.Sends) → Turn next next sends.queue sends.last
     → Turn next next (own.collect req sends).queue (own.collect req sends).last
-collected_last next req sends h = subst (Turn next next (own.collect req sends).queue) (sym same)
-    (collected_turn next next sends.last req sends (omega arith) h)
-  where
-    same : (own.collect req sends).last ≡ sends.last
-    same = split (own.is_settled req sends) (λ t. rw t refl) (λ f. rw f refl)
+collected_last next req sends h =
+    let same : (own.collect req sends).last ≡ sends.last = split (own.is_settled req sends) (λ t. rw t refl) (λ f. rw f refl) in
+    subst (Turn next next (own.collect req sends).queue) (sym same) (collected_turn next next sends.last req sends (omega arith) h)
 
 -- ---- each change
 

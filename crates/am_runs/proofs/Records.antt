@@ -70,7 +70,7 @@ accepted_and list acc records r new h = subst (All (StandsAt list acc)) (sym (ac
 abbrev pub welcome_in : List Letter → ℕ → Record → List ℕ
 welcome_in letters name r = if (name_of r == name) && is_welcome (letter_at letters (heard_by r.event.act)) then welcomed_in r.outcome else []
 
-welcomed_or : (o : Outcome) → (welcomed_in o ≡ []) ⊎ (welcomed_in o ≢ [])
+pub welcomed_or : (o : Outcome) → (welcomed_in o ≡ []) ⊎ (welcomed_in o ≢ [])
 welcomed_or (said.Welcomed number) = inr (λ e. absurd (cc))
 welcomed_or _ = inl refl
 

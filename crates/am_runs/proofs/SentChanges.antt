@@ -8,6 +8,7 @@ use Rattle.am_runs.proofs.PromisedWords.{fetches, stores_view, queues, collects,
 use Rattle.am_runs.proofs.PromisedWords.{Effect, all_get, all_find, along}
 use Rattle.am_base.specs.declared.outcome.Outcome.TheVariants as said
 use Rattle.am_base.specs.declared.event.NodeEvent.TheVariants as does
+use Rattle.am_laws.proofs.NodeLimits.{OfBody, body_has, after_bodies}
 use Rattle.am_runs.proofs.SentKept.{WasSent, EntrySent, PacketSent, LetterSent, SendSent, BodySent, Keeps, as_sent, kept_pushed, kept_queued, kept_collected}
 use Rattle.am_runs.proofs.SentKept.{kept_body, kept_refresh, kept_settle, kept_at_end, waiting_sent}
 
@@ -34,47 +35,12 @@ numbered_sent all who o c m e _ sent h = tt
 
 -- a body that is found is that of this send
 abbrev pub MaySend : List Record → ℕ → ℕ → Option (List ℕ) → Type 0
-MaySend all from req None = Unit {0}
-MaySend all from req (Some body) = WasSent all from req body
-
-as_asked : (all : List Record) (a b from req : ℕ) (body : List ℕ) → ((a == from) && (b == req)) ≡ true → WasSent all a b body → WasSent all from req body
-as_asked all a b from req body t was =
-    let e : a ≡ from = grind (arith, nat_tests) in
-    let f : b ≡ req = grind (arith, nat_tests) in
-    subst (λ name. WasSent all name req body) e (subst (λ r. WasSent all a r body) f was)
-
-own_body_sent : (all : List Record) (who : ℕ) (m : Node) (from req : ℕ) (w : Option OwnSend) → ((s : OwnSend) → w ≡ Some s → SendSent all who s)
-    → Keeps all who m → MaySend all from req (own_body m from req w)
-own_body_sent all who m from req None sent h = tt
-own_body_sent all who m from req (Some s) sent h = split ((from == m.core.who) && (s.req == req))
-    (λ t.
-    let same : ((who == from) && (s.req == req)) ≡ true = grind (arith, nat_tests) in
-    rw t (as_asked all who s.req from req s.body same (sent s refl)))
-    (λ f. rw f tt)
-
-found_sent : (all : List Record) (from req : ℕ) (found : Option KeptBody)
-    → ((kept : KeptBody) → found ≡ Some kept → BodySent all kept × (is_of from req kept ≡ true)) → MaySend all from req (option_map (λ kept. kept.body) found)
-found_sent all from req None h = tt
-found_sent all from req (Some kept) h = let k = h kept refl in as_asked all kept.from kept.req from req kept.body k.1 k.0
-
-find_body_sent : (all : List Record) (from req : ℕ) (bodies : List KeptBody) → All (BodySent all) bodies → MaySend all from req (find_body from req bodies)
-find_body_sent all from req bodies h = found_sent all from req (find (is_of from req) bodies)
-    (λ kept is. all_find (BodySent all) (is_of from req) bodies kept h is)
-
-first_sent : (all : List Record) (from req : ℕ) (a b : Option (List ℕ)) → MaySend all from req a → MaySend all from req b
-    → MaySend all from req (first_body a b)
-first_sent all from req None b f g = g
-first_sent all from req (Some body) b f g = f
+MaySend all = OfBody (WasSent all)
 
 pub body_of_sent : (all : List Record) (who : ℕ) (m : Node) (from req : ℕ) → Keeps all who m → MaySend all from req (body_of m from req)
 body_of_sent all who m from req h =
-    first_sent all from req (own_body m from req (waiting m)) (find_body from req m.bodies)
-    (own_body_sent all who m from req (waiting m) (λ s is. waiting_sent all who m s h is) h)
-    (find_body_sent all from req m.bodies h.bodies)
-
-bodies_after_sent : (all : List Record) (bodies : List KeptBody) (e : Entry) → All (BodySent all) bodies → All (BodySent all) (bodies_after bodies e)
-bodies_after_sent all bodies (Data from req body) h = All-filter (λ kept. not ((kept.from == from) && nat_le kept.req req)) (BodySent all) bodies h
-bodies_after_sent all bodies _ h = h
+    let own = All-weaker (SendSent all who) (λ (s : OwnSend). WasSent all m.core.who s.req s.body) (λ s. as_sent all who m s.req s.body h) m.sends.queue h.sends in
+    body_has (WasSent all) m from req own h.bodies
 
 carried_sent : (all : List Record) (who : ℕ) (o : Outcome) (c : Cause) (m : Node) (s : ℕ) (v : Stamp) (base acc number : ℕ) (e : Entry)
     → Carries c m s v base acc number e → CauseSent all who o c → Keeps all who m → EntrySent all e
@@ -96,7 +62,7 @@ change_sent all who c o m n sent (numbers e leads room why) h = kept_pushed all 
 change_sent all who c o m n sent (keeps_body s v report req body is heard) h = kept_body all who m s req body (subst (CauseSent all who o) is sent) h
 change_sent all who c o m n sent (stores s v base acc number e by heard plain may) h =
     let k = kept_pushed all who m e (carried_sent all who o c m s v base acc number e by sent h) h in
-    record { name = k.name; entries = k.entries; sends = k.sends; bodies = bodies_after_sent all m.bodies e h.bodies }
+    record { name = k.name; entries = k.entries; sends = k.sends; bodies = after_bodies (BodySent all) m.bodies e h.bodies }
 change_sent all who c o m n sent (begins_list s v base join image is a may) h =
     record { name = h.name; entries = All-nil (EntrySent all); sends = h.sends; bodies = h.bodies }
 change_sent all who c o m n sent (looks b verdict over why look is) h = look_sent all who m b verdict look h

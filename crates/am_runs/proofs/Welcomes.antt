@@ -6,7 +6,7 @@ use Rattle.am_runs.proofs.UnballotedWords.{IsCall, IsCause, WasSentTo, asking_lo
 use Rattle.am_base.specs.declared.outcome.Outcome.TheVariants as said
 use Rattle.am_packet.specs.declared.packet.Packet.TheVariants as packet
 use Rattle.am_laws.specs.Events as event
-use Rattle.am_runs.proofs.{Lists.item_more, Lists.item_within, Worlds.begins_at, Worlds.RecordOk, Records.welcome_in, Records.idle_welcome, Chains.Gave}
+use Rattle.am_runs.proofs.{Lists.item_more, Lists.item_within, Worlds.begins_at, Worlds.RecordOk, Records.welcome_in, Records.welcomed_or, Records.idle_welcome, Chains.Gave}
 use Rattle.am_runs.proofs.{Chains.nothing, Chains.took, Chains.began}
 
 -- a call hears nothing
@@ -63,11 +63,7 @@ none_told w i m n (hears p) r more cause answer log = split (kind_of p == 10)
 none_told w i m n refuses r more cause answer log = ⊎_elim
     (λ (x : welcomed_in r.outcome ≡ []). idle_welcome (w.letters ++ more) i r x)
     (λ (x : welcomed_in r.outcome ≢ []). absurd (record_answer m n r.outcome x answer))
-    (or_none r.outcome)
-  where
-    or_none : (o : Outcome) → (welcomed_in o ≡ []) ⊎ (welcomed_in o ≢ [])
-    or_none (said.Welcomed number) = inr (λ e. absurd (cc))
-    or_none _ = inl refl
+    (welcomed_or r.outcome)
 
 pub welcomed_step : (w : World) (i : ℕ) (m n : Node) (c : Cause) (r : Record) (more : List Letter) → name_of r ≡ i → IsCause w i r.event.act c
     → Answers m c n r.outcome → Gave c r.outcome m n → begins_at m ++ welcome_in (w.letters ++ more) i r ≡ begins_at n

@@ -10,6 +10,7 @@ use Rattle.am_watching.proofs.Words.{with_standing, new_pending, decided_views, 
 use Rattle.am_watching.proofs.Words.{finish, watch_step, pass, place_among, accept, standing_of, view_of, decided_of, has_in_list, comes_after, Each, Sees}
 use Rattle.am_watching.proofs.Words.{IsNoted, WatchesUpTo, Watches, after, IsNew, Steps, SteppedTo, SameBut, StepsAreWatched, StopsAreWatched, OthersAreWatched}
 use Rattle.am_watching.proofs.Words.{EntriesGoOn, AcceptedGoesOn}
+use Rattle.std.proofs.lemmas.List.{map-id}
 use Rattle.am_play.specs.World as run
 use Rattle.am_watching.specs.Watching as kept
 use Rattle.am_watching.proofs.{Order.same_stamp, Folds.each_of, Numbers.number_none, Numbers.number_append, Complete.complete_is, Looks.IsReady, Looks.looks}
@@ -37,10 +38,7 @@ standing_one : (k : Watching) (name other : ℕ) (after : Standing) → name < l
     → standing (with_standing k name after) other ≡ (if other == name then after else standing k other)
 standing_one k name other after h = split (other == name)
     (λ t. let e : other ≡ name = grind (arith, nat_tests) in rw t (rw e (get_or-set_same k.names name after blank_standing h)))
-    (λ t. let e : other ≢ name = λ e. not_same other name e t in rw t (get_or-set_other k.names name other after blank_standing e))
-  where
-    not_same : (a b : ℕ) → a ≡ b → (a == b) ≡ false → ⊥
-    not_same a b e f = grind (arith, nat_tests)
+    (λ t. let e : other ≢ name = λ e. (let z : ⊥ = grind (arith, nat_tests) in z) in rw t (get_or-set_other k.names name other after blank_standing e))
 
 shown : (b : Bool) (m n : Node) → (if b then standing_of n else standing_of m) ≡ standing_of (if b then n else m)
 shown true m n = refl
@@ -76,13 +74,10 @@ set_one : (entries : List Entry) (name other : ℕ) (v : Pending) (old : Bool) �
 set_one entries name other v old h is = split (list_any (is_view_of v.decided.view.stamp) entries)
     (λ t. split (other == name)
     (λ e. let same : other ≡ name = grind (arith, nat_tests) in rw t (rw e (rw same (get_or-set_same v.stored name true false h) ∙ sym (or-true old))))
-    (λ e. let other_one : other ≢ name = λ same. not_same other name same e in rw t (rw e (get_or-set_other v.stored name other true false other_one ∙ is))))
+    (λ e. let apart : other ≢ name = λ same. (let z : ⊥ = grind (arith, nat_tests) in z) in rw t (rw e (get_or-set_other v.stored name other true false apart ∙ is))))
     (λ t. split (other == name)
     (λ e. rw t (rw e (is ∙ sym (or-false old))))
     (λ e. rw t (rw e is)))
-  where
-    not_same : (a b : ℕ) → a ≡ b → (a == b) ≡ false → ⊥
-    not_same a b e f = grind (arith, nat_tests)
 
 same_view : (entries : List Entry) (name : ℕ) (v : Pending) → (entered name entries v).decided ≡ v.decided
 same_view entries name v = split (list_any (is_view_of v.decided.view.stamp) entries) (λ t. rw t refl) (λ t. rw t refl)
@@ -139,10 +134,6 @@ decides_is k w name n h own = ap (λ (m : Standing). is_member m.status && (((vi
 
 -- ---- the views that may become complete
 
-map_self : {A : Type 0} (xs : List A) → xs ≡ map (λ x. x) xs
-map_self [] = refl
-map_self (x ∷ xs) = ap (λ ys. x ∷ ys) (map_self xs)
-
 map_twice : {A : Type 0} (f g h : A → A) → ((x : A) → f (g x) ≡ h x) → (xs : List A) → map f (map g xs) ≡ map h xs
 map_twice f g h e [] = refl
 map_twice f g h e (x ∷ xs) = ap (λ y. y ∷ map f (map g xs)) (e x) ∙ ap (λ ys. h x ∷ ys) (map_twice f g h e xs)
@@ -158,13 +149,11 @@ entered_twice name w es v = split (stamp_eq w.stamp v.decided.view.stamp)
 
 noted_is : (name : ℕ) (entries : List Entry) (ps : List Pending) → note_entries name entries ps ≡ map (entered name entries) ps
 unfolding note_entries
-noted_is name [] ps = map_self ps
-noted_is name (Data from req body ∷ es) ps = noted_is name es ps
-noted_is name (Join joiner ∷ es) ps = noted_is name es ps
-noted_is name (Leave leaver ∷ es) ps = noted_is name es ps
+noted_is name [] ps = sym (map-id ps)
 noted_is name (View v ∷ es) ps = noted_is name es (map (store_view name v.stamp) ps)
     ∙ map_twice (entered name es) (store_view name v.stamp) (entered name (View v ∷ es)) (entered_twice name v es)
     ps
+noted_is name (_ ∷ es) ps = noted_is name es ps
 
 views_noted : (name : ℕ) (entries : List Entry) (ps : List Pending)
     → map (λ (p : Pending). decided_of p.decided) (map (entered name entries) ps) ≡ map (λ (p : Pending). decided_of p.decided) ps
