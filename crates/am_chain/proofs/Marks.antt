@@ -1,5 +1,5 @@
 -- A view that completes stands in the chain.
-use Rattle.am_chain.proofs.Words.{low_or_above, split, ◌≡◌, ◌⊎◌, ℕ, ◌<◌, ◌≤◌, Bool, true, [], ◌∷◌, length, refl, ap, arith, View, has, fold, Begins, view_of}
+use Rattle.am_chain.proofs.Words.{low_or_above, split, ◌≡◌, ◌⊎◌, ℕ, Bool, true, [], ◌∷◌, length, refl, ap, arith, View, has, fold, Begins, view_of}
 use Rattle.am_chain.proofs.Words.{key, begins_more, begins_both, length_push, good_begins, view_up, view_below, opening, Views, Group, chain_of, IsThere}
 use Rattle.am_chain.proofs.Words.{Completes, NodeOk, Kept}
 use Rattle.am_chain.proofs.{Puts.either}

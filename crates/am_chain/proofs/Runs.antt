@@ -3,7 +3,7 @@ use Rattle.am_chain.proofs.Words.{◌≡◌, ℕ, zero, suc, ◌&&◌, not, Bool
 use Rattle.am_chain.proofs.Words.{Leave, Begins, begins_refl, begins_trans, begins_take, begins_both, length_take, count, Node, opening, Group, chain_of}
 use Rattle.am_chain.proofs.Words.{MayAccept, put, Move, numbers, stores, accepts, learns, begins, raises, shows, serves, fetches, decides, gives_over, welcomes}
 use Rattle.am_chain.proofs.Words.{asks, departs, closes, stops, longer, Step, IsLawful, start, Run, founded, more, Onward, here, onward, counts_for, Kept}
-use Rattle.am_chain.proofs.Words.{RunsKeep, ChoicesKeep, CompleteViewsStand, image_of, begins_more}
+use Rattle.am_chain.proofs.Words.{RunsKeep, ChoicesKeep, CompleteViewsStand, begins_more}
 use Rattle.am_chain.proofs.Decide.{decides_keeps, chosen_old, decided_old, group_low}
 use Rattle.am_chain.proofs.{Start.start_kept, Steps.quiet_keeps, Marks.marks_keep}
 

@@ -1,5 +1,5 @@
 -- What a group keeps at its start.
-use Rattle.am_chain.proofs.Words.{◌≡◌, ℕ, ◌<◌, ◌≤◌, nat_le, if◌then◌else◌, Bool, true, false, List, [], ◌∷◌, ◌++◌, length, refl, sym, subst, arith, nat_tests}
+use Rattle.am_chain.proofs.Words.{◌≡◌, ℕ, ◌<◌, ◌≤◌, nat_le, if◌then◌else◌, Bool, true, false, List, [], length, refl, sym, subst, arith, nat_tests}
 use Rattle.am_chain.proofs.Words.{Entry, View, has, no_stamp, blank, fits, fold, Begins, IsGood, mem, key, begins_refl, begins_nil, begins_length, begins_same}
 use Rattle.am_chain.proofs.Words.{begins_pushed, below_length, good_nil, good_push, mem_nil, mem_viewed, viewed_mem, view_viewed, opening, MayBegin}
 use Rattle.am_chain.proofs.Words.{first_stamp, first_choice, start, NodeOk, Kept}

@@ -1,11 +1,10 @@
 -- What a node's step comes to in the world of which the records tell.
 use Rattle.am_races.proofs.Words.{◌≡◌, ℕ, ◌<◌, ◌≤◌, List, [], ◌∷◌, ◌++◌, length, map, true, false, true≢false, Option, Some, sym, refl, ap, ◌∙◌, subst, arith}
-use Rattle.am_races.proofs.Words.{if◌then◌else◌, ◌==◌, nat_tests, length-map, none-some, most_events, NodeEvent, Rules, place_of, name_at, IsPacket, spelling}
+use Rattle.am_races.proofs.Words.{◌==◌, nat_tests, length-map, none-some, most_events, NodeEvent, Rules, place_of, name_at, IsPacket, spelling}
 use Rattle.am_races.proofs.Words.{IsInOrder, Letter, Act, Event, Record, is_for, letters_of, letter_at, Step, step, hear, row, World, is_stopped, with_step}
 use Rattle.am_races.proofs.Words.{does_event, hears_letter, acts_as, happens, record_of, current, no_caller, start, run, happen, Node, with_tag, IsEndOf, Does}
 use Rattle.am_races.proofs.Words.{spelling_is_heard, HasNumbersLeft, step_end, end_high, runs_go_on, numbers_hold, Terms, Follows, has_stopped, world_after}
 use Rattle.am_races.proofs.Words.{IsNext, IsLawful, what_of, MayAct}
-use Rattle.am_base.specs.declared.outcome.Outcome.TheVariants as said
 use Rattle.am_base.specs.declared.event.NodeEvent.TheVariants as does
 use Rattle.am_group.specs.declared.event.Act.TheVariants as act
 use Rattle.am_races.proofs.Knows.{knows, name_now, each_keeps, told_more}

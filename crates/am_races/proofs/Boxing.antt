@@ -1,6 +1,6 @@
 -- What an act of a box leaves: its record comes next, whatever others added, and the box stands behind it.
 use Rattle.am_races.proofs.Words.{◌≡◌, ◌≢◌, ℕ, zero, suc, ◌<◌, ◌≤◌, List, [], ◌∷◌, ◌++◌, length, drop, map, get_or, max, Bool, true, false, true≢false}
-use Rattle.am_races.proofs.Words.{Option, Some, None, cond, sym, refl, ap, ◌∙◌, subst, arith, append-nil, length-append, eq-eqb, if◌then◌else◌, ◌==◌, ◌&&◌}
+use Rattle.am_races.proofs.Words.{Option, Some, None, cond, sym, refl, ap, ◌∙◌, subst, arith, append-nil, length-append, eq-eqb, if◌then◌else◌, ◌==◌}
 use Rattle.am_races.proofs.Words.{◌||◌, All, drop-append_seam, filter-append, none-some, fold-append, most_events, TableId, Outcome, NodeEvent, place_of}
 use Rattle.am_races.proofs.Words.{name_at, IsInOrder, Letter, Act, By, Event, Record, RacePlan, is_for, name_of, letters_of, letter_at, flat_map-append}
 use Rattle.am_races.proofs.Words.{heard_by, Node, HasNumbersLeft, World, is_stopped, with_record, acts_as, happens, current, no_caller, record_of, with_tag}

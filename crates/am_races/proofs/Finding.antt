@@ -1,6 +1,6 @@
 -- A turn that a box finds is one of its call.
 use Rattle.am_races.proofs.Words.{◌≡◌, ◌≢◌, inl, inr, ℕ, zero, suc, ◌<◌, List, [], ◌∷◌, ◌++◌, length, drop, get_or, Bool, true, false, true≢false, Option}
-use Rattle.am_races.proofs.Words.{Some, None, sym, refl, ap, ◌∙◌, subst, arith, append_assoc, append-nil, eq-eqb, map, if◌then◌else◌, not, ◌==◌, ◌&&◌, ◌||◌}
+use Rattle.am_races.proofs.Words.{Some, None, sym, refl, ap, ◌∙◌, subst, arith, append_assoc, append-nil, eq-eqb, map, if◌then◌else◌, not, ◌==◌, ◌&&◌}
 use Rattle.am_races.proofs.Words.{All, count_by, nat_lt, is_none, list_any, flat_map-append, none-some, place_of, name_at, name_lt, names_of, Letter, Act}
 use Rattle.am_races.proofs.Words.{By, Event, Turn, Record, RacePlan, next_for, letters_of, Node, World, current, waited_for, Choice, Luck, again, choice_of}
 use Rattle.am_races.proofs.Words.{act_of, Terms, Follows, has_stopped, world_after, of_place, of_call, own_of, is_turn_part, up_to_last, is_either, is_ready}

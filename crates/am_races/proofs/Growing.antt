@@ -1,6 +1,6 @@
 -- What a caller has seen grows by the records of one call.
 use Rattle.am_races.proofs.Words.{◌≡◌, ℕ, suc, ◌<◌, List, [], ◌∷◌, ◌++◌, filter, cond, Bool, true, false, sym, refl, ap, ◌∙◌, arith}
-use Rattle.am_races.proofs.Words.{append_assoc, append-nil, eq-eqb, ne_eqb, All, ◌==◌, ◌&&◌, list_all, and_parts, filter-append, list_all-append, place_of}
+use Rattle.am_races.proofs.Words.{append_assoc, append-nil, eq-eqb, ne_eqb, All, ◌==◌, list_all, and_parts, filter-append, list_all-append, place_of}
 use Rattle.am_races.proofs.Words.{Record, Caller, GoesOn, starts_by, starts_through, Tag, of_caller, of_call, Grown, Grows}
 use Rattle.am_races.proofs.Boxing.{own_key}
 use Rattle.std.proofs.lemmas.Bool.{and_from}

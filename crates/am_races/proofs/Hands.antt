@@ -1,6 +1,6 @@
 -- What a caller's hand is behind a record, when its call is ready, and which acts it may do.
 use Rattle.am_races.proofs.Words.{◌≡◌, ℕ, zero, suc, ◌+◌, ◌<◌, ◌≤◌, List, [], ◌∷◌, ◌++◌, cond, max, Bool, true, false, true≢false, Option, Some, None, sym}
-use Rattle.am_races.proofs.Words.{refl, ap, ◌∙◌, subst, arith, nat_lt, count_by, sum_by, ◌==◌, ◌&&◌, ◌||◌, if◌then◌else◌, not, and_parts, lt-ltb, le-leb}
+use Rattle.am_races.proofs.Words.{refl, ap, ◌∙◌, subst, arith, nat_lt, count_by, sum_by, ◌==◌, ◌&&◌, if◌then◌else◌, not, and_parts, lt-ltb, le-leb}
 use Rattle.am_races.proofs.Words.{sum_by-cons, sum_by-append, none-some, TableId, Outcome, NodeEvent, place_of, name_at, Letter, Act, By, Part, Turn, Record}
 use Rattle.am_races.proofs.Words.{RacePlan, heard_by, Node, World, current, IsEndOf, Choice, Luck, again, draw, after_draw, choice_of, act_of, step_end, Caller}
 use Rattle.am_races.proofs.Words.{WireRefusal, Known, GoesOn, has_stopped, Tag, Came, world_after, of_caller, of_call, own_of, is_turn_part, up_to_last}

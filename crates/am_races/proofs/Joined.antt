@@ -1,6 +1,6 @@
 -- The passes of places and callers, joined to one with all keys.
-use Rattle.am_races.proofs.Words.{◌≡◌, ℕ, zero, suc, ◌+◌, ◌<◌, ◌≤◌, List, [], ◌∷◌, ◌++◌, length, get_or, Bool, true, false, true≢false, cond, sym, refl, ap}
-use Rattle.am_races.proofs.Words.{◌∙◌, subst, arith, inl, inr, ⊎_elim, Option, Some, None, slice_get, All, ◌⊎◌, range_with_len, eqb-true, ltb-true}
+use Rattle.am_races.proofs.Words.{◌≡◌, ℕ, zero, suc, ◌+◌, ◌<◌, ◌≤◌, List, [], ◌∷◌, ◌++◌, length, get_or, true, true≢false, cond, sym, refl, ap}
+use Rattle.am_races.proofs.Words.{◌∙◌, subst, arith, ⊎_elim, Option, Some, None, slice_get, All, ◌⊎◌, range_with_len, eqb-true, ltb-true}
 use Rattle.am_races.proofs.Words.{get_or-map, length-map, get_or-range_with_len, length-range_with_len, slice_get_cases, Record, RacePlan, Key, Place}
 use Rattle.am_races.proofs.Words.{Caller, times, same_key, Known, Joined, HasAll, GoesOn, times_append, times_cons, goes_through, of_caller, is_callers}
 use Rattle.am_races.proofs.Words.{Calling, HasMade, HasPlaces, IsIn, EndsFor, numbers_of, calls_made, calls_by}

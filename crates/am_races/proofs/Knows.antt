@@ -5,7 +5,6 @@ use Rattle.am_races.proofs.Words.{Rules, place_of, name_at, Packet, Letter, Act,
 use Rattle.am_races.proofs.Words.{is_stopped, with_record, with_step, does_event, gives_up, hears_letter, acts_as, happens, current, Terms, Follows, is_stop}
 use Rattle.am_races.proofs.Words.{has_stopped, tells, world_after, is_of_race, IsLawful}
 use Rattle.am_base.specs.declared.outcome.Outcome.TheVariants as said
-use Rattle.am_base.specs.declared.event.NodeEvent.TheVariants as does
 use Rattle.am_group.specs.declared.event.Act.TheVariants as act
 use Rattle.am_races.proofs.{Apart.or_false}
 

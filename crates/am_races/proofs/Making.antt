@@ -14,7 +14,6 @@ use Rattle.am_races.proofs.{Boxing.own_key, Finishing.none_called}
 use Rattle.am_base.specs.declared.outcome.Outcome.TheVariants as said
 use Rattle.am_group.specs.declared.event.Act.TheVariants as act
 use Rattle.am_races.specs.declared.answer.Answer.TheVariants as answer
-use Rattle.std.proofs.lemmas.Bool.{and_from}
 use Rattle.std.proofs.lemmas.List.{take-append-le}
 use Rattle.am_laws.proofs.Items.{get_last}
 use Rattle.am_races.proofs.Words.{split}

@@ -1,6 +1,6 @@
 -- What others' records leave of a name: its node, whether it stopped, and the letters that were sent.
 use Rattle.am_races.proofs.Words.{◌≡◌, ◌≢◌, ℕ, zero, suc, ◌<◌, List, [], ◌∷◌, ◌++◌, Bool, true, false, Some, sym, refl, ap, ◌∙◌, subst, arith, append_assoc}
-use Rattle.am_races.proofs.Words.{append-nil, ne_eqb, ◌==◌, ◌&&◌, ◌||◌, All, list_any-append, none-some, Rules, place_of, name_at, Record}
+use Rattle.am_races.proofs.Words.{append-nil, ne_eqb, ◌==◌, ◌||◌, All, list_any-append, none-some, Rules, place_of, name_at, Record}
 use Rattle.am_races.proofs.Words.{name_of, item_at, Terms, Follows, is_stop, has_stopped, world_after, IsLawful}
 use Rattle.am_races.proofs.{Others.others_stay, Stays.first_apart, Stays.same_place}
 use Rattle.am_laws.proofs.Items.{get_front}

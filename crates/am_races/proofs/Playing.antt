@@ -1,9 +1,9 @@
 -- A thread's calls, one after the other, are finished as far as they go on.
-use Rattle.am_races.proofs.Words.{◌≡◌, ℕ, zero, suc, ◌+◌, ◌*◌, ◌<◌, ◌≤◌, List, [], ◌∷◌, ◌++◌, length, take, drop, get_or, Bool, true, false, true≢false}
-use Rattle.am_races.proofs.Words.{cond, Option, Some, None, sym, refl, ap, ◌∙◌, subst, arith, append_assoc, append-nil, length-append, ne_eqb, slice_get}
-use Rattle.am_races.proofs.Words.{All, if◌then◌else◌, not, ◌&&◌, ◌==◌, list_all, list_any, prefix_len, take-append_seam, drop-append_seam, and_parts}
+use Rattle.am_races.proofs.Words.{◌≡◌, ℕ, suc, ◌+◌, ◌*◌, ◌<◌, ◌≤◌, List, [], ◌∷◌, ◌++◌, length, take, drop, get_or, Bool, true, false, true≢false}
+use Rattle.am_races.proofs.Words.{Option, Some, None, sym, refl, ap, ◌∙◌, subst, arith, append_assoc, append-nil, length-append, ne_eqb, slice_get}
+use Rattle.am_races.proofs.Words.{All, ◌&&◌, ◌==◌, list_all, list_any, prefix_len, take-append_seam, drop-append_seam, and_parts}
 use Rattle.am_races.proofs.Words.{eqb-true, add-mul, mul-le, drop_all, list_all-append, All-append, most_events, place_of, Act, Record, RacePlan, ThreadPlan}
-use Rattle.am_races.proofs.Words.{WireRefusal, has_stopped, Answer, of_caller, of_call, answer_of, is_end, is_empty, is_last, first_call, behind, goes_on}
+use Rattle.am_races.proofs.Words.{WireRefusal, has_stopped, Answer, of_caller, of_call, answer_of, is_end, is_last, first_call, behind, goes_on}
 use Rattle.am_races.proofs.Words.{are_finished, Calling, Called, IsUnanswered, IsAnswer, of_next, calls_in, HasPlayed, HasRun, most_of, refusal_in}
 use Rattle.am_races.proofs.Words.{ends_thread, fresh_caller}
 use Rattle.am_races.proofs.Running.{next_call, calls_so_far}

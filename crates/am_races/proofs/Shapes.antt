@@ -1,11 +1,11 @@
 -- The records of one call: what may stand there, and what they answer.
 use Rattle.am_races.proofs.Words.{◌≡◌, ℕ, ◌-◌, ◌≤◌, List, [], ◌∷◌, ◌++◌, length, cond, Bool, true, false, true≢false, Option, Some, None, is_some, sym, refl}
-use Rattle.am_races.proofs.Words.{ap, ◌∙◌, subst, arith, eq-eqb, nat_lt, nat_le, unwrap_or, count_by, sum_by, ◌==◌, ◌&&◌, ◌||◌, if◌then◌else◌, fold}
+use Rattle.am_races.proofs.Words.{ap, ◌∙◌, subst, arith, eq-eqb, nat_le, unwrap_or, count_by, sum_by, ◌==◌, ◌&&◌, ◌||◌, if◌then◌else◌, fold}
 use Rattle.am_races.proofs.Words.{list_all, list_any, and_parts, lt-ltb, sum_by-cons, sum_by-append, fold-append, Outcome, Act, Part, Call, Turn, Check}
 use Rattle.am_races.proofs.Words.{Record, Answer, Came, is_own, is_turn_part, is_check, own_of, ballot_answer, join_answer, leave_answer, left_answer}
 use Rattle.am_races.proofs.Words.{send_answer, take_answer, stop_answer, own_answer, end_answer, or_else, queued_request, request_in, request_of, request_by}
 use Rattle.am_races.proofs.Words.{put_off_in, late_after, late, answer_in, act_of_call, first_answer, is_take, is_end_of, is_end, answer_of, same_bytes}
-use Rattle.am_races.proofs.Words.{same_act, is_empty, asks, checks, is_followed, is_receive, is_other, is_one_call, IsUnanswered, round_in, is_call}
+use Rattle.am_races.proofs.Words.{same_act, asks, is_followed, is_receive, is_other, is_one_call, IsUnanswered, round_in, is_call}
 use Rattle.am_races.proofs.Words.{has_check, end_act, end_part, told_at_end, request_in_call, IsOwn, HasBegun}
 use Rattle.am_base.specs.declared.outcome.Outcome.TheVariants as said
 use Rattle.am_group.specs.declared.event.Act.TheVariants as act

@@ -1,6 +1,6 @@
 -- A turn stays one, whatever records of other places and callers come between.
 use Rattle.am_races.proofs.Words.{◌≡◌, ℕ, zero, suc, ◌+◌, List, [], ◌∷◌, ◌++◌, drop, Bool, true, false, true≢false, Option, Some, None, sym, refl, ap, ◌∙◌}
-use Rattle.am_races.proofs.Words.{subst, arith, append_assoc, append-nil, if◌then◌else◌, not, ◌&&◌, All, map, count_by, nat_lt, is_none, eqb-true}
+use Rattle.am_races.proofs.Words.{subst, arith, append_assoc, append-nil, not, ◌&&◌, All, map, count_by, nat_lt, is_none, eqb-true}
 use Rattle.am_races.proofs.Words.{list_any-append, place_of, name_at, Letter, Act, By, Event, Record, RacePlan, is_for, first_for, next_for, letters_of}
 use Rattle.am_races.proofs.Words.{heard_by, Node, World, current, has_stopped, world_after, of_place, of_caller, of_call, own_of, is_turn_part, up_to_last}
 use Rattle.am_races.proofs.Words.{is_ready, cursor, last_heard, words_drawn, unless_nought, choice_after, follows, is_waited, is_choice, is_turn_of, turns_at}

@@ -3,10 +3,9 @@ use Rattle.am_races.proofs.Words.{◌≡◌, ℕ, ◌+◌, ◌-◌, ◌<◌, ◌
 use Rattle.am_races.proofs.Words.{nat_lt, refl, sym, ap, ◌∙◌, subst, arith, if◌then◌else◌, ltb-true, ne_eqb, slice_get-get_or, Entry, Outcome, NodeEvent}
 use Rattle.am_races.proofs.Words.{entry_at, IsInOrder, end-entry, entry_is, Sends, collected_of, outcome_of, collect_outcome, is_settled, Act, Status, Node}
 use Rattle.am_races.proofs.Words.{Ballot, is_member, has_log, has_departed, quiet, finish, refresh_at_end, row, step, IsEndOf, and_both, ballot_end, end_of}
-use Rattle.am_races.proofs.Words.{Going, Came, own_answer, end_answer, ballot_answer, request_in, is_take, is_sent, is_ended, is_ready_after, may_take}
+use Rattle.am_races.proofs.Words.{Came, own_answer, end_answer, ballot_answer, request_in, is_take, is_sent, is_ended, is_ready_after, may_take}
 use Rattle.am_races.proofs.Words.{told_at_end, EndTells}
 use Rattle.am_model.specs.Calls.{done_row, take_row, give_out, state_by, state_row, ask_of, ask_row}
-use Rattle.am_model.specs.{declared.info.BallotEnd.TheVariants.Ended}
 use Rattle.am_races.proofs.Requests.{Once, settled_send}
 use Rattle.am_base.specs.declared.outcome.Outcome.TheVariants as said
 use Rattle.am_base.specs.declared.event.NodeEvent.TheVariants as does

@@ -171,16 +171,16 @@ last_next terms name before r low lawful so_far =
     let heard : Record → ℕ = λ q. heard_by q.event.act in
     split (place_of r.event.node == name)
     (λ here.
-        let first : name_of r ≡ name = ap (name_at (place_of r.event.node)) lawful.life ∙ (let e = eqb-true (place_of r.event.node) name here in omega arith) in
-        subst (is_nought_or (before ++ r ∷ []) name) (sym (place_last heard name before r here))
-        (higher (before ++ r ∷ []) name (greatest (map heard (of_place name before))) (heard r) (still_sent before r name _ so_far)
-        (still_sent before r name (heard r) (subst (λ (k : ℕ). is_nought_or before k (heard r)) first (heard_next terms before r lawful)))))
+    let first : name_of r ≡ name = ap (name_at (place_of r.event.node)) lawful.life ∙ (let e = eqb-true (place_of r.event.node) name here in omega arith) in
+    subst (is_nought_or (before ++ r ∷ []) name) (sym (place_last heard name before r here))
+    (higher (before ++ r ∷ []) name (greatest (map heard (of_place name before))) (heard r) (still_sent before r name _ so_far)
+    (still_sent before r name (heard r) (subst (λ (k : ℕ). is_nought_or before k (heard r)) first (heard_next terms before r lawful)))))
     (λ there.
-        let same : of_place name (before ++ r ∷ []) ≡ of_place name before =
-        filter-append (λ (q : Record). place_of q.event.node == name) before (r ∷ []) ∙ ap (λ (b : Bool). of_place name before ++ cond b (r ∷ []) []) there
-        ∙ append-nil (of_place name before)
-        in
-        subst (λ (rs : List Record). is_nought_or (before ++ r ∷ []) name (greatest (map heard rs))) (sym same) (still_sent before r name _ so_far))
+    let same : of_place name (before ++ r ∷ []) ≡ of_place name before =
+    filter-append (λ (q : Record). place_of q.event.node == name) before (r ∷ []) ∙ ap (λ (b : Bool). of_place name before ++ cond b (r ∷ []) []) there
+    ∙ append-nil (of_place name before)
+    in
+    subst (λ (rs : List Record). is_nought_or (before ++ r ∷ []) name (greatest (map heard rs))) (sym same) (still_sent before r name _ so_far))
 
 pub last_is_sent : (terms : Terms) (name number : ℕ) (before : List Record) → name < 16 → Follows (IsLawful terms) before → last_heard name before ≡ Some number
     → IsSent before name number

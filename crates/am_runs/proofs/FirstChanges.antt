@@ -1,8 +1,8 @@
 -- What each change of the first founder keeps, as long as its ballot is none.
-use Rattle.am_runs.proofs.UnballotedWords.{stamp_itself, ◌≡◌, ℕ, ◌+◌, ◌-◌, ◌<◌, ◌≤◌, max, min, ◌==◌, ◌&&◌, ◌||◌, not, nat_lt, true, false, if◌then◌else◌, List}
+use Rattle.am_runs.proofs.UnballotedWords.{stamp_itself, ◌≡◌, ℕ, ◌+◌, ◌-◌, ◌<◌, ◌≤◌, max, min, ◌==◌, ◌&&◌, not, nat_lt, true, false, if◌then◌else◌, List}
 use Rattle.am_runs.proofs.UnballotedWords.{[], length, map, Some, None, refl, sym, ap, ◌∙◌, subst, append-nil, arith, nat_tests, Stamp, Report, Row, Image}
 use Rattle.am_runs.proofs.UnballotedWords.{Entry, Data, Join, Leave, Outcome, Rules, life_of, stamp_eq, Log, fits, at_place, row_of, requests_of, accept}
-use Rattle.am_runs.proofs.UnballotedWords.{pass_over, own_report, tell, go_on, let_go, Status, Node, top, view, is_member, is_asking, acts, is_sequencer}
+use Rattle.am_runs.proofs.UnballotedWords.{pass_over, own_report, tell, go_on, let_go, Node, top, view, is_member, acts, is_sequencer}
 use Rattle.am_runs.proofs.UnballotedWords.{push_entry, founding_stamp, has_log, lead, refresh, accepted_at, settle, refresh_at_end, is_view, hears_member}
 use Rattle.am_runs.proofs.UnballotedWords.{hears_in_view, hears_sequencer, split, and_both, image_of, mem, mem_in, in_mem, mem_push, request_within, next_in}
 use Rattle.am_runs.proofs.UnballotedWords.{Cause, Numbers, asked_send, own_send, asked_join, asked_leave, MayBeWelcomed, Change, refreshes, settles, numbers}

@@ -1,5 +1,5 @@
 -- Each event of a run in which nobody began a ballot moves the group by its record alone.
-use Rattle.am_runs.proofs.UnballotedWords.{◌≡◌, ◌≢◌, ⊎_elim, ℕ, ◌+◌, ◌-◌, ◌<◌, ◌≤◌, ◌==◌, true, false, if◌then◌else◌, List, [], ◌∷◌, ◌++◌, length, map, Option}
+use Rattle.am_runs.proofs.UnballotedWords.{◌≡◌, ◌≢◌, ⊎_elim, ℕ, ◌+◌, ◌-◌, ◌<◌, ◌≤◌, ◌==◌, true, if◌then◌else◌, List, [], ◌∷◌, ◌++◌, length, map, Option}
 use Rattle.am_runs.proofs.UnballotedWords.{Some, None, slice_get, slice_set, slice_index_or, refl, sym, ap, ◌∙◌, subst, append-nil, arith, range_with_len}
 use Rattle.am_runs.proofs.UnballotedWords.{nat_tests, get_or_from_slice_get, length-take-le, Entry, Join, Outcome, Rules, place_of, Event, item_at, above}
 use Rattle.am_runs.proofs.UnballotedWords.{numbered_entry, with_admitted, taken_in, Node, view, set_at, has_log, World, start, record_of, group_after}

@@ -1,8 +1,8 @@
 -- What each change of another name than the first founder keeps, as long as its ballot is none.
 use Rattle.am_runs.proofs.UnballotedWords.{◌≡◌, ◌≢◌, ℕ, ◌+◌, ◌-◌, ◌<◌, ◌≤◌, max, min, ◌==◌, not, nat_lt, true, false, if◌then◌else◌, List, [], ◌∷◌, length}
-use Rattle.am_runs.proofs.UnballotedWords.{Option, Some, None, slice_get, refl, sym, ap, ◌∙◌, subst, length-append, arith, All, nat_tests, Stamp, Image, Entry}
+use Rattle.am_runs.proofs.UnballotedWords.{Some, None, slice_get, refl, sym, ap, ◌∙◌, subst, length-append, arith, All, nat_tests, Stamp, Image, Entry}
 use Rattle.am_runs.proofs.UnballotedWords.{Data, View, Outcome, Rules, has, CoreState, accept, pass_over, Record, item_at, Status, Node, Ballot, top, is_member}
-use Rattle.am_runs.proofs.UnballotedWords.{is_sequencer, push_entry, trim_up_to, founding_stamp, has_log, advance, refresh, Verdict, body_of, begin_list, split}
+use Rattle.am_runs.proofs.UnballotedWords.{is_sequencer, push_entry, trim_up_to, founding_stamp, has_log, advance, refresh, Verdict, begin_list, split}
 use Rattle.am_runs.proofs.UnballotedWords.{and_both, Cause, BringsFronts, alone, Looks, finds_itself_out, Carries, whole_entry, by_number, Promises, invited}
 use Rattle.am_runs.proofs.UnballotedWords.{overtaken, told_result, Change, refreshes, settles, takes_report, admits, numbers, notes, stores, begins_list}
 use Rattle.am_runs.proofs.UnballotedWords.{departs, promises, opens, looks, fetches, stores_view, queues, collects, takes, asks_to_join, closes, WasSent}

@@ -1,11 +1,11 @@
 -- What each change keeps, and what letters carry.
-use Rattle.am_runs.proofs.PromisedWords.{◌≡◌, ℕ, ◌+◌, ◌==◌, ◌&&◌, nat_le, not, true, List, find, Option, Some, None, option_map, refl, subst, arith, All}
-use Rattle.am_runs.proofs.PromisedWords.{nat_tests, All-nil, All-filter, All-weaker, Stamp, Report, Entry, Data, Leave, View, Outcome, Packet, Record, OwnSend}
-use Rattle.am_runs.proofs.PromisedWords.{KeptBody, is_of, find_body, Node, Ballot, push_entry, trim_up_to, waiting, own_body, first_body, body_of, bodies_after}
-use Rattle.am_runs.proofs.PromisedWords.{Verdict, Step, split, Cause, calls, hears, BringsSend, by_request, by_spread, Looks, decides, Numbers, asked_send}
+use Rattle.am_runs.proofs.PromisedWords.{◌≡◌, ℕ, ◌+◌, List, Option, subst, All}
+use Rattle.am_runs.proofs.PromisedWords.{All-nil, All-weaker, Stamp, Report, Entry, Leave, View, Outcome, Packet, Record, OwnSend}
+use Rattle.am_runs.proofs.PromisedWords.{Node, Ballot, push_entry, trim_up_to, body_of}
+use Rattle.am_runs.proofs.PromisedWords.{Verdict, Step, Cause, calls, hears, BringsSend, by_request, by_spread, Looks, decides, Numbers, asked_send}
 use Rattle.am_runs.proofs.PromisedWords.{own_send, Carries, whole_entry, by_number, Change, refreshes, settles, numbers, keeps_body, stores, begins_list, looks}
 use Rattle.am_runs.proofs.PromisedWords.{fetches, stores_view, queues, collects, closes, HasSend, EntryStands, Says, request, spread, bcast, piece, LetterSays}
-use Rattle.am_runs.proofs.PromisedWords.{Effect, all_get, all_find, along}
+use Rattle.am_runs.proofs.PromisedWords.{Effect, all_get, along}
 use Rattle.am_base.specs.declared.outcome.Outcome.TheVariants as said
 use Rattle.am_base.specs.declared.event.NodeEvent.TheVariants as does
 use Rattle.am_laws.proofs.NodeLimits.{OfBody, body_has, after_bodies}

@@ -1,5 +1,5 @@
 -- Stamps in their order.
-use Rattle.am_runs.proofs.PromisedWords.{◌≡◌, ℕ, ◌+◌, ◌==◌, ◌&&◌, ◌||◌, arith, nat_tests, Stamp, AtMost}
+use Rattle.am_runs.proofs.PromisedWords.{ℕ, ◌+◌, arith, nat_tests, Stamp, AtMost}
 use Rattle.am_laws.proofs.Stamps.{at_most, not_above_itself}
 
 pub most_same : (a : Stamp) → AtMost a a

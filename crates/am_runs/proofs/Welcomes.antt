@@ -1,5 +1,5 @@
 -- Who was welcomed, after a step.
-use Rattle.am_runs.proofs.UnballotedWords.{◌≡◌, ◌≢◌, ◌⊎◌, ⊎_elim, inl, inr, ℕ, ◌≤◌, ◌==◌, true, false, if◌then◌else◌, List, [], ◌∷◌, ◌++◌, length, refl, sym, ap}
+use Rattle.am_runs.proofs.UnballotedWords.{◌≡◌, ◌≢◌, ⊎_elim, ℕ, ◌≤◌, ◌==◌, true, false, if◌then◌else◌, List, [], ◌∷◌, ◌++◌, length, refl, sym, ap}
 use Rattle.am_runs.proofs.UnballotedWords.{◌∙◌, subst, append-nil, arith, nat_tests, Outcome, NodeEvent, Packet, Letter, kind_of, Act, Record, letter_at, name_of}
 use Rattle.am_runs.proofs.UnballotedWords.{Node, has_log, World, heard_by, is_welcome, welcomed_in, split, Cause, calls, hears, refuses, Answers, HasBegun}
 use Rattle.am_runs.proofs.UnballotedWords.{IsCall, IsCause, WasSentTo, asking_log}
