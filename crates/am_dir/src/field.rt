@@ -1,4 +1,4 @@
-ghost use Rattle.std.specs.Prelude.{◌≡◌};
+ghost use Rattle.std.specs.Prelude.{◌≡◌, ◌≤◌};
 ghost use Rattle.std.specs.Option.{option_map};
 ghost use Rattle.am_dir.specs.Fields.{cut_at, field_in, number_in};
 ghost use Rattle.am_dir.specs.Reading.{cut_read, number_read};
@@ -49,30 +49,32 @@ pub struct Numbered<'a> {
     pub rest: &'a [u8],
 }
 
-/// A number of four bytes; None where there are fewer.
+/// A number of so many bytes; None where there are fewer.
 #[tactic(auto, unfolding(crate::specs::Fields::number_in))]
-pub fn number_in(bytes: &[u8]) -> Option<Numbered<'_>>
-    ensures { option_map number_read result ≡ number_in 4 bytes.entry.now }
+fn uint_in(bytes: &[u8], count: usize) -> Option<Numbered<'_>>
+    requires { (1 ≤ count) × (count ≤ 4) }
+    ensures { option_map number_read result ≡ number_in count bytes.entry.now }
 {
-    if bytes.len() < 4 {
+    if bytes.len() < count {
         return None;
     }
+    let number = BigEndian::read_uint(bytes, count) as u32;
     Some(Numbered {
-        number: BigEndian::read_u32(bytes),
-        rest: &bytes[4..],
+        number,
+        rest: &bytes[count..],
     })
 }
 
+/// A number of four bytes; None where there are fewer.
+pub fn number_in(bytes: &[u8]) -> Option<Numbered<'_>>
+    ensures { option_map number_read result ≡ number_in 4 bytes.entry.now }
+{
+    uint_in(bytes, 4)
+}
+
 /// A number of two bytes; None where there are fewer.
-#[tactic(auto, unfolding(crate::specs::Fields::number_in))]
 pub fn short_number_in(bytes: &[u8]) -> Option<Numbered<'_>>
     ensures { option_map number_read result ≡ number_in 2 bytes.entry.now }
 {
-    if bytes.len() < 2 {
-        return None;
-    }
-    Some(Numbered {
-        number: u32::from(BigEndian::read_u16(bytes)),
-        rest: &bytes[2..],
-    })
+    uint_in(bytes, 2)
 }

@@ -5,3 +5,4 @@
 pub mod directories;
 pub mod messages;
 pub mod snapshots;
+mod telling;

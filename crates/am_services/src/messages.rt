@@ -1,15 +1,15 @@
 ghost use Rattle.std.specs.Prelude.{◌≡◌, ◌≤◌, ◌<◌, ◌++◌, ℕ, length, OnOk, IfOk, string_bytes};
-ghost use Rattle.am_group.specs.Deliveries.{given_to, deliveries};
+ghost use Rattle.am_group.specs.Deliveries.{deliveries};
 ghost use Rattle.am_report.specs.Logs.{logs_for};
-ghost use Rattle.am_seg.specs.Assembling.{Assembly};
 ghost use Rattle.am_seg.specs.Parts.{most_message, part_count, part_of};
 ghost use Rattle.am_services.specs.Texts.{parts_text, message_line, messages_of, messages_text};
-ghost use Rattle.am_services.specs.Telling.{assembled_with, messages_told};
+ghost use Rattle.am_services.specs.Telling.{assembled_then, message_told};
 
+use crate::telling::{Telling, push_told};
 use am_base::NoMemory;
+use am_base::entry::Entry;
 use am_base::name::Name;
 use am_group::event::Record;
-use am_journal::delivered::given_to;
 use am_seg::assembler::Assembler;
 use am_seg::fed::Fed;
 use am_seg::parts::{part_count, part_of};
@@ -51,40 +51,31 @@ fn push_message(
     out.push_str("\n")
 }
 
-/// Feeds what a record gave to a name, where it gave something, and adds the line of the message that it ended.
-fn push_fed(
-    out: &mut String,
-    assembler: &mut Assembler,
-    name: Name,
-    item: &Record,
-) -> Result<(), NoMemory>
-    ensures text { OnOk result (string_bytes out.new
-        ≡ string_bytes out.old ++ messages_told name assembler.old (given_to name item.now)) }
-    ensures fed { OnOk result (assembler.new ≡ assembled_with assembler.old (given_to name item.now)) }
-{
-    let Some((number, entry)) = given_to(item, name) else {
-        return Ok(());
-    };
-    let Fed::Whole { from } = assembler.feed(&entry.to_entry()) else {
-        return Ok(());
-    };
-    match assembler.message(from) {
-        Some(message) => push_message(out, name, number, from, message),
-        None => unreachable!(),
+impl Telling for Assembler {
+    ghost next = { assembled_then };
+
+    ghost lines = { message_told };
+
+    fn tell(&mut self, out: &mut String, name: Name, given: (u32, Entry)) -> Result<(), NoMemory> {
+        let (number, entry) = given;
+        let Fed::Whole { from } = self.feed(&entry) else {
+            return Ok(());
+        };
+        match self.message(from) {
+            Some(message) => push_message(out, name, number, from, message),
+            None => unreachable!(),
+        }
     }
 }
 
 /// Adds the messages that ended in what a name was given.
-#[tactic(auto, using(crate::proofs::Given::given, crate::proofs::Told::messages_are))]
+#[tactic(auto, using(crate::proofs::Told::messages_are))]
 fn push_messages(out: &mut String, records: &[Record], name: Name) -> Result<(), NoMemory>
     ensures { OnOk result (string_bytes out.new
         ≡ string_bytes out.old ++ messages_of (name, deliveries records.now name)) }
 {
     let mut assembler = Assembler::new(*out.allocator())?;
-    for item in records {
-        push_fed(out, &mut assembler, name, item)?;
-    }
-    Ok(())
+    push_told(out, &mut assembler, records, name)
 }
 
 /// The messages that ended in what each of these names was given, and the closing mark (docs/MESSAGES.md, "Printed").

@@ -1,20 +1,18 @@
 ghost use Rattle.std.specs.Prelude.{◌≡◌, ◌≤◌, ◌++◌, length, OnOk, IfOk, string_bytes};
 ghost use Rattle.std.specs.List.{flat_map};
-ghost use Rattle.am_group.specs.Deliveries.{given_to, deliveries};
+ghost use Rattle.am_group.specs.Deliveries.{deliveries};
 ghost use Rattle.am_report.specs.Logs.{logs_for};
 ghost use Rattle.am_dir.specs.Replicas.{shown};
 ghost use Rattle.am_seg.specs.Parts.{most_message, parts_of};
 ghost use Rattle.am_services.specs.Texts.{snapshot_line, snapshot_at, snapshots_of, snapshots_text};
-ghost use Rattle.am_services.specs.Telling.{replayed_with, snapshots_told};
+ghost use Rattle.am_services.specs.Telling.{replayed_then, snapshot_told};
 
 use crate::directories::start_of;
+use crate::telling::{Telling, push_told};
 use am_base::NoMemory;
 use am_base::entry::Entry;
-use am_base::founding::Founding;
 use am_base::name::Name;
 use am_dir::replica::Replica;
-use am_group::event::Record;
-use am_journal::delivered::given_to;
 use am_journal::journal::Journal;
 use am_seg::parts::{part_count, part_of};
 use am_texts::text::{push_body, push_mark, push_name};
@@ -68,41 +66,26 @@ fn push_asked(
     push_parts(out, name, number, snapshot.as_slice())
 }
 
-/// Feeds what a record gave to a name, where it gave something, and adds what that asks.
-fn push_fed(
-    out: &mut String,
-    replica: &mut Replica,
-    name: Name,
-    item: &Record,
-) -> Result<(), NoMemory>
-    ensures text { OnOk result (string_bytes out.new
-        ≡ string_bytes out.old ++ snapshots_told name replica.old (given_to name item.now)) }
-    ensures fed { OnOk result (replica.new ≡ replayed_with replica.old (given_to name item.now)) }
-{
-    let Some((number, entry)) = given_to(item, name) else {
-        return Ok(());
-    };
-    let entry = entry.to_entry();
-    replica.feed(number, &entry)?;
-    push_asked(out, name, number, &entry, replica)
+impl Telling for Replica {
+    ghost next = { replayed_then };
+
+    ghost lines = { snapshot_told };
+
+    fn tell(&mut self, out: &mut String, name: Name, given: (u32, Entry)) -> Result<(), NoMemory> {
+        self.feed(given.0, &given.1)?;
+        push_asked(out, name, given.0, &given.1, self)
+    }
 }
 
 /// Adds the snapshots that a name could send.
-#[tactic(auto, using(crate::proofs::Given::given, crate::proofs::Told::snapshots_are))]
-fn push_snapshots(
-    out: &mut String,
-    founding: &Founding,
-    records: &[Record],
-    name: Name,
-) -> Result<(), NoMemory>
-    ensures { OnOk result (string_bytes out.new
-        ≡ string_bytes out.old ++ snapshots_of founding.now (name, deliveries records.now name)) }
+#[tactic(auto, using(crate::proofs::Told::snapshots_are))]
+fn push_snapshots(out: &mut String, journal: &Journal, name: Name) -> Result<(), NoMemory>
+    ensures { OnOk result (string_bytes out.new ≡ string_bytes out.old
+        ++ snapshots_of journal.now.founding (name, deliveries journal.now.records name)) }
 {
-    let mut replica = Replica::new(*out.allocator(), start_of(founding, records, name))?;
-    for item in records {
-        push_fed(out, &mut replica, name, item)?;
-    }
-    Ok(())
+    let start = start_of(journal.founding(), journal.records(), name);
+    let mut replica = Replica::new(*out.allocator(), start)?;
+    push_told(out, &mut replica, journal.records(), name)
 }
 
 /// The snapshots that each of these names could send, and the closing mark (docs/DIRECTORY.md, "Printed").
@@ -118,7 +101,7 @@ pub fn snapshots_text(
 {
     let mut out = String::new(alloc);
     for name in names {
-        push_snapshots(&mut out, journal.founding(), journal.records(), *name)?;
+        push_snapshots(&mut out, journal, *name)?;
     }
     push_mark(&mut out, broken)?;
     Ok(out)

@@ -1,6 +1,6 @@
-ghost use Rattle.std.specs.Prelude.{◌≡◌, ◌&&◌, ◌||◌, ◌+◌, ◌<◌, ◌≤◌, ◌∷◌, [], OnOk, true, not, nat_lt, count_by, map, filter, slice_index_or};
+ghost use Rattle.std.specs.Prelude.{◌≡◌, ◌&&◌, ◌||◌, ◌+◌, ◌<◌, ◌∷◌, [], OnOk, true, not, count_by, map, filter, slice_index_or};
 ghost use Rattle.std.specs.List.{list_any, range_with_len};
-ghost use Rattle.am_base.specs.Names.{names_of, name_at};
+ghost use Rattle.am_base.specs.Names.{names_of};
 ghost use Rattle.am_base.specs.Most.{most_word};
 ghost use Rattle.am_watching.specs.Watching.{first_watching, blank_standing, first_standing, standing, has_stopped, is_by, has_stored, lags, is_complete, greater, greatest, is_lost, is_lawful, broken_now, look, pass, stop, is_alike, with_standing, with_decided, with_entry, finish, accept, is_above, store_view, place_view};
 ghost use Rattle.am_watcher.specs.Watchers.{watching_of, HasRoom};
@@ -145,30 +145,6 @@ impl Watcher {
         !self.has_stopped(name)
     }
 
-    /// Whether a life of a place, which may be none, has stored a view.
-    fn life_has_stored(&self, v: &Pending, place: u8, life: u8) -> bool
-        requires { (place < 16) × (life ≤ 16) }
-        ensures { result ≡ (nat_lt 0 life
-            && has_stored (watching_of self.now) v.now (name_at place life)) }
-    {
-        match Name::of(place, life) {
-            Some(name) => self.has_stored(v, name),
-            None => false,
-        }
-    }
-
-    /// Whether a life of a place, which may be none, lags behind a view.
-    fn life_lags(&self, v: &Stamp, place: u8, life: u8) -> bool
-        requires { (place < 16) × (life ≤ 16) }
-        ensures { result ≡ (nat_lt 0 life
-            && lags (watching_of self.now) v.now (name_at place life)) }
-    {
-        match Name::of(place, life) {
-            Some(name) => self.lags(v, name),
-            None => false,
-        }
-    }
-
     /// How many of a view's members have stored it.
     #[tactic(auto, using(am_state::proofs::ReportLaws::count_laws))]
     fn holders(&self, v: &Pending) -> u32
@@ -178,7 +154,10 @@ impl Watcher {
         let lives = v.decided.view.members.each_life();
         let mut held = 0;
         for place in 0..16u8 {
-            held += u32::from(self.life_has_stored(v, place, lives[usize::from(place)]));
+            let Some(name) = Name::of(place, lives[usize::from(place)]) else {
+                continue;
+            };
+            held += u32::from(self.has_stored(v, name));
         }
         held
     }
@@ -191,7 +170,10 @@ impl Watcher {
     {
         let lives = v.decided.view.members.each_life();
         for place in 0..16u8 {
-            if self.life_lags(&v.decided.view.stamp, place, lives[usize::from(place)]) {
+            let Some(name) = Name::of(place, lives[usize::from(place)]) else {
+                continue;
+            };
+            if self.lags(&v.decided.view.stamp, name) {
                 return true;
             }
         }
