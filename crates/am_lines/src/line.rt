@@ -60,19 +60,19 @@ pub enum Line {
     Bad(BadLine),
 }
 
-/// The words with which lines begin.
+/// The words with which lines begin: first those that stand alone.
 #[derive(Clone, Copy, PartialEq, Eq, Debug)]
 pub enum Word {
-    Send,
-    Done,
+    Info,
     Take,
     Join,
     State,
     Leave,
-    Reset,
+    Tick,
+    Send,
+    Hear,
+    Done,
     Ask,
     GiveUp,
-    Tick,
-    Hear,
-    Info,
+    Reset,
 }

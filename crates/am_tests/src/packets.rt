@@ -1,5 +1,6 @@
 use crate::wrong_fields::FAULTS;
 use am_base::entry::{EntryParts, EntryRef};
+use am_base::image::Report;
 use am_base::names::Names;
 use am_letter::letter::letter_of;
 use am_packet::PacketRefusal;
@@ -136,26 +137,17 @@ fn entry_numbers(entry: &EntryRef) -> [u32; 5] {
 fn numbers_of(packet: &Packet) -> [u32; 8] {
     match packet {
         Packet::Request {
-            report,
+            report: Report { stored, taken },
             req,
             body,
             ..
         }
         | Packet::Spread {
-            report,
+            report: Report { stored, taken },
             req,
             body,
             ..
-        } => [
-            report.stored,
-            report.taken,
-            *req,
-            body.bytes().len() as u32,
-            0,
-            0,
-            0,
-            0,
-        ],
+        } => [*stored, *taken, *req, body.bytes().len() as u32, 0, 0, 0, 0],
         Packet::Bcast {
             base,
             acc,
@@ -183,11 +175,11 @@ fn numbers_of(packet: &Packet) -> [u32; 8] {
 fn other_numbers_of(packet: &Packet) -> [u32; 8] {
     match packet {
         Packet::Order {
+            from,
+            req,
             base,
             acc,
             number,
-            from,
-            req,
             ..
         } => [*base, *acc, *number, u32::from(from.get()), *req, 0, 0, 0],
         Packet::Accept {

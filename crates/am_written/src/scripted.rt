@@ -1,6 +1,4 @@
-ghost use Rattle.am_written.specs.Bodies.{PlaysAreOfBytes, RacesAreOfBytes};
-ghost use Rattle.am_written.specs.RacedBodies.{RacesHavePlannedBodies};
-ghost use Rattle.am_written.specs.Scripts.{RacesHaveScripts};
+ghost use Rattle.am_written.specs.{Bodies.PlaysAreOfBytes, Bodies.RacesAreOfBytes, RacedBodies.RacesHavePlannedBodies, Scripts.RacesHaveScripts};
 
 /// The bodies of a play's sends, and of a race's, are lists of bytes.
 pub fn scripts_are_of_bytes()
@@ -9,11 +7,8 @@ pub fn scripts_are_of_bytes()
 {}
 
 /// Where the bodies of a race's planned calls are of bytes, at most 1,024, so are those of the sends in each journal that it may leave.
-pub fn races_have_planned_bodies()
-    ensures { RacesHavePlannedBodies }
-{}
-
-/// Where a race is within the limits of scripts, so are the events of each journal of at most 100,000 records that it may leave.
+/// Where the race is within the limits of scripts, so are the events of each such journal of at most 100,000 records.
 pub fn races_have_scripts()
-    ensures { RacesHaveScripts }
+    ensures bodies { RacesHavePlannedBodies }
+    ensures events { RacesHaveScripts }
 {}
