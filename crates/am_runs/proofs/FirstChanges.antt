@@ -12,7 +12,7 @@ use Rattle.am_state.specs.Sends as own
 use Rattle.am_model.specs.declared.status.Status.TheVariants as status
 use Rattle.am_model.specs.Node as nodes
 use Rattle.am_base.proofs.Rows as rows
-use Rattle.am_runs.proofs.UnballotedKept.{first_of, NodeOk, CauseOk, node_more}
+use Rattle.am_runs.proofs.UnballotedKept.{first_of, FrontsOk, NodeOk, CauseOk, node_more}
 use Rattle.am_runs.proofs.UnballotedChanges.{found_at, settle_ok, queued_ok, collected_ok}
 use Rattle.am_runs.proofs.Others.{same_node, looks_leave, promised_first, with_status, with_promise, taken_ok}
 use Rattle.am_runs.proofs.Turns.{Turn, waiting_is, one_more, waiting_settled, collected_turn}
@@ -52,28 +52,17 @@ first_rise rules m told base reports up h =
     let i = first_of rules in
     let to = max m.core.acc (min told (top m)) in
     let n = node_up rules list m.core.acc to i m (omega arith) h.node in
-    let f = h.node.fronts in
-    record {
-      node = record {
-        who = n.who;
-        log = record { start = n.log.start; image = n.log.image; within = n.log.within };
-        fronts = record {
-          accepted = omega arith;
-          within = omega arith;
-          taken = over_acc m.core.taken to m.core.start (omega arith);
-          base = omega arith;
-          told = λ d. absurd (d refl);
-          passed = passed_over m.core.taken to m.core.start;
-        };
-        status = record { promise = n.status.promise; founder = n.status.founder; blank = λ z. absurd (cc); begins = n.status.begins };
-        sends = n.sends;
-      };
-      start = h.start;
-      group = h.group;
-      good = h.good;
-      log = h.log;
-      own = h.own;
-    }
+    let x = risen m told base reports in
+    let fronts : FrontsOk i to i x.core = record {
+      accepted = omega arith;
+      within = omega arith;
+      taken = over_acc m.core.taken to m.core.start (omega arith);
+      base = omega arith;
+      told = λ d. absurd (d refl);
+      passed = passed_over m.core.taken to m.core.start;
+    } in
+    let blank : has_log m.status ≡ false → (x.core.taken ≡ 0) × (x.core.start ≡ 0) = λ z. absurd (cc) in
+    assumption (fronts, blank, n)
 
 first_refresh : (rules : Rules) (m : Node) → FirstBase rules m → FirstBase rules (refresh m)
 unfolding refresh lead own_report tell go_on let_go accept pass_over

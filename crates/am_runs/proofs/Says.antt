@@ -118,7 +118,6 @@ welcome_says rules list acc i m n s h f t (just_joined number next high low stan
     let told_ = first_told rules list acc i m n h f in
     let same = ap (λ x. (row_of x s).joined) told_ in
     let entries = sym f.list_ in
-    let start = f.start in
     let zero : n.core.log.start ≤ m.core.base = omega arith in
     let at = stands.at zero in
     let there : slice_get list stands.index ≡ Some (Join s) = ap (λ l. slice_get l stands.index) (sym entries) ∙ stands.there in
