@@ -7,7 +7,6 @@ use Rattle.am_runs.proofs.UnballotedWords.{and_both, Cause, BringsFronts, alone,
 use Rattle.am_runs.proofs.UnballotedWords.{overtaken, told_result, Change, refreshes, settles, takes_report, admits, numbers, notes, stores, begins_list}
 use Rattle.am_runs.proofs.UnballotedWords.{departs, promises, opens, looks, fetches, stores_view, queues, collects, takes, asks_to_join, closes, WasSent}
 use Rattle.am_runs.proofs.UnballotedWords.{EntrySent, Keeps, MaySend, body_of_sent, all_item, logged, asking_log, asking}
-use Rattle.am_model.specs.declared.status.Status.TheVariants as status
 use Rattle.am_runs.proofs.UnballotedKept.{first_of, ListOk, FrontsOk, fronts_ok, BeginsOk, StatusOk, SendOk, NodeOk, WelcomeOk, CauseOk}
 use Rattle.am_runs.proofs.{Lists.item_get, Lists.within_push, Lists.within_none, UnballotedChanges.leads_first, UnballotedChanges.advance_fronts}
 use Rattle.am_runs.proofs.{UnballotedChanges.settle_ok, UnballotedChanges.queued_ok, UnballotedChanges.collected_ok}
@@ -182,7 +181,7 @@ other_change rules list acc i all c o m n w d (begins_list s v base join image i
     let none_yet = asking_log m.status (asking m s v base join image may) in
     begun_ok rules list acc i s v base join image m w.within (no_founder rules list acc i m h none_yet) p may.above h
 other_change rules list acc i all c o m n w d (departs s v number is heard leaves) none k h =
-    with_status rules list acc i m status.Departed (sym (logged m.status (and_both (not (s == m.core.who)) (is_member m.status) heard).1)) h
+    with_status rules list acc i m Status.Departed (sym (logged m.status (and_both (not (s == m.core.who)) (is_member m.status) heard).1)) h
 other_change rules list acc i all c o m n w d (promises v low why) none k h =
     with_promise rules list acc i m n v refl (promised_first rules list acc i c m v why w.cause) h
 other_change rules list acc i all c o m n w d (opens least resilience by may) none k h = absurd (cc)
@@ -198,6 +197,6 @@ other_change rules list acc i all c o m n w d (stores_view s base number v is he
 other_change rules list acc i all c o m n w d (queues body is says member stays few) none k h = queued_ok rules list acc i m body h
 other_change rules list acc i all c o m n w d (collects req is) none k h = collected_ok rules list acc i m req h
 other_change rules list acc i all c o m n w d (takes e is says member some there) none k h = taken_ok rules list acc i m member some h
-other_change rules list acc i all c o m n w d (asks_to_join is was) none k h = with_status rules list acc i m status.Asking (sym (ap has_log was)) h
+other_change rules list acc i all c o m n w d (asks_to_join is was) none k h = with_status rules list acc i m Status.Asking (sym (ap has_log was)) h
 other_change rules list acc i all c o m n w d (closes leads leaves last room) none k h = absurd (d (leads_first rules list acc i m h leads))
 other_change rules list acc i all c o m n w d _ none k h = same_node rules list acc i m n refl refl refl h
