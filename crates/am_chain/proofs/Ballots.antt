@@ -1,6 +1,6 @@
 -- Votes, and what voters send of their lists.
 use Rattle.am_chain.proofs.Words.{◌≡◌, ◌≢◌, ◌⊎◌, inl, ℕ, ◌<◌, ◌≤◌, true, List, length, Option, Some, None, sym, ap, ◌∙◌, subst, arith, Entry, Begins, mem, key}
-use Rattle.am_chain.proofs.Words.{begins_refl, begins_trans, key_by, put2, Group, IsThere, IsUp, Kept}
+use Rattle.am_chain.proofs.Words.{begins_refl, begins_trans, key_by, put2, Group, IsThere, IsUp, ServedOk, Kept}
 use Rattle.am_chain.proofs.{Puts.put2_cases, Puts.either}
 
 some_same : {x y : List Entry} → ◌≡◌ {A = Option (List Entry)} (Some x) (Some y) → x ≡ y
@@ -62,36 +62,27 @@ module _ (s : Group) (k : Kept s) where
     pub serves_keeps : (list : List Entry) → IsUp (s.node i) → s.shown p i ≡ Some list
         → ((j : ℕ) → mem list j ≡ true → IsThere (s.node j) → (j ≡ (s.node i).promise.by)
         ⊎ ((vote : List Entry) × (s.shown p j ≡ Some vote))) → Kept (record s { served = put2 s.served p i true })
-    serves_keeps list up is voted = record {
-      views = k.views;
-      group = k.group;
-      each = k.each;
-      shown = k.shown;
-      still = k.still;
-      short = k.short;
-      served = λ c v l u b served h. either (put2_cases s.served p i true (key (s.node c).promise) v)
-          (λ d.
-          let old : s.shown p i ≡ Some l = subst (λ j. s.shown p j ≡ Some l) d.1 (subst (λ x. s.shown x v ≡ Some l) d.0 h) in
-          let same : list ≡ l = some_same (sym is ∙ old) in
-          let o = k.shown p i list is in
-          let by = ((k.each c).ballot u b).by in
-          let at = d.0 in
-          record {
-            chain = begins_trans (subst (λ y. Begins y (s.node i).list) same o.list) ((k.each i).list up);
-            promised = λ j t m. either (voted j (subst (λ y. mem y j ≡ true) (sym same) m) t)
-                (λ x.
-                let e = x ∙ sym (key_by (s.node c).promise (s.node i).promise (k.each c).small (k.each i).small at) ∙ by in
-                let q = ap (λ y. key (s.node y).promise) e in omega arith)
-                (λ x. let q = (k.shown p j x.0 x.1).promised in omega arith);
-          })
-          (λ d. k.served c v l u b (sym d.1 ∙ served) h);
-      sent = λ x v served. either (put2_cases s.served p i true x v)
-          (λ d. (
-            list,
-            subst (λ j. s.shown x j ≡ Some list) (sym d.1) (subst (λ y. s.shown y i ≡ Some list) (sym d.0) is),
-          ))
-          (λ d. k.sent x v (sym d.1 ∙ served));
-      witness = k.witness;
-      departed = k.departed;
-      enough = k.enough;
-    }
+    serves_keeps list up is voted =
+        let served : (c v : ℕ) (l : List Entry) → IsUp (s.node c) → (s.node c).ballot ≡ true → put2 s.served p i true (key (s.node c).promise) v ≡ true
+        → s.shown (key (s.node c).promise) v ≡ Some l → ServedOk s.node s.views (key (s.node c).promise) l = λ c v l u b served h.
+        either (put2_cases s.served p i true (key (s.node c).promise) v)
+        (λ d.
+        let old : s.shown p i ≡ Some l = subst (λ j. s.shown p j ≡ Some l) d.1 (subst (λ x. s.shown x v ≡ Some l) d.0 h) in
+        let same : list ≡ l = some_same (sym is ∙ old) in
+        let o = k.shown p i list is in
+        let by = ((k.each c).ballot u b).by in
+        let at = d.0 in
+        record {
+          chain = begins_trans (subst (λ y. Begins y (s.node i).list) same o.list) ((k.each i).list up);
+          promised = λ j t m. either (voted j (subst (λ y. mem y j ≡ true) (sym same) m) t)
+              (λ x.
+              let e = x ∙ sym (key_by (s.node c).promise (s.node i).promise (k.each c).small (k.each i).small at) ∙ by in
+              let q = ap (λ y. key (s.node y).promise) e in omega arith)
+              (λ x. let q = (k.shown p j x.0 x.1).promised in omega arith);
+        })
+        (λ d. k.served c v l u b (sym d.1 ∙ served) h) in
+        let sent : (x v : ℕ) → put2 s.served p i true x v ≡ true → (l : List Entry) × (s.shown x v ≡ Some l) = λ x v served.
+        either (put2_cases s.served p i true x v)
+        (λ d. (list, subst (λ j. s.shown x j ≡ Some list) (sym d.1) (subst (λ y. s.shown y i ≡ Some list) (sym d.0) is)))
+        (λ d. k.sent x v (sym d.1 ∙ served)) in
+        assumption (served, sent)

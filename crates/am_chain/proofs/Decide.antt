@@ -143,16 +143,10 @@ module _ (s : Group) (k : Kept s) (lawful : IsLawful s) (c : ℕ) (v : GroupView
       let shorter = begins_more e.before (e.last ∷ []) in
       let z = ok.own u (take (s.node j).start s.group) b (below_of (begins_both on (ok.list u) (omega arith)) x) (begins_trans e.above shorter) joined.member in
       let ended = e.ended in absurd (cc)) in
-      record {
-        before = e.before;
-        last = e.last;
-        list = reach;
-        member = e.member;
-        ended = e.ended;
-        lines = λ x h p. either (decided_cases x h)
-            (λ z. subst (Begins b) (sym (ap (put s.views.line w (opening choice)) z)) (on_new e.within))
-            (λ z. subst (Begins b) (sym (put_other s.views.line w (opening choice) x (older x z))) (old_line j u e x z p on));
-      }
+      let lines : (x : ℕ) → views.decided x ≡ true → key (s.node j).promise ≤ x → Begins b (views.line x) = λ x h p. either (decided_cases x h)
+      (λ z. subst (Begins b) (sym (ap (put s.views.line w (opening choice)) z)) (on_new e.within))
+      (λ z. subst (Begins b) (sym (put_other s.views.line w (opening choice) x (older x z))) (old_line j u e x z p on)) in
+      search (e.before, e.last, e, reach, lines)
     where
       old_line : (j : ℕ) (u : IsUp (s.node j)) (e : Ends (take (s.node j).start s.group) list j) (x : ℕ) → s.views.decided x ≡ true → key (s.node j).promise ≤ x
           → Begins (e.before ++ e.last ∷ []) (chain_of s.views) → Begins (e.before ++ e.last ∷ []) (s.views.line x)
@@ -197,13 +191,7 @@ module _ (s : Group) (k : Kept s) (lawful : IsLawful s) (c : ℕ) (v : GroupView
         joined = ok.joined;
         own = ok.own;
         late = λ u l. late_now j u l;
-        ballot = λ u b. let o = ok.ballot u b in record {
-          small = o.small;
-          above = ballot_above j other u b;
-          by = o.by;
-          staying = o.staying;
-          member = o.member;
-        };
+        ballot = λ u b. let o = ok.ballot u b in assumption (o, ballot_above j other u b);
         complete = λ x h t m.
             let same = chosen_old x (k.views.marked x h) in
             subst (λ ch. Begins (opening ch) (s.node j).list) (sym same) (ok.complete x h t (subst (λ (ch : Chosen). has ch.members j ≡ true) same m));
@@ -221,7 +209,6 @@ module _ (s : Group) (k : Kept s) (lawful : IsLawful s) (c : ℕ) (v : GroupView
   own_ok : NodeOk views s.group c node
   own_ok =
       let ok = k.each c in
-      let log = d.up.log in
       let whole : Begins (opening choice) (chain_of views) = subst (Begins (opening choice)) (sym chain_is) (begins_refl (opening choice)) in
       let now : mem (chain_of views) c ≡ true = subst (λ y. mem y c ≡ true) (sym chain_is) own_now in
       record {

@@ -1,7 +1,7 @@
 -- What a change of one node leaves as it was.
 use Rattle.am_chain.proofs.Words.{split, ◌≡◌, ◌≢◌, ◌⊎◌, inl, inr, ℕ, ◌≤◌, true, false, List, length, Some, refl, sym, ap, ◌∙◌, subst, arith, Entry, Begins, key}
 use Rattle.am_chain.proofs.Words.{begins_refl, begins_trans, begins_length, put, Node, opening, Views, Group, IsThere, IsUp, with_node, NodeOk, ShownOk}
-use Rattle.am_chain.proofs.Words.{ServedOk, Witness, DepartedOk, Kept}
+use Rattle.am_chain.proofs.Words.{ServedOk, Witness, DepartedOk, Kept, ◌<◌, take}
 use Rattle.am_chain.proofs.Puts.{put_cases, put_same, put_at, either}
 
 -- a node later on: it has no less, and it isn't there again nor stays again
@@ -34,15 +34,8 @@ later_all node i n h = put_at (λ j m. Later (node j) m) node i n h (λ j _. lat
 pub shown_later : (a b : ℕ → Node) (x name : ℕ) (l : List Entry) → ((j : ℕ) → Later (a j) (b j)) → ShownOk a x name l → ShownOk b x name l
 shown_later a b x name l up h =
     let q = (up name).promise in let t = (up h.stamp.by).promise in
-    record {
-      promised = omega arith;
-      list = begins_trans h.list (up name).list;
-      stamp = h.stamp;
-      is = h.is;
-      small = h.small;
-      other = h.other;
-      begun = omega arith;
-    }
+    let promised : x ≤ key (b name).promise = omega arith in let begun : x ≤ key (b h.stamp.by).promise = omega arith in
+    search (h.stamp, promised, begun, begins_trans h.list (up name).list)
 
 pub served_later : (a b : ℕ → Node) (views : Views) (x : ℕ) (l : List Entry) → ((j : ℕ) → Later (a j) (b j)) → ServedOk a views x l → ServedOk b views x l
 served_later a b views x l up h = record {
@@ -52,17 +45,11 @@ served_later a b views x l up h = record {
 }
 
 pub witness_later : (a b : ℕ → Node) (group : List Entry) (n : ℕ) → ((j : ℕ) → Later (a j) (b j)) → Witness a group n → Witness b group n
-witness_later a b group n up w = record {
-  number = w.number;
-  above = w.above;
-  within = w.within;
-  holders = w.holders;
-  counts = w.counts;
-  logs = λ h t. (up h).log (w.logs h t);
-  joined = λ h t. let e = (up h).start (w.logs h t) in let z = w.joined h t in omega arith;
-  stored = λ h t. begins_trans (w.stored h t) (up h).list;
-  enough = w.enough;
-}
+witness_later a b group n up w =
+    let logs : (h : ℕ) → w.holders h ≡ true → (b h).has_log ≡ true = λ h t. (up h).log (w.logs h t) in
+    let joined : (h : ℕ) → w.holders h ≡ true → (b h).start < n = λ h t. let e = (up h).start (w.logs h t) in let z = w.joined h t in omega arith in
+    let stored : (h : ℕ) → w.holders h ≡ true → Begins (take w.number group) (b h).list = λ h t. begins_trans (w.stored h t) (up h).list in
+    search (w.number, w.holders, logs, joined, stored)
 
 pub departed_later : (a b : ℕ → Node) (views : Views) (d : ℕ) → ((j : ℕ) → Later (a j) (b j)) → DepartedOk a views d → DepartedOk b views d
 departed_later a b views d up h = record {

@@ -4,7 +4,7 @@ use Rattle.am_chain.proofs.Words.{slice_get, sym, ap, ◌∙◌, subst, arith, t
 use Rattle.am_chain.proofs.Words.{NotView, SmallName, image_of, mem, view_of, key, resilience_of, begins_refl, begins_more, begins_trans, begins_length}
 use Rattle.am_chain.proofs.Words.{begins_both, begins_pushed, begins_take, length_take, Spares, mem_push, good_push, view_push, put, how_many, counted_in}
 use Rattle.am_chain.proofs.Words.{need_of, Node, opening, Views, Group, chain_of, IsThere, IsUp, Leads, MayAccept, NodeOk, ServedOk, Witness, DepartedOk}
-use Rattle.am_chain.proofs.Words.{ViewsOk, Kept}
+use Rattle.am_chain.proofs.Words.{ViewsOk, Kept, LeadsOk, JoinedOk, LateOk, BallotOk}
 use Rattle.am_chain.proofs.Puts.{put_cases, put_same, put_at, either}
 use Rattle.am_chain.proofs.Frames.{Later, later_all, shown_later, served_later, witness_later, departed_later}
 use Rattle.am_group.proofs.Places.{get_before}
@@ -46,22 +46,10 @@ witness_more node a b n h low w =
 pub node_accepts : (views : Views) (a b : List Entry) (i : ℕ) (m : Node) → Begins a b → NodeOk views a i m → NodeOk views b i m
 node_accepts views a b i m h ok =
     let more = begins_length h in
-    record {
-      small = ok.small;
-      list = ok.list;
-      blank = ok.blank;
-      fronts = record { told = omega arith; acc = ok.fronts.acc; within = ok.fronts.within; delivered = begins_trans ok.fronts.delivered h };
-      leads = ok.leads;
-      promised = ok.promised;
-      stays = ok.stays;
-      joined = λ l. let o = ok.joined l in let x = o.accepted in
-          record { accepted = omega arith; member = subst (λ l. mem l i ≡ true) (sym (take_more m.start h x)) o.member };
-      own = ok.own;
-      late = ok.late;
-      ballot = ok.ballot;
-      complete = ok.complete;
-      heard = ok.heard;
-    }
+    let told : m.told ≤ length b = omega arith in
+    let joined : m.has_log ≡ true → JoinedOk b i m = λ l. let o = ok.joined l in let x = o.accepted in
+    record { accepted = omega arith; member = subst (λ l. mem l i ≡ true) (sym (take_more m.start h x)) o.member } in
+    assumption (told, joined, begins_trans ok.fronts.delivered h)
 
 -- an entry that is held as the list is accepted up to a number
 pub accept_witness : (node : ℕ → Node) (list group : List Entry) (to n : ℕ) → ((j : ℕ) → (node j).has_log ≡ true → (node j).start ≤ length group)
@@ -94,21 +82,10 @@ group_change s k list to is may =
     let long = length_take to list may.within in
     let chain : Begins (take to list) (chain_of s.views) = subst (Begins (take to list)) is (begins_take to list) in
     let grows : Begins s.group (take to list) = begins_both k.group chain (omega arith) in
-    record {
-      views = k.views;
-      group = chain;
-      each = λ j. node_accepts s.views s.group (take to list) j (s.node j) grows (k.each j);
-      shown = k.shown;
-      still = k.still;
-      short = k.short;
-      served = k.served;
-      sent = k.sent;
-      witness = λ n low high. either (low_or_above n (length s.group))
-          (λ h. witness_more s.node s.group (take to list) n grows (omega arith) (k.witness n low h))
-          (λ h. accept_witness s.node list s.group to n (λ j l. ((k.each j).joined l).accepted) may h (omega arith));
-      departed = k.departed;
-      enough = k.enough;
-    }
+    let witness : (n : ℕ) → 1 < n → n ≤ length (take to list) → Witness s.node (take to list) n = λ n low high. either (low_or_above n (length s.group))
+    (λ h. witness_more s.node s.group (take to list) n grows (omega arith) (k.witness n low h))
+    (λ h. accept_witness s.node list s.group to n (λ j l. ((k.each j).joined l).accepted) may h (omega arith)) in
+    assumption (chain, witness, λ (j : ℕ). node_accepts s.views s.group (take to list) j (s.node j) grows (k.each j))
 
 -- One entry more of the chain, by its sequencer.
 module _ (s : Group) (k : Kept s) (i : ℕ) (e : Entry) (leads : Leads i (s.node i)) (fit : fits (image_of (s.node i).list) e ≡ true) (plain : NotView e) where
@@ -146,48 +123,28 @@ module _ (s : Group) (k : Kept s) (i : ℕ) (e : Entry) (leads : Leads i (s.node
   good_grown = good_push (s.node i).list e (subst IsGood (sym list_is) k.views.good) fit (small_plain e plain)
 
   pub views_grow : ViewsOk grown
-  views_grow = record {
-    now = k.views.now;
-    order = k.views.order;
-    stamps = k.views.stamps;
-    good = subst IsGood (sym chain_is) good_grown;
-    view = ap view_of chain_is ∙ view_push (s.node i).list e plain ∙ view_is;
-    opens = begins_trans k.views.opens chain_grows;
-    complete = λ x c. begins_trans (k.views.complete x c) chain_grows;
-    marked = k.views.marked;
-    some = k.views.some;
-  }
+  views_grow = assumption (
+    subst IsGood (sym chain_is) good_grown,
+    ap view_of chain_is ∙ view_push (s.node i).list e plain ∙ view_is,
+    begins_trans k.views.opens chain_grows,
+    λ (x : ℕ) (c : s.views.complete x ≡ true). begins_trans (k.views.complete x c) chain_grows,
+  )
 
   -- what each other name keeps
   others_grow : (j : ℕ) → j ≢ i → (IsThere (s.node j) → (s.node j).leaving ≡ false → Spares j e) → NodeOk grown s.group j (s.node j)
   others_grow j other spares =
       let ok = k.each j in
-      record {
-        small = ok.small;
-        list = λ u. begins_trans (ok.list u) chain_grows;
-        blank = ok.blank;
-        fronts = ok.fronts;
-        leads = λ l.
-            let o = ok.leads l in
-            absurd (other (sym l.by ∙ ap (λ (x : List Entry). (view_of x).by) (o.chain ∙ sym list_is) ∙ leads.by));
-        promised = ok.promised;
-        stays = λ t l a h m. either (begins_pushed e (subst (Begins a) chain_is h))
-            (λ x. stay (ok.stays t l a (subst (Begins a) list_is x) m) t l)
-            (λ x. subst (λ y. mem y j ≡ true) (x ∙ sym chain_is) m);
-        joined = ok.joined;
-        own = ok.own;
-        late = λ u l. let o = ok.late u l in record {
-          before = o.before;
-          last = o.last;
-          list = o.list;
-          member = o.member;
-          ended = o.ended;
-          lines = λ x d h. begins_trans (o.lines x d h) (line_grows x);
-        };
-        ballot = λ u b. let o = ok.ballot u b in record { small = o.small; above = o.above; by = o.by; staying = o.staying; member = o.member };
-        complete = ok.complete;
-        heard = ok.heard;
-      }
+      let leads_ : Leads j (s.node j) → LeadsOk grown j (s.node j) = λ l. let o = ok.leads l in
+      absurd (other (sym l.by ∙ ap (λ (x : List Entry). (view_of x).by) (o.chain ∙ sym list_is) ∙ leads.by)) in
+      let stays : IsThere (s.node j) → (s.node j).leaving ≡ false → (a : List Entry) → Begins a (chain_of grown) → mem a j ≡ true
+      → mem (chain_of grown) j ≡ true = λ t l a h m. either (begins_pushed e (subst (Begins a) chain_is h))
+      (λ x. stay (ok.stays t l a (subst (Begins a) list_is x) m) t l)
+      (λ x. subst (λ y. mem y j ≡ true) (x ∙ sym chain_is) m) in
+      let late : IsUp (s.node j) → key (s.node j).promise < key s.views.current → LateOk grown j (s.node j) = λ u l. let o = ok.late u l in
+      let lines : (x : ℕ) → s.views.decided x ≡ true → key (s.node j).promise ≤ x → Begins (o.before ++ o.last ∷ []) (grown.line x)
+      = λ x d h. begins_trans (o.lines x d h) (line_grows x) in search (o.before, o.last, o, lines) in
+      let ballot : IsUp (s.node j) → (s.node j).ballot ≡ true → BallotOk grown j (s.node j) = λ u b. assumption (ok.ballot u b) in
+      assumption (leads_, stays, late, ballot, λ (u : IsUp (s.node j)). begins_trans (ok.list u) chain_grows)
     where
       stay : mem (chain_of s.views) j ≡ true → IsThere (s.node j) → (s.node j).leaving ≡ false → mem (chain_of grown) j ≡ true
       stay m t l = subst (λ y. mem y j ≡ true) (sym chain_is)
@@ -233,7 +190,6 @@ module _ (s : Group) (k : Kept s) (i : ℕ) (e : Entry) (leads : Leads i (s.node
       no_ballot : (s.node i).ballot ≡ true → ⊥
       no_ballot b =
           let o = (k.each i).ballot leads.up b in
-          let a = o.above in
           let p = ap key (leads.acts ∙ view_is) in omega arith
 
       up_all : (j : ℕ) → Later (s.node j) (put s.node i n j)

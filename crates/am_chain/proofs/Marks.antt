@@ -1,7 +1,7 @@
 -- A view that completes stands in the chain.
 use Rattle.am_chain.proofs.Words.{low_or_above, split, ◌≡◌, ◌⊎◌, ℕ, Bool, true, [], ◌∷◌, length, refl, ap, arith, View, has, fold, Begins, view_of}
 use Rattle.am_chain.proofs.Words.{key, begins_more, begins_both, length_push, good_begins, view_up, view_below, opening, Views, Group, chain_of, IsThere}
-use Rattle.am_chain.proofs.Words.{Completes, NodeOk, Kept}
+use Rattle.am_chain.proofs.Words.{Completes, NodeOk, Kept, List, ◌<◌, Some, Entry, IsUp, Leads, LeadsOk, LateOk, BallotOk, ServedOk, DepartedOk}
 use Rattle.am_chain.proofs.{Puts.either}
 
 view_nil : key (view_of []) ≡ 0
@@ -44,43 +44,22 @@ module _ (s : Group) (k : Kept s) (complete : ℕ → Bool) (stay : (x : ℕ) �
   node_marked : (j : ℕ) → NodeOk views s.group j (s.node j)
   node_marked j =
       let ok = k.each j in
-      record {
-        small = ok.small;
-        list = ok.list;
-        blank = ok.blank;
-        fronts = ok.fronts;
-        leads = λ l. let o = ok.leads l in record { chain = o.chain; member = o.member };
-        promised = ok.promised;
-        stays = ok.stays;
-        joined = ok.joined;
-        own = ok.own;
-        late = λ u l. let o = ok.late u l in record { before = o.before; last = o.last; list = o.list; member = o.member; ended = o.ended; lines = o.lines };
-        ballot = λ u b. let o = ok.ballot u b in record { small = o.small; above = o.above; by = o.by; staying = o.staying; member = o.member };
-        complete = λ x h t m. either (marks x h) (λ o. ok.complete x o t m) (λ o. stored x o j t m);
-        heard = ok.heard;
-      }
+      let leads : Leads j (s.node j) → LeadsOk views j (s.node j) = λ l. assumption (ok.leads l) in
+      let late : IsUp (s.node j) → key (s.node j).promise < key s.views.current → LateOk views j (s.node j) = λ u l. let o = ok.late u l in
+      search (o.before, o.last, o) in
+      let ballot : IsUp (s.node j) → (s.node j).ballot ≡ true → BallotOk views j (s.node j) = λ u b. assumption (ok.ballot u b) in
+      let done : (x : ℕ) → complete x ≡ true → IsThere (s.node j) → has (s.views.chosen x).members j ≡ true → Begins (opening (s.views.chosen x)) (s.node j).list
+      = λ x h t m. either (marks x h) (λ o. ok.complete x o t m) (λ o. stored x o j t m) in
+      assumption (leads, late, ballot, done)
 
   pub marks_keep : Kept (record s { views = record s.views { complete = complete } })
-  marks_keep = record {
-    views = record {
-      now = k.views.now;
-      order = k.views.order;
-      stamps = k.views.stamps;
-      good = k.views.good;
-      view = k.views.view;
-      opens = k.views.opens;
-      complete = λ x h. either (marks x h) (λ o. k.views.complete x o) (λ o. stands x o);
-      marked = λ x h. either (marks x h) (λ o. k.views.marked x o) (λ o. o.decided);
-      some = (k.views.some.0, stay k.views.some.0 k.views.some.1);
-    };
-    group = k.group;
-    each = node_marked;
-    shown = k.shown;
-    still = k.still;
-    short = k.short;
-    served = λ c h l u b a d. let o = k.served c h l u b a d in record { chain = o.chain; promised = o.promised };
-    sent = k.sent;
-    witness = k.witness;
-    departed = λ e h. let o = k.departed e h in record { before = o.before; chain = o.chain; stored = o.stored };
-    enough = k.enough;
-  }
+  marks_keep =
+      let done : (x : ℕ) → complete x ≡ true → Begins (opening (s.views.chosen x)) (chain_of s.views)
+      = λ x h. either (marks x h) (λ o. k.views.complete x o) (λ o. stands x o) in
+      let marked : (x : ℕ) → complete x ≡ true → s.views.decided x ≡ true = λ x h. either (marks x h) (λ o. k.views.marked x o) (λ o. o.decided) in
+      let some : (x : ℕ) × (complete x ≡ true) = (k.views.some.0, stay k.views.some.0 k.views.some.1) in
+      let served : (c h : ℕ) (l : List Entry) → IsUp (s.node c) → (s.node c).ballot ≡ true → s.served (key (s.node c).promise) h ≡ true
+      → s.shown (key (s.node c).promise) h ≡ Some l → ServedOk s.node views (key (s.node c).promise) l
+      = λ c h l u b a d. assumption (k.served c h l u b a d) in
+      let departed : (e : ℕ) → (s.node e).departed ≡ true → DepartedOk s.node views e = λ e h. let o = k.departed e h in search (o.before, o) in
+      assumption (done, marked, some, node_marked, served, departed)

@@ -81,14 +81,9 @@ raise_ok views group i m stamp above small other ok =
       stays = λ t. ok.stays (there t);
       joined = λ h. let o = ok.joined h in record { accepted = o.accepted; member = o.member };
       own = λ u. ok.own (up u);
-      late = λ u l. let o = ok.late (up u) (omega arith) in record {
-        before = o.before;
-        last = o.last;
-        list = o.list;
-        member = o.member;
-        ended = o.ended;
-        lines = λ x d h. o.lines x d (omega arith);
-      };
+      late = λ u l. let o = ok.late (up u) (omega arith) in
+          let lines : (x : ℕ) → views.decided x ≡ true → key stamp ≤ x → Begins (o.before ++ o.last ∷ []) (views.line x) = λ x d h. o.lines x d (omega arith) in
+          search (o.before, o.last, o, lines);
       ballot = λ u b. absurd (cc);
       complete = λ x c t. ok.complete x c (there t);
       heard = λ x d l. ok.heard x d (omega arith);
@@ -229,13 +224,11 @@ fetch_ok node views group i m list e v u voting served next ok =
     longer_ok views group i m e u chain (λ a h x. b.member)
     (λ acts by. let k = ap key acts in let z : ⊥ = omega arith in z)
     (λ l. absurd (omega arith))
-    (λ h. record {
-      small = b.small;
-      above = above;
-      by = b.by;
-      staying = b.staying;
-      member = mem_between i v.good shorter chain b.member (ok.stays u.there b.staying m.list (begins_trans shorter chain) b.member);
-    })
+    (λ h. assumption (
+      b,
+      above,
+      mem_between i v.good shorter chain b.member (ok.stays u.there b.staying m.list (begins_trans shorter chain) b.member),
+    ))
     ok
 
 -- a Welcome that is heard is of the current view

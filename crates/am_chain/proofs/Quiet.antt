@@ -113,7 +113,6 @@ module _ (s : Group) (k : Kept s) where
       (λ _ _. inr (λ h l shown.
       let o = k.shown (key (own_stamp i (s.node i))) h l shown in
       let by : o.stamp.by ≡ i = key_by o.stamp (own_stamp i (s.node i)) o.small small o.is in
-      let p = o.begun in
       let q = ap (λ j. key (s.node j).promise) by in
       let z : ⊥ = omega arith in z))
       (inl (refl, λ _. u))
@@ -124,7 +123,6 @@ module _ (s : Group) (k : Kept s) where
       → Kept (with_node s i (record (s.node i) { promise = stamp; ballot = false }))
   raises_keeps i stamp t a =
       let n = record (s.node i) { promise = stamp; ballot = false } in
-      let greater = a.greater in
       node_change s k i n
       (later_promise (s.node i) n refl refl refl refl (λ t. record { goes = t.goes; stays = t.stays }) (omega arith))
       (raise_ok s.views s.group i (s.node i) stamp a.greater a.small a.other (k.each i))
@@ -174,7 +172,6 @@ module _ (s : Group) (k : Kept s) where
       let n = record (s.node j) { list = take base s.group; has_log = true; start = join; promise = stamp; told = base; acc = base } in
       let ok = k.each j in
       let no_log = w.no_log in
-      let no_ballot = w.no_ballot in
       let promise = w.promise in
       let empty = ok.blank no_log in
       let now = welcome_now s j stamp base join w k.views ok in

@@ -22,12 +22,9 @@ accept_grows node group list chain to g l may =
 
 -- a move leaves what is decided, and what was accepted
 grows_on : {s t : Group} → Kept s → IsLawful s → Move s t → Grows s t
-grows_on k law (accepts {s = s} i n a b) = record {
-  group = accept_grows s.node s.group (s.node i).list (chain_of s.views) n k.group ((k.each i).list a.up) b;
-  decided = λ x h. h;
-  chosen = λ x h. refl;
-  complete = λ x h. h;
-}
+grows_on k law (accepts {s = s} i n a b) = assumption (
+    accept_grows s.node s.group (s.node i).list (chain_of s.views) n k.group ((k.each i).list a.up) b
+    )
 grows_on k law (decides {s = s} i v a) = record {
   group = begins_refl s.group;
   decided = decided_old s k law i v a;
@@ -38,13 +35,10 @@ grows_on k law (closes {s = s} i n a b c d) =
     let o = (k.each i).leads a in
     let whole = begins_more (s.node i).list (Leave i ∷ []) in
     let up : Begins s.group ((s.node i).list ++ Leave i ∷ []) = begins_trans (subst (Begins s.group) (sym o.chain) k.group) whole in
-    record {
-      group = accept_grows (put s.node i (longer (s.node i) (Leave i))) s.group ((s.node i).list ++ Leave i ∷ []) ((s.node i).list ++ Leave i ∷ []) n up
-          (begins_refl ((s.node i).list ++ Leave i ∷ [])) d;
-      decided = λ x h. h;
-      chosen = λ x h. refl;
-      complete = λ x h. h;
-    }
+    assumption (
+    accept_grows (put s.node i (longer (s.node i) (Leave i))) s.group ((s.node i).list ++ Leave i ∷ []) ((s.node i).list ++ Leave i ∷ []) n up
+    (begins_refl ((s.node i).list ++ Leave i ∷ [])) d
+    )
 grows_on {s} k law _ = record { group = begins_refl s.group; decided = λ x h. h; chosen = λ x h. refl; complete = λ x h. h }
 
 move_keeps : {s t : Group} → Kept s → IsLawful s → Move s t → Kept t
@@ -115,11 +109,7 @@ record Since (s t : Group) : Type 0 where
   grows : Grows s t
 
 since : {s t : Group} → Kept s → IsLawful s → Onward s t → Since s t
-since k law (here {s = s}) = record {
-  kept = k;
-  lawful = law;
-  grows = record { group = begins_refl s.group; decided = λ x h. h; chosen = λ x h. refl; complete = λ x h. h };
-}
+since k law (here {s = s}) = assumption (begins_refl s.group)
 since k law (onward {s = s} {t = t} {u = u} on step after) =
     let o = since k law on in
     let g = step_grows t u o.kept o.lawful step in

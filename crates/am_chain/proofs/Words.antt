@@ -17,7 +17,7 @@ pub use Rattle.am_base.specs.{declared.entry.Entry.TheVariants.Data, declared.en
 pub use Rattle.am_base.specs.{declared.image.Image.Image, declared.name.Stamp.Stamp}
 pub use Rattle.am_chain.specs.Group.{Group, IsThere, IsUp, Node, opening, Views, how_many, counted_in, need_of, chain_of, Leads, MayAccept, current_of}
 pub use Rattle.am_chain.specs.Group.{IsOngoing, IsHeld, Chosen, NoBetter}
-pub use Rattle.am_chain.specs.Kept.{Kept, NodeOk, ShownOk, ServedOk, Witness, DepartedOk, ViewsOk, FrontsOk, LateOk, BallotOk}
+pub use Rattle.am_chain.specs.Kept.{Kept, NodeOk, ShownOk, ServedOk, Witness, DepartedOk, ViewsOk, FrontsOk, LeadsOk, JoinedOk, LateOk, BallotOk}
 pub use Rattle.am_chain.specs.Moves.{with_node, own_stamp, longer, MayWelcome, IsAbove, MayNumber, MayDepart, with_line, Move, numbers, stores, accepts, learns}
 pub use Rattle.am_chain.specs.Moves.{begins, raises, shows, serves, fetches, decides, gives_over, welcomes, asks, departs, closes, stops, MayDecide, choice_of}
 pub use Rattle.am_chain.specs.Moves.{with_choice, Voted}

@@ -3,9 +3,8 @@ use Rattle.am_headline.proofs.RepairWords.{◌≡◌, inl, inr, ℕ, ◌+◌, �
 use Rattle.am_headline.proofs.RepairWords.{length-append, All, nat_tests, All-weaker, Data, Image, Outcome, Rules, place_of, has, names_of, counted_at, Event}
 use Rattle.am_headline.proofs.RepairWords.{OwnSend, Node, top, image_of, view, acts, is_sequencer, has_room, waiting, push_entry, Plan, finish, step, row, would_emit}
 use Rattle.am_headline.proofs.RepairWords.{emit, tick_row, and_result, put_off, event_at, running, World, happens, split, and_both, node_if, told_pushed, after_same}
-use Rattle.am_headline.proofs.RepairWords.{IsAtRest, HasReported, HasReports, Repair, Leads, IsOurs, our_ticks}
+use Rattle.am_headline.proofs.RepairWords.{IsAtRest, HasReported, HasReports, Repair, Leads, IsOurs, our_ticks, Act}
 use Rattle.am_base.specs.declared.event.NodeEvent.TheVariants as does
-use Rattle.am_group.specs.declared.event.Act.TheVariants as act
 use Rattle.am_headline.proofs.FirstWave.{Reaches, Knows, first_wave_reports, Accepts, first_wave_accepts}
 use Rattle.am_headline.proofs.Rounds.{wave_keep, after_ticks, after_waves, Stable, stored_stable, later_waves, ticks_keep}
 use Rattle.am_headline.proofs.{Ends.fronts_rise, RepairLists.grows_push, RepairLists.counted_stays, Ticks.emitted, Ticks.acting_row, Ticks.leads_row, Ticks.goes_not}
@@ -70,7 +69,7 @@ pub known_bound : (rules : Rules) (r : Repair) → Bounds rules r (AllKnown r) r
 known_bound rules r = record {
   keeps = λ w e is h x i there other. (let a = (grow_goes rules r w e is h).kept i there in let b = x i there other in omega arith);
   gives = λ w h x.
-      (let e = event_at (place_of r.by) act.Tick in
+      (let e = event_at (place_of r.by) Act.Tick in
       let q = w.nodes r.by in
       let is = tick_is w r.by (member_there rules r w r.by h h.calm.listed) in
       let node = node_is w e r.by (step q does.Tick) is in
@@ -116,7 +115,7 @@ round_accepts rules r i w low there other h known =
 -- and the sequencer itself
 leader_ticks : (rules : Rules) (r : Repair) (w : World) → Fine rules r w → AllKnown r w → Accepts rules r r.by (after_ticks w)
 leader_ticks rules r w h known =
-    let z = acts_hit P Q act.Tick (place_of r.by) hits (running w) w (runs_there w r.by (member_there rules r w r.by h h.calm.listed)) (h, known) in
+    let z = acts_hit P Q Act.Tick (place_of r.by) hits (running w) w (runs_there w r.by (member_there rules r w r.by h h.calm.listed)) (h, known) in
     record { fine = z.0.0; high = z.1 }
   where
     P : World → Type 0
@@ -125,15 +124,15 @@ leader_ticks rules r w h known =
     Q : World → Type 0
     Q u = r.high ≤ (u.nodes r.by).core.acc
 
-    hits : Hits P Q act.Tick (place_of r.by)
+    hits : Hits P Q Act.Tick (place_of r.by)
     hits = record {
       keeps = λ p u k. (
-        fine_goes rules r u (event_at p act.Tick) (our_ticks p) k.0,
-        (known_bound rules r).keeps u (event_at p act.Tick)
+        fine_goes rules r u (event_at p Act.Tick) (our_ticks p) k.0,
+        (known_bound rules r).keeps u (event_at p Act.Tick)
             (our_ticks p) k.0 k.1,
       );
       hits = λ u k. (known_bound rules r).gives u k.0 k.1;
-      stays = λ p u k q. (let a = (grow_goes rules r u (event_at p act.Tick) (our_ticks p) k.0).acc r.by k.0.calm.listed in omega arith);
+      stays = λ p u k q. (let a = (grow_goes rules r u (event_at p Act.Tick) (our_ticks p) k.0).acc r.by k.0.calm.listed in omega arith);
     }
 
 pub leader_accepts : (rules : Rules) (r : Repair) (w : World) → r.sent ≤ length w.letters → Fine rules r w → AllKnown r w

@@ -1,8 +1,8 @@
 -- What the changes of anybody else keep while a schedule runs.
-use Rattle.am_headline.proofs.RepairWords.{eqb-true, ◌≡◌, ◌==◌, true, false, refl, sym, ap, ◌∙◌, subst, Stamp, Outcome, Node, Ballot, view, is_member}
-use Rattle.am_headline.proofs.RepairWords.{is_sequencer, has_departed, overtake, World, Cause, HasOpen, Promises, invited, overtaken_by, told_result, Change}
-use Rattle.am_headline.proofs.RepairWords.{refreshes, settles, takes_report, admits, numbers, begins_list, departs, promises, opens, looks, queues, collects}
-use Rattle.am_headline.proofs.RepairWords.{takes, asks_to_join, asks_to_leave, closes, Repair, IsApart}
+use Rattle.am_headline.proofs.RepairWords.{eqb-true, ◌≡◌, ◌==◌, true, false, sym, ap, ◌∙◌, subst, Stamp, Outcome, Node, Ballot, view, is_member, is_sequencer}
+use Rattle.am_headline.proofs.RepairWords.{has_departed, overtake, World, Cause, HasOpen, Promises, invited, overtaken_by, told_result, Change, refreshes}
+use Rattle.am_headline.proofs.RepairWords.{settles, takes_report, admits, numbers, begins_list, departs, promises, opens, looks, queues, collects, takes}
+use Rattle.am_headline.proofs.RepairWords.{asks_to_join, asks_to_leave, closes, Repair, IsApart}
 use Rattle.am_headline.proofs.{Nodes.CalmCause, Nodes.acting, Nodes.leading, Nodes.leads_not, Nodes.Alike, Nodes.alike_refresh, Nodes.alike_settle}
 use Rattle.am_headline.proofs.{RepairLeading.no_ballot_begun, RepairLeading.looked_open}
 
@@ -46,26 +46,10 @@ apart_change r w c o m x y by other calm (takes_report s v report brings may) h 
 apart_change r w c o m x y by other calm (admits s v is leads fit) h = absurd (no_leader r m x by other h leads)
 apart_change r w c o m x y by other calm (numbers e leads room why) h = absurd (no_leader r m x by other h leads)
 apart_change r w c o m x y by other calm (begins_list s v base join image is says may) h =
-    record {
-      who = h.who;
-      there = refl;
-      apart = record {
-        no_ballot = h.apart.no_ballot;
-        stays = h.apart.stays;
-        promised = λ member. subst (CalmCause r w) is calm;
-      };
-    }
+    assumption (subst (CalmCause r w) is calm)
 apart_change r w c o m x y by other calm (departs s v number is heard leaves) h = absurd (let a = h.apart.stays in cc)
 apart_change r w c o m x y by other calm (promises v low why) h =
-    record {
-      who = h.who;
-      there = h.there;
-      apart = record {
-        no_ballot = ap (overtake v) h.apart.no_ballot;
-        stays = h.apart.stays;
-        promised = λ member. promised_view r w c x v calm why;
-      };
-    }
+    assumption (ap (overtake v) h.apart.no_ballot, promised_view r w c x v calm why)
 apart_change r w c o m x y by other calm (opens least resilience begins may) h = absurd (no_ballot_begun r w c x calm begins)
 apart_change r w c o m x y by other calm (looks b verdict over why look is) h = absurd (let k = looked_open c x b why in not_open r m x h k.0 k.1)
 apart_change r w c o m x y by other calm (queues body is says member stays few) h = absurd (subst (CalmCause r w) is calm)

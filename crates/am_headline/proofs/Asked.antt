@@ -6,8 +6,6 @@ use Rattle.am_headline.proofs.RepairedWords.{hears_member, hear_row, packet_leng
 use Rattle.am_headline.proofs.RepairedWords.{acts_as, happens, heard_by, split, and_both, actor, end_same}
 use Rattle.am_model.specs.Joining.{asks_to_join}
 use Rattle.am_base.specs.declared.outcome.Outcome.TheVariants as said
-use Rattle.am_packet.specs.declared.packet.Packet.TheVariants as packet
-use Rattle.am_group.specs.declared.event.Act.TheVariants as act
 
 -- as before, but that a joiner whose Join fits the sequencer's list begins at the base
 pub data Asked (m y : Node) (s : ℕ) : Type 0 where
@@ -60,7 +58,7 @@ row_asked m s q not_own leads =
     begins_at m s = let t : (s == s) ≡ true = grind (arith, nat_tests) in rw t refl
 
 -- whoever hears it
-asked : (m : Node) (s : ℕ) (v : Stamp) → Asked m (hear m (packet.JoinAsk s v)).node s
+asked : (m : Node) (s : ℕ) (v : Stamp) → Asked m (hear m (Packet.JoinAsk s v)).node s
 unfolding hear hear_row join_ask_row
 asked m s v = plan_ends m s _ (plan_if m s (hears_member m s && is_sequencer m) _ _
     (λ t.
@@ -72,8 +70,8 @@ refused_asked : (m : Node) (s cause : ℕ) → Asked m (hear_refusal m cause).no
 unfolding hear_refusal finish
 refused_asked m s cause = as_before (λ j other. end_same m j other)
 
-cut_asked : (m : Node) (keep s : ℕ) (v : Stamp) → Asked m (hear_cut m keep (packet.JoinAsk s v)).node s
-cut_asked m keep s v = split (nat_le (packet_length (packet.JoinAsk s v)) keep)
+cut_asked : (m : Node) (keep s : ℕ) (v : Stamp) → Asked m (hear_cut m keep (Packet.JoinAsk s v)).node s
+cut_asked m keep s v = split (nat_le (packet_length (Packet.JoinAsk s v)) keep)
     (λ a. rw a (asked m s v))
     (λ a. split (nat_lt keep 12) (λ b. rw (a, b) (refused_asked m s 1)) (λ b. rw (a, b) (refused_asked m s 5)))
 
@@ -95,7 +93,7 @@ unfolding with_step
 asked_step w e name s step h = let t : (name == name) ≡ true = grind (arith, nat_tests) in rw t h
 
 asked_letter : (w : World) (e : Event) (name s : ℕ) (v : Stamp) (hearing : Packet → Step) (l : Letter)
-    → Asked (w.nodes name) (hearing (packet.JoinAsk s v)).node s → l.packet ≡ packet.JoinAsk s v → AskedIn w name s (hears_letter w e name hearing (Some l))
+    → Asked (w.nodes name) (hearing (Packet.JoinAsk s v)).node s → l.packet ≡ Packet.JoinAsk s v → AskedIn w name s (hears_letter w e name hearing (Some l))
 asked_letter w e name s v hearing l h is =
     asked_if w name s (not (is_for l name)) _ _ (asked_same w e name s said.NotAddressed)
     (asked_if w name s (is_stopped w name) _ _ (asked_same w e name s said.IsStopped)
@@ -103,14 +101,14 @@ asked_letter w e name s v hearing l h is =
 
 -- who hears it, by an act that names its letter
 asked_act : (w : World) (e : Event) (name s : ℕ) (v : Stamp) (a : Act) (l : Letter) → letter_at w.letters (heard_by a) ≡ Some l
-    → l.packet ≡ packet.JoinAsk s v → AskedIn w name s (acts_as w e name a)
-asked_act w e name s v (act.Hear number) l at is = subst (λ o. AskedIn w name s (hears_letter w e name (hear (w.nodes name)) o)) (sym at)
+    → l.packet ≡ Packet.JoinAsk s v → AskedIn w name s (acts_as w e name a)
+asked_act w e name s v (Act.Hear number) l at is = subst (λ o. AskedIn w name s (hears_letter w e name (hear (w.nodes name)) o)) (sym at)
     (asked_letter w e name s v (hear (w.nodes name)) l (asked (w.nodes name) s v) is)
-asked_act w e name s v (act.Cut number keep) l at is = subst (λ o. AskedIn w name s (hears_letter w e name (hear_cut (w.nodes name) keep) o)) (sym at)
+asked_act w e name s v (Act.Cut number keep) l at is = subst (λ o. AskedIn w name s (hears_letter w e name (hear_cut (w.nodes name) keep) o)) (sym at)
     (asked_letter w e name s v (hear_cut (w.nodes name) keep) l (cut_asked (w.nodes name) keep s v) is)
 asked_act w e name s v _ l at is = absurd (cc)
 
 pub asked_event : (w : World) (e : Event) (s : ℕ) (v : Stamp) (l : Letter) → letter_at w.letters (heard_by e.act) ≡ Some l
-    → l.packet ≡ packet.JoinAsk s v → AskedIn w (actor w e) s (happens w e)
+    → l.packet ≡ Packet.JoinAsk s v → AskedIn w (actor w e) s (happens w e)
 unfolding happens
 asked_event w e s v l at is = asked_act w e (actor w e) s v e.act l at is

@@ -1,8 +1,7 @@
 -- What rises in a step, and that a list begins by a Welcome alone, whose base was taken.
 use Rattle.am_headline.proofs.RepairedWords.{◌≡◌, ◌⊎◌, inl, inr, either, ℕ, ◌≤◌, false, refl, sym, ap, ◌∙◌, subst, arith, Image, Stamp, Outcome, Rules, has_log, Node}
 use Rattle.am_headline.proofs.RepairedWords.{Cause, hears, Changes, unchanged, changed, rests_refresh, rests_closed, settle_is, logged, HeardNames, HeardUsed, Along}
-use Rattle.am_headline.proofs.RepairedWords.{along_changes, Rises, rises_change, Kind, kind_of}
-use Rattle.am_packet.specs.declared.packet.Packet.TheVariants as packet
+use Rattle.am_headline.proofs.RepairedWords.{along_changes, Rises, rises_change, Kind, kind_of, Packet}
 use Rattle.am_headline.proofs.Ways as ways
 
 -- ---- what rises
@@ -23,7 +22,7 @@ pub record HearsWelcome (c : Cause) : Type 0 where
   pub base : ℕ
   pub join : ℕ
   pub image : Image
-  pub says : c ≡ hears (packet.Welcome from stamp base join image)
+  pub says : c ≡ hears (Packet.Welcome from stamp base join image)
 
 -- a list that it began
 pub record Began (c : Cause) (y : Node) : Type 0 where

@@ -1,5 +1,5 @@
 -- How a name comes to act in a view: it did before, it decided it, or a letter of the view's own name told it, whose base it had taken.
-use Rattle.am_headline.proofs.Words.{decided_view, GroupView}
+use Rattle.am_headline.proofs.Words.{decided_view, GroupView, Packet}
 use Rattle.am_headline.proofs.RepairedWords.{numbers_plain, stamp_by, other_asks, other_heard, stamp_itself, same_stamp, ◌≡◌, either, ℕ, ◌<◌, ◌≤◌, ◌==◌, ◌&&◌}
 use Rattle.am_headline.proofs.RepairedWords.{true, false, [], refl, sym, ap, ◌∙◌, subst, arith, nat_tests, Entry, View, Image, Stamp, Outcome, Rules, stamp_lt}
 use Rattle.am_headline.proofs.RepairedWords.{stamp_eq, Log, blank, fold, told_by, Node, Ballot, view, acts, is_member, push_entry, trim_up_to, has_log, Verdict}
@@ -9,7 +9,6 @@ use Rattle.am_headline.proofs.RepairedWords.{promises, opens, looks, fetches, st
 use Rattle.am_headline.proofs.RepairedWords.{changed, view_pushed, Blanked, not_above_itself, not_above, equal_stamps, at_most, at_most_below, HasNames}
 use Rattle.am_headline.proofs.RepairedWords.{HeardNames, view_last, Balloted, next_above, looked_at, change_does, HeardUsed, Along, along_changes, acting}
 use Rattle.am_headline.proofs.RepairedWords.{alike_refresh, alike_settle, view_alike, acts_alike, Alike}
-use Rattle.am_packet.specs.declared.packet.Packet.TheVariants as packet
 
 -- ---- names
 
@@ -17,9 +16,9 @@ use Rattle.am_packet.specs.declared.packet.Packet.TheVariants as packet
 
 -- the letter that brings it, with its base
 pub data Tells : Cause → ℕ → Stamp → ℕ → Type 0 where
-  by_piece : (s : ℕ) (v : Stamp) (base number : ℕ) (e : Entry) → Tells (hears (packet.Piece s v base number e)) s v base
-  by_result : (s : ℕ) (base number : ℕ) (v : GroupView) → Tells (hears (packet.Result s base number v)) s v.stamp base
-  by_welcome : (s : ℕ) (v : Stamp) (base join : ℕ) (image : Image) → Tells (hears (packet.Welcome s v base join image)) s v base
+  by_piece : (s : ℕ) (v : Stamp) (base number : ℕ) (e : Entry) → Tells (hears (Packet.Piece s v base number e)) s v base
+  by_result : (s : ℕ) (base number : ℕ) (v : GroupView) → Tells (hears (Packet.Result s base number v)) s v.stamp base
+  by_welcome : (s : ℕ) (v : Stamp) (base join : ℕ) (image : Image) → Tells (hears (Packet.Welcome s v base join image)) s v base
 
 pub data Came (c : Cause) (m y : Node) : Type 0 where
   before : acts m ≡ true → view y ≡ view m → m.core.taken ≤ y.core.taken → Came c m y

@@ -18,9 +18,6 @@ pub rounds_store : RoundsStore
 rounds_store rules events r i stored may calm low there other have =
     let w = run rules events in
     let s : Settling = record { world = w; events = [] } in
-    let more = (round_stores rules r i stored w low there other (record {
-      fine = record { laws = run_owned rules events may; calm = calm };
-      stored_ = have;
-    })).stored_ in
+    let more = (round_stores rules r i stored w low there other (assumption (run_owned rules events may))).stored_ in
     let same = ap (λ (u : World). top (u.nodes i)) (round_is s) in
     omega arith

@@ -2,7 +2,6 @@
 use Rattle.am_headline.proofs.RepairedWords.{eqb-true, ◌≡◌, ℕ, ◌<◌, ◌≤◌, ◌==◌, max, true, false, List, [], ◌∷◌, ◌++◌, Some, slice_get, refl, sym, ap, ◌∙◌}
 use Rattle.am_headline.proofs.RepairedWords.{subst, arith, Stamp, Rules, stamp_lt, Packet, Letter, Event, key, Group, Node, view, acts, is_sequencer, Step}
 use Rattle.am_headline.proofs.RepairedWords.{World, run, split, and_both, Cause, actor, all_get, IsNoted, PacketSays, key_stamp, parts, plain, known_is_taken}
-use Rattle.am_packet.specs.declared.packet.Packet.TheVariants as packet
 use Rattle.am_headline.proofs.Trims.{LetterLow, Knows, took, Settles, TrimStep, Sent, before, now, laws_w, laws_v, who_n, letter_v, piece_decided}
 use Rattle.am_headline.proofs.Mailed.{says_low}
 
@@ -31,12 +30,12 @@ module _ (rules : Rules) (events : List Event) (e : Event) (c : Cause) (step : S
   -- so no letter told it
   old_low : (k : ℕ) (l : Letter) (low : ℕ) → slice_get w.letters k ≡ Some l → (to : List ℕ) (p : Packet) → p ≡ l.packet → PacketSays w s to p
       → LetterLow i (view n) low p
-  old_low k l low at to (packet.Piece from u base number y) is says = λ mine same. absurd (is_new (ap (λ (z : Stamp). s.views.decided (key z)) (sym same)
+  old_low k l low at to (Packet.Piece from u base number y) is says = λ mine same. absurd (is_new (ap (λ (z : Stamp). s.views.decided (key z)) (sym same)
       ∙ piece_decided rules events e c step s t x from u number y (subst (λ j. j < 256) (sym mine) small_i) (ap (λ (z : Stamp). z.by) same ∙ own ∙ sym mine)
       says.1))
-  old_low k l low at to (packet.Result from base number u) is says = λ mine same. absurd (is_new
+  old_low k l low at to (Packet.Result from base number u) is says = λ mine same. absurd (is_new
       (ap (λ (z : Stamp). s.views.decided (key z)) (sym same) ∙ (says.1 (ap (λ (z : Stamp). z.by) same ∙ own ∙ sym mine)).decided))
-  old_low k l low at to (packet.Welcome from u base join image) is says = λ mine same. absurd (is_new
+  old_low k l low at to (Packet.Welcome from u base join image) is says = λ mine same. absurd (is_new
       (ap (λ (z : Stamp). s.views.decided (key z)) (sym same) ∙ x.trims.welcomes k l from u base join image at (sym is)))
   old_low k l low at to _ is says = tt
 

@@ -1,11 +1,10 @@
 -- Who has departed does nothing more.
-use Rattle.am_headline.proofs.RepairWords.{◌≡◌, true, false, [], refl, sym, ap, ◌∙◌, subst, Outcome, Packet}
+use Rattle.am_headline.proofs.RepairWords.{◌≡◌, true, false, [], refl, sym, ap, ◌∙◌, subst, Outcome, Packet, Status}
 use Rattle.am_headline.proofs.RepairWords.{Node, is_member, is_asking, is_sequencer, has_departed, refresh_at_end, Plan, Step, quiet, finish, step, row, hear}
 use Rattle.am_headline.proofs.RepairWords.{tick_row, tick_by, hear_row, rests_at_end, leads_rests}
 use Rattle.am_base.specs.declared.outcome.Outcome.TheVariants as said
 use Rattle.am_base.specs.declared.event.NodeEvent.TheVariants as does
 use Rattle.am_packet.specs.{Kinds.table, Kinds.head_of, Spelling.sender_of, Spelling.stamp_of}
-use Rattle.am_model.specs.declared.status.Status.TheVariants as status
 use Rattle.std.proofs.lemmas.Bool.{and_left}
 use Rattle.am_stands.proofs.Silent.{none_pass}
 use Rattle.am_headline.proofs.Words.{departed_is}
@@ -23,7 +22,7 @@ gone_node m h =
     let member : is_member m.status ≡ false = ap is_member is in
     record { member = member; asking = ap is_asking is; leads = and_left _ _ (and_left _ _ member) }
 
-hears_nothing : (m : Node) (p : Packet) → m.status ≡ status.Departed → hear_row m p ≡ quiet m said.Elsewhere
+hears_nothing : (m : Node) (p : Packet) → m.status ≡ Status.Departed → hear_row m p ≡ quiet m said.Elsewhere
 unfolding hear_row
 hears_nothing m p h = rw (none_pass (table (head_of p).kind).gate m (sender_of p) (stamp_of p) h) refl
 

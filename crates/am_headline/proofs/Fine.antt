@@ -1,10 +1,9 @@
 -- Worlds along a schedule: laws of every run, and calm. What an event of the schedule does there.
-use Rattle.am_headline.proofs.RepairWords.{◌≡◌, ℕ, zero, suc, ◌+◌, ◌<◌, ◌≤◌, ◌==◌, true, false, List, ◌++◌, length, Some, slice_get, refl, ap, ◌∙◌, arith}
+use Rattle.am_headline.proofs.RepairWords.{◌≡◌, ℕ, zero, suc, ◌+◌, ◌<◌, ◌≤◌, ◌==◌, true, false, List, ◌++◌, length, Some, slice_get, refl, ap, ◌∙◌, arith, Act}
 use Rattle.am_headline.proofs.RepairWords.{length-append, Contains, nat_tests, slice_get-get_or, Rules, place_of, has, Letter, Event, is_for, letter_at, get_behind}
 use Rattle.am_headline.proofs.RepairWords.{Step, step, hear, event_at, World, current, is_stopped, with_step, does_event, hears_letter, happens, happens_begins}
 use Rattle.am_headline.proofs.RepairWords.{get_front, events_have_effects, AllOwned, each_owned, Repair, Calm, IsOurs}
 use Rattle.am_base.specs.declared.event.NodeEvent.TheVariants as does
-use Rattle.am_group.specs.declared.event.Act.TheVariants as act
 use Rattle.am_headline.proofs.{Saying.Grow, Steps.calm_goes, Steps.ours_grow}
 
 pub record Fine (rules : Rules) (r : Repair) (w : World) : Type 0 where
@@ -53,17 +52,17 @@ acts_now : (w : World) (name : ℕ) → IsThere w name → current w (place_of (
 acts_now w name h = let same : place_of (place_of name) ≡ place_of name = omega arith in ap (current w) same ∙ h.current_
 
 pub tick_is : (w : World) (name : ℕ) → IsThere w name
-    → (let e = event_at (place_of name) act.Tick in happens w e ≡ with_step w e name (step (w.nodes name) does.Tick))
+    → (let e = event_at (place_of name) Act.Tick in happens w e ≡ with_step w e name (step (w.nodes name) does.Tick))
 unfolding happens
 tick_is w name h =
-    let e = event_at (place_of name) act.Tick in
+    let e = event_at (place_of name) Act.Tick in
     ap (λ x. does_event w e x does.Tick) (acts_now w name h) ∙ rw (h.runs) refl
 
 pub hear_is : (w : World) (name k : ℕ) (l : Letter) → IsThere w name → letter_at w.letters k ≡ Some l → is_for l name ≡ true
-    → (let e = event_at (place_of name) (act.Hear k) in happens w e ≡ with_step w e name (hear (w.nodes name) l.packet))
+    → (let e = event_at (place_of name) (Act.Hear k) in happens w e ≡ with_step w e name (hear (w.nodes name) l.packet))
 unfolding happens
 hear_is w name k l h there meant =
-    let e = event_at (place_of name) (act.Hear k) in
+    let e = event_at (place_of name) (Act.Hear k) in
     ap (λ x. hears_letter w e x (hear (w.nodes x)) (letter_at w.letters k)) (acts_now w name h)
     ∙ ap (hears_letter w e name (hear (w.nodes name))) there ∙ rw (meant, h.runs) refl
 

@@ -1,11 +1,10 @@
 -- What the first wave of a round brings about: a member asks for what is missing, the sequencer keeps reports, and a member accepts.
 use Rattle.am_headline.proofs.RepairWords.{and_from, stamp_itself, has_in, ◌≡◌, ℕ, zero, suc, ◌<◌, ◌≤◌, ◌==◌, not, nat_le, true, false, List, length, Some, refl, sym}
 use Rattle.am_headline.proofs.RepairWords.{ap, ◌∙◌, subst, arith, Contains, nat_tests, Stamp, Report, Rules, place_of, life_of, has, stamp_eq, at_place, Packet}
-use Rattle.am_headline.proofs.RepairWords.{Accept, Letter, letter_to, Event, is_for, letter_at, Node, top, image_of, view, members, only_name, report_of}
+use Rattle.am_headline.proofs.RepairWords.{Accept, Letter, letter_to, Event, is_for, letter_at, Node, top, image_of, view, members, only_name, report_of, Act}
 use Rattle.am_headline.proofs.RepairWords.{report_fits, nack_of, hear, event_at, hearings, is_unknown, hears_sequencer, hears_as_sequencer, World, is_stopped}
 use Rattle.am_headline.proofs.RepairWords.{happens, happen, IsUsed, Cause, hears, IsCause, told_used, IsReport, ack, nack, request, spread, Asks}
 use Rattle.am_headline.proofs.RepairWords.{HearsFront, Repair, Leads, FollowsView, ReportIs, IsCalm, Calm, IsSent, Polled, Reported, Asked, hears_}
-use Rattle.am_group.specs.declared.event.Act.TheVariants as act
 use Rattle.am_headline.proofs.{Sets.only_has, Nodes.acting, Nodes.leading, RepairLeading.is_member_now, Following.Skips, Members.fronts_are_heard}
 use Rattle.am_headline.proofs.{Members.gaps_are_asked, Sequencers.reports_are_taken, Steps.ours_skip, Memberships.get_some, Memberships.stays_in}
 use Rattle.am_headline.proofs.{Schedules.IsHeard, Schedules.WaveHits, Schedules.wave_hits, Skipping.AllSkip, Skipping.Waits, Fine.Fine, Fine.fine_goes}
@@ -72,7 +71,7 @@ letter_is w u (suc before) l h low high there =
 
 -- a hearing of one of them
 pub heard_cause : (w u : World) (high after k name : ℕ) → Stays w u → AllSkip high after w → after < k → k ≤ length w.letters → (c : Cause)
-    → IsCause u name (act.Hear k) c → Skips high c
+    → IsCause u name (Act.Hear k) c → Skips high c
 heard_cause w u high after k name h skips late within (hears p) is = subst (λ x. Skips high (hears x)) is.is
     (skips k is.letter late (letter_is w u k is.letter h (omega arith) within is.there))
 heard_cause w u high after k name h skips late within _ is = tt
@@ -105,9 +104,9 @@ member_node rules r i v n fine there other node =
 asked_hear : (rules : Rules) (r : Repair) (i after stored k : ℕ) (l : Letter) (base acc high : ℕ) (u : World) → Fine rules r u
     → has r.members i ≡ true → (i == r.by) ≡ false → r.sent < k → after ≤ length u.letters → top (u.nodes i) ≡ stored → stored < r.high
     → letter_at u.letters k ≡ Some l → is_for l i ≡ true → l.packet ≡ Accept r.by r.view base acc high true → r.high ≤ high
-    → Asked r i after stored (happens u (event_at (place_of i) (act.Hear k)))
+    → Asked r i after stored (happens u (event_at (place_of i) (Act.Hear k)))
 asked_hear rules r i after stored k l base acc high u h there other late low at short letter meant is_ far =
-    let e = event_at (place_of i) (act.Hear k) in
+    let e = event_at (place_of i) (Act.Hear k) in
     let m = u.nodes i in
     let q = u.nodes r.by in
     let s = hear m l.packet in
@@ -166,9 +165,9 @@ first_wave_asks rules r i after stored accepted w low x poll there other short =
     P : World → Type 0
     P u = Fine rules r u × (top (u.nodes i) ≡ stored) × Stays w u
 
-    keeps : (p n : ℕ) (u : World) → after < n → n ≤ length w.letters → P u → P (happens u (event_at p (act.Hear n)))
+    keeps : (p n : ℕ) (u : World) → after < n → n ≤ length w.letters → P u → P (happens u (event_at p (Act.Hear n)))
     keeps p n u late within k =
-        let e = event_at p (act.Hear n) in
+        let e = event_at p (Act.Hear n) in
         let ours = hears_ p n (omega arith) in (
           fine_goes rules r u e ours k.0,
           ours_skip r u e i ours k.0.calm there other (λ c is. subst (λ high. Skips high c) (sym k.1)
@@ -182,7 +181,7 @@ first_wave_asks rules r i after stored accepted w low x poll there other short =
       hits = λ u k. asked_hear rules r i (length w.letters) stored poll.sent.number poll.letter poll.base poll.acc poll.high u k.0 there other
           (let late = poll.sent.late in omega arith) k.2.long k.1 short
           (k.2.letters poll.sent.number poll.letter poll.sent.there) poll.sent.meant poll.is poll.far;
-      stays = λ p n u late within k q. asked_goes r i (length w.letters) stored u (event_at p (act.Hear n)) q;
+      stays = λ p n u late within k q. asked_goes r i (length w.letters) stored u (event_at p (Act.Hear n)) q;
     }
 
 -- ---- the sequencer hears a report
@@ -204,9 +203,9 @@ report_fits_list r u i report h there other is fits =
 
 report_hear : (rules : Rules) (r : Repair) (i k high : ℕ) (l : Letter) (report : Report) (u : World) → Fine rules r u → has r.members i ≡ true
     → (i == r.by) ≡ false → r.sent < k → letter_at u.letters k ≡ Some l → is_for l r.by ≡ true → IsReport l.packet i r.view report
-    → report.taken ≤ report.stored → high ≤ report.stored → high ≤ (((happens u (event_at (place_of r.by) (act.Hear k))).nodes r.by).reports i).stored
+    → report.taken ≤ report.stored → high ≤ report.stored → high ≤ (((happens u (event_at (place_of r.by) (Act.Hear k))).nodes r.by).reports i).stored
 report_hear rules r i k high l report u h there other late letter meant is_ fits much =
-    let e = event_at (place_of r.by) (act.Hear k) in
+    let e = event_at (place_of r.by) (Act.Hear k) in
     let q = u.nodes r.by in
     let s = hear q l.packet in
     let is = hear_is u r.by k l (member_there rules r u r.by h h.calm.listed) letter meant in
@@ -244,13 +243,13 @@ first_wave_reports rules r i after w low h x there other =
     hits : WaveHits P Q after (length w.letters) x.sent.number (place_of r.by)
     hits = record {
       keeps = λ p n u late within k. (
-        fine_goes rules r u (event_at p (act.Hear n)) (hears_ p n (omega arith)) k.0,
+        fine_goes rules r u (event_at p (Act.Hear n)) (hears_ p n (omega arith)) k.0,
         stays_goes w u
-            (event_at p (act.Hear n)) k.1,
+            (event_at p (Act.Hear n)) k.1,
       );
       hits = λ u k. report_hear rules r i x.sent.number r.high x.letter x.report u k.0 there other (let late = x.sent.late in omega arith)
           (k.1.letters x.sent.number x.letter x.sent.there) x.sent.meant x.is x.fits x.much;
-      stays = λ p n u late within k q. (let kept = (grow_goes rules r u (event_at p (act.Hear n))
+      stays = λ p n u late within k q. (let kept = (grow_goes rules r u (event_at p (Act.Hear n))
           (hears_ p n (omega arith)) k.0).kept i there in omega arith);
     }
 
@@ -258,9 +257,9 @@ first_wave_reports rules r i after w low h x there other =
 
 front_hear : (rules : Rules) (r : Repair) (i k : ℕ) (l : Letter) (base acc high : ℕ) (u : World) → Fine rules r u → has r.members i ≡ true
     → (i == r.by) ≡ false → letter_at u.letters k ≡ Some l → is_for l i ≡ true → l.packet ≡ Accept r.by r.view base acc high true → r.high ≤ acc
-    → r.high ≤ top (u.nodes i) → r.high ≤ ((happens u (event_at (place_of i) (act.Hear k))).nodes i).core.acc
+    → r.high ≤ top (u.nodes i) → r.high ≤ ((happens u (event_at (place_of i) (Act.Hear k))).nodes i).core.acc
 front_hear rules r i k l base acc high u h there other letter meant is_ far stored =
-    let e = event_at (place_of i) (act.Hear k) in
+    let e = event_at (place_of i) (Act.Hear k) in
     let m = u.nodes i in
     let s = hear m l.packet in
     let is = hear_is u i k l (member_there rules r u i h there) letter meant in
@@ -290,10 +289,10 @@ first_wave_accepts rules r i after w low h poll there other stored =
     hits : WaveHits P Q after (length w.letters) poll.sent.number (place_of i)
     hits = record {
       keeps = λ p n u late within k.
-          (let grow = (grow_goes rules r u (event_at p (act.Hear n)) (hears_ p n (omega arith)) k.0).stored i there in
-          (fine_goes rules r u (event_at p (act.Hear n)) (hears_ p n (omega arith)) k.0, omega arith, stays_goes w u (event_at p (act.Hear n)) k.2));
+          (let grow = (grow_goes rules r u (event_at p (Act.Hear n)) (hears_ p n (omega arith)) k.0).stored i there in
+          (fine_goes rules r u (event_at p (Act.Hear n)) (hears_ p n (omega arith)) k.0, omega arith, stays_goes w u (event_at p (Act.Hear n)) k.2));
       hits = λ u k. front_hear rules r i poll.sent.number poll.letter poll.base poll.acc poll.high u k.0 there other
           (k.2.letters poll.sent.number poll.letter poll.sent.there) poll.sent.meant poll.is poll.told k.1;
-      stays = λ p n u late within k q. (let grow = (grow_goes rules r u (event_at p (act.Hear n))
+      stays = λ p n u late within k q. (let grow = (grow_goes rules r u (event_at p (Act.Hear n))
           (hears_ p n (omega arith)) k.0).acc i there in omega arith);
     }

@@ -1,6 +1,6 @@
 -- How far above its base a name's entries lie, by the members at each: within a step.
 use Rattle.am_headline.proofs.Words.{◌≡◌, ◌⊎◌, either, inl, inr, ℕ, suc, ◌+◌, ◌-◌, ◌<◌, ◌≤◌, ◌==◌, ◌&&◌, not, nat_lt, Bool, true, if◌then◌else◌, List, [], ◌∷◌}
-use Rattle.am_headline.proofs.Words.{length, slice_index, refl, sym, ap, ◌∙◌, subst, length-append, arith, nat_tests, length-map, get_or-map}
+use Rattle.am_headline.proofs.Words.{length, slice_index, refl, sym, ap, ◌∙◌, subst, length-append, arith, nat_tests, length-map, get_or-map, Packet}
 use Rattle.am_headline.proofs.Words.{count_by-le-length, Entry, Leave, View, Image, Row, GroupView, Stamp, Outcome, Rules, size, Log, blank_row, member_life}
 use Rattle.am_headline.proofs.Words.{members_of, members_at, image_at, top_of, with_entry, after, image-push, image-top, count_cons, In, row_at, long_after}
 use Rattle.am_headline.proofs.Words.{in_viewed, Node, Ballot, top, image_of, has_room, push_entry, Verdict, need_of, left_in, trim_for, split, Cause, hears}
@@ -8,7 +8,6 @@ use Rattle.am_headline.proofs.Words.{Looks, decides, Carries, whole_entry, by_nu
 use Rattle.am_headline.proofs.Words.{stores_view, closes, Changes, unchanged, changed, rests_refresh, rests_at_end, settle_is, told_pushed, change_blank}
 use Rattle.am_headline.proofs.Words.{HeardUsed, change_owned, Along, Fronts, told_used, HeardNames, change_names, change_does, those_long, kept_change}
 use Rattle.am_headline.proofs.Words.{decided_view, low_or_above}
-use Rattle.am_packet.specs.declared.packet.Packet.TheVariants as packet
 
 -- ---- how many names
 
@@ -59,10 +58,10 @@ viewed_few image n v long some sixteen =
 
 -- an entry of this number was heard
 pub data BringsEntry (c : Cause) (number : ℕ) : Type 0 where
-  by_bcast : (s : ℕ) (v : Stamp) (base acc : ℕ) (e : Entry) → c ≡ hears (packet.Bcast s v base acc number e) → BringsEntry c number
-  by_order : (s : ℕ) (v : Stamp) (base acc from req : ℕ) → c ≡ hears (packet.Order s v base acc number from req) → BringsEntry c number
-  by_piece : (s : ℕ) (v : Stamp) (base : ℕ) (e : Entry) → c ≡ hears (packet.Piece s v base number e) → BringsEntry c number
-  by_result : (s base : ℕ) (v : GroupView) → c ≡ hears (packet.Result s base number v) → BringsEntry c number
+  by_bcast : (s : ℕ) (v : Stamp) (base acc : ℕ) (e : Entry) → c ≡ hears (Packet.Bcast s v base acc number e) → BringsEntry c number
+  by_order : (s : ℕ) (v : Stamp) (base acc from req : ℕ) → c ≡ hears (Packet.Order s v base acc number from req) → BringsEntry c number
+  by_piece : (s : ℕ) (v : Stamp) (base : ℕ) (e : Entry) → c ≡ hears (Packet.Piece s v base number e) → BringsEntry c number
+  by_result : (s base : ℕ) (v : GroupView) → c ≡ hears (Packet.Result s base number v) → BringsEntry c number
 
 abbrev pub FitsAt : Rules → Node → ℕ → Type 0
 FitsAt rules x number = number - x.core.base ≤ rules.window + 16 - size (members_at x.core.log number)

@@ -10,7 +10,6 @@ use Rattle.am_headline.proofs.Words.{result, LetterSays, IsCause, WasSentTo, all
 use Rattle.am_headline.proofs.Words.{lists_go_on, item_get, item_within, PacketSays, told_all, long_all, number_low, departed_silent, departed_quiet}
 use Rattle.am_headline.proofs.Words.{departed_is, steps_move, member_stays}
 use Rattle.am_base.specs.Whole.{image_of}
-use Rattle.am_packet.specs.declared.packet.Packet.TheVariants as packet
 use Rattle.am_model.specs.Node as nodes
 use Rattle.am_model.specs.Hearing as rows
 use Rattle.am_stands.specs.Letters as says
@@ -115,40 +114,40 @@ module _ (rules : Rules) (events : List Event) (e : Event) (c : Cause) (step : S
           f (ap (λ (x : Node). x.core.log) same ∙ r.log) (omega arith)
     ]
 
-  fits_bcast : (from : ℕ) (u : Stamp) (base acc number : ℕ) (x : Entry) → c ≡ hears (packet.Bcast from u base acc number x) → n.core.base < number
+  fits_bcast : (from : ℕ) (u : Stamp) (base acc number : ℕ) (x : Entry) → c ≡ hears (Packet.Bcast from u base acc number x) → n.core.base < number
       → number ≤ top n → FitsAt rules n number
   fits_bcast from u base acc number x heard_ above within =
-      let p = packet.Bcast from u base acc number x in
+      let p = Packet.Bcast from u base acc number x in
       let line = packet_fits p (sent_so p heard_) in
       by_row p heard_ number above within (λ log up. elim (bcast_does m from u base acc number x) [
         | done.nothing same low ↦ fits_still number (log ∙ same) (omega arith) above within
         | done.one why st ↦
-            let r = (rows.hear_row m (packet.Bcast from u base acc number x)).node in
+            let r = (rows.hear_row m (Packet.Bcast from u base acc number x)).node in
             fits_line number base u x r log up above st line (on_last base number u x r log st (plain_view from u x why))
       ])
 
-  fits_order : (from : ℕ) (u : Stamp) (base acc number by req : ℕ) → c ≡ hears (packet.Order from u base acc number by req) → n.core.base < number
+  fits_order : (from : ℕ) (u : Stamp) (base acc number by req : ℕ) → c ≡ hears (Packet.Order from u base acc number by req) → n.core.base < number
       → number ≤ top n → FitsAt rules n number
   fits_order from u base acc number by req heard_ above within =
-      let p = packet.Order from u base acc number by req in
+      let p = Packet.Order from u base acc number by req in
       let line = packet_fits p (sent_so p heard_) in
       by_row p heard_ number above within (λ log up. elim (order_does m from u base acc number by req) [
         | done.nothing same low ↦ fits_still number (log ∙ same) (omega arith) above within
         | done.one body why st ↦
-            let r = (rows.hear_row m (packet.Order from u base acc number by req)).node in
+            let r = (rows.hear_row m (Packet.Order from u base acc number by req)).node in
             let x = Data by req body in
             fits_line number base u x r log up above st line (on_last base number u x r log st (plain_view from u x why))
       ])
 
-  fits_result : (from : ℕ) (base number : ℕ) (u : GroupView) → c ≡ hears (packet.Result from base number u)
+  fits_result : (from : ℕ) (base number : ℕ) (u : GroupView) → c ≡ hears (Packet.Result from base number u)
       → n.core.base < number → number ≤ top n → FitsAt rules n number
   fits_result from base number u heard_ above within =
-      let p = packet.Result from base number u in
+      let p = Packet.Result from base number u in
       let line = packet_fits p (sent_so p heard_) in
       by_row p heard_ number above within (λ log up. elim (result_does m from base number u) [
         | done.nothing same low ↦ fits_still number (log ∙ same) (omega arith) above within
         | done.one why st ↦
-            let r = (rows.hear_row m (packet.Result from base number u)).node in
+            let r = (rows.hear_row m (Packet.Result from base number u)).node in
             let x = View u in
             fits_line number base u.stamp x r log up above st (line (eqb-true u.stamp.by from why.by))
             (on_last base number u.stamp x r log st (view_viewed (s.node i).list u))
@@ -222,15 +221,15 @@ module _ (rules : Rules) (events : List Event) (e : Event) (c : Cause) (step : S
     piece_so (over other d) (done.without none by) = absurd (other (eqb-true u.by from by))
     piece_so (over other d) (done.for_ballot open_) = absurd (none_over d open_)
 
-  fits_piece : (from : ℕ) (u : Stamp) (base number : ℕ) (x : Entry) → c ≡ hears (packet.Piece from u base number x) → n.core.base < number
+  fits_piece : (from : ℕ) (u : Stamp) (base number : ℕ) (x : Entry) → c ≡ hears (Packet.Piece from u base number x) → n.core.base < number
       → number ≤ top n → FitsAt rules n number
   fits_piece from u base number x heard_ above within =
-      let p = packet.Piece from u base number x in
+      let p = Packet.Piece from u base number x in
       let line = packet_fits p (sent_so p heard_) in
       by_row p heard_ number above within (λ log up. elim (piece_does m from u base number x) [
         | done.nothing same low ↦ fits_still number (log ∙ same) (omega arith) above within
         | done.one why st ↦
-            piece_so from u base number x (rows.hear_row m (packet.Piece from u base number x)).node log up above why st line why.how
+            piece_so from u base number x (rows.hear_row m (Packet.Piece from u base number x)).node log up above why st line why.how
       ])
 
   -- ---- the node

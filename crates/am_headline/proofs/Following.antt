@@ -4,17 +4,16 @@ use Rattle.am_headline.proofs.RepairWords.{arith, length-append, ◌≢◌, Stam
 use Rattle.am_headline.proofs.RepairWords.{image-next, Node, Ballot, top, image_of, is_sequencer, push_entry, is_unfinished, overtake, with_promise, is_view}
 use Rattle.am_headline.proofs.RepairWords.{bodies_after, World, Cause, hears, Promises, invited, overtaken_by, told_result, Carries, whole_entry, by_number}
 use Rattle.am_headline.proofs.RepairWords.{Change, refreshes, settles, takes_report, admits, numbers, stores, begins_list, departs, promises, opens, looks}
-use Rattle.am_headline.proofs.RepairWords.{fetches, stores_view, queues, collects, takes, asks_to_join, asks_to_leave, closes, told_pushed, view_pushed}
+use Rattle.am_headline.proofs.RepairWords.{fetches, stores_view, queues, collects, takes, asks_to_join, asks_to_leave, closes, told_pushed, view_pushed, Packet}
 use Rattle.am_headline.proofs.RepairWords.{acts_pushed, Repair, FollowsView, SequencerHas}
-use Rattle.am_packet.specs.declared.packet.Packet.TheVariants as packet
 use Rattle.am_headline.proofs.Nodes.{CalmCause, acting, leads_not, not_open, Alike, alike_here, alike_refresh, alike_settle, view_alike, acts_alike, rest_alike}
 use Rattle.am_headline.proofs.{RepairLists.entry_within, RepairLists.same_after, RepairLeading.no_ballot_begun, RepairLeading.looked_open}
 use Rattle.am_headline.proofs.{RepairLeading.not_behind}
 
 -- an entry that isn't the next above a number
 abbrev pub Skips : ℕ → Cause → Type 0
-Skips high (hears (packet.Bcast s v base acc number e)) = number ≢ high + 1
-Skips high (hears (packet.Order s v base acc number from req)) = number ≢ high + 1
+Skips high (hears (Packet.Bcast s v base acc number e)) = number ≢ high + 1
+Skips high (hears (Packet.Order s v base acc number from req)) = number ≢ high + 1
 Skips high _ = Unit {0}
 
 -- a member that was another node before, in a step of this cause
@@ -64,26 +63,15 @@ follows_pushed r c q m x e there skips plain is same h =
     let more : top (push_entry x e) ≡ top x + 1 = simp length-append (omega arith) in
     let within = (entry_within q.core.log (top x + 1) there is).1 in
     let next = image-next q.core.log (top x) there low is in
-    record {
-      who = h.who;
-      follows = record {
-        acts_ = acts_pushed x e plain ∙ f.acts_;
-        view_ = view_pushed x e plain ∙ f.view_;
-        rest = record { stays = f.rest.stays; no_ballot = f.rest.no_ballot };
-        agrees = record {
-          reached = omega arith;
-          low = omega arith;
-          within = omega arith;
-          told_ = told_pushed x e ∙ same (image_of x) ∙ ap (λ (i : Image). after i (top x + 1) there) f.told_ ∙ sym next ∙ ap (image_at q.core.log) (sym more);
-          base = f.base;
-          reported = f.reported;
-        };
-      };
-      stored = omega arith;
-      taken = h.taken;
-      acc = h.acc;
-      skips = λ k. absurd (skips k (let same_top = h.skips k in omega arith));
-    }
+    let y = push_entry x e in
+    let reached_ : r.at ≤ top y = omega arith in let low_ : q.core.log.start ≤ top y = omega arith in
+    let within_ : top y ≤ top q = omega arith in let stored_ : top m ≤ top y = omega arith in
+    let skips_ : Skips (top m) c → top y ≡ top m = λ k. absurd (skips k (let same_top = h.skips k in omega arith)) in
+    assumption (
+      acts_pushed x e plain ∙ f.acts_,
+      view_pushed x e plain ∙ f.view_,
+      told_pushed x e ∙ same (image_of x) ∙ ap (λ (i : Image). after i (top x + 1) there) f.told_ ∙ sym next ∙ ap (image_at q.core.log) (sym more),
+    )
 
 -- what is carried stands above no number that it skips
 carried_skips : (high : ℕ) (c : Cause) (x : Node) (s : ℕ) (v : Stamp) (base acc number : ℕ) (e : Entry) → Carries c x s v base acc number e → Skips high c

@@ -5,9 +5,7 @@ use Rattle.am_headline.proofs.RepairedWords.{Was, row_at, mem_in, was_begins, be
 use Rattle.am_headline.proofs.RepairedWords.{is_member, is_sequencer, has_log, has_departed, World, is_stopped, Status, split, and_both, logged, NameStands}
 use Rattle.am_headline.proofs.RepairedWords.{PacketSays, WelcomeTo, has_begun, has_gone, has_left, is_leaving, may_begin, Following, told_all, leading, GoesSo}
 use Rattle.am_packet.specs.Kinds.{kind_of}
-use Rattle.am_packet.specs.declared.packet.Packet.TheVariants as packet
 use Rattle.am_base.specs.Whole as whole
-use Rattle.am_model.specs.declared.status.Status.TheVariants as status
 
 -- a name's Join fits no member's place, nor a past one's of its life
 join_none : (image : Image) (name : ℕ) → fits image (Join name) ≡ true → Was (at_place image name) (life_of name) → ⊥
@@ -25,7 +23,7 @@ pub record IsWelcome (base : ℕ) (p : Packet) : Type 0 where
   pub stamp : Stamp
   pub join : ℕ
   pub image : Image
-  pub is : p ≡ packet.Welcome from stamp base join image
+  pub is : p ≡ Packet.Welcome from stamp base join image
 
 -- one to a name
 pub record Welcomed (w : World) (j base : ℕ) : Type 0 where
@@ -38,16 +36,10 @@ pub record Welcomed (w : World) (j base : ℕ) : Type 0 where
 
 -- the same letter, in another world
 pub welcomed_in : (w v : World) (j base : ℕ) (h : Welcomed w j base) (k : ℕ) → slice_get v.letters k ≡ Some h.letter → Welcomed v j base
-welcomed_in w v j base h k there = record {
-  number = k;
-  letter = h.letter;
-  there = there;
-  addressed = h.addressed;
-  welcome = h.welcome;
-}
+welcomed_in w v j base h k there = search (k, h.letter, there)
 
 unlogged_here : (t : Status) → has_log t ≡ false → has_departed t ≡ false
-unlogged_here status.Departed f = absurd (cc)
+unlogged_here Status.Departed f = absurd (cc)
 unlogged_here _ f = refl
 
 module _ (rules : Rules) (w : World) (s : Group) (q j : ℕ) (old : Following rules w s) (k : Kept s) (small : q < 256) (few : j < 256)
@@ -100,7 +92,7 @@ module _ (rules : Rules) (w : World) (s : Group) (q j : ℕ) (old : Following ru
 
   pub no_welcome : (base : ℕ) → is_stopped w j ≡ false → (h : Welcomed w j base) → GoesSo h.letter → ⊥
   no_welcome base goes h any =
-      let says : PacketSays w s h.letter.to (packet.Welcome h.from h.stamp base h.join h.image) = subst (PacketSays w s h.letter.to) h.is
+      let says : PacketSays w s h.letter.to (Packet.Welcome h.from h.stamp base h.join h.image) = subst (PacketSays w s h.letter.to) h.is
       (old.letters h.number h.letter h.there) in
       let plain : h.letter.any ≡ false = any ∙ ap (λ p. kind_of p == 9) h.is in
       let to : has h.letter.to j ≡ true = rw plain at h.addressed in

@@ -1,14 +1,12 @@
 -- A calm world stays calm while a schedule runs.
 use Rattle.am_headline.proofs.RepairWords.{not-false, ◌≡◌, ◌⊎◌, inl, inr, ℕ, ◌<◌, ◌==◌, not, Bool, true, false, if◌then◌else◌, Option, Some, None, refl, sym}
-use Rattle.am_headline.proofs.RepairWords.{ap, ◌∙◌, Outcome, Rules, Letter, Event, is_for, letter_at, Node, is_member, has_departed, Step, step, hear}
-use Rattle.am_headline.proofs.RepairWords.{event_at, World, is_stopped, with_record, with_step, happens, hears_letter, Cause, calls, hears, Changes}
+use Rattle.am_headline.proofs.RepairWords.{ap, ◌∙◌, Outcome, Rules, Letter, Event, is_for, letter_at, Node, is_member, has_departed, Step, step, hear, Status}
+use Rattle.am_headline.proofs.RepairWords.{event_at, World, is_stopped, with_record, with_step, happens, hears_letter, Cause, calls, hears, Changes, Act}
 use Rattle.am_headline.proofs.RepairWords.{no_change, changed, Effect, actor, IsCause, tick, steps_have_effects, hearing_has_effects, HeardNames, HeardUsed}
 use Rattle.am_headline.proofs.RepairWords.{Along, along_changes, IsOurs, hears_, Repair, Calm}
 use Rattle.am_headline.specs.Rounds.{ticks}
 use Rattle.am_base.specs.declared.outcome.Outcome.TheVariants as said
 use Rattle.am_base.specs.declared.event.NodeEvent.TheVariants as does
-use Rattle.am_group.specs.declared.event.Act.TheVariants as act
-use Rattle.am_model.specs.declared.status.Status.TheVariants as status
 use Rattle.am_headline.proofs.{Nodes.CalmCause, RepairLeading.Goes, RepairLeading.lead_change, RepairLeading.TellsTaken, Following.FollowsOn, Following.follow_change}
 use Rattle.am_headline.proofs.{Leaving.StaysLeft, Leaving.left_change}
 use Rattle.am_headline.proofs.{Apart.StaysApart, Apart.apart_change, Departed.IsStill, Departed.departed_ticks, Departed.departed_hears}
@@ -33,10 +31,10 @@ ours_if : (r : Repair) (w : World) (e : Event) (b : Bool) (u v : World) → Ours
 ours_if r w e true u v f g = f
 ours_if r w e false u v f g = g refl
 
-our_tick : (r : Repair) (w : World) (place : ℕ) → Ours r w (event_at place act.Tick) (happens w (event_at place act.Tick))
+our_tick : (r : Repair) (w : World) (place : ℕ) → Ours r w (event_at place Act.Tick) (happens w (event_at place Act.Tick))
 unfolding happens
 our_tick r w place =
-    let e = event_at place act.Tick in
+    let e = event_at place Act.Tick in
     let m = w.nodes (actor w e) in
     ours_if r w e (is_stopped w (actor w e)) _ _ (idles said.IsStopped)
     (λ f. steps (step m does.Tick) (record {
@@ -49,10 +47,10 @@ our_tick r w place =
     }))
 
 our_letter : (r : Repair) (w : World) (place number : ℕ) (l : Option Letter) → letter_at w.letters number ≡ l → r.sent < number → Calm r w
-    → (let e = event_at place (act.Hear number) in Ours r w e (hears_letter w e (actor w e) (hear (w.nodes (actor w e))) l))
+    → (let e = event_at place (Act.Hear number) in Ours r w e (hears_letter w e (actor w e) (hear (w.nodes (actor w e))) l))
 our_letter r w place number None is late h = idles said.NoPacket
 our_letter r w place number (Some l) is late h =
-    let e = event_at place (act.Hear number) in
+    let e = event_at place (Act.Hear number) in
     let m = w.nodes (actor w e) in
     ours_if r w e (not (is_for l (actor w e))) _ _ (idles said.NotAddressed)
     (λ f. ours_if r w e (is_stopped w (actor w e)) _ _ (idles said.IsStopped)
@@ -97,7 +95,7 @@ left_changes r w m x y calm (changed {n = z} one more) h = left_changes r w m z 
 
 -- ---- who sends is the node after the step
 
-pub sender_is : (n sender : Node) → n ≡ record sender { status = n.status } → (n.status ≡ sender.status) ⊎ (n.status ≡ status.Departed)
+pub sender_is : (n sender : Node) → n ≡ record sender { status = n.status } → (n.status ≡ sender.status) ⊎ (n.status ≡ Status.Departed)
     → has_departed n.status ≡ false → sender ≡ n
 sender_is n sender is (inl same) there = sym (is ∙ ap (λ st. record sender { status = st }) same)
 sender_is n sender is (inr gone) there = absurd (let g = ap has_departed gone in cc)

@@ -4,7 +4,6 @@ use Rattle.am_headline.proofs.Words.{slice_get, refl, sym, ap, ◌∙◌, subst,
 use Rattle.am_headline.proofs.Words.{has_departed, Step, finish, packet_length, hear, hear_refusal, World, is_stopped, with_record, with_step, hears_letter}
 use Rattle.am_headline.proofs.Words.{hear_cut, acts_as, happens, Cause, Ending, at_end, actor, WasSentTo, rests_at_end}
 use Rattle.am_base.specs.declared.outcome.Outcome.TheVariants as said
-use Rattle.am_group.specs.declared.event.Act.TheVariants as act
 
 -- ---- what is heard
 
@@ -45,10 +44,10 @@ heard_node w e name hearing (Some x) l is for_ runs =
 
 acts_node : (w : World) (e : Event) (name : ℕ) (a : Act) (p : Packet) → WasSentTo w name a p → is_stopped w name ≡ false
     → HeardAs (w.nodes name) ((acts_as w e name a).nodes name) p
-acts_node w e name (act.Hear number) p h runs =
+acts_node w e name (Act.Hear number) p h runs =
     let is = heard_node w e name (hear (w.nodes name)) (letter_at w.letters number) h.letter h.there h.addressed runs in
     whole_packet (is ∙ ap (λ q. (hear (w.nodes name) q).node) h.is)
-acts_node w e name (act.Cut number keep) p h runs =
+acts_node w e name (Act.Cut number keep) p h runs =
     let is = heard_node w e name (hear_cut (w.nodes name) keep) (letter_at w.letters number) h.letter h.there h.addressed runs in
     subst (λ n. HeardAs (w.nodes name) n p) (sym (is ∙ ap (λ q. (hear_cut (w.nodes name) keep q).node) h.is)) (cut_node (w.nodes name) keep p)
 acts_node w e name _ p h runs = absurd (let z = h.there in cc)

@@ -1,7 +1,7 @@
 -- What is known of a name's node within its step: what its application was given, and which of its sends are settled.
 use Rattle.am_headline.proofs.Words.{no_member, member_stays, gave_still, passed_front, or_first, fewer_wait, ◌≡◌, ◌⊎◌, either, inl, inr, ℕ, ◌+◌, ◌-◌, ◌<◌}
 use Rattle.am_headline.proofs.Words.{◌≤◌, max, min, ◌==◌, not, nat_lt, Bool, true, false, if◌then◌else◌, List, [], ◌∷◌, ◌++◌, find, count_by, Option, Some}
-use Rattle.am_headline.proofs.Words.{None, slice_get, refl, sym, ap, ◌∙◌, subst, arith, All, nat_tests, sum_by-cons, All-push, All-filter, All-map}
+use Rattle.am_headline.proofs.Words.{None, slice_get, refl, sym, ap, ◌∙◌, subst, arith, All, nat_tests, sum_by-cons, All-push, All-filter, All-map, Packet}
 use Rattle.am_headline.proofs.Words.{All-weaker, Entry, Data, Leave, Image, Stamp, Outcome, CoreState, accept, pass_over, own_report, tell, go_on, Log}
 use Rattle.am_headline.proofs.Words.{OwnSend, Status, Node, is_member, is_asking, is_sequencer, waiting, unsettled_count, push_entry, has_log, has_departed}
 use Rattle.am_headline.proofs.Words.{begin_list, advance, lead, refresh, settle, settle_waiting, settle_at, accepted_at, refresh_at_end, split, and_both}
@@ -9,9 +9,7 @@ use Rattle.am_headline.proofs.Words.{item_at, Cause, hears, MayBeWelcomed, get_f
 use Rattle.am_headline.proofs.Words.{Gave, nothing, took, began, at_least, gave_begun, still_log, found_at}
 use Rattle.am_state.specs.Refresh.{let_go}
 use Rattle.am_base.specs.declared.outcome.Outcome.TheVariants as said
-use Rattle.am_packet.specs.declared.packet.Packet.TheVariants as packet
 use Rattle.am_state.specs.Sends as own
-use Rattle.am_model.specs.declared.status.Status.TheVariants as status
 use Rattle.am_headline.proofs.Ways.{Alike, Kind, pushed_alike}
 use Rattle.am_headline.proofs.Ways as kinds
 
@@ -116,7 +114,7 @@ gave_taken k m e low passed member some says (began s v base join image a b x y 
 -- ---- statuses
 
 pub asking_stays : (s : Status) → is_asking s ≡ true → has_departed s ≡ false
-asking_stays status.Departed h = absurd (cc)
+asking_stays Status.Departed h = absurd (cc)
 asking_stays _ h = refl
 
 -- ---- sends
@@ -256,7 +254,7 @@ module _ (group : List Entry) (i : ℕ) (c : Cause) (o : Outcome) (m : Node) whe
   inside_settled x (Some s) is h = inside_settled_at x s.req (accepted_at x s.req) refl (stays_up x s is h)
       (split x.leaving (λ t. absurd (let none = h.silent t in cc)) (λ f. f)) h
 
-  inside_begun : (x : Node) (s : ℕ) (v : Stamp) (base join : ℕ) (image : Image) → c ≡ hears (packet.Welcome s v base join image) → o ≡ said.Welcomed join
+  inside_begun : (x : Node) (s : ℕ) (v : Stamp) (base join : ℕ) (image : Image) → c ≡ hears (Packet.Welcome s v base join image) → o ≡ said.Welcomed join
       → MayBeWelcomed x s v base join image → Inside group i c o m x → Inside group i c o m (begin_list x v base join image)
   inside_begun x s v base join image is says may h =
       let y = begin_list x v base join image in
@@ -278,16 +276,9 @@ module _ (group : List Entry) (i : ℕ) (c : Cause) (o : Outcome) (m : Node) whe
       → (has_departed s ≡ true → x.leaving ≡ true) → Inside group i c o m x → Inside group i c o m (record x { status = s })
   inside_status x s log stays leaves h =
       let y = record x { status = s } in
-      record {
-        gave = gave_still m x y refl refl log h.gave;
-        order = h.order;
-        departed = λ t. (stays t, (h.departed t).1);
-        leaves = h.leaves;
-        gone = leaves;
-        silent = h.silent;
-        bare = λ t. h.bare (sym log ∙ t);
-        sends = h.sends;
-      }
+      let departed : has_departed m.status ≡ true → (has_departed s ≡ true) × (front y ≡ front m) = λ t. (stays t, (h.departed t).1) in
+      let bare : has_log s ≡ false → x.core.acc ≡ 0 = λ t. h.bare (sym log ∙ t) in
+      assumption (gave_still m x y refl refl log h.gave, departed, bare)
 
   inside_collected : (x : Node) (req : ℕ) → Inside group i c o m x → Inside group i c o m (record x { sends = own.collect req x.sends })
   inside_collected x req h = split (own.is_settled req x.sends)
@@ -299,30 +290,17 @@ module _ (group : List Entry) (i : ℕ) (c : Cause) (o : Outcome) (m : Node) whe
       → Inside group i c o m x → Inside group i c o m (record x { core = record (x.core) { taken = x.core.taken + 1 } })
   inside_took x e says member some h =
       let less : x.core.taken < x.core.acc = grind (arith, nat_tests) in
-      record {
-        gave = gave_taken m x e h.taken h.passed member some says h.gave;
-        order = record { kept = h.kept; taken = omega arith; passed = λ below. (let z = h.passed (omega arith) in absurd (omega arith)) };
-        departed = λ t. absurd (let d = (h.departed t).0 in let a = member_stays x.status member in cc);
-        leaves = h.leaves;
-        gone = h.gone;
-        silent = h.silent;
-        bare = h.bare;
-        sends = h.sends;
-      }
+      let y = record x { core = record (x.core) { taken = x.core.taken + 1 } } in
+      let taken : y.core.taken ≤ x.core.acc = omega arith in
+      let passed : y.core.taken < x.core.start - 1 → x.core.acc ≤ y.core.taken = λ below. (let z = h.passed (omega arith) in absurd (omega arith)) in
+      let departed : has_departed m.status ≡ true → (has_departed x.status ≡ true) × (front y ≡ front m)
+      = λ t. absurd (let d = (h.departed t).0 in let a = member_stays x.status member in cc) in
+      assumption (gave_taken m x e h.taken h.passed member some says h.gave, taken, passed, departed)
 
   inside_asked : (x : Node) → nat_lt 0 (unsettled_count x) ≡ false → Inside group i c o m x → Inside group i c o m (record x { leaving = true })
   inside_asked x none h =
       let y = record x { leaving = true } in
-      record {
-        gave = gave_still m x y refl refl refl h.gave;
-        order = h.order;
-        departed = h.departed;
-        leaves = λ t. refl;
-        gone = λ t. refl;
-        silent = λ t. none_waits x.sends.queue none;
-        bare = h.bare;
-        sends = h.sends;
-      }
+      assumption (gave_still m x y refl refl refl h.gave, none_waits x.sends.queue none)
 
   pub inside_kind : (x y : Node) → Kind c o x y → (has_log x.status ≡ false → x.core.told ≡ 0) → Inside group i c o m x → Inside group i c o m y
   unfolding settle refresh_at_end
@@ -330,12 +308,12 @@ module _ (group : List Entry) (i : ℕ) (c : Cause) (o : Outcome) (m : Node) whe
   inside_kind x y kinds.refreshed bare h = inside_refreshed x bare h
   inside_kind x y kinds.settled bare h = inside_settled x (waiting x) refl h
   inside_kind x y (kinds.began s v base join image is says may) bare h = inside_begun x s v base join image is says may h
-  inside_kind x y (kinds.left member leaves) bare h = inside_status x status.Departed (still_log x.status member) (λ t. refl) (λ t. leaves) h
+  inside_kind x y (kinds.left member leaves) bare h = inside_status x Status.Departed (still_log x.status member) (λ t. refl) (λ t. leaves) h
   inside_kind x y (kinds.sent body stays) bare h =
       inside_sends x (own.submit body x.sends) (λ t. absurd (cc)) (All-push (SendIn group i m x) x.sends.queue _ h.sends tt) h
   inside_kind x y (kinds.collected req) bare h = inside_collected x req h
   inside_kind x y (kinds.took e says member some) bare h = inside_took x e says member some h
-  inside_kind x y (kinds.asked_in was) bare h = inside_status x status.Asking (sym (ap has_log was))
+  inside_kind x y (kinds.asked_in was) bare h = inside_status x Status.Asking (sym (ap has_log was))
       (λ t. absurd (let d = (h.departed t).0 in let s = ap has_departed was in cc)) (λ t. absurd (cc)) h
   inside_kind x y (kinds.asked_out was done) bare h = inside_asked x (or_first _ _ done) h
   inside_kind x y (kinds.gone member leaves) bare h =
@@ -347,4 +325,4 @@ module _ (group : List Entry) (i : ℕ) (c : Cause) (o : Outcome) (m : Node) whe
       let d = inside_settled (refresh p) (waiting (refresh p)) refl b in
       let st : (settle (refresh p)).status ≡ x.status = ap (λ (z : Node). z.status) (settle_is (refresh p)) ∙ r.status in
       let lv : (settle (refresh p)).leaving ≡ x.leaving = ap (λ (z : Node). z.leaving) (settle_is (refresh p)) ∙ r.leaving in
-      inside_status (settle (refresh p)) status.Departed (still_log x.status member ∙ ap has_log (sym st)) (λ t. refl) (λ t. lv ∙ leaves) d
+      inside_status (settle (refresh p)) Status.Departed (still_log x.status member ∙ ap has_log (sym st)) (λ t. refl) (λ t. lv ∙ leaves) d

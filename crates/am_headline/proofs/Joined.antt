@@ -3,9 +3,8 @@ use Rattle.am_headline.proofs.Words.{◌≡◌, ◌⊎◌, either, inl, inr, ℕ
 use Rattle.am_headline.proofs.Words.{refl, sym, ap, ◌∙◌, subst, arith, All, Entry, Join, Image, Stamp, Rules, place_of, life_of, has, Letter, goes_to_any}
 use Rattle.am_headline.proofs.Words.{is_for, item_at, Begins, IsGood, mem, In, row_at, begins_take, length_take, good_begins, told_push, long_told, mem_in}
 use Rattle.am_headline.proofs.Words.{in_mem, mem_viewed, Group, is_asking, founders_view, World, is_stopped, all_get, asking_log, PacketSays, WelcomeSays}
-use Rattle.am_headline.proofs.Words.{has_begun, has_gone, has_left, is_leaving, may_begin, Becomes, stayed, joins, founds, became, blank_nil, Following}
+use Rattle.am_headline.proofs.Words.{has_begun, has_gone, has_left, is_leaving, may_begin, Becomes, stayed, joins, founds, became, blank_nil, Following, Packet}
 use Rattle.am_base.specs.Whole.{image_of}
-use Rattle.am_packet.specs.declared.packet.Packet.TheVariants as packet
 use Rattle.am_headline.proofs.{Inside.asking_stays, Fitted.letter_there}
 
 -- ---- by the group list
@@ -66,7 +65,7 @@ AnyLetter l = l.any ≡ goes_to_any l.packet
 -- what such a letter says to a name that asks
 welcome_says : (rules : Rules) (w : World) (s : Group) (i number : ℕ) (l : Letter) (from : ℕ) (v : Stamp) (base join : ℕ) (image : Image) → Following rules w s
     → All AnyLetter w.letters → i < 256 → is_stopped w i ≡ false → is_asking (w.nodes i).status ≡ true → item_at w.letters number ≡ Some l
-    → is_for l i ≡ true → l.packet ≡ packet.Welcome from v base join image → WelcomeSays s from v base join image i
+    → is_for l i ≡ true → l.packet ≡ Packet.Welcome from v base join image → WelcomeSays s from v base join image i
 welcome_says rules w s i number l from v base join image h anys few runs asks at for_ is =
     let there = letter_there w.letters number l at in
     let any : l.any ≡ false = all_get AnyLetter w.letters there.0 l anys there.1 ∙ ap goes_to_any is in
@@ -85,7 +84,7 @@ welcome_says rules w s i number l from v base join image h anys few runs asks at
 pub welcome_joins : (rules : Rules) (w : World) (s : Group) (i number : ℕ) (l : Letter) (from : ℕ) (v : Stamp) (base join : ℕ) (image : Image)
     → Following rules w s → IsGood w.group → Opens rules w.group
     → All AnyLetter w.letters → i < 256 → is_stopped w i ≡ false → is_asking (w.nodes i).status ≡ true → item_at w.letters number ≡ Some l
-    → is_for l i ≡ true → l.packet ≡ packet.Welcome from v base join image → has rules.founders i ≡ false → item_at w.group join ≡ Some (Join i)
+    → is_for l i ≡ true → l.packet ≡ Packet.Welcome from v base join image → has rules.founders i ≡ false → item_at w.group join ≡ Some (Join i)
 welcome_joins rules w s i number l from v base join image h good opens anys few runs asks at for_ is unfounded =
     let says = welcome_says rules w s i number l from v base join image h anys few runs asks at for_ is in
     let same : s.group ≡ w.group = h.stands.group in

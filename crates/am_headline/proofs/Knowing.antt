@@ -1,5 +1,5 @@
 -- A sequencer trims no more than it knows each member of its list to have taken: each change keeps it.
-use Rattle.am_headline.proofs.RepairWords.{fetch_follows, stamp_by, other_asks, promise_is, not_above_view, not_own, base_low, other_heard, has_in, ◌≡◌}
+use Rattle.am_headline.proofs.RepairWords.{fetch_follows, stamp_by, other_asks, promise_is, not_above_view, not_own, base_low, other_heard, has_in, ◌≡◌, Packet}
 use Rattle.am_headline.proofs.RepairWords.{either, ℕ, ◌+◌, ◌<◌, ◌≤◌, ◌==◌, nat_lt, true, false, List, length, refl, sym, ap, ◌∙◌, subst, arith, nat_tests}
 use Rattle.am_headline.proofs.RepairWords.{Stamp, Image, Report, Row, Entry, Data, Join, Leave, Outcome, place_of, life_of, has, at_place, members_of, with_row}
 use Rattle.am_headline.proofs.RepairWords.{after, row_at, In, row_set, long_after, accept, pass_over, own_report, tell, go_on, let_go, Node, Ballot, top}
@@ -9,7 +9,6 @@ use Rattle.am_headline.proofs.RepairWords.{overtaken, told_result, Numbers, aske
 use Rattle.am_headline.proofs.RepairWords.{takes_report, admits, numbers, notes, stores, begins_list, departs, promises, opens, looks, fetches, stores_view}
 use Rattle.am_headline.proofs.RepairWords.{asks_to_join, closes, settle_is, told_pushed, leads_pushed, in_is, at_most_below, view_last, Balloted, next_above}
 use Rattle.am_headline.proofs.RepairWords.{Fronts, told_used, TrimsKnown}
-use Rattle.am_packet.specs.declared.packet.Packet.TheVariants as packet
 use Rattle.am_headline.proofs.{Ends.follows, Ends.raise_up, Ends.lead_reports, Nodes.leading, Nodes.no_open, Nodes.not_open, Nodes.alike_refresh}
 use Rattle.am_headline.proofs.{Nodes.leads_alike, RepairLeading.least_low, RepairLeading.looked_open}
 
@@ -98,7 +97,7 @@ known_joined m s f h t i few there = split (i == s)
     (member_back m (Join s) i f (λ long x. join_back (image_of m) (top m + 1) s i long other x) there)))
 
 abbrev pub NoJoin : Cause → Type 0
-NoJoin c = (s : ℕ) (v : Stamp) → c ≡ hears (packet.JoinAsk s v) → ⊥
+NoJoin c = (s : ℕ) (v : Stamp) → c ≡ hears (Packet.JoinAsk s v) → ⊥
 
 known_numbered : (c : Cause) (m : Node) (e : Entry) → NoJoin c → Numbers c m e → Fronts m → TrimsKnown m → TrimsKnown (push_entry m e)
 known_numbered c m e none (asked_send s v report req body by known left next) f h =

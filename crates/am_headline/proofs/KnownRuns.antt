@@ -8,8 +8,6 @@ use Rattle.am_headline.proofs.RepairWords.{Happens, steps, events_have_effects, 
 use Rattle.am_headline.proofs.RepairWords.{Along, along_changes, AllOwned, heard_used, each_along, each_owned, owned_start, TrimsKnown, SequencersTrimKnown}
 use Rattle.am_model.specs.Joining.{asks_to_join}
 use Rattle.am_base.specs.declared.outcome.Outcome.TheVariants as said
-use Rattle.am_packet.specs.declared.packet.Packet.TheVariants as packet
-use Rattle.am_group.specs.declared.event.Act.TheVariants as act
 use Rattle.am_headline.proofs.Knowing.{NoJoin, known_change, known_end, known_joined}
 
 -- ---- a step of another cause than a request to join
@@ -52,7 +50,7 @@ asked_known m s q f h =
     (λ e. plan_if (nat_le q.joined (m.reports s).stored || nat_lt m.core.acc q.joined) _ _ (λ t. record { stays = refl; fronts = f; known = h })
     (λ t. record { stays = refl; fronts = f; known = h }))))))
 
-join_ends : (m : Node) (s : ℕ) (v : Stamp) → Fronts m → TrimsKnown m → TrimsKnown (hear m (packet.JoinAsk s v)).node
+join_ends : (m : Node) (s : ℕ) (v : Stamp) → Fronts m → TrimsKnown m → TrimsKnown (hear m (Packet.JoinAsk s v)).node
 unfolding hear hear_row join_ask_row
 join_ends m s v f h = plan_known m _ (plan_if (hears_member m s && is_sequencer m) _ _ (λ t. asked_known m s (at_place (image_of m) s) f h)
     (λ t. record { stays = refl; fronts = f; known = h }))
@@ -62,8 +60,8 @@ unfolding hear_refusal finish
 refused_known m cause f h = known_end m f h
 
 -- a request to join, among packets
-ask_of : (p : Packet) → (kind_of p == 9) ≡ true → (s : ℕ) × (v : Stamp) × (p ≡ packet.JoinAsk s v)
-ask_of (packet.JoinAsk s v) t = (s, v, refl)
+ask_of : (p : Packet) → (kind_of p == 9) ≡ true → (s : ℕ) × (v : Stamp) × (p ≡ Packet.JoinAsk s v)
+ask_of (Packet.JoinAsk s v) t = (s, v, refl)
 ask_of _ t = absurd (cc)
 
 asks_known : (m : Node) (p : Packet) → (kind_of p == 9) ≡ true → Fronts m → TrimsKnown m → TrimsKnown (hear m p).node
@@ -105,12 +103,12 @@ trim_letter w e name hearing (Some l) k t h =
 
 trim_join : (rules : Rules) (w : World) (e : Event) (a : Act) → AllOwned rules w → AllTrim w → is_join (letter_at w.letters (heard_by a)) ≡ true
     → AllTrim (acts_as w e (actor w e) a)
-trim_join rules w e (act.Hear number) laws h t =
+trim_join rules w e (Act.Hear number) laws h t =
     let name = actor w e in
     let few = few_names rules w e laws.blanks.base.named in
     trim_letter w e name (hear (w.nodes name)) (letter_at w.letters number)
     (λ p u. asks_known (w.nodes name) p u (laws.each name few).fronts (h name few)) t h
-trim_join rules w e (act.Cut number keep) laws h t =
+trim_join rules w e (Act.Cut number keep) laws h t =
     let name = actor w e in
     let few = few_names rules w e laws.blanks.base.named in
     trim_letter w e name (hear_cut (w.nodes name) keep) (letter_at w.letters number)

@@ -3,8 +3,7 @@ use Rattle.am_headline.proofs.RepairWords.{same_stamp, and_both, ◌≡◌, ◌�
 use Rattle.am_headline.proofs.RepairWords.{Stamp, Outcome, Entry, ℕ, Node, view, is_member, is_sequencer, has_log, is_unfinished, is_view, push_entry, World}
 use Rattle.am_headline.proofs.RepairWords.{Cause, Promises, invited, overtaken_by, told_result, Change, refreshes, settles, takes_report, admits, numbers}
 use Rattle.am_headline.proofs.RepairWords.{stores, begins_list, departs, promises, opens, looks, fetches, stores_view, queues, collects, takes, asks_to_join}
-use Rattle.am_headline.proofs.RepairWords.{asks_to_leave, closes, welcomed_none, view_pushed, leads_pushed, MayTell, leads, decided, Repair, IsLeaver}
-use Rattle.am_model.specs.declared.status.Status.TheVariants as status
+use Rattle.am_headline.proofs.RepairWords.{asks_to_leave, closes, welcomed_none, view_pushed, leads_pushed, MayTell, leads, decided, Repair, IsLeaver, Status}
 use Rattle.am_laws.specs.Changes.{Fetches, without_ballot, for_ballot}
 use Rattle.am_headline.proofs.Nodes.{CalmCause, acting, leading, not_open, Alike, alike_here, alike_refresh, alike_settle, view_alike, leads_alike}
 use Rattle.am_headline.proofs.{RepairLeading.no_ballot_begun, RepairLeading.looked_open, Following.overtaken_same}
@@ -72,7 +71,7 @@ fetched_other x s v e (without_ballot over by low) closed heard = let other = (a
 fetched_other x s v e (for_ballot b open_ from low) closed heard = absurd (not_open x b open_ closed)
 
 -- who departs tells no more
-gone_tells : (x : Node) → MayTell (record x { status = status.Departed }) → MayTell x
+gone_tells : (x : Node) → MayTell (record x { status = Status.Departed }) → MayTell x
 gone_tells x (leads t) = absurd (cc)
 gone_tells x (decided b number names is answer same) = decided b number names is answer same
 
@@ -82,30 +81,13 @@ left_change r w c o m x y calm settles h = left_as r m x y (alike_settle x) h
 left_change r w c o m x y calm (takes_report s v report brings may) h = absurd (leads_not r x h.left may.leads)
 left_change r w c o m x y calm (admits s v is leads_ fit) h = absurd (leads_not r x h.left leads_)
 left_change r w c o m x y calm (numbers e leads_ room why) h = absurd (leads_not r x h.left leads_)
-left_change r w c o m x y calm (stores s v base acc number e carries heard plain may) h = record {
-  who = h.who;
-  left = record {
-    gone = h.left.gone;
-    leaves = h.left.leaves;
-    log = h.left.log;
-    no_ballot = h.left.no_ballot;
-    tells = λ t mine. h.left.tells (tells_pushed x y e plain refl refl refl t) mine;
-  };
-  promise = h.promise;
-}
+left_change r w c o m x y calm (stores s v base acc number e carries heard plain may) h =
+    let tells : MayTell y → y.core.promise.by ≡ y.core.who → ⊥ = λ t mine. h.left.tells (tells_pushed x y e plain refl refl refl t) mine in
+    assumption (tells)
 left_change r w c o m x y calm (begins_list s v base join image is says may) h =
     absurd (let none = welcomed_none x s v base join image may in let log = h.left.log in cc)
-left_change r w c o m x y calm (departs s v number is heard leaves) h = record {
-  who = h.who;
-  left = record {
-    gone = h.left.gone;
-    leaves = h.left.leaves;
-    log = refl;
-    no_ballot = h.left.no_ballot;
-    tells = λ t mine. h.left.tells (gone_tells x t) mine;
-  };
-  promise = h.promise;
-}
+left_change r w c o m x y calm (departs s v number is heard leaves) h =
+    assumption (λ (t : MayTell (record x { status = Status.Departed })) (mine : x.core.promise.by ≡ x.core.who). h.left.tells (gone_tells x t) mine)
 left_change r w c o m x y calm (promises v low why) h =
     let same = overtaken_same v x.ballot h.left.no_ballot in
     raised r m x y refl refl refl (ap is_unfinished same ∙ h.left.no_ballot) (promised_other r w c x v calm why) h

@@ -11,7 +11,6 @@ use Rattle.am_base.specs.Names.{by_place}
 use Rattle.am_base.specs.declared.outcome.Outcome.TheVariants as said
 use Rattle.am_base.specs.declared.event.NodeEvent.{NodeEvent}
 use Rattle.am_base.proofs.Places.{by_place_all}
-use Rattle.am_group.specs.declared.event.Act.TheVariants as act
 use Rattle.am_model.specs.Node.{set_at}
 use Rattle.am_model.specs.Step.{step}
 use Rattle.am_play.specs.World.{does_event, gives_up, stops, comes_back}
@@ -24,7 +23,7 @@ lives_by lives place (said.Returned life) = set_at lives place life
 lives_by lives place _ = lives
 
 abbrev pub lives_after : (ℕ → ℕ) → ℕ → Act → Outcome → ℕ → ℕ
-lives_after lives place act.Return outcome = lives_by lives place outcome
+lives_after lives place Act.Return outcome = lives_by lives place outcome
 lives_after lives place a outcome = lives
 
 -- an event leaves a record of its place's life, and the lives that this tells
@@ -90,7 +89,7 @@ hears_tells w e a name hearing (Some letter) stays = split (is_for letter name)
     (λ f. rw f (record_tells w w e a said.NotAddressed stays refl refl))
 
 -- a return that isn't one
-unmoved : (w : World) (e : Event) (o : Outcome) → lives_by w.lives (place_of e.node) o ≡ w.lives → HasLife o → Tells w e act.Return (with_record w e o)
+unmoved : (w : World) (e : Event) (o : Outcome) → lives_by w.lives (place_of e.node) o ≡ w.lives → HasLife o → Tells w e Act.Return (with_record w e o)
 unfolding with_record
 unmoved w e o same life = record {
   new = record_of w e o [];
@@ -101,7 +100,7 @@ unmoved w e o same life = record {
   back = λ most. life;
 }
 
-back_tells : (w : World) (e : Event) (place : ℕ) → place ≡ place_of e.node → Tells w e act.Return (comes_back w e place)
+back_tells : (w : World) (e : Event) (place : ℕ) → place ≡ place_of e.node → Tells w e Act.Return (comes_back w e place)
 unfolding with_record
 back_tells w e place is = split (is_stopped w (current w place) || has_departed (w.nodes (current w place)).status)
     (λ t. rw t (split (w.lives place == 16)
@@ -117,12 +116,12 @@ back_tells w e place is = split (is_stopped w (current w place) || has_departed 
     (λ f. rw f (unmoved w e (said.Running (w.lives place)) refl tt))
 
 act_tells : (w : World) (e : Event) (name : ℕ) (a : Act) → place_of name ≡ place_of e.node → Tells w e a (acts_as w e name a)
-act_tells w e name (act.GiveUp other) is = gives_tells w e (act.GiveUp other) name other (record { same = λ o. refl; back = λ o. tt })
-act_tells w e name act.Stop is = stops_tells w e act.Stop name (record { same = λ o. refl; back = λ o. tt })
-act_tells w e name (act.Hear number) is = hears_tells w e (act.Hear number) name _ (letter_at w.letters number) (record { same = λ o. refl; back = λ o. tt })
-act_tells w e name (act.Cut number keep) is = hears_tells w e (act.Cut number keep) name _ (letter_at w.letters number)
+act_tells w e name (Act.GiveUp other) is = gives_tells w e (Act.GiveUp other) name other (record { same = λ o. refl; back = λ o. tt })
+act_tells w e name Act.Stop is = stops_tells w e Act.Stop name (record { same = λ o. refl; back = λ o. tt })
+act_tells w e name (Act.Hear number) is = hears_tells w e (Act.Hear number) name _ (letter_at w.letters number) (record { same = λ o. refl; back = λ o. tt })
+act_tells w e name (Act.Cut number keep) is = hears_tells w e (Act.Cut number keep) name _ (letter_at w.letters number)
     (record { same = λ o. refl; back = λ o. tt })
-act_tells w e name act.Return is = back_tells w e (place_of name) is
+act_tells w e name Act.Return is = back_tells w e (place_of name) is
 act_tells w e name a is = does_tells w e a name _ (record { same = λ o. refl; back = λ o. tt })
 
 pub tells : (w : World) (e : Event) → Tells w e e.act (happens w e)
@@ -169,7 +168,7 @@ returned_names w v place _ low lives = same_names w v lives
 
 after_names : (w v : World) (place : ℕ) (a : Act) (o : Outcome) → place < 16 → v.lives ≡ lives_after w.lives place a o
     → names_after (names_in w) place a o ≡ names_in v
-after_names w v place act.Return o low lives = returned_names w v place o low lives
+after_names w v place Act.Return o low lives = returned_names w v place o low lives
 after_names w v place _ o low lives = same_names w v lives
 
 -- ---- records

@@ -10,7 +10,6 @@ use Rattle.am_base.specs.declared.event.NodeEvent.{NodeEvent}
 use Rattle.am_base.specs.declared.event.NodeEvent.TheVariants as does
 use Rattle.am_packet.specs.Limits.{IsPacket}
 use Rattle.am_packet.specs.Spelling.{spelling}
-use Rattle.am_group.specs.declared.event.Act.TheVariants as act
 use Rattle.am_model.specs.Step.{step}
 use Rattle.am_meaning.proofs.Bytes.{spelling_is_heard, cut_is_heard}
 use Rattle.am_play.specs.World.{does_event}
@@ -129,13 +128,13 @@ abbrev HoldsPackets : World → Type 0
 HoldsPackets w = (number : ℕ) (letter : Letter) → letter_at w.letters number ≡ Some letter → IsPacket letter.packet
 
 acts_made : (w : World) (e : Event) (n name : ℕ) (a : Act) → HoldsPackets w → Made w n name (own_event w n a) (acts_as w e n a)
-acts_made w e n name (act.GiveUp other) holds = gives_by (is_stopped w n) (is_stopped w other) w e n name other
-acts_made w e n name act.Stop holds = stops_by (is_stopped w n) w e n name (w.stopped ++ n ∷ [])
-acts_made w e n name (act.Hear number) holds =
+acts_made w e n name (Act.GiveUp other) holds = gives_by (is_stopped w n) (is_stopped w other) w e n name other
+acts_made w e n name Act.Stop holds = stops_by (is_stopped w n) w e n name (w.stopped ++ n ∷ [])
+acts_made w e n name (Act.Hear number) holds =
     hears_made w e n name (hear (w.nodes n)) (λ bytes. bytes) (letter_at w.letters number) (λ l is. sym (spelling_is_heard (w.nodes n) l.packet (holds number l is)))
-acts_made w e n name (act.Cut number keep) holds =
+acts_made w e n name (Act.Cut number keep) holds =
     hears_made w e n name (hear_cut (w.nodes n) keep) (take keep) (letter_at w.letters number) (λ l is. sym (cut_is_heard (w.nodes n) l.packet keep (holds number l is)))
-acts_made w e n name act.Return holds =
+acts_made w e n name Act.Return holds =
     returns_by (not (is_stopped w (current w (place_of n)) || has_departed (w.nodes (current w (place_of n))).status)) (w.lives (place_of n) == 16) w e n name (place_of n)
 acts_made w e n name _ holds = does_made w e n name _
 

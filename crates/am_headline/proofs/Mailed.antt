@@ -1,7 +1,6 @@
 -- What a letter of a step tells: its base is that of the node after it, and a Welcome is a sequencer's.
 use Rattle.am_headline.proofs.RepairedWords.{◌≡◌, ℕ, ◌≤◌, true, List, refl, subst, Image, Stamp, Packet, Letter, Node, is_sequencer, Cause, Says, welcome, piece}
 use Rattle.am_headline.proofs.RepairedWords.{result, LetterSays}
-use Rattle.am_packet.specs.declared.packet.Packet.TheVariants as packet
 use Rattle.am_headline.proofs.Trims.{LetterLow}
 
 -- ---- what such a letter says
@@ -28,7 +27,7 @@ pub record Welcomes (n : Node) (u : Stamp) (base : ℕ) : Type 0 where
   pub base_ : base ≡ n.core.base
 
 abbrev IfWelcome : Node → Packet → Type 0
-IfWelcome n (packet.Welcome from u base join image) = Welcomes n u base
+IfWelcome n (Packet.Welcome from u base join image) = Welcomes n u base
 IfWelcome n _ = Unit {0}
 
 if_welcome : (m n : Node) (c : Cause) (to : List ℕ) (p : Packet) → Says m c n to p → IfWelcome n p
@@ -36,5 +35,5 @@ if_welcome m n c to p (welcome s l may) = record { leads = l; stamp = refl; base
 if_welcome m n c to p _ = tt
 
 pub says_welcome : (m n : Node) (c : Cause) (l : Letter) (from : ℕ) (u : Stamp) (base join : ℕ) (image : Image) → LetterSays m c n l
-    → l.packet ≡ packet.Welcome from u base join image → Welcomes n u base
+    → l.packet ≡ Packet.Welcome from u base join image → Welcomes n u base
 says_welcome m n c l from u base join image h is = subst (IfWelcome n) is (if_welcome m n c l.to l.packet h.says)

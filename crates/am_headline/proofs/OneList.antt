@@ -70,10 +70,7 @@ module _ (rules : Rules) (w : World) (s : Group) (place : ℕ) (old : Following 
   up name low member runs =
       let a = old.stands.each name low in
       let here = member_stays (w.nodes name).status member in
-      record {
-        log = a.log_ ∙ logged (w.nodes name).status member;
-        there = record { goes = a.stopped ∙ runs; stays = a.departed ∙ here };
-      }
+      assumption (a.log_ ∙ logged (w.nodes name).status member, a.stopped ∙ runs, a.departed ∙ here)
 
   sequencer : (is_member (w.nodes q).status ≡ true) × ((w.nodes q).core.promise ≡ view (w.nodes q)) × ((view (w.nodes q)).by ≡ (w.nodes q).core.who)
   sequencer =
@@ -89,11 +86,7 @@ module _ (rules : Rules) (w : World) (s : Group) (place : ℕ) (old : Following 
   leading own =
       let a = old.stands.each q few in
       let b = sequencer in
-      record {
-        up = up q few b.0 goes;
-        acts = a.promise ∙ b.1 ∙ sym viewed;
-        by = ap (λ u. u.by) viewed ∙ b.2 ∙ own;
-      }
+      assumption (up q few b.0 goes, a.promise ∙ b.1 ∙ sym viewed, ap (λ u. u.by) viewed ∙ b.2 ∙ own)
 
   pub chain_is : (w.nodes q).core.who ≡ q → chain_of s.views ≡ whole w (w.nodes q)
   chain_is own = sym ((kept.each q).leads (leading own)).chain ∙ (old.stands.each q few).list
@@ -138,10 +131,7 @@ module _ (rules : Rules) (w : World) (s : Group) (place : ℕ) (old : Following 
 
 -- nothing besides is kept
 nothing_kept : (rules : Rules) → KeptBy (λ w s. Unit {0}) rules
-nothing_kept rules = record {
-  by_step = λ x h. tt;
-  by_quiet = λ w v s t q h. tt;
-}
+nothing_kept rules = assumption
 
 pub repairable_is_one_list : RepairableIsOneList
 repairable_is_one_list rules events place may low lawful repair =

@@ -1,8 +1,7 @@
 -- While another name steps, a sequencer that runs still trimmed no more than its members have taken.
 use Rattle.am_headline.proofs.RepairedWords.{item_get, eqb-true, equals_itself, ◌≡◌, either, ℕ, ◌<◌, ◌≤◌, ◌==◌, true, false, List, sym, ap, ◌∙◌, subst, arith}
 use Rattle.am_headline.proofs.RepairedWords.{Stamp, Rules, Letter, Event, Group, Node, view, acts, is_sequencer, has_log, Step, is_stopped, run, heard_by}
-use Rattle.am_headline.proofs.RepairedWords.{split, and_both, Cause, actor, WasSentTo, IsCause, parts, plain, Rises}
-use Rattle.am_packet.specs.declared.packet.Packet.TheVariants as packet
+use Rattle.am_headline.proofs.RepairedWords.{split, and_both, Cause, actor, WasSentTo, IsCause, parts, plain, Rises, Packet}
 use Rattle.am_headline.proofs.Came.{Tells, by_piece, by_result, by_welcome, before as went_on, own, told_so}
 use Rattle.am_headline.proofs.Trims.{LetterLow, Knows, took, joins, halts, Settles, TrimStep, Sent, before, now, along, heard, used, who_v, who_n, stopped_v}
 use Rattle.am_headline.proofs.Trims.{letter_v, came_n}
@@ -40,21 +39,21 @@ module _ (rules : Rules) (events : List Event) (e : Event) (c : Cause) (step : S
     where
       by_kind : {d : Cause} → Tells d from u base → IsCause w i e.act d → h.low ≤ base
       by_kind (by_piece s_ v base_ number y) was =
-          let sent : WasSentTo w i e.act (packet.Piece s_ v base_ number y) = was in
+          let sent : WasSentTo w i e.act (Packet.Piece s_ v base_ number y) = was in
           let at = item_get w.letters (heard_by e.act) sent.letter sent.there in
-          let low : LetterLow q (view (w.nodes q)) h.low (packet.Piece s_ v base_ number y) = subst (LetterLow q (view (w.nodes q)) h.low) sent.is
+          let low : LetterLow q (view (w.nodes q)) h.low (Packet.Piece s_ v base_ number y) = subst (LetterLow q (view (w.nodes q)) h.low) sent.is
           (h.letters at.0 sent.letter at.1) in
           low mine same
       by_kind (by_result s_ base_ number v) was =
-          let sent : WasSentTo w i e.act (packet.Result s_ base_ number v) = was in
+          let sent : WasSentTo w i e.act (Packet.Result s_ base_ number v) = was in
           let at = item_get w.letters (heard_by e.act) sent.letter sent.there in
-          let low : LetterLow q (view (w.nodes q)) h.low (packet.Result s_ base_ number v) =
+          let low : LetterLow q (view (w.nodes q)) h.low (Packet.Result s_ base_ number v) =
           subst (LetterLow q (view (w.nodes q)) h.low) sent.is (h.letters at.0 sent.letter at.1) in
           low mine same
       by_kind (by_welcome s_ v base_ join image) was =
-          let sent : WasSentTo w i e.act (packet.Welcome s_ v base_ join image) = was in
+          let sent : WasSentTo w i e.act (Packet.Welcome s_ v base_ join image) = was in
           let at = item_get w.letters (heard_by e.act) sent.letter sent.there in
-          let low : LetterLow q (view (w.nodes q)) h.low (packet.Welcome s_ v base_ join image) =
+          let low : LetterLow q (view (w.nodes q)) h.low (Packet.Welcome s_ v base_ join image) =
           subst (LetterLow q (view (w.nodes q)) h.low) sent.is (h.letters at.0 sent.letter at.1) in
           low mine same
 
@@ -98,7 +97,7 @@ module _ (rules : Rules) (events : List Event) (e : Event) (c : Cause) (step : S
   -- a Welcome that began a list was sent to it
   heard_welcome : (b : Began c n) → Welcomed w i b.base
   heard_welcome b =
-      let sent : WasSentTo w i e.act (packet.Welcome b.from b.stamp b.base b.join b.image) = subst (IsCause w i e.act) b.says x.cause in
+      let sent : WasSentTo w i e.act (Packet.Welcome b.from b.stamp b.base b.join b.image) = subst (IsCause w i e.act) b.says x.cause in
       let at = item_get w.letters (heard_by e.act) sent.letter sent.there in
       record {
         number = at.0;

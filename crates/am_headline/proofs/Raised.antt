@@ -9,7 +9,6 @@ use Rattle.am_laws.proofs.Words.{Cause, hears, Balloting, with_more, without_one
 use Rattle.am_laws.proofs.Words.{begins_list, departs, promises, opens, looks, fetches, stores_view, asks_to_join, closes, logged, same_stamp, rests_refresh}
 use Rattle.am_laws.proofs.Words.{rests_at_end, settle_is, has_in, blank_joined}
 use Rattle.am_stands.proofs.Words.{either}
-use Rattle.am_packet.specs.declared.packet.Packet.TheVariants as packet
 use Rattle.am_laws.proofs.ViewSteps.{after_same, after_view}
 use Rattle.am_laws.proofs.ViewChanges.{numbers_plain, welcomed_none, leads_member, member_of}
 use Rattle.am_headline.specs.Resiliences.{IsRaised, BeginsRaised, FirstIsView, ListRaised, NodeRaised, PacketRaised}
@@ -206,7 +205,7 @@ change_raised rules heard m n (numbers e leads room why) h = acting_pushed rules
 change_raised rules heard m n (stores s v base acc number e by from plain may) h =
     same_raised rules (push_entry m e) n refl refl refl refl (acting_pushed rules m e plain (heard_acts m s v from) h)
 change_raised rules heard m n (begins_list s v base join image is o may) h =
-    let told = heard (packet.Welcome s v base join image) is in
+    let told = heard (Packet.Welcome s v base join image) is in
     record {
       list = record { begins = told.1; first = λ start. tt; entries = All-nil (IsRaised rules) };
       promised = λ t. told.0;
@@ -225,10 +224,10 @@ change_raised rules heard m n (opens least resilience by may) h = record {
 }
 change_raised rules heard m n (looks b verdict over why look is) h = look_raised rules m b verdict look (looked_listed rules m b why h) h
 change_raised rules heard m n (fetches s v base number e is by promise below from may) h =
-    let told = heard (packet.Piece s v base number e) is in
+    let told = heard (Packet.Piece s v base number e) is in
     pushed rules (trim_up_to m base) e told.0 (λ none. told.1 (omega arith)) (same_raised rules m (trim_up_to m base) refl refl refl refl h)
 change_raised rules heard m n (stores_view s base number v is by own other promise below may) h =
-    pushed rules (trim_up_to m base) (View v) (heard (packet.Result s base number v) is (omega arith)) (λ none. refl)
+    pushed rules (trim_up_to m base) (View v) (heard (Packet.Result s base number v) is (omega arith)) (λ none. refl)
     (same_raised rules m (trim_up_to m base) refl refl refl refl h)
 change_raised rules heard m n (asks_to_join is was) h = same_raised rules m n refl refl refl (sym (ap has_log was)) h
 change_raised rules heard m n (closes leads leaves alone room) h =

@@ -9,7 +9,6 @@ use Rattle.am_laws.proofs.Words.{all_item, equals_itself, along, EachKeeps, Step
 use Rattle.am_laws.proofs.Words.{settle_is, events_have_effects, logged}
 use Rattle.am_stands.proofs.Words.{either}
 use Rattle.am_base.specs.declared.outcome.Outcome.TheVariants as said
-use Rattle.am_packet.specs.declared.packet.Packet.TheVariants as packet
 use Rattle.am_laws.proofs.RunCounts.{was_heard, set_same}
 use Rattle.am_laws.proofs.Trims.{Owned}
 use Rattle.am_laws.proofs.TakenRuns.{AllOwned, each_owned, owned_start}
@@ -27,12 +26,12 @@ look_start m b v (finds_itself_out x) = refl
 look_start m b v _ = refl
 
 -- who serves a Fetch begins no list
-start_stays : {c : Cause} {o : Outcome} (s : ℕ) (v : Stamp) (stored : ℕ) → c ≡ hears (packet.Fetch s v stored) → (m n : Node) → Change c o m n
+start_stays : {c : Cause} {o : Outcome} (s : ℕ) (v : Stamp) (stored : ℕ) → c ≡ hears (Packet.Fetch s v stored) → (m n : Node) → Change c o m n
     → n.core.log.start ≡ m.core.log.start
 start_stays s v stored asked m n refreshes = ap (λ l. l.start) (rests_refresh m).log
 start_stays s v stored asked m n settles = ap (λ (x : Node). x.core.log.start) (settle_is m)
 start_stays s v stored asked m n (begins_list from u base join image is o may) =
-    absurd (let z : hears (packet.Welcome from u base join image) ≡ hears (packet.Fetch s v stored) = sym is ∙ asked in cc)
+    absurd (let z : hears (Packet.Welcome from u base join image) ≡ hears (Packet.Fetch s v stored) = sym is ∙ asked in cc)
 start_stays s v stored asked m n (looks b verdict over why look is) = look_start m b verdict look
 start_stays s v stored asked m n (closes leads leaves alone room) = ap (λ l. l.start) (rests_at_end (push_entry m (Leave m.core.who))).log
 start_stays s v stored asked m n _ = refl
@@ -42,7 +41,7 @@ record Tells (rules : Rules) (c : Cause) (m n : Node) : Type 0 where
   list : ListRaised rules n.core.log
   promised : has_log n.status ≡ true → 0 < n.core.promise.round
   kept : n.core.log.start ≤ n.core.base
-  fetched : (s : ℕ) (v : Stamp) (stored : ℕ) → c ≡ hears (packet.Fetch s v stored) → n.core.log.start ≤ m.core.base
+  fetched : (s : ℕ) (v : Stamp) (stored : ℕ) → c ≡ hears (Packet.Fetch s v stored) → n.core.log.start ≤ m.core.base
 
 first_is : (es : List Entry) (e : Entry) → FirstIsView es → slice_get es 0 ≡ Some e → is_view e ≡ true
 first_is [] e h is = absurd (cc)

@@ -4,7 +4,7 @@ use Rattle.am_headline.proofs.Words.{◌∙◌, subst, append-nil, arith, Rules,
 use Rattle.am_headline.proofs.Words.{with_node, gives_over, stops, Completes, IsLawful, Run, more, put_cases, put_other, Node, lowest_or_first, has_departed}
 use Rattle.am_headline.proofs.Words.{is_unfinished, World, is_stopped, NameStands, FrontsStand, Stands, LinesOpen, Grows, OnBranch, on_chain, left_out}
 use Rattle.am_headline.proofs.Words.{BranchesOk, ChainNamed, NodeKeeps, same_name, grows_names, node_grows, letters_stay, group_kept, move_on, grows_same}
-use Rattle.am_headline.proofs.Words.{moves_open, runs_open, others_keep, Following}
+use Rattle.am_headline.proofs.Words.{moves_open, runs_open, others_keep, Following, Decided, NotedStands}
 use Rattle.am_stands.specs.Letters.{LetterSays}
 use Rattle.am_chain.specs.Group as groups
 use Rattle.am_headline.proofs.Shapes.{Shaped, shaped_move, shaped_stop}
@@ -62,17 +62,10 @@ branches_marked s complete h = record {
 }
 
 stands_marked : (v : World) (s : Group) (complete : ℕ → Bool) → Stands v s → Stands v (marked s complete)
-stands_marked v s complete h = record {
-  each = h.each;
-  fronts = h.fronts;
-  views = record {
-    noted = λ k d at. (let n = h.views.noted k d at in
-        record { decided = n.decided; chose = n.chose; line = n.line; opens = n.opens });
-    decided = h.views.decided;
-    current = h.views.current;
-  };
-  group = h.group;
-}
+stands_marked v s complete h =
+    let noted : (k : ℕ) (d : Decided) → slice_get v.views k ≡ Some d → NotedStands v (marked s complete).views d
+    = λ k d at. assumption (h.views.noted k d at) in
+    assumption (noted)
 
 -- ---- while nodes and letters stay
 
@@ -111,13 +104,7 @@ pub marked_follows : (rules : Rules) (v : World) (t : Group) (complete : ℕ →
 marked_follows rules v t complete h may =
     let stands = stands_marked v t complete h.stands in
     let tells = tells_on v v t (marked t complete) (stays_same v) (grows_marked t complete) h.stands stands h.tells in
-    record {
-      group = record { run = h.run complete may; branches = branches_marked t complete h.branches; named = h.named };
-      stands = stands;
-      nodes = tells.nodes;
-      gone = tells.gone;
-      letters = tells.letters;
-    }
+    assumption (h.run complete may, branches_marked t complete h.branches, stands, tells)
 
 -- ---- after moves: a name that nobody is gives over, so that views can be marked
 

@@ -218,15 +218,10 @@ leads_pushed_ r m e f joins h =
 
 goes_pushed : (r : Repair) (taken : ℕ → ℕ) (q m : Node) (e : Entry) → Fronts m → IsJoinOrData (image_of m) e → Goes r taken q m
     → Goes r taken q (push_entry m e)
-goes_pushed r taken q m e f joins h = record {
-  own = h.own;
-  leads = leads_pushed_ r m e f joins h.leads;
-  trusts = record { base = h.trusts.base; reported = h.trusts.reported };
-  grows = grows_then q.core.log m.core.log (push_entry m e).core.log h.grows (grows_push m.core.log e);
-  up = h.up;
-  acc = h.acc;
-  kept = h.kept;
-}
+goes_pushed r taken q m e f joins h = assumption (
+  leads_pushed_ r m e f joins h.leads,
+  grows_then q.core.log m.core.log (push_entry m e).core.log h.grows (grows_push m.core.log e),
+)
 
 -- ---- each change
 

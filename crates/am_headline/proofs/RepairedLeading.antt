@@ -2,8 +2,7 @@
 use Rattle.am_headline.proofs.RepairedWords.{eqb-true, ◌≡◌, ◌⊎◌, inl, inr, either, ℕ, ◌<◌, ◌≤◌, ◌==◌, max, true, false, List, Some, slice_get, refl, sym, ap, ◌∙◌}
 use Rattle.am_headline.proofs.RepairedWords.{subst, arith, Join, Stamp, Rules, stamp_lt, fits, top_of, Letter, Event, Group, Node, image_of, view, acts, is_sequencer}
 use Rattle.am_headline.proofs.RepairedWords.{has_log, Step, World, is_stopped, run, split, Cause, hears, actor, WasSentTo, IsCause, all_get, not_above_itself, GoesSo}
-use Rattle.am_headline.proofs.RepairedWords.{run_goes, parts, plain, NoJoin, Rises, run_told, cause_taken}
-use Rattle.am_packet.specs.declared.packet.Packet.TheVariants as packet
+use Rattle.am_headline.proofs.RepairedWords.{run_goes, parts, plain, NoJoin, Rises, run_told, cause_taken, Packet}
 use Rattle.am_headline.proofs.Trims.{LetterLow, Knows, took, joins, halts, Settles, TrimStep, Sent, before, now}
 use Rattle.am_headline.proofs.{Asked.Asked, Asked.as_before, Asked.admitted_, Asked.asked_event, Began.rises_along, Fresh.Welcomed, Fresh.no_list}
 use Rattle.am_headline.proofs.{Fresh.no_welcome, Fresh.welcomed_in, Knew.Know, Knew.knew, Knew.anew, Knew.know, Mailed.says_low, Mailed.says_welcome}
@@ -14,10 +13,10 @@ use Rattle.am_headline.proofs.Trims as trims
 record JoinAsked (c : Cause) : Type 0 where
   from : ℕ
   stamp : Stamp
-  is : c ≡ hears (packet.JoinAsk from stamp)
+  is : c ≡ hears (Packet.JoinAsk from stamp)
 
 join_or_none : (c : Cause) → JoinAsked c ⊎ NoJoin c
-join_or_none (hears (packet.JoinAsk from stamp)) = inl (record { from = from; stamp = stamp; is = refl })
+join_or_none (hears (Packet.JoinAsk from stamp)) = inl (record { from = from; stamp = stamp; is = refl })
 join_or_none _ = inr (λ s v is. absurd (cc))
 
 -- ---- the step
@@ -103,7 +102,7 @@ module _ (rules : Rules) (events : List Event) (e : Event) (c : Cause) (step : S
       joined a = by_ask (subst (λ y. Asked m y a.from) (ap (λ (u : World). u.nodes i) (sym x.is) ∙ here)
           (asked_event w e a.from a.stamp sent.letter sent.there sent.is))
         where
-          sent : WasSentTo w i e.act (packet.JoinAsk a.from a.stamp)
+          sent : WasSentTo w i e.act (Packet.JoinAsk a.from a.stamp)
           sent = subst (IsCause w i e.act) a.is x.cause
 
           by_ask : Asked m n a.from → Knows v was.low n j

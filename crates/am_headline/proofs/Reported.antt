@@ -5,16 +5,15 @@ use Rattle.am_headline.proofs.RepairWords.{max, nat_lt, nat_le, false, if◌then
 use Rattle.am_headline.proofs.RepairWords.{takes_report, admits, notes, begins_list, looks, fetches, stores_view, takes, closes, Says, leave_ask, Looks}
 use Rattle.am_headline.proofs.RepairWords.{finds_no_room, decides, Cause, hears, by_request, BringsReport, with_send, Packet, Fronts, Blanked}
 use Rattle.am_laws.specs.Letters.{request, spread, ack, nack}
-use Rattle.am_packet.specs.declared.packet.Packet.TheVariants as packet
 use Rattle.am_headline.proofs.RepairLeading.{lead_others}
 
 -- what a letter reports of its sender was taken
 abbrev pub ReportTaken : (ℕ → Node) → Packet → Type 0
-ReportTaken nodes (packet.Request s v report req body) = report.taken ≤ (nodes s).core.taken
-ReportTaken nodes (packet.Spread s v report req body) = report.taken ≤ (nodes s).core.taken
-ReportTaken nodes (packet.Ack s v report) = report.taken ≤ (nodes s).core.taken
-ReportTaken nodes (packet.Nack s v report) = report.taken ≤ (nodes s).core.taken
-ReportTaken nodes (packet.LeaveAsk s v report) = report.taken ≤ (nodes s).core.taken
+ReportTaken nodes (Packet.Request s v report req body) = report.taken ≤ (nodes s).core.taken
+ReportTaken nodes (Packet.Spread s v report req body) = report.taken ≤ (nodes s).core.taken
+ReportTaken nodes (Packet.Ack s v report) = report.taken ≤ (nodes s).core.taken
+ReportTaken nodes (Packet.Nack s v report) = report.taken ≤ (nodes s).core.taken
+ReportTaken nodes (Packet.LeaveAsk s v report) = report.taken ≤ (nodes s).core.taken
 ReportTaken nodes _ = Unit {0}
 
 abbrev pub CauseTaken : (ℕ → Node) → Cause → Type 0

@@ -4,7 +4,6 @@ use Rattle.am_headline.proofs.RepairWords.{Packet, ◌≡◌, ℕ, ◌<◌, ◌�
 use Rattle.am_headline.proofs.RepairWords.{World, start, with_step, run, heard_by, Cause, hears, LetterSays, Changes, no_change, changed, actor}
 use Rattle.am_headline.proofs.RepairWords.{WasSentTo, IsCause, all_item, EachKeeps, StepsKeep, SameParts, law_keeps, runs_keep, Along, along_changes, AllOwned}
 use Rattle.am_headline.proofs.RepairWords.{heard_used, each_along, each_owned, owned_start, KnownIsTaken}
-use Rattle.am_packet.specs.declared.packet.Packet.TheVariants as packet
 use Rattle.am_headline.proofs.Reported.{ReportTaken, CauseTaken, Truly, Rises, truly_change, rises_change, says_taken}
 
 -- ---- a step
@@ -33,11 +32,11 @@ pub record AllTold (rules : Rules) (w : World) : Type 0 where
   pub letters : All (LetterTaken w.nodes) w.letters
 
 more_taken : (old new : ℕ → Node) → ((name : ℕ) → (old name).core.taken ≤ (new name).core.taken) → (p : Packet) → ReportTaken old p → ReportTaken new p
-more_taken old new up (packet.Request s v report req body) h = let a = up s in omega arith
-more_taken old new up (packet.Spread s v report req body) h = let a = up s in omega arith
-more_taken old new up (packet.Ack s v report) h = let a = up s in omega arith
-more_taken old new up (packet.Nack s v report) h = let a = up s in omega arith
-more_taken old new up (packet.LeaveAsk s v report) h = let a = up s in omega arith
+more_taken old new up (Packet.Request s v report req body) h = let a = up s in omega arith
+more_taken old new up (Packet.Spread s v report req body) h = let a = up s in omega arith
+more_taken old new up (Packet.Ack s v report) h = let a = up s in omega arith
+more_taken old new up (Packet.Nack s v report) h = let a = up s in omega arith
+more_taken old new up (Packet.LeaveAsk s v report) h = let a = up s in omega arith
 more_taken old new up _ h = tt
 
 more_truly : (old new : ℕ → Node) → ((name : ℕ) → (old name).core.taken ≤ (new name).core.taken) → (m : Node) → Truly old m → Truly new m

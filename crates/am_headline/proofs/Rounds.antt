@@ -1,8 +1,7 @@
 -- What a round brings about, and what is kept by all of its events.
 use Rattle.am_headline.proofs.RepairWords.{◌≡◌, inl, inr, ℕ, ◌+◌, ◌≤◌, ◌==◌, min, true, false, length, refl, ap, ◌∙◌, arith, length-append, cases_lt, Rules, has}
 use Rattle.am_headline.proofs.RepairWords.{Event, top, Settling, event_at, running, ticks, hearings, waves, round, World, happens, happen, happen_begins, Repair}
-use Rattle.am_headline.proofs.RepairWords.{IsOurs, our_ticks, hears_}
-use Rattle.am_group.specs.declared.event.Act.TheVariants as act
+use Rattle.am_headline.proofs.RepairWords.{IsOurs, our_ticks, hears_, Act}
 use Rattle.am_headline.proofs.{Schedules.acts_keep, Schedules.wave_keeps, Fine.fine_goes, Fine.grow_goes, Ticking.ticks_poll}
 use Rattle.am_headline.proofs.{Skipping.ticks_wait, FirstWave.first_wave_asks, NextWaves.second_wave_serves, ThirdWave.HasStored, ThirdWave.third_wave_stores}
 
@@ -43,10 +42,10 @@ pub record Stable (r : Repair) (P : World → Type 0) : Type 0 where
   pub keeps : (w : World) (e : Event) → IsOurs r e → P w → P (happens w e)
 
 pub ticks_keep : (r : Repair) (P : World → Type 0) → Stable r P → (w : World) → P w → P (after_ticks w)
-ticks_keep r P s w h = acts_keep P act.Tick (λ p u k. s.keeps u (event_at p act.Tick) (our_ticks p) k) (running w) w h
+ticks_keep r P s w h = acts_keep P Act.Tick (λ p u k. s.keeps u (event_at p Act.Tick) (our_ticks p) k) (running w) w h
 
 pub wave_keep : (r : Repair) (P : World → Type 0) → Stable r P → (after : ℕ) → r.sent ≤ after → (w : World) → P w → P (after_wave after w)
-wave_keep r P s after low w h = wave_keeps P w after (λ p k u late x. s.keeps u (event_at p (act.Hear k)) (hears_ p k (omega arith)) x) h
+wave_keep r P s after low w h = wave_keeps P w after (λ p k u late x. s.keeps u (event_at p (Act.Hear k)) (hears_ p k (omega arith)) x) h
 
 long_ticks : (w : World) → length w.letters ≤ length (after_ticks w).letters
 long_ticks w = let more = (happen_begins w (ticks w)).letters in let long = ap length more.1 ∙ length-append w.letters more.0 in omega arith

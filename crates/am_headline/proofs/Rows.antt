@@ -7,7 +7,6 @@ use Rattle.am_headline.proofs.Words.{hears_sequencer, hear_row, is_view, with_no
 use Rattle.am_headline.proofs.Words.{refresh_at_end, push_fetched, catch_up, decide_anew, fetches_from, piece_promised, piece_for, piece_row, result_row, hear}
 use Rattle.am_headline.proofs.Words.{split, and_both, rests_at_end, or_first}
 use Rattle.am_base.specs.declared.outcome.Outcome.TheVariants as said
-use Rattle.am_packet.specs.declared.packet.Packet.TheVariants as packet
 use Rattle.am_headline.proofs.Ways.{decide_alike}
 use Rattle.std.proofs.lemmas.Bool.{not-false}
 
@@ -86,7 +85,7 @@ pub record InView (m : Node) (s : ℕ) (v : Stamp) (e : Entry) : Type 0 where
   pub plain : is_view e ≡ false
 
 pub bcast_does : (m : Node) (s : ℕ) (v : Stamp) (base acc number : ℕ) (e : Entry)
-    → Does m (hear_row m (packet.Bcast s v base acc number e)).node base number e (InView m s v e)
+    → Does m (hear_row m (Packet.Bcast s v base acc number e)).node base number e (InView m s v e)
 unfolding hear_row bcast_row
 bcast_does m s v base acc number e = either m base number e _ (hears_sequencer m s v) _ (quiet m said.Elsewhere)
     (λ t. with_why m _ base number e (is_view e ≡ false) _ (λ plain. record { heard = t; plain = plain })
@@ -99,7 +98,7 @@ pub data OrderDoes (m x : Node) (s : ℕ) (v : Stamp) (base number from req : �
   one : (body : List ℕ) → InView m s v (Data from req body) → Stores m x base number (Data from req body) → OrderDoes m x s v base number from req
 
 pub order_does : (m : Node) (s : ℕ) (v : Stamp) (base acc number from req : ℕ)
-    → OrderDoes m (hear_row m (packet.Order s v base acc number from req)).node s v base number from req
+    → OrderDoes m (hear_row m (Packet.Order s v base acc number from req)).node s v base number from req
 unfolding hear_row order_row
 order_does m s v base acc number from req = split (hears_sequencer m s v)
     (λ t. rw t (by_body t (body_of (with_noted m base acc) from req)))
@@ -164,7 +163,7 @@ pub record Piecewise (m : Node) (s : ℕ) (v : Stamp) : Type 0 where
   pub how : Fetched m s v
 
 pub piece_does : (m : Node) (s : ℕ) (v : Stamp) (base number : ℕ) (e : Entry)
-    → Does m (hear_row m (packet.Piece s v base number e)).node base number e (Piecewise m s v)
+    → Does m (hear_row m (Packet.Piece s v base number e)).node base number e (Piecewise m s v)
 unfolding hear_row piece_row
 piece_does m s v base number e = either m base number e _ (hears_member m s) _ (quiet m said.Elsewhere)
     (λ t. either m base number e _ (not (stamp_eq v m.core.promise) || stamp_eq (view m) v) (quiet m said.Elsewhere) _ (λ u. nothing refl (omega arith))
@@ -195,7 +194,7 @@ pub record Viewing (m : Node) (s : ℕ) (v : Stamp) : Type 0 where
   pub by : (v.by == s) ≡ true
 
 pub result_does : (m : Node) (s : ℕ) (base number : ℕ) (v : GroupView)
-    → Does m (hear_row m (packet.Result s base number v)).node base number (View v) (Viewing m s v.stamp)
+    → Does m (hear_row m (Packet.Result s base number v)).node base number (View v) (Viewing m s v.stamp)
 unfolding hear_row result_row
 result_does m s base number v =
     let e = View v in

@@ -4,7 +4,6 @@ use Rattle.am_headline.proofs.RepairWords.{Report, Entry, Data, has, Log, entry_
 use Rattle.am_headline.proofs.RepairWords.{next_stamp, World, Cause, MayInvite, has_begun, goes_on, MayTell, Says, bcast, order, welcome, leave_ask, invite}
 use Rattle.am_headline.proofs.RepairWords.{vote, result, Repair, ReportIs, SequencerHas, IsCalm}
 use Rattle.am_laws.specs.Letters.{request, spread, ack, nack, hand_over}
-use Rattle.am_packet.specs.declared.packet.Packet.TheVariants as packet
 use Rattle.am_laws.specs.Letters as letters
 use Rattle.am_headline.proofs.{RepairLists.LogGrows, RepairLists.entry_stays, Nodes.CalmCause, Nodes.not_open}
 
@@ -29,13 +28,13 @@ stands_stays : (r : Repair) (w v : World) (number : ℕ) (e : Entry) → Grow r 
 stands_stays r w v number e g h = entry_stays (w.nodes r.by).core.log (v.nodes r.by).core.log number e g.log h
 
 pub calm_stays : (r : Repair) (w v : World) (p : Packet) → Grow r w v → IsCalm r w p → IsCalm r v p
-calm_stays r w v (packet.Request s v_ report req body) g h = report_stays r w v s report g h
-calm_stays r w v (packet.Spread s v_ report req body) g h = report_stays r w v s report g h
-calm_stays r w v (packet.Bcast s v_ base acc number e) g h = stands_stays r w v number e g h
-calm_stays r w v (packet.Order s v_ base acc number from req) g h = (h.0, stands_stays r w v number (Data from req h.0) g h.1)
-calm_stays r w v (packet.Ack s v_ report) g h = report_stays r w v s report g h
-calm_stays r w v (packet.Nack s v_ report) g h = report_stays r w v s report g h
-calm_stays r w v (packet.LeaveAsk s v_ report) g h = (h.0, report_stays r w v s report g h.1)
+calm_stays r w v (Packet.Request s v_ report req body) g h = report_stays r w v s report g h
+calm_stays r w v (Packet.Spread s v_ report req body) g h = report_stays r w v s report g h
+calm_stays r w v (Packet.Bcast s v_ base acc number e) g h = stands_stays r w v number e g h
+calm_stays r w v (Packet.Order s v_ base acc number from req) g h = (h.0, stands_stays r w v number (Data from req h.0) g h.1)
+calm_stays r w v (Packet.Ack s v_ report) g h = report_stays r w v s report g h
+calm_stays r w v (Packet.Nack s v_ report) g h = report_stays r w v s report g h
+calm_stays r w v (Packet.LeaveAsk s v_ report) g h = (h.0, report_stays r w v s report g h.1)
 calm_stays r w v _ g h = h
 
 -- ---- what is sent is so

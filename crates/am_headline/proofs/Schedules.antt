@@ -4,7 +4,6 @@ use Rattle.am_headline.proofs.RepairWords.{refl, sym, ap, ◌∙◌, subst, arit
 use Rattle.am_headline.proofs.RepairWords.{Act, is_for, letter_at, World, current, is_stopped, happens, happen, event_at, running, hearings_of, hearings_from}
 use Rattle.am_headline.proofs.RepairWords.{hearings, split, runs_go_on}
 use Rattle.std.proofs.lemmas.List.{length-drop}
-use Rattle.am_group.specs.declared.event.Act.TheVariants as act
 
 -- ---- an act of some places
 
@@ -69,15 +68,15 @@ is_hearing w l place low runs meant = any_filter (λ p. is_for l (current w p)) 
 
 -- what each hearing keeps
 pub from_keeps : (P : World → Type 0) (w : World) (number : ℕ) (ls : List Letter) (u : World)
-    → ((p k : ℕ) (u : World) → number ≤ k → P u → P (happens u (event_at p (act.Hear k)))) → P u → P (happen u (hearings_from w number ls))
+    → ((p k : ℕ) (u : World) → number ≤ k → P u → P (happens u (event_at p (Act.Hear k)))) → P u → P (happen u (hearings_from w number ls))
 unfolding hearings_from happen
 from_keeps P w number [] u keep h = h
 from_keeps P w number (l ∷ ls) u keep h =
-    let first = acts_keep P (act.Hear number) (λ p x. keep p number x (omega arith)) (filter (λ place. is_for l (current w place)) (running w)) u h in
+    let first = acts_keep P (Act.Hear number) (λ p x. keep p number x (omega arith)) (filter (λ place. is_for l (current w place)) (running w)) u h in
     let rest = from_keeps P w (number + 1) ls (happen u (hearings_of w number l)) (λ p k x low. keep p k x (omega arith)) first in
     subst P (sym (runs_go_on u (hearings_of w number l) (hearings_from w (number + 1) ls))) rest
 
-pub wave_keeps : (P : World → Type 0) (w : World) (after : ℕ) → ((p k : ℕ) (u : World) → after < k → P u → P (happens u (event_at p (act.Hear k)))) → P w
+pub wave_keeps : (P : World → Type 0) (w : World) (after : ℕ) → ((p k : ℕ) (u : World) → after < k → P u → P (happens u (event_at p (Act.Hear k)))) → P w
     → P (happen w (hearings w after))
 wave_keeps P w after keep h = from_keeps P w (after + 1) (drop after w.letters) w (λ p k u low. keep p k u (omega arith)) h
 
@@ -123,9 +122,9 @@ wave_walks P w after low step h =
 
 -- what comes about where one name hears one letter, and stays
 pub record WaveHits (P Q : World → Type 0) (after last k place : ℕ) : Type 0 where
-  pub keeps : (p n : ℕ) (u : World) → after < n → n ≤ last → P u → P (happens u (event_at p (act.Hear n)))
-  pub hits : (u : World) → P u → Q (happens u (event_at place (act.Hear k)))
-  pub stays : (p n : ℕ) (u : World) → after < n → n ≤ last → P u → Q u → Q (happens u (event_at p (act.Hear n)))
+  pub keeps : (p n : ℕ) (u : World) → after < n → n ≤ last → P u → P (happens u (event_at p (Act.Hear n)))
+  pub hits : (u : World) → P u → Q (happens u (event_at place (Act.Hear k)))
+  pub stays : (p n : ℕ) (u : World) → after < n → n ≤ last → P u → Q u → Q (happens u (event_at p (Act.Hear n)))
 
 -- a letter that is sent, and whoever hears it
 pub record IsHeard (w : World) (after k place : ℕ) : Type 0 where
@@ -150,9 +149,9 @@ wave_hits P Q w after k place is h first =
     step n l u late_ there x = split (n == k)
         (λ t. let same : n ≡ k = grind (arith, nat_tests) in
         let letter : is.letter ≡ l = (let e = sym (ap (letter_at w.letters) same) ∙ there in let d = is.there in cc) in
-        let one = acts_hit P Q (act.Hear n) place (record {
+        let one = acts_hit P Q (Act.Hear n) place (record {
           keeps = λ p y z. h.keeps p n y late_ (letter_within w.letters n l there) z;
-          hits = λ y z. subst (λ i. Q (happens y (event_at place (act.Hear i)))) (sym same) (h.hits y z);
+          hits = λ y z. subst (λ i. Q (happens y (event_at place (Act.Hear i)))) (sym same) (h.hits y z);
           stays = λ p y z q. h.stays p n y late_ (letter_within w.letters n l there) z q;
         })
         (filter (λ p. is_for l (current w p)) (running w)) u (is_hearing w l place is.low is.runs
@@ -160,7 +159,7 @@ wave_hits P Q w after k place is h first =
         (one.0, λ low. one.1))
         (λ f. let differs : n ≡ k → ⊥ = λ same. (let z : ⊥ = grind (arith, nat_tests) in z) in
         let places = filter (λ p. is_for l (current w p)) (running w) in (
-          acts_keep P (act.Hear n) (λ p y z. h.keeps p n y late_ (letter_within w.letters n l there) z) places u x.0,
-          λ low. (acts_stay P Q (act.Hear n) (λ p y z. h.keeps p n y late_ (letter_within w.letters n l there) z)
+          acts_keep P (Act.Hear n) (λ p y z. h.keeps p n y late_ (letter_within w.letters n l there) z) places u x.0,
+          λ low. (acts_stay P Q (Act.Hear n) (λ p y z. h.keeps p n y late_ (letter_within w.letters n l there) z)
               (λ p y z q. h.stays p n y late_ (letter_within w.letters n l there) z q) places u x.0 (x.1 (omega arith))).1,
         ))

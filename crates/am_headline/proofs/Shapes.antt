@@ -61,13 +61,7 @@ move_goes s t (fetches i f list e there ballot served shown next) k = now_up s t
     (up_as (s.node i) (longer (s.node i) e) refl refl refl there)
 move_goes s t (decides i v may) k = now_up s t i _ refl (up_as (s.node i) _ refl refl refl may.up)
 move_goes s t (gives_over i) k = list_stays s t i _ refl refl
-move_goes s t (welcomes j stamp base join may) k = now_up s t j _ refl (record {
-  log = refl;
-  there = record {
-    goes = may.there.goes;
-    stays = may.there.stays;
-  };
-})
+move_goes s t (welcomes j stamp base join may) k = now_up s t j _ refl (assumption)
 move_goes s t (asks i there unballoted) k = list_stays s t i _ refl refl
 move_goes s t (departs i before may) k = list_stays s t i _ refl refl
 move_goes s t (closes i n leads leaving alone may) k = closed_line s t i (record (longer (s.node i) (Leave i)) { departed = true }) k leads refl refl refl

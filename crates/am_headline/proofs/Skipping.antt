@@ -1,6 +1,6 @@
 -- What ticks send is no next entry of a member that has less than the sequencer's list began with.
 use Rattle.am_headline.proofs.RepairWords.{eqb-true, not-false, ◌≡◌, ◌⊎◌, inl, either, ℕ, ◌+◌, ◌<◌, ◌==◌, not, nat_le, Bool, true, false, if◌then◌else◌, List}
-use Rattle.am_headline.proofs.RepairWords.{[], length, Option, Some, None, slice_get, refl, sym, ap, ◌∙◌, subst, arith, All, All-nil, Stamp, Data, Outcome}
+use Rattle.am_headline.proofs.RepairWords.{[], length, Option, Some, None, slice_get, refl, sym, ap, ◌∙◌, subst, arith, All, All-nil, Stamp, Data, Outcome, Act}
 use Rattle.am_headline.proofs.RepairWords.{Rules, has, entry_at, Packet, Letter, letter_at, OwnSend, Status, Node, top, image_of, view, acts, others}
 use Rattle.am_headline.proofs.RepairWords.{only_name, is_sequencer, has_room, waiting, has_departed, Plan, quiet, telling, bcast_of, ack_of, fetch_of}
 use Rattle.am_headline.proofs.RepairWords.{request_of, spread_of, join_ask_of, accept_of, result_of, tells_accepted, with_accept, finish, step, row}
@@ -10,8 +10,6 @@ use Rattle.am_headline.proofs.RepairWords.{hears, actor, IsCause, all_letter, al
 use Rattle.am_model.specs.Emit.{leave_ask_of}
 use Rattle.am_base.specs.declared.event.NodeEvent.TheVariants as does
 use Rattle.am_base.specs.declared.outcome.Outcome.TheVariants as said
-use Rattle.am_group.specs.declared.event.Act.TheVariants as act
-use Rattle.am_model.specs.declared.status.Status.TheVariants as status
 use Rattle.am_headline.proofs.{Schedules.letter_within, Schedules.acts_keep, Nodes.acting, Nodes.leading, Nodes.leads_not, Following.Skips}
 use Rattle.am_headline.proofs.{Leaving.leads_not as leads_not_left, Departed.departed_ticks, Ticks.without_ballot, Ticks.goes_not, Steps.letter_either, Steps.ours_skip, Fine.Fine, Fine.fine_goes}
 
@@ -83,8 +81,8 @@ acting_skips high m stays far =
     (λ u. skips_telling high m said.Ticked (only_name (view m).by) ack_of (λ n. tt)))))
 
 row_skips : (high : ℕ) (m : Node) (s : Status) → is_unfinished m.ballot ≡ false → (is_sequencer m ≡ true → m.leaving ≡ false) → (is_sequencer m ≡ true → high < top m) → PlanSkips high (tick_by m s)
-row_skips high m status.Asking none stays far = skips_telling high m said.Ticked (everywhere_else m) join_ask_of (λ n. tt)
-row_skips high m status.Member none stays far = subst (PlanSkips high) (sym (without_ballot m m.ballot none)) (acting_skips high m stays far)
+row_skips high m Status.Asking none stays far = skips_telling high m said.Ticked (everywhere_else m) join_ask_of (λ n. tt)
+row_skips high m Status.Member none stays far = subst (PlanSkips high) (sym (without_ballot m m.ballot none)) (acting_skips high m stays far)
 row_skips high m _ none stays far = skips_quiet high m said.Idle
 
 pub tick_skips : (high : ℕ) (m : Node) → is_unfinished m.ballot ≡ false → (is_sequencer m ≡ true → m.leaving ≡ false) → (is_sequencer m ≡ true → high < top m) → All (SkipsLetter high) (step m does.Tick).letters
@@ -97,11 +95,11 @@ tick_skips high m none stays far = finish_skips high m (tick_by m m.status) (row
 abbrev pub AllSkip : ℕ → ℕ → World → Type 0
 AllSkip high after w = (k : ℕ) (l : Letter) → after < k → letter_at w.letters k ≡ Some l → SkipsLetter high l
 
-tick_either : (w : World) (place k : ℕ) (l : Letter) → (let e = event_at place act.Tick in letter_at (happens w e).letters k ≡ Some l
+tick_either : (w : World) (place k : ℕ) (l : Letter) → (let e = event_at place Act.Tick in letter_at (happens w e).letters k ≡ Some l
     → (letter_at w.letters k ≡ Some l) ⊎ ((is_stopped w (actor w e) ≡ false) × ((j : ℕ) × (slice_get (step (w.nodes (actor w e)) does.Tick).letters j ≡ Some l))))
 unfolding happens with_record with_step
 tick_either w place k l there =
-    let e = event_at place act.Tick in
+    let e = event_at place Act.Tick in
     split (is_stopped w (actor w e)) (λ t. inl (rw t at there)) (λ f. either
     (letter_either w.letters (step (w.nodes (actor w e)) does.Tick).letters k l (rw f at there))
     (λ old. inl old)
@@ -134,14 +132,14 @@ pub record Waits (rules : Rules) (r : Repair) (i after high : ℕ) (u : World) :
   pub stored : top (u.nodes i) ≡ high
   pub skips : AllSkip high after u
 
-tick_cause : (u : World) (name high : ℕ) (c : Cause) → IsCause u name act.Tick c → Skips high c
+tick_cause : (u : World) (name high : ℕ) (c : Cause) → IsCause u name Act.Tick c → Skips high c
 tick_cause u name high (hears p) is = absurd (let x = is.there in cc)
 tick_cause u name high _ is = tt
 
 tick_waits : (rules : Rules) (r : Repair) (i after high : ℕ) (u : World) (place : ℕ) → has r.members i ≡ true → (i == r.by) ≡ false → high < r.high
-    → Waits rules r i after high u → Waits rules r i after high (happens u (event_at place act.Tick))
+    → Waits rules r i after high u → Waits rules r i after high (happens u (event_at place Act.Tick))
 tick_waits rules r i after high u place there other low h =
-    let e = event_at place act.Tick in
+    let e = event_at place Act.Tick in
     record {
       fine = fine_goes rules r u e (our_ticks place) h.fine;
       stored = ours_skip r u e i (our_ticks place) h.fine.calm there other (tick_cause u _ (top (u.nodes i))) ∙ h.stored;
@@ -153,6 +151,6 @@ tick_waits rules r i after high u place there other low h =
 pub ticks_wait : (rules : Rules) (r : Repair) (i : ℕ) (w : World) → Fine rules r w → has r.members i ≡ true → (i == r.by) ≡ false
     → top (w.nodes i) < r.high → Waits rules r i (length w.letters) (top (w.nodes i)) (happen w (ticks w))
 ticks_wait rules r i w h there other low =
-    acts_keep (Waits rules r i (length w.letters) (top (w.nodes i))) act.Tick
+    acts_keep (Waits rules r i (length w.letters) (top (w.nodes i))) Act.Tick
     (λ p u k. tick_waits rules r i (length w.letters) (top (w.nodes i)) u p there other low k) (running w) w
     (record { fine = h; stored = refl; skips = λ k l late at. absurd (let within = letter_within w.letters k l at in omega arith) })

@@ -14,7 +14,6 @@ use Rattle.std.proofs.lemmas.Grind.{flat_map-append}
 use Rattle.am_base.specs.declared.outcome.Outcome.TheVariants as said
 use Rattle.am_base.specs.declared.event.NodeEvent.TheVariants as does
 use Rattle.am_state.specs.Sends as own
-use Rattle.am_group.specs.declared.event.Act.TheVariants as act
 use Rattle.am_laws.specs.Events as event
 use Rattle.am_laws.specs.Effects.{WasQueued}
 use Rattle.am_laws.specs.Numbers.{NodeNumbers}
@@ -65,13 +64,13 @@ has_entry P log (suc before) e h is =
 
 -- ---- acts
 
-send_act : (w : World) (a : Act) (body : List ℕ) → IsCall w a (does.Send body) → a ≡ act.Send body
+send_act : (w : World) (a : Act) (body : List ℕ) → IsCall w a (does.Send body) → a ≡ Act.Send body
 send_act w a body (event.send x) = refl
 
-done_act : (w : World) (a : Act) (req : ℕ) → IsCall w a (does.Done req) → a ≡ act.Done req
+done_act : (w : World) (a : Act) (req : ℕ) → IsCall w a (does.Done req) → a ≡ Act.Done req
 done_act w a req (event.done x) = refl
 
-take_act : (w : World) (a : Act) → IsCall w a does.Take → a ≡ act.Take
+take_act : (w : World) (a : Act) → IsCall w a does.Take → a ≡ Act.Take
 take_act w a event.take = refl
 
 -- ---- how many sends a node has queued

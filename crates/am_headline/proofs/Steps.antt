@@ -4,7 +4,7 @@ use Rattle.am_headline.proofs.RepairWords.{slice_get, refl, sym, ap, ◌∙◌, 
 use Rattle.am_headline.proofs.RepairWords.{Node, top, is_sequencer, has_departed, is_unfinished, next_stamp, Step, World, with_record, with_step, happens}
 use Rattle.am_headline.proofs.RepairWords.{split, Cause, LetterSays, Effect, actor, IsCause, all_get, few_names, heard_names, Along, AllOwned, heard_used}
 use Rattle.am_headline.proofs.RepairWords.{each_along, Repair, Leads, FollowsView, IsApart, IsLeaver, IsElsewhere, IsCalm, Calm, IsOurs, is_stopped, None}
-use Rattle.am_headline.proofs.RepairWords.{MayTell, leads, decided, Ballot}
+use Rattle.am_headline.proofs.RepairWords.{MayTell, leads, decided, Ballot, ◌<◌}
 use Rattle.am_headline.proofs.Going.{OurStep, Ours, idles, steps, ours, lead_changes, follow_changes, apart_changes, left_changes, sender_is, member_there}
 use Rattle.am_headline.proofs.{Nodes.CalmCause, Nodes.acting, Nodes.leading, Nodes.leads_not, RepairLeading.Goes, RepairLeading.told_taken, RepairLeading.Trusts}
 use Rattle.am_headline.proofs.{RepairLeading.TellsTaken, RepairLists.LogGrows, RepairLists.grows_same, Following.Skips, Saying.Grow, Saying.calm_stays, Saying.Sends}
@@ -42,13 +42,11 @@ same_grows r w v same = subst (λ nodes. Grow r w (record v { nodes = nodes })) 
 
 calm_unchanged : (r : Repair) (w : World) (e : Event) (o : Outcome) → Calm r w → Calm r (with_record w e o)
 unfolding with_record
-calm_unchanged r w e o h = record {
-  nodes = h.nodes;
-  current_ = h.current_;
-  runs = h.runs;
-  apart = h.apart;
-  letters = λ number l late there. calm_stays r w (with_record w e o) l.packet (same_grows r w (with_record w e o) refl) (h.letters number l late there);
-}
+calm_unchanged r w e o h =
+    let v = with_record w e o in
+    let letters : (number : ℕ) (l : Letter) → r.sent < number → letter_at v.letters number ≡ Some l → IsCalm r v l.packet
+    = λ number l late there. calm_stays r w v l.packet (same_grows r w v refl) (h.letters number l late there) in
+    assumption (letters)
 
 -- ---- a step
 
@@ -64,21 +62,15 @@ record StepKeeps (r : Repair) (w v : World) (name : ℕ) (s : Step) : Type 0 whe
 calm_stepped : (r : Repair) (w : World) (e : Event) (name : ℕ) (s : Step) → Calm r w → StepKeeps r w (with_step w e name s) name s
     → Calm r (with_step w e name s)
 unfolding with_step
-calm_stepped r w e name s h k = record {
-  nodes = record {
-    own = h.own;
-    listed = h.listed;
-    who = λ other. split (other == name) (λ t. rw t (k.who ∙ sym (eqb-true other name t))) (λ f. rw f (h.who other));
-    leads = k.leads;
-    follows = k.follows;
-  };
-  current_ = h.current_;
-  runs = h.runs;
-  apart = k.apart;
-  letters = λ number l late there. either (letter_either w.letters s.letters number l there)
-      (λ old. calm_stays r w (with_step w e name s) l.packet k.grow (h.letters number l late old))
-      (λ new. k.letters new.0 l new.1);
-}
+calm_stepped r w e name s h k =
+    let v = with_step w e name s in
+    let who : (other : ℕ) → (v.nodes other).core.who ≡ other
+    = λ other. split (other == name) (λ t. rw t (k.who ∙ sym (eqb-true other name t))) (λ f. rw f (h.who other)) in
+    let letters : (number : ℕ) (l : Letter) → r.sent < number → letter_at v.letters number ≡ Some l → IsCalm r v l.packet = λ number l late there.
+    either (letter_either w.letters s.letters number l there)
+    (λ old. calm_stays r w v l.packet k.grow (h.letters number l late old))
+    (λ new. k.letters new.0 l new.1) in
+    assumption (k, who, letters)
 
 -- the letters of a step
 sent_calm : (r : Repair) (w v : World) (m n : Node) (c : Cause) (letters : List Letter) → CalmCause r w c → Sends r v m n → All (LetterSays m c n) letters
@@ -159,19 +151,15 @@ follows_on : (r : Repair) (w : World) (n : Node) (name : ℕ) → Calm r w → h
 follows_on r w n name h there other g =
     let f = h.follows name there other in
     let low = f.low in let within = f.within in
-    record {
-      acts_ = f.acts_;
-      view_ = f.view_;
-      rest = f.rest;
-      agrees = record {
-        reached = f.reached;
-        low = omega arith;
-        within = omega arith;
-        told_ = f.told_ ∙ sym (g.grows.image (top (w.nodes name)) within);
-        base = g.trusts.base name there other;
-        reported = subst (λ k. (n.reports k).taken ≤ (w.nodes name).core.taken) (sym (h.who name)) (g.trusts.reported name there other);
-      };
-    }
+    let low_ : n.core.log.start ≤ top (w.nodes name) = omega arith in
+    let within_ : top (w.nodes name) ≤ top n = omega arith in
+    assumption (
+      low_,
+      within_,
+      f.told_ ∙ sym (g.grows.image (top (w.nodes name)) within),
+      g.trusts.base name there other,
+      subst (λ k. (n.reports k).taken ≤ (w.nodes name).core.taken) (sym (h.who name)) (g.trusts.reported name there other),
+    )
 
 leader_step : (rules : Rules) (r : Repair) (w : World) (e : Event) (s : Step) → AllOwned rules w → Calm r w → (k : OurStep r w e s) → actor w e ≡ r.by
     → StepKeeps r w (with_step w e (actor w e) s) (actor w e) s

@@ -2,8 +2,7 @@
 use Rattle.am_headline.proofs.RepairWords.{◌≡◌, inl, inr, ℕ, ◌+◌, ◌-◌, ◌<◌, ◌≤◌, ◌==◌, min, true, false, List, length, Some, sym, ap, ◌∙◌, subst, arith, filter}
 use Rattle.am_headline.proofs.RepairWords.{cases_lt, Image, Rules, place_of, has, image_at, fits, Bcast, Letter, letter_to, is_for, letter_at, Node, top, only_name}
 use Rattle.am_headline.proofs.RepairWords.{hear, event_at, running, hearings_of, hearings, World, current, is_stopped, happens, happen, ComesNext, Repair, IsServed}
-use Rattle.am_headline.proofs.RepairWords.{Served, IsOurs, hears_}
-use Rattle.am_group.specs.declared.event.Act.TheVariants as act
+use Rattle.am_headline.proofs.RepairWords.{Served, IsOurs, hears_, Act}
 use Rattle.am_headline.proofs.Schedules.{acts_keep, acts_hit, is_hearing, wave_walks, letter_within}
 use Rattle.am_headline.proofs.{Sets.only_has, Members.entries_are_stored, Memberships.stays_in, Memberships.no_view_above, Fine.Fine, Fine.fine_goes}
 use Rattle.am_headline.proofs.{Fine.few_members, Fine.grow_goes, Fine.member_there, Fine.hear_is, Ticking.node_is, FirstWave.hears_own, FirstWave.Stays}
@@ -14,9 +13,9 @@ use Rattle.am_headline.proofs.{FirstWave.stays_same, FirstWave.stays_goes, NextW
 -- what comes next is stored
 entry_hear : (rules : Rules) (r : Repair) (i k number : ℕ) (u : World) → Fine rules r u → has r.members i ≡ true → (i == r.by) ≡ false
     → IsServed rules r i k number u → number ≡ top (u.nodes i) + 1 → number ≤ r.high
-    → top ((happens u (event_at (place_of i) (act.Hear k))).nodes i) ≡ number
+    → top ((happens u (event_at (place_of i) (Act.Hear k))).nodes i) ≡ number
 entry_hear rules r i k number u h there other s next low =
-    let e = event_at (place_of i) (act.Hear k) in
+    let e = event_at (place_of i) (Act.Hear k) in
     let m = u.nodes i in
     let q = u.nodes r.by in
     let p = Bcast r.by r.view s.base s.acc number s.entry in
@@ -43,10 +42,10 @@ entry_hear rules r i k number u h there other s next low =
 -- whatever it had, it has one entry more of those up to a number
 entry_hits : (rules : Rules) (r : Repair) (i k stored : ℕ) (u : World) → r.sent < k → Fine rules r u → has r.members i ≡ true → (i == r.by) ≡ false
     → IsServed rules r i k (stored + 1) u → min stored r.high ≤ top (u.nodes i)
-    → min (stored + 1) r.high ≤ top ((happens u (event_at (place_of i) (act.Hear k))).nodes i)
+    → min (stored + 1) r.high ≤ top ((happens u (event_at (place_of i) (Act.Hear k))).nodes i)
 entry_hits rules r i k stored u late h there other s have = elim (cases_lt (top (u.nodes i)) (min (stored + 1) r.high)) [
   | inl short ↦ (let one = entry_hear rules r i k (stored + 1) u h there other s (omega arith) (omega arith) in omega arith)
-  | inr enough ↦ (let grow = (grow_goes rules r u (event_at (place_of i) (act.Hear k)) (hears_ (place_of i) k late) h).stored i there in omega arith)
+  | inr enough ↦ (let grow = (grow_goes rules r u (event_at (place_of i) (Act.Hear k)) (hears_ (place_of i) k late) h).stored i there in omega arith)
 ]
 
 -- ---- all of them
@@ -59,9 +58,9 @@ record IsOnWay (rules : Rules) (r : Repair) (i after stored first many : ℕ) (w
   have : min (stored + min (n - (first + 1)) many) r.high ≤ top (u.nodes i)
 
 way_goes : (rules : Rules) (r : Repair) (i after stored first many n p k : ℕ) (w u : World) → r.sent ≤ after → after < k → has r.members i ≡ true
-    → IsOnWay rules r i after stored first many w n u → IsOnWay rules r i after stored first many w n (happens u (event_at p (act.Hear k)))
+    → IsOnWay rules r i after stored first many w n u → IsOnWay rules r i after stored first many w n (happens u (event_at p (Act.Hear k)))
 way_goes rules r i after stored first many n p k w u low late there h =
-    let e = event_at p (act.Hear k) in
+    let e = event_at p (Act.Hear k) in
     let ours : IsOurs r e = hears_ p k (omega arith) in
     let have = h.have in
     let grow = (grow_goes rules r u e ours h.fine).stored i there in
@@ -88,7 +87,7 @@ way_on rules r i after stored first many n l w u low late letter there other fin
     places = filter (λ p. is_for l (current w p)) (running w)
 
     kept : IsOnWay rules r i after stored first many w n (happen u (hearings_of w n l))
-    kept = acts_keep (IsOnWay rules r i after stored first many w n) (act.Hear n)
+    kept = acts_keep (IsOnWay rules r i after stored first many w n) (Act.Hear n)
         (λ p y k. way_goes rules r i after stored first many n p n w y low late there k) places u h
 
     -- one that isn't among them
@@ -105,14 +104,14 @@ way_on rules r i after stored first many n l w u low late letter there other fin
         (let a = ap (letter_at u.letters) at ∙ served_.there in let b = h.stays.letters n l letter in cc) in
         let meant : is_for l (current w (place_of i)) ≡ true = ap (is_for l) at_w.current_ ∙ subst (λ x. is_for x i ≡ true) same (only_has i) in
         let among = is_hearing w l (place_of i) (omega arith) (ap (is_stopped w) at_w.current_ ∙ at_w.runs) meant in
-        let z = acts_hit (IsOnWay rules r i after stored first many w n) (λ y. min (stored + j + 1) r.high ≤ top (y.nodes i)) (act.Hear n) (place_of i)
+        let z = acts_hit (IsOnWay rules r i after stored first many w n) (λ y. min (stored + j + 1) r.high ≤ top (y.nodes i)) (Act.Hear n) (place_of i)
         (record {
           keeps = λ p y k. way_goes rules r i after stored first many n p n w y low late there k;
           hits = λ y k. (let have = k.have in let next : stored + 1 + j ≡ stored + j + 1 = omega arith in
               entry_hits rules r i n (stored + j) y (omega arith) k.fine there other
               (subst (λ x. IsServed rules r i x (stored + j + 1) y) (sym at)
               (subst (λ x. IsServed rules r i (first + 1 + j) x y) next (k.each j below))) (omega arith));
-          stays = λ p y k q. (let grow = (grow_goes rules r y (event_at p (act.Hear n)) (hears_ p n (omega arith)) k.fine).stored i there in omega arith);
+          stays = λ p y k q. (let grow = (grow_goes rules r y (event_at p (Act.Hear n)) (hears_ p n (omega arith)) k.fine).stored i there in omega arith);
         }) places u among h in
         let have = z.1 in
         record { fine = z.0.fine; stays = z.0.stays; each = z.0.each; have = omega arith }

@@ -1,10 +1,9 @@
 -- What the ticks of a round bring about: a poll, and reports.
 use Rattle.am_headline.proofs.RepairWords.{◌≡◌, ℕ, ◌+◌, ◌≤◌, ◌==◌, true, false, length, sym, ap, ◌∙◌, subst, arith, Contains, Stamp, Image, Rules, place_of, has}
-use Rattle.am_headline.proofs.RepairWords.{members_of, members_at, Letter, letter_to, Event, is_for, letter_at, Node, top, view, members, others}
+use Rattle.am_headline.proofs.RepairWords.{members_of, members_at, Letter, letter_to, Event, is_for, letter_at, Node, top, view, members, others, Act}
 use Rattle.am_headline.proofs.RepairWords.{is_sequencer, report_of, Step, accept_of, step, event_at, running, ticks, World, is_stopped, with_step, happens, happen}
 use Rattle.am_headline.proofs.RepairWords.{split, IsReport, Repair, Leads, FollowsView, IsSent, Polled, Reported, IsOurs, our_ticks}
 use Rattle.am_base.specs.declared.event.NodeEvent.TheVariants as does
-use Rattle.am_group.specs.declared.event.Act.TheVariants as act
 use Rattle.am_headline.proofs.Fine.{Fine, few_members, fine_goes, grow_goes, letter_goes, letters_more, IsThere, member_there, tick_is, sent_at, contained_at}
 use Rattle.am_headline.proofs.Fine.{stepped_node}
 use Rattle.am_headline.proofs.{Sets.some_has, Sets.without_has, Nodes.acting, Nodes.leading, Nodes.leads_not, RepairLeading.is_member_now, Ticks.sequencers_poll}
@@ -49,9 +48,9 @@ node_is w e name s is = ap (λ (v : World). v.nodes name) is ∙ stepped_node w 
 
 polled_tick : (rules : Rules) (r : Repair) (i after accepted : ℕ) (w : World) → Fine rules r w → has r.members i ≡ true → (i == r.by) ≡ false
     → after ≤ length w.letters
-    → (let e = event_at (place_of r.by) act.Tick in accepted ≤ ((happens w e).nodes r.by).core.acc → Polled r i after accepted (happens w e))
+    → (let e = event_at (place_of r.by) Act.Tick in accepted ≤ ((happens w e).nodes r.by).core.acc → Polled r i after accepted (happens w e))
 polled_tick rules r i after accepted w h there other low told_ =
-    let e = event_at (place_of r.by) act.Tick in
+    let e = event_at (place_of r.by) Act.Tick in
     let m = w.nodes r.by in
     let s = step m does.Tick in
     let is = tick_is w r.by (member_there rules r w r.by h h.calm.listed) in
@@ -82,28 +81,28 @@ runs_there w name at = is_running w (place_of name) (omega arith) (ap (is_stoppe
 -- what is so of each world of a schedule, and what of it bounds what the sequencer accepts
 pub record Bounds (rules : Rules) (r : Repair) (X : World → Type 0) (accepted : ℕ) : Type 0 where
   pub keeps : (w : World) (e : Event) → IsOurs r e → Fine rules r w → X w → X (happens w e)
-  pub gives : (w : World) → Fine rules r w → X w → accepted ≤ ((happens w (event_at (place_of r.by) act.Tick)).nodes r.by).core.acc
+  pub gives : (w : World) → Fine rules r w → X w → accepted ≤ ((happens w (event_at (place_of r.by) Act.Tick)).nodes r.by).core.acc
 
 pub ticks_poll : (rules : Rules) (r : Repair) (X : World → Type 0) (i accepted : ℕ) (w : World) → Bounds rules r X accepted → Fine rules r w → X w
     → has r.members i ≡ true → (i == r.by) ≡ false → Polled r i (length w.letters) accepted (happen w (ticks w))
 ticks_poll rules r X i accepted w b h x there other =
-    (acts_hit P (Polled r i (length w.letters) accepted) act.Tick (place_of r.by) hits (running w) w
+    (acts_hit P (Polled r i (length w.letters) accepted) Act.Tick (place_of r.by) hits (running w) w
     (runs_there w r.by (member_there rules r w r.by h h.calm.listed)) (h, x, omega arith)).1
   where
     P : World → Type 0
     P u = Fine rules r u × X u × (length w.letters ≤ length u.letters)
 
-    keeps : (p : ℕ) (u : World) → P u → P (happens u (event_at p act.Tick))
+    keeps : (p : ℕ) (u : World) → P u → P (happens u (event_at p Act.Tick))
     keeps p u k =
-        let e = event_at p act.Tick in
+        let e = event_at p Act.Tick in
         let more = letters_more u e in
         (fine_goes rules r u e (our_ticks p) k.0, b.keeps u e (our_ticks p) k.0 k.1, omega arith)
 
-    hits : Hits P (Polled r i (length w.letters) accepted) act.Tick (place_of r.by)
+    hits : Hits P (Polled r i (length w.letters) accepted) Act.Tick (place_of r.by)
     hits = record {
       keeps = keeps;
       hits = λ u k. polled_tick rules r i (length w.letters) accepted u k.0 there other k.2 (b.gives u k.0 k.1);
-      stays = λ p u k q. polled_goes r i (length w.letters) accepted u (event_at p act.Tick) q;
+      stays = λ p u k q. polled_goes r i (length w.letters) accepted u (event_at p Act.Tick) q;
     }
 
 -- ---- reports
@@ -116,9 +115,9 @@ lists_leader r q m l listed f far own =
     ap (λ (i : Image). has (members_of i) (view m).by) f.told_ ∙ ap (has (members_at q.core.log (top m))) by ∙ l.members_ r.by (top m) listed far f.within
 
 reported_tick : (rules : Rules) (r : Repair) (i after : ℕ) (w : World) → Fine rules r w → has r.members i ≡ true → (i == r.by) ≡ false
-    → after ≤ length w.letters → r.high ≤ top (w.nodes i) → Reported r i after r.high (happens w (event_at (place_of i) act.Tick))
+    → after ≤ length w.letters → r.high ≤ top (w.nodes i) → Reported r i after r.high (happens w (event_at (place_of i) Act.Tick))
 reported_tick rules r i after w h there other low far =
-    let e = event_at (place_of i) act.Tick in
+    let e = event_at (place_of i) Act.Tick in
     let m = w.nodes i in
     let q = w.nodes r.by in
     let s = step m does.Tick in
@@ -155,22 +154,22 @@ reported_tick rules r i after w h there other low far =
 pub ticks_report : (rules : Rules) (r : Repair) (i : ℕ) (w : World) → Fine rules r w → has r.members i ≡ true → (i == r.by) ≡ false
     → r.high ≤ top (w.nodes i) → Reported r i (length w.letters) r.high (happen w (ticks w))
 ticks_report rules r i w h there other far =
-    (acts_hit P (Reported r i (length w.letters) r.high) act.Tick (place_of i) hits (running w) w (runs_there w i (member_there rules r w i h there))
+    (acts_hit P (Reported r i (length w.letters) r.high) Act.Tick (place_of i) hits (running w) w (runs_there w i (member_there rules r w i h there))
     (h, far, omega arith)).1
   where
     P : World → Type 0
     P u = Fine rules r u × (r.high ≤ top (u.nodes i)) × (length w.letters ≤ length u.letters)
 
-    keeps : (p : ℕ) (u : World) → P u → P (happens u (event_at p act.Tick))
+    keeps : (p : ℕ) (u : World) → P u → P (happens u (event_at p Act.Tick))
     keeps p u k =
-        let e = event_at p act.Tick in
+        let e = event_at p Act.Tick in
         let more = letters_more u e in
         let grow = (grow_goes rules r u e (our_ticks p) k.0).stored i there in
         (fine_goes rules r u e (our_ticks p) k.0, omega arith, omega arith)
 
-    hits : Hits P (Reported r i (length w.letters) r.high) act.Tick (place_of i)
+    hits : Hits P (Reported r i (length w.letters) r.high) Act.Tick (place_of i)
     hits = record {
       keeps = keeps;
       hits = λ u k. reported_tick rules r i (length w.letters) u k.0 there other k.2 k.1;
-      stays = λ p u k q. reported_goes r i (length w.letters) r.high u (event_at p act.Tick) q;
+      stays = λ p u k q. reported_goes r i (length w.letters) r.high u (event_at p Act.Tick) q;
     }

@@ -6,13 +6,12 @@ use Rattle.am_headline.proofs.RepairWords.{accept_of, request_of, spread_of, fin
 use Rattle.am_headline.proofs.RepairWords.{tick_with, tick_acting, tick_member, tick_sequencer, and_result, put_off, going, and_both, rests_at_end, leads_rests}
 use Rattle.am_headline.proofs.RepairWords.{leads_pushed, IsAtRest, Polls, SequencersPoll, IsReport, ack, request, spread, Reports, MembersReport}
 use Rattle.am_base.specs.declared.outcome.Outcome.TheVariants as said
-use Rattle.am_model.specs.declared.status.Status.TheVariants as status
 use Rattle.am_headline.proofs.{Sets.some_has, Sets.only_has, Sets.without_has, Letters.with_there, Ends.one_letter}
 
 -- ---- which row it is
 
-member_status : (s : Status) → is_member s ≡ true → s ≡ status.Member
-member_status status.Member h = refl
+member_status : (s : Status) → is_member s ≡ true → s ≡ Status.Member
+member_status Status.Member h = refl
 member_status _ h = absurd (cc)
 
 pub without_ballot : (m : Node) (o : Option Ballot) → is_unfinished o ≡ false → tick_with m o ≡ tick_acting m

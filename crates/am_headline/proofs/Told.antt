@@ -1,7 +1,7 @@
 -- What each run keeps of what its applications were given: gapless, from where a name began, and each send that was settled at its number.
 use Rattle.am_headline.proofs.Words.{by_name, eqb-true, equals_itself, ◌≡◌, either, inl, ℕ, zero, suc, ◌+◌, ◌-◌, ◌<◌, ◌≤◌, ◌==◌, nat_le, true, false, List}
 use Rattle.am_headline.proofs.Words.{[], ◌∷◌, ◌++◌, length, Option, Some, None, refl, sym, ap, ◌∙◌, subst, append-nil, length-append, arith, All, flat_map}
-use Rattle.am_headline.proofs.Words.{nat_tests, All-nil, All-cons, All-append, All-push, All-weaker, Entry, Data, Join, Outcome, Rules, MayFound, has}
+use Rattle.am_headline.proofs.Words.{nat_tests, All-nil, All-cons, All-append, All-push, All-weaker, Entry, Data, Join, Outcome, Rules, MayFound, has, Packet}
 use Rattle.am_headline.proofs.Words.{entry_at, entry-get, Letter, Event, Record, name_of, taken_in, given_to, deliveries, item_at, IsGood, begins_refl}
 use Rattle.am_headline.proofs.Words.{begins_trans, good_begins, Group, Node, waiting, is_asking, founder, stranger, founders_view, lowest_or_first, has_log}
 use Rattle.am_headline.proofs.Words.{has_departed, Step, sent_in, accepted_sends, whole, World, record_of, start, with_step, run, heard_by, split, Cause}
@@ -15,7 +15,6 @@ use Rattle.am_headline.proofs.Words.{welcomed_step, GivenOk, begins_at, RecordOk
 use Rattle.am_play.specs.Claims.{welcomes}
 use Rattle.am_runs.proofs.UnballotedKept.{begins_more}
 use Rattle.am_base.specs.declared.outcome.Outcome.TheVariants as said
-use Rattle.am_packet.specs.declared.packet.Packet.TheVariants as packet
 use Rattle.am_chain.specs.Group as groups
 use Rattle.am_headline.proofs.{Lists.item_begins, Shapes.Along, Shapes.along_up, Shapes.along_moves, Ways.kind_of, Inside.Fresh, Inside.Settled}
 use Rattle.am_headline.proofs.{Inside.SendIn, Inside.Inside, Inside.inside_kind, Joined.Opens, Joined.AnyLetter, Joined.welcome_joins, OneStep.OneStep}
@@ -287,7 +286,7 @@ module _ (rules : Rules) (events : List Event) (e : Event) (c : Cause) (step : S
           subst (BeginsOk rules v.group (length v.group) i) (sym start) (record {
             some = up;
             founder = λ y. absurd (let z = (h.each i).founder y in cc);
-            joiner = λ no. (let sent : WasSentTo w i e.act (packet.Welcome from stamp base join image) = subst (IsCause w i e.act) heard cause in
+            joiner = λ no. (let sent : WasSentTo w i e.act (Packet.Welcome from stamp base join image) = subst (IsCause w i e.act) heard cause in
                 let there = welcome_joins rules w s i (heard_by e.act) sent.letter from stamp base join image old (group_good) h.opens h.any few runs
                 (asks join says) sent.there
                 sent.addressed sent.is no in
@@ -301,7 +300,7 @@ module _ (rules : Rules) (events : List Event) (e : Event) (c : Cause) (step : S
           asks : (join : ℕ) → step.outcome ≡ said.Welcomed join → is_asking m.status ≡ true
           asks join says = was_asking c join (subst (λ (z : Cause). Answers m z n (said.Welcomed join)) heard (subst (Answers m c n) says effect.answer))
             where
-              was_asking : (c : Cause) (join : ℕ) → Answers m (hears (packet.Welcome from stamp base join image)) n (said.Welcomed join)
+              was_asking : (c : Cause) (join : ℕ) → Answers m (hears (Packet.Welcome from stamp base join image)) n (said.Welcomed join)
                   → is_asking m.status ≡ true
               was_asking c join z = z.asked
 

@@ -5,16 +5,15 @@ use Rattle.am_headline.proofs.RepairedWords.{Event, key, key_by, Group, Node, vi
 use Rattle.am_headline.proofs.RepairedWords.{run, heard_by, and_both, Cause, LetterSays, WasSentTo, IsCause, steps, all_get, logged, heard_names, HeardNames}
 use Rattle.am_headline.proofs.RepairedWords.{HeardUsed, Along, AllOwned, run_owned, each_owned, each_along, heard_used, PacketSays, PieceSays, of_line}
 use Rattle.am_headline.proofs.RepairedWords.{of_shown, over, OneStep, parts, plain}
-use Rattle.am_packet.specs.declared.packet.Packet.TheVariants as packet
 use Rattle.am_headline.proofs.{Came.Tells, Came.by_piece, Came.by_result, Came.by_welcome, Came.Came, Came.came, Fresh.Welcomed, Sends.sent_by}
 
 -- ---- what is kept
 
 -- each letter of a view that its name sent has a base of at least this
 abbrev pub LetterLow : ℕ → Stamp → ℕ → Packet → Type 0
-LetterLow q v low (packet.Piece s u base number e) = s ≡ q → u ≡ v → low ≤ base
-LetterLow q v low (packet.Result s base number u) = s ≡ q → u.stamp ≡ v → low ≤ base
-LetterLow q v low (packet.Welcome s u base join image) = s ≡ q → u ≡ v → low ≤ base
+LetterLow q v low (Packet.Piece s u base number e) = s ≡ q → u ≡ v → low ≤ base
+LetterLow q v low (Packet.Result s base number u) = s ≡ q → u.stamp ≡ v → low ≤ base
+LetterLow q v low (Packet.Welcome s u base join image) = s ≡ q → u ≡ v → low ≤ base
 LetterLow q v low _ = Unit {0}
 
 -- what the sequencer knows of a name to be taken was taken, but for what it began with; or the name hasn't begun
@@ -34,7 +33,7 @@ pub record Settles (w : World) (q : ℕ) : Type 0 where
 pub record Trims (w : World) (s : Group) : Type 0 where
   pub decided : (j : ℕ) → j < 256 → acts (w.nodes j) ≡ true → s.views.decided (key (view (w.nodes j))) ≡ true
   pub welcomes : (k : ℕ) (l : Letter) (from : ℕ) (u : Stamp) (base join : ℕ) (image : Image) → slice_get w.letters k ≡ Some l
-      → l.packet ≡ packet.Welcome from u base join image → s.views.decided (key u) ≡ true
+      → l.packet ≡ Packet.Welcome from u base join image → s.views.decided (key u) ≡ true
   pub settles : (q : ℕ) → q < 256 → is_sequencer (w.nodes q) ≡ true → is_stopped w q ≡ false → Settles w q
 
 -- ---- a step
@@ -119,19 +118,19 @@ module _ (rules : Rules) (events : List Event) (e : Event) (c : Cause) (step : S
     where
       by_kind : {d : Cause} → Tells d from u base → IsCause w i e.act d → HeardNames d → s.views.decided (key u) ≡ true
       by_kind (by_piece s_ v base_ number y) was names =
-          let sent : WasSentTo w i e.act (packet.Piece s_ v base_ number y) = was in
+          let sent : WasSentTo w i e.act (Packet.Piece s_ v base_ number y) = was in
           let at = item_get w.letters (heard_by e.act) sent.letter sent.there in
-          let says : PacketSays w s sent.letter.to (packet.Piece s_ v base_ number y) = subst (PacketSays w s sent.letter.to) sent.is
+          let says : PacketSays w s sent.letter.to (Packet.Piece s_ v base_ number y) = subst (PacketSays w s sent.letter.to) sent.is
           (x.old.letters at.0 sent.letter at.1) in
-          piece_decided s_ v number y (names.senders (packet.Piece s_ v base_ number y) refl) by says.1
+          piece_decided s_ v number y (names.senders (Packet.Piece s_ v base_ number y) refl) by says.1
       by_kind (by_result s_ base_ number v) was names =
-          let sent : WasSentTo w i e.act (packet.Result s_ base_ number v) = was in
+          let sent : WasSentTo w i e.act (Packet.Result s_ base_ number v) = was in
           let at = item_get w.letters (heard_by e.act) sent.letter sent.there in
-          let says : PacketSays w s sent.letter.to (packet.Result s_ base_ number v) =
+          let says : PacketSays w s sent.letter.to (Packet.Result s_ base_ number v) =
           subst (PacketSays w s sent.letter.to) sent.is (x.old.letters at.0 sent.letter at.1) in
           (says.1 by).decided
       by_kind (by_welcome s_ v base_ join image) was names =
-          let sent : WasSentTo w i e.act (packet.Welcome s_ v base_ join image) = was in
+          let sent : WasSentTo w i e.act (Packet.Welcome s_ v base_ join image) = was in
           let at = item_get w.letters (heard_by e.act) sent.letter sent.there in
           x.trims.welcomes at.0 sent.letter s_ v base_ join image at.1 sent.is
 

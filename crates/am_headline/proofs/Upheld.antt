@@ -1,5 +1,5 @@
 -- What the group accepted behind the last View its coordinator accepted.
-use Rattle.am_headline.proofs.RepairedWords.{◌≡◌, ◌≢◌, either, ℕ, zero, suc, ◌+◌, ◌-◌, ◌<◌, ◌≤◌, max, ◌==◌, true, false, if◌then◌else◌, List, [], ◌∷◌}
+use Rattle.am_headline.proofs.RepairedWords.{◌≡◌, ◌≢◌, either, ℕ, zero, suc, ◌+◌, ◌-◌, ◌<◌, ◌≤◌, max, ◌==◌, true, false, if◌then◌else◌, List, [], ◌∷◌, Status}
 use Rattle.am_headline.proofs.RepairedWords.{◌++◌, length, take, drop, Some, slice_get, refl, sym, ap, ◌∙◌, subst, arith, length-append, append_assoc}
 use Rattle.am_headline.proofs.RepairedWords.{nat_tests, take-append-drop, length-take, take_all, take-append-add, Entry, View, Outcome, Rules, MayFound, Event}
 use Rattle.am_headline.proofs.RepairedWords.{Begins, view_of, key, key_by, view_small, view_up, view_viewed, begins_refl, begins_take, begins_trans}
@@ -11,7 +11,6 @@ use Rattle.am_headline.proofs.RepairedWords.{first_founder, run_owned, IsNoted, 
 use Rattle.am_headline.proofs.RepairedWords.{taken_more, group_kept, rests_step, rests_course, departed_is, OneStep, parts, plain, KeptBy, ListGoes, same, up}
 use Rattle.am_headline.proofs.RepairedWords.{gone, list_moves, Kind, kind_of}
 use Rattle.am_chain.specs.Group as groups
-use Rattle.am_model.specs.declared.status.Status.TheVariants as status
 use Rattle.am_headline.proofs.Ways as ways
 use Rattle.am_headline.proofs.Words.{low_or_above}
 
@@ -104,7 +103,7 @@ grown_begins w v s t i n stands group grows part start long is =
     }
 
 -- who had departed accepts no more
-departed_low : {c : Cause} {o : Outcome} (m n : Node) (letters : List Letter) → Ending c o m letters n → m.status ≡ status.Departed
+departed_low : {c : Cause} {o : Outcome} (m n : Node) (letters : List Letter) → Ending c o m letters n → m.status ≡ Status.Departed
     → is_unfinished m.ballot ≡ false → n.core.acc ≤ max m.core.acc m.core.told
 departed_low m n letters (at_end {x = x} deeds) was none_ = (rests_step m x was none_ deeds).low
 departed_low m n letters (let_go s v number is heard_ leaves) was none_ = absurd (let a = (and_both _ (is_member m.status) heard_).1 in cc)

@@ -3,7 +3,6 @@ use Rattle.am_headline.proofs.Words.{◌≡◌, ◌≢◌, either, ℕ, ◌+◌,
 use Rattle.am_headline.proofs.Words.{arith, Entry, Image, Stamp, Rules, size, members_of, Packet, item_at, Begins, view_of, key, begins_trans, begins_length}
 use Rattle.am_headline.proofs.Words.{length_push, Group, IsUp, Kept, Node, top, World, NameStands, LinesOpen, Grows, long_all, taken_more, image_whole}
 use Rattle.am_base.specs.Whole.{image_of}
-use Rattle.am_packet.specs.declared.packet.Packet.TheVariants as packet
 use Rattle.am_chain.specs.Group as groups
 use Rattle.am_headline.proofs.{Lists.item_begins, Shapes.Shaped, Fits.FitsAt, Rows.Stores}
 use Rattle.am_stands.proofs.Growing.{nil_begun}
@@ -70,10 +69,10 @@ pub data PieceFits (rules : Rules) (s : Group) (sender : ℕ) (v : Stamp) (base 
   over : v.by ≢ sender → s.views.decided (key v) ≡ true → PieceFits rules s sender v base number e
 
 abbrev pub PacketFits : Rules → Group → Packet → Type 0
-PacketFits rules s (packet.Bcast i v base acc number e) = LineFits rules s v base number
-PacketFits rules s (packet.Order i v base acc number from req) = LineFits rules s v base number
-PacketFits rules s (packet.Piece i v base number e) = PieceFits rules s i v base number e
-PacketFits rules s (packet.Result i base number v) = v.stamp.by ≡ i → LineFits rules s v.stamp base number
+PacketFits rules s (Packet.Bcast i v base acc number e) = LineFits rules s v base number
+PacketFits rules s (Packet.Order i v base acc number from req) = LineFits rules s v base number
+PacketFits rules s (Packet.Piece i v base number e) = PieceFits rules s i v base number e
+PacketFits rules s (Packet.Result i base number v) = v.stamp.by ≡ i → LineFits rules s v.stamp base number
 PacketFits rules s _ = Unit {0}
 
 line_on : (rules : Rules) (s t : Group) (v : Stamp) (base number : ℕ) → Grows s t → LineFits rules s v base number → LineFits rules t v base number
@@ -83,14 +82,14 @@ line_on rules s t v base number g h = record {
 }
 
 pub packet_on : (rules : Rules) (s t : Group) (p : Packet) → Grows s t → PacketFits rules s p → PacketFits rules t p
-packet_on rules s t (packet.Bcast i v base acc number e) g h = line_on rules s t v base number g h
-packet_on rules s t (packet.Order i v base acc number from req) g h = line_on rules s t v base number g h
-packet_on rules s t (packet.Piece i v base number e) g h = elim h [
+packet_on rules s t (Packet.Bcast i v base acc number e) g h = line_on rules s t v base number g h
+packet_on rules s t (Packet.Order i v base acc number from req) g h = line_on rules s t v base number g h
+packet_on rules s t (Packet.Piece i v base number e) g h = elim h [
   | of_line h at ↦ of_line (line_on rules s t v base number g h) (item_begins number e (g.lines (key v) h.decided) at)
   | of_shown list is served at h ↦ of_shown list (g.shown (key v) i list is) (g.served (key v) i served) at h
   | over other d ↦ over other (g.decided (key v) d).0
 ]
-packet_on rules s t (packet.Result i base number v) g h = λ by. line_on rules s t v.stamp base number g (h by)
+packet_on rules s t (Packet.Result i base number v) g h = λ by. line_on rules s t v.stamp base number g (h by)
 packet_on rules s t _ g h = tt
 
 -- ---- lists on lines

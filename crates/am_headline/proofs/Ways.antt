@@ -4,13 +4,11 @@ use Rattle.am_headline.proofs.Words.{sym, ◌∙◌, append-nil, arith, Entry, L
 use Rattle.am_headline.proofs.Words.{push_entry, unsettled_count, Verdict, decide, ends, restart_reports, trim_for, need_of, left_in, best_of, is_waited_for}
 use Rattle.am_headline.proofs.Words.{decide_view, with_queued, is_unfinished, begin_list, refresh, settle, refresh_at_end, and_both, Cause, hears, Looks}
 use Rattle.am_headline.proofs.Words.{decides, MayBeWelcomed, Change, refreshes, settles, numbers, stores, begins_list, looks, fetches, stores_view, queues}
-use Rattle.am_headline.proofs.Words.{collects, takes, asks_to_join, asks_to_leave, closes}
+use Rattle.am_headline.proofs.Words.{collects, takes, asks_to_join, asks_to_leave, closes, Packet, Status}
 use Rattle.am_laws.specs.Changes.{departs}
 use Rattle.am_model.specs.Ballots.{goes_on, decided_view}
 use Rattle.am_base.specs.declared.outcome.Outcome.TheVariants as said
-use Rattle.am_packet.specs.declared.packet.Packet.TheVariants as packet
 use Rattle.am_state.specs.Sends as own
-use Rattle.am_model.specs.declared.status.Status.TheVariants as status
 
 -- nothing of that changes; the list may get more
 pub record Alike (m n : Node) : Type 0 where
@@ -27,40 +25,38 @@ pub record Alike (m n : Node) : Type 0 where
   pub entries : n.core.log.entries ≡ m.core.log.entries ++ more
 
 abbrev pub closed : Node → Node
-closed m = record (refresh_at_end (push_entry m (Leave m.core.who))) { status = status.Departed }
+closed m = record (refresh_at_end (push_entry m (Leave m.core.who))) { status = Status.Departed }
 
 pub data Kind (c : Cause) (o : Outcome) (m : Node) : Node → Type 0 where
   alike : {n : Node} → Alike m n → Kind c o m n
   refreshed : Kind c o m (refresh m)
   settled : Kind c o m (settle m)
-  began : (s : ℕ) (v : Stamp) (base join : ℕ) (image : Image) → c ≡ hears (packet.Welcome s v base join image) → o ≡ said.Welcomed join
+  began : (s : ℕ) (v : Stamp) (base join : ℕ) (image : Image) → c ≡ hears (Packet.Welcome s v base join image) → o ≡ said.Welcomed join
       → MayBeWelcomed m s v base join image → Kind c o m (begin_list m v base join image)
-  left : is_member m.status ≡ true → m.leaving ≡ true → Kind c o m (record m { status = status.Departed })
+  left : is_member m.status ≡ true → m.leaving ≡ true → Kind c o m (record m { status = Status.Departed })
   sent : (body : List ℕ) → m.leaving ≡ false → Kind c o m (with_queued m body)
   collected : (req : ℕ) → Kind c o m (record m { sends = own.collect req m.sends })
   took : (e : Entry) → o ≡ said.Took (m.core.taken + 1) e → is_member m.status ≡ true → (m.core.taken == m.core.acc) ≡ false
       → Kind c o m (record m { core = record (m.core) { taken = m.core.taken + 1 } })
-  asked_in : m.status ≡ status.Stranger → Kind c o m (record m { status = status.Asking })
-  asked_out : m.status ≡ status.Member → (nat_lt 0 (unsettled_count m) || is_unfinished m.ballot) ≡ false → Kind c o m (record m { leaving = true })
+  asked_in : m.status ≡ Status.Stranger → Kind c o m (record m { status = Status.Asking })
+  asked_out : m.status ≡ Status.Member → (nat_lt 0 (unsettled_count m) || is_unfinished m.ballot) ≡ false → Kind c o m (record m { leaving = true })
   gone : is_member m.status ≡ true → m.leaving ≡ true → Kind c o m (closed m)
 
 -- with more entries, and anything else but what is told here
 pushes : (m n : Node) (es : List Entry) → n.core.who ≡ m.core.who → m.core.base ≤ n.core.base → n.core.acc ≡ m.core.acc → n.core.taken ≡ m.core.taken
     → n.core.start ≡ m.core.start → n.status ≡ m.status → n.leaving ≡ m.leaving → n.sends ≡ m.sends → n.core.log.start ≡ m.core.log.start
     → n.core.log.entries ≡ m.core.log.entries ++ es → Alike m n
-pushes m n es who base acc taken start status_ leaving sends log entries = record {
-  who = who;
-  base = base;
-  acc = acc;
-  taken = taken;
-  start = start;
-  status = status_;
-  leaving = leaving;
-  sends = sends;
-  log_start = log;
-  more = es;
-  entries = entries;
-}
+pushes m n es who base acc taken start status_ leaving sends log entries = search (
+  es,
+  who,
+  base,
+  acc,
+  taken,
+  start,
+  leaving,
+  sends,
+  entries,
+)
 
 same_log : (m n : Node) → n.core.who ≡ m.core.who → m.core.base ≤ n.core.base → n.core.acc ≡ m.core.acc → n.core.taken ≡ m.core.taken
     → n.core.start ≡ m.core.start → n.status ≡ m.status → n.leaving ≡ m.leaving → n.sends ≡ m.sends → n.core.log.start ≡ m.core.log.start

@@ -205,8 +205,6 @@ first_group : (rules : Rules) (group list more : List Entry) (acc : ℕ) (n : No
     → acc ≤ length list → group ≡ take acc list → group_after group n ≡ take n.core.acc (list ++ more)
 first_group rules group list more acc n h is up low same =
     let v = first_view rules n h in
-    let who = h.node.who in
-    let start = h.start in
     let by : ((view n).by == n.core.who) ≡ true = (let b = ap (λ (x : Stamp). x.by) v in grind (arith, nat_tests)) in
     let long : length group ≡ acc = ap length same ∙ length-take-le acc list low in
     let begins : group ≡ take acc (list ++ more) = same ∙ sym (take-append-le acc list more low) in

@@ -35,20 +35,15 @@ open_ok w i m b o h = subst (LastOk w i m.core.promise) o.last h.last
 
 -- the ballot that is looked at
 looked_ok : (w : World) (i : ℕ) (c : Cause) (m : Node) (b : Ballot) → Balloting c m b → MayGive w c → NodeOk w i m → BallotOk w i m.core.promise b
-looked_ok w i c m b (with_more old s v vote is heard low high o same stays) g h = let k = open_ok w i m old o h in
-    record { own = k.own; low = k.low; high = k.high; given = k.given; answer = k.answer }
+looked_ok w i c m b (with_more old s v vote is heard low high o same stays) g h = assumption (open_ok w i m old o h)
 looked_ok w i c m b (as_it_is old o on) g h = open_ok w i m old o h
 looked_ok w i c m b (without_one old name is o other) g h =
     let k = open_ok w i m old o h in
     let stopped : is_stopped w name ≡ true = subst (MayGive w) is g in
-    record {
-      own = k.own;
-      low = k.low;
-      high = k.high;
-      given = λ n t. split (n == name) (λ e. let same : name ≡ n = grind (arith, nat_tests) in
-          subst (λ x. is_stopped w x ≡ true) same stopped) (λ f. k.given n (rw f at t));
-      answer = k.answer;
-    }
+    let given : (n : ℕ) → b.given_up n ≡ true → is_stopped w n ≡ true = λ n t. split (n == name)
+    (λ e. let same : name ≡ n = grind (arith, nat_tests) in subst (λ x. is_stopped w x ≡ true) same stopped)
+    (λ f. k.given n (rw f at t)) in
+    assumption (given, k)
 
 ended : (w : World) (i : ℕ) (promise : Stamp) (b : Ballot) (o : Outcome) → IsOfBallot o → BallotOk w i promise b
     → BallotOk w i promise (record b { answer = o; is_over = true })
@@ -77,13 +72,10 @@ overtaken_ok : (w : World) (i : ℕ) (promise v : Stamp) (b : Option Ballot) →
 overtaken_ok w i promise v None low h = tt
 overtaken_ok w i promise v (Some b) low h = split (not b.is_over && stamp_lt b.stamp v)
     (λ t. rw t (record { own = h.own; low = λ f. absurd (cc); high = λ f. absurd (cc); given = h.given; answer = tt }))
-    (λ n. rw n (record {
-      own = h.own;
-      low = λ f. most_through b.stamp promise v (h.low f) low;
-      high = λ f. (let x : stamp_lt b.stamp v ≡ false = grind arith in x);
-      given = h.given;
-      answer = h.answer;
-    }))
+    (λ n.
+    let low_ : b.is_over ≡ false → AtMost b.stamp v = λ f. most_through b.stamp promise v (h.low f) low in
+    let high_ : b.is_over ≡ false → AtMost v b.stamp = λ f. (let x : stamp_lt b.stamp v ≡ false = grind arith in x) in
+    rw n (assumption (low_, high_)))
 
 ballot_change : (w : World) (i : ℕ) (c : Cause) (o : Outcome) (m n : Node) → MayGive w c → Change c o m n → NodeOk w i m → NodeOk w i n
 ballot_change w i c o m n g refreshes h = let r = (rests_refresh m).rests in same_ballot w i m n r.who r.promise r.ballot (ap has_log r.status) h

@@ -4,11 +4,9 @@ use Rattle.am_runs.proofs.UnballotedWords.{refl, sym, ap, ◌∙◌, subst, arit
 use Rattle.am_runs.proofs.UnballotedWords.{own_report, tell, go_on, let_go, Status, Node, Ballot, acts, is_member, is_sequencer, push_entry, has_log, advance}
 use Rattle.am_runs.proofs.UnballotedWords.{lead, refresh, settle, refresh_at_end, overtake, begin_list, split, and_both, Cause, hears, MayBeWelcomed, Change}
 use Rattle.am_runs.proofs.UnballotedWords.{refreshes, settles, begins_list, departs, promises, opens, looks, queues, collects, takes, asks_to_join, closes}
-use Rattle.am_runs.proofs.UnballotedWords.{Changes, unchanged, changed, rests_refresh, rests_closed, settle_is, logged, asking_log, asking}
+use Rattle.am_runs.proofs.UnballotedWords.{Changes, unchanged, changed, rests_refresh, rests_closed, settle_is, logged, asking_log, asking, Packet}
 use Rattle.am_base.specs.declared.outcome.Outcome.TheVariants as said
-use Rattle.am_packet.specs.declared.packet.Packet.TheVariants as packet
 use Rattle.am_state.specs.Sends as own
-use Rattle.am_model.specs.declared.status.Status.TheVariants as status
 use Rattle.am_runs.proofs.{UnballotedKept.NodeOk, Others.looks_leave}
 
 -- ---- as long as there is no ballot
@@ -40,7 +38,7 @@ quietly P f (changed {m = x} {n = y} z zs) none h = quietly P f zs none (f x y z
 -- ---- the list's start, and the sends
 
 abbrev NoWelcome : Cause → Type 0
-NoWelcome c = (s : ℕ) (v : Stamp) (base join : ℕ) (image : Image) → c ≡ hears (packet.Welcome s v base join image) → ⊥
+NoWelcome c = (s : ℕ) (v : Stamp) (base join : ℕ) (image : Image) → c ≡ hears (Packet.Welcome s v base join image) → ⊥
 
 -- only a Welcome begins a list
 record Stays (m n : Node) : Type 0 where
@@ -85,7 +83,7 @@ pub data Gave (c : Cause) (o : Outcome) (m n : Node) : Type 0 where
   nothing : front n ≡ front m → n.core.start ≡ m.core.start → has_log n.status ≡ has_log m.status → Gave c o m n
   took : (k : ℕ) (e : Entry) → o ≡ said.Took (k + 1) e → front m ≡ k → front n ≡ k + 1 → n.core.start ≡ m.core.start → n.core.start - 1 ≤ k
       → has_log n.status ≡ true → has_log m.status ≡ true → Gave c o m n
-  began : (s : ℕ) (v : Stamp) (base join : ℕ) (image : Image) → c ≡ hears (packet.Welcome s v base join image) → o ≡ said.Welcomed join
+  began : (s : ℕ) (v : Stamp) (base join : ℕ) (image : Image) → c ≡ hears (Packet.Welcome s v base join image) → o ≡ said.Welcomed join
       → has_log m.status ≡ false → has_log n.status ≡ true → n.core.start ≡ join → front n ≡ join - 1 → 0 < join → Gave c o m n
 
 -- a change that moves no front
@@ -141,10 +139,10 @@ gave_taken rules list acc i k m n e h member some says is (began s v base join i
 
 -- ---- each change
 
-pub still_log : (s : Status) → is_member s ≡ true → has_log status.Departed ≡ has_log s
+pub still_log : (s : Status) → is_member s ≡ true → has_log Status.Departed ≡ has_log s
 still_log s t = sym (logged s t)
 
-pub gave_begun : {c : Cause} {o : Outcome} (k m : Node) (s : ℕ) (v : Stamp) (base join : ℕ) (image : Image) → c ≡ hears (packet.Welcome s v base join image)
+pub gave_begun : {c : Cause} {o : Outcome} (k m : Node) (s : ℕ) (v : Stamp) (base join : ℕ) (image : Image) → c ≡ hears (Packet.Welcome s v base join image)
     → o ≡ said.Welcomed join → MayBeWelcomed m s v base join image → Gave c o k m → Gave c o k (begin_list m v base join image)
 gave_begun k m s v base join image is says may (nothing x y z) =
     let no = asking_log m.status (asking m s v base join image may) in

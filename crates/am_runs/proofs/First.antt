@@ -126,11 +126,9 @@ first_push rules m e plain fit h =
     let more = node_more rules list (e ∷ []) m.core.acc m.core.acc i m (omega arith) h.node in
     let high : top m ≡ length list = (let s = h.start in omega arith) in
     let next : slice_get (list ++ e ∷ []) (top m) ≡ Some e = ap (slice_get (list ++ e ∷ [])) high ∙ get_last list e in
-    record {
-      node = pushed_ok rules (list ++ e ∷ []) m.core.acc i m e next more;
-      start = h.start;
-      group = group_push rules list e plain h.group;
-      good = good_push list e h.good fit (small e plain);
-      log = h.log;
-      own = own_push rules list e m.sends h.own;
-    }
+    assumption (
+      pushed_ok rules (list ++ e ∷ []) m.core.acc i m e next more,
+      group_push rules list e plain h.group,
+      good_push list e h.good fit (small e plain),
+      own_push rules list e m.sends h.own,
+    )

@@ -2,17 +2,16 @@
 use Rattle.am_runs.proofs.UnballotedWords.{stamp_itself, ◌≡◌, ℕ, ◌+◌, ◌-◌, ◌<◌, ◌≤◌, max, min, ◌==◌, ◌&&◌, not, nat_lt, true, false, if◌then◌else◌, List}
 use Rattle.am_runs.proofs.UnballotedWords.{[], length, map, Some, None, refl, sym, ap, ◌∙◌, subst, append-nil, arith, nat_tests, Stamp, Report, Row, Image}
 use Rattle.am_runs.proofs.UnballotedWords.{Entry, Data, Join, Leave, Outcome, Rules, life_of, stamp_eq, Log, fits, at_place, row_of, requests_of, accept}
-use Rattle.am_runs.proofs.UnballotedWords.{pass_over, own_report, tell, go_on, let_go, Node, top, view, is_member, acts, is_sequencer}
+use Rattle.am_runs.proofs.UnballotedWords.{pass_over, own_report, tell, go_on, let_go, Node, top, view, is_member, acts, is_sequencer, Status}
 use Rattle.am_runs.proofs.UnballotedWords.{push_entry, founding_stamp, has_log, lead, refresh, accepted_at, settle, refresh_at_end, is_view, hears_member}
 use Rattle.am_runs.proofs.UnballotedWords.{hears_in_view, hears_sequencer, split, and_both, image_of, mem, mem_in, in_mem, mem_push, request_within, next_in}
 use Rattle.am_runs.proofs.UnballotedWords.{Cause, Numbers, asked_send, own_send, asked_join, asked_leave, MayBeWelcomed, Change, refreshes, settles, numbers}
 use Rattle.am_runs.proofs.UnballotedWords.{notes, stores, begins_list, departs, promises, opens, looks, fetches, stores_view, queues, collects, takes}
 use Rattle.am_runs.proofs.UnballotedWords.{asks_to_join, closes, base_up, rests_refresh, settle_is, logged}
 use Rattle.am_state.specs.Sends as own
-use Rattle.am_model.specs.declared.status.Status.TheVariants as status
 use Rattle.am_model.specs.Node as nodes
 use Rattle.am_base.proofs.Rows as rows
-use Rattle.am_runs.proofs.UnballotedKept.{first_of, NodeOk, CauseOk, node_more}
+use Rattle.am_runs.proofs.UnballotedKept.{first_of, FrontsOk, NodeOk, CauseOk, node_more}
 use Rattle.am_runs.proofs.UnballotedChanges.{found_at, settle_ok, queued_ok, collected_ok}
 use Rattle.am_runs.proofs.Others.{same_node, looks_leave, promised_first, with_status, with_promise, taken_ok}
 use Rattle.am_runs.proofs.Turns.{Turn, waiting_is, one_more, waiting_settled, collected_turn}
@@ -52,28 +51,17 @@ first_rise rules m told base reports up h =
     let i = first_of rules in
     let to = max m.core.acc (min told (top m)) in
     let n = node_up rules list m.core.acc to i m (omega arith) h.node in
-    let f = h.node.fronts in
-    record {
-      node = record {
-        who = n.who;
-        log = record { start = n.log.start; image = n.log.image; within = n.log.within };
-        fronts = record {
-          accepted = omega arith;
-          within = omega arith;
-          taken = over_acc m.core.taken to m.core.start (omega arith);
-          base = omega arith;
-          told = λ d. absurd (d refl);
-          passed = passed_over m.core.taken to m.core.start;
-        };
-        status = record { promise = n.status.promise; founder = n.status.founder; blank = λ z. absurd (cc); begins = n.status.begins };
-        sends = n.sends;
-      };
-      start = h.start;
-      group = h.group;
-      good = h.good;
-      log = h.log;
-      own = h.own;
-    }
+    let x = risen m told base reports in
+    let fronts : FrontsOk i to i x.core = record {
+      accepted = omega arith;
+      within = omega arith;
+      taken = over_acc m.core.taken to m.core.start (omega arith);
+      base = omega arith;
+      told = λ d. absurd (d refl);
+      passed = passed_over m.core.taken to m.core.start;
+    } in
+    let blank : has_log m.status ≡ false → (x.core.taken ≡ 0) × (x.core.start ≡ 0) = λ z. absurd (cc) in
+    assumption (fronts, blank, n)
 
 first_refresh : (rules : Rules) (m : Node) → FirstBase rules m → FirstBase rules (refresh m)
 unfolding refresh lead own_report tell go_on let_go accept pass_over
@@ -246,7 +234,7 @@ numbered rules c m e leads why h =
     record { base = base; member = λ t. mem_push m.core.log.entries e i base.good (numbered_spares rules c m e h.base.node.who why) member }
 
 closed : (rules : Rules) (m : Node) → is_sequencer m ≡ true → FirstOk rules m
-    → FirstOk rules (record (refresh_at_end (push_entry m (Leave m.core.who))) { status = status.Departed })
+    → FirstOk rules (record (refresh_at_end (push_entry m (Leave m.core.who))) { status = Status.Departed })
 unfolding refresh_at_end
 closed rules m leads h =
     let i = first_of rules in
@@ -257,8 +245,8 @@ closed rules m leads h =
     let n = refresh_at_end p in
     let base = first_settle rules (refresh p) (first_refresh rules p (first_push rules m (Leave m.core.who) refl fit h.base)) in
     record {
-      base = base_as rules n (record n { status = status.Departed }) refl refl refl
-          (with_status rules n.core.log.entries n.core.acc i n status.Departed (sym base.log) base.node) base;
+      base = base_as rules n (record n { status = Status.Departed }) refl refl refl
+          (with_status rules n.core.log.entries n.core.acc i n Status.Departed (sym base.log) base.node) base;
       member = λ t. absurd (cc);
     }
 
@@ -273,7 +261,7 @@ first_change rules list acc c o m n w (begins_list s v base join image is says m
 first_change rules list acc c o m n w (departs s v number is heard leaves) none h =
     let b = h.base in
     record {
-      base = base_as rules m n refl refl refl (with_status rules _ _ _ m status.Departed (sym b.log) b.node) b;
+      base = base_as rules m n refl refl refl (with_status rules _ _ _ m Status.Departed (sym b.log) b.node) b;
       member = λ t. absurd (cc);
     }
 first_change rules list acc c o m n w (promises v low why) none h =

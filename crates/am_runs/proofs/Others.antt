@@ -7,7 +7,6 @@ use Rattle.am_runs.proofs.UnballotedWords.{and_both, Cause, BringsFronts, alone,
 use Rattle.am_runs.proofs.UnballotedWords.{overtaken, told_result, Change, refreshes, settles, takes_report, admits, numbers, notes, stores, begins_list}
 use Rattle.am_runs.proofs.UnballotedWords.{departs, promises, opens, looks, fetches, stores_view, queues, collects, takes, asks_to_join, closes, WasSent}
 use Rattle.am_runs.proofs.UnballotedWords.{EntrySent, Keeps, MaySend, body_of_sent, all_item, logged, asking_log, asking}
-use Rattle.am_model.specs.declared.status.Status.TheVariants as status
 use Rattle.am_runs.proofs.UnballotedKept.{first_of, ListOk, FrontsOk, fronts_ok, BeginsOk, StatusOk, SendOk, NodeOk, WelcomeOk, CauseOk}
 use Rattle.am_runs.proofs.{Lists.item_get, Lists.within_push, Lists.within_none, UnballotedChanges.leads_first, UnballotedChanges.advance_fronts}
 use Rattle.am_runs.proofs.{UnballotedChanges.settle_ok, UnballotedChanges.queued_ok, UnballotedChanges.collected_ok}
@@ -31,62 +30,31 @@ pub pushed_ok : (rules : Rules) (list : List Entry) (acc i : ℕ) (m : Node) (e 
     → NodeOk rules list acc i (push_entry m e)
 pushed_ok rules list acc i m e is h =
     let f = h.fronts in
-    let l = h.log in
-    record {
-      who = h.who;
-      log = record { start = l.start; image = l.image; within = within_push list m.core.log.start m.core.log.entries e l.within is };
-      fronts = record {
-        accepted = f.accepted;
-        within = let a = f.within in let b = length-append m.core.log.entries (e ∷ []) in
-            omega arith;
-        taken = f.taken;
-        base = f.base;
-        told = f.told;
-        passed = f.passed;
-      };
-      status = record { promise = h.status.promise; founder = h.status.founder; blank = h.status.blank; begins = h.status.begins };
-      sends = h.sends;
-    }
+    let within : m.core.acc ≤ top (push_entry m e) = let a = f.within in let b = length-append m.core.log.entries (e ∷ []) in omega arith in
+    assumption (within_push list m.core.log.start m.core.log.entries e h.log.within is, within)
 
 -- its base goes up, and what it is told is no more than is accepted
 pub noted_ok : (rules : Rules) (list : List Entry) (acc i : ℕ) (m : Node) (base to : ℕ) → m.core.base ≤ base → (i ≢ first_of rules → to ≤ acc)
     → NodeOk rules list acc i m → NodeOk rules list acc i (record m { core = record (m.core) { base = base; told = to } })
 noted_ok rules list acc i m base to up low h =
-    let f = h.fronts in
-    record {
-      who = h.who;
-      log = record { start = h.log.start; image = h.log.image; within = h.log.within };
-      fronts = record { accepted = f.accepted; within = f.within; taken = f.taken; base = let a = f.base in omega arith; told = low; passed = f.passed };
-      status = record { promise = h.status.promise; founder = h.status.founder; blank = h.status.blank; begins = h.status.begins };
-      sends = h.sends;
-    }
+    let base_ : m.core.log.start ≤ base = let a = h.fronts.base in omega arith in
+    assumption (low, base_)
 
 pub with_status : (rules : Rules) (list : List Entry) (acc i : ℕ) (m : Node) (s : Status) → has_log s ≡ has_log m.status → NodeOk rules list acc i m
     → NodeOk rules list acc i (record m { status = s })
-with_status rules list acc i m s b h = record {
-  who = h.who;
-  log = h.log;
-  fronts = h.fronts;
-  status = record {
-    promise = λ t. h.status.promise (sym b ∙ t);
-    founder = λ t. b ∙ h.status.founder t;
-    blank = λ t. h.status.blank (sym b ∙ t);
-    begins = λ t. h.status.begins (sym b ∙ t);
-  };
-  sends = h.sends;
-}
+with_status rules list acc i m s b h =
+    let status : StatusOk rules list acc i s m.core = record {
+      promise = λ t. h.status.promise (sym b ∙ t);
+      founder = λ t. b ∙ h.status.founder t;
+      blank = λ t. h.status.blank (sym b ∙ t);
+      begins = λ t. h.status.begins (sym b ∙ t);
+    } in
+    assumption (status)
 
 pub with_promise : (rules : Rules) (list : List Entry) (acc i : ℕ) (m n : Node) (v : Stamp)
     → n ≡ record m { core = record (m.core) { promise = v }; ballot = n.ballot } → v ≡ founding_stamp rules → NodeOk rules list acc i m
     → NodeOk rules list acc i n
-with_promise rules list acc i m n v is e h = subst (NodeOk rules list acc i) (sym is) (record {
-  who = h.who;
-  log = h.log;
-  fronts = (let f = h.fronts in
-      fronts_ok (first_of rules) acc i (record (m.core) { promise = v }) f.accepted f.within f.taken f.base f.told f.passed);
-  status = record { promise = λ t. e; founder = h.status.founder; blank = h.status.blank; begins = h.status.begins };
-  sends = h.sends;
-})
+with_promise rules list acc i m n v is e h = subst (NodeOk rules list acc i) (sym is) (assumption)
 
 -- the application takes the next entry
 pub taken_ok : (rules : Rules) (list : List Entry) (acc i : ℕ) (m : Node) → is_member m.status ≡ true → (m.core.taken == m.core.acc) ≡ false
@@ -96,20 +64,11 @@ taken_ok rules list acc i m member some h =
     let p = f.passed in
     let less : m.core.taken < m.core.acc = grind (arith, nat_tests) in
     let stays : has_log m.status ≡ true = logged m.status member in
-    record {
-      who = h.who;
-      log = record { start = h.log.start; image = h.log.image; within = h.log.within };
-      fronts = record {
-        accepted = f.accepted;
-        within = f.within;
-        taken = omega arith;
-        base = f.base;
-        told = f.told;
-        passed = λ b. (let z : m.core.taken < m.core.start - 1 = omega arith in let q = p z in absurd (omega arith));
-      };
-      status = record { promise = h.status.promise; founder = h.status.founder; blank = λ z. absurd (cc); begins = h.status.begins };
-      sends = h.sends;
-    }
+    let taken : m.core.taken + 1 ≤ m.core.acc = omega arith in
+    let passed : m.core.taken + 1 < m.core.start - 1 → m.core.acc ≤ m.core.taken + 1 = λ b.
+    (let z : m.core.taken < m.core.start - 1 = omega arith in let q = p z in absurd (omega arith)) in
+    let blank : has_log m.status ≡ false → (m.core.taken + 1 ≡ 0) × (m.core.start ≡ 0) = λ z. absurd (cc) in
+    assumption (taken, passed, blank)
 
 -- ---- what is accepted goes on
 
@@ -121,18 +80,10 @@ blank_passed taken acc start a b =
 pub advance_ok : (rules : Rules) (list : List Entry) (acc to i : ℕ) (m : Node) → acc ≤ to → m.core.told ≤ to → StatusOk rules list to i m.status m.core
     → ListOk list to m.core.log → All (SendOk list to i) m.sends.queue → NodeOk rules list acc i m → NodeOk rules list to i (advance m)
 unfolding accept pass_over
-advance_ok rules list acc to i m up low st l q h = record {
-  who = h.who;
-  log = record { start = l.start; image = l.image; within = l.within };
-  fronts = advance_fronts (first_of rules) acc to i m.core up low h.fronts;
-  status = record {
-    promise = st.promise;
-    founder = st.founder;
-    blank = λ t. (let b = st.blank t in (blank_passed m.core.taken _ m.core.start b.0 b.1, b.1));
-    begins = st.begins;
-  };
-  sends = q;
-}
+advance_ok rules list acc to i m up low st l q h =
+    let blank : has_log m.status ≡ false → ((advance m).core.taken ≡ 0) × (m.core.start ≡ 0) = λ t. (let b = st.blank t in
+    (blank_passed m.core.taken _ m.core.start b.0 b.1, b.1)) in
+    assumption (blank, st, l, q, advance_fronts (first_of rules) acc to i m.core up low h.fronts)
 
 -- the refresh of who doesn't lead
 refreshed_ok : (rules : Rules) (list : List Entry) (acc i : ℕ) (m : Node) → i ≢ first_of rules → NodeOk rules list acc i m → NodeOk rules list acc i (refresh m)
@@ -230,7 +181,7 @@ other_change rules list acc i all c o m n w d (begins_list s v base join image i
     let none_yet = asking_log m.status (asking m s v base join image may) in
     begun_ok rules list acc i s v base join image m w.within (no_founder rules list acc i m h none_yet) p may.above h
 other_change rules list acc i all c o m n w d (departs s v number is heard leaves) none k h =
-    with_status rules list acc i m status.Departed (sym (logged m.status (and_both (not (s == m.core.who)) (is_member m.status) heard).1)) h
+    with_status rules list acc i m Status.Departed (sym (logged m.status (and_both (not (s == m.core.who)) (is_member m.status) heard).1)) h
 other_change rules list acc i all c o m n w d (promises v low why) none k h =
     with_promise rules list acc i m n v refl (promised_first rules list acc i c m v why w.cause) h
 other_change rules list acc i all c o m n w d (opens least resilience by may) none k h = absurd (cc)
@@ -246,6 +197,6 @@ other_change rules list acc i all c o m n w d (stores_view s base number v is he
 other_change rules list acc i all c o m n w d (queues body is says member stays few) none k h = queued_ok rules list acc i m body h
 other_change rules list acc i all c o m n w d (collects req is) none k h = collected_ok rules list acc i m req h
 other_change rules list acc i all c o m n w d (takes e is says member some there) none k h = taken_ok rules list acc i m member some h
-other_change rules list acc i all c o m n w d (asks_to_join is was) none k h = with_status rules list acc i m status.Asking (sym (ap has_log was)) h
+other_change rules list acc i all c o m n w d (asks_to_join is was) none k h = with_status rules list acc i m Status.Asking (sym (ap has_log was)) h
 other_change rules list acc i all c o m n w d (closes leads leaves last room) none k h = absurd (d (leads_first rules list acc i m h leads))
 other_change rules list acc i all c o m n w d _ none k h = same_node rules list acc i m n refl refl refl h

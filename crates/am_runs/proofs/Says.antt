@@ -8,7 +8,6 @@ use Rattle.am_runs.proofs.UnballotedWords.{begins_take, begins_push, begins_same
 use Rattle.am_runs.proofs.UnballotedWords.{asks_again, has_begun, goes_on, leads, decided, Says, bcast, order, welcome, invite, vote, piece, result, LetterSays}
 use Rattle.am_runs.proofs.UnballotedWords.{entry_is}
 use Rattle.am_laws.specs.Letters.{accept}
-use Rattle.am_packet.specs.declared.packet.Packet.TheVariants as packet
 use Rattle.am_model.specs.Node as nodes
 use Rattle.am_runs.proofs.{Lists.get_item, Lists.within_get, UnballotedKept.first_of, UnballotedKept.ListOk, UnballotedKept.FrontsOk, UnballotedKept.PacketOk}
 use Rattle.am_runs.proofs.{UnballotedKept.WelcomeOk, UnballotedKept.LetterOk, UnballotedKept.CauseOk, First.IsGroup, First.group_view, Images.rows_ok}
@@ -118,7 +117,6 @@ welcome_says rules list acc i m n s h f t (just_joined number next high low stan
     let told_ = first_told rules list acc i m n h f in
     let same = ap (λ x. (row_of x s).joined) told_ in
     let entries = sym f.list_ in
-    let start = f.start in
     let zero : n.core.log.start ≤ m.core.base = omega arith in
     let at = stands.at zero in
     let there : slice_get list stands.index ≡ Some (Join s) = ap (λ l. slice_get l stands.index) (sym entries) ∙ stands.there in
@@ -194,7 +192,7 @@ at_first rules list acc i m n h f t = let s = (f (sequencer_first rules list acc
 
 -- who is asked for entries has the list that it had
 abbrev pub Fetched : Cause → Node → Node → Type 0
-Fetched c m n = (s : ℕ) (v : Stamp) (stored : ℕ) → c ≡ hears (packet.Fetch s v stored) → n.core.log.start ≤ m.core.base
+Fetched c m n = (s : ℕ) (v : Stamp) (stored : ℕ) → c ≡ hears (Packet.Fetch s v stored) → n.core.log.start ≤ m.core.base
 
 said : (rules : Rules) (list from : List Entry) (acc low i : ℕ) (m n : Node) (c : Cause) (to : List ℕ) (p : Packet) → Sends rules list acc i m n
     → Firsts rules list acc i m n → Fetched c m n → CauseOk rules from low i c → Says m c n to p → Right rules list acc to p
@@ -219,14 +217,14 @@ said rules list from acc low i m n c to p h f g w _ j t = tt
 
 -- a Join is asked for of every life, and tells nothing
 any_says : (rules : Rules) (list : List Entry) (acc i : ℕ) (p : Packet) → goes_to_any p ≡ true → PacketOk rules list acc i p
-any_says rules list acc i (packet.Bcast s v base a number e) t = absurd (cc)
-any_says rules list acc i (packet.Order s v base a number from req) t = absurd (cc)
-any_says rules list acc i (packet.Accept s v base a high poll) t = absurd (cc)
-any_says rules list acc i (packet.Welcome s v base join image) t = absurd (cc)
-any_says rules list acc i (packet.Invite s v) t = absurd (cc)
-any_says rules list acc i (packet.Vote s v shown) t = absurd (cc)
-any_says rules list acc i (packet.Piece s v base number e) t = absurd (cc)
-any_says rules list acc i (packet.Result s base number v) t = absurd (cc)
+any_says rules list acc i (Packet.Bcast s v base a number e) t = absurd (cc)
+any_says rules list acc i (Packet.Order s v base a number from req) t = absurd (cc)
+any_says rules list acc i (Packet.Accept s v base a high poll) t = absurd (cc)
+any_says rules list acc i (Packet.Welcome s v base join image) t = absurd (cc)
+any_says rules list acc i (Packet.Invite s v) t = absurd (cc)
+any_says rules list acc i (Packet.Vote s v shown) t = absurd (cc)
+any_says rules list acc i (Packet.Piece s v base number e) t = absurd (cc)
+any_says rules list acc i (Packet.Result s base number v) t = absurd (cc)
 any_says rules list acc i _ t = tt
 
 pub letter_says : (rules : Rules) (list from : List Entry) (acc low i : ℕ) (m n : Node) (c : Cause) (letter : Letter) → Sends rules list acc i m n

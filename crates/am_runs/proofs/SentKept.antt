@@ -81,12 +81,7 @@ pub as_sent : (all : List Record) (who : ℕ) (m : Node) (req : ℕ) (body : Lis
 as_sent all who m req body h was = subst (λ name. WasSent all name req body) (sym h.name) was
 
 pub kept_pushed : (all : List Record) (who : ℕ) (m : Node) (e : Entry) → EntrySent all e → Keeps all who m → Keeps all who (push_entry m e)
-kept_pushed all who m e sent h = record {
-  name = h.name;
-  entries = All-push (EntrySent all) m.core.log.entries e h.entries sent;
-  sends = h.sends;
-  bodies = h.bodies;
-}
+kept_pushed all who m e sent h = assumption (All-push (EntrySent all) m.core.log.entries e h.entries sent)
 
 pub kept_queued : (all : List Record) (who : ℕ) (m : Node) (body : List ℕ) → WasSent all who (m.sends.last + 1) body → Keeps all who m
     → Keeps all who (with_queued m body)
@@ -99,12 +94,7 @@ kept_queued all who m body sent h = record {
 
 pub kept_collected : (all : List Record) (who : ℕ) (m : Node) (req : ℕ) → Keeps all who m → Keeps all who (record m { sends = own.collect req m.sends })
 kept_collected all who m req h = split (own.is_settled req m.sends)
-    (λ t. rw t (record {
-      name = h.name;
-      entries = h.entries;
-      sends = All-filter (λ s. not (own.is_request req s)) (SendSent all who) m.sends.queue h.sends;
-      bodies = h.bodies;
-    }))
+    (λ t. rw t (assumption (All-filter (λ s. not (own.is_request req s)) (SendSent all who) m.sends.queue h.sends)))
     (λ f. rw f h)
 
 -- ---- bodies
@@ -119,12 +109,7 @@ pub kept_body : (all : List Record) (who : ℕ) (m : Node) (from req : ℕ) (bod
     → Keeps all who (record m { bodies = keep_body from req body m.bodies })
 kept_body all who m from req body sent h = split (list_any (is_of from req) m.bodies)
     (λ t. rw t h)
-    (λ f. rw f (record {
-      name = h.name;
-      entries = h.entries;
-      sends = h.sends;
-      bodies = all_with_body all (record { from = from; req = req; body = body }) m.bodies sent h.bodies;
-    }))
+    (λ f. rw f (assumption (all_with_body all (record { from = from; req = req; body = body }) m.bodies sent h.bodies)))
 
 -- ---- the refresh
 
@@ -140,13 +125,10 @@ same_send all who req number s h = split (s.req == req) (λ t. rw t h) (λ f. rw
 pub kept_settle : (all : List Record) (who : ℕ) (m : Node) → Keeps all who m → Keeps all who (settle m)
 kept_settle all who m h = settle_keeps (Keeps all who) m h (λ s k w at.
     let f = own.settle_send s.req (m.core.base + 1 + k) in
-    record {
-      name = h.name;
-      entries = h.entries;
-      sends = All-map (SendSent all who) f m.sends.queue (All-weaker (SendSent all who) (λ s. SendSent all who (f s))
-          (same_send all who s.req (m.core.base + 1 + k)) m.sends.queue h.sends);
-      bodies = h.bodies;
-    })
+    assumption (
+    All-map (SendSent all who) f m.sends.queue (All-weaker (SendSent all who) (λ s. SendSent all who (f s))
+    (same_send all who s.req (m.core.base + 1 + k)) m.sends.queue h.sends)
+    ))
 
 pub kept_at_end : (all : List Record) (who : ℕ) (m : Node) → Keeps all who m → Keeps all who (refresh_at_end m)
 unfolding refresh_at_end

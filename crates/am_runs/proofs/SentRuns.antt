@@ -52,13 +52,11 @@ unfolding with_step
 sent_stepped w e name s h k =
     let all = after_step w e s in
     let old = all_sent_more w.records (record_of w e s.outcome s.letters ∷ []) w.nodes w.letters w.group h.all in
-    record {
-      all = record {
-        each = set_kept all w.nodes name s.node old.each k.node;
-        sent = All-append (LetterSent all) w.letters s.letters old.sent k.letters;
-        list = grown_all (EntrySent all) w.group s.node old.list k.node.entries;
-      };
-    }
+    assumption (
+      set_kept all w.nodes name s.node old.each k.node,
+      All-append (LetterSent all) w.letters s.letters old.sent k.letters,
+      grown_all (EntrySent all) w.group s.node old.list k.node.entries,
+    )
 
 -- ---- events
 

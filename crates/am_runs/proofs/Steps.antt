@@ -82,7 +82,6 @@ given_step rules list more acc to i m n c o given hm hn none answer h (nothing f
 given_step rules list more acc to i m n c o given hm hn none answer h (took k e is a b start low ln lm) =
     let t = has_taken m c n o (k + 1) e none is answer in
     let item = entry_item rules list acc i m k e hm t.there in
-    let fn = hn.fronts in
     let at : At (list ++ more) to (k + 1) e = record { low = omega arith; there = item_more list more (k + 1) e item } in
     let some = (hm.status.begins lm).some in
     subst (GivenOk (list ++ more) to n) (ap (λ x. given ++ taken_in x) (sym is)) (given_push (list ++ more) to m n given k e h start a b some (omega arith) at)

@@ -78,7 +78,6 @@ settled_stands : (rules : Rules) (list : List Entry) (acc i : ℕ) (m : Node) (r
 settled_stands rules list acc i m req k h is =
     let f = found_at m req k is in
     let low = f.low in
-    let base = h.fronts.base in
     let at = within_get list m.core.log.start m.core.log.entries ((m.core.base - m.core.log.start) + k) (Data m.core.who req f.body) h.log.within f.there in
     let there : item_at list (m.core.base + 1 + k) ≡ Some (Data m.core.who req f.body) =
     get_item list (m.core.base + 1 + k) (m.core.log.start + ((m.core.base - m.core.log.start) + k)) _ (omega arith) at in

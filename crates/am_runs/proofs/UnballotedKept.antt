@@ -109,11 +109,8 @@ list_more list more acc to log up h = record {
 
 pub begins_more : (rules : Rules) (list more : List Entry) (acc to i start : ℕ) → acc ≤ to → BeginsOk rules list acc i start
     → BeginsOk rules (list ++ more) to i start
-begins_more rules list more acc to i start up h = record {
-  some = h.some;
-  founder = h.founder;
-  joiner = λ f. at_more list more acc to start (Join i) up (h.joiner f);
-}
+begins_more rules list more acc to i start up h =
+    assumption (λ (f : has rules.founders i ≡ false). at_more list more acc to start (Join i) up (h.joiner f))
 
 pub sends_more : (list more : List Entry) (acc to i : ℕ) (queue : List OwnSend) → acc ≤ to → All (SendOk list acc i) queue
     → All (SendOk (list ++ more) to i) queue
@@ -122,30 +119,21 @@ sends_more list more acc to i queue up h = All-weaker (SendOk list acc i) (SendO
 
 pub status_more : (rules : Rules) (list more : List Entry) (acc to i : ℕ) (status : Status) (core : CoreState) → acc ≤ to
     → StatusOk rules list acc i status core → StatusOk rules (list ++ more) to i status core
-status_more rules list more acc to i status core up h = record {
-  promise = h.promise;
-  founder = h.founder;
-  blank = h.blank;
-  begins = λ t. begins_more rules list more acc to i core.start up (h.begins t);
-}
+status_more rules list more acc to i status core up h =
+    assumption (λ (t : has_log status ≡ true). begins_more rules list more acc to i core.start up (h.begins t))
 
 pub node_more : (rules : Rules) (list more : List Entry) (acc to i : ℕ) (m : Node) → acc ≤ to → NodeOk rules list acc i m → NodeOk rules (list ++ more) to i m
 node_more rules list more acc to i m up h =
     let f = h.fronts in
-    record {
-      who = h.who;
-      log = list_more list more acc to m.core.log up h.log;
-      fronts = record {
-        accepted = let a = f.accepted in omega arith;
-        within = f.within;
-        taken = f.taken;
-        base = f.base;
-        told = λ d. (let a = f.told d in omega arith);
-        passed = f.passed;
-      };
-      status = status_more rules list more acc to i m.status m.core up h.status;
-      sends = sends_more list more acc to i m.sends.queue up h.sends;
-    }
+    let accepted : m.core.acc ≤ to = let a = f.accepted in omega arith in
+    let told : i ≢ first_of rules → m.core.told ≤ to = λ d. (let a = f.told d in omega arith) in
+    assumption (
+      accepted,
+      told,
+      list_more list more acc to m.core.log up h.log,
+      status_more rules list more acc to i m.status m.core up h.status,
+      sends_more list more acc to i m.sends.queue up h.sends,
+    )
 
 pub packet_more : (rules : Rules) (list more : List Entry) (acc to i : ℕ) (p : Packet) → acc ≤ length list → acc ≤ to → PacketOk rules list acc i p
     → PacketOk rules (list ++ more) to i p

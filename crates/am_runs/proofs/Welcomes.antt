@@ -4,7 +4,6 @@ use Rattle.am_runs.proofs.UnballotedWords.{◌∙◌, subst, append-nil, arith, 
 use Rattle.am_runs.proofs.UnballotedWords.{Node, has_log, World, heard_by, is_welcome, welcomed_in, split, Cause, calls, hears, refuses, Answers, HasBegun}
 use Rattle.am_runs.proofs.UnballotedWords.{IsCall, IsCause, WasSentTo, asking_log}
 use Rattle.am_base.specs.declared.outcome.Outcome.TheVariants as said
-use Rattle.am_packet.specs.declared.packet.Packet.TheVariants as packet
 use Rattle.am_laws.specs.Events as event
 use Rattle.am_runs.proofs.{Lists.item_more, Lists.item_within, Worlds.begins_at, Worlds.RecordOk, Records.welcome_in, Records.welcomed_or, Records.idle_welcome, Chains.Gave}
 use Rattle.am_runs.proofs.{Chains.nothing, Chains.took, Chains.began}
@@ -46,8 +45,8 @@ begun_log m n p o log kind answer = by_packet p o kind answer
     begins join h = let a = asking_log m.status h.asked in let b = ap has_log h.member in absurd (cc)
 
     by_packet : (p : Packet) (o : Outcome) → (kind_of p == 10) ≡ true → Answers m (hears p) n o → welcomed_in o ≡ []
-    by_packet (packet.Welcome s v base join image) (said.Welcomed number) k h = begins number h
-    by_packet (packet.JoinAsk s v) (said.Welcomed number) k h = absurd (cc)
+    by_packet (Packet.Welcome s v base join image) (said.Welcomed number) k h = begins number h
+    by_packet (Packet.JoinAsk s v) (said.Welcomed number) k h = absurd (cc)
     by_packet _ (said.Welcomed number) k h = absurd h
     by_packet p _ k h = refl
 
@@ -73,9 +72,9 @@ welcomed_step w i m n c r more by cause answer (took k e is a b start low ln lm)
     ap (λ l. begins_at m ++ l) (idle_welcome (w.letters ++ more) i r (ap welcomed_in is)) ∙ append-nil (begins_at m)
     ∙ sym (λ j. if (ln ∙ sym lm) j then start j ∷ [] else [])
 welcomed_step w i m n c r more by cause answer (began s v base join image heard is lm ln start f up) =
-    let sent : WasSentTo w i r.event.act (packet.Welcome s v base join image) = subst (IsCause w i r.event.act) heard cause in
+    let sent : WasSentTo w i r.event.act (Packet.Welcome s v base join image) = subst (IsCause w i r.event.act) heard cause in
     let there : is_welcome (letter_at (w.letters ++ more) (heard_by r.event.act)) ≡ true =
-    letter_now w i r.event.act (packet.Welcome s v base join image) more sent in
+    letter_now w i r.event.act (Packet.Welcome s v base join image) more sent in
     let own : (name_of r == i) ≡ true = grind (arith, nat_tests) in
     let told : welcome_in (w.letters ++ more) i r ≡ join ∷ [] = rw (own, there) (ap welcomed_in is) in
     let before : begins_at m ≡ [] = rw lm refl in

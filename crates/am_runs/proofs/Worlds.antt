@@ -2,7 +2,6 @@
 use Rattle.am_runs.proofs.UnballotedWords.{◌≡◌, ◌≢◌, ⊎_elim, ℕ, ◌+◌, ◌-◌, ◌≤◌, ◌==◌, true, false, if◌then◌else◌, List, [], ◌∷◌, ◌++◌, length, take, Some}
 use Rattle.am_runs.proofs.UnballotedWords.{slice_get, refl, sym, ap, ◌∙◌, subst, arith, All, nat_tests, Entry, Data, Rules, has, Act, Record, name_of, deliveries}
 use Rattle.am_runs.proofs.UnballotedWords.{Node, set_at, has_log, World, Accepted, accepted_sends, IsSend, heard_by, welcomed_in, welcomes, split, get_push}
-use Rattle.am_group.specs.declared.event.Act.TheVariants as act
 use Rattle.am_runs.proofs.{UnballotedKept.first_of, UnballotedKept.At, UnballotedKept.NodeOk, UnballotedKept.LetterOk, Others.Unique, First.FirstOk, Chains.front}
 
 -- ---- what was given, and who was welcomed
@@ -33,10 +32,10 @@ pub record AskedOk (records : List Record) (nodes : ℕ → Node) : Type 0 where
       → IsSend r name req body → IsSend s name req other → k ≡ l
 
 body_in : Act → List ℕ
-body_in (act.Send body) = body
+body_in (Act.Send body) = body
 body_in _ = []
 
-unfolds : (body : List ℕ) → body_in (act.Send body) ≡ body
+unfolds : (body : List ℕ) → body_in (Act.Send body) ≡ body
 unfolding body_in
 unfolds body = refl
 

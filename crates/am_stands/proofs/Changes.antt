@@ -6,12 +6,10 @@ use Rattle.am_stands.proofs.Words.{Status, Node, Ballot, members, is_member, is_
 use Rattle.am_stands.proofs.Words.{with_promise, next_stamp, hears_member, World, is_stopped, fold_append, split, and_both, Cause, hears, Balloting, with_more}
 use Rattle.am_stands.proofs.Words.{without_one, as_it_is, Looks, finds_itself_out, finds_too_few, finds_no_room, decides, Promises, invited, overtaken_by}
 use Rattle.am_stands.proofs.Words.{told_result, rests_refresh, logged, equal_stamps, NameStands, FrontsStand, StandsBut, within, GoneSays, has_stopped, may_go}
-use Rattle.am_stands.proofs.Words.{MoveOk, MayMove}
+use Rattle.am_stands.proofs.Words.{MoveOk, MayMove, Packet}
 use Rattle.am_chain.specs.Group as groups
 use Rattle.am_chain.specs.Moves as group
-use Rattle.am_model.specs.declared.status.Status.TheVariants as status
 use Rattle.am_model.specs.Node as nodes
-use Rattle.am_packet.specs.declared.packet.Packet.TheVariants as packet
 use Rattle.am_stands.proofs.Names.{Onto, onto_same, onto_move, name_in, views_in, lines_within, each_within, fronts_within}
 
 -- ---- a node that is the same to the group
@@ -118,11 +116,11 @@ pub is_there : (w : World) (name : ℕ) (x : Node) (a : groups.Node) → is_stop
 is_there w name x a runs stays h = record { goes = h.stopped ∙ runs; stays = h.departed ∙ stays }
 
 pub member_stays : (t : Status) → is_member t ≡ true → has_departed t ≡ false
-member_stays status.Departed h = absurd (cc)
+member_stays Status.Departed h = absurd (cc)
 member_stays _ h = refl
 
 asking_stays : (t : Status) → (is_member t || is_asking t) ≡ true → has_departed t ≡ false
-asking_stays status.Departed h = absurd (cc)
+asking_stays Status.Departed h = absurd (cc)
 asking_stays _ h = refl
 
 pub is_up : (w : World) (name : ℕ) (x : Node) (a : groups.Node) → is_stopped w name ≡ false → is_member x.status ≡ true
@@ -247,20 +245,13 @@ looked_open c x b (as_it_is old o on) = ap is_unfinished o.last ∙ ap not o.ope
 
 -- ---- leaving
 
-pub ask_stands : (w : World) (name : ℕ) (c : Cause) (x : Node) (s : Group) → MayMove w name c x s → x.status ≡ status.Member
+pub ask_stands : (w : World) (name : ℕ) (c : Cause) (x : Node) (s : Group) → MayMove w name c x s → x.status ≡ Status.Member
     → is_unfinished x.ballot ≡ false → StandsBut name (within w name x) s → Onto name (within w name (record x { leaving = true })) s
 ask_stands w name c x s may was none h =
     let old = own_name w name x s may.few h in
     moved w name x (record x { leaving = true }) s (record (s.node name) { leaving = true }) refl
     (group.asks name (is_up w name x (s.node name) may.runs (ap is_member was) old) (old.ballot ∙ none)) tt refl refl
-    (λ k. record {
-      begins = record { within = k.begins.within; image = k.begins.image };
-      list = k.list;
-      flags = record { log_ = k.log_; stopped = k.stopped; departed = k.departed; leaving = refl };
-      promise = k.promise;
-      ballot = k.ballot;
-      start = k.start;
-    }) h
+    (λ k. assumption) h
 
 -- it is told to go only once it may
 may_depart : (w : World) (name number : ℕ) (x : Node) (s : Group) → is_stopped w name ≡ false → IsUp (s.node name) → (s.node name).leaving ≡ true
@@ -270,20 +261,13 @@ may_depart w name number x s runs up leaves old
     (may_go before is accepted stored) = (before, record { up = up; leaving = leaves; accepted = accepted; stored = stored })
 
 pub depart_stands : (w : World) (name from number : ℕ) (v : Stamp) (c : Cause) (x : Node) (s : Group) → MayMove w name c x s
-    → c ≡ hears (packet.Gone from v number) → hears_member x from ≡ true → x.leaving ≡ true → StandsBut name (within w name x) s
-    → Onto name (within w name (record x { status = status.Departed })) s
+    → c ≡ hears (Packet.Gone from v number) → hears_member x from ≡ true → x.leaving ≡ true → StandsBut name (within w name x) s
+    → Onto name (within w name (record x { status = Status.Departed })) s
 depart_stands w name from number v c x s may is heard leaves h =
     let old = own_name w name x s may.few h in
     let member = (and_both (not (from == x.core.who)) (is_member x.status) heard).1 in
     let up = is_up w name x (s.node name) may.runs member old in
     let go = may_depart w name number x s may.runs up (old.leaving ∙ leaves) old (may.gone from v number is) in
-    moved w name x (record x { status = status.Departed }) s (record (s.node name) { departed = true }) refl
+    moved w name x (record x { status = Status.Departed }) s (record (s.node name) { departed = true }) refl
     (group.departs name go.0 go.1) tt refl refl
-    (λ k. record {
-      begins = record { within = k.begins.within; image = k.begins.image };
-      list = k.list;
-      flags = record { log_ = up.log; stopped = k.stopped; departed = refl; leaving = k.leaving };
-      promise = k.promise;
-      ballot = k.ballot;
-      start = λ t. k.start (logged x.status member);
-    }) h
+    (λ k. assumption (up.log, k.start (logged x.status member))) h

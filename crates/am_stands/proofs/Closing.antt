@@ -14,17 +14,15 @@ gone_name : (w : World) (name : ℕ) (x : Node) (b : groups.Node) → b.has_log 
     → NameStands (within w name (after_closing x)) name (after_closing x) (record b { departed = true })
 gone_name w name x b log h =
     let r = rests_at_end (push_entry x (Leave x.core.who)) in
-    record {
-      begins = record {
-        within = subst (λ (g : Log). g.start ≤ length w.group) (sym r.log) h.begins.within;
-        image = subst (λ (g : Log). g.image ≡ image_of (take g.start w.group)) (sym r.log) h.begins.image;
-      };
-      list = h.list ∙ ap (λ (g : Log). take g.start w.group ++ g.entries) (sym r.log);
-      flags = record { log_ = log; stopped = h.stopped; departed = refl; leaving = h.leaving ∙ sym r.rests.leaving };
-      promise = h.promise ∙ sym r.rests.promise;
-      ballot = h.ballot ∙ ap is_unfinished (sym r.rests.ballot);
-      start = λ t. h.start (sym h.log_ ∙ log) ∙ sym r.begins;
-    }
+    assumption (
+      subst (λ (g : Log). g.start ≤ length w.group) (sym r.log) h.begins.within,
+      subst (λ (g : Log). g.image ≡ image_of (take g.start w.group)) (sym r.log) h.begins.image,
+      h.list ∙ ap (λ (g : Log). take g.start w.group ++ g.entries) (sym r.log),
+      h.leaving ∙ sym r.rests.leaving,
+      h.promise ∙ sym r.rests.promise,
+      h.ballot ∙ ap is_unfinished (sym r.rests.ballot),
+      h.start (sym h.log_ ∙ log) ∙ sym r.begins,
+    )
 
 module _ (w : World) (e : Event) (name : ℕ) (x : Node) (step : Step) (s : Group) (is : step.node ≡ after_closing x) (who : x.core.who ≡ name) (few : name < 256)
     (small : (k : ℕ) (v : Decided) → slice_get w.views k ≡ Some v → v.stamp.by < 256) (log : (s.node name).has_log ≡ true)

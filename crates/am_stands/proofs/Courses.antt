@@ -8,7 +8,6 @@ use Rattle.am_stands.proofs.StepWords.{keeps_body, notes, stores, begins_list, d
 use Rattle.am_stands.proofs.StepWords.{asks_to_join, asks_to_leave, closes, IsPlain, settle_is, leads_pushed, after_change, has_log, ◌+◌, ◌-◌, ◌<◌, [], ◌∷◌}
 use Rattle.am_stands.proofs.StepWords.{◌++◌, take, drop, arith, append_assoc, length-append, take-add, nat_tests, length-take, length-drop, drop-drop}
 use Rattle.am_stands.proofs.StepWords.{drop-append-le, take-append-le, top_of, CoreState, is_view, push_entry, group_with, split, same_by}
-use Rattle.am_model.specs.declared.status.Status.TheVariants as status
 use Rattle.am_laws.specs.Looks.{was_handed}
 use Rattle.am_stands.specs.Keeping as plainly
 use Rattle.am_stands.proofs.Learning.{same_group}
@@ -76,18 +75,18 @@ accepted_twice group x y leads leads_y log low up high =
 
 -- who is no member, and hasn't departed, has no list
 pub bare_status : (t : Status) → is_member t ≡ false → has_departed t ≡ false → has_log t ≡ false
-bare_status status.Member m d = absurd (cc)
-bare_status status.Departed m d = absurd (cc)
+bare_status Status.Member m d = absurd (cc)
+bare_status Status.Departed m d = absurd (cc)
 bare_status _ m d = refl
 
 pub asking_stays : (t : Status) → (is_member t || is_asking t) ≡ true → has_departed t ≡ true → ⊥
-asking_stays status.Stranger a d = cc
-asking_stays status.Asking a d = cc
-asking_stays status.Member a d = cc
-asking_stays status.Departed a d = cc
+asking_stays Status.Stranger a d = cc
+asking_stays Status.Asking a d = cc
+asking_stays Status.Member a d = cc
+asking_stays Status.Departed a d = cc
 
-pub departed_is : (t : Status) → has_departed t ≡ true → t ≡ status.Departed
-departed_is status.Departed d = refl
+pub departed_is : (t : Status) → has_departed t ≡ true → t ≡ Status.Departed
+departed_is Status.Departed d = refl
 departed_is _ d = absurd (cc)
 
 -- ---- what brings a report

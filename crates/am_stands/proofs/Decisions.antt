@@ -158,14 +158,7 @@ decision_stands w name c x b s may why needs h =
     let chosen = record a { list = opening (choice_of a v); ballot = false } in
     let list_ : opening (choice_of a v) ≡ whole (within w name y) y = (λ i. a.list ++ View (record v { stamp = promised i }) ∷ [])
     ∙ sym (is_whole w name x y a s.views v promised mine old refl needs.members_ fresh unseen h.views) in
-    let name_ : NameStands (within w name x) name x a → NameStands (within w name y) name y chosen = λ k. record {
-      begins = record { within = k.begins.within; image = k.begins.image };
-      list = list_;
-      flags = k.flags;
-      promise = k.promise;
-      ballot = refl;
-      start = k.start;
-    } in
+    let name_ : NameStands (within w name x) name x a → NameStands (within w name y) name y chosen = λ k. assumption (list_) in
     onto_move name (within w2 name y) s (with_choice s name v) (group.decides name v needs.may) (needs.set, needs.voted)
     chosen (put_same s.node name chosen) refl refl (record {
       each = λ i few. name_in (within w name y) (within w2 name y) i _ _ refl refl (each_within w name x y s chosen name_ h.each i few);

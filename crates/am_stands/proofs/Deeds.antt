@@ -89,13 +89,7 @@ deeds_on rules w name c o m x s (looked {n = n} b verdict course over why look i
     record {
       group = g.group;
       views = (after_look look w).views;
-      changed = then_changed g.path g.grows (record {
-        to = one.to;
-        path = one.path;
-        grows = one.grows;
-        goes = goes;
-        fronts = record { low = fronts.low; heard = fronts.heard; word = fronts.word; acc = fronts.acc; told = fronts.told };
-      });
+      changed = then_changed g.path g.grows (search (one.to, one, goes, fronts.heard, fronts));
       grown = elim g.grown [
         | as_before is ↦ as_before is
         | by_reports brings leads start is ↦ absurd (both_ways _ brings (look_brings b why).brings)

@@ -5,7 +5,6 @@ use Rattle.am_stands.proofs.StepWords.{hears_sequencer, refresh, settle, refresh
 use Rattle.am_stands.proofs.StepWords.{Change, settles, takes_report, admits, numbers, keeps_body, notes, stores, begins_list, promises, opens, fetches}
 use Rattle.am_stands.proofs.StepWords.{stores_view, queues, collects, takes, asks_to_join, asks_to_leave, IsPlain, Course, nothing_yet, used_report, and_then}
 use Rattle.am_stands.proofs.StepWords.{Deeds, plainly, looked, rests_at_end, with_sends, settle_is, leads_member, Unmoved, looked_open, advanced}
-use Rattle.am_model.specs.declared.status.Status.TheVariants as status
 
 -- it is the same to the group, and to the application
 pub record Rests (x y : Node) : Type 0 where
@@ -16,34 +15,26 @@ pub record Rests (x y : Node) : Type 0 where
   pub acc : y.core.acc ≡ x.core.acc
 
 pub rests_itself : (x : Node) → Rests x x
-rests_itself x = record {
-  same = record { log = refl; log_ = refl; departed = refl; leaving = refl; promise = refl; ballot = refl; start = refl };
-  status = refl;
-  ballot = refl;
-  told = refl;
-  acc = refl;
-}
+rests_itself x = assumption
 
 rests_then : (x y z : Node) → Rests x y → Rests y z → Rests x z
-rests_then x y z a b = record {
-  same = record {
-    log = b.same.log ∙ a.same.log;
-    log_ = b.same.log_ ∙ a.same.log_;
-    departed = b.same.departed ∙ a.same.departed;
-    leaving = b.same.leaving ∙ a.same.leaving;
-    promise = b.same.promise ∙ a.same.promise;
-    ballot = b.same.ballot ∙ a.same.ballot;
-    start = b.same.start ∙ a.same.start;
-  };
-  status = b.status ∙ a.status;
-  ballot = b.ballot ∙ a.ballot;
-  told = b.told ∙ a.told;
-  acc = b.acc ∙ a.acc;
-}
+rests_then x y z a b = assumption (
+  b.same.log ∙ a.same.log,
+  b.same.log_ ∙ a.same.log_,
+  b.same.departed ∙ a.same.departed,
+  b.same.leaving ∙ a.same.leaving,
+  b.same.promise ∙ a.same.promise,
+  b.same.ballot ∙ a.same.ballot,
+  b.same.start ∙ a.same.start,
+  b.status ∙ a.status,
+  b.ballot ∙ a.ballot,
+  b.told ∙ a.told,
+  b.acc ∙ a.acc,
+)
 
 -- ---- what it can't be
 
-module _ (x : Node) (gone : x.status ≡ status.Departed) where
+module _ (x : Node) (gone : x.status ≡ Status.Departed) where
   no_member : is_member x.status ≡ true → ⊥
   no_member t = (let z = sym t ∙ ap is_member gone in cc)
 
@@ -90,28 +81,22 @@ module _ (x : Node) (gone : x.status ≡ status.Departed) where
   rests_change y (fetches s v base number e is heard promise below why may) p = absurd (no_hearer s heard)
   rests_change y (stores_view s base number v is heard own other promise below may) p = absurd (no_hearer s heard)
   rests_change y (queues body is says member stays few) p = absurd (no_member member)
-  rests_change y (collects req is) p = record {
-    same = record { log = refl; log_ = refl; departed = refl; leaving = refl; promise = refl; ballot = refl; start = refl };
-    status = refl;
-    ballot = refl;
-    told = refl;
-    acc = refl;
-  }
+  rests_change y (collects req is) p = assumption
   rests_change y (takes e is says member some there) p = absurd (no_member member)
-  rests_change y (asks_to_join is was) p = absurd (other_status status.Stranger was refl)
-  rests_change y (asks_to_leave is was stays done) p = absurd (other_status status.Member was refl)
+  rests_change y (asks_to_join is was) p = absurd (other_status Status.Stranger was refl)
+  rests_change y (asks_to_leave is was stays done) p = absurd (other_status Status.Member was refl)
   rests_change y _ p = absurd p
 
 -- ---- a step
 
-pub rests_course : {c : Cause} {o : Outcome} (m x : Node) → m.status ≡ status.Departed → Course c o m x → Rests m x
+pub rests_course : {c : Cause} {o : Outcome} (m x : Node) → m.status ≡ Status.Departed → Course c o m x → Rests m x
 rests_course m x gone nothing_yet = rests_itself m
 rests_course m x gone (used_report s v report by may) = absurd (no_leader m gone may.leads)
 rests_course m x gone (and_then {n = n} before z plain) =
     let h = rests_course m n gone before in
     rests_then m n x h (rests_change n (h.status ∙ gone) x z plain)
 
-rests_deeds : {c : Cause} {o : Outcome} (m x : Node) → m.status ≡ status.Departed → is_unfinished m.ballot ≡ false → Deeds c o m x → Rests m x
+rests_deeds : {c : Cause} {o : Outcome} (m x : Node) → m.status ≡ Status.Departed → is_unfinished m.ballot ≡ false → Deeds c o m x → Rests m x
 rests_deeds m x gone closed (plainly course) = rests_course m x gone course
 rests_deeds {c = c} m x gone closed (looked {n = n} b verdict course over why look is) = absurd (
     let h = rests_course m n gone course in
@@ -125,7 +110,7 @@ pub record Ended (m n : Node) : Type 0 where
   pub ballot : n.ballot ≡ m.ballot
   pub low : n.core.acc ≤ max m.core.acc m.core.told
 
-pub rests_step : {c : Cause} {o : Outcome} (m x : Node) → m.status ≡ status.Departed → is_unfinished m.ballot ≡ false → Deeds c o m x
+pub rests_step : {c : Cause} {o : Outcome} (m x : Node) → m.status ≡ Status.Departed → is_unfinished m.ballot ≡ false → Deeds c o m x
     → Ended m (refresh_at_end x)
 unfolding refresh_at_end
 rests_step m x gone closed deeds =

@@ -125,12 +125,10 @@ ends_stand w e name step s needs h =
     let g = group_after w.group n in
     let t = record s { group = g } in
     let path = accept_moves w s name n h.group needs.accepts in
-    let ended : Ended w e name step t = record {
-      each = each_grows w e name step s needs.grows h.each;
-      fronts = h.fronts;
-      views = views_grow w e name step s needs.grows needs.noted h.each h.views;
-      group_ = refl;
-    } in
+    let ended : Ended w e name step t = assumption (
+      each_grows w e name step s needs.grows h.each,
+      views_grow w e name step s needs.grows needs.noted h.each h.views,
+    ) in
     let last = learn_stands w e name step t refl ended needs.few (elim needs.learns [
       | departed d ↦ departed d
       | bare f ↦ bare f

@@ -242,14 +242,12 @@ welcome_stands w name c x v base join image s may needs h =
     (λ f. rw f refl) in
     one_move (λ t. StandsBut name (within w name y) t × FrontsBegin name base t) s (with_node s name b) (group.welcomes name v base join needs.may) tt (
       record {
-        each = each_within w name x y s b (λ k. record {
-          begins = record { within = subst (λ (g : List Entry). base ≤ length g) h.group needs.within; image = needs.image_ ∙ ap image_of all_of };
-          list = all_of ∙ sym (append-nil (take base w.group));
-          flags = record { log_ = refl; stopped = k.stopped; departed = needs.may.there.stays; leaving = k.leaving };
-          promise = refl;
-          ballot = k.ballot;
-          start = λ t. refl;
-        }) h.each;
+        each = each_within w name x y s b (λ k. assumption (
+          subst (λ (g : List Entry). base ≤ length g) h.group needs.within,
+          needs.image_ ∙ ap image_of all_of,
+          all_of ∙ sym (append-nil (take base w.group)),
+          needs.may.there.stays,
+        )) h.each;
         fronts = fronts_within w name x y s b h.fronts;
         views = views_noted (within w name x) (within w name y) s.views refl lines h.views;
         group = h.group;

@@ -1,14 +1,13 @@
 -- What a change needs of the group, from what a letter says and what every run of the group keeps.
 use Rattle.am_stands.proofs.Words.{same_stamp, ◌≡◌, ◌≢◌, ℕ, suc, ◌+◌, ◌<◌, ◌==◌, ◌&&◌, not, nat_lt, List, length, true, false, Some, slice_get, refl, sym, ap}
 use Rattle.am_stands.proofs.Words.{◌∙◌, subst, arith, nat_tests, Entry, Data, View, GroupView, Stamp, Image, Report, has, stamp_eq, row_of, fits, members_of}
-use Rattle.am_stands.proofs.Words.{OwnSend, item_at, image_of, key, Group, IsUp, MayNumber, Kept, Node, view, is_member, acts, has_own_leave, body_of}
+use Rattle.am_stands.proofs.Words.{OwnSend, item_at, image_of, key, Group, IsUp, MayNumber, Kept, Node, view, is_member, acts, has_own_leave, body_of, Packet}
 use Rattle.am_stands.proofs.Words.{hears_member, hears_in_view, hears_sequencer, World, is_stopped, and_both, Cause, hears, MayStore, Numbers, asked_send}
 use Rattle.am_stands.proofs.Words.{own_send, asked_join, asked_leave, known_member, leave_fits, NameStands, within, line, IsDecided, EntrySays, OrderSays}
 use Rattle.am_stands.proofs.Words.{LeaverSays, of_view, before_it, ResultSays, BodiesAsked, SendsOnce, NamesNamed, NeedsNumber, IsOthers, NeedsEntry, ◌-◌, ◌++◌}
 use Rattle.am_stands.proofs.Words.{map, take, Option, None, flat_map-append, length-append, Row, place_of, requests_of, request_in, Begins, IsGood, mem, row_at}
 use Rattle.am_stands.proofs.Words.{mem_in, waiting, accepted_at, settle_at, settle_waiting, settle, split, request_within, next_in, found_at, Turn, waiting_is}
 use Rattle.am_stands.proofs.Words.{one_more, waiting_settled, collected_turn, OwnTurn}
-use Rattle.am_packet.specs.declared.packet.Packet.TheVariants as packet
 use Rattle.am_model.specs.Node as nodes
 use Rattle.am_stands.proofs.{Changes.told_whole, Changes.long_all, Changes.is_up, Entries.IsLeading, Growing.leads_line, Ongoing.is_ongoing, Changes.told_all}
 use Rattle.am_stands.proofs.{Welcoming.member_row}
@@ -119,7 +118,7 @@ leaves_of s from v report (of_view leaves h) = leaves
 leaves_of s from v report (before_it leaves h) = leaves
 
 number_may : (name : ℕ) (c : Cause) (x : Node) (e : Entry) (s : Group) → x.core.who ≡ name
-    → ((from : ℕ) (v : Stamp) (report : Report) → c ≡ hears (packet.LeaveAsk from v report) → LeaverSays s from v report) → Numbers c x e
+    → ((from : ℕ) (v : Stamp) (report : Report) → c ≡ hears (Packet.LeaveAsk from v report) → LeaverSays s from v report) → Numbers c x e
     → MayNumber s.node name e
 number_may name c x e s who asks (asked_leave from v report is other known stays) = (
   leaves_of s from v report (asks from v report is),
@@ -127,14 +126,14 @@ number_may name c x e s who asks (asked_leave from v report is other known stays
 )
 number_may name c x e s who asks _ = tt
 
-number_named : (c : Cause) (x : Node) (e : Entry) → ((from : ℕ) (v : Stamp) → c ≡ hears (packet.JoinAsk from v) → from < 256) → Numbers c x e → NamesNamed e
+number_named : (c : Cause) (x : Node) (e : Entry) → ((from : ℕ) (v : Stamp) → c ≡ hears (Packet.JoinAsk from v) → from < 256) → Numbers c x e → NamesNamed e
 number_named c x e small (asked_join from v is other f) = small from v is
 number_named c x e small _ = tt
 
 pub number_needs : (w : World) (name : ℕ) (c : Cause) (x : Node) (e : Entry) (s : Group) → Kept s → x.core.who ≡ name → is_stopped w name ≡ false
     → NameStands (within w name x) name x (s.node name) → IsLeading name x (s.node name) → length (nodes.image_of x).rows ≡ 16
-    → OwnFits x → ((from : ℕ) (v : Stamp) (report : Report) → c ≡ hears (packet.LeaveAsk from v report) → LeaverSays s from v report)
-    → ((from : ℕ) (v : Stamp) → c ≡ hears (packet.JoinAsk from v) → from < 256) → Numbers c x e → NeedsNumber s name x e
+    → OwnFits x → ((from : ℕ) (v : Stamp) (report : Report) → c ≡ hears (Packet.LeaveAsk from v report) → LeaverSays s from v report)
+    → ((from : ℕ) (v : Stamp) → c ≡ hears (Packet.JoinAsk from v) → from < 256) → Numbers c x e → NeedsNumber s name x e
 number_needs w name c x e s k who runs old leading long own asks small why = record {
   chain = leads_line s name k (record { up = is_up w name x (s.node name) runs leading.member old; acts = leading.acts_; by = leading.by });
   fit = number_fits c x e long own why;
@@ -156,11 +155,10 @@ pub turn_queued : (who : ℕ) (list : List Entry) (body : List ℕ) (sends : own
 turn_queued who list body sends k = record { next = k.next; turn = one_more k.next k.next sends.last sends.queue body k.turn; low = k.low }
 
 pub turn_collected : (who req : ℕ) (list : List Entry) (sends : own.Sends) → OwnTurn who list sends → OwnTurn who list (own.collect req sends)
-turn_collected who req list sends k = record {
-  next = k.next;
-  turn = subst (Turn k.next k.next (own.collect req sends).queue) (sym same) (collected_turn k.next k.next sends.last req sends (omega arith) k.turn);
-  low = k.low;
-}
+turn_collected who req list sends k = search (
+  k.next,
+  subst (Turn k.next k.next (own.collect req sends).queue) (sym same) (collected_turn k.next k.next sends.last req sends (omega arith) k.turn),
+)
   where
     same : (own.collect req sends).last ≡ sends.last
     same = split (own.is_settled req sends) (λ t. rw t refl) (λ f. rw f refl)

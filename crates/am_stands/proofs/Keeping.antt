@@ -10,7 +10,6 @@ use Rattle.am_stands.proofs.Words.{MayMove, NeedsNumber, NeedsEntry, NeedsWelcom
 use Rattle.am_stands.proofs.Words.{◌≤◌, take, stamp_lt, begins_trans, begins_take, begins_length, length_take, take_begins, key_lt, equal_stamps, WelcomeSays}
 use Rattle.am_laws.specs.Changes.{numbers, stores, fetches, closes}
 use Rattle.am_packet.specs.declared.packet.Packet.TheVariants as packet
-use Rattle.am_model.specs.declared.status.Status.TheVariants as status
 use Rattle.am_runs.proofs.SentKept as sent
 use Rattle.am_stands.specs.Letters as says
 use Rattle.am_stands.proofs.{Changes.looked_open, Changes.own_name, Changes.is_up, Changes.told_whole, ChainNames.front_named, ChainNames.members_named}
@@ -24,7 +23,7 @@ use Rattle.am_stands.proofs.Changes.{is_there}
 -- ---- a joiner
 
 none_of_asking : (t : Status) → is_member t ≡ false → (is_member t || is_asking t) ≡ true → (has_log t ≡ false) × (has_departed t ≡ false)
-none_of_asking status.Asking f h = (refl, refl)
+none_of_asking Status.Asking f h = (refl, refl)
 none_of_asking _ f h = absurd (cc)
 
 pub not_above_key : (u v : Stamp) → u.by < 256 → v.by < 256 → stamp_lt v u ≡ false → key u ≤ key v
@@ -205,7 +204,7 @@ module _ (rules : Rules) (w : World) (name : ℕ) (c : Cause) (x : Node) (s : Gr
       (h.heard (packet.Order from v base acc number sender req) is).says.1
 
   asking_blank : (t : Status) → is_member t ≡ false → (is_member t || is_asking t) ≡ true → (has_log t ≡ false) × (has_departed t ≡ false)
-  asking_blank status.Asking f k = (refl, refl)
+  asking_blank Status.Asking f k = (refl, refl)
   asking_blank _ f k = absurd (cc)
 
   welcome_ok : (from : ℕ) (v : Stamp) (base join : ℕ) (image : Image) → c ≡ hears (packet.Welcome from v base join image)

@@ -14,7 +14,6 @@ use Rattle.am_stands.proofs.Words.{GroupFor, HeardSo, IsPlain, NodeKeeps, OwnTur
 use Rattle.am_model.specs.Ballots.{overtake as overtaken_by}
 use Rattle.am_laws.specs.Changes.{numbers, stores, departs, fetches, closes}
 use Rattle.am_base.specs.declared.outcome.Outcome.TheVariants as said
-use Rattle.am_packet.specs.declared.packet.Packet.TheVariants as packet
 use Rattle.am_model.specs.Node as nodes
 use Rattle.am_stands.specs.Letters as says
 use Rattle.am_stands.proofs.Keeping.{kept, old, up, good, known, looked_last, unfinished, sequencer_member, number_ok, other_heard}
@@ -181,23 +180,23 @@ module _ {rules : Rules} {w v : World} {name : ℕ} {c : Cause} {x y : Node} {s 
 
 brings_trim : (w : World) (s : Group) (name : ℕ) (c : Cause) (from : ℕ) (v : Stamp) (base acc : ℕ) → ((p : _) → c ≡ hears p → HeardSo w s name p)
     → BringsFronts c from v base acc → Trimmed s base
-brings_trim w s name c from v base acc heard (with_entry _ _ _ _ number e) = (heard (packet.Bcast from v base acc number e) refl).says.0
-brings_trim w s name c from v base acc heard (with_number _ _ _ _ number sender req) = (heard (packet.Order from v base acc number sender req) refl).says.0
-brings_trim w s name c from v base acc heard (alone _ _ _ _ high poll) = (heard (packet.Accept from v base acc high poll) refl).says.0
+brings_trim w s name c from v base acc heard (with_entry _ _ _ _ number e) = (heard (Packet.Bcast from v base acc number e) refl).says.0
+brings_trim w s name c from v base acc heard (with_number _ _ _ _ number sender req) = (heard (Packet.Order from v base acc number sender req) refl).says.0
+brings_trim w s name c from v base acc heard (alone _ _ _ _ high poll) = (heard (Packet.Accept from v base acc high poll) refl).says.0
 
 -- ---- a report that a sequencer takes
 
 send_said : (w : World) (s : Group) (name : ℕ) (c : Cause) (from : ℕ) (v : Stamp) (report : Report) (req : ℕ) (body : List ℕ)
     → ((p : Packet) → c ≡ hears p → HeardSo w s name p) → BringsSend c from v report req body → says.ReportSays s from v report
-send_said w s name c from v report req body heard (by_request _ _ _ _ _) = (heard (packet.Request from v report req body) refl).says.reports
-send_said w s name c from v report req body heard (by_spread _ _ _ _ _) = (heard (packet.Spread from v report req body) refl).says.reports
+send_said w s name c from v report req body heard (by_request _ _ _ _ _) = (heard (Packet.Request from v report req body) refl).says.reports
+send_said w s name c from v report req body heard (by_spread _ _ _ _ _) = (heard (Packet.Spread from v report req body) refl).says.reports
 
 reports_said : (w : World) (s : Group) (name : ℕ) (c : Cause) (from : ℕ) (v : Stamp) (report : Report) → ((p : Packet) → c ≡ hears p → HeardSo w s name p)
     → BringsReport c from v report → says.ReportSays s from v report ⊎ says.LeaverSays s from v report
 reports_said w s name c from v report heard (with_send _ _ _ req body b) = inl (send_said w s name c from v report req body heard b)
-reports_said w s name c from v report heard (by_ack _ _ _) = inl (heard (packet.Ack from v report) refl).says
-reports_said w s name c from v report heard (by_nack _ _ _) = inl (heard (packet.Nack from v report) refl).says
-reports_said w s name c from v report heard (by_leave_ask _ _ _) = inr (heard (packet.LeaveAsk from v report) refl).says
+reports_said w s name c from v report heard (by_ack _ _ _) = inl (heard (Packet.Ack from v report) refl).says
+reports_said w s name c from v report heard (by_nack _ _ _) = inl (heard (Packet.Nack from v report) refl).says
+reports_said w s name c from v report heard (by_leave_ask _ _ _) = inr (heard (Packet.LeaveAsk from v report) refl).says
 
 module _ (rules : Rules) (w : World) (name : ℕ) (c : Cause) (x : Node) (s : Group) (h : Stepping rules w name c x s) (t : is_sequencer x ≡ true) where
   speaks : Speaks (within w name x) name x s
@@ -366,7 +365,7 @@ keeps_by rules w v name c o x y s t (stores from u base acc number e by heard pl
     keep_pushed q e (hears_in_view_member x from u heard) refl may.fits refl (omega arith) refl refl refl refl refl (trimmed_same q refl)
 keeps_by rules w v name c o x y s t (begins_list from u base join image is says_ may) plain q later =
     let none = none_of_asking x.status may.no_member (and_both (not (from == x.core.who)) (is_member x.status || is_asking x.status) may.asks).1 in
-    let trim = (q.h.heard (packet.Welcome from u base join image) is).says.0 in
+    let trim = (q.h.heard (Packet.Welcome from u base join image) is).says.0 in
     let nothing : (s.node name).list ≡ [] = ((kept rules w name c x s q.h).each name).blank ((old rules w name c x s q.h).log_ ∙ none) in
     let size = ap length nothing in
     keep q (good_member q refl) (ballots_same q refl) (λ u_. absurd (let k = (q.h.keeps.opens u_).0 in let z = may.no_member in cc))
@@ -398,12 +397,12 @@ keeps_by rules w v name c o x y s t (looks b verdict over why look is) plain q l
     keeps_look rules w v name c x s t b verdict q why look later
 keeps_by rules w v name c o x y s t (fetches from u base number e is heard promise below why may) plain q later =
     keep_pushed q e (other_heard rules w name c x s q.h from heard).1 refl may.fits refl (omega arith) refl refl refl refl refl
-    (trimmed_grow w s t y.core.base q.g (trimmed_max s x.core.base base q.h.keeps.trimmed (q.h.heard (packet.Piece from u base number e) is).says.0))
+    (trimmed_grow w s t y.core.base q.g (trimmed_max s x.core.base base q.h.keeps.trimmed (q.h.heard (Packet.Piece from u base number e) is).says.0))
 keeps_by rules w v name c o x y s t (stores_view from base number u is heard own other promise below may) plain q later =
     keep_pushed q (View u) (other_heard rules w name c x s q.h from heard).1 refl may.fits refl
     (omega arith) refl refl refl refl refl
     (trimmed_grow w s t y.core.base q.g
-    (trimmed_max s x.core.base base q.h.keeps.trimmed (q.h.heard (packet.Result from base number u) is).says.0))
+    (trimmed_max s x.core.base base q.h.keeps.trimmed (q.h.heard (Packet.Result from base number u) is).says.0))
 keeps_by rules w v name c o x y s t (queues body is says_ member stays few) plain q later =
     keep_same q refl refl refl refl refl refl refl (turn_queued x.core.who (t.node name).list body x.sends
     (turn_grows x.core.who (s.node name).list (t.node name).list x.sends (q.g.each name).list q.h.keeps.turn))

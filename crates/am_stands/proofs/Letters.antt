@@ -43,13 +43,8 @@ module _ (w v : World) (s t : Group) (g : Grows s t) (more : (rest : List Record
   }
 
   asked_stays : (name req : ℕ) (body : List ℕ) → WasAsked w name req body → WasAsked v name req body
-  asked_stays name req body h = record {
-    index = h.index;
-    done = h.done;
-    there = ap (λ l. slice_get l h.index) more.1
-        ∙ get_front w.records more.0 h.index h.done h.there;
-    is = h.is;
-  }
+  asked_stays name req body h =
+      search (h.index, h.done, ap (λ l. slice_get l h.index) more.1 ∙ get_front w.records more.0 h.index h.done h.there)
 
   pub trimmed_stays : (base : ℕ) → Trimmed s base → Trimmed t base
   trimmed_stays base h =
@@ -146,14 +141,7 @@ module _ (w v : World) (s t : Group) (g : Grows s t) (more : (rest : List Record
 
   vote_stays : (i : ℕ) (u : Stamp) (shown : Vote) → VoteSays s i u shown → VoteSays t i u shown
   vote_stays i u shown (own h) = own h
-  vote_stays i u shown (tells h) = tells (record {
-    list = h.list;
-    shown = g.shown (key u) i h.list h.shown;
-    view = h.view;
-    top = h.top;
-    members = h.members;
-    taken = h.taken;
-  })
+  vote_stays i u shown (tells h) = tells (search (h.list, g.shown (key u) i h.list h.shown))
   vote_stays i u shown (over_vote d) = over_vote (decided_stays (key u) d)
 
   pub all_stay : (u : Stamp) (h : ℕ) → AllShown s u h → AllShown t u h

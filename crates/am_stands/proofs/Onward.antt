@@ -64,14 +64,12 @@ move_on founders first resilience s t h move ok =
     let old = run_keeps founders first resilience s h.run in
     let run = runs_go_on founders first resilience s t h.run move (no_stop move ok) in
     let new = run_keeps founders first resilience t run in
-    record {
-      group_ = record {
-        run = run;
-        branches = moves_branch s t move ok old.kept old.lawful new.kept h.branches;
-        named = moves_named s t move ok old.kept h.named;
-      };
-      grows = moves_grow s t move old.kept (decisions_are_new s t move ok old.kept old.lawful h.branches);
-    }
+    assumption (
+      run,
+      moves_branch s t move ok old.kept old.lawful new.kept h.branches,
+      moves_named s t move ok old.kept h.named,
+      moves_grow s t move old.kept (decisions_are_new s t move ok old.kept old.lawful h.branches),
+    )
 
 pub goes_on : (founders : List ℕ) (first resilience : ℕ) (s t : Group) → GroupOk founders first resilience s → Moves s t → GoesOn founders first resilience s t
 goes_on founders first resilience s t h none = record { group_ = h; grows = grows_same s }

@@ -46,13 +46,11 @@ pub record Changed (rules : Rules) (w : World) (name : ℕ) (c : Cause) (y : Nod
 -- after other moves
 pub then_changed : {rules : Rules} {w : World} {name : ℕ} {c : Cause} {y : Node} {s t : Group} → Moves s t → Grows s t → Changed rules w name c y t
     → Changed rules w name c y s
-then_changed {s = s} {t = t} path grows h = record {
-  to = h.to;
-  path = then_moves path h.path;
-  grows = grows_trans s t h.to grows h.grows;
-  goes = h.goes;
-  fronts = h.fronts;
-}
+then_changed {s = s} {t = t} path grows h = search (
+  h.to,
+  then_moves path h.path,
+  grows_trans s t h.to grows h.grows,
+)
 
 -- what the refresh leads to
 pub record Refreshed (rules : Rules) (w : World) (name : ℕ) (c : Cause) (x : Node) (s : Group) : Type 0 where
@@ -90,11 +88,8 @@ module _ (rules : Rules) (w : World) (name : ℕ) (c : Cause) (x : Node) (s : Gr
         once = once_in w v refl h.once;
         begun = λ p is. (let b = h.begun p is in let up = (on.grows.each (stamp_of p).by).promise in let begun_ = b.begun in
             record { small = b.small; begun = omega arith });
-        heard = λ p is. (let b = h.heard p is in record {
-          to = b.to;
-          addressed = b.addressed;
-          says = letters_stay w v s t b.to p ([], sym (append-nil w.records)) on.grows b.says;
-        });
+        heard = λ p is. (let b = h.heard p is in
+            search (b.to, b, letters_stay w v s t b.to p ([], sym (append-nil w.records)) on.grows b.says));
         given = h.given;
         keeps = keeps_in w v t name y (λ j u. u) (refreshes_keep rules w v name c x s t h on.grows on.group_ (assumption) along);
         accepted = subst (λ l. y.core.acc ≤ length l) stands.group low;
@@ -109,15 +104,13 @@ module _ (rules : Rules) (w : World) (name : ℕ) (c : Cause) (x : Node) (s : Gr
     counts : MayCount x (s.node name).list
     counts =
         let fronts = h.along.owned.fronts in
-        record {
-          good = h.keeps.good;
-          kept = fronts.kept;
-          base = fronts.base;
-          taken = fronts.given;
-          within = fronts.accepted;
-          sets = counts_names (within w name x) name x (s.node name) mine
-              (front_named (s.node name).list (chain_of s.views) ((k.each name).list (is_up w name x (s.node name) h.runs member mine)) h.group.named);
-        }
+        assumption (
+          fronts,
+          fronts.given,
+          fronts.accepted,
+          counts_names (within w name x) name x (s.node name) mine
+              (front_named (s.node name).list (chain_of s.views) ((k.each name).list (is_up w name x (s.node name) h.runs member mine)) h.group.named),
+        )
 
     pub comes : ComesTo w s name f.heard x
     comes =

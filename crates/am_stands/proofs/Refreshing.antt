@@ -92,8 +92,6 @@ module _ (rules : Rules) (w v : World) (name : ℕ) (c : Cause) (x : Node) (s t 
 
     fronts_in : (y.core.taken ≤ nodes.top x) × (x.core.taken ≤ nodes.top x)
     fronts_in =
-        let a = later.owned.fronts in
-        let b = h.along.owned.fronts in
         let top_ : nodes.top y ≡ nodes.top x = ap (λ l. l.start + length l.entries) log in
         (omega arith, omega arith)
 

@@ -1,7 +1,7 @@
 -- What is known of a name that sends, as it is after its step.
 use Rattle.am_stands.proofs.StepWords.{◌≡◌, ℕ, ◌<◌, ◌≤◌, ◌==◌, true, false, List, slice_get, sym, ap, ◌∙◌, subst, arith, All, list_any, All-nil, Stamp, Data}
 use Rattle.am_stands.proofs.StepWords.{Rules, entry_at, key, Group, IsThere, IsUp, chain_of, Kept, Node, view, image_of, is_sequencer, has_log, has_departed}
-use Rattle.am_stands.proofs.StepWords.{World, split, Cause, all_get, logged, OpenBallot, leads_member, IsNoted, AllViews, IsBegun, AllBegun, EntrySent}
+use Rattle.am_stands.proofs.StepWords.{World, split, Cause, all_get, logged, OpenBallot, leads_member, IsNoted, AllViews, IsBegun, AllBegun, EntrySent, Packet}
 use Rattle.am_stands.proofs.StepWords.{SendSent, WasSent, NameStands, FrontsStand, Stands, WasAsked, AllShown, NamesNamed, OwnDecided, FetchesStand}
 use Rattle.am_stands.proofs.StepWords.{NumbersStand, ListBegins, LeaderStands, BallotStands, SendsStand, Sender, Stepping, front_named, rows_live}
 use Rattle.am_stands.proofs.StepWords.{concerned_small, key_stamp, kept, whole, Speaks, leading, none_of_asking, same_stamp, zero, suc, ◌+◌, ◌-◌}
@@ -9,7 +9,6 @@ use Rattle.am_stands.proofs.StepWords.{◌||◌, not, nat_le, [], ◌∷◌, Som
 use Rattle.am_stands.proofs.StepWords.{fold, view_grows, Ballot, acts, is_member, is_asking, Verdict, is_view, and_both, Looks, finds_itself_out, Change}
 use Rattle.am_stands.proofs.StepWords.{refreshes, settles, begins_list, promises, opens, looks, closes, Changes, unchanged, changed, rests_refresh}
 use Rattle.am_stands.proofs.StepWords.{rests_closed, settle_is, along, HeardNames, HeardUsed, Along, along_changes, view_its}
-use Rattle.am_packet.specs.declared.packet.Packet.TheVariants as packet
 use Rattle.am_stands.proofs.{Starting.begun_stands}
 use Rattle.am_base.specs.declared.entry.GroupView.{GroupView}
 use Rattle.am_stands.proofs.Courses.{was_welcomed, both_ways, promise_brings, begin_brings}
@@ -181,5 +180,5 @@ module _ (rules : Rules) (w v : World) (name : ℕ) (c : Cause) (m n : Node) (t 
     leader = leader;
     ballots = ballots;
     sends = sends;
-    asked = λ from stored u at. (let p = h.heard (packet.Fetch from u stored) at in (p.to, p.addressed, p.says));
+    asked = λ from stored u at. (let p = h.heard (Packet.Fetch from u stored) at in (p.to, p.addressed, p.says));
   }

@@ -9,9 +9,7 @@ use Rattle.am_stands.proofs.Words.{KeptWhole, as_before, just_begun, Sender, Sho
 use Rattle.am_stands.proofs.Words.{list_any, View, GroupView, after, item_at, IsGood, image_of, next_of, told_push, view_viewed, is_view, after_same}
 use Rattle.am_stands.proofs.Words.{after_view, OwnDecided, stamp_itself}
 use Rattle.am_laws.specs.Letters.{for_ballot, of_promise, accept}
-use Rattle.am_packet.specs.declared.packet.Packet.TheVariants as packet
 use Rattle.am_chain.specs.Group as groups
-use Rattle.am_model.specs.declared.status.Status.TheVariants as status
 use Rattle.am_model.specs.Node as nodes
 use Rattle.am_laws.specs.Letters as letters
 use Rattle.am_stands.specs.Letters as says
@@ -96,7 +94,7 @@ result_said v i number n names s h t stamp opens low is viewed =
 -- ---- who acts
 
 pub member_of : (t : Status) → has_log t ≡ true → has_departed t ≡ false → is_member t ≡ true
-member_of status.Member h d = refl
+member_of Status.Member h d = refl
 member_of _ h d = absurd (cc)
 
 no_round : key no_stamp < 256
@@ -163,7 +161,7 @@ module _ (v : World) (i : ℕ) (c : Cause) (m n : Node) (s : Group) (h : Sender 
     | just_begun follows asked ↦ absurd (let z = sym t ∙ follows in cc)
   ]
 
-  start_asked : (from stored : ℕ) (u : Stamp) → c ≡ hears (packet.Fetch from u stored) → n.core.log.start ≤ m.core.base
+  start_asked : (from stored : ℕ) (u : Stamp) → c ≡ hears (Packet.Fetch from u stored) → n.core.log.start ≤ m.core.base
   start_asked from stored u is = elim h.start [
     | as_before low ↦ low
     | just_begun follows asked ↦ absurd (asked from stored u is)
@@ -208,7 +206,7 @@ module _ (v : World) (i : ℕ) (c : Cause) (m n : Node) (s : Group) (h : Sender 
       let some = slice_get_within n.core.log.entries at.index e at.there in
       omega arith)))
 
-  pieced : (from : ℕ) (u : Stamp) (stored number : ℕ) (e : Entry) → c ≡ hears (packet.Fetch from u stored) → may_fetch n from u ≡ true
+  pieced : (from : ℕ) (u : Stamp) (stored number : ℕ) (e : Entry) → c ≡ hears (Packet.Fetch from u stored) → may_fetch n from u ≡ true
       → letters.EntryStands n.core.log m.core.base number e → Leads (PieceStands i number n e s) s
   pieced from u stored number e is may at =
       let member = piece_log number e at in
@@ -316,26 +314,17 @@ sent_says v i c m n s to p h (gone name t may) =
 sent_says v i c m n s to p h (vote from u is) =
     let taken = h.numbers.taken in
     let r = vote_said v i n s (record { kept = h.group.kept; stands = h.stands; there = h.there; small = h.small; begun = h.begun; taken = omega arith }) in
-    record {
-      to = r.to;
-      path = r.path;
-      is = record { same = r.is.same; says = (view_named v i c m n s h, subst (λ j. says.VoteSays r.to j n.core.promise (own_vote n)) (sym h.who) r.is.says) };
-    }
+    search (r.to, r, view_named v i c m n s h, subst (λ j. says.VoteSays r.to j n.core.promise (own_vote n)) (sym h.who) r.is.says)
 sent_says v i c m n s to p h (fetch _ may) = so v i c m n s h to _ (subst (λ j. FetchSays s j n.core.promise to) (sym h.who) (fetched v i c m n s h to may))
 sent_says v i c m n s to p h (piece from u stored number e is may at) =
     let r = pieced v i c m n s h from u stored number e is may at in
-    record {
-      to = r.to;
-      path = r.path;
-      is = record {
-        same = r.is.same;
-        says = (
-          trimmed_same s r.to n.core.base r.is.same h.trimmed,
-          subst (λ j. says.PieceSays r.to j n.core.promise number e)
-              (sym h.who) r.is.says,
-        );
-      };
-    }
+    search (
+      r.to,
+      r,
+      trimmed_same s r.to n.core.base r.is.same h.trimmed,
+      subst (λ j. says.PieceSays r.to j n.core.promise number e)
+          (sym h.who) r.is.says,
+    )
 sent_says v i c m n s to p h (result _ number names is viewed may) = so v i c m n s h to _ (
   h.trimmed,
   λ mine. subst (λ j. ResultSays s j number (record { stamp = n.core.promise; members = names; resilience = (nodes.image_of n).resilience })) (sym h.who)

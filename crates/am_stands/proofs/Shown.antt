@@ -1,10 +1,9 @@
 -- Votes: what a coordinator keeps of them, and what a voter shows.
 use Rattle.am_stands.proofs.Words.{◌≡◌, ◌≢◌, ◌⊎◌, either, ℕ, ◌<◌, ◌≤◌, ◌==◌, not, List, true, false, Option, Some, None, refl, sym, ap, ◌∙◌, subst, arith}
 use Rattle.am_stands.proofs.Words.{nat_tests, Entry, Vote, Image, Stamp, has, members_of, item_at, mem, view_of, key, Group, IsThere, put2, Kept, put2_cases}
-use Rattle.am_stands.proofs.Words.{Node, Ballot, is_member, own_vote, World, split, and_both, Cause, hears, HasOpen, Balloting, with_more, without_one}
+use Rattle.am_stands.proofs.Words.{Node, Ballot, is_member, own_vote, World, split, and_both, Cause, hears, HasOpen, Balloting, with_more, without_one, Packet}
 use Rattle.am_stands.proofs.Words.{as_it_is, NameStands, VoteTells, VoteSays, FetchSays, PieceSays, own, tells, over, for_ballot, of_promise}
 use Rattle.am_stands.proofs.Words.{of_shown, Moves, none, moves, Leads, VotesStand, Grows, ShowsMore}
-use Rattle.am_packet.specs.declared.packet.Packet.TheVariants as packet
 use Rattle.am_chain.specs.Moves as group
 use Rattle.am_model.specs.Node as nodes
 use Rattle.am_laws.specs.Letters as letters
@@ -23,7 +22,7 @@ kept_votes x b s o h = (subst (VotesStand s) o.last h) o.open_
 
 -- the ballot that is looked at keeps votes that tell what was shown, where its stamp is of its own name and nothing was decided of it
 pub looked_votes : (c : Cause) (x : Node) (b : Ballot) (s : Group) → Balloting c x b → b.stamp.by ≡ x.core.who → s.views.decided (key b.stamp) ≡ false
-    → ((from : ℕ) (v : Stamp) (vote : Vote) → c ≡ hears (packet.Vote from v vote) → VoteSays s from v vote) → VotesStand s x.ballot → (j : ℕ) (vote : Vote)
+    → ((from : ℕ) (v : Stamp) (vote : Vote) → c ≡ hears (Packet.Vote from v vote) → VoteSays s from v vote) → VotesStand s x.ballot → (j : ℕ) (vote : Vote)
     → b.votes j ≡ Some vote → VoteTells s j b.stamp vote
 looked_votes c x b s (as_it_is old o on) own_ fresh heard h = kept_votes x old s o h
 looked_votes c x b s (without_one old name is o other) own_ fresh heard h = λ j vote. split (j == name)

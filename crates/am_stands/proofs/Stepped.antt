@@ -28,21 +28,16 @@ keeps_in w v s i x stopped h = assumption (last_stays w v x.ballot stopped h.las
 pub others_keep : OthersKeep
 others_keep w v s t i x stopped g h new grows k =
     let same = list_same w v i x (s.node i) (t.node i) h new grows in
-    record {
-      good = subst IsGood (sym same) k.good;
-      ballots = record {
-        votes = votes_grow s t x.ballot g k.votes;
-        fetches = fetches_grow w s t x.ballot g k.fetches;
-        last = last_stays w v x.ballot stopped k.last;
-      };
-      opens = k.opens;
-      reports = subst (λ l. Reporting t.node l x.core.base x.reports) (sym same)
-          (reporting_grow s.node t.node (s.node i).list x.core.base x.reports (λ j. (g.each j).list) k.reports);
-      fresh = k.fresh;
-      trimmed = trimmed_grow w s t x.core.base g k.trimmed;
-      turn = subst (λ l. OwnTurn x.core.who l x.sends) (sym same) k.turn;
-      leaves = k.leaves;
-    }
+    assumption (
+      subst IsGood (sym same) k.good,
+      votes_grow s t x.ballot g k.votes,
+      fetches_grow w s t x.ballot g k.fetches,
+      last_stays w v x.ballot stopped k.last,
+      subst (λ l. Reporting t.node l x.core.base x.reports) (sym same)
+          (reporting_grow s.node t.node (s.node i).list x.core.base x.reports (λ j. (g.each j).list) k.reports),
+      trimmed_grow w s t x.core.base g k.trimmed,
+      subst (λ l. OwnTurn x.core.who l x.sends) (sym same) k.turn,
+    )
 
 -- ---- the world after a change: with the views that it noted
 
@@ -125,12 +120,8 @@ step_to rules w views name c o x y s t z plain h sent_ on stands noted along kee
       once = once_same w views h.once;
       begun = λ p is. (let k = h.begun p is in let up = (g.each (stamp_of p).by).promise in let low = k.begun in
           record { small = k.small; begun = omega arith });
-      heard = λ p is. (let k = h.heard p is in record {
-        to = k.to;
-        addressed = k.addressed;
-        says = letters_stay w v s t k.to p
-            ([], sym (append-nil w.records)) g k.says;
-      });
+      heard = λ p is. (let k = h.heard p is in
+          search (k.to, k, letters_stay w v s t k.to p ([], sym (append-nil w.records)) g k.says));
       given = h.given;
       keeps = keeps_in w (viewing w views) t name y (λ j z. z) keeps;
       accepted = acc_next rules w name c o x y s z plain (needs rules w name c x s h o y z (no_close rules w name s h z plain)) h.stands.group h.accepted;
@@ -149,14 +140,9 @@ step_on rules w name c o x y s z plain h sent_ =
     let own = own_name v name y leads.to h.few stands in
     let keeps = keeps_next rules w v name c o x y s leads.to z plain h on.grows on.group_ h.runs refl own along in
     let small = subst (λ (u : Stamp). u.by < 256) (view_whole v name y (leads.to.node name) own) (view_small (leads.to.node name).list keeps.good) in
-    record {
-      to = leads.to;
-      path = leads.path;
-      grows = on.grows;
-      goes = subst (λ v. Stepping rules v name c y leads.to) (sym same)
-          (step_to rules w (after_change z w).views name c o x y s leads.to z plain h sent_ on stands (noted_next z w small h.noted) along keeps);
-      fronts = leads.is.1;
-    }
+    let goes = subst (λ v. Stepping rules v name c y leads.to) (sym same)
+    (step_to rules w (after_change z w).views name c o x y s leads.to z plain h sent_ on stands (noted_next z w small h.noted) along keeps) in
+    search (leads.to, leads, on, goes, leads.is.1)
 
 pub changes_go_on : ChangesGoOn
 changes_go_on = step_on

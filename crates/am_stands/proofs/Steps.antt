@@ -2,7 +2,7 @@
 use Rattle.am_stands.proofs.StepWords.{same_group, member_stays, stamp_itself, same_stamp, ◌≡◌, either, Option, None, ℕ, ◌<◌, ◌≤◌, ◌==◌, not, nat_lt, true}
 use Rattle.am_stands.proofs.StepWords.{false, List, [], Some, slice_get, refl, sym, ap, ◌∙◌, subst, arith, All, nat_tests, Stamp, NodeEvent, Outcome, Entry}
 use Rattle.am_stands.proofs.StepWords.{Leave, Rules, MayFound, Log, told_by, size, stamp_lt, stamp_eq, Letter, Event, Group, Departed, Node, Ballot, view, acts}
-use Rattle.am_stands.proofs.StepWords.{is_member, others, is_sequencer, push_entry, has_departed, is_unfinished, Step, hears_member, refresh, settle}
+use Rattle.am_stands.proofs.StepWords.{is_member, others, is_sequencer, push_entry, has_departed, is_unfinished, Step, hears_member, refresh, settle, Packet}
 use Rattle.am_stands.proofs.StepWords.{refresh_at_end, Decided, World, is_stopped, group_after, views_after, run, with_step, happens, split, and_both, Cause}
 use Rattle.am_stands.proofs.StepWords.{calls, hears, departs, Course, nothing_yet, used_report, and_then, Deeds, plainly, looked, Ending, ends_so, let_go}
 use Rattle.am_stands.proofs.StepWords.{closing, Effect, actor, IsCause, steps, all_get, rests_refresh, rests_at_end, few_names, numbers_hold, not_above_itself}
@@ -11,7 +11,6 @@ use Rattle.am_stands.proofs.StepWords.{StandsBut, within, nothing, none, OwnDeci
 use Rattle.am_stands.proofs.StepWords.{StepsMove, then_moves, departed_silent, All-push, Record, chain_of, longer, Kept, Stands, CountsNames, ComesTo}
 use Rattle.am_stands.proofs.StepWords.{NeedsClose, after_closing, NamesNamed, Leads, MayMove, is_up, front_named, counts_names, close_stands, name_longer, kept}
 use Rattle.am_stands.proofs.StepWords.{old, may_move, closing_accepts, name_in, views_in}
-use Rattle.am_packet.specs.declared.packet.Packet.TheVariants as packet
 use Rattle.am_laws.specs.Letters as letters
 use Rattle.am_stands.proofs.Starting.{acting, recorded, stands_but, run_sent, stepping_begins}
 use Rattle.am_stands.proofs.{Courses.departed_is, Owns.owns_next, Owns.run_owns, Worlds.growing, Changes.same_stands, Refreshed.Fronted, Courses.brings_report}
@@ -84,7 +83,7 @@ module _ (rules : Rules) (w : World) (records : List Record) (name : ℕ) (c : C
 
 by_ending : {c : Cause} {o : Outcome} {m : Node} (P : List Letter → Node → Type 0)
     → ((letters : List Letter) (x : Node) → Deeds c o m x → P letters (refresh_at_end x))
-    → ((from : ℕ) (v : Stamp) (number : ℕ) → c ≡ hears (packet.Gone from v number) → hears_member m from ≡ true → m.leaving ≡ true
+    → ((from : ℕ) (v : Stamp) (number : ℕ) → c ≡ hears (Packet.Gone from v number) → hears_member m from ≡ true → m.leaving ≡ true
     → P [] (refresh_at_end (record m { status = Departed })))
     → ((x : Node) (event : NodeEvent) → c ≡ calls event → Course c o m x → is_sequencer x ≡ true → x.leaving ≡ true → nat_lt 0 (size (others x)) ≡ false
     → view x ≡ view m → P [] (record (refresh_at_end (push_entry x (Leave x.core.who))) { status = Departed }))
@@ -276,7 +275,7 @@ module _ (rules : Rules) (events : List Event) (e : Event) (c : Cause) (s : Grou
         landed_told rules w e name step s a.to h land (letters_told rules v name c m n sent a.to land.group speaks says)
 
     -- a leaver that is let go
-    let_go_follows : (o : Outcome) (from : ℕ) (u : Stamp) (number : ℕ) → c ≡ hears (packet.Gone from u number) → hears_member m from ≡ true → m.leaving ≡ true
+    let_go_follows : (o : Outcome) (from : ℕ) (u : Stamp) (number : ℕ) → c ≡ hears (Packet.Gone from u number) → hears_member m from ≡ true → m.leaving ≡ true
         → Effect m c (record { node = refresh_at_end (record m { status = Departed }); outcome = o; letters = [] })
         → LeadsOn rules (after_ (record { node = refresh_at_end (record m { status = Departed }); outcome = o; letters = [] })) s
     let_go_follows o from u number is heard leaves effect =
