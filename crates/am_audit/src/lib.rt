@@ -18,3 +18,4 @@ pub mod takes;
 pub mod telling;
 pub mod text;
 pub mod verdict;
+mod walk;

@@ -12,6 +12,7 @@ use crate::line::{Answer, Piece, TextLine};
 use crate::maps::send_key;
 use crate::outline::Outline;
 use crate::verdict::Verdict;
+use crate::walk::{Check, first_found};
 use am_base::NoMemory;
 use am_base::name::Name;
 use std::alloc::Global;
@@ -132,30 +133,25 @@ fn may_begin(line: &TextLine) -> bool
 }
 
 /// Whether a line begins a log that may not begin so.
-fn early_at(last: Option<u32>, line: &TextLine) -> Option<Verdict>
-    ensures { result ≡ early_at last (line_of line.now) }
-{
-    if last.is_some() || may_begin(line) {
-        return None;
+struct Beginnings;
+
+impl Check for Beginnings {
+    ghost found = { early_at };
+
+    fn found(last: Option<u32>, line: &TextLine) -> Option<Verdict> {
+        if last.is_some() || may_begin(line) {
+            return None;
+        }
+        Some(Verdict::Early {
+            node: Name::of_byte(line.name),
+            number: line.number,
+        })
     }
-    Some(Verdict::Early {
-        node: Name::of_byte(line.name),
-        number: line.number,
-    })
 }
 
 /// The first log line with which its log may not begin, though it does.
 pub fn first_early(logs: &[TextLine]) -> Option<Verdict>
     ensures { result ≡ first_early [] (lines_in logs.now) }
 {
-    let mut last = [None; 256];
-    for at in 0..logs.len() {
-        let line = &logs[at];
-        match early_at(last[usize::from(line.name)], line) {
-            Some(early) => return Some(early),
-            None => {}
-        }
-        last[usize::from(line.name)] = Some(line.number);
-    }
-    None
+    first_found::<Beginnings>(logs)
 }

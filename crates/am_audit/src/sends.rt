@@ -10,42 +10,34 @@ use crate::fields::data_in;
 use crate::line::{Piece, TextLine};
 use crate::maps::{put, send_key};
 use crate::verdict::Verdict;
+use crate::walk::{Check, first_found};
 use am_base::NoMemory;
 use am_base::name::Name;
 use std::alloc::Global;
 use std::collections::BTreeMap;
 
-/// Whether a send's request isn't the one behind its name's last.
-fn skipped_at(last: Option<u32>, send: &TextLine) -> Option<Verdict>
-    ensures { result ≡ skipped_at last (line_of send.now) }
-{
-    let before = match last {
-        Some(last) => last,
-        None => 0,
-    };
-    if u64::from(send.number) == u64::from(before) + 1 {
-        return None;
-    }
-    Some(Verdict::Skipped {
-        node: Name::of_byte(send.name),
-        req: send.number,
-    })
-}
-
 /// The first send whose request isn't the one behind its name's last.
 pub fn first_skipped(sends: &[TextLine]) -> Option<Verdict>
     ensures { result ≡ first_skipped [] (lines_in sends.now) }
 {
-    let mut last = [None; 256];
-    for at in 0..sends.len() {
-        let send = &sends[at];
-        match skipped_at(last[usize::from(send.name)], send) {
-            Some(skipped) => return Some(skipped),
-            None => {}
+    first_found::<Requests>(sends)
+}
+
+/// Whether a send's request isn't the one behind its name's last.
+struct Requests;
+
+impl Check for Requests {
+    ghost found = { skipped_at };
+
+    fn found(last: Option<u32>, send: &TextLine) -> Option<Verdict> {
+        let before = last.unwrap_or(0);
+        if u64::from(send.number) == u64::from(before) + 1 {
+            return None;
         }
-        last[usize::from(send.name)] = Some(send.number);
+        let node = Name::of_byte(send.name);
+        let req = send.number;
+        Some(Verdict::Skipped { node, req })
     }
-    None
 }
 
 /// Keeps the index of a send, before all that were kept.

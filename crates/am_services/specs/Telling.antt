@@ -25,13 +25,10 @@ replayed_then s pair = fed s pair.0 pair.1
 abbrev pub snapshot_told : ℕ → ℕ × Entry → ReplicaState → List ℕ
 snapshot_told name pair s = snapshot_at name pair.0 pair.1 (shown s)
 
--- after all of these entries
-abbrev pub assembled_with : Assembly → List (ℕ × Entry) → Assembly
-assembled_with a pairs = fold assembled_then a pairs
-
 abbrev pub messages_told : ℕ → Assembly → List (ℕ × Entry) → List ℕ
 messages_told name a pairs = told assembled_then (message_told name) a pairs
 
+-- after all of these entries
 abbrev pub replayed_with : ReplicaState → List (ℕ × Entry) → ReplicaState
 replayed_with s pairs = fold replayed_then s pairs
 

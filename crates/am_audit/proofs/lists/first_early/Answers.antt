@@ -1,14 +1,13 @@
-use Rattle.std.proofs.Common.{◌<◌, get_or, sym, refl, arith}
+use Rattle.std.proofs.Common.{◌≡◌, List, [], ◌∷◌, refl, ap, ◌∙◌}
+use Rattle.am_audit.specs.Lines.{Line}
 use Rattle.am_audit.specs.Views.{lines_in}
-use Rattle.am_audit.specs.Verdicts.{early_at, first_early}
-use Rattle.am_audit.proofs.Passing.{no_line, passing_first, passing_more}
+use Rattle.am_audit.specs.Verdicts.{or_else, last_of, early_at, first_early}
+use Rattle.am_audit.specs.Keeping.{first_found}
 use Rattle.am_audit.proofs.lists.first_early.Goals as goal
 
-pub loop-at-init : goal.loop-at-init
-loop-at-init c = passing_first first_early (lines_in c.args.logs.now)
+found_is : (before lines : List Line) → first_found early_at before lines ≡ first_early before lines
+found_is before [] = refl
+found_is before (line ∷ lines) = ap (or_else (early_at (last_of line.name before) line)) (found_is (line ∷ before) lines)
 
-pub loop-at-preserved : goal.loop-at-preserved
-loop-at-preserved c =
-    let named : (get_or c.args.logs.now c.loop-at.at no_line).name < 256 = omega (arith, c.from.ensures) in
-    passing_more first_early early_at (λ before line lines. refl) c.args.logs.now c.loop-at.at c.from.result c.from-in-loop-at.result c.loop-at.last
-    c.loop-at-test.true c.from.ensures c.from-in-loop-at.ensures named (sym c.in-None.ensures) c.loop-at.invariant
+pub returns : goal.returns
+returns c = c.first_found.ensures ∙ found_is [] (lines_in c.args.logs.now)

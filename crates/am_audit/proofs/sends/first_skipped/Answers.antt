@@ -1,14 +1,13 @@
-use Rattle.std.proofs.Common.{◌<◌, get_or, sym, refl, arith}
+use Rattle.std.proofs.Common.{◌≡◌, List, [], ◌∷◌, refl, ap, ◌∙◌}
+use Rattle.am_audit.specs.Lines.{Line}
 use Rattle.am_audit.specs.Views.{lines_in}
-use Rattle.am_audit.specs.Verdicts.{skipped_at, first_skipped}
-use Rattle.am_audit.proofs.Passing.{no_line, passing_first, passing_more}
+use Rattle.am_audit.specs.Verdicts.{or_else, last_of, skipped_at, first_skipped}
+use Rattle.am_audit.specs.Keeping.{first_found}
 use Rattle.am_audit.proofs.sends.first_skipped.Goals as goal
 
-pub loop-at-preserved : goal.loop-at-preserved
-loop-at-preserved c =
-    let named : (get_or c.args.sends.now c.loop-at.at no_line).name < 256 = omega (arith, c.from.ensures) in
-    passing_more first_skipped skipped_at (λ before line lines. refl) c.args.sends.now c.loop-at.at c.from.result c.from-in-loop-at.result c.loop-at.last
-    c.loop-at-test.true c.from.ensures c.from-in-loop-at.ensures named (sym c.in-None.ensures) c.loop-at.invariant
+found_is : (before sends : List Line) → first_found skipped_at before sends ≡ first_skipped before sends
+found_is before [] = refl
+found_is before (send ∷ sends) = ap (or_else (skipped_at (last_of send.name before) send)) (found_is (send ∷ before) sends)
 
-pub loop-at-init : goal.loop-at-init
-loop-at-init c = passing_first first_skipped (lines_in c.args.sends.now)
+pub returns : goal.returns
+returns c = c.first_found.ensures ∙ found_is [] (lines_in c.args.sends.now)
