@@ -100,7 +100,6 @@ fn letter_at(letters: &[Letter], number: u32) -> Option<&Letter>
 /// What hearing a letter asks of the node of a name that hasn't stopped, or how it is answered without one. The bytes stand in the
 /// room that there is for them.
 fn hears(
-    alloc: Global,
     letters: &[Letter],
     room: &mut Vec<u8>,
     name: Name,
@@ -116,7 +115,8 @@ fn hears(
     if !is_for(letter, name) {
         return Ok(Err(Outcome::NotAddressed));
     }
-    let mut bytes = mem::replace(room, Vec::new(alloc));
+    let empty = Vec::new(*room.allocator());
+    let mut bytes = mem::replace(room, empty);
     bytes.clear();
     bytes.extend_from_slice(letter.bytes())?;
     Ok(Ok(NodeEvent::Hear(Items::of(bytes))))
@@ -124,7 +124,6 @@ fn hears(
 
 /// What a calm act asks of the node of a name that hasn't stopped, or how it is answered without one.
 fn asked(
-    alloc: Global,
     letters: &[Letter],
     room: &mut Vec<u8>,
     name: Name,
@@ -140,7 +139,7 @@ fn asked(
         Act::Done(req) => Ok(NodeEvent::Done(req)),
         Act::Take => Ok(NodeEvent::Take),
         Act::Tick => Ok(NodeEvent::Tick),
-        Act::Hear(number) => return hears(alloc, letters, room, name, number),
+        Act::Hear(number) => return hears(letters, room, name, number),
         _ => unreachable!(),
     })
 }
@@ -150,7 +149,6 @@ fn asked(
 /// say which run it is of (docs/PROTOCOL.md, "Runs").
 #[derive(Drop)]
 pub struct Course {
-    alloc: Global,
     places: Places,
     watcher: Watcher,
     heard: Vec<u8>,
@@ -164,7 +162,6 @@ impl Course {
     {
         let places = Places::new(alloc, founding)?;
         Ok(Course {
-            alloc,
             places,
             watcher: Watcher::new(alloc, founding),
             heard: Vec::new(alloc),
@@ -246,7 +243,7 @@ impl Course {
         }
         let name = Name::of_byte(event.node.place());
         let letters = self.places.letters();
-        match asked(self.alloc, letters, &mut self.heard, name, event.act)? {
+        match asked(letters, &mut self.heard, name, event.act)? {
             Ok(what) => Ok(self.act(name, what)?),
             Err(outcome) => {
                 self.watcher.pass();

@@ -1,10 +1,3 @@
-ghost use Rattle.std.specs.Prelude.{◌≡◌, ◌+◌, ◌<◌, ◌≤◌, ◌++◌, Some, max, length, slice_get, vec_len, vec_capacity, IfOk, OnErr};
-ghost use Rattle.am_base.specs.Most.{most_events};
-ghost use Rattle.am_base.specs.Founding.{MayFound};
-ghost use Rattle.am_base.specs.Names.{place_of};
-ghost use Rattle.am_world.specs.Moves.{IsReadyAt};
-ghost use Rattle.am_pump.specs.Places.{Moves, StaysAs, Begins};
-
 use am_base::NoMemory;
 use am_base::entry::Entry;
 use am_base::event::NodeEvent;
@@ -33,6 +26,13 @@ pub struct Places {
 }
 
 impl Places {
+    ghost use Rattle.std.specs.Prelude.{◌≡◌, ◌+◌, ◌<◌, ◌≤◌, ◌++◌, Some, max, length, slice_get, vec_len, vec_capacity, IfOk, OnErr};
+    ghost use Rattle.am_base.specs.Most.{most_events};
+    ghost use Rattle.am_base.specs.Founding.{MayFound};
+    ghost use Rattle.am_base.specs.Names.{place_of};
+    ghost use Rattle.am_world.specs.Moves.{IsReadyAt};
+    ghost use Rattle.am_pump.specs.Places.{Moves, StaysAs, Begins};
+
     /// The places of a group to which nothing has happened.
     pub fn new(alloc: Global, founding: &Founding) -> Result<Places, NoMemory>
         ensures begins { IfOk result (Begins founding.now) }

@@ -30,11 +30,11 @@ pub record IsRecorded (w : model.World) (e : Event) (outcome : Outcome) (letters
   pub pushed_ : pushed ≡ records ++ record_of w e outcome letters ∷ []
 
 -- by what the code does: it makes room, makes the record, and adds it
-pub recorded : (w : model.World) (e : Event) (outcome : Outcome) (letters : List Letter) (lives : List ℕ) (name life : ℕ) (r : Record) (first founding : Rules)
-    (records reserved pushed : List Record) → AreLives lives w → name ≡ current w (place_of e.node) → life ≡ life_of name
+pub recorded : (w : model.World) (e : Event) (outcome : Outcome) (letters : List Letter) {lives : List ℕ} {name life : ℕ} {r : Record} {first founding : Rules}
+    {records reserved pushed : List Record} → AreLives lives w → name ≡ current w (place_of e.node) → life ≡ life_of name
     → r ≡ the_record e life outcome letters → founding ≡ first → reserved ≡ records → pushed ≡ reserved ++ r ∷ []
     → IsRecorded w e outcome letters first founding records pushed
-recorded w e outcome letters lives name life r first founding records reserved pushed living here old made same kept added =
+recorded w e outcome letters {life} {r} {records} living here old made same kept added =
     let place = place_of e.node in
     let within : place < 16 = omega arith in
     let now : life ≡ w.lives place = old ∙ ap life_of here ∙ life_now place (w.lives place) within (living.within place within).0 in

@@ -1,12 +1,14 @@
 -- What comes of what an event asks of its name's node, or of its answer without one.
-use Rattle.std.specs.Prelude.{◌≡◌, ℕ, ◌+◌, ◌≤◌, [], ◌∷◌, ◌++◌, Result, Ok, Err}
+use Rattle.std.specs.Prelude.{◌≡◌, ℕ, ◌+◌, ◌<◌, ◌≤◌, [], ◌∷◌, ◌++◌, length, Result, Ok, Err}
+use Rattle.am_base.specs.Most.{most_events}
 use Rattle.am_base.specs.declared.outcome.Outcome.{Outcome}
 use Rattle.am_base.specs.declared.outcome.Outcome.TheVariants as said
 use Rattle.am_base.specs.declared.event.NodeEvent.{NodeEvent}
 use Rattle.am_base.specs.Names.{place_of, life_of}
 use Rattle.am_group.specs.declared.event.Event.{Event}
 use Rattle.am_model.specs.Step.{step}
-use Rattle.am_play.specs.World.{World, current, with_record, with_step, lives_on}
+use Rattle.am_play.specs.World.{World, current, with_record, with_step, lives_on, happens}
+use Rattle.am_world.specs.Runs.{Play, replay}
 
 -- what comes of it
 abbrev pub after_answer : World → Event → Outcome → World
@@ -22,3 +24,10 @@ comes w e (Err outcome) = after_answer w e outcome
 abbrev pub IsNextLife : ℕ → Outcome → Type 0
 IsNextLife name (said.Returned life) = (life ≡ life_of name + 1) × (life ≤ 16)
 IsNextLife name _ = Unit {0}
+
+-- a run has room for an event of this name, which is answered so without a step of its node
+pub record MayAnswer (done : Play) (e : Event) (name : ℕ) (outcome : Outcome) : Type 0 where
+  pub few : length done.events < most_events
+  pub named : name ≡ current (replay done) (place_of e.node)
+  pub next : IsNextLife name outcome
+  pub comes_ : happens (replay done) e ≡ after_answer (replay done) e outcome

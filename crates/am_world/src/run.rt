@@ -116,7 +116,7 @@ impl Run {
     ghost use Rattle.am_group.specs.Journals.{letters_of};
     ghost use Rattle.am_play.specs.World.{current, is_stopped, with_record, happens};
     ghost use Rattle.am_world.specs.Runs.{after, replay, IsOneMore};
-    ghost use Rattle.am_world.specs.Asked.{after_answer, comes, IsNextLife};
+    ghost use Rattle.am_world.specs.Asked.{comes, IsNextLife, MayAnswer};
 
     /// The group of a founding, to which nothing has happened, with room for the records of so many events, of no more than a
     /// run may have.
@@ -209,10 +209,7 @@ impl Run {
 
     /// Records that a name has stopped.
     fn stop(&mut self, event: &Event, name: Name) -> Result<(), NoMemory>
-        requires few { length self.old.events < most_events }
-        requires name { name ≡ current (replay self.old) (place_of event.now.node) }
-        requires comes { happens (replay self.old) event.now
-            ≡ after_answer (replay self.old) event.now said.Stopped }
+        requires { MayAnswer self.old event.now name said.Stopped }
         ensures ok { OnOk result (self.new ≡ after self.old event.now) }
         ensures one { OnOk result (IsOneMore self.old event.now) }
         ensures err { OnErr result (self.new ≡ self.old) }
@@ -227,12 +224,7 @@ impl Run {
 
     /// A place goes on with its next life: the node of the one before is let go, and a fresh one takes its place.
     fn come_back(&mut self, event: &Event, name: Name, life: u8) -> Result<(), NoMemory>
-        requires few { length self.old.events < most_events }
-        requires name { name ≡ current (replay self.old) (place_of event.now.node) }
-        requires next { life ≡ life_of name + 1 }
-        requires most { life ≤ 16 }
-        requires comes { happens (replay self.old) event.now
-            ≡ after_answer (replay self.old) event.now (said.Returned life) }
+        requires { MayAnswer self.old event.now name (said.Returned life) }
         ensures ok { OnOk result (self.new ≡ after self.old event.now) }
         ensures one { OnOk result (IsOneMore self.old event.now) }
         ensures err { OnErr result (self.new ≡ self.old) }
@@ -249,11 +241,7 @@ impl Run {
 
     /// Records an event that is no step of a node.
     pub fn answer(&mut self, event: &Event, name: Name, outcome: Outcome) -> Result<(), NoMemory>
-        requires few { length self.old.events < most_events }
-        requires name { name ≡ current (replay self.old) (place_of event.now.node) }
-        requires next { IsNextLife name outcome }
-        requires comes { happens (replay self.old) event.now
-            ≡ after_answer (replay self.old) event.now outcome }
+        requires { MayAnswer self.old event.now name outcome }
         ensures ok { OnOk result (self.new ≡ after self.old event.now) }
         ensures one { OnOk result (IsOneMore self.old event.now) }
         ensures err { OnErr result (self.new ≡ self.old) }

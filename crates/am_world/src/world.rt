@@ -65,23 +65,19 @@ impl Model for World {
 // Written out, so that who lets a world go calls this, and proves nothing of what it has.
 impl Drop for World {
     fn drop(self) {
-        let World {
-            run: _,
-            watcher: _,
-            heard: _,
-        } = self;
+        drop(self.into_journal());
     }
 }
 
 impl World {
-    ghost use Rattle.std.specs.Prelude.{◌<◌, ◌↔◌, OnOk, OnErr, Err};
+    ghost use Rattle.std.specs.Prelude.{◌↔◌, OnOk, OnErr, Err};
     ghost use Rattle.am_group.specs.Journals.{letters_of};
-    ghost use Rattle.am_play.specs.World.{current, is_stopped, happens};
+    ghost use Rattle.am_play.specs.World.{current, is_stopped};
     ghost use Rattle.am_model.specs.Node.{has_log};
     ghost use Rattle.am_model.specs.Info.{info_of};
     ghost use Rattle.am_node.specs.Stands.{state_of};
     ghost use Rattle.am_world.specs.Runs.{after, replay, IsOneMore};
-    ghost use Rattle.am_world.specs.Asked.{after_answer, IsNextLife};
+    ghost use Rattle.am_world.specs.Asked.{MayAnswer};
 
     /// The group of a founding, to which nothing has happened.
     pub fn new(alloc: Global, founding: &Founding) -> Result<World, NoMemory>
@@ -180,11 +176,7 @@ impl World {
 
     /// An event that is no step of a node: a name has stopped, or nothing changed that is watched.
     fn answer(&mut self, event: &Event, name: Name, outcome: Outcome) -> Result<(), NoMemory>
-        requires few { length self.old.events < most_events }
-        requires name { name ≡ current (replay self.old) (place_of event.now.node) }
-        requires next { IsNextLife name outcome }
-        requires comes { happens (replay self.old) event.now
-            ≡ after_answer (replay self.old) event.now outcome }
+        requires { MayAnswer self.old event.now name outcome }
         ensures ok { OnOk result (self.new ≡ after self.old event.now) }
         ensures one { OnOk result (IsOneMore self.old event.now) }
         ensures err { OnErr result (self.new ≡ self.old) }

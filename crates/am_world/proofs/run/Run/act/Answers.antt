@@ -73,8 +73,7 @@ made c =
       order = c.accept_front-accepted.ensures.order;
       grows = rw (← c.make_room.ensures.items) c.grow.ensures;
     })
-    (recorded (replay p) c.args.event.now c.step-outcome.result c.step-outcome.new.out w.lives c.args.name c.life.result _ w.journal.founding
-    c.push.new.self.founding w.journal.records c.copy_for.new.self.records c.push.new.self.records living c.requires.name c.life.ensures.value
+    (recorded (replay p) c.args.event.now c.step-outcome.result c.step-outcome.new.out living c.requires.name c.life.ensures.value
     (c.record_of.ensures ∙ ap (λ (e : Event). the_record e c.life.result c.step-outcome.result c.packets_of-packets.result) c.in_ok-done.ensures.copy
     ∙ ap (the_record c.args.event.now c.life.result c.step-outcome.result) c.packets_of-packets.ensures) (c.push.ensures.founding
     ∙ c.copy_for.ensures.founding) c.copy_for.ensures.records c.push.ensures.records)

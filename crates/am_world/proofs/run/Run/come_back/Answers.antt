@@ -1,4 +1,4 @@
-use Rattle.am_world.proofs.Words.{[], true, slice_set, refl, ap, ◌∙◌, life_of, name_at, stranger, IsRun, play_of, replay, Answers}
+use Rattle.am_world.proofs.Words.{[], true, slice_set, refl, ap, ◌∙◌, name_at, stranger, IsRun, play_of, replay, Answers}
 use Rattle.am_base.specs.declared.outcome.Outcome.TheVariants as said
 use Rattle.am_world.proofs.{Goes.recorded, Goes.living_at, Returns.return_goes_on, run.Run.come_back.Goals.After-push}
 use Rattle.am_world.proofs.run.Run.come_back.Goals as goal
@@ -15,15 +15,13 @@ made c =
     let place = c.place-place.ensures.value in
     return_goes_on p w.journal.founding c.push.new.self.founding w.nodes.items w.lives w.stopped w.journal.records c.push.new.self.records w.group.items
     c.args.event.now c.args.name c.from.result c.from-2.result c.unwrap.result c.from-3.result c.args.life c.stranger_in-fresh.result
-    c.self.view_is c.self.invariant c.requires.few c.requires.name (c.from.ensures ∙ place) (c.from-2.ensures ∙ place) (c.from-3.ensures
-    ∙ c.get.ensures.value) c.requires.next c.requires.most
+    c.self.view_is c.self.invariant c.requires.few c.requires.named (c.from.ensures ∙ place) (c.from-2.ensures ∙ place) (c.from-3.ensures
+    ∙ c.get.ensures.value) c.requires.next.0 c.requires.next.1
     (named ∙ ap (λ k. name_at k c.args.life) place) (c.stranger_in-fresh.ensures
     ∙ ap (λ r. stranger r c.unwrap.result) c.in_ok-record.ensures.node)
-    (recorded (replay p) c.args.event.now (said.Returned c.args.life)
-    [] w.lives c.args.name (life_of c.args.name) c.in_ok-record.record w.journal.founding c.push.new.self.founding w.journal.records c.new_life.new.journal.records
-    c.push.new.self.records living c.requires.name refl c.in_ok-record.ensures.record_ (c.push.ensures.founding
-    ∙ c.new_life.ensures.founding) c.new_life.ensures.records c.push.ensures.records)
-    c.requires.comes
+    (recorded (replay p) c.args.event.now (said.Returned c.args.life) [] living c.requires.named refl c.in_ok-record.ensures.record_
+    (c.push.ensures.founding ∙ c.new_life.ensures.founding) c.new_life.ensures.records c.push.ensures.records)
+    c.requires.comes_
 
 pub invariant_of-self-2 : goal.invariant_of-self-2
 invariant_of-self-2 c = (made c).0

@@ -10,8 +10,7 @@ made c =
     let living = living_at p w.journal.founding w.nodes.items w.lives w.stopped w.journal.records w.group.items c.self.view_is c.self.invariant in
     pass_goes_on p w.journal.founding c.push.new.self.founding w.nodes.items w.lives w.stopped w.journal.records c.push.new.self.records w.group.items
     c.args.event.now c.args.outcome c.self.view_is c.self.invariant c.requires.few
-    (recorded (replay p) c.args.event.now c.args.outcome [] w.lives c.args.name c.life.result c.in_ok-record.record w.journal.founding c.push.new.self.founding
-    w.journal.records c.record_for.new.self.records c.push.new.self.records living c.requires.name c.life.ensures.value c.in_ok-record.ensures.value
+    (recorded (replay p) c.args.event.now c.args.outcome [] living c.requires.name c.life.ensures.value c.in_ok-record.ensures.value
     (c.push.ensures.founding ∙ c.record_for.ensures.founding) c.record_for.ensures.records c.push.ensures.records)
     c.requires.comes
 

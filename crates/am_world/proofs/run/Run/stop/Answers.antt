@@ -11,11 +11,10 @@ made c =
     let p = c.args.self.now in
     let living = living_at p w.journal.founding w.nodes.items w.lives w.stopped w.journal.records w.group.items c.self.view_is c.self.invariant in
     stop_goes_on p w.journal.founding c.push.new.self.founding w.nodes.items w.lives w.stopped w.journal.records c.push.new.self.records w.group.items
-    c.args.event.now c.args.name c.from.result c.self.view_is c.self.invariant c.requires.few c.requires.name (c.from.ensures ∙ c.get.ensures.value)
-    (recorded (replay p) c.args.event.now said.Stopped [] w.lives c.args.name c.life.result c.in_ok-record.record w.journal.founding c.push.new.self.founding
-    w.journal.records c.record_for.new.self.records c.push.new.self.records living c.requires.name c.life.ensures.value c.in_ok-record.ensures.value
+    c.args.event.now c.args.name c.from.result c.self.view_is c.self.invariant c.requires.few c.requires.named (c.from.ensures ∙ c.get.ensures.value)
+    (recorded (replay p) c.args.event.now said.Stopped [] living c.requires.named c.life.ensures.value c.in_ok-record.ensures.value
     (c.push.ensures.founding ∙ c.record_for.ensures.founding) c.record_for.ensures.records c.push.ensures.records)
-    c.requires.comes
+    c.requires.comes_
 
 pub invariant_of-self-2 : goal.invariant_of-self-2
 invariant_of-self-2 c = (made c).0
