@@ -36,12 +36,6 @@ other_line = pos 6
 
 -- ---- which a call gives
 
-abbrev pub number_of : StepEnd → ℤ
-number_of Told = done
-number_of NoMemory = no_memory
-number_of NoRoom = no_room
-number_of OtherLine = other_line
-
 abbrev pub number_for : OptionsFault → ℤ
 number_for faults.Form = bad_options
 number_for faults.NoMemory = no_memory
@@ -50,3 +44,10 @@ number_for faults.NoMemory = no_memory
 abbrev pub number_closing : Option Session → ℤ
 number_closing None = closed
 number_closing (Some session) = done
+
+-- what a step gives
+abbrev pub number_of : StepEnd → ℤ
+number_of Told = done
+number_of NoMemory = no_memory
+number_of NoRoom = no_room
+number_of OtherLine = other_line
