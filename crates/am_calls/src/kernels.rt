@@ -1,4 +1,4 @@
-ghost use Rattle.std.specs.Prelude.{◌≡◌, ◌<◌, ◌≤◌, [], ◌∷◌, IfOk, IfErr, true, false, count_by, vec_len, map, length, All};
+ghost use Rattle.std.specs.Prelude.{◌≡◌, ◌<◌, [], ◌∷◌, IfOk, IfErr, true, false, vec_len, map, length, All};
 ghost use Rattle.std.specs.List.{range_with_len};
 ghost use Rattle.am_base.specs.Most.{most_events, most_word};
 ghost use Rattle.am_base.specs.Names.{place_of};
@@ -10,13 +10,14 @@ ghost use Rattle.am_sharing.specs.Sights.{GoesOn};
 ghost use Rattle.am_sharing.specs.declared.terms.WireRefusal.TheVariants as refusals;
 ghost use Rattle.am_races.specs.Boxes.{node_by};
 ghost use Rattle.am_races.specs.Callings.{Called, IsHand};
-ghost use Rattle.am_races.specs.Going.{IsCame, HasBegun, Began, HasLooked, WasRefused, Made};
+ghost use Rattle.am_races.specs.Going.{HasBegun, Began, HasLooked, WasRefused, Made};
 ghost use Rattle.am_races.specs.Answers.{is_take};
-ghost use Rattle.am_races.specs.Tags.{of_call, own_of, is_turn_part};
+ghost use Rattle.am_races.specs.Tags.{of_call};
 ghost use Rattle.am_races.specs.Lawful.{terms_of};
 ghost use Rattle.am_races.specs.Legal.{IsLegalWithTags};
 ghost use Rattle.am_races.specs.Plans.{is_call};
 ghost use Rattle.am_races.specs.Ran.{calls_by, fresh_callers, numbers_of, EndsFor};
+ghost use Rattle.am_calls.specs.Looks.{MayLook};
 
 use crate::caller::{Caller, Hand};
 use crate::crowd::Crowd;
@@ -147,10 +148,7 @@ impl<'g, N: Racing, G: Gate> Kernels<'g, N, G> {
         has_turn: bool,
     ) -> Result<Looked, Answer>
         requires hand { IsHand N.wire N.plan call.now.tag.caller hand.old.share hand.old.chooser }
-        requires came { IsCame call.now.act.now came.now
-            (own_of (of_call call.now.tag.caller call.now.tag.call hand.old.share.seen)) }
-        requires used { has_turn ≡ false → N.plan.turns ≤ count_by (λ r. is_turn_part r.by.part)
-            (of_call call.now.tag.caller call.now.tag.call hand.old.share.seen) }
+        requires may { MayLook N.plan call.now.tag call.now.act.now came.now has_turn hand.old.share.seen }
         ensures hand { IsHand N.wire N.plan call.now.tag.caller hand.new.share hand.new.chooser }
         ensures ok { IfOk result (HasLooked (place_of call.now.node) call.now.tag call.now.act.now
             came.entry.now has_turn hand.old.share.seen hand.new.share.seen) }

@@ -1,4 +1,4 @@
-ghost use Rattle.std.specs.Prelude.{◌≡◌, ◌<◌, ◌≤◌, [], ◌∷◌, None, Some, length, IfOk, IfErr, OnOk, OnErr, Option, true, false, count_by};
+ghost use Rattle.std.specs.Prelude.{◌≡◌, ◌<◌, ◌≤◌, [], ◌∷◌, None, Some, length, IfOk, IfErr, OnOk, OnErr, Option, true, false};
 ghost use Rattle.std.specs.Option.{option_copied};
 ghost use Rattle.am_base.specs.Most.{most_events};
 ghost use Rattle.am_play.specs.World.{first_node};
@@ -19,6 +19,7 @@ ghost use Rattle.am_races.specs.Tags.{of_call, own_of, is_turn_part};
 ghost use Rattle.am_races.specs.Lawful.{terms_of};
 ghost use Rattle.am_races.specs.Answers.{is_end_of, is_take};
 ghost use Rattle.am_races.specs.Turns.{is_due};
+ghost use Rattle.am_calls.specs.Looks.{MayLook};
 
 mod finding;
 
@@ -420,10 +421,8 @@ impl<N: Racing> NodeBox<N> {
     ) -> Result<Looked, Answer>
         requires own { visit.now.wire.now.id ≡ N.wire }
         requires hand { IsHand N.wire N.plan visit.now.tag.caller hand.old.share hand.old.chooser }
-        requires came { IsCame visit.now.act.now came.now
-            (own_of (of_call visit.now.tag.caller visit.now.tag.call hand.old.share.seen)) }
-        requires used { has_turn ≡ false → N.plan.turns ≤ count_by (λ r. is_turn_part r.by.part)
-            (of_call visit.now.tag.caller visit.now.tag.call hand.old.share.seen) }
+        requires may { MayLook N.plan visit.now.tag visit.now.act.now came.now has_turn
+            hand.old.share.seen }
         ensures hand { IsHand N.wire N.plan visit.now.tag.caller hand.new.share hand.new.chooser }
         ensures ok { IfOk result (HasLooked self.old.name visit.now.tag visit.now.act.now came.entry.now
             has_turn hand.old.share.seen hand.new.share.seen) }

@@ -39,12 +39,12 @@ loop-spent-preserved g c = (
 pub look-requires-clause-hand : goal.look-requires-clause-hand
 look-requires-clause-hand g c = c.loop-spent.invariant.0
 
-pub look-requires-clause-used : goal.look-requires-clause-used
-look-requires-clause-used g c = λ none. absurd (true≢false none)
-
-pub look-requires-clause-came : goal.look-requires-clause-came
-look-requires-clause-came g c =
-    came_still g.N.Racing.plan c.args.call.now.node c.args.call.now.tag c.args.call.now.act.now c.args.came.now _ _ _ _ _ c.requires.begun c.loop-spent.invariant.1
+pub look-requires-clause-may : goal.look-requires-clause-may
+look-requires-clause-may g c = record {
+  came_ = came_still g.N.Racing.plan c.args.call.now.node c.args.call.now.tag c.args.call.now.act.now c.args.came.now _ _ _ _ _ c.requires.begun
+      c.loop-spent.invariant.1;
+  used = λ none. absurd (true≢false none);
+}
 
 pub returns-in-Err-clause-made : goal.returns-in-Err-clause-made
 returns-in-Err-clause-made g c =
@@ -71,14 +71,14 @@ returns-in-Ok-End-clause-made g c =
 pub look-requires-2-clause-hand : goal.look-requires-2-clause-hand
 look-requires-2-clause-hand g c = c.loop-spent.invariant.0
 
-pub look-requires-2-clause-used : goal.look-requires-2-clause-used
-look-requires-2-clause-used g c = λ none.
-    turns_used g.N.Racing.plan c.args.call.now.node c.args.call.now.tag (request_in_call c.args.call.now.act.now c.args.came.now) _ _ c.loop-spent.spent c.loop-spent.late
-    c.loop-spent.invariant.1 (subst (λ (t : ℕ). t ≤ c.loop-spent.spent) c.args.self.now.turned c.loop-spent-test.false)
-
-pub look-requires-2-clause-came : goal.look-requires-2-clause-came
-look-requires-2-clause-came g c =
-    came_still g.N.Racing.plan c.args.call.now.node c.args.call.now.tag c.args.call.now.act.now c.args.came.now _ _ _ _ _ c.requires.begun c.loop-spent.invariant.1
+pub look-requires-2-clause-may : goal.look-requires-2-clause-may
+look-requires-2-clause-may g c = record {
+  came_ = came_still g.N.Racing.plan c.args.call.now.node c.args.call.now.tag c.args.call.now.act.now c.args.came.now _ _ _ _ _ c.requires.begun
+      c.loop-spent.invariant.1;
+  used = λ none. turns_used g.N.Racing.plan c.args.call.now.node c.args.call.now.tag (request_in_call c.args.call.now.act.now c.args.came.now) _ _
+      c.loop-spent.spent c.loop-spent.late c.loop-spent.invariant.1
+      (subst (λ (t : ℕ). t ≤ c.loop-spent.spent) c.args.self.now.turned c.loop-spent-test.false);
+}
 
 pub returns-in-Err-look-clause-made : goal.returns-in-Err-look-clause-made
 returns-in-Err-look-clause-made g c =

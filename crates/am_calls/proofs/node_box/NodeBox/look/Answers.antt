@@ -11,14 +11,14 @@ pub spend-requires-clause-unready : goal.spend-requires-clause-unready
 spend-requires-clause-unready g c =
     sym (c.is_ready.ensures.ready (own_of (of_call c.args.visit.now.tag.caller c.args.visit.now.tag.call c.meet_caller.new.self.seen))
     (came_seen c.args.visit.now.tag c.args.visit.now.act.now c.args.came.now c.args.hand.now.share.seen c.meet_caller.new.hand.share.seen c.meet_caller.new.self.seen
-    c.meet_caller.ensures.goes c.in_ok-meet_caller.ensures.ok.same c.requires.came))
+    c.meet_caller.ensures.goes c.in_ok-meet_caller.ensures.ok.same c.requires.may.came_))
     ∙ c.if-is_ready.false
 
 pub end-requires-clause-due : goal.end-requires-clause-due
 end-requires-clause-due g c =
     used_at g.N.Racing.plan c.args.visit.now.tag (node_by g.N.Racing.plan c.meet_caller.new.self.seen c.meet_caller.new.self.name)
     c.args.hand.now.share.seen c.meet_caller.new.hand.share.seen c.meet_caller.new.self.seen c.meet_caller.ensures.goes
-    c.in_ok-meet_caller.ensures.ok.same (c.requires.used c.if-not-has_turn.true)
+    c.in_ok-meet_caller.ensures.ok.same (c.requires.may.used c.if-not-has_turn.true)
 
 pub end-requires-then-is_ready-clause-due : goal.end-requires-then-is_ready-clause-due
 end-requires-then-is_ready-clause-due g c =
@@ -26,7 +26,7 @@ end-requires-then-is_ready-clause-due g c =
     (of_call c.args.visit.now.tag.caller c.args.visit.now.tag.call c.meet_caller.new.self.seen)
     (sym (c.is_ready.ensures.ready (own_of (of_call c.args.visit.now.tag.caller c.args.visit.now.tag.call c.meet_caller.new.self.seen))
     (came_seen c.args.visit.now.tag c.args.visit.now.act.now c.args.came.now c.args.hand.now.share.seen c.meet_caller.new.hand.share.seen c.meet_caller.new.self.seen
-    c.meet_caller.ensures.goes c.in_ok-meet_caller.ensures.ok.same c.requires.came))
+    c.meet_caller.ensures.goes c.in_ok-meet_caller.ensures.ok.same c.requires.may.came_))
     ∙ c.if-is_ready.true)
 
 pub returns-then-not-has_turn-clause-ok : goal.returns-then-not-has_turn-clause-ok
@@ -55,7 +55,7 @@ returns-then-is_ready-clause-ok g c =
     (sym c.in_ok-meet_caller.ensures.ok.same)
     (c.is_ready.ensures.told (own_of (of_call c.args.visit.now.tag.caller c.args.visit.now.tag.call c.meet_caller.new.self.seen))
     (came_seen c.args.visit.now.tag c.args.visit.now.act.now c.args.came.now c.args.hand.now.share.seen c.meet_caller.new.hand.share.seen c.meet_caller.new.self.seen
-    c.meet_caller.ensures.goes c.in_ok-meet_caller.ensures.ok.same c.requires.came)
+    c.meet_caller.ensures.goes c.in_ok-meet_caller.ensures.ok.same c.requires.may.came_)
     c.if-is_ready.true))
     c.meet_caller.ensures.goes c.end-then-is_ready.ensures.ok)
 
