@@ -46,11 +46,6 @@ IsSent sent before = (key : ℕ) → get nat_cmp sent key ≡ first_by_key key b
 abbrev pub IsLast : List (Option ℕ) → List Line → Type 0
 IsLast last before = (name : ℕ) → name < 256 → slice_index_or last name None ≡ last_of name before
 
--- what is found first in lines, behind those before, at each by the number of its name's last one
-abbrev pub first_found : (Option ℕ → Line → Option Verdict) → List Line → List Line → Option Verdict
-first_found found before [] = None
-first_found found before (line ∷ lines) = or_else (found (last_of line.name before) line) (first_found found (line ∷ before) lines)
-
 -- a pass through lines kept the last number of each name, and what it finds in the rest is what it finds in all of them
 pub record IsPassing (first : List Line → List Line → Option Verdict) (last : List (Option ℕ)) (rest lines : List Line) : Type 0 where
   pub before : List Line

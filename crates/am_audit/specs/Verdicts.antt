@@ -32,6 +32,11 @@ abbrev pub last_of : ℕ → List Line → Option ℕ
 last_of name [] = None
 last_of name (line ∷ before) = if line.name == name then Some line.number else last_of name before
 
+-- what is found first in lines, behind those before, at each by the number of its name's last one
+abbrev pub first_found : (Option ℕ → Line → Option Verdict) → List Line → List Line → Option Verdict
+first_found found before [] = None
+first_found found before (line ∷ lines) = or_else (found (last_of line.name before) line) (first_found found (line ∷ before) lines)
+
 -- the first line with a number
 abbrev pub first_with : ℕ → List Line → Option Line
 first_with number [] = None
@@ -116,8 +121,7 @@ early_at (Some last) line = None
 early_at None line = if may_begin line (outline_of line.text) then None else Some (verdicts.Early line.name line.number)
 
 abbrev pub first_early : List Line → List Line → Option Verdict
-first_early before [] = None
-first_early before (line ∷ lines) = or_else (early_at (last_of line.name before) line) (first_early (line ∷ before) lines)
+first_early before lines = first_found early_at before lines
 
 -- the entry, with nothing as a body
 abbrev pub bare_entry : Outline → Entry
@@ -156,8 +160,7 @@ abbrev pub skipped_at : Option ℕ → Line → Option Verdict
 skipped_at last send = if send.number == unwrap_or last 0 + 1 then None else Some (verdicts.Skipped send.name send.number)
 
 abbrev pub first_skipped : List Line → List Line → Option Verdict
-first_skipped before [] = None
-first_skipped before (send ∷ sends) = or_else (skipped_at (last_of send.name before) send) (first_skipped (send ∷ before) sends)
+first_skipped before sends = first_found skipped_at before sends
 
 -- the index of the first send with this name and request, where the first of these has this index
 abbrev pub first_asked : ℕ → ℕ → ℕ → List Line → Option ℕ

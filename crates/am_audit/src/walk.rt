@@ -1,7 +1,7 @@
 ghost use Rattle.std.specs.Prelude.{◌≡◌, ℕ, [], Option};
 ghost use Rattle.am_audit.specs.Lines.{Line};
 ghost use Rattle.am_audit.specs.declared.verdict.Verdict.{Verdict};
-ghost use Rattle.am_audit.specs.Keeping.{first_found};
+ghost use Rattle.am_audit.specs.Verdicts.{first_found};
 ghost use Rattle.am_audit.specs.Views.{line_of, lines_in};
 
 use crate::line::TextLine;

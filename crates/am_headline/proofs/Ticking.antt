@@ -15,16 +15,7 @@ pub sent_goes : (w : World) (e : Event) (after name : ℕ) (l : Letter) → IsSe
 sent_goes w e after name l h = record { number = h.number; late = h.late; there = letter_goes w e h.number l h.there; meant = h.meant }
 
 pub polled_goes : (r : Repair) (i after accepted : ℕ) (w : World) (e : Event) → Polled r i after accepted w → Polled r i after accepted (happens w e)
-polled_goes r i after accepted w e h = record {
-  letter = h.letter;
-  sent = sent_goes w e after i h.letter h.sent;
-  base = h.base;
-  acc = h.acc;
-  high = h.high;
-  is = h.is;
-  far = h.far;
-  told = h.told;
-}
+polled_goes r i after accepted w e h = record { letter = h.letter; sent = sent_goes w e after i h.letter h.sent; polls = h.polls }
 
 pub reported_goes : (r : Repair) (i after stored : ℕ) (w : World) (e : Event) → Reported r i after stored w → Reported r i after stored (happens w e)
 reported_goes r i after stored w e h = record { letter = h.letter; sent = sent_goes w e after r.by h.letter h.sent; reports = h.reports }
@@ -67,12 +58,7 @@ polled_tick rules r i after accepted w h there other low told_ =
     record {
       letter = letter;
       sent = step_sends w e r.by i after s letter is polls meant low;
-      base = n.core.base;
-      acc = n.core.acc;
-      high = top n;
-      is = cc;
-      far = l.high;
-      told = omega arith;
+      polls = record { base = n.core.base; acc = n.core.acc; high = top n; is = cc; far = l.high; told = omega arith };
     }
 
 pub runs_there : (w : World) (name : ℕ) → IsThere w name → IsAmong (place_of name) (running w)

@@ -21,16 +21,21 @@ pub record IsSent (w : World) (after name : ℕ) (letter : Letter) : Type 0 wher
   pub there : letter_at w.letters number ≡ Some letter
   pub meant : is_for letter name ≡ true
 
--- after the ticks: the sequencer's poll is on its way, which tells of a list no shorter than it was, and of so much accepted
-pub record Polled (r : Repair) (i after accepted : ℕ) (w : World) : Type 0 where
-  pub letter : Letter
-  pub sent : IsSent w after i letter
+-- the sequencer's poll, which tells of a list no shorter than it was, and of so much accepted
+pub record Polls (r : Repair) (accepted : ℕ) (p : Packet) : Type 0 where
   pub base : ℕ
   pub acc : ℕ
   pub high : ℕ
-  pub is : letter.packet ≡ Accept r.by r.view base acc high true
+  pub is : p ≡ Accept r.by r.view base acc high true
   pub far : r.high ≤ high
   pub told : accepted ≤ acc
+
+-- after the ticks: such a poll is on its way
+pub record Polled (r : Repair) (i after accepted : ℕ) (w : World) : Type 0 where
+  pub letter : Letter
+  pub sent : IsSent w after i letter
+  pub polls : Polls r accepted letter.packet
+  pub open polls use *
 
 -- a member's report, of at least so much stored
 pub record ReportsFrom (r : Repair) (i stored : ℕ) (p : Packet) : Type 0 where

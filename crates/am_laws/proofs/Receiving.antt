@@ -189,16 +189,9 @@ row_welcome m s v base join image heard own =
     let b = not-false _ (or_first (not (is_within_bound m base join)) _ g) in
     let h = or_second (not (is_within_bound m base join)) _ g in
     let above : base < join = grind (arith, nat_tests) in
-    row_welcomed m s v base join image (record {
-      asks = heard;
-      own = own;
-      no_member = none;
-      promise = promise;
-      above = above;
-      within = b;
-      view = or_first (stamp_lt v image.view) _ h;
-      new = or_second (stamp_lt v image.view) _ h;
-    }) other)))
+    let view = or_first (stamp_lt v image.view) _ h in
+    let new = or_second (stamp_lt v image.view) _ h in
+    row_welcomed m s v base join image (assumption (heard, own, none, promise, above, b, view, new)) other)))
   where
     not_false_test : {b : Bool} → not b ≡ true → b ≡ false
     not_false_test {b} t = grind arith

@@ -251,18 +251,15 @@ numbers_hold rules events =
     let h = run_low rules events in
     let first : Bounds = record { lists = 1; rounds = 1; requests = 0 } in
     record {
-      each = λ name. (let x = h.each name in let y = h.behind name in let t = x.entries in let r = x.rounds in let q = x.sends in record {
-        entries = omega arith;
-        round = omega arith;
-        requests = omega arith;
-        kept = x.kept;
-        given = x.given;
-        accepted = x.accepted;
-        told = y.told;
-        acc = y.acc;
-        base = x.trims;
-        start = x.began;
-      });
+      each = λ name. (
+          let x = h.each name in
+          let t = x.entries in
+          let r = x.rounds in
+          let q = x.sends in
+          let entries : top (w.nodes name) ≤ length events + 1 = omega arith in
+          let round : (w.nodes name).core.promise.round ≤ length events + 1 = omega arith in
+          let requests : (w.nodes name).sends.last ≤ length events = omega arith in
+          assumption (entries, round, requests, x, h.behind name));
       group = let g = h.group in omega arith;
       letters = λ number letter at. (let x : UpTo (bounds_after (length events) first) (length w.group) letter.packet =
           all_item (λ (l : Letter). UpTo (bounds_after (length events) first) (length w.group) l.packet) w.letters number letter h.letters at in

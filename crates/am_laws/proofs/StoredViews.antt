@@ -60,12 +60,8 @@ pub record OneMore (o : Outcome) (m x : Node) : Type 0 where
   pub is : o ≡ said.Decided number names
   pub low : number ≤ top x
 
--- a list has begun, without a View
-pub record Begun (c : Cause) (o : Outcome) (m x : Node) : Type 0 where
-  pub views : (v : Stamp) → has_view x.core.log v ≡ false
-  pub bare : has_log m.status ≡ false
-  pub member : x.status ≡ status.Member
-  pub other : (x.core.promise.by == x.core.who) ≡ false
+-- a Welcome is heard and answered
+pub record ByWelcome (c : Cause) (o : Outcome) : Type 0 where
   pub from : ℕ
   pub stamp : Stamp
   pub base : ℕ
@@ -73,6 +69,15 @@ pub record Begun (c : Cause) (o : Outcome) (m x : Node) : Type 0 where
   pub image : Image
   pub heard : c ≡ hears (packet.Welcome from stamp base join image)
   pub is : o ≡ said.Welcomed join
+
+-- a list has begun, without a View
+pub record Begun (c : Cause) (o : Outcome) (m x : Node) : Type 0 where
+  pub views : (v : Stamp) → has_view x.core.log v ≡ false
+  pub bare : has_log m.status ≡ false
+  pub member : x.status ≡ status.Member
+  pub other : (x.core.promise.by == x.core.who) ≡ false
+  pub welcome : ByWelcome c o
+  pub open welcome use *
 
 pub data Walked (c : Cause) (o : Outcome) (m x : Node) : Type 0 where
   still : Still m x → Walked c o m x
@@ -166,13 +171,7 @@ welcomed_still m x s v base join image is o may h =
       bare = h.bare (welcomed_none x s v base join image may);
       member = refl;
       other = ap (λ (k : ℕ). k == x.core.who) own ∙ other;
-      from = s;
-      stamp = v;
-      base = base;
-      join = join;
-      image = image;
-      heard = is;
-      is = o;
+      welcome = search (s, v, base, join, image, is, o);
     })
 
 change_still : {c : Cause} {o : Outcome} (m x y : Node) → BringsNone c → Change c o x y → Still m x → Walked c o m y
@@ -263,13 +262,7 @@ new_same c o m x y who stays promise log h = record {
   bare = h.bare;
   member = stays ∙ h.member;
   other = (λ i. (promise i).by == who i) ∙ h.other;
-  from = h.from;
-  stamp = h.stamp;
-  base = h.base;
-  join = h.join;
-  image = h.image;
-  heard = h.heard;
-  is = h.is;
+  welcome = h.welcome;
 }
 
 look_new : (c : Cause) (o : Outcome) (m x : Node) (b : Ballot) (v : Verdict) → Looks x b v → o ≡ v.outcome → Begun c o m x → Begun c o m v.node

@@ -6,7 +6,7 @@ ghost use Rattle.am_world.specs.declared.world.WorldRefusal.TheVariants as refus
 ghost use Rattle.am_world.specs.Runs.{replay};
 ghost use Rattle.am_player.specs.Runs.{done_of, logged_in};
 
-use crate::shows::Shows;
+use crate::shows::{Ran, Shows};
 use am_base::NoMemory;
 use am_base::founding::Founding;
 use am_base::name::Name;
@@ -89,5 +89,9 @@ pub fn show_run<T: Shows, K: Sink>(
     ensures err { OnErr result (out.new ≡ out.old) }
 {
     let names = logged_names(alloc, world)?;
-    shows.show(alloc, world, names.as_slice(), out)
+    let ran = Ran {
+        world,
+        names: names.as_slice(),
+    };
+    shows.show(&ran, out)
 }

@@ -13,25 +13,27 @@ use am_io::outside::Sink;
 use am_io::writer::Writer;
 use am_report::play::push_play;
 use am_world::world::World;
-use std::alloc::Global;
+
+/// What a world did, and the names that have or had a list, in their places' order.
+#[derive(Clone, Copy)]
+pub struct Ran<'a> {
+    /// The world.
+    pub world: &'a World,
+    /// These names.
+    pub names: &'a [Name],
+}
 
 /// What is shown of a script's run.
 pub trait Shows {
     // What it is, of a run that was watched.
     ghost text: { Self → Rules → Watch → List ℕ };
 
-    /// Writes what is shown of what a world did. The names are those that have or had a list, in their places' order. After an error
-    /// nothing of it was written.
-    fn show<K: Sink>(
-        &self,
-        alloc: Global,
-        world: &World,
-        names: &[Name],
-        out: &mut Buffered<'_, K>,
-    ) -> Result<(), NoMemory>
-        requires { names.now ≡ logged_in (replay world.now) }
-        ensures ok { OnOk result (Goes K.contents K.count out.old
-            (text self.now world.now.rules (watch_run world.now.rules world.now.events)) out.new) }
+    /// Writes what is shown of what a world did. After an error nothing of it was written.
+    fn show<K: Sink>(&self, ran: &Ran<'_>, out: &mut Buffered<'_, K>) -> Result<(), NoMemory>
+        requires { ran.now.names.now ≡ logged_in (replay ran.now.world.now) }
+        ensures ok { OnOk result (Goes K.contents K.count out.old (text self.now
+            ran.now.world.now.rules (watch_run ran.now.world.now.rules ran.now.world.now.events))
+            out.new) }
         ensures err { OnErr result (out.new ≡ out.old) };
 }
 
@@ -58,14 +60,8 @@ pub struct PlayText;
 impl Shows for PlayText {
     ghost text = { λ _. watched_text };
 
-    fn show<K: Sink>(
-        &self,
-        _alloc: Global,
-        world: &World,
-        names: &[Name],
-        out: &mut Buffered<'_, K>,
-    ) -> Result<(), NoMemory> {
-        push_run(out, world, names);
+    fn show<K: Sink>(&self, ran: &Ran<'_>, out: &mut Buffered<'_, K>) -> Result<(), NoMemory> {
+        push_run(out, ran.world, ran.names);
         Ok(())
     }
 }

@@ -1,6 +1,5 @@
-ghost use Rattle.std.specs.Prelude.{◌≡◌, ◌≢◌, ◌<◌, length, Ok, Err, IfOk, IfErr};
-ghost use Rattle.am_script.specs.Refusals.{Answers};
-ghost use Rattle.am_script.specs.Seen.{seen};
+ghost use Rattle.std.specs.Prelude.{◌≡◌, ◌<◌, length, IfOk, IfErr};
+ghost use Rattle.am_script.specs.{Refusals.Answers, Seen.seen};
 ghost use Rattle.am_race_script.specs.Limits.{RaceWithin};
 ghost use Rattle.am_race_script.specs.Races.{race_document_from, race_reading};
 
@@ -18,17 +17,15 @@ use std::alloc::Global;
 fn race_in(alloc: Global, value: &Value) -> Read<RacePlan>
     ensures { Answers (race_document_from (seen value.now)) result }
 {
-    let inner = behind(Key::Race, value)?;
-    race(alloc, inner)
+    race(alloc, behind(Key::Race, value)?)
 }
 
 /// Reads a race (docs/PROTOCOL.md, "Scripts"): threads with the calls that each makes, within the limits of docs/PROTOCOL.md ("Limits"). A
 /// refusal but NoMemory is the first cause that the bytes are none.
 #[tactic(auto, using(crate::proofs::Races::answer_within), unfolding(crate::specs::Races::race_reading))]
 pub fn read_race(alloc: Global, bytes: &[u8]) -> Result<RacePlan, ScriptRefusal>
-    ensures ok { IfOk result (λ plan. race_reading bytes.now ≡ Ok plan) }
+    ensures answers { Answers (race_reading bytes.now) result }
     ensures within { IfOk result RaceWithin }
-    ensures refused { IfErr result (λ e. e ≢ ScriptRefusal.NoMemory → race_reading bytes.now ≡ Err e) }
     ensures memory { IfErr result (λ e. e ≡ ScriptRefusal.NoMemory → 0 < length bytes.now) }
 {
     let mut scratch = Scratch::new(alloc);

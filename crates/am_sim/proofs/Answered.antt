@@ -59,18 +59,11 @@ played_by what bytes text p =
     let done = done_of p.founding p.events p.settles in
     let whole : what ≡ shown.Text → text_of p.founding done ≡ text =
     λ is. run_text p.founding p.events p.settles text (p.written ∙ ap (λ w. shown_text w p.founding (run_watch p.founding p.events p.settles)) is) in
-    record {
-      founding = p.founding;
-      events = p.events;
-      settles = p.settles;
-      script = p.script;
-      written = p.written;
-      few = p.few;
-      keeps = keeps_more p.founding done p.within.may_found p.keeps;
-      repaired = p.repaired;
-      reads = λ is. subst (ReadsAs p.founding done) (whole is) (play_reads bytes p.founding p.events p.settles p.script p.within p.few);
-      agrees = λ is one. subst (AgreesAs p.founding done) (whole is) (play_agrees bytes p.founding p.events p.settles p.script p.within p.few one);
-    }
+    let reads : what ≡ shown.Text → ReadsAs p.founding done text =
+    λ is. subst (ReadsAs p.founding done) (whole is) (play_reads bytes p.founding p.events p.settles p.script p.within p.few) in
+    let agrees : what ≡ shown.Text → IsOfOneList p.founding done → AgreesAs p.founding done text =
+    λ is one. subst (AgreesAs p.founding done) (whole is) (play_agrees bytes p.founding p.events p.settles p.script p.within p.few one) in
+    search (p.founding, p.events, p.settles, p, keeps_more p.founding done p.within.may_found p.keeps, reads, agrees)
 
 pub is_played : (what : Shown) (before after : Option (List ℕ)) (text : List ℕ) → IsPlayedBy (shown_text what) before after text → IsPlayed what before after text
 is_played what before after text x = (x.0, x.1, played_by what x.0 text x.2)

@@ -54,7 +54,7 @@ pub fn simulate_alone<S: Source, K: Sink>(
         → form_of_words words.now ≡ Some form.Audit) }
 {
     match form_of(words) {
-        Some(Form::Play(shown)) => Some(play(alloc, &ShownRun { shown }, source, sink)),
+        Some(Form::Play(shown)) => Some(play(alloc, &ShownRun { alloc, shown }, source, sink)),
         Some(Form::Gen(_)) => Some(generate_run(alloc, words, sink)),
         Some(Form::Script(numbers)) => Some(generate_script(alloc, numbers, sink)),
         Some(Form::Audit) => Some(audit_text(alloc, source, sink)),

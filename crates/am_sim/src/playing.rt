@@ -8,7 +8,7 @@ use am_base::NoMemory;
 use am_base::name::Name;
 use am_io::buffered::Buffered;
 use am_io::outside::Sink;
-use am_player::shows::{PlayText, Shows};
+use am_player::shows::{PlayText, Ran, Shows};
 use am_services::directories::directories_text;
 use am_services::messages::messages_text;
 use am_services::snapshots::snapshots_text;
@@ -41,6 +41,8 @@ fn text_of_world(
 /// What the words of a play ask to be shown of its run.
 #[derive(Clone, Copy)]
 pub struct ShownRun {
+    /// Where texts are made.
+    pub alloc: Global,
     /// What that is.
     pub shown: Shown,
 }
@@ -48,17 +50,11 @@ pub struct ShownRun {
 impl Shows for ShownRun {
     ghost text = { λ it. shown_text it.shown };
 
-    fn show<K: Sink>(
-        &self,
-        alloc: Global,
-        world: &World,
-        names: &[Name],
-        out: &mut Buffered<'_, K>,
-    ) -> Result<(), NoMemory> {
+    fn show<K: Sink>(&self, ran: &Ran<'_>, out: &mut Buffered<'_, K>) -> Result<(), NoMemory> {
         match self.shown {
-            Shown::Text => PlayText.show(alloc, world, names, out),
+            Shown::Text => PlayText.show(ran, out),
             shown => {
-                let text = text_of_world(alloc, shown, world, names)?;
+                let text = text_of_world(self.alloc, shown, ran.world, ran.names)?;
                 out.write(text.as_bytes());
                 Ok(())
             }
