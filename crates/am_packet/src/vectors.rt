@@ -100,31 +100,3 @@ pub const RESULT: &[u8] =
 
 /// A HandOver.
 pub const HAND_OVER: &[u8] = b"AG\x03\x12\x01\x00\x00\x00\x02\x00\x00\x0c";
-
-/// All of them.
-pub const ALL: [&[u8]; 24] = [
-    REQUEST,
-    SPREAD,
-    BCAST_DATA,
-    BCAST_JOIN,
-    BCAST_LEAVE,
-    BCAST_VIEW,
-    ORDER,
-    ACCEPT,
-    ACK,
-    NACK,
-    HOLD,
-    JOIN_ASK,
-    WELCOME,
-    LEAVE_ASK,
-    GONE,
-    INVITE,
-    VOTE,
-    FETCH,
-    PIECE_DATA,
-    PIECE_JOIN,
-    PIECE_LEAVE,
-    PIECE_VIEW,
-    RESULT,
-    HAND_OVER,
-];

@@ -1,6 +1,6 @@
 -- Who leads is among those who may need its list, so no more is let go than it has taken itself.
 use Rattle.am_state.proofs.Words.{◌≡◌, ◌⊎◌, ⊎_elim, inl, inr, ℕ, zero, suc, ◌+◌, ◌-◌, ◌<◌, ◌≤◌, min, List, [], ◌∷◌, length, refl, sym, ◌∙◌, ap, true, nat_lt}
-use Rattle.am_state.proofs.Words.{Option, Some, None, slice_index, if◌then◌else◌, arith, nat_tests, eq-or-lt_of_le, Report, Image, Leave, place_of, life_of}
+use Rattle.am_state.proofs.Words.{Option, Some, None, slice_index, if◌then◌else◌, arith, nat_tests, eq-or-lt_of_le, Report, Leave, place_of, life_of}
 use Rattle.am_state.proofs.Words.{name_at, names_from, has, size, top_of, told_by, image_at, members_of, members_at, entry_at, fits, IsKept, above, CoreState}
 use Rattle.am_state.proofs.Words.{unions, since_accepted, trim_list, lesser, least_of, least_taken, MayLead}
 use Rattle.am_state.proofs.Ends.{end-self, end-above, end-told, end-top, end-entry, image-top, image-next, entry-get}

@@ -1,6 +1,6 @@
 -- Sends stand in line through each change.
 use Rattle.am_state.proofs.Words.{length-append, take, drop, ◌≡◌, ℕ, ◌+◌, ◌<◌, ◌≤◌, List, [], ◌∷◌, ◌++◌, map, filter, find, length, option_map, Bool, true}
-use Rattle.am_state.proofs.Words.{false, not, ◌&&◌, ◌==◌, nat_lt, if◌then◌else◌, Option, Some, None, is_none, is_some, refl, sym, ◌∙◌, ap, subst, arith}
+use Rattle.am_state.proofs.Words.{false, not, ◌&&◌, ◌==◌, nat_lt, Option, Some, None, is_none, is_some, refl, sym, ◌∙◌, ap, subst, arith}
 use Rattle.am_state.proofs.Words.{list_any, list_all, refill, IfSome, nat_tests, length-map, take-append-le, take-length, most_number, OwnSend, is_request}
 use Rattle.am_state.proofs.Words.{is_unsettled, settle_send, next_in, are_in_line, AreKept}
 use Rattle.am_state.proofs.{Folds.split}

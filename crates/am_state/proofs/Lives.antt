@@ -1,6 +1,6 @@
 -- The lives of a place only grow.
 use Rattle.am_state.proofs.Words.{◌≡◌, ◌⊎◌, ⊎_elim, inl, inr, ℕ, zero, suc, ◌+◌, ◌-◌, ◌<◌, ◌≤◌, max, List, [], ◌∷◌, length, take, drop, refl, sym, ◌∙◌, ap}
-use Rattle.am_state.proofs.Words.{subst, Bool, true, false, ◌==◌, ◌&&◌, ◌||◌, nat_lt, Some, slice_get, slice_index, slice_index_or, arith, list_all, get_or-map}
+use Rattle.am_state.proofs.Words.{subst, Bool, true, false, ◌==◌, ◌&&◌, Some, slice_get, slice_index, slice_index_or, arith, list_all, get_or-map}
 use Rattle.am_state.proofs.Words.{length-map, length-set, get_or-set_other, get_or-set_at, eq-or-lt_of_le, nat_tests, eqb_tells, Row, Image, Entry, Data, Join}
 use Rattle.am_state.proofs.Words.{Leave, View, place_of, life_of, has, union_of, stamp_eq, no_stamp, Log, blank_row, is_blank, is_blank_row, at_place}
 use Rattle.am_state.proofs.Words.{member_life, members_of, members_at, row_after_view, with_row, after, fits, fold, AllFit, image_at, told_by, top_of}
