@@ -2,7 +2,7 @@
 use Rattle.am_meaning.proofs.Words.{and_both, ◌≡◌, ℕ, ◌+◌, Bool, true, false, not, if◌then◌else◌, nat_lt, nat_le, List, Option, Some, None, refl, sym, ap, ◌∙◌}
 use Rattle.am_meaning.proofs.Words.{arith, nat_tests, Report, Stamp, Data, Outcome, Log, row_of, told_by, top_of, with_entry, CoreState, accept, pass_over}
 use Rattle.am_meaning.proofs.Words.{own_report, tell, go_on, let_go, OwnSend, Node, top, report_fits, has_room, is_sequencer, only_name, waiting, push_entry}
-use Rattle.am_meaning.proofs.Words.{with_report, Plan, quiet, polling, and_telling, hold_of, finish, refresh, lead, advance, accepted_at, settle_at}
+use Rattle.am_meaning.proofs.Words.{with_report, Plan, quiet, polling, and_telling, hold_of, finish, refresh, lead, accepted_at, settle_at}
 use Rattle.am_meaning.proofs.Words.{settle_waiting, settle, refresh_at_end, row_at, is_unknown, take_report, number_data, answer_request, request_row}
 use Rattle.am_meaning.proofs.Words.{hears_in_view, hears_as_sequencer, hear_row, hear, send_packet, IsNextSend, IsHeld, HeldExactly, IsTurnedDown, elsewhere}
 use Rattle.am_meaning.proofs.Words.{stranger, unfit, again, early, IsAnswered, numbered, held, turned_down, SendsAnswered, split}

@@ -1,5 +1,5 @@
 -- A second refresh in a row changes nothing.
-use Rattle.am_meaning.proofs.Words.{◌≡◌, ℕ, ◌-◌, ◌≤◌, max, min, true, ◌==◌, nat_lt, nat_le, if◌then◌else◌, Option, Some, None, refl, sym, ap, subst, ◌∙◌, inl}
+use Rattle.am_meaning.proofs.Words.{◌≡◌, ℕ, ◌-◌, ◌≤◌, max, min, true, ◌==◌, nat_lt, nat_le, if◌then◌else◌, refl, sym, ap, subst, ◌∙◌, inl}
 use Rattle.am_meaning.proofs.Words.{inr, arith, cases_lt, nat_tests, Report, Log, top_of, told_by, is_held, is_satisfied, accept_front, CoreState, accept}
 use Rattle.am_meaning.proofs.Words.{pass_over, raise_report, least_taken, base_after, own_report, tell, go_on, let_go, Node, top, is_sequencer, report_of}
 use Rattle.am_meaning.proofs.Words.{set_at, with_report, concerned_names, advance, lead, refresh, IsGreatestFront, RefreshOnce, split, and_both}

@@ -1,8 +1,8 @@
 -- A run without events.
-use Rattle.am_watching.proofs.Words.{◌≡◌, ℕ, ◌<◌, ◌≤◌, true, false, if◌then◌else◌, [], length, map, slice_index, refl, sym, ap, ◌∙◌, inl, inr, arith}
+use Rattle.am_watching.proofs.Words.{◌≡◌, ℕ, ◌<◌, ◌≤◌, false, if◌then◌else◌, [], length, map, slice_index, refl, sym, ap, ◌∙◌, inl, inr, arith}
 use Rattle.am_watching.proofs.Words.{get_or_past, get_or-map-range_with_len, length-map-range_with_len, cases_lt, nat_tests, range_with_len, has, place_of}
-use Rattle.am_watching.proofs.Words.{life_of, fold, Rules, MayFound, stamp_lt, Member, founder, stranger, founding_stamp, first_node, split, blank_standing}
-use Rattle.am_watching.proofs.Words.{standing, first_standing, first_view, first_watching, standing_of, Each, BeginningIsWatched}
+use Rattle.am_watching.proofs.Words.{life_of, fold, Rules, MayFound, stamp_lt, Member, founding_stamp, first_node, split, blank_standing}
+use Rattle.am_watching.proofs.Words.{standing, first_standing, first_watching, standing_of, Each, BeginningIsWatched}
 use Rattle.am_base.specs.Lists.{after}
 use Rattle.am_watching.specs.Watching as kept
 use Rattle.am_watching.proofs.Order.{lt_self}

@@ -3,7 +3,7 @@ use Rattle.am_watching.proofs.Words.{or_parts, not-true, cases_lt, or-true, or-f
 use Rattle.am_watching.proofs.Words.{if◌then◌else◌, List, [], ◌∷◌, ◌++◌, length, map, filter, replicate, count_by, min, nat_le, nat_lt, Option, Some, None}
 use Rattle.am_watching.proofs.Words.{slice_index_or, slice_set, refl, sym, ap, ◌∙◌, subst, inl, inr, arith, set-set, get_or-set_same, get_or-set_other}
 use Rattle.am_watching.proofs.Words.{length-set, length-append, length-replicate, get_or-replicate, append-nil, map-append, get_or_past, filter-append}
-use Rattle.am_watching.proofs.Words.{list_any-append, nat_tests, list_any, GroupView, Stamp, Entry, Data, Join, Leave, View, has, size, names_of, stamp_lt}
+use Rattle.am_watching.proofs.Words.{list_any-append, nat_tests, list_any, GroupView, Stamp, Entry, View, has, size, names_of, stamp_lt}
 use Rattle.am_watching.proofs.Words.{stamp_eq, Node, view, is_member, set_at, has_departed, Decided, World, last_view, Watch, is_view_of, split, and_both}
 use Rattle.am_watching.proofs.Words.{DecidedView, Standing, Pending, Watching, blank_standing, standing, is_by, number_of, or_else, same_flag, is_alike}
 use Rattle.am_watching.proofs.Words.{with_standing, new_pending, decided_views, with_decided, with_entries, store_view, note_entries, note_entry, is_view}
