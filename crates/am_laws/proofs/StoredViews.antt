@@ -171,7 +171,7 @@ welcomed_still m x s v base join image is o may h =
       bare = h.bare (welcomed_none x s v base join image may);
       member = refl;
       other = ap (λ (k : ℕ). k == x.core.who) own ∙ other;
-      welcome = search (s, v, base, join, image, is, o);
+      welcome = search (is, o);
     })
 
 change_still : {c : Cause} {o : Outcome} (m x y : Node) → BringsNone c → Change c o x y → Still m x → Walked c o m y
