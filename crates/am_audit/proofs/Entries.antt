@@ -3,10 +3,10 @@ use Rattle.std.proofs.Common.{◌≡◌, ℕ, zero, suc, ◌-◌, ◌<◌, List,
 use Rattle.std.specs.Option.{option_map}
 use Rattle.std.proofs.lemmas.Option.{slice_get-map, slice_get-get_or}
 use Rattle.am_group.specs.Journals.{item_at}
-use Rattle.am_fields.specs.Fields.{same}
+use Rattle.am_spelling.specs.Fields.{same}
+use Rattle.am_verdicts.specs.Verdicts.{is_text}
 use Rattle.am_audit.specs.declared.line.Piece.{Piece}
 use Rattle.am_audit.specs.Views.{texts_in}
-use Rattle.am_audit.specs.Verdicts.{is_text}
 
 there : (group : List Piece) (before at : ℕ) (text : List ℕ) (d : Piece) → at ≡ before → at < length group
     → same (get_or group at d).text.now text ≡ is_text (item_at (texts_in group) (suc before)) text

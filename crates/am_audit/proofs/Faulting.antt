@@ -4,10 +4,10 @@ use Rattle.std.proofs.Common.{None, slice_get, Bool, true, false, cond, sym, ap,
 use Rattle.std.specs.Ordering.{nat_cmp}
 use Rattle.std.specs.BTreeMap.{BTreeMap, get}
 use Rattle.std.proofs.lemmas.Option.{slice_get-get_or}
-use Rattle.am_audit.specs.declared.verdict.Verdict.{Verdict}
-use Rattle.am_audit.specs.Fields.{data_in}
-use Rattle.am_audit.specs.Lines.{Line}
-use Rattle.am_audit.specs.Verdicts.{or_else, last_of, first_with, gap_at, differs_at, twice_at, fault_at}
+use Rattle.am_verdicts.specs.declared.verdict.Verdict.{Verdict}
+use Rattle.am_verdicts.specs.Fields.{data_in}
+use Rattle.am_verdicts.specs.Lines.{Line}
+use Rattle.am_verdicts.specs.Verdicts.{or_else, last_of, first_with, gap_at, differs_at, twice_at, fault_at}
 use Rattle.am_audit.specs.Keeping.{IsFirst, IsSent, IsKept, twice_by_key}
 use Rattle.am_audit.proofs.Keys.{twice_is}
 use Rattle.am_audit.proofs.Passing.{set_one}

@@ -4,13 +4,13 @@ use Rattle.std.proofs.Common.{Result, Ok, Err, OnOk, false, cond, refl, sym, ap,
 use Rattle.std.proofs.lemmas.Bool.{cases_eq, eq-eqb}
 use Rattle.std.proofs.lemmas.Bool.Decides.{nat_tests}
 use Rattle.am_base.specs.Most.{most_number}
-use Rattle.am_fields.specs.declared.fault.FieldFault.{FieldFault}
-use Rattle.am_audit.specs.Fields.{two_of, expect, data_parts, data_in, is_send}
-use Rattle.am_audit.specs.Lines.{Line}
-use Rattle.am_audit.specs.Verdicts.{or_else, first_sent, twice_by, twice_at, once_more, stands}
-use Rattle.am_audit.specs.Keeping.{send_key, has_key, first_by_key, twice_by_key, stands_by_key}
-use Rattle.am_audit.proofs.Bounds.{bound, parts_within}
+use Rattle.am_spelling.specs.declared.fault.FieldFault.{FieldFault}
+use Rattle.am_verdicts.specs.Fields.{two_of, expect, data_parts, data_in, is_send}
+use Rattle.am_verdicts.specs.Lines.{Line}
+use Rattle.am_verdicts.specs.Verdicts.{or_else, first_sent, twice_by, twice_at, once_more, stands}
+use Rattle.am_verdicts.proofs.Bounds.{bound, parts_within}
 use Rattle.std.specs.Prelude.{codes}
+use Rattle.am_audit.specs.Keeping.{send_key, has_key, first_by_key, twice_by_key, stands_by_key}
 
 differs : (a b : ℕ) → (a ≡ b → ⊥) → (a == b) ≡ false
 differs a b ne = grind (arith, nat_tests)

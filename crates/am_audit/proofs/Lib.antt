@@ -1,13 +1,6 @@
-pub mod Beginnings
-pub mod Bounds
-pub mod Deeds
+pub mod Counting
 pub mod Entries
 pub mod Faulting
 pub mod Keys
-pub mod Marks
-pub mod Meaning
-pub mod Openings
 pub mod Passing
-pub mod Segments
-pub mod Texts
-pub mod Wrongs
+pub mod Refusing

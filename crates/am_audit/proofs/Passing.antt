@@ -9,10 +9,10 @@ use Rattle.std.proofs.lemmas.Bool.{cases_eq, eq-eqb}
 use Rattle.std.proofs.lemmas.Bool.Decides.{nat_tests}
 use Rattle.std.proofs.lemmas.List.{get_or-set_same, get_or-set_other, get_or-replicate, length-replicate, drop_more, drop_all}
 use Rattle.std.proofs.lemmas.Option.{slice_get-map, slice_get-get_or}
+use Rattle.am_verdicts.specs.declared.verdict.Verdict.{Verdict}
+use Rattle.am_verdicts.specs.Lines.{Line}
+use Rattle.am_verdicts.specs.Verdicts.{or_else, last_of}
 use Rattle.am_audit.specs.declared.line.TextLine.{TextLine}
-use Rattle.am_audit.specs.declared.verdict.Verdict.{Verdict}
-use Rattle.am_audit.specs.Lines.{Line}
-use Rattle.am_audit.specs.Verdicts.{or_else, last_of}
 use Rattle.am_audit.specs.Keeping.{IsLast, IsPassing}
 use Rattle.am_audit.specs.Views.{line_of, lines_in}
 

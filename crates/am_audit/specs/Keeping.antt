@@ -4,11 +4,11 @@ use Rattle.std.specs.Prelude.{if◌then◌else◌, List, [], ◌∷◌, length, 
 use Rattle.std.specs.Ordering.{nat_cmp}
 use Rattle.std.specs.BTreeMap.{BTreeMap, get}
 use Rattle.am_group.specs.Journals.{item_at}
-use Rattle.am_fields.specs.declared.fault.FieldFault.{FieldFault}
-use Rattle.am_audit.specs.declared.verdict.Verdict.{Verdict}
-use Rattle.am_audit.specs.Fields.{data_in}
-use Rattle.am_audit.specs.Lines.{Line}
-use Rattle.am_audit.specs.Verdicts.{last_of, first_with, or_else, twice_by, once_more, count_of, is_text}
+use Rattle.am_spelling.specs.declared.fault.FieldFault.{FieldFault}
+use Rattle.am_verdicts.specs.declared.verdict.Verdict.{Verdict}
+use Rattle.am_verdicts.specs.Fields.{data_in}
+use Rattle.am_verdicts.specs.Lines.{Line}
+use Rattle.am_verdicts.specs.Verdicts.{last_of, first_with, or_else, twice_by, once_more, count_of, is_text}
 
 -- an index is that of the line that was found
 abbrev pub IsFirst : List Line → Option ℕ → Option Line → Type 0

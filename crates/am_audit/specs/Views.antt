@@ -1,6 +1,9 @@
 -- What the code keeps of a text, as it was read.
 use Rattle.std.specs.Prelude.{◌≡◌, ℕ, List, map, Result, Ok, Err, IsErr}
-use Rattle.am_fields.specs.declared.fault.FieldFault.{FieldFault}
+use Rattle.am_spelling.specs.declared.fault.FieldFault.{FieldFault}
+use Rattle.am_verdicts.specs.declared.verdict.Audit.{Audit}
+use Rattle.am_verdicts.specs.Lines.{Line, Reading}
+use Rattle.am_verdicts.specs.Verdicts.{verdict_of}
 use Rattle.am_audit.specs.declared.fault.LineFault.{LineFault}
 use Rattle.am_audit.specs.declared.fault.LineFault.TheVariants as faults
 use Rattle.am_audit.specs.declared.fault.TextRefusal.{TextRefusal}
@@ -8,9 +11,11 @@ use Rattle.am_audit.specs.declared.fault.TextRefusal.TheVariants as refusals
 use Rattle.am_audit.specs.declared.line.TextLine.{TextLine}
 use Rattle.am_audit.specs.declared.line.Piece.{Piece}
 use Rattle.am_audit.specs.declared.reading.Lines.{Lines}
-use Rattle.am_audit.specs.declared.verdict.Audit.{Audit}
-use Rattle.am_audit.specs.Lines.{Line, Reading}
-use Rattle.am_audit.specs.Verdicts.{verdict_of}
+
+-- what a function returned, seen by view, is what is read; or its fault is
+abbrev pub Gives : {X Y : Type 0} → (X → Y) → Result X FieldFault → Result Y FieldFault → Type 0
+Gives view (Ok x) read = read ≡ Ok (view x)
+Gives view (Err fault) read = read ≡ Err fault
 
 abbrev pub line_of : TextLine → Line
 line_of line = record { name = line.name; number = line.number; text = line.text.now }

@@ -1,5 +1,5 @@
 use am_base::NoMemory;
-use am_fields::fault::FieldFault;
+use am_spelling::fault::FieldFault;
 use std::alloc::AllocFailed;
 
 /// Why a line isn't taken.

@@ -2,19 +2,20 @@ ghost use Rattle.std.specs.Prelude.{◌≡◌, ℕ, [], ◌<◌, length, IfOk, O
 ghost use Rattle.std.specs.Ordering.{nat_cmp};
 ghost use Rattle.std.specs.BTreeMap.{get};
 ghost use Rattle.am_group.specs.Journals.{item_at};
-ghost use Rattle.am_audit.specs.Fields.{data_in, outline_of};
+ghost use Rattle.am_verdicts.specs.Fields.{data_in, outline_of};
+ghost use Rattle.am_verdicts.specs.Verdicts.{is_text, first_astray, once_more, stands, is_at, first_lost, may_begin, early_at, first_early};
 ghost use Rattle.am_audit.specs.Keeping.{has_key, stands_by_key};
 ghost use Rattle.am_audit.specs.Views.{line_of, lines_in, texts_in};
-ghost use Rattle.am_audit.specs.Verdicts.{is_text, first_astray, once_more, stands, is_at, first_lost, may_begin, early_at, first_early};
 
 use crate::fields::{data_in, outline};
-use crate::line::{Answer, Piece, TextLine};
+use crate::line::{Piece, TextLine};
 use crate::maps::send_key;
-use crate::outline::Outline;
-use crate::verdict::Verdict;
 use crate::walk::{Check, first_found};
 use am_base::NoMemory;
 use am_base::name::Name;
+use am_verdicts::line::Answer;
+use am_verdicts::outline::Outline;
+use am_verdicts::verdict::Verdict;
 use std::alloc::Global;
 use std::collections::BTreeMap;
 

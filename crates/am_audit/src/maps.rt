@@ -1,8 +1,8 @@
 ghost use Rattle.std.specs.Prelude.{◌≡◌, ℕ, ◌==◌, ◌+◌, ◌*◌, OnOk, IfOk, Some, None, if◌then◌else◌};
 ghost use Rattle.std.specs.Ordering.{nat_cmp};
 ghost use Rattle.std.specs.BTreeMap.{get};
+ghost use Rattle.am_verdicts.specs.Verdicts.{or_else};
 ghost use Rattle.am_audit.specs.Keeping.{send_key};
-ghost use Rattle.am_audit.specs.Verdicts.{or_else};
 
 use am_base::NoMemory;
 use am_base::name::Name;

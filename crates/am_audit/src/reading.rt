@@ -1,18 +1,19 @@
 ghost use Rattle.std.specs.Prelude.{◌≡◌, ◌≤◌, OnOk, length};
-ghost use Rattle.am_audit.specs.Fields.{two_of, send_of, answer_of, take_of, return_of};
-ghost use Rattle.am_audit.specs.Lines.{nothing_read, may_event, may_list, may_log, is_end, with_send, with_answer, with_take, with_return, counted};
-ghost use Rattle.am_audit.specs.Lines.{with_event, add_event, add_entry, logged, add_log, add_end, add_void, add_line, finish};
+ghost use Rattle.am_verdicts.specs.Fields.{two_of, send_of, answer_of, take_of, return_of};
+ghost use Rattle.am_verdicts.specs.Lines.{nothing_read, may_event, may_list, may_log, is_end, with_send, with_answer, with_take, with_return, counted};
+ghost use Rattle.am_verdicts.specs.Lines.{with_event, add_event, add_entry, logged, add_log, add_end, add_void, add_line, finish};
 ghost use Rattle.am_audit.specs.Views.{told, Takes};
 
 use crate::fault::LineFault;
 use crate::fields::{answer, expect, outline, return_of, send, take, two};
-use crate::line::{Answer, Piece, Stage, TextLine};
+use crate::line::{Piece, TextLine};
 use crate::mark::mark_cut;
 use am_base::NoMemory;
 use am_base::name::Name;
-use am_fields::fault::FieldFault;
 use am_fields::name::name;
 use am_fields::number::number;
+use am_spelling::fault::FieldFault;
+use am_verdicts::line::{Answer, Stage};
 use std::alloc::Global;
 
 /// What was read of a text so far: its list, its logs, and its events that count.
@@ -134,7 +135,7 @@ impl<'a> Lines<'a> {
     }
 
     /// Keeps what counts of an event: its act, and its outcome.
-    #[tactic(auto, unfolding(crate::specs::Lines::counted))]
+    #[tactic(auto, unfolding(am_verdicts::specs::Lines::counted))]
     fn count(&mut self, act: &'a [u8], outcome: &'a [u8]) -> Result<(), NoMemory>
         ensures { OnOk result (told self.new
             ≡ counted (told self.old) (two_of act.entry.now) outcome.entry.now) }
@@ -158,7 +159,7 @@ impl<'a> Lines<'a> {
     }
 
     /// Takes an event's line: its number, and what stands behind that.
-    #[tactic(auto, unfolding(crate::specs::Lines::add_event))]
+    #[tactic(auto, unfolding(am_verdicts::specs::Lines::add_event))]
     fn add_event(&mut self, number_text: &[u8], rest: &'a [u8]) -> Result<(), LineFault>
         ensures { Takes result (told self.new)
             (add_event (told self.old) number_text.now rest.entry.now) }
@@ -178,7 +179,7 @@ impl<'a> Lines<'a> {
     }
 
     /// Takes a line of the group list, behind its word.
-    #[tactic(auto, unfolding(crate::specs::Lines::add_entry))]
+    #[tactic(auto, unfolding(am_verdicts::specs::Lines::add_entry))]
     fn add_entry(&mut self, rest: &'a [u8]) -> Result<(), LineFault>
         ensures { Takes result (told self.new) (add_entry (told self.old) rest.entry.now) }
     {
@@ -194,7 +195,7 @@ impl<'a> Lines<'a> {
     }
 
     /// Takes a log's line, behind its name.
-    #[tactic(auto, unfolding(crate::specs::Lines::logged))]
+    #[tactic(auto, unfolding(am_verdicts::specs::Lines::logged))]
     fn logged(&mut self, name: Name, rest: &'a [u8]) -> Result<(), LineFault>
         ensures { Takes result (told self.new) (logged (told self.old) name rest.entry.now) }
     {
@@ -215,7 +216,7 @@ impl<'a> Lines<'a> {
     }
 
     /// Takes a log's line, behind its word.
-    #[tactic(auto, unfolding(crate::specs::Lines::add_log))]
+    #[tactic(auto, unfolding(am_verdicts::specs::Lines::add_log))]
     fn add_log(&mut self, rest: &'a [u8]) -> Result<(), LineFault>
         ensures { Takes result (told self.new) (add_log (told self.old) rest.entry.now) }
     {
@@ -240,7 +241,7 @@ impl<'a> Lines<'a> {
     }
 
     /// Takes the last line of a text that is void, behind its first word.
-    #[tactic(auto, unfolding(crate::specs::Lines::add_void))]
+    #[tactic(auto, unfolding(am_verdicts::specs::Lines::add_void))]
     fn add_void(&mut self, rest: &[u8]) -> Result<(), LineFault>
         ensures { Takes result (told self.new) (add_void (told self.old) rest.now) }
     {
@@ -251,7 +252,7 @@ impl<'a> Lines<'a> {
     }
 
     /// Takes one line more.
-    #[tactic(auto, unfolding(crate::specs::Lines::add_line))]
+    #[tactic(auto, unfolding(am_verdicts::specs::Lines::add_line))]
     pub fn add_line(&mut self, line: &'a [u8]) -> Result<(), LineFault>
         ensures { Takes result (told self.new) (add_line (told self.old) line.entry.now) }
     {

@@ -1,6 +1,6 @@
 ghost use Rattle.std.specs.Prelude.{◌≡◌, ◌+◌, ◌≤◌, ◌<◌, length, MatchOption, Some, None};
-ghost use Rattle.am_fields.specs.Fields.{cut_of, parts_of};
-ghost use Rattle.am_audit.specs.Lines.{nothing_read, add_line, finish, read_lines, read_text};
+ghost use Rattle.am_spelling.specs.Fields.{cut_of, parts_of};
+ghost use Rattle.am_verdicts.specs.Lines.{nothing_read, add_line, finish, read_lines, read_text};
 ghost use Rattle.am_audit.specs.Views.{told, Reads, TakesAt};
 
 use crate::fault::{LineFault, TextRefusal};

@@ -3,7 +3,7 @@ use Rattle.std.specs.Prelude.{◌≡◌, ◌≢◌, ◌<◌, ◌≤◌, ℕ, Lis
 use Rattle.am_base.specs.Founding.{Rules}
 use Rattle.am_model.specs.Ends.{IsEndOf}
 use Rattle.am_play.specs.World.{first_node}
-use Rattle.am_fields.specs.Fields.{parts_of}
+use Rattle.am_spelling.specs.Fields.{parts_of}
 use Rattle.am_words.specs.declared.form.Form.{Form}
 use Rattle.am_words.specs.declared.form.Form.TheVariants as form
 use Rattle.am_lines.specs.Answers.{Answer, answer_of}

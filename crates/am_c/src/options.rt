@@ -1,5 +1,5 @@
 ghost use Rattle.std.specs.Prelude.{◌≡◌, Some, IfOk, IfErr, IsUtf8, map};
-ghost use Rattle.am_fields.specs.Fields.{parts_of};
+ghost use Rattle.am_spelling.specs.Fields.{parts_of};
 ghost use Rattle.am_words.specs.declared.form.Form.TheVariants as form;
 ghost use Rattle.am_words.specs.Forms.{form_of};
 ghost use Rattle.am_c.specs.Handles.{Opened};

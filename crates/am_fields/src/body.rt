@@ -1,8 +1,8 @@
 ghost use Rattle.std.specs.Prelude.{◌≡◌, ◌≤◌, ◌*◌, ◌+◌, ◌<◌, ◌/◌, ◌++◌, length, vec_capacity, MatchResult, IfOk, true};
 ghost use Rattle.std.specs.List.{list_all};
-ghost use Rattle.am_fields.specs.Fields.{is_pair_digit, digit_value, are_pairs, bytes_in, bytes_of, and_then};
+ghost use Rattle.am_spelling.specs.Fields.{is_pair_digit, digit_value, are_pairs, bytes_in, bytes_of, and_then};
 
-use crate::fault::FieldFault;
+use am_spelling::fault::FieldFault;
 
 /// Whether a byte is a hexadecimal digit as it is printed: in lower case.
 fn is_pair_digit(byte: u8) -> bool
@@ -41,7 +41,7 @@ fn are_pairs(word: &[u8]) -> bool
     are_pair_digits(word)
 }
 
-#[tactic(auto, unfolding(crate::specs::Fields::bytes_of))]
+#[tactic(auto, unfolding(am_spelling::specs::Fields::bytes_of))]
 /// Puts the bytes of a word into a room for so many at most: lower-case digit pairs, or a dash for none. The room is kept, and
 /// has other bytes where the word isn't read.
 pub fn body(word: &[u8], most: usize, into: &mut Vec<u8>) -> Result<(), FieldFault>
@@ -67,7 +67,7 @@ pub fn body(word: &[u8], most: usize, into: &mut Vec<u8>) -> Result<(), FieldFau
 }
 
 /// Whether a word is a body of so many bytes at most.
-#[tactic(auto, unfolding(crate::specs::Fields::bytes_of))]
+#[tactic(auto, unfolding(am_spelling::specs::Fields::bytes_of))]
 pub fn is_body(word: &[u8], most: usize) -> Result<(), FieldFault>
     ensures { result ≡ and_then (bytes_of most word.now) (λ bytes. Ok tt) }
 {

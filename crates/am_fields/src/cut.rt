@@ -1,6 +1,6 @@
 ghost use Rattle.std.specs.Prelude.{◌≡◌, ◌<◌, option_map, length};
 ghost use Rattle.std.specs.Option.{ForSome};
-ghost use Rattle.am_fields.specs.Fields.{cut_of};
+ghost use Rattle.am_spelling.specs.Fields.{cut_of};
 
 /// A text's first part, which ends at the first separator, and what stands behind that; None where there is no separator.
 pub fn cut(text: &[u8], separator: u8) -> (&[u8], Option<&[u8]>)

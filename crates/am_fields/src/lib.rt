@@ -3,6 +3,5 @@
 
 pub mod body;
 pub mod cut;
-pub mod fault;
 pub mod name;
 pub mod number;

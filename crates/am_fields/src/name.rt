@@ -1,12 +1,12 @@
 ghost use Rattle.std.specs.Prelude.{◌≡◌, IfOk, ◌≤◌, ◌<◌};
 ghost use Rattle.am_base.specs.Names.{name_at};
-ghost use Rattle.am_fields.specs.Fields.{parts_of, number_up_to, life_of_word, name_of, stamp_of, names_onto, names_of};
+ghost use Rattle.am_spelling.specs.Fields.{parts_of, number_up_to, life_of_word, name_of, stamp_of, names_onto, names_of};
 
 use crate::cut::cut;
-use crate::fault::FieldFault;
 use crate::number::{number, number_up_to};
 use am_base::name::{Name, Stamp};
 use am_base::names::Names;
+use am_spelling::fault::FieldFault;
 
 /// A place, 0 to 15.
 pub fn place(word: &[u8]) -> Result<u8, FieldFault>
@@ -42,7 +42,7 @@ fn name_at(place: u8, life: u8) -> Name
 }
 
 /// A name: its place, and a life other than the first behind a slash.
-#[tactic(auto, unfolding(crate::specs::Fields::name_of))]
+#[tactic(auto, unfolding(am_spelling::specs::Fields::name_of))]
 pub fn name(word: &[u8]) -> Result<Name, FieldFault>
     ensures { result ≡ name_of word.now }
 {
@@ -54,7 +54,7 @@ pub fn name(word: &[u8]) -> Result<Name, FieldFault>
     }
 }
 
-#[tactic(auto, unfolding(crate::specs::Fields::stamp_of))]
+#[tactic(auto, unfolding(am_spelling::specs::Fields::stamp_of))]
 /// A stamp: its round and its name, with a dot between them.
 pub fn stamp(word: &[u8]) -> Result<Stamp, FieldFault>
     ensures { result ≡ stamp_of word.now }
@@ -80,7 +80,7 @@ fn names_onto(least: u8, set: Names, text: &[u8]) -> Result<Names, FieldFault>
     }
 }
 
-#[tactic(auto, unfolding(crate::specs::Fields::names_of))]
+#[tactic(auto, unfolding(am_spelling::specs::Fields::names_of))]
 /// A set of names: ascending by place, one life of each, with commas between them; or a dash for nobody.
 pub fn names(word: &[u8]) -> Result<Names, FieldFault>
     ensures { result ≡ names_of word.now }

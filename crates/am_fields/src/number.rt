@@ -2,10 +2,10 @@ ghost use Rattle.std.specs.Prelude.{◌≡◌, ◌<◌, IfOk, ◌≤◌, true};
 ghost use Rattle.std.specs.List.{list_all};
 ghost use Rattle.std.specs.Char.{is_ascii_digit};
 ghost use Rattle.am_base.specs.Most.{most_number};
-ghost use Rattle.am_fields.specs.Fields.{is_numeral, capped_value, number_up_to, number_of};
+ghost use Rattle.am_spelling.specs.Fields.{is_numeral, capped_value, number_up_to, number_of};
 
-use crate::fault::FieldFault;
 use am_base::limits::{MOST_NUMBER, MOST_RESILIENCE};
+use am_spelling::fault::FieldFault;
 
 /// Whether all bytes of a word are decimal digits.
 fn are_digits(word: &[u8]) -> bool
@@ -41,7 +41,7 @@ fn capped_value(word: &[u8], most: u32) -> u32
     value as u32
 }
 
-#[tactic(auto, using(std::proofs::lemmas::Bool::Decides::nat_tests), unfolding(crate::specs::Fields::number_up_to))]
+#[tactic(auto, using(std::proofs::lemmas::Bool::Decides::nat_tests), unfolding(am_spelling::specs::Fields::number_up_to))]
 /// The number of a word, as it is printed, up to a greatest one below 4,294,967,295.
 pub fn number_up_to(word: &[u8], most: u32) -> Result<u32, FieldFault>
     requires { most < 4294967295 }

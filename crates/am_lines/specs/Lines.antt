@@ -3,9 +3,9 @@ use Rattle.std.specs.Prelude.{ℕ, List, drop, length, codes, Option, Some, None
 use Rattle.am_base.specs.Founding.{Rules}
 use Rattle.am_base.specs.Most.{most_body, most_packet}
 use Rattle.am_base.specs.declared.event.NodeEvent.TheVariants as does
-use Rattle.am_fields.specs.declared.fault.FieldFault.{FieldFault}
-use Rattle.am_fields.specs.declared.fault.FieldFault.TheVariants as faults
-use Rattle.am_fields.specs.Fields.{cut_of, same, and_then, number_up_to, number_of, name_of, names_of, bytes_of}
+use Rattle.am_spelling.specs.declared.fault.FieldFault.{FieldFault}
+use Rattle.am_spelling.specs.declared.fault.FieldFault.TheVariants as faults
+use Rattle.am_spelling.specs.Fields.{cut_of, same, and_then, number_up_to, number_of, name_of, names_of, bytes_of}
 use Rattle.am_lines.specs.declared.line.BadLine.{BadLine}
 use Rattle.am_lines.specs.declared.line.BadLine.TheVariants.{NoSuchWord, Form, Limit, TooLong}
 use Rattle.am_lines.specs.declared.line.Line.{Line}

@@ -4,7 +4,7 @@ ghost use Rattle.am_lines.specs.Lines.{cause_of, bad_for};
 use am_base::event::NodeEvent;
 use am_base::items::Items;
 use am_base::names::Names;
-use am_fields::fault::FieldFault;
+use am_spelling::fault::FieldFault;
 
 /// Why a line is none.
 #[derive(Clone, Copy, PartialEq, Eq, Debug)]

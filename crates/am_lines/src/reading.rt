@@ -1,6 +1,6 @@
 ghost use Rattle.std.specs.Prelude.{◌≡◌, ◌≢◌, ◌≤◌, ◌<◌, length, Some, true, false, IfOk, option_map};
 ghost use Rattle.am_base.specs.declared.event.NodeEvent.TheVariants as does;
-ghost use Rattle.am_fields.specs.Fields.{bytes_of, name_of};
+ghost use Rattle.am_spelling.specs.Fields.{bytes_of, name_of};
 ghost use Rattle.am_lines.specs.declared.line.Line.TheVariants as said;
 ghost use Rattle.am_base.specs.Most.{most_body, most_packet};
 ghost use Rattle.am_lines.specs.Lines.{word_of, count_of, least_of, line_from, resilience_of, reset_line, is_for_any, addressees_of, letter_line, hear_line, line_by, line_of, more_line, only_word};
@@ -15,9 +15,9 @@ use am_base::limits::{MOST_BODY, MOST_PACKET};
 use am_base::names::Names;
 use am_fields::body::body;
 use am_fields::cut::cut;
-use am_fields::fault::FieldFault;
 use am_fields::name::{name, names};
 use am_fields::number::{number, number_up_to, resilience};
+use am_spelling::fault::FieldFault;
 use std::alloc::Global;
 
 /// The most bytes of a line.

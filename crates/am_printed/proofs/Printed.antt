@@ -12,11 +12,11 @@ use Rattle.std.proofs.lemmas.Str.Parse.{IsNumeralModel, numerals_by_value, not_i
 use Rattle.std.proofs.lemmas.Fmt.{decimal_digit, decimal_nonempty, length-decimal-le, first_decimal, digits_decimal, digits_value-decimal}
 use Rattle.std.proofs.lemmas.Bool.Decides.{nat_tests}
 use Rattle.am_base.specs.Names.{place_of, life_of, name_at, names_from, with_name, nobody, IsSet}
-use Rattle.am_fields.specs.declared.fault.FieldFault.TheVariants.{Form}
-use Rattle.am_fields.specs.declared.fault.FieldFault.{FieldFault}
-use Rattle.am_fields.specs.Fields.{names_of, names_onto, parts_of, cut_of, onto_cut, and_then, is_numeral, number_up_to, name_of, is_pair_digit}
-use Rattle.am_fields.specs.Fields.{digit_value, are_pairs, bytes_in, bytes_of, same}
-use Rattle.am_fields.proofs.Cuts.{cut_here, cut_on, cut_none, rest_parts, parts_begin}
+use Rattle.am_spelling.specs.declared.fault.FieldFault.TheVariants.{Form}
+use Rattle.am_spelling.specs.declared.fault.FieldFault.{FieldFault}
+use Rattle.am_spelling.specs.Fields.{names_of, names_onto, parts_of, cut_of, onto_cut, and_then, is_numeral, number_up_to, name_of, is_pair_digit}
+use Rattle.am_spelling.specs.Fields.{digit_value, are_pairs, bytes_in, bytes_of, same}
+use Rattle.am_spelling.proofs.Cuts.{cut_here, cut_on, cut_none, rest_parts, parts_begin}
 use Rattle.am_play.specs.Text.{name_text, list_text, names_text, hex_byte}
 
 -- ---- numbers

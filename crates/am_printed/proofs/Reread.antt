@@ -11,10 +11,10 @@ use Rattle.std.specs.Fmt.{digit_glyph}
 use Rattle.std.proofs.lemmas.Fmt.{decimal-digits_value}
 use Rattle.std.proofs.lemmas.Bool.Decides.{nat_tests}
 use Rattle.am_base.specs.Names.{place_of, life_of, name_at}
-use Rattle.am_fields.specs.declared.fault.FieldFault.{FieldFault}
-use Rattle.am_fields.specs.declared.fault.FieldFault.TheVariants.{Form, Limit}
-use Rattle.am_fields.specs.Fields.{cut_of, onto_cut, and_then, is_numeral, number_up_to, life_of_word, name_with, name_of, is_pair_digit, digit_value}
-use Rattle.am_fields.specs.Fields.{are_pairs, bytes_in, bytes_of, same}
+use Rattle.am_spelling.specs.declared.fault.FieldFault.{FieldFault}
+use Rattle.am_spelling.specs.declared.fault.FieldFault.TheVariants.{Form, Limit}
+use Rattle.am_spelling.specs.Fields.{cut_of, onto_cut, and_then, is_numeral, number_up_to, life_of_word, name_with, name_of, is_pair_digit, digit_value}
+use Rattle.am_spelling.specs.Fields.{are_pairs, bytes_in, bytes_of, same}
 use Rattle.am_play.specs.Text.{name_text, hex_byte, body_text}
 use Rattle.am_printed.proofs.Printed.{own}
 

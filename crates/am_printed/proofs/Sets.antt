@@ -8,10 +8,10 @@ use Rattle.std.specs.Cmp.Lexicographic.{same_text}
 use Rattle.std.proofs.lemmas.List.Splits.{join_with_byte-slice_split}
 use Rattle.std.proofs.lemmas.Bool.Decides.{nat_tests}
 use Rattle.am_base.specs.Names.{place_of, life_of, name_at, names_from, with_name, nobody}
-use Rattle.am_fields.specs.declared.fault.FieldFault.{FieldFault}
-use Rattle.am_fields.specs.declared.fault.FieldFault.TheVariants.{Form}
-use Rattle.am_fields.specs.Fields.{parts_of, cut_of, name_of, names_onto, names_of, same}
-use Rattle.am_fields.proofs.Cuts.{rest_parts, parts_begin}
+use Rattle.am_spelling.specs.declared.fault.FieldFault.{FieldFault}
+use Rattle.am_spelling.specs.declared.fault.FieldFault.TheVariants.{Form}
+use Rattle.am_spelling.specs.Fields.{parts_of, cut_of, name_of, names_onto, names_of, same}
+use Rattle.am_spelling.proofs.Cuts.{rest_parts, parts_begin}
 use Rattle.am_play.specs.Text.{name_text, list_text, names_text}
 use Rattle.am_printed.proofs.Printed.{set_behind}
 use Rattle.am_printed.proofs.Reread.{then_parts, name_is}

@@ -11,8 +11,8 @@ use Rattle.am_base.specs.Most.{most_number}
 use Rattle.am_base.specs.Names.{place_of, life_of, names_of}
 use Rattle.am_base.specs.declared.name.Stamp.{Stamp}
 use Rattle.am_packet.specs.Laws.{IsBytes}
-use Rattle.am_fields.specs.Fields.{cut_of, onto_cut, stamp_of, bytes_of}
-use Rattle.am_fields.proofs.Cuts.{cut_on}
+use Rattle.am_spelling.specs.Fields.{cut_of, onto_cut, stamp_of, bytes_of}
+use Rattle.am_spelling.proofs.Cuts.{cut_on}
 use Rattle.am_play.specs.Text.{name_text, stamp_text, list_text, names_text, hex_byte, body_text}
 use Rattle.am_printed.proofs.Printed.{number_again, name_again, lacks, cut_between, hex_again}
 

@@ -5,7 +5,7 @@ use Rattle.am_base.specs.Most.{most_number}
 use Rattle.am_base.specs.Names.{IsSet}
 use Rattle.am_base.specs.declared.name.Stamp.{Stamp}
 use Rattle.am_packet.specs.Laws.{IsBytes}
-use Rattle.am_fields.specs.Fields.{number_up_to, name_of, stamp_of, names_of, bytes_of}
+use Rattle.am_spelling.specs.Fields.{number_up_to, name_of, stamp_of, names_of, bytes_of}
 use Rattle.am_play.specs.Text.{name_text, stamp_text, names_text, hex_byte, body_text}
 
 -- numbers, names, stamps, sets of names, bytes, and bodies, which may be empty

@@ -17,9 +17,9 @@ use Rattle.am_pump.proofs.Rules.{may_found}
 use Rattle.am_words.specs.declared.form.Numbers.{Numbers}
 use Rattle.am_race_script.specs.Races.{race_reading}
 use Rattle.am_race_script.specs.Limits.{RaceWithin}
-use Rattle.am_audit.specs.Lines.{Reading, read_text}
-use Rattle.am_audit.specs.Verdicts.{verdict_of, verdict_line}
-use Rattle.am_audit.proofs.Wrongs.{agrees_means, lists_agree_means}
+use Rattle.am_verdicts.specs.Lines.{Reading, read_text}
+use Rattle.am_verdicts.specs.Verdicts.{verdict_of, verdict_line}
+use Rattle.am_verdicts.proofs.Wrongs.{agrees_means, lists_agree_means}
 use Rattle.am_player.specs.Plays.{KeepsRun, PlayedBy, IsPlayedBy}
 use Rattle.am_player.specs.Runs.{done_of, run_watch}
 use Rattle.am_player.specs.Statuses.{Took}

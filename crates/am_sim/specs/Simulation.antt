@@ -22,10 +22,10 @@ use Rattle.am_io.specs.Outside.{ReadToEnd}
 use Rattle.am_pump.specs.Generating.{generated_rules, events_of_seed}
 use Rattle.am_audit.specs.declared.fault.TextRefusal.{TextRefusal}
 use Rattle.am_audit.specs.declared.fault.TextRefusal.TheVariants as texts
-use Rattle.am_audit.specs.declared.verdict.Verdict.TheVariants as verdicts
-use Rattle.am_audit.specs.Agreement.{Lists, Agreed}
-use Rattle.am_audit.specs.Lines.{Reading, read_text}
-use Rattle.am_audit.specs.Verdicts.{verdict_of, verdict_line, is_right}
+use Rattle.am_verdicts.specs.declared.verdict.Verdict.TheVariants as verdicts
+use Rattle.am_verdicts.specs.Agreement.{Lists, Agreed}
+use Rattle.am_verdicts.specs.Lines.{Reading, read_text}
+use Rattle.am_verdicts.specs.Verdicts.{verdict_of, verdict_line, is_right}
 use Rattle.am_replicated.specs.AssembledClaims.{front_of, Delivered}
 use Rattle.am_replicated.specs.Claims.{ReplicaHolds}
 use Rattle.am_written.specs.Claims.{ReadsAs, AgreesAs, IsOfOneList}

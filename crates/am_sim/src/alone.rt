@@ -2,7 +2,7 @@ ghost use Rattle.std.specs.Prelude.{◌≡◌, ◌↔◌, ℕ, List, None, Some,
 ghost use Rattle.am_io.specs.Outside.{ReadToEnd};
 ghost use Rattle.am_words.specs.Forms.{IsGen, Generates};
 ghost use Rattle.am_words.specs.declared.form.Form.TheVariants as form;
-ghost use Rattle.am_audit.specs.Lines.{read_text};
+ghost use Rattle.am_verdicts.specs.Lines.{read_text};
 ghost use Rattle.am_player.specs.Plays.{IsSpent};
 ghost use Rattle.am_player.specs.Statuses.{IfBadScript, IsOfAudit, Took, Wrote};
 ghost use Rattle.am_sim.specs.Simulation.{form_of_words, most_of, Reads, Waits, IsRefused, EndsGen, IsAnswerAlone, IsSummary, IfBadText, IfAudit, Judges};

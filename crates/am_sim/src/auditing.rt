@@ -1,6 +1,6 @@
 ghost use Rattle.std.specs.Prelude.{◌≡◌, ◌≢◌, ◌≤◌, length, List, ℕ, IfOk, IfErr, Err, string_bytes};
 ghost use Rattle.am_io.specs.Outside.{ReadToEnd};
-ghost use Rattle.am_audit.specs.Lines.{read_text};
+ghost use Rattle.am_verdicts.specs.Lines.{read_text};
 ghost use Rattle.am_player.specs.Statuses.{most_input, IfBadScript, Took, Wrote};
 ghost use Rattle.am_sim.specs.Simulation.{IsAudited, Audited, HasVerdict, Judges, IfBadText, IsUnaudited};
 

@@ -6,7 +6,7 @@ ghost use Rattle.am_race_script.specs.Races.{race_reading};
 ghost use Rattle.am_words.specs.declared.form.Form.TheVariants as form;
 ghost use Rattle.am_words.specs.Forms.{Generates};
 ghost use Rattle.am_sim.specs.Speaking.{Spoken, IfNode, IsNode};
-ghost use Rattle.am_audit.specs.Lines.{read_text};
+ghost use Rattle.am_verdicts.specs.Lines.{read_text};
 ghost use Rattle.am_player.specs.Plays.{IsSpent};
 ghost use Rattle.am_player.specs.Statuses.{most_input, OnDone, OnWriteFault, IfBadScript, Writes, IsOfAudit, Took, Wrote, WrotePart, reads_after, writes_after};
 ghost use Rattle.am_sim.specs.Simulation.{form_of_words, most_of, Reads, IsRefused, EndsGen, IsAnswer, IsRacedText, IfBadText, IfAudit, Judges, Raced};

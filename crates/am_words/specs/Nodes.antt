@@ -6,7 +6,7 @@ use Rattle.std.specs.Result.{result_ok}
 use Rattle.am_base.specs.Most.{most_window, most_body}
 use Rattle.am_base.specs.Founding.{Rules, rules_of}
 use Rattle.am_base.specs.Names.{size}
-use Rattle.am_fields.specs.Fields.{number_up_to, name_of, names_of}
+use Rattle.am_spelling.specs.Fields.{number_up_to, name_of, names_of}
 use Rattle.am_words.specs.declared.node.NodeWords.{NodeWords}
 use Rattle.am_words.specs.declared.node.Options.{Options}
 

@@ -12,7 +12,7 @@ use Rattle.am_written.proofs.{Runs.group_begins, Runs.run_read, Fitting.no_misfi
 use Rattle.am_written.proofs.{Sends.none_lost, Sends.answers_once, Sends.none_skipped, Sends.requests_are, Asked.InTurn, Asked.none_unsent}
 use Rattle.am_written.proofs.{Asked.asked_there, Asked.all_asked, Takes.IsListed, Takes.none_unlogged, Takes.none_untaken, Takes.takes_are, Takes.logs_are}
 use Rattle.am_group.specs.declared.event.Act.TheVariants as acts
-use Rattle.am_audit.specs.declared.verdict.Verdict.TheVariants as verdicts
+use Rattle.am_verdicts.specs.declared.verdict.Verdict.TheVariants as verdicts
 
 -- ---- bodies
 

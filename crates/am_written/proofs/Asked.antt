@@ -7,7 +7,7 @@ use Rattle.am_written.proofs.{Outcomes.same_self, Entries.data_as, Entries.data_
 use Rattle.am_base.specs.declared.entry.Entry.TheVariants as entries
 use Rattle.am_base.specs.declared.outcome.Outcome.TheVariants as said
 use Rattle.am_group.specs.declared.event.Act.TheVariants as acts
-use Rattle.am_audit.specs.declared.verdict.Verdict.TheVariants as verdicts
+use Rattle.am_verdicts.specs.declared.verdict.Verdict.TheVariants as verdicts
 use Rattle.am_group.proofs.Places.{get_behind}
 
 -- a line is this send

@@ -7,7 +7,7 @@ use Rattle.am_written.proofs.Words.{names_again, decimal_word, name_word, stamp_
 use Rattle.am_written.proofs.Words.{IsRaised}
 use Rattle.am_written.proofs.{Chars.HasBytes, Outcomes.two_words, Outcomes.IsReadAs}
 use Rattle.am_base.specs.declared.entry.Entry.TheVariants as entries
-use Rattle.am_audit.specs.declared.outline.Outline.TheVariants as outlines
+use Rattle.am_verdicts.specs.declared.outline.Outline.TheVariants as outlines
 
 -- a resilience as it is read, where the founding's is read as 0
 abbrev pub resilience_as : Rules → ℕ → ℕ

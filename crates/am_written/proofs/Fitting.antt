@@ -7,7 +7,7 @@ use Rattle.am_written.proofs.Words.{row_after_view, blank_row, Image, Entry, spl
 use Rattle.am_written.proofs.Words.{outline_of, or_else, bare_entry, is_lowest, founds, fits_at, image_after, first_misfit, IsSayable, IsRaised, texts_of}
 use Rattle.am_written.proofs.Entries.{resilience_as, outline_as, entry_read}
 use Rattle.am_base.specs.declared.entry.Entry.TheVariants as entries
-use Rattle.am_audit.specs.declared.verdict.Verdict.TheVariants as verdicts
+use Rattle.am_verdicts.specs.declared.verdict.Verdict.TheVariants as verdicts
 
 -- ---- images
 

@@ -8,7 +8,7 @@ use Rattle.am_written.proofs.Words.{twice_by, twice_at, fault_at, first_fault, i
 use Rattle.am_written.proofs.Words.{texts_of, log_in, logs_in}
 use Rattle.am_written.proofs.{Outcomes.same_self, Entries.outline_as, Entries.entry_read, Entries.is_of, Entries.data_as, Entries.data_in_is}
 use Rattle.am_base.specs.declared.entry.Entry.TheVariants as entries
-use Rattle.am_audit.specs.declared.verdict.Verdict.TheVariants as verdicts
+use Rattle.am_verdicts.specs.declared.verdict.Verdict.TheVariants as verdicts
 
 -- ---- a list that fits
 

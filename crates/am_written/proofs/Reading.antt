@@ -10,7 +10,7 @@ use Rattle.am_written.proofs.Words.{log_in}
 use Rattle.am_written.proofs.Chars.{HasBytes, entry_plain, GivesBytes, outcome_plain, act_is_word, event_plain, plain_line, lines, letters_line}
 use Rattle.am_written.proofs.Chars.{letters_behind, colon_ends, bar_ends}
 use Rattle.am_written.proofs.{Outcomes.two_words, Outcomes.IsReadAs, Outcomes.after_event, Outcomes.IsCounted, Outcomes.event_counts}
-use Rattle.am_audit.specs.declared.line.Stage.TheVariants as stages
+use Rattle.am_verdicts.specs.declared.line.Stage.TheVariants as stages
 
 -- ---- one line
 

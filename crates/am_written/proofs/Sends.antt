@@ -8,7 +8,7 @@ use Rattle.am_written.proofs.{Entries.is_of, Logs.send_test, Logs.is_data}
 use Rattle.am_base.specs.declared.entry.Entry.TheVariants as entries
 use Rattle.am_base.specs.declared.outcome.Outcome.TheVariants as said
 use Rattle.am_group.specs.declared.event.Act.TheVariants as acts
-use Rattle.am_audit.specs.declared.verdict.Verdict.TheVariants as verdicts
+use Rattle.am_verdicts.specs.declared.verdict.Verdict.TheVariants as verdicts
 use Rattle.am_group.proofs.Places.{get_behind}
 
 -- ---- where a send stands

@@ -7,7 +7,7 @@ use Rattle.am_written.proofs.Words.{first_unlogged, first_untaken, count_is_leng
 use Rattle.am_written.proofs.{Outcomes.same_self, Sends.filter_more, Logs.by_rank, Logs.log_of, Logs.logs_of}
 use Rattle.am_base.specs.declared.outcome.Outcome.TheVariants as said
 use Rattle.am_group.specs.declared.event.Act.TheVariants as acts
-use Rattle.am_audit.specs.declared.verdict.Verdict.TheVariants as verdicts
+use Rattle.am_verdicts.specs.declared.verdict.Verdict.TheVariants as verdicts
 use Rattle.am_group.proofs.Places.{get_behind}
 
 -- ---- as many lines

@@ -6,7 +6,7 @@ use Rattle.am_written.proofs.Words.{nothing_read, may_log, read_lines, read_behi
 use Rattle.am_written.proofs.Words.{texts_of, log_in, logs_in, names_told, AreTold, first_names}
 use Rattle.am_written.proofs.Reading.{after_record, after_records, AreShown, records_read, AreListed, with_entries, group_read, with_given, after_logs}
 use Rattle.am_written.proofs.Reading.{AreLogs, all_read, ended, IsMark, end_read}
-use Rattle.am_audit.specs.declared.line.Stage.TheVariants as stages
+use Rattle.am_verdicts.specs.declared.line.Stage.TheVariants as stages
 
 -- ---- events
 

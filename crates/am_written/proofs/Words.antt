@@ -13,8 +13,8 @@ pub use Rattle.am_base.specs.{Founding.Rules, Founding.MayFound, Most.most_numbe
 pub use Rattle.am_base.specs.{Names.is_within, Names.lowest_of, Names.name_at, Stamps.stamp_lt, Stamps.stamp_eq, Stamps.no_stamp, declared.entry.Entry.Entry}
 pub use Rattle.am_base.specs.{declared.entry.GroupView.GroupView, declared.image.Image.Image, declared.name.Stamp.Stamp, declared.outcome.Outcome.Outcome}
 pub use Rattle.am_packet.specs.{Boxes.Letter, Laws.IsBytes, declared.packet.Packet.Packet}
-pub use Rattle.am_fields.specs.{Fields.onto_cut, Fields.cut_of, Fields.same, Fields.and_then, Fields.number_of, Fields.parts_of}
-pub use Rattle.am_fields.specs.{declared.fault.FieldFault.FieldFault, declared.fault.FieldFault.TheVariants.Form}
+pub use Rattle.am_spelling.specs.{Fields.onto_cut, Fields.cut_of, Fields.same, Fields.and_then, Fields.number_of, Fields.parts_of}
+pub use Rattle.am_spelling.specs.{declared.fault.FieldFault.FieldFault, declared.fault.FieldFault.TheVariants.Form}
 pub use Rattle.am_group.specs.{Deliveries.deliveries, Deliveries.name_of, Deliveries.taken_in, Deliveries.given_to, Journals.item_at, declared.event.Act.Act}
 pub use Rattle.am_group.specs.{declared.event.Event.Event, declared.event.Record.Record}
 pub use Rattle.am_model.proofs.Founders.{first_founder}
@@ -40,28 +40,28 @@ pub use Rattle.am_headline.specs.Records.{IsSayable, AsksBytes, returned_as, nam
 pub use Rattle.am_headline.specs.Records.{requests_given, names_told, AreTold, first_names}
 pub use Rattle.am_headline.specs.{Resiliences.IsRaised, Resiliences.GivesRaised, Resiliences.GaveRaised}
 pub use Rattle.am_texts.specs.Schedules.{IsOfBytes, AreOfBytes, others_json}
-pub use Rattle.am_audit.proofs.{Beginnings.line_cut, Segments.count_is_length, Texts.line_taken}
-pub use Rattle.am_audit.specs.Lines.{Reading, Line, begins_mark, mark_cut, with_send, with_answer, with_take, with_return, may_event, may_list, may_log}
-pub use Rattle.am_audit.specs.Lines.{with_event, read_lines, read_text, nothing_read, is_end, read_on, read_behind}
-pub use Rattle.am_audit.specs.Verdicts.{or_else, first_fault, first_astray, first_lost, first_early, first_misfit, first_skipped, first_unsent, first_unlogged}
-pub use Rattle.am_audit.specs.Verdicts.{first_untaken, lines_of, first_asked, body_at, is_text, unsent_at, bare_entry, is_lowest, founds, fits_at, image_after}
-pub use Rattle.am_audit.specs.Verdicts.{last_of, first_with, first_sent, gap_at, differs_at, twice_by, twice_at, fault_at, may_begin, early_at, once_more}
-pub use Rattle.am_audit.specs.Verdicts.{stands, is_at, count_of, is_line}
-pub use Rattle.am_audit.specs.{Agreement.IsLine, Fields.resilience_in, Fields.is_send, Fields.with_rest, Fields.two_of, Fields.expect, Fields.is_body}
-pub use Rattle.am_audit.specs.{declared.line.Answer.Answer, declared.line.Stage.Stage, declared.outline.Outline.Outline, declared.verdict.Verdict.Verdict}
+pub use Rattle.am_verdicts.proofs.{Beginnings.line_cut, Segments.count_is_length, Texts.line_taken}
+pub use Rattle.am_verdicts.specs.Lines.{Reading, Line, begins_mark, mark_cut, with_send, with_answer, with_take, with_return, may_event, may_list, may_log}
+pub use Rattle.am_verdicts.specs.Lines.{with_event, read_lines, read_text, nothing_read, is_end, read_on, read_behind}
+pub use Rattle.am_verdicts.specs.Verdicts.{or_else, first_fault, first_astray, first_lost, first_early, first_misfit, first_skipped, first_unsent, first_unlogged}
+pub use Rattle.am_verdicts.specs.Verdicts.{first_untaken, lines_of, first_asked, body_at, is_text, unsent_at, bare_entry, is_lowest, founds, fits_at, image_after}
+pub use Rattle.am_verdicts.specs.Verdicts.{last_of, first_with, first_sent, gap_at, differs_at, twice_by, twice_at, fault_at, may_begin, early_at, once_more}
+pub use Rattle.am_verdicts.specs.Verdicts.{stands, is_at, count_of, is_line}
+pub use Rattle.am_verdicts.specs.{Agreement.IsLine, Fields.resilience_in, Fields.is_send, Fields.with_rest, Fields.two_of, Fields.expect, Fields.is_body}
+pub use Rattle.am_verdicts.specs.{declared.line.Answer.Answer, declared.line.Stage.Stage, declared.outline.Outline.Outline, declared.verdict.Verdict.Verdict}
 pub use Rattle.am_written.specs.Claims.{right_verdict, AgreesAs, RunsHaveTheirTexts, LawfulTextsAgree, ScriptsArePassedOver}
 pub use Rattle.am_written.specs.Texts.{sends_of, answers_of, takes_of, texts_of, logs_in, reading_of, send_in, log_in, queued_as, sent_as, answer_in, took_as}
 pub use Rattle.am_written.specs.Texts.{take_in}
 unfoldable pub use Rattle.std.specs.Fmt.{digits}
 unfoldable pub use Rattle.am_base.specs.{Lists.AllFit, Lists.after, Lists.fits, Names.by_place}
-unfoldable pub use Rattle.am_fields.specs.Fields.{number_up_to}
+unfoldable pub use Rattle.am_spelling.specs.Fields.{number_up_to}
 unfoldable pub use Rattle.am_play.specs.Text.{resilience_text, entry_text, outcome_word, outcome_parts, outcome_text, act_word, act_parts, event_text}
 unfoldable pub use Rattle.am_play.specs.Text.{kind_word, addressees_text, letter_text, record_line, group_line, log_line, empty_log_line, log_text, logs_text}
 unfoldable pub use Rattle.am_play.specs.Text.{mark_line, play_text, records_text, group_text}
 unfoldable pub use Rattle.am_play.specs.{Lawful.watch, Lawful.watch_all, World.happen}
 unfoldable pub use Rattle.am_texts.specs.Schedules.{life_json, resilience_json, body_json, keys_before, keys_behind, word_json, event_json, list_json}
 unfoldable pub use Rattle.am_texts.specs.Schedules.{events_json, founders_json, numbers_json, script_text}
-unfoldable pub use Rattle.am_audit.specs.Fields.{data_parts, data_of, resilience_of, view_of, outline_of, data_in, told_number, send_of, answer_of, take_of}
-unfoldable pub use Rattle.am_audit.specs.Fields.{return_of}
-unfoldable pub use Rattle.am_audit.specs.Lines.{counted, add_event, add_entry, logged, add_log, add_void, add_line}
-unfoldable pub use Rattle.am_audit.specs.{Verdicts.wrong_lists, Verdicts.wrong_events, Verdicts.verdict_of}
+unfoldable pub use Rattle.am_verdicts.specs.Fields.{data_parts, data_of, resilience_of, view_of, outline_of, data_in, told_number, send_of, answer_of, take_of}
+unfoldable pub use Rattle.am_verdicts.specs.Fields.{return_of}
+unfoldable pub use Rattle.am_verdicts.specs.Lines.{counted, add_event, add_entry, logged, add_log, add_void, add_line}
+unfoldable pub use Rattle.am_verdicts.specs.{Verdicts.wrong_lists, Verdicts.wrong_events, Verdicts.verdict_of}

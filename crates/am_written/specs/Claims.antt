@@ -9,10 +9,10 @@ use Rattle.am_play.specs.Play.{text_of}
 use Rattle.am_play.specs.Text.{newline}
 use Rattle.am_laws.specs.Bytes.{IsShort}
 use Rattle.am_texts.specs.Schedules.{script_text, AreOfBytes}
-use Rattle.am_audit.specs.declared.verdict.Verdict.{Verdict}
-use Rattle.am_audit.specs.declared.verdict.Verdict.TheVariants as verdicts
-use Rattle.am_audit.specs.Lines.{read_text}
-use Rattle.am_audit.specs.Verdicts.{verdict_of}
+use Rattle.am_verdicts.specs.declared.verdict.Verdict.{Verdict}
+use Rattle.am_verdicts.specs.declared.verdict.Verdict.TheVariants as verdicts
+use Rattle.am_verdicts.specs.Lines.{read_text}
+use Rattle.am_verdicts.specs.Verdicts.{verdict_of}
 use Rattle.am_written.specs.Texts.{reading_of}
 
 -- a text is read as the records, the list and the logs of a run

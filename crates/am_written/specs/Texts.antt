@@ -12,9 +12,9 @@ use Rattle.am_group.specs.Deliveries.{name_of}
 use Rattle.am_play.specs.Text.{body_text, entry_text}
 use Rattle.am_play.specs.Group.{logs}
 use Rattle.am_play.specs.Lawful.{Watch}
-use Rattle.am_audit.specs.declared.line.Answer.{Answer}
-use Rattle.am_audit.specs.declared.line.Stage.TheVariants as stages
-use Rattle.am_audit.specs.Lines.{Line, Reading}
+use Rattle.am_verdicts.specs.declared.line.Answer.{Answer}
+use Rattle.am_verdicts.specs.declared.line.Stage.TheVariants as stages
+use Rattle.am_verdicts.specs.Lines.{Line, Reading}
 use Rattle.am_headline.specs.Records.{names_in}
 
 -- ---- what an event counts for, by the name that did it

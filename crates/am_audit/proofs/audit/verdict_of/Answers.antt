@@ -1,6 +1,6 @@
 use Rattle.std.proofs.Common.{◌∙◌, sym}
+use Rattle.am_verdicts.proofs.Segments.{faultless_where_right, listed_where_right}
 use Rattle.am_audit.specs.Views.{told}
-use Rattle.am_audit.proofs.Segments.{faultless_where_right, listed_where_right}
 use Rattle.am_audit.proofs.audit.verdict_of.Goals as goal
 
 pub wrong_events-requires-clause-faultless : goal.wrong_events-requires-clause-faultless

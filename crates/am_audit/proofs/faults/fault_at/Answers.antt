@@ -2,7 +2,7 @@ use Rattle.std.proofs.Common.{ℕ, ◌==◌, Some, None, sym, ap, ◌∙◌, con
 use Rattle.std.specs.Ordering.{nat_cmp}
 use Rattle.std.specs.BTreeMap.{get}
 use Rattle.std.proofs.lemmas.List.{length-map}
-use Rattle.am_audit.specs.Verdicts.{or_else}
+use Rattle.am_verdicts.specs.Verdicts.{or_else}
 use Rattle.am_audit.specs.Views.{line_of, lines_in}
 use Rattle.am_audit.proofs.Passing.{if_ok, line_at}
 use Rattle.am_audit.proofs.Faulting.{faulted}

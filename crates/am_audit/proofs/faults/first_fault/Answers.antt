@@ -1,6 +1,6 @@
 use Rattle.std.proofs.Common.{ℕ, [], ◌∷◌, Option, None, sym, subst, ap, ◌∙◌, refl}
 use Rattle.std.proofs.lemmas.List.{get_or-replicate}
-use Rattle.am_audit.specs.Verdicts.{first_fault}
+use Rattle.am_verdicts.specs.Verdicts.{first_fault}
 use Rattle.am_audit.specs.Views.{lines_in}
 use Rattle.am_audit.specs.Keeping.{IsFirst}
 use Rattle.am_audit.proofs.Passing.{no_line, line_here, lines_from, get_empty, or_else_none, or_else_some}

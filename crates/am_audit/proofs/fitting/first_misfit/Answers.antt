@@ -1,6 +1,6 @@
 use Rattle.std.proofs.Common.{◌∙◌, sym, subst}
 use Rattle.am_base.specs.Limits.{IsEntry}
-use Rattle.am_audit.proofs.Bounds.{outline_within}
+use Rattle.am_verdicts.proofs.Bounds.{outline_within}
 use Rattle.am_audit.proofs.fitting.first_misfit.Goals as goal
 
 pub apply-requires-clause-entry : goal.apply-requires-clause-entry

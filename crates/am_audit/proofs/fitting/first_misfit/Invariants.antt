@@ -1,8 +1,8 @@
 use Rattle.std.proofs.Common.{◌≡◌, ◌+◌, ◌≤◌, drop}
-use Rattle.am_audit.specs.Views.{texts_in}
-use Rattle.am_audit.specs.Verdicts.{first_misfit}
+use Rattle.am_verdicts.specs.Verdicts.{first_misfit}
 use Rattle.am_base.specs.Most.{most_number}
 use Rattle.am_base.specs.Lists.{blank}
+use Rattle.am_audit.specs.Views.{texts_in}
 use Rattle.am_audit.proofs.fitting.first_misfit.Given as goal
 
 abbrev pub invariant-loop-at : goal.invariant-loop-at

@@ -1,6 +1,6 @@
 use Rattle.std.proofs.Common.{◌≡◌, drop}
+use Rattle.am_verdicts.specs.Verdicts.{first_astray}
 use Rattle.am_audit.specs.Views.{lines_in, texts_in}
-use Rattle.am_audit.specs.Verdicts.{first_astray}
 use Rattle.am_audit.proofs.lists.first_astray.Given as goal
 
 abbrev pub invariant-loop-at : goal.invariant-loop-at

@@ -1,7 +1,7 @@
 use Rattle.std.proofs.Common.{ℕ, ◌<◌, ap, ◌∙◌, arith}
 use Rattle.std.specs.Ordering.{nat_cmp}
 use Rattle.std.specs.BTreeMap.{get}
-use Rattle.am_audit.specs.Verdicts.{is_at}
+use Rattle.am_verdicts.specs.Verdicts.{is_at}
 use Rattle.am_audit.specs.Views.{texts_in}
 use Rattle.am_audit.specs.Keeping.{send_key}
 use Rattle.am_audit.proofs.Keys.{stands_is}

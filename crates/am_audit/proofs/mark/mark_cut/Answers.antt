@@ -1,5 +1,5 @@
 use Rattle.std.proofs.Common.{◌≡◌, ℕ, suc, ◌+◌, ◌-◌, length, take, drop, Some, ap, ◌∙◌, sym, arith, length-drop, take_all}
-use Rattle.am_audit.proofs.Marks.{mark_at, mark_none}
+use Rattle.am_verdicts.proofs.Marks.{mark_at, mark_none}
 use Rattle.am_audit.proofs.mark.mark_cut.Goals as goal
 
 pub returns-clause-first : goal.returns-clause-first

@@ -1,9 +1,9 @@
 use Rattle.std.proofs.Common.{ℕ, ◌<◌, ◌≤◌, length, drop, sym, ap, ◌∙◌, arith, length-drop}
 use Rattle.std.proofs.lemmas.List.{get_or-replicate, length-replicate, length-map}
+use Rattle.am_verdicts.specs.Verdicts.{count_of}
+use Rattle.am_verdicts.proofs.Segments.{count_within}
 use Rattle.am_audit.specs.Views.{lines_in}
-use Rattle.am_audit.specs.Verdicts.{count_of}
 use Rattle.am_audit.proofs.Passing.{lines_end}
-use Rattle.am_audit.proofs.Segments.{count_within}
 use Rattle.am_audit.proofs.takes.counts.Goals as goal
 
 pub loop-at-init : goal.loop-at-init

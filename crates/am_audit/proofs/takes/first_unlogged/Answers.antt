@@ -1,9 +1,9 @@
 use Rattle.std.proofs.Common.{◌≡◌, ℕ, ◌<◌, [], ◌∷◌, get_or, Some, None, cond, sym, ap, ◌∙◌, refl, arith}
-use Rattle.am_audit.specs.declared.verdict.Verdict.TheVariants as verdicts
+use Rattle.am_verdicts.specs.declared.verdict.Verdict.TheVariants as verdicts
+use Rattle.am_verdicts.specs.Verdicts.{first_unlogged, unlogged_at}
 use Rattle.am_audit.specs.Views.{line_of, lines_in, texts_in}
-use Rattle.am_audit.specs.Verdicts.{first_unlogged, unlogged_at}
 use Rattle.am_audit.proofs.Passing.{no_line, lines_from, or_else_none, or_else_some}
-use Rattle.am_audit.proofs.Segments.{none_counted, taken_next, count_more}
+use Rattle.am_audit.proofs.Counting.{none_counted, taken_next, count_more}
 use Rattle.am_audit.proofs.takes.first_unlogged.Goals as goal
 
 pub loop-at-init : goal.loop-at-init

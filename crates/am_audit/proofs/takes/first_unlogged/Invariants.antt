@@ -1,7 +1,7 @@
 use Rattle.std.proofs.Common.{◌≡◌, List, [], length, drop}
-use Rattle.am_audit.specs.Lines.{Line}
+use Rattle.am_verdicts.specs.Lines.{Line}
+use Rattle.am_verdicts.specs.Verdicts.{first_unlogged}
 use Rattle.am_audit.specs.Views.{lines_in}
-use Rattle.am_audit.specs.Verdicts.{first_unlogged}
 use Rattle.am_audit.specs.Keeping.{IsCount}
 use Rattle.am_audit.proofs.takes.first_unlogged.Given as goal
 

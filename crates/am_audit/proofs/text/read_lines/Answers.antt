@@ -1,7 +1,8 @@
 use Rattle.std.proofs.Common.{◌∙◌, sym, subst, arith}
-use Rattle.am_audit.specs.Lines.{add_line}
+use Rattle.am_verdicts.specs.Lines.{add_line}
+use Rattle.am_verdicts.proofs.Texts.{line_taken, line_bad, line_last}
 use Rattle.am_audit.specs.Views.{told, Reads}
-use Rattle.am_audit.proofs.Texts.{refused, line_taken, line_bad, line_last}
+use Rattle.am_audit.proofs.Refusing.{refused}
 use Rattle.am_audit.proofs.text.read_lines.Goals as goal
 
 pub loop-line-preserved : goal.loop-line-preserved

@@ -1,6 +1,6 @@
 use Rattle.std.proofs.Common.{◌≡◌, ◌+◌, ◌<◌, length}
-use Rattle.am_fields.specs.Fields.{parts_of}
-use Rattle.am_audit.specs.Lines.{nothing_read, read_lines}
+use Rattle.am_spelling.specs.Fields.{parts_of}
+use Rattle.am_verdicts.specs.Lines.{nothing_read, read_lines}
 use Rattle.am_audit.specs.Views.{told}
 use Rattle.am_audit.proofs.text.read_lines.Given as goal
 

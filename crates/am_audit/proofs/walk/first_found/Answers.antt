@@ -1,6 +1,6 @@
 use Rattle.std.proofs.Common.{◌<◌, get_or, sym, refl, arith}
+use Rattle.am_verdicts.specs.Verdicts.{first_found}
 use Rattle.am_audit.specs.Views.{lines_in}
-use Rattle.am_audit.specs.Verdicts.{first_found}
 use Rattle.am_audit.proofs.Passing.{no_line, passing_first, passing_more}
 use Rattle.am_audit.proofs.walk.first_found.Goals as goal
 

@@ -1,6 +1,6 @@
 use Rattle.std.proofs.Common.{◌≡◌, ℕ, List, ap₂, refl, ◌+◌, ◌*◌, ◌++◌, ◌∷◌, drop, false, true, ap, sym, ◌∙◌, arith, append-nil, append_assoc, codes}
-use Rattle.am_fields.specs.Fields.{same, are_pairs, bytes_in}
-use Rattle.am_fields.proofs.Bytes.{bytes_more, bytes_end, bytes_are, are_even}
+use Rattle.am_spelling.specs.Fields.{same, are_pairs, bytes_in}
+use Rattle.am_spelling.proofs.Bytes.{bytes_more, bytes_end, bytes_are, are_even}
 use Rattle.am_fields.proofs.body.body.Goals as goal
 
 pub loop-at-preserved : goal.loop-at-preserved

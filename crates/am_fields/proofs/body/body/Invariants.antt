@@ -1,5 +1,5 @@
 use Rattle.std.proofs.Common.{◌≡◌, ◌*◌, ◌++◌, drop, length, vec_capacity}
-use Rattle.am_fields.specs.Fields.{bytes_in}
+use Rattle.am_spelling.specs.Fields.{bytes_in}
 use Rattle.am_fields.proofs.body.body.Given as goal
 
 abbrev pub invariant-loop-at : goal.invariant-loop-at

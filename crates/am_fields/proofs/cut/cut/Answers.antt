@@ -1,5 +1,5 @@
 use Rattle.std.proofs.Common.{◌≡◌, ℕ, ◌+◌, ◌-◌, length, take, drop, Some, ap, ◌∙◌, sym, arith, length-drop, take_all, add-one}
-use Rattle.am_fields.proofs.Cuts.{cut_at, cut_none}
+use Rattle.am_spelling.proofs.Cuts.{cut_at, cut_none}
 use Rattle.am_fields.proofs.cut.cut.Goals as goal
 
 pub returns-then-byte-separator-clause-first : goal.returns-then-byte-separator-clause-first

@@ -1,8 +1,8 @@
 use Rattle.std.proofs.Common.{◌≡◌, ℕ, List, ◌+◌, Ok, Err, ap, ap₂, ◌∙◌, rules, arith, true, false, nat_lt}
 use Rattle.am_base.specs.Names.{place_of}
 use Rattle.std.proofs.lemmas.Bool.Decides.{nat_tests}
-use Rattle.am_fields.specs.Fields.{names_onto, parts_of}
-use Rattle.am_fields.proofs.Names.{onto_is}
+use Rattle.am_spelling.specs.Fields.{names_onto, parts_of}
+use Rattle.am_spelling.proofs.Names.{onto_is}
 use Rattle.am_fields.proofs.name.+names_onto.Goals as goal
 
 pub returns-in_err-name : goal.returns-in_err-name

@@ -1,5 +1,5 @@
 use Rattle.std.proofs.Common.{◌+◌, ◌*◌, min, get_or, ◌∙◌, ap₂, ℕ, refl}
-use Rattle.am_fields.proofs.Digits.{value_more, digit_at}
+use Rattle.am_spelling.proofs.Digits.{value_more, digit_at}
 use Rattle.am_fields.proofs.number.capped_value.Goals as goal
 
 pub loop-digit-preserved : goal.loop-digit-preserved

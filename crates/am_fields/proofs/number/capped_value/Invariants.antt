@@ -1,5 +1,5 @@
 use Rattle.std.proofs.Common.{◌≡◌, take}
-use Rattle.am_fields.specs.Fields.{capped_value}
+use Rattle.am_spelling.specs.Fields.{capped_value}
 use Rattle.am_fields.proofs.number.capped_value.Given as goal
 
 abbrev pub invariant-loop-digit : goal.invariant-loop-digit

@@ -1,6 +1,6 @@
 use Rattle.std.proofs.Common.{ℕ, List, ◌++◌, Option, string_bytes, ap, ◌∙◌}
-use Rattle.am_audit.specs.declared.verdict.Verdict.{Verdict}
-use Rattle.am_audit.specs.Verdicts.{verdict_of, verdict_line}
+use Rattle.am_verdicts.specs.declared.verdict.Verdict.{Verdict}
+use Rattle.am_verdicts.specs.Verdicts.{verdict_of, verdict_line}
 use Rattle.am_sim.proofs.Answered.{audited_by}
 use Rattle.am_sim.proofs.auditing.verdict_line.Goals as goal
 

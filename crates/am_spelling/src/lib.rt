@@ -1,0 +1,4 @@
+//! How texts spell numbers, names, sets of names, stamps and bodies.
+#![tactic(auto)]
+
+pub mod fault;

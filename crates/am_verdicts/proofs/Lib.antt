@@ -1,0 +1,9 @@
+pub mod Beginnings
+pub mod Bounds
+pub mod Deeds
+pub mod Marks
+pub mod Meaning
+pub mod Openings
+pub mod Segments
+pub mod Texts
+pub mod Wrongs

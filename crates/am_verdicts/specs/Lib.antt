@@ -1,0 +1,4 @@
+pub mod Agreement
+pub mod Fields
+pub mod Lines
+pub mod Verdicts
