@@ -17,7 +17,7 @@ use Rattle.am_schedules.specs.declared.kind.Kind.TheVariants.{Send, Done, Take, 
 use Rattle.am_schedules.specs.declared.refusal.ScriptRefusal.{ScriptRefusal}
 use Rattle.am_schedules.specs.declared.refusal.ScriptRefusal.TheVariants.{BadValue}
 use Rattle.am_schedules.specs.Keys.{has_only}
-use Rattle.am_schedules.specs.Refusals.{Read, ◌>>=◌, Answers}
+use Rattle.am_schedules.specs.Refusals.{Read, Answers}
 use Rattle.am_schedules.specs.Values.{value_in, text_in, number_in, number_or, body_from}
 use Rattle.am_schedules.specs.Events.{kind_in, send_in, reset_in, act_in}
 use Rattle.am_schedules.specs.Founders.{founding_in}

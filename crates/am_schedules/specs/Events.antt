@@ -1,9 +1,9 @@
 -- Events of a script.
-use Rattle.std.specs.Prelude.{ℕ, List, [], ◌∷◌, if◌then◌else◌, Option, Some, None, is_some, Ok, Err, codes, bytes_eq}
+use Rattle.std.specs.Prelude.{ℕ, List, [], ◌∷◌, if◌then◌else◌, Option, Some, None, Ok, Err, codes, bytes_eq}
 use Rattle.std.specs.Option.{ok_or}
 use Rattle.am_base.specs.Most.{most_number, most_packet}
 use Rattle.serde_json.specs.Data.{Data}
-use Rattle.serde_json.specs.Find.{as_array, as_object}
+use Rattle.serde_json.specs.Find.{as_array}
 use Rattle.am_base.specs.Names.{name_at}
 use Rattle.am_group.specs.declared.event.Act.{Act}
 use Rattle.am_group.specs.declared.event.Act.TheVariants as act

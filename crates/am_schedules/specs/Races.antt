@@ -1,11 +1,10 @@
 -- Races of scripts: threads, each with the calls that it makes at its node.
-use Rattle.std.specs.Prelude.{ℕ, ◌+◌, ◌*◌, ◌&&◌, nat_le, List, [], ◌∷◌, length, sum_by, Bool, true, false, if◌then◌else◌, is_some, Ok, Err}
+use Rattle.std.specs.Prelude.{ℕ, ◌+◌, ◌*◌, ◌&&◌, nat_le, List, [], ◌∷◌, length, sum_by, Bool, true, false, if◌then◌else◌, Ok, Err}
 use Rattle.std.specs.Option.{ok_or, option_map_or}
 use Rattle.am_base.specs.Most.{most_events}
 use Rattle.serde_json.specs.Data.{Data, Items, no_items, item}
 use Rattle.serde_json.specs.Events.{items_len}
-use Rattle.serde_json.specs.Find.{as_array, as_object}
-use Rattle.am_base.specs.Founding.{Rules}
+use Rattle.serde_json.specs.Find.{as_array}
 use Rattle.am_group.specs.declared.event.Act.{Act}
 use Rattle.am_group.specs.declared.plan.ThreadPlan.{ThreadPlan}
 use Rattle.am_group.specs.declared.plan.RacePlan.{RacePlan}
