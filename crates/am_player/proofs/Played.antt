@@ -12,9 +12,9 @@ use Rattle.am_headline.proofs.Holds.{headline_holds, prefix_whole}
 use Rattle.am_headline.proofs.RepairedSettled.{settled_is_repaired}
 use Rattle.am_runs.proofs.SentRuns.{sent_holds}
 use Rattle.am_runs.proofs.Holds.{unballoted_holds}
-use Rattle.am_script.specs.declared.script.Script.{Script}
-use Rattle.am_script.specs.Scripts.{reading}
-use Rattle.am_script.specs.Limits.{ScriptWithin}
+use Rattle.am_schedules.specs.declared.script.Script.{Script}
+use Rattle.am_schedules.specs.Scripts.{reading}
+use Rattle.am_schedules.specs.Limits.{ScriptWithin}
 use Rattle.am_player.specs.Runs.{done_of, run_watch, IsRunText}
 use Rattle.am_player.specs.Plays.{KeepsRun, Repaired, PlayedBy, IsText}
 

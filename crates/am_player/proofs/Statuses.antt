@@ -2,7 +2,7 @@
 use Rattle.std.proofs.Common.{◌≡◌, ◌≢◌, ℕ, List, Option, refl, ap}
 use Rattle.std.specs.Io.KnownBytes.{Appends}
 use Rattle.am_io.specs.Outside.{GaveMore, GaveAtMost}
-use Rattle.am_script.specs.declared.refusal.ScriptRefusal.{ScriptRefusal}
+use Rattle.am_schedules.specs.declared.refusal.ScriptRefusal.{ScriptRefusal}
 use Rattle.am_player.specs.declared.status.Status.{Status}
 use Rattle.am_player.specs.declared.status.Status.TheVariants.{Done, BadScript, TooLong, ReadFault, WriteFault, Disagrees}
 use Rattle.am_player.specs.Statuses.{OnDone, OnWriteFault, IfBadScript, IsOfRead, Writes, WrotePart, Took, Wrote, reads_after, writes_after}

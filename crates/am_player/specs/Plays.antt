@@ -10,9 +10,9 @@ use Rattle.am_play.specs.Claims.{Headline, FitsView, Sent, NoBallot, HoldsUnball
 use Rattle.am_play.specs.Lawful.{Watch, lawful_front}
 use Rattle.am_headline.specs.Claim.{MayRepair, HasCaughtUp}
 use Rattle.am_io.specs.Outside.{ReadToEnd}
-use Rattle.am_script.specs.declared.script.Script.{Script}
-use Rattle.am_script.specs.Limits.{IsWithin}
-use Rattle.am_script.specs.Scripts.{script_of, reading}
+use Rattle.am_schedules.specs.declared.script.Script.{Script}
+use Rattle.am_schedules.specs.Limits.{IsWithin}
+use Rattle.am_schedules.specs.Scripts.{script_of, reading}
 use Rattle.am_world.specs.declared.world.WorldRefusal.{WorldRefusal}
 use Rattle.am_world.specs.declared.world.WorldRefusal.TheVariants as refusals
 use Rattle.am_player.specs.declared.play.Unplayed.{Unplayed}

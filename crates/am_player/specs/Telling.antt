@@ -1,7 +1,7 @@
 -- The line that tells of a status on standard error, without its end.
 use Rattle.std.specs.Prelude.{ℕ, List, [], ◌++◌, codes, decimal}
-use Rattle.am_script.specs.declared.refusal.ScriptRefusal.{ScriptRefusal}
-use Rattle.am_script.specs.Refusals.{number_of, place_of}
+use Rattle.am_schedules.specs.declared.refusal.ScriptRefusal.{ScriptRefusal}
+use Rattle.am_schedules.specs.Refusals.{number_of, place_of}
 use Rattle.am_player.specs.declared.status.Status.{Status}
 use Rattle.am_player.specs.declared.status.Status.TheVariants.{Done, Usage, BadScript, TooLong, ReadFault, WriteFault, NoMemory, Spent, BadText, Disagrees}
 

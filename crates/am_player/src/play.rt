@@ -1,7 +1,7 @@
 ghost use Rattle.std.specs.Prelude.{◌≡◌, ◌≢◌, ℕ, List, Err, if◌then◌else◌, OnOk, OnErr, IfOk, IfErr};
 ghost use Rattle.am_io.specs.Buffers.{Goes};
 ghost use Rattle.am_io.specs.Outside.{ReadToEnd, next};
-ghost use Rattle.am_script.specs.Scripts.{reading};
+ghost use Rattle.am_schedules.specs.Scripts.{reading};
 ghost use Rattle.am_player.specs.Plays.{PlayedBy, IsPlayedBy, IsSpent, IsText, IsUnrun, IsUnplayed, unplayed_for};
 ghost use Rattle.am_player.specs.Statuses.{most_input, IfBadScript, IsOfAudit, IsOfRead, Took, Wrote, WroteUpTo};
 
@@ -12,9 +12,9 @@ use crate::status::Status;
 use am_io::buffered::Buffered;
 use am_io::outside::{Sink, Source};
 use am_io::whole::{ReadRefusal, read_all};
+use am_schedules::refusal::ScriptRefusal;
+use am_schedules::script::Script;
 use am_script::read::read_script;
-use am_script::refusal::ScriptRefusal;
-use am_script::script::Script;
 use am_world::world::WorldRefusal;
 use std::alloc::Global;
 

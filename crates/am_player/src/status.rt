@@ -1,4 +1,4 @@
-use am_script::refusal::ScriptRefusal;
+use am_schedules::refusal::ScriptRefusal;
 
 /// What came of a call of the program.
 #[derive(Clone, Copy)]

@@ -1,9 +1,9 @@
 ghost use Rattle.std.specs.Prelude.{◌≡◌, ◌≤◌, ◌++◌, codes, decimal, length};
-ghost use Rattle.am_script.specs.Refusals as refusals;
+ghost use Rattle.am_schedules.specs.Refusals as refusals;
 ghost use Rattle.am_player.specs.Telling.{line_of, bad_script_line, bad_text_line};
 
 use crate::status::Status;
-use am_script::refusal::ScriptRefusal;
+use am_schedules::refusal::ScriptRefusal;
 use arrayvec::ArrayString;
 use itoa::Buffer;
 use std::io;

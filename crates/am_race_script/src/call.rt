@@ -1,14 +1,14 @@
 ghost use Rattle.std.specs.Prelude.{◌≡◌, ◌≤◌};
 ghost use Rattle.am_script.specs.Seen.{seen};
-ghost use Rattle.am_script.specs.Refusals.{Answers};
-ghost use Rattle.am_race_script.specs.Races.{is_call, call_keys_of, call_as, call_from};
+ghost use Rattle.am_schedules.specs.Refusals.{Answers};
+ghost use Rattle.am_schedules.specs.Races.{is_call, call_keys_of, call_as, call_from};
 
 use am_group::event::Act;
+use am_schedules::key::Key;
+use am_schedules::kind::Kind;
+use am_schedules::refusal::{Read, ScriptRefusal};
 use am_script::event::{act, kind};
 use am_script::fields::known;
-use am_script::key::Key;
-use am_script::kind::Kind;
-use am_script::refusal::{Read, ScriptRefusal};
 use json::Value;
 use std::alloc::Global;
 
@@ -34,7 +34,7 @@ fn call_keys(kind: Kind) -> &'static [Key]
 }
 
 /// The act of a call of a kind.
-#[tactic(auto, unfolding(crate::specs::Races::call_as))]
+#[tactic(auto, unfolding(am_schedules::specs::Races::call_as))]
 fn call_of_kind(alloc: Global, kind: Kind, call: &Value, place: u64, founding: u8) -> Read<Act>
     requires { founding ≤ 15 }
     ensures { Answers (call_as kind founding place (seen call.now)) result }
@@ -44,7 +44,7 @@ fn call_of_kind(alloc: Global, kind: Kind, call: &Value, place: u64, founding: u
 }
 
 /// The act that a call tells, by its number over all threads and the founding's resilience.
-#[tactic(auto, using(am_script::proofs::Steps::object_then), unfolding(crate::specs::Races::call_from, crate::specs::Races::call_kind_in))]
+#[tactic(auto, using(am_schedules::proofs::Steps::object_then), unfolding(am_schedules::specs::Races::call_from, am_schedules::specs::Races::call_kind_in))]
 pub fn call(alloc: Global, value: &Value, place: u64, founding: u8) -> Read<Act>
     requires { founding ≤ 15 }
     ensures { Answers (call_from founding place (seen value.now)) result }

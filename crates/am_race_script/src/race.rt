@@ -1,8 +1,8 @@
 ghost use Rattle.std.specs.Prelude.{◌≡◌, ◌≤◌, ◌<◌, ◌+◌, ◌*◌, ◌^◌, length, IfOk};
 ghost use Rattle.am_script.specs.Seen.{seen, items_seen};
-ghost use Rattle.am_script.specs.Refusals.{Answers};
-ghost use Rattle.am_script.specs.Values.{each_from};
-ghost use Rattle.am_race_script.specs.Races.{most_turns, call_from, calls_from, parts_of_thread, thread_from, each_thread, threads_from, calls_of, of_right_size, parts_of_race, race_from};
+ghost use Rattle.am_schedules.specs.Refusals.{Answers};
+ghost use Rattle.am_schedules.specs.Values.{each_from};
+ghost use Rattle.am_schedules.specs.Races.{most_turns, call_from, calls_from, parts_of_thread, thread_from, each_thread, threads_from, calls_of, of_right_size, parts_of_race, race_from};
 
 use crate::call::call;
 use am_base::items::Items;
@@ -10,10 +10,10 @@ use am_base::limits::MOST_EVENTS;
 use am_base::name::Name;
 use am_group::event::Act;
 use am_group::plan::{RacePlan, ThreadPlan};
+use am_schedules::key::Key;
+use am_schedules::refusal::{Read, ScriptRefusal};
 use am_script::fields::{known, number_in, number_or, object, value_in};
 use am_script::founding::founding;
-use am_script::key::Key;
-use am_script::refusal::{Read, ScriptRefusal};
 use am_script::tree::items;
 use json::Value;
 use std::alloc::Global;
@@ -60,7 +60,7 @@ fn each_call(alloc: Global, list: &[Value], first: u64, founding: u8) -> Read<It
 }
 
 /// The calls of a thread.
-#[tactic(auto, unfolding(crate::specs::Races::calls_from))]
+#[tactic(auto, unfolding(am_schedules::specs::Races::calls_from))]
 fn calls(alloc: Global, value: &Value, first: u64, founding: u8) -> Read<Items<Act>>
     requires founding { founding ≤ 15 }
     requires first { first ≤ 2 ^ 63 }
@@ -73,7 +73,7 @@ fn calls(alloc: Global, value: &Value, first: u64, founding: u8) -> Read<Items<A
 }
 
 /// A thread's parts.
-#[tactic(auto, unfolding(crate::specs::Races::parts_of_thread))]
+#[tactic(auto, unfolding(am_schedules::specs::Races::parts_of_thread))]
 fn parts_of_thread(alloc: Global, value: &Value, first: u64, founding: u8) -> Read<ThreadPlan>
     requires founding { founding ≤ 15 }
     requires first { first ≤ 2 ^ 63 }
@@ -89,7 +89,7 @@ fn parts_of_thread(alloc: Global, value: &Value, first: u64, founding: u8) -> Re
 }
 
 /// A thread, whose first call has this number.
-#[tactic(auto, unfolding(crate::specs::Races::thread_from))]
+#[tactic(auto, unfolding(am_schedules::specs::Races::thread_from))]
 fn thread(alloc: Global, value: &Value, first: u64, founding: u8) -> Read<ThreadPlan>
     requires founding { founding ≤ 15 }
     requires first { first ≤ 2 ^ 63 }
@@ -117,7 +117,7 @@ fn each_thread(alloc: Global, list: &[Value], founding: u8) -> Read<Items<Thread
 }
 
 /// The threads of a race: 1 to 16.
-#[tactic(auto, using(am_script::proofs::Json::items_len_seen), unfolding(crate::specs::Races::threads_from))]
+#[tactic(auto, using(am_script::proofs::Json::items_len_seen), unfolding(am_schedules::specs::Races::threads_from))]
 fn threads(alloc: Global, value: &Value, founding: u8) -> Read<Items<ThreadPlan>>
     requires { founding ≤ 15 }
     ensures { Answers (threads_from founding (seen value.now)) result }
@@ -144,7 +144,7 @@ fn calls_of(threads: &[ThreadPlan]) -> u64
 }
 
 /// The race, where it has no more calls than there may be, and no more records.
-#[tactic(auto, unfolding(crate::specs::Races::of_right_size))]
+#[tactic(auto, unfolding(am_schedules::specs::Races::of_right_size))]
 fn of_right_size(plan: RacePlan) -> Read<RacePlan>
     requires threads { length plan.threads ≤ 16 }
     requires turns { plan.turns ≤ most_turns }
@@ -163,7 +163,7 @@ fn of_right_size(plan: RacePlan) -> Read<RacePlan>
 }
 
 /// A race's parts.
-#[tactic(auto, using(crate::proofs::Races::few_threads), unfolding(crate::specs::Races::parts_of_race))]
+#[tactic(auto, using(am_schedules::proofs::RaceLimits::few_threads), unfolding(am_schedules::specs::Races::parts_of_race))]
 fn parts(alloc: Global, value: &Value) -> Read<RacePlan>
     ensures { Answers (parts_of_race (seen value.now)) result }
 {
@@ -186,7 +186,7 @@ fn parts(alloc: Global, value: &Value) -> Read<RacePlan>
 
 /// A race: how its group begins, by which numbers its chooser chooses, and its threads with their calls. A refusal but
 /// NoMemory is the first cause that the value tells none.
-#[tactic(auto, unfolding(crate::specs::Races::race_from))]
+#[tactic(auto, unfolding(am_schedules::specs::Races::race_from))]
 pub fn race(alloc: Global, value: &Value) -> Read<RacePlan>
     ensures { Answers (race_from (seen value.now)) result }
 {

@@ -1,44 +1,13 @@
--- The digits of bytes, by the table of the library and by the definition.
-use Rattle.std.proofs.Common.{◌≡◌, ℕ, zero, suc, ◌/◌, ◌%◌, ◌<◌, List, [], ◌∷◌, ◌++◌, false, refl, ap, ◌∙◌, slice_index, arith}
+-- The digits of bytes as text, and of bytes part by part.
+use Rattle.std.proofs.Common.{◌≡◌, ℕ, ◌<◌, List, ◌++◌, ap, ◌∙◌, slice_index}
 use Rattle.std.proofs.Common.{sym, subst, rules}
 use Rattle.std.specs.Str.{IsUtf8}
 use Rattle.std.proofs.lemmas.Str.{IsUtf8-from_ascii}
 use Rattle.hex.proofs.HexLemmas.{IsAscii-encode_with}
 use Rattle.std.specs.List.{flat_map}
 use Rattle.std.proofs.lemmas.Grind.{flat_map-append}
-use Rattle.std.specs.Fmt.{digit_glyph}
-use Rattle.hex.specs.Hex.{encode_lower, encode_with, lower_digits}
+use Rattle.hex.specs.Hex.{encode_lower, lower_digits}
 use Rattle.am_play.specs.Text.{hex_byte}
-
-digit_is : (d : ℕ) → d < 16 → slice_index lower_digits d ≡ digit_glyph false d
-digit_is zero h = refl
-digit_is (suc zero) h = refl
-digit_is (suc (suc zero)) h = refl
-digit_is (suc (suc (suc zero))) h = refl
-digit_is (suc (suc (suc (suc zero)))) h = refl
-digit_is (suc (suc (suc (suc (suc zero))))) h = refl
-digit_is (suc (suc (suc (suc (suc (suc zero)))))) h = refl
-digit_is (suc (suc (suc (suc (suc (suc (suc zero))))))) h = refl
-digit_is (suc (suc (suc (suc (suc (suc (suc (suc zero)))))))) h = refl
-digit_is (suc (suc (suc (suc (suc (suc (suc (suc (suc zero))))))))) h = refl
-digit_is (suc (suc (suc (suc (suc (suc (suc (suc (suc (suc zero)))))))))) h = refl
-digit_is (suc (suc (suc (suc (suc (suc (suc (suc (suc (suc (suc zero))))))))))) h = refl
-digit_is (suc (suc (suc (suc (suc (suc (suc (suc (suc (suc (suc (suc zero)))))))))))) h = refl
-digit_is (suc (suc (suc (suc (suc (suc (suc (suc (suc (suc (suc (suc (suc zero))))))))))))) h = refl
-digit_is (suc (suc (suc (suc (suc (suc (suc (suc (suc (suc (suc (suc (suc (suc zero)))))))))))))) h = refl
-digit_is (suc (suc (suc (suc (suc (suc (suc (suc (suc (suc (suc (suc (suc (suc (suc zero))))))))))))))) h = refl
-digit_is (suc (suc (suc (suc (suc (suc (suc (suc (suc (suc (suc (suc (suc (suc (suc (suc d)))))))))))))))) h = absurd (omega arith)
-
-pub encoded : (bytes : List ℕ) → ((i : ℕ) → slice_index bytes i < 256) → encode_lower bytes ≡ flat_map hex_byte bytes
-unfolding encode_with
-encoded [] h = refl
-encoded (b ∷ bytes) h =
-    let low = h 0 in
-    let high : b / 16 < 16 = omega arith in
-    let rest = encoded bytes (λ i. h (suc i)) in
-    ap (λ (d : ℕ). d ∷ slice_index lower_digits (b % 16) ∷ encode_lower bytes) (digit_is (b / 16) high)
-    ∙ ap (λ (d : ℕ). digit_glyph false (b / 16) ∷ d ∷ encode_lower bytes) (digit_is (b % 16) (omega arith))
-    ∙ ap (λ (ds : List ℕ). digit_glyph false (b / 16) ∷ digit_glyph false (b % 16) ∷ ds) rest
 
 -- they are ASCII
 digits_low : (i : ℕ) → slice_index lower_digits i < 128

@@ -1,15 +1,15 @@
 -- Documents beside the bytes that they are read from.
-use Rattle.std.proofs.Common.{◌≡◌, ℕ, ◌==◌, ◌<◌, List, [], ◌∷◌, length, Result, Ok, Err, IfOk, IfErr, Option, Some, None, Bool, true, false, cond, refl, sym, ap, ◌∙◌, arith}
+use Rattle.std.proofs.Common.{◌≡◌, ℕ, ◌==◌, ◌<◌, List, [], ◌∷◌, length, Result, Ok, Err, IfOk, IfErr, Some, None, Bool, true, false, cond, refl, sym, ap, ◌∙◌, arith}
 use Rattle.std.specs.Str.{IsUtf8, is_utf8}
 use Rattle.std.proofs.lemmas.Bool.{eqb-true}
 use Rattle.std.proofs.lemmas.Str.{IsUtf8-from_is_utf8, is_utf8-from_IsUtf8}
 use Rattle.serde_json.specs.Data.{Data}
 use Rattle.serde_json.specs.Read.{read}
 use Rattle.serde_json.proofs.OnLiterals.{serde_json_on_literals}
-use Rattle.am_script.specs.declared.refusal.ScriptRefusal.{ScriptRefusal}
-use Rattle.am_script.specs.declared.refusal.ScriptRefusal.TheVariants.{NotJson}
-use Rattle.am_script.specs.Refusals.{Read}
-use Rattle.am_script.specs.Scripts.{document_in}
+use Rattle.am_schedules.specs.declared.refusal.ScriptRefusal.{ScriptRefusal}
+use Rattle.am_schedules.specs.declared.refusal.ScriptRefusal.TheVariants.{NotJson}
+use Rattle.am_schedules.specs.Refusals.{Read}
+use Rattle.am_schedules.specs.Scripts.{document_in}
 
 pub document_there : (bytes : List ℕ) (d : Data) → IsUtf8 bytes → read bytes ≡ Some d → document_in bytes ≡ Some d
 unfolding document_in

@@ -8,7 +8,7 @@ use Rattle.json.specs.Json.{value}
 use Rattle.json.specs.Lex.{tokens}
 use Rattle.json.specs.Token.{Token}
 use Rattle.json.specs.Tree.{json_tokens, items_tokens, members_tokens}
-use Rattle.serde_json.specs.Data.{Num, Data, null, number, array, object, Items, no_items, item, Members, no_members, put}
+use Rattle.serde_json.specs.Data.{Num, Data, null, number, array, object, Items, item, Members, no_members, put}
 use Rattle.serde_json.specs.Read as reads
 use Rattle.serde_json.specs.Read.{number_of, read}
 use Rattle.json.proofs.Unique.Spelling.{value-json_tokens_back}

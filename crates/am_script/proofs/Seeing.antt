@@ -17,8 +17,8 @@ use Rattle.serde_json.specs.Find.{get, get_member, as_str, as_bool, as_number, a
 use Rattle.serde_json.specs.Read.{number_of}
 use Rattle.serde_json.proofs.Views.{get_member-put, get_member-put_other}
 use Rattle.json.proofs.Trees.{view-Object}
-use Rattle.am_script.specs.declared.key.Key.{Key}
-use Rattle.am_script.specs.Keys.{words_of, is_among, has_only}
+use Rattle.am_schedules.specs.declared.key.Key.{Key}
+use Rattle.am_schedules.specs.Keys.{words_of, is_among, has_only}
 use Rattle.am_script.specs.Seen.{data_of, items_of, members_of, whole_of, seen}
 
 number_seen : {A : Type 0} (f : Data → A) (end : A) (found : Option Num) → (found ≡ None → f null ≡ end) → ((n : Num) → found ≡ Some n → f (number n) ≡ end)

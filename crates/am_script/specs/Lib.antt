@@ -1,8 +1,1 @@
 pub mod Seen
-pub mod Keys
-pub mod Refusals
-pub mod Values
-pub mod Founders
-pub mod Events
-pub mod Scripts
-pub mod Limits

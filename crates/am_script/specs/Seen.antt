@@ -1,5 +1,5 @@
 -- The data that a tree of JSON stands for: a number out of range stands for null, and a document that has one is none.
-use Rattle.std.specs.Prelude.{ℕ, ◌^◌, ◌&&◌, nat_lt, nat_le, Bool, true, false, List, Option, Some, None, is_some, option_map, option_and_then}
+use Rattle.std.specs.Prelude.{ℕ, ◌^◌, ◌&&◌, nat_lt, nat_le, Bool, true, false, List, Option, is_some, option_and_then}
 use Rattle.std.specs.Option.{option_map_or}
 use Rattle.json.specs.Json as json
 use Rattle.json.specs.Token as token

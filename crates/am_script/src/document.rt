@@ -4,10 +4,10 @@ ghost use Rattle.std.specs.Prelude.{◌≡◌, ◌≢◌, ◌<◌, [], length, S
 ghost use Rattle.std.specs.List.{list_all};
 ghost use Rattle.serde_json.specs.Read.{number_of, number_from, read};
 ghost use Rattle.json.specs.{Json.value, Lex.tokens, Reads.token_of, Value.value_view};
-ghost use Rattle.am_script.specs.Scripts.{document_in};
+ghost use Rattle.am_schedules.specs.Scripts.{document_in};
 ghost use Rattle.am_script.specs.Seen.{is_whole, whole_of, is_in_range, most_depth, seen};
 
-use crate::refusal::{Read, ScriptRefusal};
+use am_schedules::refusal::{Read, ScriptRefusal};
 use fast_float::Numeral;
 use json::{Error, Reader, Scratch, Token, Value};
 use std::alloc::{AllocError, Global};

@@ -1,24 +1,24 @@
 ghost use Rattle.std.specs.Prelude.{◌≡◌, ◌≤◌, ◌%◌, length};
 ghost use Rattle.std.specs.List.{list_all};
 ghost use Rattle.am_base.specs.Most.{most_number};
-ghost use Rattle.am_script.specs.Refusals.{Answers};
+ghost use Rattle.am_schedules.specs.Refusals.{Answers};
 ghost use Rattle.am_script.specs.Seen.{seen};
-ghost use Rattle.am_script.specs.Values.{of_object, is_digit, are_pairs, body_from, number_in};
-ghost use Rattle.am_script.specs.Events.{kind_in, send_in, reset_in, give_up_in, cut_in, act_in, event_as, event_from};
+ghost use Rattle.am_schedules.specs.Values.{of_object, is_digit, are_pairs, body_from, number_in};
+ghost use Rattle.am_schedules.specs.Events.{kind_in, send_in, reset_in, give_up_in, cut_in, act_in, event_as, event_from};
 
 use crate::fields::{known, number_in, number_or, object, text_in};
-use crate::key::Key;
-use crate::kind::Kind;
-use crate::refusal::{Read, ScriptRefusal};
 use am_base::body::Body;
 use am_base::limits::{MOST_BODY, MOST_NUMBER, MOST_PACKET};
 use am_base::name::Name;
 use am_group::event::{Act, Event};
+use am_schedules::key::Key;
+use am_schedules::kind::Kind;
+use am_schedules::refusal::{Read, ScriptRefusal};
 use json::Value;
 use std::alloc::Global;
 
 /// The kind of an event or a call, which is an object; BadValue at the key that it stands at where it is none.
-#[tactic(auto, unfolding(crate::specs::Events::kind_in))]
+#[tactic(auto, unfolding(am_schedules::specs::Events::kind_in))]
 pub fn kind(value: &Value, at: Key, place: u64) -> Read<Kind>
     ensures { result ≡ of_object at place (seen value.now) (kind_in place (seen value.now)) }
 {
@@ -46,7 +46,7 @@ fn are_pairs(text: &str) -> bool
 }
 
 /// The body that a text of digits gives.
-#[tactic(auto, unfolding(crate::specs::Values::body_from))]
+#[tactic(auto, unfolding(am_schedules::specs::Values::body_from))]
 fn body(text: &str, place: u64) -> Read<Body>
     ensures { result ≡ body_from place text.now }
 {
@@ -79,7 +79,7 @@ fn count(event: &Value, key: Key, place: u64) -> Read<u32>
 }
 
 /// A send.
-#[tactic(auto, unfolding(crate::specs::Events::send_in))]
+#[tactic(auto, unfolding(am_schedules::specs::Events::send_in))]
 fn send(alloc: Global, event: &Value, place: u64) -> Read<Act>
     ensures { Answers (send_in place (seen event.now)) result }
 {
@@ -88,7 +88,7 @@ fn send(alloc: Global, event: &Value, place: u64) -> Read<Act>
 }
 
 /// A reset, which keeps the founding's resilience where none is said.
-#[tactic(auto, unfolding(crate::specs::Events::reset_in))]
+#[tactic(auto, unfolding(am_schedules::specs::Events::reset_in))]
 fn reset(event: &Value, place: u64, founding: u8) -> Read<Act>
     requires { founding ≤ 15 }
     ensures { result ≡ reset_in founding place (seen event.now) }
@@ -102,7 +102,7 @@ fn reset(event: &Value, place: u64, founding: u8) -> Read<Act>
 }
 
 /// The giving up of a name, of life 1 where none is said.
-#[tactic(auto, unfolding(crate::specs::Events::give_up_in))]
+#[tactic(auto, unfolding(am_schedules::specs::Events::give_up_in))]
 fn give_up(event: &Value, place: u64) -> Read<Act>
     ensures { result ≡ give_up_in place (seen event.now) }
 {
@@ -112,7 +112,7 @@ fn give_up(event: &Value, place: u64) -> Read<Act>
 }
 
 /// The hearing of the first bytes of a packet.
-#[tactic(auto, unfolding(crate::specs::Events::cut_in))]
+#[tactic(auto, unfolding(am_schedules::specs::Events::cut_in))]
 fn cut(event: &Value, place: u64) -> Read<Act>
     ensures { result ≡ cut_in place (seen event.now) }
 {
@@ -125,7 +125,7 @@ fn cut(event: &Value, place: u64) -> Read<Act>
 }
 
 /// The act of an event or a call of a kind.
-#[tactic(auto, unfolding(crate::specs::Events::act_in))]
+#[tactic(auto, unfolding(am_schedules::specs::Events::act_in))]
 pub fn act(alloc: Global, kind: Kind, event: &Value, place: u64, founding: u8) -> Read<Act>
     requires { founding ≤ 15 }
     ensures { Answers (act_in kind founding place (seen event.now)) result }
@@ -149,7 +149,7 @@ pub fn act(alloc: Global, kind: Kind, event: &Value, place: u64, founding: u8) -
 }
 
 /// An event of a kind.
-#[tactic(auto, unfolding(crate::specs::Events::event_as))]
+#[tactic(auto, unfolding(am_schedules::specs::Events::event_as))]
 fn event_of_kind(alloc: Global, kind: Kind, event: &Value, place: u64, founding: u8) -> Read<Event>
     requires { founding ≤ 15 }
     ensures { Answers (event_as kind founding place (seen event.now)) result }
@@ -161,7 +161,7 @@ fn event_of_kind(alloc: Global, kind: Kind, event: &Value, place: u64, founding:
 
 /// The event that a value tells. A refusal but NoMemory is the first cause that it tells none. `place` is its number,
 /// `founding` the founding's resilience.
-#[tactic(auto, using(crate::proofs::Steps::object_then), unfolding(crate::specs::Events::event_from))]
+#[tactic(auto, using(am_schedules::proofs::Steps::object_then), unfolding(am_schedules::specs::Events::event_from))]
 pub fn event(alloc: Global, value: &Value, place: u64, founding: u8) -> Read<Event>
     requires { founding ≤ 15 }
     ensures { Answers (event_from founding place (seen value.now)) result }

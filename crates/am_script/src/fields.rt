@@ -1,14 +1,14 @@
 ghost use Rattle.std.specs.Prelude.{◌≡◌, ◌≤◌, true, false, is_some, IfOk, OnOk, IfErr};
 ghost use Rattle.std.specs.Result.{result_map_both};
 ghost use Rattle.serde_json.specs.Find.{as_object};
-ghost use Rattle.am_script.specs.Keys.{has_only};
+ghost use Rattle.am_schedules.specs.Keys.{has_only};
 ghost use Rattle.am_script.specs.Seen.{seen};
-ghost use Rattle.am_script.specs.Scripts.{behind};
-ghost use Rattle.am_script.specs.Values.{value_in, text_in, number_from, number_in, number_or, flag_or};
+ghost use Rattle.am_schedules.specs.Scripts.{behind};
+ghost use Rattle.am_schedules.specs.Values.{value_in, text_in, number_from, number_in, number_or, flag_or};
 
-use crate::key::Key;
-use crate::refusal::{Read, ScriptRefusal};
 use crate::tree;
+use am_schedules::key::Key;
+use am_schedules::refusal::{Read, ScriptRefusal};
 use json::Value;
 
 /// Refuses a value that is no object, with BadValue at the key that it stands at.
@@ -47,7 +47,7 @@ pub fn value_in<'v, 'a>(object: &'v Value<'a>, key: Key, place: u64) -> Read<&'v
 }
 
 /// The value behind the key that is asked for, where that is the one key of a document.
-#[tactic(auto, unfolding(crate::specs::Scripts::behind))]
+#[tactic(auto, unfolding(am_schedules::specs::Scripts::behind))]
 pub fn behind<'v, 'a>(asked: Key, document: &'v Value<'a>) -> Read<&'v Value<'a>>
     ensures { result_map_both (λ v. seen v.now) (λ e. e) result ≡ behind asked (seen document.now) }
 {
@@ -69,7 +69,7 @@ pub fn text_in<'a>(object: &Value<'a>, key: Key, place: u64) -> Read<&'a str>
 }
 
 /// A whole number within its limits; BadValue where it is another value, OutOfRange where it is outside them.
-#[tactic(auto, unfolding(crate::specs::Values::number_from))]
+#[tactic(auto, unfolding(am_schedules::specs::Values::number_from))]
 pub fn number(value: &Value, key: Key, place: u64, least: u64, most: u64) -> Read<u64>
     ensures value { result ≡ number_from key place least most (seen value.now) }
     ensures at_least { IfOk result (λ n. least ≤ n) }

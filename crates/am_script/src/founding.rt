@@ -1,16 +1,16 @@
 ghost use Rattle.std.specs.Prelude.{◌≡◌};
 ghost use Rattle.am_script.specs.Seen.{seen, items_seen};
 ghost use Rattle.am_base.specs.Names.{nobody};
-ghost use Rattle.am_script.specs.Founders.{each_founder, founders_from, founding_in};
+ghost use Rattle.am_schedules.specs.Founders.{each_founder, founders_from, founding_in};
 
 use crate::fields::{number, number_or, value_in};
-use crate::key::Key;
-use crate::refusal::{Read, ScriptRefusal};
 use crate::tree::items;
 use am_base::founding::Founding;
 use am_base::limits::{MOST_BODY, MOST_WINDOW};
 use am_base::name::Name;
 use am_base::names::Names;
+use am_schedules::key::Key;
+use am_schedules::refusal::{Read, ScriptRefusal};
 use json::Value;
 
 /// The names of places, each of which is new.
@@ -30,7 +30,7 @@ fn each_founder(list: &[Value]) -> Read<Names>
 }
 
 /// The founders: 1 to 16 places, each once.
-#[tactic(auto, using(crate::proofs::Json::items_len_seen), unfolding(crate::specs::Founders::founders_from))]
+#[tactic(auto, using(crate::proofs::Json::items_len_seen), unfolding(am_schedules::specs::Founders::founders_from))]
 fn founders(value: &Value) -> Read<Names>
     ensures { result ≡ founders_from (seen value.now) }
 {
@@ -44,7 +44,7 @@ fn founders(value: &Value) -> Read<Names>
 }
 
 /// How a group begins, by the keys that a play and a race both have. A refusal is the first cause that it says none.
-#[tactic(auto, using(crate::proofs::Limits::founders_are), unfolding(crate::specs::Founders::founding_in))]
+#[tactic(auto, using(am_schedules::proofs::Limits::founders_are), unfolding(am_schedules::specs::Founders::founding_in))]
 pub fn founding(value: &Value) -> Read<Founding>
     ensures { result ≡ founding_in (seen value.now) }
 {

@@ -1,19 +1,19 @@
 ghost use Rattle.std.specs.Prelude.{◌≡◌, ◌≤◌};
 ghost use Rattle.am_script.specs.Seen.{seen, items_seen};
-ghost use Rattle.am_script.specs.Refusals.{Answers};
-ghost use Rattle.am_script.specs.Events.{event_from, events_from};
-ghost use Rattle.am_script.specs.Values.{each_from};
-ghost use Rattle.am_script.specs.Scripts.{play_from};
+ghost use Rattle.am_schedules.specs.Refusals.{Answers};
+ghost use Rattle.am_schedules.specs.Events.{event_from, events_from};
+ghost use Rattle.am_schedules.specs.Values.{each_from};
+ghost use Rattle.am_schedules.specs.Scripts.{play_from};
 
 use crate::event::event;
 use crate::fields::{flag_or, known, object, value_in};
 use crate::founding::founding;
-use crate::key::Key;
-use crate::refusal::{Read, ScriptRefusal};
-use crate::script::Script;
 use crate::tree;
 use am_base::items::Items;
 use am_group::event::Event;
+use am_schedules::key::Key;
+use am_schedules::refusal::{Read, ScriptRefusal};
+use am_schedules::script::Script;
 use json::Value;
 use std::alloc::Global;
 
@@ -40,7 +40,7 @@ fn each_event(alloc: Global, list: &[Value], founding: u8) -> Read<Items<Event>>
 }
 
 /// The events of a play.
-#[tactic(auto, unfolding(crate::specs::Events::events_from))]
+#[tactic(auto, unfolding(am_schedules::specs::Events::events_from))]
 fn events(alloc: Global, value: &Value, founding: u8) -> Read<Items<Event>>
     requires { founding ≤ 15 }
     ensures { Answers (events_from founding (seen value.now)) result }
@@ -52,7 +52,7 @@ fn events(alloc: Global, value: &Value, founding: u8) -> Read<Items<Event>>
 }
 
 /// A play: how its group begins, its events, and whether it is settled at the end.
-#[tactic(auto, unfolding(crate::specs::Scripts::play_from, crate::specs::Scripts::parts_of_play))]
+#[tactic(auto, unfolding(am_schedules::specs::Scripts::play_from, am_schedules::specs::Scripts::parts_of_play))]
 pub fn play(alloc: Global, value: &Value) -> Read<Script>
     ensures { Answers (play_from (seen value.now)) result }
 {

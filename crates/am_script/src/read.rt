@@ -1,20 +1,20 @@
 ghost use Rattle.std.specs.Prelude.{◌≡◌, ◌≢◌, ◌<◌, length, Ok, Err, IfOk, IfErr};
-ghost use Rattle.am_script.specs.Refusals.{Answers};
-ghost use Rattle.am_script.specs.Limits.{ScriptWithin};
+ghost use Rattle.am_schedules.specs.Refusals.{Answers};
+ghost use Rattle.am_schedules.specs.Limits.{ScriptWithin};
 ghost use Rattle.am_script.specs.Seen.{seen};
-ghost use Rattle.am_script.specs.Scripts.{document_from, reading};
+ghost use Rattle.am_schedules.specs.Scripts.{document_from, reading};
 
 use crate::document::document;
 use crate::fields::behind;
-use crate::key::Key;
 use crate::play::play;
-use crate::refusal::{Read, ScriptRefusal};
-use crate::script::Script;
+use am_schedules::key::Key;
+use am_schedules::refusal::{Read, ScriptRefusal};
+use am_schedules::script::Script;
 use json::{Scratch, Value};
 use std::alloc::Global;
 
 /// The script of a document.
-#[tactic(auto, unfolding(crate::specs::Scripts::document_from))]
+#[tactic(auto, unfolding(am_schedules::specs::Scripts::document_from))]
 fn script_in(alloc: Global, value: &Value) -> Read<Script>
     ensures { Answers (document_from (seen value.now)) result }
 {
@@ -24,7 +24,7 @@ fn script_in(alloc: Global, value: &Value) -> Read<Script>
 
 /// Reads a script (docs/PROTOCOL.md, "Scripts"). A refusal but NoMemory is the first cause that the bytes are none. It may have any
 /// number of events.
-#[tactic(auto, using(crate::proofs::Answered::answer_within), unfolding(crate::specs::Scripts::reading))]
+#[tactic(auto, using(am_schedules::proofs::Answered::answer_within), unfolding(am_schedules::specs::Scripts::reading))]
 pub fn read_script(alloc: Global, bytes: &[u8]) -> Result<Script, ScriptRefusal>
     ensures ok { IfOk result (λ script. reading bytes.now ≡ Ok script) }
     ensures within { IfOk result ScriptWithin }

@@ -2,11 +2,11 @@
 ghost use Rattle.std.specs.Prelude.{◌≡◌, is_some, option_map, option_and_then};
 ghost use Rattle.std.specs.List.{list_all};
 ghost use Rattle.serde_json.specs.Find.{as_object, as_array, as_str, as_bool, as_number, as_u64};
-ghost use Rattle.am_script.specs.Keys.{is_among, has_only, value_at};
+ghost use Rattle.am_schedules.specs.Keys.{is_among, has_only, value_at};
 ghost use Rattle.am_script.specs.Seen.{seen, items_seen};
 
 use crate::document::whole;
-use crate::key::Key;
+use am_schedules::key::Key;
 use json::Value;
 
 /// Whether a word is that of one of the keys.

@@ -15,8 +15,8 @@ use Rattle.am_replicated.proofs.Holding.{replicas_hold}
 use Rattle.am_pump.specs.Generating.{generated_rules, events_of_seed}
 use Rattle.am_pump.proofs.Rules.{may_found}
 use Rattle.am_words.specs.declared.form.Numbers.{Numbers}
-use Rattle.am_race_script.specs.Races.{race_reading}
-use Rattle.am_race_script.specs.Limits.{RaceWithin}
+use Rattle.am_schedules.specs.Races.{race_reading}
+use Rattle.am_schedules.specs.RaceLimits.{RaceWithin}
 use Rattle.am_verdicts.specs.Lines.{Reading, read_text}
 use Rattle.am_verdicts.specs.Verdicts.{verdict_of, verdict_line}
 use Rattle.am_verdicts.proofs.Wrongs.{agrees_means, lists_agree_means}

@@ -5,7 +5,7 @@ use Rattle.am_group.specs.declared.event.Act.{Act}
 use Rattle.am_group.specs.declared.plan.ThreadPlan.{ThreadPlan}
 use Rattle.am_group.specs.declared.plan.RacePlan.{RacePlan}
 use Rattle.am_races.specs.Plans.{is_call, MayRace}
-use Rattle.am_race_script.specs.Limits.{CallWithin, ThreadWithin, RaceWithin}
+use Rattle.am_schedules.specs.RaceLimits.{CallWithin, ThreadWithin, RaceWithin}
 use Rattle.am_written.proofs.RacedScripts.{call_within}
 
 both : (a b : Bool) → a ≡ true → b ≡ true → (a && b) ≡ true

@@ -16,11 +16,11 @@ use Rattle.am_play.specs.World.{World, run}
 use Rattle.am_play.specs.Settle.{Settling, and_then, event_at, ticks, hearings_of, hearings_from, hearings, waves, round, rounds, round_count, settle_events}
 use Rattle.am_play.specs.Play.{text_of}
 use Rattle.am_laws.specs.Bytes.{BodyWithin, IsShort}
-use Rattle.am_texts.specs.Schedules.{script_text, IsOfBytes, AreOfBytes}
-use Rattle.am_script.specs.Scripts.{script_of, reading}
-use Rattle.am_race_script.specs.Races.{race_reading}
-use Rattle.am_script.specs.Limits.{ActWithin, EventWithin, IsWithin}
-use Rattle.am_race_script.specs.Limits.{CallWithin, ThreadWithin, RaceWithin}
+use Rattle.am_schedules.specs.Schedules.{script_text, IsOfBytes, AreOfBytes}
+use Rattle.am_schedules.specs.Scripts.{script_of, reading}
+use Rattle.am_schedules.specs.Races.{race_reading}
+use Rattle.am_schedules.specs.Limits.{ActWithin, EventWithin, IsWithin}
+use Rattle.am_schedules.specs.RaceLimits.{CallWithin, ThreadWithin, RaceWithin}
 use Rattle.am_written.specs.Bodies.{ThreadOfBytes}
 use Rattle.am_written.proofs.Bodies.{plays_are_of_bytes, races_are_of_bytes}
 use Rattle.am_written.specs.RacedBodies.{HasBody, ThreadHasBodies}

@@ -7,9 +7,9 @@ use Rattle.am_group.specs.declared.event.Record.{Record}
 use Rattle.am_group.specs.declared.plan.RacePlan.{RacePlan}
 use Rattle.am_play.specs.Text.{newline}
 use Rattle.am_play.specs.Play.{text_of}
-use Rattle.am_script.specs.Limits.{IsWithin}
-use Rattle.am_script.specs.Scripts.{script_of, reading}
-use Rattle.am_texts.specs.Schedules.{script_text, AreOfBytes}
+use Rattle.am_schedules.specs.Limits.{IsWithin}
+use Rattle.am_schedules.specs.Scripts.{script_of, reading}
+use Rattle.am_schedules.specs.Schedules.{script_text, AreOfBytes}
 use Rattle.am_races.specs.Legal.{IsLegalWithTags}
 use Rattle.am_races.specs.Plans.{calls_of, ArePlayed}
 

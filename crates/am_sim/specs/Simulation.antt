@@ -10,9 +10,9 @@ use Rattle.am_group.specs.Deliveries.{deliveries}
 use Rattle.am_model.specs.Node.{has_log}
 use Rattle.am_play.specs.Play.{summary_text_of}
 use Rattle.am_play.specs.Text.{newline}
-use Rattle.am_script.specs.Scripts.{script_of, reading}
-use Rattle.am_script.specs.declared.refusal.ScriptRefusal.{ScriptRefusal}
-use Rattle.am_race_script.specs.Races.{race_reading}
+use Rattle.am_schedules.specs.Scripts.{script_of, reading}
+use Rattle.am_schedules.specs.declared.refusal.ScriptRefusal.{ScriptRefusal}
+use Rattle.am_schedules.specs.Races.{race_reading}
 use Rattle.am_player.specs.Runs.{done_of, run_watch}
 use Rattle.am_player.specs.Plays.{KeepsRun, Repaired}
 use Rattle.am_player.specs.Statuses.{most_input}
@@ -38,7 +38,7 @@ use Rattle.am_words.specs.declared.form.Shown.{Shown}
 use Rattle.am_words.specs.declared.form.Shown.TheVariants as shown
 use Rattle.am_seg.specs.Parts.{most_message}
 use Rattle.am_services.specs.Texts.{parts_text}
-use Rattle.am_texts.specs.Schedules.{script_text}
+use Rattle.am_schedules.specs.Schedules.{script_text}
 use Rattle.am_player.specs.declared.status.Status.{Status}
 use Rattle.am_player.specs.declared.status.Status.TheVariants.{Done, WriteFault, NoMemory, BadText, Disagrees}
 

@@ -6,7 +6,7 @@ ghost use Rattle.am_io.specs.Buffers.{Goes};
 ghost use Rattle.am_play.specs.Play.{text_of};
 ghost use Rattle.am_play.specs.Text.{newline};
 ghost use Rattle.am_player.specs.Runs.{logged_in};
-ghost use Rattle.am_race_script.specs.Limits.{RaceWithin};
+ghost use Rattle.am_schedules.specs.RaceLimits.{RaceWithin};
 ghost use Rattle.am_world.specs.Runs.{replay};
 ghost use Rattle.am_sim.specs.Racing.{events_of, race_text, IsRaced, IsReadAgain, IsRaceText};
 

@@ -2,7 +2,7 @@ ghost use Rattle.std.specs.Prelude.{◌≡◌, ◌≢◌, ◌↔◌, ℕ, List, 
 ghost use Rattle.std.specs.Io.KnownBytes.{Appends};
 ghost use Rattle.am_io.specs.Buffers.{Goes};
 ghost use Rattle.am_io.specs.Outside.{ReadToEnd, GaveMore, GaveAtMost};
-ghost use Rattle.am_race_script.specs.Races.{race_reading};
+ghost use Rattle.am_schedules.specs.Races.{race_reading};
 ghost use Rattle.am_words.specs.declared.form.Form.TheVariants as form;
 ghost use Rattle.am_words.specs.Forms.{Generates};
 ghost use Rattle.am_sim.specs.Speaking.{Spoken, IfNode, IsNode};
@@ -22,7 +22,7 @@ use am_player::play::INPUT_MOST;
 use am_player::read_input;
 use am_player::status::Status;
 use am_race_script::read::read_race;
-use am_script::refusal::ScriptRefusal;
+use am_schedules::refusal::ScriptRefusal;
 use am_words::form::{Form, form_of};
 use std::alloc::Global;
 use std::sync::Wait;

@@ -1,4 +1,3 @@
 pub mod Holding
 pub mod Memory
-pub mod Schedules
 pub mod Summaries

@@ -1,7 +1,7 @@
 ghost use Rattle.std.specs.Prelude.{◌≡◌, ◌++◌, OnOk, IfOk, Ok, false, string_bytes};
-ghost use Rattle.am_script.specs.Limits.{IsWithin};
-ghost use Rattle.am_script.specs.Scripts.{script_of, reading};
-ghost use Rattle.am_texts.specs.Schedules.{life_json, resilience_json, body_json, keys_before, keys_behind, word_json, event_json, others_json, list_json, events_json, founders_json, numbers_json, script_text, AreOfBytes};
+ghost use Rattle.am_schedules.specs.Limits.{IsWithin};
+ghost use Rattle.am_schedules.specs.Scripts.{script_of, reading};
+ghost use Rattle.am_schedules.specs.Schedules.{life_json, resilience_json, body_json, keys_before, keys_behind, word_json, event_json, others_json, list_json, events_json, founders_json, numbers_json, script_text, AreOfBytes};
 
 use crate::text::{push_bytes, push_names};
 use am_base::NoMemory;
@@ -12,7 +12,7 @@ use am_report::event::act_word;
 use std::alloc::Global;
 
 // Adds a name's life, where it isn't the first.
-#[tactic(auto, unfolding(crate::specs::Schedules::life_json))]
+#[tactic(auto, unfolding(am_schedules::specs::Schedules::life_json))]
 fn push_life(out: &mut String, name: Name) -> Result<(), NoMemory>
     ensures { OnOk result (string_bytes out.new ≡ string_bytes out.old ++ life_json name) }
 {
@@ -24,7 +24,7 @@ fn push_life(out: &mut String, name: Name) -> Result<(), NoMemory>
 }
 
 // Adds a resilience, where it isn't the founding's.
-#[tactic(auto, unfolding(crate::specs::Schedules::resilience_json))]
+#[tactic(auto, unfolding(am_schedules::specs::Schedules::resilience_json))]
 fn push_resilience(out: &mut String, founding: &Founding, resilience: u8) -> Result<(), NoMemory>
     ensures { OnOk result (string_bytes out.new
         ≡ string_bytes out.old ++ resilience_json founding.now resilience) }
@@ -36,7 +36,7 @@ fn push_resilience(out: &mut String, founding: &Founding, resilience: u8) -> Res
 }
 
 // Adds the body of a send.
-#[tactic(auto, unfolding(crate::specs::Schedules::body_json))]
+#[tactic(auto, unfolding(am_schedules::specs::Schedules::body_json))]
 fn push_body(out: &mut String, act: &Act) -> Result<(), NoMemory>
     ensures { OnOk result (string_bytes out.new ≡ string_bytes out.old ++ body_json act.now) }
 {
@@ -51,7 +51,7 @@ fn push_body(out: &mut String, act: &Act) -> Result<(), NoMemory>
 }
 
 // Adds an act's keys between its word and the node.
-#[tactic(auto, unfolding(crate::specs::Schedules::keys_before))]
+#[tactic(auto, unfolding(am_schedules::specs::Schedules::keys_before))]
 fn push_before(out: &mut String, act: &Act) -> Result<(), NoMemory>
     ensures { OnOk result (string_bytes out.new ≡ string_bytes out.old ++ keys_before act.now) }
 {
@@ -68,7 +68,7 @@ fn push_before(out: &mut String, act: &Act) -> Result<(), NoMemory>
 }
 
 // Adds an act's word, and what stands between it and the node.
-#[tactic(auto, unfolding(crate::specs::Schedules::word_json))]
+#[tactic(auto, unfolding(am_schedules::specs::Schedules::word_json))]
 fn push_word(out: &mut String, act: &Act) -> Result<(), NoMemory>
     ensures { OnOk result (string_bytes out.new ≡ string_bytes out.old ++ word_json act.now) }
 {
@@ -78,7 +78,7 @@ fn push_word(out: &mut String, act: &Act) -> Result<(), NoMemory>
 }
 
 // Adds an act's keys behind the node.
-#[tactic(auto, unfolding(crate::specs::Schedules::keys_behind))]
+#[tactic(auto, unfolding(am_schedules::specs::Schedules::keys_behind))]
 fn push_behind(out: &mut String, founding: &Founding, act: &Act) -> Result<(), NoMemory>
     ensures { OnOk result (string_bytes out.new
         ≡ string_bytes out.old ++ keys_behind founding.now act.now) }
@@ -93,7 +93,7 @@ fn push_behind(out: &mut String, founding: &Founding, act: &Act) -> Result<(), N
 }
 
 // Adds an event.
-#[tactic(auto, unfolding(crate::specs::Schedules::event_json))]
+#[tactic(auto, unfolding(am_schedules::specs::Schedules::event_json))]
 fn push_event(out: &mut String, founding: &Founding, event: &Event) -> Result<(), NoMemory>
     ensures { OnOk result (string_bytes out.new
         ≡ string_bytes out.old ++ event_json founding.now event.now) }
@@ -120,7 +120,7 @@ fn push_others(out: &mut String, founding: &Founding, events: &[Event]) -> Resul
 }
 
 // Adds events with commas between them.
-#[tactic(auto, unfolding(crate::specs::Schedules::list_json))]
+#[tactic(auto, unfolding(am_schedules::specs::Schedules::list_json))]
 fn push_listed(out: &mut String, founding: &Founding, events: &[Event]) -> Result<(), NoMemory>
     ensures { OnOk result (string_bytes out.new
         ≡ string_bytes out.old ++ list_json founding.now events.now) }
@@ -135,7 +135,7 @@ fn push_listed(out: &mut String, founding: &Founding, events: &[Event]) -> Resul
 }
 
 // Adds the key of events.
-#[tactic(auto, unfolding(crate::specs::Schedules::events_json))]
+#[tactic(auto, unfolding(am_schedules::specs::Schedules::events_json))]
 fn push_events(out: &mut String, founding: &Founding, events: &[Event]) -> Result<(), NoMemory>
     ensures { OnOk result (string_bytes out.new
         ≡ string_bytes out.old ++ events_json founding.now events.now) }
@@ -146,7 +146,7 @@ fn push_events(out: &mut String, founding: &Founding, events: &[Event]) -> Resul
 }
 
 // Adds the key of founders.
-#[tactic(auto, unfolding(crate::specs::Schedules::founders_json))]
+#[tactic(auto, unfolding(am_schedules::specs::Schedules::founders_json))]
 fn push_founders(out: &mut String, founding: &Founding) -> Result<(), NoMemory>
     ensures { OnOk result (string_bytes out.new
         ≡ string_bytes out.old ++ founders_json founding.now) }
@@ -157,7 +157,7 @@ fn push_founders(out: &mut String, founding: &Founding) -> Result<(), NoMemory>
 }
 
 // Adds the keys of a founding's numbers.
-#[tactic(auto, unfolding(crate::specs::Schedules::numbers_json))]
+#[tactic(auto, unfolding(am_schedules::specs::Schedules::numbers_json))]
 fn push_numbers(out: &mut String, founding: &Founding) -> Result<(), NoMemory>
     ensures { OnOk result (string_bytes out.new
         ≡ string_bytes out.old ++ numbers_json founding.now) }
@@ -171,7 +171,7 @@ fn push_numbers(out: &mut String, founding: &Founding) -> Result<(), NoMemory>
 }
 
 // The text of a script.
-#[tactic(auto, unfolding(crate::specs::Schedules::script_text))]
+#[tactic(auto, unfolding(am_schedules::specs::Schedules::script_text))]
 fn written(alloc: Global, founding: &Founding, events: &[Event]) -> Result<String, NoMemory>
     ensures { IfOk result (λ text. string_bytes text ≡ script_text founding.now events.now) }
 {
@@ -189,7 +189,7 @@ fn written(alloc: Global, founding: &Founding, events: &[Event]) -> Result<Strin
 /// What was done as a script: how the group began, and the events, in one line of JSON without its end, whose run is theirs
 /// (docs/PROTOCOL.md, "Scripts"). Where the founding and the events are within the limits of scripts, it is read as that script
 /// again.
-#[tactic(auto, using(crate::proofs::Again::text_again))]
+#[tactic(auto, using(am_schedules::proofs::Again::text_again))]
 pub fn script_text(alloc: Global, founding: &Founding, events: &[Event]) -> Result<String, NoMemory>
     ensures text { IfOk result (λ text. string_bytes text ≡ script_text founding.now events.now) }
     ensures again { IfOk result (λ text. IsWithin founding.now events.now

@@ -4,16 +4,16 @@ use Rattle.am_written.proofs.ScriptWords.{Some, None, ok_or, option_map_or, All-
 use Rattle.am_written.proofs.ScriptWords.{decode_of, decode_of-ok, items_len, as_array, as_object, Act, Event, RacePlan, ThreadPlan, Kind, Script, BadValue}
 use Rattle.am_written.proofs.ScriptWords.{has_only, Read, ◌>>=◌, founding_in, name_at, IsOfBytes, AreOfBytes, PlaysAreOfBytes, ThreadOfBytes, RacesAreOfBytes}
 use Rattle.serde_json.specs.Data.{Data, Items, no_items, item}
-use Rattle.am_script.specs.declared.kind.Kind.TheVariants.{Send, Done, Take, Join, State, Leave, Reset, Ask, GiveUp, Stop, Tick, Hear, Cut, Return}
-use Rattle.am_script.specs.Values.{value_in, text_in, number_in, number_or, flag_or, are_pairs, bytes_in, body_from}
-use Rattle.am_script.specs.Events.{keys_of, kind_in, send_in, reset_in, give_up_in, cut_in, act_in, event_as, event_from, events_from}
-use Rattle.am_script.specs.Scripts.{script_of, play_keys, parts_of_play, play_from, behind, document_from, document_in, reading}
-use Rattle.am_race_script.specs.Races.{call_keys_of, call_kind_in, call_as, call_from, calls_from, thread_keys, parts_of_thread, thread_from}
-use Rattle.am_race_script.specs.Races.{each_thread, threads_from, of_right_size, most_lost, most_repeated, most_turns, most_calls, calls_of, records_of}
-use Rattle.am_race_script.specs.Races.{race_keys, parts_of_race, race_from, race_document_from, race_reading}
-use Rattle.am_script.proofs.Steps.{same_ok, ok_then, if_ok, object_ok, each_from_within}
+use Rattle.am_schedules.specs.declared.kind.Kind.TheVariants.{Send, Done, Take, Join, State, Leave, Reset, Ask, GiveUp, Stop, Tick, Hear, Cut, Return}
+use Rattle.am_schedules.specs.Values.{value_in, text_in, number_in, number_or, flag_or, are_pairs, bytes_in, body_from}
+use Rattle.am_schedules.specs.Events.{keys_of, kind_in, send_in, reset_in, give_up_in, cut_in, act_in, event_as, event_from, events_from}
+use Rattle.am_schedules.specs.Scripts.{script_of, play_keys, parts_of_play, play_from, behind, document_from, document_in, reading}
+use Rattle.am_schedules.specs.Races.{call_keys_of, call_kind_in, call_as, call_from, calls_from, thread_keys, parts_of_thread, thread_from}
+use Rattle.am_schedules.specs.Races.{each_thread, threads_from, of_right_size, most_lost, most_repeated, most_turns, most_calls, calls_of, records_of}
+use Rattle.am_schedules.specs.Races.{race_keys, parts_of_race, race_from, race_document_from, race_reading}
+use Rattle.am_schedules.proofs.Steps.{same_ok, ok_then, if_ok, object_ok, each_from_within}
 use Rattle.am_group.specs.declared.event.Act.TheVariants as act
-use Rattle.am_script.specs.declared.key.Key.TheVariants as key
+use Rattle.am_schedules.specs.declared.key.Key.TheVariants as key
 
 -- ---- acts
 

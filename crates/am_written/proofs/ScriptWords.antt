@@ -37,11 +37,10 @@ pub use Rattle.am_races.specs.Tags.{of_caller, is_own, is_turn_part, is_check, o
 pub use Rattle.am_races.specs.{Answers.send_answer, Answers.ballot_answer, Answers.request_in, Answers.is_take, Lawful.is_of_race, Lawful.IsLawful}
 pub use Rattle.am_races.specs.{Lawful.terms_of, Legal.IsLegalWithTags, Plans.calls_of, Plans.calls_in, Ready.invite_round, Ready.or_else_round}
 pub use Rattle.am_races.specs.{Ready.round_in, Ready.is_ready, Told.world_after, Turns.lost_by, Turns.is_turn_of, Turns.is_waited, Turns.is_least}
-pub use Rattle.am_script.specs.{Founders.founding_in, Keys.has_only, Limits.IsCount, Limits.ActWithin, Limits.EventWithin, Refusals.Read, Refusals.◌>>=◌}
-pub use Rattle.am_script.specs.{declared.key.Key.Key, declared.kind.Kind.Kind, declared.refusal.ScriptRefusal.TheVariants.BadValue}
-pub use Rattle.am_script.specs.{declared.script.Script.Script}
-pub use Rattle.am_texts.specs.Schedules.{IsOfBytes, AreOfBytes}
-pub use Rattle.am_race_script.specs.Limits.{CallWithin, ThreadWithin, RaceWithin}
+pub use Rattle.am_schedules.specs.{Founders.founding_in, Keys.has_only, Limits.IsCount, Limits.ActWithin, Limits.EventWithin, RaceLimits.CallWithin}
+pub use Rattle.am_schedules.specs.{RaceLimits.ThreadWithin, RaceLimits.RaceWithin, Refusals.Read, Refusals.◌>>=◌, Schedules.IsOfBytes, Schedules.AreOfBytes}
+pub use Rattle.am_schedules.specs.{declared.key.Key.Key, declared.kind.Kind.Kind, declared.refusal.ScriptRefusal.TheVariants.BadValue}
+pub use Rattle.am_schedules.specs.{declared.script.Script.Script}
 pub use Rattle.am_written.specs.{Bodies.PlaysAreOfBytes, Bodies.ThreadOfBytes, Bodies.RacesAreOfBytes, RacedBodies.HasBody, RacedBodies.ThreadHasBodies}
 pub use Rattle.am_written.specs.{RacedBodies.RacesHavePlannedBodies, Scripts.RacesHaveScripts}
 unfoldable pub use Rattle.am_model.specs.{Emit.finish, Node.those, Step.step, Step.row}

@@ -39,7 +39,7 @@ pub use Rattle.am_headline.proofs.{Sound.requests_in_turn}
 pub use Rattle.am_headline.specs.Records.{IsSayable, AsksBytes, returned_as, names_after, HasLife, IsAnswer, IsBack, IsSound, LivesTold, queued_in, queued_by}
 pub use Rattle.am_headline.specs.Records.{requests_given, names_told, AreTold, first_names}
 pub use Rattle.am_headline.specs.{Resiliences.IsRaised, Resiliences.GivesRaised, Resiliences.GaveRaised}
-pub use Rattle.am_texts.specs.Schedules.{IsOfBytes, AreOfBytes, others_json}
+pub use Rattle.am_schedules.specs.Schedules.{IsOfBytes, AreOfBytes, others_json}
 pub use Rattle.am_verdicts.proofs.{Beginnings.line_cut, Segments.count_is_length, Texts.line_taken}
 pub use Rattle.am_verdicts.specs.Lines.{Reading, Line, begins_mark, mark_cut, with_send, with_answer, with_take, with_return, may_event, may_list, may_log}
 pub use Rattle.am_verdicts.specs.Lines.{with_event, read_lines, read_text, nothing_read, is_end, read_on, read_behind}
@@ -59,8 +59,8 @@ unfoldable pub use Rattle.am_play.specs.Text.{resilience_text, entry_text, outco
 unfoldable pub use Rattle.am_play.specs.Text.{kind_word, addressees_text, letter_text, record_line, group_line, log_line, empty_log_line, log_text, logs_text}
 unfoldable pub use Rattle.am_play.specs.Text.{mark_line, play_text, records_text, group_text}
 unfoldable pub use Rattle.am_play.specs.{Lawful.watch, Lawful.watch_all, World.happen}
-unfoldable pub use Rattle.am_texts.specs.Schedules.{life_json, resilience_json, body_json, keys_before, keys_behind, word_json, event_json, list_json}
-unfoldable pub use Rattle.am_texts.specs.Schedules.{events_json, founders_json, numbers_json, script_text}
+unfoldable pub use Rattle.am_schedules.specs.Schedules.{life_json, resilience_json, body_json, keys_before, keys_behind, word_json, event_json, list_json}
+unfoldable pub use Rattle.am_schedules.specs.Schedules.{events_json, founders_json, numbers_json, script_text}
 unfoldable pub use Rattle.am_verdicts.specs.Fields.{data_parts, data_of, resilience_of, view_of, outline_of, data_in, told_number, send_of, answer_of, take_of}
 unfoldable pub use Rattle.am_verdicts.specs.Fields.{return_of}
 unfoldable pub use Rattle.am_verdicts.specs.Lines.{counted, add_event, add_entry, logged, add_log, add_void, add_line}

@@ -5,9 +5,9 @@ use Rattle.am_group.specs.declared.event.Act.{Act}
 use Rattle.am_group.specs.declared.event.Event.{Event}
 use Rattle.am_group.specs.declared.plan.RacePlan.{RacePlan}
 use Rattle.am_group.specs.declared.plan.ThreadPlan.{ThreadPlan}
-use Rattle.am_script.specs.Scripts.{script_of, reading}
-use Rattle.am_race_script.specs.Races.{race_reading}
-use Rattle.am_texts.specs.Schedules.{IsOfBytes, AreOfBytes}
+use Rattle.am_schedules.specs.Scripts.{script_of, reading}
+use Rattle.am_schedules.specs.Races.{race_reading}
+use Rattle.am_schedules.specs.Schedules.{IsOfBytes, AreOfBytes}
 
 -- of a play's events
 abbrev pub PlaysAreOfBytes : Type 0

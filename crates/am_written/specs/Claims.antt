@@ -8,7 +8,7 @@ use Rattle.am_play.specs.Lawful.{watch_run, broken_at}
 use Rattle.am_play.specs.Play.{text_of}
 use Rattle.am_play.specs.Text.{newline}
 use Rattle.am_laws.specs.Bytes.{IsShort}
-use Rattle.am_texts.specs.Schedules.{script_text, AreOfBytes}
+use Rattle.am_schedules.specs.Schedules.{script_text, AreOfBytes}
 use Rattle.am_verdicts.specs.declared.verdict.Verdict.{Verdict}
 use Rattle.am_verdicts.specs.declared.verdict.Verdict.TheVariants as verdicts
 use Rattle.am_verdicts.specs.Lines.{read_text}

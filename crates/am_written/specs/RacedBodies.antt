@@ -5,7 +5,7 @@ use Rattle.am_group.specs.declared.event.Record.{Record}
 use Rattle.am_group.specs.declared.plan.RacePlan.{RacePlan}
 use Rattle.am_group.specs.declared.plan.ThreadPlan.{ThreadPlan}
 use Rattle.am_laws.specs.Bytes.{BodyWithin}
-use Rattle.am_texts.specs.Schedules.{IsOfBytes}
+use Rattle.am_schedules.specs.Schedules.{IsOfBytes}
 use Rattle.am_races.specs.Legal.{IsLegalWithTags}
 use Rattle.am_races.specs.Plans.{calls_of}
 

@@ -3,8 +3,8 @@ use Rattle.std.specs.Prelude.{◌≤◌, List, length, map, All}
 use Rattle.am_base.specs.Most.{most_events}
 use Rattle.am_group.specs.declared.event.Record.{Record}
 use Rattle.am_group.specs.declared.plan.RacePlan.{RacePlan}
-use Rattle.am_script.specs.Limits.{IsWithin}
-use Rattle.am_race_script.specs.Limits.{RaceWithin}
+use Rattle.am_schedules.specs.Limits.{IsWithin}
+use Rattle.am_schedules.specs.RaceLimits.{RaceWithin}
 use Rattle.am_races.specs.Legal.{IsLegalWithTags}
 use Rattle.am_races.specs.Plans.{calls_of}
 use Rattle.am_written.specs.RacedBodies.{ThreadHasBodies}

@@ -1,5 +1,5 @@
 use Rattle.std.proofs.Common.{◌≡◌, ◌*◌, ◌^◌, ◌≤◌, take}
-use Rattle.am_race_script.specs.Races.{calls_of}
+use Rattle.am_schedules.specs.Races.{calls_of}
 use Rattle.am_race_script.proofs.race.calls_of.Given as goal
 
 abbrev pub invariant-loop-thread : goal.invariant-loop-thread

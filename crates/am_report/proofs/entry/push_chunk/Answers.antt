@@ -1,7 +1,8 @@
 use Rattle.std.proofs.Common.{◌∙◌, arith}
 use Rattle.std.specs.Fmt.{WritesInCalls}
 use Rattle.std.proofs.Common.{subst}
-use Rattle.am_report.proofs.Digits.{encoded, digits_are_text}
+use Rattle.am_schedules.proofs.Digits.{encoded}
+use Rattle.am_report.proofs.Digits.{digits_are_text}
 use Rattle.am_report.proofs.entry.push_chunk.Goals as goal
 
 pub unreachable-requires : goal.unreachable-requires

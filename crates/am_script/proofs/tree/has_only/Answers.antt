@@ -1,6 +1,6 @@
 use Rattle.std.proofs.Common.{ap, sym, ◌∙◌}
 use Rattle.std.specs.List.{list_all}
-use Rattle.am_script.specs.Keys.{is_among, has_only}
+use Rattle.am_schedules.specs.Keys.{is_among, has_only}
 use Rattle.am_script.specs.Seen.{seen}
 use Rattle.am_script.proofs.Seeing.{only_seen}
 use Rattle.am_script.proofs.tree.has_only.Goals as goal

@@ -1,6 +1,6 @@
 use Rattle.std.proofs.Common.{◌≡◌, ◌++◌, ◌∙◌, ap, string_bytes}
 use Rattle.am_play.specs.Text.{newline}
-use Rattle.am_texts.specs.Schedules.{script_text}
+use Rattle.am_schedules.specs.Schedules.{script_text}
 use Rattle.am_pump.proofs.Drives.{many_events}
 use Rattle.am_pump.specs.Generating.{events_of_seed}
 use Rattle.am_sim.proofs.Answered.{generated_by}

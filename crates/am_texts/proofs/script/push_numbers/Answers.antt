@@ -1,6 +1,6 @@
 use Rattle.std.proofs.Common.{string_bytes}
 use Rattle.std.proofs.lemmas.Result.{on_ok_weaker}
-use Rattle.am_texts.specs.Schedules.{numbers_json}
+use Rattle.am_schedules.specs.Schedules.{numbers_json}
 use Rattle.am_texts.proofs.Holding.{three}
 use Rattle.am_texts.proofs.script.push_numbers.Goals as goal
 

@@ -1,5 +1,5 @@
 use Rattle.std.proofs.Common.{◌≡◌, ◌++◌, take, string_bytes}
-use Rattle.am_texts.specs.Schedules.{others_json}
+use Rattle.am_schedules.specs.Schedules.{others_json}
 use Rattle.am_texts.proofs.script.push_others.Given as goal
 
 abbrev pub invariant-loop-event : goal.invariant-loop-event

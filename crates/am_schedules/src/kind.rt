@@ -1,5 +1,5 @@
 ghost use Rattle.std.specs.Prelude.{◌≡◌};
-ghost use Rattle.am_script.specs.Events.{kind_of, keys_of};
+ghost use Rattle.am_schedules.specs.Events.{kind_of, keys_of};
 
 use crate::key::Key;
 

@@ -1,6 +1,6 @@
 ghost use Rattle.std.specs.Prelude.{◌≡◌};
-ghost use Rattle.am_script.specs.Refusals.{number_of, place_of};
-ghost use Rattle.am_script.specs.declared.refusal.ScriptRefusal.TheVariants.{NoMemory};
+ghost use Rattle.am_schedules.specs.Refusals.{number_of, place_of};
+ghost use Rattle.am_schedules.specs.declared.refusal.ScriptRefusal.TheVariants.{NoMemory};
 
 use crate::key::Key;
 use std::alloc::AllocError;

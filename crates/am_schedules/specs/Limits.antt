@@ -5,7 +5,7 @@ use Rattle.am_base.specs.Founding.{Rules, MayFound}
 use Rattle.am_group.specs.declared.event.Act.{Act}
 use Rattle.am_group.specs.declared.event.Act.TheVariants as act
 use Rattle.am_group.specs.declared.event.Event.{Event}
-use Rattle.am_script.specs.declared.script.Script.{Script}
+use Rattle.am_schedules.specs.declared.script.Script.{Script}
 
 -- the number of a request, a round or a packet
 abbrev pub IsCount : ℕ → Type 0

@@ -7,10 +7,10 @@ use Rattle.serde_json.specs.Events.{items_len}
 use Rattle.serde_json.specs.Find.{as_array}
 use Rattle.am_base.specs.Names.{IsSet, size, nobody, has, with_name}
 use Rattle.am_base.specs.Founding.{Rules}
-use Rattle.am_script.specs.declared.key.Key.TheVariants as key
-use Rattle.am_script.specs.declared.refusal.ScriptRefusal.TheVariants.{BadValue, OutOfRange}
-use Rattle.am_script.specs.Refusals.{Read, ◌>>=◌}
-use Rattle.am_script.specs.Values.{value_in, number_from, number_or}
+use Rattle.am_schedules.specs.declared.key.Key.TheVariants as key
+use Rattle.am_schedules.specs.declared.refusal.ScriptRefusal.TheVariants.{BadValue, OutOfRange}
+use Rattle.am_schedules.specs.Refusals.{Read, ◌>>=◌}
+use Rattle.am_schedules.specs.Values.{value_in, number_from, number_or}
 
 -- somebody, each with life 1
 pub record AreFounders (names : List ℕ) : Type 0 where

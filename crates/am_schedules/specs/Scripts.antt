@@ -6,15 +6,15 @@ use Rattle.serde_json.specs.Data.{Data}
 use Rattle.serde_json.specs.Read.{read}
 use Rattle.am_base.specs.Founding.{Rules}
 use Rattle.am_group.specs.declared.event.Event.{Event}
-use Rattle.am_script.specs.declared.key.Key.{Key}
-use Rattle.am_script.specs.declared.key.Key.TheVariants as key
-use Rattle.am_script.specs.declared.script.Script.{Script}
-use Rattle.am_script.specs.declared.refusal.ScriptRefusal.TheVariants.{NotJson, Unknown}
-use Rattle.am_script.specs.Keys.{has_only}
-use Rattle.am_script.specs.Refusals.{Read, ◌>>=◌}
-use Rattle.am_script.specs.Values.{of_object, object_with, value_in, flag_or}
-use Rattle.am_script.specs.Founders.{founding_in}
-use Rattle.am_script.specs.Events.{events_from}
+use Rattle.am_schedules.specs.declared.key.Key.{Key}
+use Rattle.am_schedules.specs.declared.key.Key.TheVariants as key
+use Rattle.am_schedules.specs.declared.script.Script.{Script}
+use Rattle.am_schedules.specs.declared.refusal.ScriptRefusal.TheVariants.{NotJson, Unknown}
+use Rattle.am_schedules.specs.Keys.{has_only}
+use Rattle.am_schedules.specs.Refusals.{Read, ◌>>=◌}
+use Rattle.am_schedules.specs.Values.{of_object, object_with, value_in, flag_or}
+use Rattle.am_schedules.specs.Founders.{founding_in}
+use Rattle.am_schedules.specs.Events.{events_from}
 
 abbrev pub play_keys : List Key
 play_keys = key.Founders ∷ key.Resilience ∷ key.Window ∷ key.PbUpTo ∷ key.Settle ∷ key.Events ∷ []

@@ -1,25 +1,24 @@
 -- Races of scripts: threads, each with the calls that it makes at its node.
-use Rattle.std.specs.Prelude.{ℕ, ◌+◌, ◌*◌, ◌&&◌, nat_le, List, [], ◌∷◌, length, sum_by, Bool, true, false, if◌then◌else◌, is_some, Ok, Err}
+use Rattle.std.specs.Prelude.{ℕ, ◌+◌, ◌*◌, ◌&&◌, nat_le, List, [], ◌∷◌, length, sum_by, Bool, true, false, if◌then◌else◌, Ok, Err}
 use Rattle.std.specs.Option.{ok_or, option_map_or}
 use Rattle.am_base.specs.Most.{most_events}
 use Rattle.serde_json.specs.Data.{Data, Items, no_items, item}
 use Rattle.serde_json.specs.Events.{items_len}
-use Rattle.serde_json.specs.Find.{as_array, as_object}
-use Rattle.am_base.specs.Founding.{Rules}
+use Rattle.serde_json.specs.Find.{as_array}
 use Rattle.am_group.specs.declared.event.Act.{Act}
 use Rattle.am_group.specs.declared.plan.ThreadPlan.{ThreadPlan}
 use Rattle.am_group.specs.declared.plan.RacePlan.{RacePlan}
-use Rattle.am_script.specs.declared.key.Key.{Key}
-use Rattle.am_script.specs.declared.key.Key.TheVariants as key
-use Rattle.am_script.specs.declared.kind.Kind.{Kind}
-use Rattle.am_script.specs.declared.kind.Kind.TheVariants.{Send, Take, Join, Leave, Reset, Stop}
-use Rattle.am_script.specs.declared.refusal.ScriptRefusal.TheVariants.{NotJson, Unknown, BadValue, OutOfRange}
-use Rattle.am_script.specs.Keys.{has_only}
-use Rattle.am_script.specs.Refusals.{Read, ◌>>=◌}
-use Rattle.am_script.specs.Values.{of_object, object_with, each_from, value_in, number_in, number_or}
-use Rattle.am_script.specs.Events.{kind_in, act_in}
-use Rattle.am_script.specs.Founders.{founding_in}
-use Rattle.am_script.specs.Scripts.{behind, document_in}
+use Rattle.am_schedules.specs.declared.key.Key.{Key}
+use Rattle.am_schedules.specs.declared.key.Key.TheVariants as key
+use Rattle.am_schedules.specs.declared.kind.Kind.{Kind}
+use Rattle.am_schedules.specs.declared.kind.Kind.TheVariants.{Send, Take, Join, Leave, Reset, Stop}
+use Rattle.am_schedules.specs.declared.refusal.ScriptRefusal.TheVariants.{NotJson, Unknown, BadValue, OutOfRange}
+use Rattle.am_schedules.specs.Keys.{has_only}
+use Rattle.am_schedules.specs.Refusals.{Read, ◌>>=◌}
+use Rattle.am_schedules.specs.Values.{of_object, object_with, each_from, value_in, number_in, number_or}
+use Rattle.am_schedules.specs.Events.{kind_in, act_in}
+use Rattle.am_schedules.specs.Founders.{founding_in}
+use Rattle.am_schedules.specs.Scripts.{behind, document_in}
 
 -- ---- limits
 

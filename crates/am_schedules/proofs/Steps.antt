@@ -7,13 +7,13 @@ use Rattle.std.proofs.lemmas.Bool.{leb-true}
 use Rattle.std.proofs.lemmas.List.Elements.{All-cons}
 use Rattle.serde_json.specs.Data.{Data, Items, no_items, item}
 use Rattle.serde_json.specs.Find.{as_number, as_u64, as_object}
-use Rattle.am_script.specs.declared.key.Key.{Key}
-use Rattle.am_script.specs.declared.refusal.ScriptRefusal.{ScriptRefusal}
-use Rattle.am_script.specs.declared.refusal.ScriptRefusal.TheVariants.{BadValue}
-use Rattle.am_script.specs.Keys.{has_only, value_at}
-use Rattle.am_script.specs.Refusals.{Read, ◌>>=◌, Answers}
-use Rattle.am_script.specs.Scripts.{behind}
-use Rattle.am_script.specs.Values.{of_object, object_with, each_from, value_in, number_from, number_in, number_or}
+use Rattle.am_schedules.specs.declared.key.Key.{Key}
+use Rattle.am_schedules.specs.declared.refusal.ScriptRefusal.{ScriptRefusal}
+use Rattle.am_schedules.specs.declared.refusal.ScriptRefusal.TheVariants.{BadValue}
+use Rattle.am_schedules.specs.Keys.{has_only, value_at}
+use Rattle.am_schedules.specs.Refusals.{Read, ◌>>=◌, Answers}
+use Rattle.am_schedules.specs.Scripts.{behind}
+use Rattle.am_schedules.specs.Values.{of_object, object_with, each_from, value_in, number_from, number_in, number_or}
 
 pub same_ok : {A : Type 0} (x y : A) → (let r : Read A = Ok x in r) ≡ Ok y → x ≡ y
 same_ok x y h = cc

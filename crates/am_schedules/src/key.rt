@@ -1,5 +1,5 @@
 ghost use Rattle.std.specs.Prelude.{◌≡◌};
-ghost use Rattle.am_script.specs.Keys.{word_of};
+ghost use Rattle.am_schedules.specs.Keys.{word_of};
 
 /// The keys of scripts, and `Top` for the whole document.
 #[derive(Clone, Copy)]

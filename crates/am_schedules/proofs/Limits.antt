@@ -1,11 +1,10 @@
 -- Every play keeps to the limits.
-use Rattle.std.proofs.Common.{◌≡◌, ℕ, ◌+◌, ◌*◌, ◌-◌, ◌/◌, ◌%◌, ◌<◌, ◌≤◌, List, [], ◌∷◌, length, get_or, set, Result, Ok, Err, true, false, is_some, ◌&&◌}
+use Rattle.std.proofs.Common.{◌≡◌, ℕ, ◌+◌, ◌/◌, ◌%◌, ◌<◌, ◌≤◌, List, length, get_or, set, Result, Ok, Err, true, false, is_some, ◌&&◌}
 use Rattle.std.proofs.Common.{nat_le, nat_lt, refl, subst, arith, cond, All}
 use Rattle.std.specs.Option.{ok_or}
 use Rattle.std.proofs.lemmas.Bool.{leb-true}
 use Rattle.std.proofs.lemmas.Grind.{common_steps}
 use Rattle.std.proofs.lemmas.List.Sums.{get_or-le-sum_by}
-use Rattle.std.proofs.lemmas.List.Elements.{All-cons}
 use Rattle.am_base.specs.Most.{most_number, most_window, most_body, most_packet}
 use Rattle.hex.specs.Hex.{decode_of}
 use Rattle.hex.proofs.HexLemmas.{decode_of-ok}
@@ -17,20 +16,20 @@ use Rattle.am_group.specs.declared.event.Event.{Event}
 use Rattle.serde_json.specs.Data.{Data, Items, no_items, item}
 use Rattle.serde_json.specs.Events.{items_len}
 use Rattle.serde_json.specs.Find.{as_array, as_object}
-use Rattle.am_script.specs.declared.key.Key.{Key}
-use Rattle.am_script.specs.declared.key.Key.TheVariants as key
-use Rattle.am_script.specs.declared.kind.Kind.{Kind}
-use Rattle.am_script.specs.declared.kind.Kind.TheVariants.{Send, Done, Take, Join, State, Leave, Reset, Ask, GiveUp, Stop, Tick, Hear, Cut, Return}
-use Rattle.am_script.specs.declared.script.Script.{Script}
-use Rattle.am_script.specs.declared.refusal.ScriptRefusal.TheVariants.{BadValue}
-use Rattle.am_script.specs.Keys.{has_only}
-use Rattle.am_script.specs.Refusals.{Read}
-use Rattle.am_script.specs.Values.{value_in, text_in, number_from, number_in, number_or, flag_or, are_pairs, bytes_in, body_from}
-use Rattle.am_script.specs.Events.{keys_of, kind_in, send_in, reset_in, give_up_in, cut_in, act_in, event_as, event_from, events_from}
-use Rattle.am_script.specs.Founders.{AreFounders, each_founder, founders_from, founding_in}
-use Rattle.am_script.specs.Limits.{IsCount, ActWithin, EventWithin, IsWithin, ScriptWithin}
-use Rattle.am_script.specs.Scripts.{play_keys, parts_of_play, play_from}
-use Rattle.am_script.proofs.Steps.{same_ok, ok_then, if_ok, object_ok, none_or, both, each_from_within, number_within, number_in_within, number_or_within}
+use Rattle.am_schedules.specs.declared.key.Key.{Key}
+use Rattle.am_schedules.specs.declared.key.Key.TheVariants as key
+use Rattle.am_schedules.specs.declared.kind.Kind.{Kind}
+use Rattle.am_schedules.specs.declared.kind.Kind.TheVariants.{Send, Done, Take, Join, State, Leave, Reset, Ask, GiveUp, Stop, Tick, Hear, Cut, Return}
+use Rattle.am_schedules.specs.declared.script.Script.{Script}
+use Rattle.am_schedules.specs.declared.refusal.ScriptRefusal.TheVariants.{BadValue}
+use Rattle.am_schedules.specs.Keys.{has_only}
+use Rattle.am_schedules.specs.Refusals.{Read}
+use Rattle.am_schedules.specs.Values.{value_in, text_in, number_from, number_in, number_or, flag_or, are_pairs, bytes_in, body_from}
+use Rattle.am_schedules.specs.Events.{keys_of, kind_in, send_in, reset_in, give_up_in, cut_in, act_in, event_as, event_from, events_from}
+use Rattle.am_schedules.specs.Founders.{AreFounders, each_founder, founders_from, founding_in}
+use Rattle.am_schedules.specs.Limits.{IsCount, ActWithin, EventWithin, ScriptWithin}
+use Rattle.am_schedules.specs.Scripts.{play_keys, parts_of_play, play_from}
+use Rattle.am_schedules.proofs.Steps.{same_ok, ok_then, if_ok, object_ok, none_or, both, each_from_within, number_within, number_in_within, number_or_within}
 
 -- ---- bodies
 

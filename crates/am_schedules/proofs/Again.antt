@@ -11,7 +11,7 @@ use Rattle.std.proofs.lemmas.List.{length-append}
 use Rattle.std.proofs.lemmas.List.Elements.{All-head, All-tail}
 use Rattle.hex.specs.Hex.{IsBytes, decode_of, lower_digits}
 use Rattle.hex.proofs.HexLemmas.{decode_of-encode_lower, length-encode_with}
-use Rattle.am_report.proofs.Digits.{encoded}
+use Rattle.am_schedules.proofs.Digits.{encoded}
 use Rattle.std.proofs.lemmas.Str.{is_utf8-from_IsUtf8, IsUtf8-string_bytes}
 use Rattle.std.proofs.lemmas.List.Sums.{count_by-le-length}
 use Rattle.serde_json.specs.Events.{items_len}
@@ -23,17 +23,17 @@ use Rattle.am_group.specs.declared.event.Act.{Act}
 use Rattle.am_group.specs.declared.event.Act.TheVariants as acts
 use Rattle.am_group.specs.declared.event.Event.{Event}
 use Rattle.am_play.specs.Text.{hex_byte, act_word}
-use Rattle.am_script.specs.declared.key.Key.{Key}
-use Rattle.am_script.specs.declared.key.Key.TheVariants as key
-use Rattle.am_script.specs.Events.{kind_of, kind_in, event_as, event_from, events_from, send_in, reset_in, give_up_in, cut_in, act_in}
-use Rattle.am_script.specs.Founders.{each_founder, founders_from, founding_in}
-use Rattle.am_script.specs.Scripts.{script_of, play_from, parts_of_play, behind, document_from, document_in, reading}
-use Rattle.am_script.specs.Limits.{IsWithin, EventWithin, ActWithin}
-use Rattle.am_script.specs.Values.{each_from, number_from, body_from, is_digit}
-use Rattle.am_texts.proofs.Documents.{count, event_data, events_items, places_items, play_data, document}
-use Rattle.am_texts.specs.Schedules.{IsOfBytes, AreOfBytes, script_text}
-use Rattle.am_texts.proofs.Written.{some_from}
-use Rattle.am_texts.proofs.ReadBack.{reread}
+use Rattle.am_schedules.specs.declared.key.Key.{Key}
+use Rattle.am_schedules.specs.declared.key.Key.TheVariants as key
+use Rattle.am_schedules.specs.Events.{kind_of, kind_in, event_as, event_from, events_from, send_in, reset_in, give_up_in, cut_in, act_in}
+use Rattle.am_schedules.specs.Founders.{each_founder, founders_from, founding_in}
+use Rattle.am_schedules.specs.Scripts.{script_of, play_from, parts_of_play, behind, document_from, document_in, reading}
+use Rattle.am_schedules.specs.Limits.{IsWithin, EventWithin, ActWithin}
+use Rattle.am_schedules.specs.Values.{each_from, number_from, body_from, is_digit}
+use Rattle.am_schedules.proofs.Documents.{count, event_data, events_items, places_items, play_data, document}
+use Rattle.am_schedules.specs.Schedules.{IsOfBytes, AreOfBytes, script_text}
+use Rattle.am_schedules.proofs.Written.{some_from}
+use Rattle.am_schedules.proofs.ReadBack.{reread}
 
 -- ---- numbers
 

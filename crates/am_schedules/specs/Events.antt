@@ -1,21 +1,21 @@
 -- Events of a script.
-use Rattle.std.specs.Prelude.{ℕ, List, [], ◌∷◌, if◌then◌else◌, Option, Some, None, is_some, Ok, Err, codes, bytes_eq}
+use Rattle.std.specs.Prelude.{ℕ, List, [], ◌∷◌, if◌then◌else◌, Option, Some, None, Ok, Err, codes, bytes_eq}
 use Rattle.std.specs.Option.{ok_or}
 use Rattle.am_base.specs.Most.{most_number, most_packet}
 use Rattle.serde_json.specs.Data.{Data}
-use Rattle.serde_json.specs.Find.{as_array, as_object}
+use Rattle.serde_json.specs.Find.{as_array}
 use Rattle.am_base.specs.Names.{name_at}
 use Rattle.am_group.specs.declared.event.Act.{Act}
 use Rattle.am_group.specs.declared.event.Act.TheVariants as act
 use Rattle.am_group.specs.declared.event.Event.{Event}
-use Rattle.am_script.specs.declared.key.Key.{Key}
-use Rattle.am_script.specs.declared.key.Key.TheVariants as key
-use Rattle.am_script.specs.declared.kind.Kind.{Kind}
-use Rattle.am_script.specs.declared.kind.Kind.TheVariants.{Send, Done, Take, Join, State, Leave, Reset, Ask, GiveUp, Stop, Tick, Hear, Cut, Return}
-use Rattle.am_script.specs.declared.refusal.ScriptRefusal.TheVariants.{Unknown, BadValue}
-use Rattle.am_script.specs.Keys.{has_only}
-use Rattle.am_script.specs.Refusals.{Read, ◌>>=◌}
-use Rattle.am_script.specs.Values.{of_object, each_from, text_in, number_in, number_or, body_from}
+use Rattle.am_schedules.specs.declared.key.Key.{Key}
+use Rattle.am_schedules.specs.declared.key.Key.TheVariants as key
+use Rattle.am_schedules.specs.declared.kind.Kind.{Kind}
+use Rattle.am_schedules.specs.declared.kind.Kind.TheVariants.{Send, Done, Take, Join, State, Leave, Reset, Ask, GiveUp, Stop, Tick, Hear, Cut, Return}
+use Rattle.am_schedules.specs.declared.refusal.ScriptRefusal.TheVariants.{Unknown, BadValue}
+use Rattle.am_schedules.specs.Keys.{has_only}
+use Rattle.am_schedules.specs.Refusals.{Read, ◌>>=◌}
+use Rattle.am_schedules.specs.Values.{of_object, each_from, text_in, number_in, number_or, body_from}
 
 -- the first kind that has this word
 abbrev pub named : List ℕ → List (List ℕ × Kind) → Option Kind

@@ -7,11 +7,11 @@ use Rattle.am_base.specs.Most.{most_body}
 use Rattle.hex.specs.Hex.{decode_of}
 use Rattle.serde_json.specs.Data.{Data, Items, no_items, item}
 use Rattle.serde_json.specs.Find.{as_bool, as_str, as_number, as_u64, as_object}
-use Rattle.am_script.specs.declared.key.Key.{Key}
-use Rattle.am_script.specs.declared.key.Key.TheVariants.{Body}
-use Rattle.am_script.specs.declared.refusal.ScriptRefusal.TheVariants.{Missing, Unknown, BadValue, OutOfRange}
-use Rattle.am_script.specs.Keys.{has_only, value_at}
-use Rattle.am_script.specs.Refusals.{Read, ◌>>=◌}
+use Rattle.am_schedules.specs.declared.key.Key.{Key}
+use Rattle.am_schedules.specs.declared.key.Key.TheVariants.{Body}
+use Rattle.am_schedules.specs.declared.refusal.ScriptRefusal.TheVariants.{Missing, Unknown, BadValue, OutOfRange}
+use Rattle.am_schedules.specs.Keys.{has_only, value_at}
+use Rattle.am_schedules.specs.Refusals.{Read, ◌>>=◌}
 
 -- what an object tells
 abbrev pub of_object : {A : Type 0} → Key → ℕ → Data → Read A → Read A

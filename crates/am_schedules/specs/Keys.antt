@@ -4,9 +4,9 @@ use Rattle.std.specs.List.{list_all, list_any}
 use Rattle.std.specs.Option.{option_map_or}
 use Rattle.serde_json.specs.Data.{Data, Members, no_members, member}
 use Rattle.serde_json.specs.Find.{get, as_object}
-use Rattle.am_script.specs.declared.key.Key.{Key}
-use Rattle.am_script.specs.declared.key.Key.TheVariants.{Top, Play, Race, Founders, Resilience, Window, PbUpTo, Settle, Events, Seed, Loss, Repeat, Turns}
-use Rattle.am_script.specs.declared.key.Key.TheVariants.{Threads, Node, Calls, Do, Body, Req, Least, Round, Name, Life, Packet, Keep}
+use Rattle.am_schedules.specs.declared.key.Key.{Key}
+use Rattle.am_schedules.specs.declared.key.Key.TheVariants.{Top, Play, Race, Founders, Resilience, Window, PbUpTo, Settle, Events, Seed, Loss, Repeat, Turns}
+use Rattle.am_schedules.specs.declared.key.Key.TheVariants.{Threads, Node, Calls, Do, Body, Req, Least, Round, Name, Life, Packet, Keep}
 
 -- the word of a key; the whole document has none
 abbrev pub word_of : Key → List ℕ

@@ -15,8 +15,8 @@ use Rattle.am_group.specs.declared.event.Act.{Act}
 use Rattle.am_group.specs.declared.event.Act.TheVariants as acts
 use Rattle.am_group.specs.declared.event.Event.{Event}
 use Rattle.am_play.specs.Text.{hex_byte, act_word, list_text, names_text, name_text}
-use Rattle.am_texts.specs.Schedules.{life_json, resilience_json, body_json, keys_before, word_json, keys_behind, event_json, others_json, list_json, events_json, founders_json, numbers_json, script_text}
-use Rattle.am_texts.proofs.Documents.{count, event_data, body_then, before_node, behind_node, events_items, places_items, document}
+use Rattle.am_schedules.specs.Schedules.{life_json, resilience_json, body_json, keys_before, word_json, keys_behind, event_json, others_json, list_json, events_json, founders_json, numbers_json, script_text}
+use Rattle.am_schedules.proofs.Documents.{count, event_data, body_then, before_node, behind_node, events_items, places_items, document}
 
 -- ---- digits need no escape
 

@@ -6,8 +6,8 @@ use Rattle.am_group.specs.declared.event.Act.{Act}
 use Rattle.am_group.specs.declared.event.Act.TheVariants as act
 use Rattle.am_group.specs.declared.plan.ThreadPlan.{ThreadPlan}
 use Rattle.am_group.specs.declared.plan.RacePlan.{RacePlan}
-use Rattle.am_script.specs.Limits.{ActWithin}
-use Rattle.am_race_script.specs.Races.{most_lost, most_repeated, most_turns, most_calls, calls_of, records_of}
+use Rattle.am_schedules.specs.Limits.{ActWithin}
+use Rattle.am_schedules.specs.Races.{most_lost, most_repeated, most_turns, most_calls, calls_of, records_of}
 
 -- an act that a thread can call for
 abbrev pub CallWithin : Act → Type 0

@@ -22,10 +22,10 @@ use Rattle.am_group.specs.declared.event.Act.{Act}
 use Rattle.am_group.specs.declared.event.Act.TheVariants as acts
 use Rattle.am_group.specs.declared.event.Event.{Event}
 use Rattle.am_play.specs.Text.{act_word}
-use Rattle.am_texts.specs.Schedules.{script_text}
-use Rattle.am_script.specs.Limits.{IsWithin, EventWithin, ActWithin}
-use Rattle.am_texts.proofs.Documents.{count, event_data, events_items, places_items, document}
-use Rattle.am_texts.proofs.Written.{written}
+use Rattle.am_schedules.specs.Schedules.{script_text}
+use Rattle.am_schedules.specs.Limits.{IsWithin, EventWithin, ActWithin}
+use Rattle.am_schedules.proofs.Documents.{count, event_data, events_items, places_items, document}
+use Rattle.am_schedules.proofs.Written.{written}
 
 -- ---- any value whose numbers read back
 

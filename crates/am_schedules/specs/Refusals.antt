@@ -1,7 +1,7 @@
 -- What a refusal says, and answers that may be refused.
 use Rattle.std.specs.Prelude.{◌≡◌, ◌≢◌, ℕ, Result, Ok, Err, MatchResult}
-use Rattle.am_script.specs.declared.refusal.ScriptRefusal.{ScriptRefusal}
-use Rattle.am_script.specs.declared.refusal.ScriptRefusal.TheVariants.{NotJson, Missing, Unknown, BadValue, OutOfRange, NoMemory}
+use Rattle.am_schedules.specs.declared.refusal.ScriptRefusal.{ScriptRefusal}
+use Rattle.am_schedules.specs.declared.refusal.ScriptRefusal.TheVariants.{NotJson, Missing, Unknown, BadValue, OutOfRange, NoMemory}
 
 abbrev pub number_of : ScriptRefusal → ℕ
 number_of NotJson = 1

@@ -1,0 +1,10 @@
+pub mod Keys
+pub mod Refusals
+pub mod Values
+pub mod Founders
+pub mod Events
+pub mod Scripts
+pub mod Limits
+pub mod Races
+pub mod RaceLimits
+pub mod Schedules
