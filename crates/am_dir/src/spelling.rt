@@ -1,9 +1,9 @@
 ghost use Rattle.std.specs.Prelude.{◌≡◌, ◌≤◌, ◌++◌, length, OnOk};
-ghost use Rattle.am_dir.specs.Fields.{field_bytes};
-ghost use Rattle.am_dir.specs.Snapshots.{head_bytes, setting_bytes};
-ghost use Rattle.am_dir.specs.Values.{IsKey};
+ghost use Rattle.am_replicas.specs.Lengths.{field_bytes};
+ghost use Rattle.am_replicas.specs.Snapshots.{head_bytes, setting_bytes};
+ghost use Rattle.am_replicas.specs.Values.{IsKey};
 
-use crate::setting::Setting;
+use am_replicas::setting::Setting;
 use am_base::NoMemory;
 
 /// Adds a field.

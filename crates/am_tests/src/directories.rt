@@ -1,4 +1,4 @@
-use am_dir::applied::Applied;
+use am_replicas::applied::Applied;
 use am_dir::directory::Directory;
 use std::test::*;
 
