@@ -7,10 +7,10 @@ ghost use Rattle.am_replicas.specs.Assembling.{after_entry};
 
 use crate::command::Command;
 use crate::directory::Directory;
-use am_replicas::step::Step;
 use am_base::NoMemory;
 use am_base::body::SentBody;
 use am_base::entry::Entry;
+use am_replicas::step::Step;
 use am_seg::assembler::Assembler;
 use std::alloc::Global;
 

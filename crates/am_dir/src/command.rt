@@ -7,8 +7,8 @@ ghost use Rattle.am_replicas.specs.Values.{most_command, IsKey, IsValue};
 ghost use Rattle.am_replicas.specs.Commands.{command_bytes, command_of, value_in, of_kind, IsCommand};
 
 use crate::field::{Cut, field_in};
-use am_replicas::setting::{MOST_KEY, MOST_VALUE};
 use am_base::body::Body;
+use am_replicas::setting::{MOST_KEY, MOST_VALUE};
 use arrayvec::ArrayVec;
 
 /// The most bytes of a command.

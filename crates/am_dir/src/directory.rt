@@ -8,10 +8,10 @@ ghost use Rattle.am_dir.specs.Kept.{contents_in, Obeys};
 ghost use Rattle.am_dir.specs.Reading.{command_from};
 ghost use Rattle.am_replicas.specs.Values.{IsKey, IsValue};
 
-use am_replicas::applied::Applied;
 use crate::command::Command;
-use am_replicas::setting::{Setting, ValueBytes};
 use am_base::NoMemory;
+use am_replicas::applied::Applied;
+use am_replicas::setting::{Setting, ValueBytes};
 use std::alloc::Global;
 use std::collections::BTreeMap;
 use std::collections::btree_map::Iter;

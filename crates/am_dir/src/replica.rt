@@ -3,9 +3,9 @@ ghost use Rattle.am_replicas.specs.Replicas.{fresh, fed, step_of};
 
 use crate::backlog::{Backlog, apply_entry};
 use crate::directory::Directory;
-use am_replicas::step::Step;
 use am_base::NoMemory;
 use am_base::entry::Entry;
+use am_replicas::step::Step;
 use std::alloc::Global;
 use std::marker::Model;
 

@@ -4,8 +4,8 @@ ghost use Rattle.am_dir.specs.Reading.{cut_read, number_read, setting_read, head
 ghost use Rattle.am_replicas.specs.Snapshots.{limited_in, may_follow, setting_behind, setting_in, head_behind, head_in};
 
 use crate::field::{Cut, Numbered, field_in, number_in, short_number_in};
-use am_replicas::setting::{Setting, ValueBytes};
 use am_base::limits::MOST_NUMBER;
+use am_replicas::setting::{Setting, ValueBytes};
 
 /// A number within its limit; None where there is none.
 #[tactic(auto, unfolding(am_replicas::specs::Snapshots::limited_in))]

@@ -1,11 +1,11 @@
 ghost use Rattle.std.specs.Prelude.{◌≡◌, IfOk, option_map};
 ghost use Rattle.am_replicas.specs.Assembling.{no_parts, taken_at, fed_by, after_data, after_entry, fed_with, ended_from, message_in};
 
-use am_replicas::fed::Fed;
 use crate::room::Room;
 use am_base::NoMemory;
 use am_base::entry::Entry;
 use am_base::name::Name;
+use am_replicas::fed::Fed;
 use std::alloc::Global;
 use std::marker::Model;
 

@@ -1,10 +1,10 @@
 ghost use Rattle.std.specs.Prelude.{◌≡◌, ◌*◌, ◌≤◌, length, vec_capacity};
 ghost use Rattle.std.specs.Option.{ForSome};
 
-use am_replicas::fed::Fed;
 use crate::parts::{MOST_MESSAGE, PartRef, part_in};
 use am_base::NoMemory;
 use am_base::name::Name;
+use am_replicas::fed::Fed;
 use std::alloc::Global;
 
 /// How far a message has come of which some parts came.

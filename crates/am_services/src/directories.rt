@@ -10,10 +10,10 @@ use am_base::NoMemory;
 use am_base::founding::Founding;
 use am_base::name::Name;
 use am_dir::replica::Replica;
-use am_replicas::setting::Setting;
 use am_group::event::Record;
 use am_journal::delivered::given_to;
 use am_journal::journal::Journal;
+use am_replicas::setting::Setting;
 use am_texts::text::{push_body, push_mark, push_name};
 use std::alloc::Global;
 

@@ -1,4 +1,4 @@
-use Rattle.std.proofs.Common.{ℕ, true, false, List}
+use Rattle.std.proofs.Common.{ℕ, List}
 use Rattle.std.proofs.Common.{ap, ◌∙◌, refl}
 use Rattle.std.proofs.lemmas.List.{take_all}
 use Rattle.am_dir.specs.declared.backlog.HeldCommand.{HeldCommand}

@@ -1,4 +1,4 @@
-use Rattle.std.proofs.Common.{◌≡◌, Bool, true, false, cond}
+use Rattle.std.proofs.Common.{◌≡◌, Bool, cond}
 use Rattle.std.proofs.Common.{Some, None, sym, ap, ◌∙◌, subst, inr}
 use Rattle.std.specs.Option.{option_copied}
 use Rattle.am_replicas.specs.Contents.{Contents}
