@@ -3,8 +3,8 @@ use Rattle.std.proofs.Common.{◌≡◌, ℕ, List, [], ◌∷◌, Bool, cond, O
 use Rattle.std.proofs.Common.{Vec}
 use Rattle.std.specs.Ordering.{nat_cmp}
 use Rattle.std.specs.Cmp.Lexicographic.{slice_cmp}
-use Rattle.am_dir.specs.declared.setting.Setting.{Setting}
-use Rattle.am_dir.specs.Contents.{Contents, key_cmp, setting_of, with_setting, without_key}
+use Rattle.am_replicas.specs.declared.setting.Setting.{Setting}
+use Rattle.am_replicas.specs.Contents.{Contents, key_cmp, setting_of, with_setting, without_key}
 use Rattle.am_dir.specs.Kept.{contents_in}
 use Rattle.std.specs.declared.cmp.Ordering.{Ordering}
 use Rattle.std.specs.declared.cmp.Ordering.TheVariants.{Less, Equal, Greater}

@@ -1,10 +1,10 @@
 -- What feeding an entry comes to, by whether the replica waits.
 use Rattle.std.proofs.Common.{◌≡◌, ℕ, List, Option, Some, None, Result, Ok, Err, OnOk, refl, ap, ◌∙◌}
 use Rattle.am_base.specs.declared.entry.Entry.{Entry}
-use Rattle.am_seg.specs.Assembling.{after_entry}
-use Rattle.am_dir.specs.Contents.{Contents, with_entry}
-use Rattle.am_dir.specs.Replicas.{ReplicaState, Waiting, snapshot_for, waiting_with, with_held, arrived, fed_waiting, fed, step_ready, step_arrived}
-use Rattle.am_dir.specs.Replicas.{step_waiting, step_of}
+use Rattle.am_replicas.specs.Assembling.{after_entry}
+use Rattle.am_replicas.specs.Contents.{Contents, with_entry}
+use Rattle.am_replicas.specs.Replicas.{ReplicaState, Waiting, snapshot_for, waiting_with, with_held, arrived, fed_waiting, fed, step_ready, step_arrived}
+use Rattle.am_replicas.specs.Replicas.{step_waiting, step_of}
 
 pub on_ok : {X E P Q : Type 0} (r : Result X E) → (P → Q) → OnOk r P → OnOk r Q
 on_ok (Ok x) f h = f h

@@ -1,10 +1,3 @@
-pub mod CommandLaws
 pub mod Entries
 pub mod Feeding
-pub mod Keeping
-pub mod Limits
 pub mod Loops
-pub mod Ordered
-pub mod ReplicaLaws
-pub mod SnapshotLaws
-pub mod WithinLaws

@@ -1,39 +1,29 @@
 -- What holds in the loops that write a snapshot, read one, and apply what was held.
 use Rattle.std.proofs.Common.{◌≡◌, ℕ, suc, ◌+◌, ◌*◌, ◌-◌, ◌≤◌, ◌<◌, List, [], ◌∷◌, ◌++◌, Bool, true, false, cond, ◌==◌, length, take, Option, Some, None, refl}
-use Rattle.std.proofs.Common.{sym, ap, ◌∙◌, subst, arith, append_assoc, append-nil, length-append, get_or, is_some}
+use Rattle.std.proofs.Common.{sym, ap, ◌∙◌, subst, arith, append_assoc, append-nil, length-append, get_or}
 use Rattle.std.proofs.lemmas.List.{take_more}
 use Rattle.std.specs.Option.{option_map}
 use Rattle.std.specs.List.{All, AllByRecursion, flat_map}
 use Rattle.std.specs.Map.{keys_of, values_of}
-use Rattle.std.specs.declared.cmp.Ordering.TheVariants.{Less, Equal, Greater}
-use Rattle.std.specs.Ordering.{is_lt}
+use Rattle.std.specs.declared.cmp.Ordering.TheVariants.{Less}
 use Rattle.std.specs.Cmp.Lexicographic.{nat_list_cmp_total}
 use Rattle.byteorder.specs.Endian.{big_bytes}
 use Rattle.byteorder.specs.Numbers.{length-bytes_high_first}
-use Rattle.std.specs.declared.cmp.Ordering.{Ordering}
 use Rattle.std.proofs.lemmas.Bool.Decides.{nat_tests}
-use Rattle.am_dir.specs.declared.setting.Setting.{Setting}
-use Rattle.am_dir.specs.Values.{IsKey, IsValue}
-use Rattle.am_dir.specs.Contents.{most_keys, Contents, key_cmp, has_room, with_setting, with_entry, applied, after_read}
-use Rattle.am_dir.specs.Kept.{IsDirectory}
-use Rattle.am_dir.specs.Fields.{◌>>=◌, field_bytes}
-use Rattle.am_dir.specs.Commands.{Command, is_empty, command_of}
-use Rattle.am_dir.specs.Snapshots.{head_bytes, setting_bytes, snapshot_of, most_snapshot, Read, may_follow, setting_in, settings_in}
-use Rattle.am_base.specs.declared.entry.Entry.{Entry}
-use Rattle.am_base.specs.declared.entry.Entry.TheVariants as entries
+use Rattle.am_replicas.specs.declared.setting.Setting.{Setting}
+use Rattle.am_replicas.specs.Values.{IsKey, IsValue}
+use Rattle.am_replicas.specs.Contents.{most_keys, Contents, key_cmp, IsDirectory, has_room, with_setting, applied}
+use Rattle.am_replicas.specs.Lengths.{◌>>=◌, field_bytes}
+use Rattle.am_replicas.specs.Commands.{is_empty}
+use Rattle.am_replicas.specs.Snapshots.{head_bytes, setting_bytes, snapshot_of, most_snapshot, Read, may_follow, setting_in, settings_in}
 use Rattle.am_dir.specs.declared.backlog.HeldCommand.{HeldCommand}
 use Rattle.am_dir.specs.Holding.{held_in}
-use Rattle.am_dir.specs.Replicas.{apply_held, held_with}
-use Rattle.am_dir.proofs.Limits.{read_within}
-use Rattle.am_dir.proofs.Ordered.{insert-last}
+use Rattle.am_replicas.specs.Replicas.{apply_held}
+use Rattle.am_replicas.proofs.Limits.{read_within}
+use Rattle.am_replicas.proofs.Ordered.{insert-last}
+use Rattle.am_replicas.proofs.SnapshotLaws.{is_less, all_first, all_rest}
 
 -- ---- a snapshot is written
-
-pub all_first : {X : Type 0} (P : X → Type 0) (x : X) (xs : List X) → All P (x ∷ xs) → P x
-all_first P x xs all = all 0 x (omega arith)
-
-pub all_rest : {X : Type 0} (P : X → Type 0) (x : X) (xs : List X) → All P (x ∷ xs) → All P xs
-all_rest P x xs all k d below = all (suc k) d (omega (arith, below))
 
 -- what is written so far goes on to the whole, and what is left is within its limits
 pub record Written (bytes : List ℕ) (rest : Contents) (whole : List ℕ) : Type 0 where
@@ -147,11 +137,6 @@ all_chain : {X : Type 0} (low high : List ℕ) (es : List (List ℕ × X)) → k
 all_chain low high [] less all = tt
 all_chain low high (e ∷ es) less all = (nat_list_cmp_total.trans e.0 low high all.0 less, all_chain low high es less all.1)
 
-pub is_less : (o : Ordering) → is_lt o ≡ true → o ≡ Less
-is_less Less h = refl
-is_less Equal h = cc
-is_less Greater h = cc
-
 pub restored_more : (count : ℕ) (bytes : List ℕ) (read : ℕ) (last : Option (List ℕ)) (rest : List ℕ) (contents new : Contents) (first : Read)
     → Restored count bytes read last rest contents
     → read < count → setting_in last rest ≡ Some first → new ≡ with_setting contents first.key first.setting
@@ -206,27 +191,6 @@ pub held_step : (contents : Contents) (held : List HeldCommand) (i : ℕ) (h : H
 held_step contents held i h before new so below is e =
     let more : take (i + 1) held ≡ take i held ++ h ∷ [] = take_more held i h below ∙ ap (λ x. take i held ++ x ∷ []) (sym is) in
     e ∙ ap (λ c. applied c h.number h.body) so ∙ sym (held_push contents (take i held) h) ∙ ap (λ xs. apply_held contents (held_in xs)) (sym more)
-
-held_more : (c : Contents) (held : List (ℕ × List ℕ)) (pair : ℕ × List ℕ) → apply_held c (held ++ pair ∷ []) ≡ applied (apply_held c held) pair.0 pair.1
-held_more c [] pair = refl
-held_more c (first ∷ held) pair = held_more (applied c first.0 first.1) held pair
-
-held_body : (contents : Contents) (held : List (ℕ × List ℕ)) (number : ℕ) (body : List ℕ) (o : Option Command) → command_of body ≡ o
-    → applied (apply_held contents held) number body ≡ apply_held contents (cond (is_some (command_of body)) (held ++ (number, body) ∷ []) held)
-held_body contents held number body None h =
-    ap (λ (o : Option Command). after_read (apply_held contents held) number o) h
-    ∙ ap (λ (o : Option Command). apply_held contents (cond (is_some o) (held ++ (number, body) ∷ []) held)) (sym h)
-held_body contents held number body (Some command) h =
-    sym (held_more contents held (number, body)) ∙ ap (λ (o : Option Command). apply_held contents (cond (is_some o) (held ++ (number, body) ∷ []) held))
-    (sym h)
-
--- an entry's body applied, where it is a command, and else nothing
-pub held_entry : (contents : Contents) (held : List (ℕ × List ℕ)) (number : ℕ) (entry : Entry)
-    → with_entry (apply_held contents held) (number, entry) ≡ apply_held contents (held_with held number entry)
-held_entry contents held number (entries.Data from req body) = held_body contents held number body (command_of body) refl
-held_entry contents held number (entries.Join name) = refl
-held_entry contents held number (entries.Leave name) = refl
-held_entry contents held number (entries.View v) = refl
 
 pub is_empty_by_length : (xs : List ℕ) → (length xs == 0) ≡ is_empty xs
 is_empty_by_length [] = refl

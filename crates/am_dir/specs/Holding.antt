@@ -4,7 +4,7 @@ use Rattle.std.specs.Option.{option_map}
 use Rattle.am_dir.specs.declared.backlog.HeldCommand.{HeldCommand}
 use Rattle.am_dir.specs.declared.backlog.Backlog.{Backlog}
 use Rattle.am_dir.specs.declared.replica.Replica.TheInside.{Inside}
-use Rattle.am_dir.specs.Replicas.{Waiting, ReplicaState}
+use Rattle.am_replicas.specs.Replicas.{Waiting, ReplicaState}
 
 abbrev pub held_in : List HeldCommand → List (ℕ × List ℕ)
 held_in held = map (λ command. (command.number, command.body)) held

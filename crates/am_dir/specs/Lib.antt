@@ -1,9 +1,3 @@
-pub mod Commands
-pub mod Contents
-pub mod Fields
 pub mod Holding
 pub mod Kept
 pub mod Reading
-pub mod Replicas
-pub mod Snapshots
-pub mod Values

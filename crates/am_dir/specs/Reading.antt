@@ -1,10 +1,19 @@
 -- What stands in bytes, as the definitions have it.
+use Rattle.am_dir.specs.declared.command.Command as declared
+use Rattle.am_dir.specs.declared.command.Command.TheVariants as commands
 use Rattle.am_dir.specs.declared.field.Cut as cuts
 use Rattle.am_dir.specs.declared.field.Numbered as numbers
 use Rattle.am_dir.specs.declared.restoring.SettingRef as settings
 use Rattle.am_dir.specs.declared.restoring.HeadRef as heads
-use Rattle.am_dir.specs.Fields.{Cut, Numbered}
-use Rattle.am_dir.specs.Snapshots.{Read, Head}
+use Rattle.am_replicas.specs.Lengths.{Cut, Numbered}
+use Rattle.am_replicas.specs.Commands.{Command, Put, Delete, Claim}
+use Rattle.am_replicas.specs.Snapshots.{Read, Head}
+
+-- the command over slices that a call takes or gives
+abbrev pub command_from : declared.Command → Command
+command_from (commands.Put key value) = Put key.now value.now
+command_from (commands.Delete key) = Delete key.now
+command_from (commands.Claim key value) = Claim key.now value.now
 
 abbrev pub cut_read : cuts.Cut → Cut
 cut_read cut = record { field = cut.field.now; rest = cut.rest.now }

@@ -1,16 +1,16 @@
 ghost use Rattle.std.specs.Prelude.{◌≡◌, IfOk, OnOk, OnErr, ℕ};
 ghost use Rattle.std.specs.Option.{option_map};
-ghost use Rattle.am_dir.specs.Contents.{with_entry};
-ghost use Rattle.am_dir.specs.Replicas.{begin_waiting, apply_held, held_with, snapshot_for, for_message, step_ready, step_held, with_held, waiting_with};
+ghost use Rattle.am_replicas.specs.Contents.{with_entry};
+ghost use Rattle.am_replicas.specs.Replicas.{begin_waiting, apply_held, held_with, snapshot_for, for_message, step_ready, step_held, with_held, waiting_with};
 ghost use Rattle.am_dir.specs.Holding.{held_in, waiting_in};
-ghost use Rattle.am_seg.specs.Assembling.{after_entry};
+ghost use Rattle.am_replicas.specs.Assembling.{after_entry};
 
 use crate::command::Command;
 use crate::directory::Directory;
-use crate::step::Step;
 use am_base::NoMemory;
 use am_base::body::SentBody;
 use am_base::entry::Entry;
+use am_replicas::step::Step;
 use am_seg::assembler::Assembler;
 use std::alloc::Global;
 

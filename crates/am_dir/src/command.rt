@@ -1,14 +1,14 @@
 ghost use Rattle.std.specs.Prelude.{◌≡◌, ◌+◌, ◌≤◌, ◌<◌, ◌↔◌, ◌∷◌, ◌++◌, length, IsSome, IfSome, IsTrue};
 ghost use Rattle.std.specs.Option.{option_map, option_copied};
 ghost use Rattle.arrayvec.specs.ArrayVec.{array_vec_len};
-ghost use Rattle.am_dir.specs.Fields.{field_bytes};
-ghost use Rattle.am_dir.specs.Reading.{cut_read};
-ghost use Rattle.am_dir.specs.Values.{most_command, IsKey, IsValue};
-ghost use Rattle.am_dir.specs.Commands.{command_from, command_bytes, command_of, value_in, of_kind, IsCommand};
+ghost use Rattle.am_replicas.specs.Lengths.{field_bytes};
+ghost use Rattle.am_dir.specs.Reading.{command_from, cut_read};
+ghost use Rattle.am_replicas.specs.Values.{most_command, IsKey, IsValue};
+ghost use Rattle.am_replicas.specs.Commands.{command_bytes, command_of, value_in, of_kind, IsCommand};
 
 use crate::field::{Cut, field_in};
-use crate::setting::{MOST_KEY, MOST_VALUE};
 use am_base::body::Body;
+use am_replicas::setting::{MOST_KEY, MOST_VALUE};
 use arrayvec::ArrayVec;
 
 /// The most bytes of a command.
@@ -26,7 +26,7 @@ pub enum Command<'a> {
 }
 
 /// A value with nothing behind it; None where there is none.
-#[tactic(auto, unfolding(crate::specs::Commands::value_in))]
+#[tactic(auto, unfolding(am_replicas::specs::Commands::value_in))]
 fn value_in(bytes: &[u8]) -> Option<&[u8]>
     ensures { option_copied result ≡ value_in bytes.entry.now }
 {
@@ -39,7 +39,7 @@ fn value_in(bytes: &[u8]) -> Option<&[u8]>
 }
 
 /// The command of a kind, a key and the bytes behind that; None where there is none.
-#[tactic(auto, unfolding(crate::specs::Commands::of_kind))]
+#[tactic(auto, unfolding(am_replicas::specs::Commands::of_kind))]
 fn of_kind(kind: u8, key: Cut<'_>) -> Option<Command<'_>>
     ensures { option_map command_from result ≡ of_kind kind (cut_read key.entry) }
 {
@@ -106,7 +106,7 @@ fn valued(kind: u8, key: &[u8], value: &[u8]) -> Option<Body>
 
 impl<'a> Command<'a> {
     /// The command that a body is; None exactly where it is none.
-    #[tactic(auto, unfolding(crate::specs::Commands::command_of))]
+    #[tactic(auto, unfolding(am_replicas::specs::Commands::command_of))]
     pub fn read(body: &'a [u8]) -> Option<Command<'a>>
         ensures { option_map command_from result ≡ command_of body.entry.now }
     {

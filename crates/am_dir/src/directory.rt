@@ -1,16 +1,17 @@
 ghost use Rattle.std.specs.Prelude.{◌≡◌, ◌≤◌, [], length, IfOk, OnOk, OnErr, Vec, ℕ, IsTrue, ◌⊎◌};
 ghost use Rattle.std.specs.Option.{option_copied};
 ghost use Rattle.std.specs.Map.Iter.{ShowsInOrder, deref_pair};
-ghost use Rattle.am_dir.specs.declared.setting.Setting.{Setting};
-ghost use Rattle.am_dir.specs.Contents.{most_keys, applied, answer_of, setting_of, has_key, has_room, with_setting, without_key};
-ghost use Rattle.am_dir.specs.Commands.{Put, Claim, command_from, IsCommand};
-ghost use Rattle.am_dir.specs.Kept.{contents_in, IsDirectory, Obeys};
-ghost use Rattle.am_dir.specs.Values.{IsKey, IsValue};
+ghost use Rattle.am_replicas.specs.declared.setting.Setting.{Setting};
+ghost use Rattle.am_replicas.specs.Contents.{most_keys, IsDirectory, applied, answer_of, setting_of, has_key, has_room, with_setting, without_key};
+ghost use Rattle.am_replicas.specs.Commands.{Put, Claim, IsCommand};
+ghost use Rattle.am_dir.specs.Kept.{contents_in, Obeys};
+ghost use Rattle.am_dir.specs.Reading.{command_from};
+ghost use Rattle.am_replicas.specs.Values.{IsKey, IsValue};
 
-use crate::applied::Applied;
 use crate::command::Command;
-use crate::setting::{Setting, ValueBytes};
 use am_base::NoMemory;
+use am_replicas::applied::Applied;
+use am_replicas::setting::{Setting, ValueBytes};
 use std::alloc::Global;
 use std::collections::BTreeMap;
 use std::collections::btree_map::Iter;
@@ -28,8 +29,8 @@ pub struct Directory {
 }
 
 impl Model for Directory {
-    ghost use Rattle.am_dir.specs.Contents.{Contents};
-    ghost use Rattle.am_dir.specs.Kept.{contents_in, IsDirectory};
+    ghost use Rattle.am_replicas.specs.Contents.{Contents, IsDirectory};
+    ghost use Rattle.am_dir.specs.Kept.{contents_in};
 
     ghost Value = { Contents };
 

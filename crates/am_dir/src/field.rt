@@ -1,6 +1,6 @@
 ghost use Rattle.std.specs.Prelude.{◌≡◌, ◌≤◌};
 ghost use Rattle.std.specs.Option.{option_map};
-ghost use Rattle.am_dir.specs.Fields.{cut_at, field_in, number_in};
+ghost use Rattle.am_replicas.specs.Lengths.{cut_at, field_in, number_in};
 ghost use Rattle.am_dir.specs.Reading.{cut_read, number_read};
 
 use byteorder::{BigEndian, ByteOrder};
@@ -13,7 +13,7 @@ pub struct Cut<'a> {
 }
 
 /// So many bytes; None where there are fewer.
-#[tactic(auto, unfolding(crate::specs::Fields::cut_at))]
+#[tactic(auto, unfolding(am_replicas::specs::Lengths::cut_at))]
 fn cut_at(bytes: &[u8], count: usize) -> Option<Cut<'_>>
     ensures { option_map cut_read result ≡ cut_at count bytes.entry.now }
 {
@@ -27,7 +27,7 @@ fn cut_at(bytes: &[u8], count: usize) -> Option<Cut<'_>>
 }
 
 /// A field of a length within these two; None where there is none.
-#[tactic(auto, unfolding(crate::specs::Fields::field_in))]
+#[tactic(auto, unfolding(am_replicas::specs::Lengths::field_in))]
 pub fn field_in(bytes: &[u8], least: u8, most: u8) -> Option<Cut<'_>>
     ensures { option_map cut_read result ≡ field_in least most bytes.entry.now }
 {
@@ -50,7 +50,7 @@ pub struct Numbered<'a> {
 }
 
 /// A number of so many bytes; None where there are fewer.
-#[tactic(auto, unfolding(crate::specs::Fields::number_in))]
+#[tactic(auto, unfolding(am_replicas::specs::Lengths::number_in))]
 fn uint_in(bytes: &[u8], count: usize) -> Option<Numbered<'_>>
     requires { (1 ≤ count) × (count ≤ 4) }
     ensures { option_map number_read result ≡ number_in count bytes.entry.now }

@@ -1,11 +1,11 @@
 ghost use Rattle.std.specs.Prelude.{◌≡◌, IfOk, OnOk, OnErr, is_none};
-ghost use Rattle.am_dir.specs.Replicas.{fresh, fed, step_of};
+ghost use Rattle.am_replicas.specs.Replicas.{fresh, fed, step_of};
 
 use crate::backlog::{Backlog, apply_entry};
 use crate::directory::Directory;
-use crate::step::Step;
 use am_base::NoMemory;
 use am_base::entry::Entry;
+use am_replicas::step::Step;
 use std::alloc::Global;
 use std::marker::Model;
 
@@ -21,7 +21,7 @@ pub struct Replica {
 }
 
 impl Model for Replica {
-    ghost use Rattle.am_dir.specs.Replicas.{ReplicaState};
+    ghost use Rattle.am_replicas.specs.Replicas.{ReplicaState};
     ghost use Rattle.am_dir.specs.Holding.{state_of};
 
     ghost Value = { ReplicaState };

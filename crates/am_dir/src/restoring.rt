@@ -1,14 +1,14 @@
 ghost use Rattle.std.specs.Prelude.{◌≡◌};
 ghost use Rattle.std.specs.Option.{option_map, option_copied};
 ghost use Rattle.am_dir.specs.Reading.{cut_read, number_read, setting_read, head_read};
-ghost use Rattle.am_dir.specs.Snapshots.{limited_in, may_follow, setting_behind, setting_in, head_behind, head_in};
+ghost use Rattle.am_replicas.specs.Snapshots.{limited_in, may_follow, setting_behind, setting_in, head_behind, head_in};
 
 use crate::field::{Cut, Numbered, field_in, number_in, short_number_in};
-use crate::setting::{Setting, ValueBytes};
 use am_base::limits::MOST_NUMBER;
+use am_replicas::setting::{Setting, ValueBytes};
 
 /// A number within its limit; None where there is none.
-#[tactic(auto, unfolding(crate::specs::Snapshots::limited_in))]
+#[tactic(auto, unfolding(am_replicas::specs::Snapshots::limited_in))]
 fn limited_in(bytes: &[u8]) -> Option<Numbered<'_>>
     ensures { option_map number_read result ≡ limited_in bytes.entry.now }
 {
@@ -39,7 +39,7 @@ pub struct SettingRef<'a> {
 }
 
 /// What a key has, behind it; None where there is nothing such.
-#[tactic(auto, using(crate::proofs::Limits::is_value), unfolding(crate::specs::Snapshots::setting_behind))]
+#[tactic(auto, using(am_replicas::proofs::Limits::is_value), unfolding(am_replicas::specs::Snapshots::setting_behind))]
 fn setting_behind(key: Cut<'_>) -> Option<SettingRef<'_>>
     ensures { option_map setting_read result ≡ setting_behind (cut_read key.entry) }
 {
@@ -56,7 +56,7 @@ fn setting_behind(key: Cut<'_>) -> Option<SettingRef<'_>>
 }
 
 /// The first key with what it has, behind the last key; None where there is none.
-#[tactic(auto, unfolding(crate::specs::Snapshots::setting_in))]
+#[tactic(auto, unfolding(am_replicas::specs::Snapshots::setting_in))]
 pub fn setting_in<'a>(last: Option<&'a [u8]>, bytes: &'a [u8]) -> Option<SettingRef<'a>>
     ensures { option_map setting_read result
         ≡ setting_in (option_copied last.entry) bytes.entry.now }
@@ -78,7 +78,7 @@ pub struct HeadRef<'a> {
 }
 
 /// The head of a snapshot, behind its first byte; None where there is none.
-#[tactic(auto, unfolding(crate::specs::Snapshots::head_behind))]
+#[tactic(auto, unfolding(am_replicas::specs::Snapshots::head_behind))]
 fn head_behind(bytes: &[u8]) -> Option<HeadRef<'_>>
     ensures { option_map head_read result ≡ head_behind bytes.entry.now }
 {
@@ -96,7 +96,7 @@ fn head_behind(bytes: &[u8]) -> Option<HeadRef<'_>>
 }
 
 /// The head of a snapshot; None where there is none.
-#[tactic(auto, unfolding(crate::specs::Snapshots::head_in))]
+#[tactic(auto, unfolding(am_replicas::specs::Snapshots::head_in))]
 pub fn head_in(bytes: &[u8]) -> Option<HeadRef<'_>>
     ensures { option_map head_read result ≡ head_in bytes.entry.now }
 {

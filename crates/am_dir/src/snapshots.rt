@@ -1,6 +1,6 @@
 ghost use Rattle.std.specs.Prelude.{◌≡◌, ◌≤◌, length, IfOk, None};
-ghost use Rattle.am_dir.specs.Contents.{most_keys};
-ghost use Rattle.am_dir.specs.Snapshots.{most_snapshot, snapshot_of, snapshot_in, settings_in};
+ghost use Rattle.am_replicas.specs.Contents.{most_keys};
+ghost use Rattle.am_replicas.specs.Snapshots.{most_snapshot, snapshot_of, snapshot_in, settings_in};
 
 use crate::directory::Directory;
 use crate::restoring::{head_in, setting_in};

@@ -1,10 +1,10 @@
 ghost use Rattle.std.specs.Prelude.{◌≡◌, ◌≤◌, ◌++◌, length, OnOk};
-ghost use Rattle.am_dir.specs.Fields.{field_bytes};
-ghost use Rattle.am_dir.specs.Snapshots.{head_bytes, setting_bytes};
-ghost use Rattle.am_dir.specs.Values.{IsKey};
+ghost use Rattle.am_replicas.specs.Lengths.{field_bytes};
+ghost use Rattle.am_replicas.specs.Snapshots.{head_bytes, setting_bytes};
+ghost use Rattle.am_replicas.specs.Values.{IsKey};
 
-use crate::setting::Setting;
 use am_base::NoMemory;
+use am_replicas::setting::Setting;
 
 /// Adds a field.
 fn push_field(bytes: &mut Vec<u8>, field: &[u8]) -> Result<(), NoMemory>

@@ -12,14 +12,14 @@ pub use Rattle.am_base.proofs.{Rows.same_name, Rows.low_or_above}
 pub use Rattle.am_base.specs.{Founding.Rules, Founding.MayFound, Limits.IsNumber, Most.most_number, Names.place_of, Names.has, Names.life_of, Whole.IsGood}
 pub use Rattle.am_base.specs.{Whole.Begins, Whole.image_of, declared.entry.Entry.Entry, declared.entry.Entry.TheVariants.Data}
 pub use Rattle.am_base.specs.{declared.entry.Entry.TheVariants.Join, declared.entry.Entry.TheVariants.Leave, declared.entry.Entry.TheVariants.View}
-pub use Rattle.am_seg.proofs.Endings.{length-parts_from, first_parts, first_parts-none, first_parts-of, all_first}
-pub use Rattle.am_seg.proofs.{Ends.cut_at, Ends.slice_get-take, Ends.messages_end, Ends.from_place-more, Ends.sent_own, Spelled.sized}
-pub use Rattle.am_seg.specs.{Messages.entries_of, Messages.sent_from, Messages.parts_from, Messages.EndsAt, Parts.part_count, Parts.part_of}
-pub use Rattle.am_dir.proofs.{Keeping.empty_is, ReplicaLaws.fold_push, SnapshotLaws.snapshot_reads, WithinLaws.stay_within}
-pub use Rattle.am_dir.specs.{Contents.Contents, Contents.with_entry, Contents.contents_from, Contents.contents_after, Replicas.or_else, Replicas.for_join}
-pub use Rattle.am_dir.specs.{Replicas.snapshot_for, Replicas.first_behind, Snapshots.IsContents, Snapshots.snapshot_of, Snapshots.snapshot_in}
 pub use Rattle.am_group.proofs.Places.{get_before}
 pub use Rattle.am_group.specs.{Deliveries.deliveries, Journals.item_at, declared.event.Event.Event, declared.event.Record.Record}
+pub use Rattle.am_replicas.proofs.Endings.{length-parts_from, first_parts, first_parts-none, first_parts-of, all_first}
+pub use Rattle.am_replicas.proofs.{Ends.cut_at, Ends.slice_get-take, Ends.messages_end, Ends.from_place-more, Ends.sent_own, Spelled.sized}
+pub use Rattle.am_replicas.proofs.{Keeping.empty_is, ReplicaLaws.fold_push, SnapshotLaws.snapshot_reads, WithinLaws.stay_within}
+pub use Rattle.am_replicas.specs.{Messages.entries_of, Messages.sent_from, Messages.parts_from, Messages.EndsAt, Parts.part_count, Parts.part_of}
+pub use Rattle.am_replicas.specs.{Contents.Contents, Contents.with_entry, Contents.contents_from, Contents.contents_after, Replicas.or_else, Replicas.for_join}
+pub use Rattle.am_replicas.specs.{Replicas.snapshot_for, Replicas.first_behind, Snapshots.IsContents, Snapshots.snapshot_of, Snapshots.snapshot_in}
 pub use Rattle.am_model.specs.{Node.founders_view, Step.step}
 pub use Rattle.am_play.proofs.{Beginnings.runs_begin, Runs.front_is_lawful}
 pub use Rattle.am_play.specs.{Claims.IsSegment, Claims.BeginsAt, Claims.Segment, Claims.IsSend, Lawful.lawful_front, World.World, World.start, World.run}
@@ -34,6 +34,6 @@ pub use Rattle.am_replicated.specs.AssembledClaims.{front_of, DeliveredMessagesE
 pub use Rattle.am_replicated.specs.Claims.{last_number, contents_up_to, FoundersHold, JoinerHolds, JoinersHold, ReplicasHold, NoneBefore}
 pub use Rattle.am_replicated.specs.Claims.{SentSnapshotsRestore, NoSnapshot}
 unfoldable pub use Rattle.am_base.specs.Whole.{mem}
-unfoldable pub use Rattle.am_seg.specs.Messages.{from_place, message_at}
-unfoldable pub use Rattle.am_dir.specs.Replicas.{first_snapshot, replica_contents}
+unfoldable pub use Rattle.am_replicas.specs.Messages.{from_place, message_at}
+unfoldable pub use Rattle.am_replicas.specs.Replicas.{first_snapshot, replica_contents}
 unfoldable pub use Rattle.am_play.specs.World.{happen, with_record, with_step}

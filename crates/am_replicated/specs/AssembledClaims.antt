@@ -10,8 +10,8 @@ use Rattle.am_play.specs.World.{World, run}
 use Rattle.am_play.specs.Group.{accepted_sends}
 use Rattle.am_play.specs.Claims.{BeginsAt, IsSend}
 use Rattle.am_play.specs.Lawful.{lawful_front}
-use Rattle.am_seg.specs.Parts.{most_message, part_count, part_of}
-use Rattle.am_seg.specs.Messages.{entries_of, from_place, EndsAt}
+use Rattle.am_replicas.specs.Parts.{most_message, part_count, part_of}
+use Rattle.am_replicas.specs.Messages.{entries_of, from_place, EndsAt}
 
 -- what a name was given
 abbrev pub given_in : World → ℕ → List Entry

@@ -10,12 +10,12 @@ use Rattle.am_model.specs.Node.{has_log}
 use Rattle.am_play.specs.World.{World, run}
 use Rattle.am_play.specs.Lawful.{lawful_front}
 use Rattle.am_play.specs.Claims.{BeginsAt}
-use Rattle.am_seg.specs.Parts.{part_count}
-use Rattle.am_seg.specs.Messages.{entries_of, from_place, message_at}
+use Rattle.am_replicas.specs.Parts.{part_count}
+use Rattle.am_replicas.specs.Messages.{entries_of, from_place, message_at}
 use Rattle.am_replicated.specs.AssembledClaims.{SentInParts}
-use Rattle.am_dir.specs.Contents.{Contents, contents_after}
-use Rattle.am_dir.specs.Snapshots.{snapshot_of, snapshot_in}
-use Rattle.am_dir.specs.Replicas.{first_snapshot, replica_contents}
+use Rattle.am_replicas.specs.Contents.{Contents, contents_after}
+use Rattle.am_replicas.specs.Snapshots.{snapshot_of, snapshot_in}
+use Rattle.am_replicas.specs.Replicas.{first_snapshot, replica_contents}
 
 -- the number of the last of some entries; this number, where there are none
 abbrev pub last_number : ℕ → List (ℕ × Entry) → ℕ

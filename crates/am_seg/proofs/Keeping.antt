@@ -5,9 +5,9 @@ use Rattle.std.proofs.lemmas.List.{map-set, get_or-set_same, get_or-map}
 use Rattle.std.proofs.lemmas.Option.{slice_get-get_or}
 use Rattle.std.specs.Prelude.{slice_get}
 use Rattle.am_base.specs.Names.{place_of}
-use Rattle.am_seg.specs.declared.fed.Fed.TheVariants as feds
+use Rattle.am_replicas.specs.declared.fed.Fed.TheVariants as feds
 use Rattle.am_seg.specs.declared.room.Room.{Room}
-use Rattle.am_seg.specs.Assembling.{Assembly, Taken, plain, passed, part, whole, ended_by, fed_by, taken_with, taken_at, after_data}
+use Rattle.am_replicas.specs.Assembling.{Assembly, Taken, plain, passed, part, whole, ended_by, fed_by, taken_with, taken_at, after_data}
 use Rattle.am_seg.specs.Rooms.{begun_in, Keeps, ended_in}
 
 room_there : (rooms : List Room) (place : ℕ) (room : Room) → place < length rooms → slice_get (set rooms place room) place ≡ Some room

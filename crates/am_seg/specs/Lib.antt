@@ -1,4 +1,2 @@
-pub mod Parts
-pub mod Messages
-pub mod Assembling
+pub mod Reading
 pub mod Rooms

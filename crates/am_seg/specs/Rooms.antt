@@ -4,7 +4,7 @@ use Rattle.am_base.specs.Names.{place_of}
 use Rattle.am_seg.specs.declared.room.Unfinished.{Unfinished}
 use Rattle.am_seg.specs.declared.room.Room.{Room}
 use Rattle.am_seg.specs.declared.assembler.Assembler.TheInside.{Inside}
-use Rattle.am_seg.specs.Assembling.{Begun, Assembly, Taken, plain, passed, part, whole, begun_by}
+use Rattle.am_replicas.specs.Assembling.{Begun, Assembly, Taken, plain, passed, part, whole, begun_by}
 
 abbrev pub begun_with : List ℕ → Option Unfinished → Option Begun
 begun_with bytes None = None

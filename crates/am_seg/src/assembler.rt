@@ -1,11 +1,11 @@
 ghost use Rattle.std.specs.Prelude.{◌≡◌, IfOk, option_map};
-ghost use Rattle.am_seg.specs.Assembling.{no_parts, taken_at, fed_by, after_data, after_entry, fed_with, ended_from, message_in};
+ghost use Rattle.am_replicas.specs.Assembling.{no_parts, taken_at, fed_by, after_data, after_entry, fed_with, ended_from, message_in};
 
-use crate::fed::Fed;
 use crate::room::Room;
 use am_base::NoMemory;
 use am_base::entry::Entry;
 use am_base::name::Name;
+use am_replicas::fed::Fed;
 use std::alloc::Global;
 use std::marker::Model;
 
@@ -21,7 +21,7 @@ pub struct Assembler {
 }
 
 impl Model for Assembler {
-    ghost use Rattle.am_seg.specs.Assembling.{Assembly};
+    ghost use Rattle.am_replicas.specs.Assembling.{Assembly};
 
     ghost Value = { Assembly };
 
@@ -60,7 +60,7 @@ impl Assembler {
     }
 
     /// Takes the next entry. It takes no memory.
-    #[tactic(auto, unfolding(crate::specs::Assembling::after_entry, crate::specs::Assembling::fed_with))]
+    #[tactic(auto, unfolding(am_replicas::specs::Assembling::after_entry, am_replicas::specs::Assembling::fed_with))]
     pub fn feed(&mut self, entry: &Entry) -> Fed
         ensures value { result ≡ fed_with self.old entry.now }
         ensures after { self.new ≡ after_entry self.old entry.now }
@@ -85,7 +85,7 @@ impl Assembler {
     }
 
     /// The message that would end with the next entry; None where none would. It is an error where there is no memory for it.
-    #[tactic(auto, unfolding(crate::specs::Assembling::after_entry))]
+    #[tactic(auto, unfolding(am_replicas::specs::Assembling::after_entry))]
     pub fn whole_with(&self, alloc: Global, entry: &Entry) -> Result<Option<Vec<u8>>, NoMemory>
         ensures { IfOk result (λ found. option_map (λ m. m.items) found
             ≡ message_in (after_entry self.now entry.now).ended) }

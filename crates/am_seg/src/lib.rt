@@ -2,7 +2,5 @@
 #![tactic(auto)]
 
 pub mod assembler;
-pub mod fed;
-pub mod laws;
 pub mod parts;
 mod room;

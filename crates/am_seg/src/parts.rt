@@ -1,5 +1,6 @@
 ghost use Rattle.std.specs.Prelude.{◌≡◌, ◌<◌, ◌≤◌, IfSome, length, option_map, slice_index, true};
-ghost use Rattle.am_seg.specs.Parts.{most_message, part_count, part_of, part_in, part_read, ends_message, fits_message, payload_of};
+ghost use Rattle.am_replicas.specs.Parts.{most_message, part_count, part_of, part_in, ends_message, fits_message, payload_of};
+ghost use Rattle.am_seg.specs.Reading.{part_read};
 
 use am_base::body::Body;
 use am_base::limits::MOST_BODY;
@@ -33,7 +34,7 @@ fn payload_of(message: &[u8], index: usize) -> &[u8]
     &rest[..MOST_PAYLOAD.min(rest.len())]
 }
 
-#[tactic(auto, unfolding(crate::specs::Parts::part_of))]
+#[tactic(auto, unfolding(am_replicas::specs::Parts::part_of))]
 /// A part of a message as a body to send, by its index from 0.
 pub fn part_of(message: &[u8], index: u32) -> Body
     requires few { length message.now ≤ most_message }
@@ -83,7 +84,7 @@ fn fits_message(part: &PartRef) -> bool
     )
 }
 
-#[tactic(auto, unfolding(crate::specs::Parts::part_in))]
+#[tactic(auto, unfolding(am_replicas::specs::Parts::part_in))]
 /// The part that a body is; None exactly where it is no part of any message.
 pub fn part_in(body: &[u8]) -> Option<PartRef<'_>>
     ensures value { option_map part_read result ≡ part_in body.entry.now }

@@ -1,10 +1,10 @@
 ghost use Rattle.std.specs.Prelude.{◌≡◌, ◌*◌, ◌≤◌, length, vec_capacity};
 ghost use Rattle.std.specs.Option.{ForSome};
 
-use crate::fed::Fed;
 use crate::parts::{MOST_MESSAGE, PartRef, part_in};
 use am_base::NoMemory;
 use am_base::name::Name;
+use am_replicas::fed::Fed;
 use std::alloc::Global;
 
 /// How far a message has come of which some parts came.
@@ -31,8 +31,9 @@ pub struct Room {
 
 impl Room {
     ghost use Rattle.std.specs.Prelude.{◌==◌, ◌&&◌, IfOk, None, true, option_map};
-    ghost use Rattle.am_seg.specs.Parts.{part_read, fits_message};
-    ghost use Rattle.am_seg.specs.Assembling.{with_part, take_part, taken_with, awaits, fed_by, whole_in};
+    ghost use Rattle.am_replicas.specs.Parts.{fits_message};
+    ghost use Rattle.am_replicas.specs.Assembling.{with_part, take_part, taken_with, awaits, fed_by, whole_in};
+    ghost use Rattle.am_seg.specs.Reading.{part_read};
     ghost use Rattle.am_seg.specs.Rooms.{begun_in, Keeps};
 
     /// Nothing began. It is an error where there is no memory for a whole message.

@@ -4,8 +4,8 @@ use Rattle.std.proofs.lemmas.Bool.Decides.{nat_tests}
 use Rattle.std.proofs.Common.{arith}
 use Rattle.am_base.specs.declared.entry.Entry.{Entry}
 use Rattle.am_base.specs.declared.entry.Entry.TheVariants.{Data, Join, Leave, View}
-use Rattle.am_seg.specs.declared.fed.Fed.TheVariants as feds
-use Rattle.am_seg.specs.Assembling.{Assembly, Taken, plain, passed, part, whole, taken_at, fed_by, ended_by, after_entry, fed_with, ended_from}
+use Rattle.am_replicas.specs.declared.fed.Fed.TheVariants as feds
+use Rattle.am_replicas.specs.Assembling.{Assembly, Taken, plain, passed, part, whole, taken_at, fed_by, ended_by, after_entry, fed_with, ended_from}
 use Rattle.am_seg.proofs.Keeping.{ended_other}
 
 -- where the answer isn't that a message is whole, none has ended

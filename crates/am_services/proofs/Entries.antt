@@ -1,8 +1,8 @@
 -- The lines of keys, one after the other.
 use Rattle.std.proofs.Common.{◌≡◌, ℕ, List, ◌∷◌, ◌++◌, ap, ◌∙◌, append_assoc}
 use Rattle.std.specs.List.{flat_map}
-use Rattle.am_dir.specs.declared.setting.Setting.{Setting}
-use Rattle.am_dir.specs.Contents.{Contents}
+use Rattle.am_replicas.specs.declared.setting.Setting.{Setting}
+use Rattle.am_replicas.specs.Contents.{Contents}
 use Rattle.am_services.specs.Texts.{setting_line}
 
 pub key_more : (name : ℕ) (out next whole : List ℕ) (rest : Contents) (key : List ℕ) (setting : Setting)

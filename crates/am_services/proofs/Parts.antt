@@ -1,7 +1,7 @@
 -- The parts of a message, one after the other.
 use Rattle.std.proofs.Common.{◌≡◌, ℕ, zero, suc, ◌+◌, ◌-◌, ◌<◌, ◌≤◌, List, [], ◌∷◌, ◌++◌, length, map, refl, sym, ap, ◌∙◌, append_assoc, append-nil, arith}
 use Rattle.std.specs.List.{range_with_len, flat_map}
-use Rattle.am_seg.specs.Parts.{part_count, part_of, parts_of}
+use Rattle.am_replicas.specs.Parts.{part_count, part_of, parts_of}
 
 -- those from one on
 abbrev pub parts_left : List ℕ → ℕ → List (List ℕ)

@@ -5,14 +5,14 @@ use Rattle.std.proofs.lemmas.List.Sums.{fold-append}
 use Rattle.am_base.specs.declared.entry.Entry.{Entry}
 use Rattle.std.proofs.lemmas.List.Folds.{fold-map}
 use Rattle.am_base.specs.Founding.{Rules}
-use Rattle.am_seg.specs.Messages.{entries_of}
-use Rattle.am_seg.specs.Assembling.{no_parts, after_entry}
-use Rattle.am_seg.proofs.Fold.{messages_assemble}
-use Rattle.am_dir.specs.Replicas.{fresh}
-use Rattle.am_dir.proofs.ReplicaLaws.{replicas_show}
+use Rattle.am_replicas.specs.Messages.{entries_of}
+use Rattle.am_replicas.specs.Assembling.{no_parts, after_entry}
+use Rattle.am_replicas.proofs.Fold.{messages_assemble}
+use Rattle.am_replicas.specs.Replicas.{fresh}
+use Rattle.am_replicas.proofs.ReplicaLaws.{replicas_show}
 use Rattle.am_services.specs.Texts.{ended_line, lines_behind, message_upto, messages_of, start_of, snapshot_at, snapshot_upto, snapshots_of, front_of, directory_lines, directory_of}
 use Rattle.am_services.specs.Telling.{told, assembled_then, message_told, messages_told, replayed_then, replayed_with, snapshot_told, snapshots_told}
-use Rattle.am_dir.specs.Replicas.{ReplicaState, shown}
+use Rattle.am_replicas.specs.Replicas.{ReplicaState, shown}
 
 told_behind : {S : Type 0} (next : S → ℕ × Entry → S) (line : ℕ × Entry → S → List ℕ) (s : S) (upto : List (ℕ × Entry) → ℕ × Entry → List ℕ)
     → ((before : List (ℕ × Entry)) (pair : ℕ × Entry) → line pair (fold next s (before ++ pair ∷ [])) ≡ upto (before ++ pair ∷ []) pair)

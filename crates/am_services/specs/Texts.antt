@@ -6,12 +6,12 @@ use Rattle.am_base.specs.Names.{has}
 use Rattle.am_base.specs.declared.entry.Entry.{Entry}
 use Rattle.am_base.specs.declared.entry.Entry.TheVariants as entries
 use Rattle.am_play.specs.Text.{newline, name_text, body_text, mark_line}
-use Rattle.am_seg.specs.Parts.{parts_of}
-use Rattle.am_seg.specs.Messages.{entries_of, message_at}
-use Rattle.am_dir.specs.declared.setting.Setting.{Setting}
-use Rattle.am_dir.specs.Contents.{Contents}
-use Rattle.am_dir.specs.Snapshots.{snapshot_of}
-use Rattle.am_dir.specs.Replicas.{replica_contents}
+use Rattle.am_replicas.specs.Parts.{parts_of}
+use Rattle.am_replicas.specs.Messages.{entries_of, message_at}
+use Rattle.am_replicas.specs.declared.setting.Setting.{Setting}
+use Rattle.am_replicas.specs.Contents.{Contents}
+use Rattle.am_replicas.specs.Snapshots.{snapshot_of}
+use Rattle.am_replicas.specs.Replicas.{replica_contents}
 
 -- ---- parts
 

@@ -2,7 +2,7 @@ ghost use Rattle.std.specs.Prelude.{◌≡◌, ◌++◌, length, decimal, OnOk, 
 ghost use Rattle.std.specs.List.{fold};
 ghost use Rattle.am_group.specs.Deliveries.{given_to, deliveries};
 ghost use Rattle.am_report.specs.Logs.{logs_for};
-ghost use Rattle.am_dir.specs.Replicas.{shown};
+ghost use Rattle.am_replicas.specs.Replicas.{shown};
 ghost use Rattle.am_services.specs.Texts.{start_of, front_of, directory_line, setting_line, directory_lines, directory_of, directories_text};
 ghost use Rattle.am_services.specs.Telling.{replayed_with};
 
@@ -10,10 +10,10 @@ use am_base::NoMemory;
 use am_base::founding::Founding;
 use am_base::name::Name;
 use am_dir::replica::Replica;
-use am_dir::setting::Setting;
 use am_group::event::Record;
 use am_journal::delivered::given_to;
 use am_journal::journal::Journal;
+use am_replicas::setting::Setting;
 use am_texts::text::{push_body, push_mark, push_name};
 use std::alloc::Global;
 

@@ -1,7 +1,7 @@
 ghost use Rattle.std.specs.Prelude.{◌≡◌, ◌≤◌, ◌<◌, ◌++◌, ℕ, length, OnOk, IfOk, string_bytes};
 ghost use Rattle.am_group.specs.Deliveries.{deliveries};
 ghost use Rattle.am_report.specs.Logs.{logs_for};
-ghost use Rattle.am_seg.specs.Parts.{most_message, part_count, part_of};
+ghost use Rattle.am_replicas.specs.Parts.{most_message, part_count, part_of};
 ghost use Rattle.am_services.specs.Texts.{parts_text, message_line, messages_of, messages_text};
 ghost use Rattle.am_services.specs.Telling.{assembled_then, message_told};
 
@@ -10,8 +10,8 @@ use am_base::NoMemory;
 use am_base::entry::Entry;
 use am_base::name::Name;
 use am_group::event::Record;
+use am_replicas::fed::Fed;
 use am_seg::assembler::Assembler;
-use am_seg::fed::Fed;
 use am_seg::parts::{part_count, part_of};
 use am_texts::text::{push_body, push_mark, push_name};
 use std::alloc::Global;

@@ -2,8 +2,8 @@ ghost use Rattle.std.specs.Prelude.{◌≡◌, ◌≤◌, ◌++◌, length, OnOk
 ghost use Rattle.std.specs.List.{flat_map};
 ghost use Rattle.am_group.specs.Deliveries.{deliveries};
 ghost use Rattle.am_report.specs.Logs.{logs_for};
-ghost use Rattle.am_dir.specs.Replicas.{shown};
-ghost use Rattle.am_seg.specs.Parts.{most_message, parts_of};
+ghost use Rattle.am_replicas.specs.Replicas.{shown};
+ghost use Rattle.am_replicas.specs.Parts.{most_message, parts_of};
 ghost use Rattle.am_services.specs.Texts.{snapshot_line, snapshot_at, snapshots_of, snapshots_text};
 ghost use Rattle.am_services.specs.Telling.{replayed_then, snapshot_told};
 

@@ -36,7 +36,7 @@ use Rattle.am_words.specs.declared.form.Form.TheVariants as form
 use Rattle.am_words.specs.declared.form.Numbers.{Numbers}
 use Rattle.am_words.specs.declared.form.Shown.{Shown}
 use Rattle.am_words.specs.declared.form.Shown.TheVariants as shown
-use Rattle.am_seg.specs.Parts.{most_message}
+use Rattle.am_replicas.specs.Parts.{most_message}
 use Rattle.am_services.specs.Texts.{parts_text}
 use Rattle.am_schedules.specs.Schedules.{script_text}
 use Rattle.am_player.specs.declared.status.Status.{Status}

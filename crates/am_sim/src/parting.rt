@@ -1,5 +1,5 @@
 ghost use Rattle.std.specs.Prelude.{◌≢◌};
-ghost use Rattle.am_seg.specs.Parts.{most_message};
+ghost use Rattle.am_replicas.specs.Parts.{most_message};
 ghost use Rattle.am_services.specs.Texts.{parts_text};
 ghost use Rattle.am_player.specs.Statuses.{IfBadScript, IsOfAudit, Took, Wrote};
 ghost use Rattle.am_sim.specs.Simulation.{IsParted};

@@ -1,9 +1,9 @@
-use Rattle.std.proofs.Common.{ℕ, true, false, List}
+use Rattle.std.proofs.Common.{ℕ, List}
 use Rattle.std.proofs.Common.{ap, ◌∙◌, refl}
 use Rattle.std.proofs.lemmas.List.{take_all}
 use Rattle.am_dir.specs.declared.backlog.HeldCommand.{HeldCommand}
-use Rattle.am_dir.specs.Contents.{applied}
-use Rattle.am_dir.specs.Replicas.{apply_held}
+use Rattle.am_replicas.specs.Contents.{applied}
+use Rattle.am_replicas.specs.Replicas.{apply_held}
 use Rattle.am_dir.specs.Holding.{held_in}
 use Rattle.am_dir.proofs.Loops.{held_step}
 use Rattle.am_dir.proofs.backlog.apply_held.Goals as goal

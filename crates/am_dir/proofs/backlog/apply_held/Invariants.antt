@@ -1,5 +1,5 @@
 use Rattle.std.proofs.Common.{◌≡◌, take}
-use Rattle.am_dir.specs.Replicas.{apply_held}
+use Rattle.am_replicas.specs.Replicas.{apply_held}
 use Rattle.am_dir.specs.Holding.{held_in}
 use Rattle.am_dir.proofs.backlog.apply_held.Given as goal
 

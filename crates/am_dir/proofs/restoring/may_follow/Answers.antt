@@ -4,7 +4,7 @@ use Rattle.std.specs.declared.cmp.Ordering.{Ordering}
 use Rattle.std.specs.Ordering.{is_some_and, is_lt}
 use Rattle.std.specs.Option.{option_copied}
 use Rattle.std.specs.Cmp.Lexicographic.{lists_agrees}
-use Rattle.am_dir.specs.Snapshots.{may_follow}
+use Rattle.am_replicas.specs.Snapshots.{may_follow}
 use Rattle.am_dir.proofs.restoring.may_follow.Goals as goal
 
 pub returns-in-Some : goal.returns-in-Some

@@ -1,6 +1,6 @@
 use Rattle.std.proofs.Common.{sym}
 use Rattle.am_dir.specs.Reading.{cut_read}
-use Rattle.am_dir.proofs.Limits.{is_value}
+use Rattle.am_replicas.proofs.Limits.{is_value}
 use Rattle.am_dir.proofs.restoring.setting_behind.Goals as goal
 
 pub unwrap-requires : goal.unwrap-requires

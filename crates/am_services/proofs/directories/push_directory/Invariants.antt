@@ -1,7 +1,7 @@
 use Rattle.std.proofs.Common.{◌≡◌, drop}
 use Rattle.std.specs.List.{fold}
 use Rattle.am_group.specs.Deliveries.{deliveries}
-use Rattle.am_dir.specs.Replicas.{fresh}
+use Rattle.am_replicas.specs.Replicas.{fresh}
 use Rattle.am_services.specs.Texts.{start_of, front_of}
 use Rattle.am_services.specs.Telling.{replayed_with}
 use Rattle.am_services.proofs.directories.push_directory.Given as goal

@@ -1,6 +1,6 @@
 use Rattle.std.proofs.Common.{ℕ, ◌<◌, ◌≤◌, List, [], ◌++◌, string_bytes, ap, ◌∙◌, subst, append_assoc}
 use Rattle.am_play.specs.Text.{newline, body_text}
-use Rattle.am_seg.specs.Parts.{part_of}
+use Rattle.am_replicas.specs.Parts.{part_of}
 use Rattle.am_services.specs.Texts.{parts_text}
 use Rattle.am_services.proofs.Parts.{told_part, told_all}
 use Rattle.am_services.proofs.messages.parts_text.Goals as goal

@@ -1,11 +1,11 @@
 use Rattle.std.proofs.Common.{◌≡◌, ℕ, List, Option, Some, sym, ap}
 use Rattle.std.proofs.Common.{◌∙◌}
-use Rattle.am_seg.specs.Assembling.{after_entry}
+use Rattle.am_replicas.specs.Assembling.{after_entry}
 use Rattle.am_dir.specs.declared.backlog.HeldCommand.{HeldCommand}
-use Rattle.am_dir.specs.Contents.{Contents, with_entry}
-use Rattle.am_dir.specs.Replicas.{apply_held, held_with, with_held, snapshot_for}
+use Rattle.am_replicas.specs.Contents.{Contents, with_entry}
+use Rattle.am_replicas.specs.Replicas.{apply_held, held_with, with_held, snapshot_for}
 use Rattle.am_dir.specs.Holding.{held_in}
-use Rattle.am_dir.proofs.Loops.{held_entry}
+use Rattle.am_replicas.proofs.ReplicaLaws.{held_entry}
 use Rattle.am_dir.proofs.backlog.Backlog.restored.Goals as goal
 
 pub returns : goal.returns

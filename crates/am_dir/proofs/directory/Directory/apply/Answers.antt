@@ -1,6 +1,6 @@
 use Rattle.std.proofs.Common.{sym}
-use Rattle.am_dir.specs.Commands.{command_from}
-use Rattle.am_dir.proofs.Limits.{command_within}
+use Rattle.am_dir.specs.Reading.{command_from}
+use Rattle.am_replicas.proofs.Limits.{command_within}
 use Rattle.am_dir.proofs.directory.Directory.apply.Goals as goal
 
 pub apply_command-requires : goal.apply_command-requires

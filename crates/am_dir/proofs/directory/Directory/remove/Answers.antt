@@ -1,9 +1,9 @@
 use Rattle.std.proofs.Common.{◌≡◌}
 use Rattle.std.proofs.Common.{sym, ap, ◌∙◌, subst}
-use Rattle.am_dir.specs.Contents.{Contents, without_key}
-use Rattle.am_dir.specs.Kept.{contents_in, IsDirectory}
+use Rattle.am_replicas.specs.Contents.{Contents, IsDirectory, without_key}
+use Rattle.am_dir.specs.Kept.{contents_in}
 use Rattle.am_dir.proofs.Entries.{found_entry, removed_entry}
-use Rattle.am_dir.proofs.Keeping.{removed_is}
+use Rattle.am_replicas.proofs.Keeping.{removed_is}
 use Rattle.std.specs.Option.{is_some}
 use Rattle.am_dir.proofs.directory.Directory.remove.Goals as goal
 

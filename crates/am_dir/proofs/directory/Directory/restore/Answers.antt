@@ -1,7 +1,7 @@
 use Rattle.std.proofs.Common.{Some, None, sym}
 use Rattle.std.proofs.Common.{◌∙◌}
 use Rattle.am_dir.specs.Reading.{head_read}
-use Rattle.am_dir.proofs.Limits.{head_few, snapshot_none, snapshot_by}
+use Rattle.am_replicas.proofs.Limits.{head_few, snapshot_none, snapshot_by}
 use Rattle.am_dir.proofs.directory.Directory.restore.Goals as goal
 
 pub returns-in_default : goal.returns-in_default

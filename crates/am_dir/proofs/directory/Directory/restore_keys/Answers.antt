@@ -1,10 +1,10 @@
-use Rattle.std.proofs.Common.{◌≡◌, Bool, true, false, cond}
+use Rattle.std.proofs.Common.{◌≡◌, Bool, cond}
 use Rattle.std.proofs.Common.{Some, None, sym, ap, ◌∙◌, subst, inr}
 use Rattle.std.specs.Option.{option_copied}
-use Rattle.am_dir.specs.Contents.{Contents}
-use Rattle.am_dir.specs.Commands.{is_empty}
+use Rattle.am_replicas.specs.Contents.{Contents}
+use Rattle.am_replicas.specs.Commands.{is_empty}
 use Rattle.am_dir.specs.Reading.{setting_read}
-use Rattle.am_dir.proofs.Limits.{read_within}
+use Rattle.am_replicas.proofs.Limits.{read_within}
 use Rattle.am_dir.proofs.Loops.{Restored, restored_first, restored_none, restored_more, restored_all, restored_room, is_empty_by_length}
 use Rattle.am_dir.proofs.directory.Directory.restore_keys.Goals as goal
 use Rattle.am_dir.proofs.directory.Directory.restore_keys.Goals.{then-is_empty, else-is_empty}

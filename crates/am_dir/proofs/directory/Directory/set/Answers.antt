@@ -1,9 +1,9 @@
 use Rattle.std.proofs.Common.{◌≡◌}
 use Rattle.std.proofs.Common.{sym, subst}
-use Rattle.am_dir.specs.Contents.{Contents, with_setting}
-use Rattle.am_dir.specs.Kept.{contents_in, IsDirectory}
+use Rattle.am_replicas.specs.Contents.{Contents, IsDirectory, with_setting}
+use Rattle.am_dir.specs.Kept.{contents_in}
 use Rattle.am_dir.proofs.Entries.{set_entry}
-use Rattle.am_dir.proofs.Keeping.{set_is}
+use Rattle.am_replicas.proofs.Keeping.{set_is}
 use Rattle.am_dir.proofs.directory.Directory.set.Goals as goal
 
 pub returns-clause-set : goal.returns-clause-set

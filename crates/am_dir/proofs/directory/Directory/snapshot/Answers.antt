@@ -1,10 +1,10 @@
 use Rattle.std.proofs.Common.{◌≡◌, ℕ, length, List, ◌++◌, Vec, Global}
 use Rattle.std.proofs.Common.{sym, ap, ◌∙◌, subst, arith}
-use Rattle.am_dir.specs.declared.setting.Setting.{Setting}
-use Rattle.am_dir.specs.Values.{IsKey}
-use Rattle.am_dir.specs.Contents.{Contents}
+use Rattle.am_replicas.specs.declared.setting.Setting.{Setting}
+use Rattle.am_replicas.specs.Values.{IsKey}
+use Rattle.am_replicas.specs.Contents.{Contents}
 use Rattle.am_dir.specs.Kept.{contents_in}
-use Rattle.am_dir.specs.Snapshots.{head_bytes, setting_bytes, snapshot_of}
+use Rattle.am_replicas.specs.Snapshots.{head_bytes, setting_bytes, snapshot_of}
 use Rattle.am_dir.proofs.Loops.{Written, written_first, written_key, written_more, written_all}
 use Rattle.am_dir.proofs.directory.Directory.snapshot.Goals as goal
 

@@ -1,5 +1,5 @@
 use Rattle.am_dir.specs.Kept.{contents_in}
-use Rattle.am_dir.specs.Snapshots.{snapshot_of}
+use Rattle.am_replicas.specs.Snapshots.{snapshot_of}
 use Rattle.am_dir.proofs.Loops.{Written}
 use Rattle.am_dir.proofs.directory.Directory.snapshot.Given as goal
 

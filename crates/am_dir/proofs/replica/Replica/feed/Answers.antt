@@ -1,12 +1,12 @@
 use Rattle.std.proofs.Common.{◌≡◌, Option, Some, None, IfOk, sym, ap}
 use Rattle.std.proofs.Common.{◌∙◌, subst}
-use Rattle.am_seg.specs.Assembling.{after_entry}
+use Rattle.am_replicas.specs.Assembling.{after_entry}
 use Rattle.am_dir.specs.declared.backlog.Backlog.{Backlog}
-use Rattle.am_dir.specs.declared.step.Step.{Step}
-use Rattle.am_dir.specs.Contents.{Contents}
-use Rattle.am_dir.specs.Replicas.{ReplicaState, Waiting, apply_held, held_with, snapshot_for, fed, step_of, step_held, step_ready}
+use Rattle.am_replicas.specs.declared.step.Step.{Step}
+use Rattle.am_replicas.specs.Contents.{Contents}
+use Rattle.am_replicas.specs.Replicas.{ReplicaState, Waiting, apply_held, held_with, snapshot_for, fed, step_of, step_held, step_ready}
 use Rattle.am_dir.specs.Holding.{waiting_in, state_of}
-use Rattle.am_dir.proofs.Limits.{mapped}
+use Rattle.am_replicas.proofs.Limits.{mapped}
 use Rattle.am_dir.proofs.Feeding.{on_ok, fed_ready, step_is_ready, fed_on, step_on, held_none}
 use Rattle.std.specs.Option.{option_map}
 use Rattle.am_dir.proofs.replica.Replica.feed.Goals.{After-take}

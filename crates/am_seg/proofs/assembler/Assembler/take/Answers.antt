@@ -1,6 +1,6 @@
 use Rattle.std.proofs.Common.{◌≡◌, ◌<◌, Some, None, sym, ◌∙◌, arith, length, get_or}
 use Rattle.am_base.specs.Names.{place_of}
-use Rattle.am_seg.specs.Assembling.{taken_with}
+use Rattle.am_replicas.specs.Assembling.{taken_with}
 use Rattle.am_seg.specs.Rooms.{begun_in}
 use Rattle.am_seg.proofs.Keeping.{ended_whole, ended_other, after_take}
 use Rattle.am_seg.proofs.assembler.Assembler.take.Goals as goal

@@ -1,0 +1,12 @@
+pub mod Assembles
+pub mod CommandLaws
+pub mod Endings
+pub mod Ends
+pub mod Fold
+pub mod Keeping
+pub mod Limits
+pub mod Ordered
+pub mod ReplicaLaws
+pub mod SnapshotLaws
+pub mod Spelled
+pub mod WithinLaws

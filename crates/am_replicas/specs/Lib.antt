@@ -1,0 +1,9 @@
+pub mod Assembling
+pub mod Commands
+pub mod Contents
+pub mod Lengths
+pub mod Messages
+pub mod Parts
+pub mod Replicas
+pub mod Snapshots
+pub mod Values
