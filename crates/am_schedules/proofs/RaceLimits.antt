@@ -1,5 +1,5 @@
 -- Every race keeps to the limits.
-use Rattle.std.proofs.Common.{◌≡◌, ℕ, suc, ◌+◌, ◌<◌, ◌≤◌, List, length, Ok, true, is_some, Result, IfOk, ◌&&◌, nat_le, refl, ap, subst, arith, All, []}
+use Rattle.std.proofs.Common.{◌≡◌, ℕ, suc, ◌+◌, ◌<◌, ◌≤◌, List, [], length, Ok, true, is_some, Result, IfOk, ◌&&◌, nat_le, refl, ap, subst, arith, All}
 use Rattle.std.specs.Option.{ok_or}
 use Rattle.std.proofs.lemmas.Bool.{leb-true}
 use Rattle.std.proofs.lemmas.List.Elements.{All-cons}
