@@ -5,7 +5,7 @@ use Rattle.am_base.specs.Founding.{Rules, MayFound}
 use Rattle.am_group.specs.declared.event.Event.{Event}
 use Rattle.am_group.specs.declared.plan.RacePlan.{RacePlan}
 use Rattle.am_play.specs.Play.{watched_text, text_of}
-use Rattle.am_written.specs.Claims.{ReadsAs, AgreesAs}
+use Rattle.am_written.specs.Claims.{ReadsAs, AgreesAs, IsOfOneList}
 use Rattle.am_words.specs.declared.form.Shown.TheVariants as shown
 use Rattle.am_words.specs.declared.form.Form.{Form}
 use Rattle.am_words.specs.declared.form.Form.TheVariants as forms
