@@ -1,8 +1,8 @@
 -- The bodies of scripts are of bytes.
-use Rattle.am_written.proofs.ScriptWords.{◌≡◌, ℕ, ◌+◌, ◌/◌, List, [], ◌∷◌, length, Result, Ok, Err, false, is_some, ◌&&◌, nat_le, subst, All, Option}
+use Rattle.am_written.proofs.ScriptWords.{◌≡◌, ℕ, ◌+◌, ◌/◌, List, [], length, Result, Ok, Err, false, is_some, ◌&&◌, nat_le, subst, All, Option}
 use Rattle.am_written.proofs.ScriptWords.{Some, None, ok_or, option_map_or, All-nil, All-cons, most_number, most_events, most_body, most_packet, IsBytes}
 use Rattle.am_written.proofs.ScriptWords.{decode_of, decode_of-ok, items_len, as_array, as_object, Act, Event, RacePlan, ThreadPlan, Kind, Script, BadValue}
-use Rattle.am_written.proofs.ScriptWords.{has_only, Read, ◌>>=◌, founding_in, name_at, IsOfBytes, AreOfBytes, PlaysAreOfBytes, ThreadOfBytes, RacesAreOfBytes}
+use Rattle.am_written.proofs.ScriptWords.{has_only, Read, founding_in, name_at, IsOfBytes, AreOfBytes, PlaysAreOfBytes, ThreadOfBytes, RacesAreOfBytes}
 use Rattle.serde_json.specs.Data.{Data, Items, no_items, item}
 use Rattle.am_schedules.specs.declared.kind.Kind.TheVariants.{Send, Done, Take, Join, State, Leave, Reset, Ask, GiveUp, Stop, Tick, Hear, Cut, Return}
 use Rattle.am_schedules.specs.Values.{value_in, text_in, number_in, number_or, flag_or, are_pairs, bytes_in, body_from}

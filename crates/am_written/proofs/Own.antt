@@ -1,8 +1,8 @@
 -- What comes of the own act of a call that goes on: a send is queued, and a reset asks others for their votes.
-use Rattle.am_written.proofs.ScriptWords.{◌≡◌, ℕ, zero, suc, ◌+◌, ◌-◌, ◌==◌, ◌&&◌, not, min, max, nat_lt, nat_le, Bool, true, false, if◌then◌else◌, List, [], ◌∷◌}
+use Rattle.am_written.proofs.ScriptWords.{◌≡◌, ℕ, zero, suc, ◌+◌, ◌-◌, ◌==◌, ◌&&◌, not, min, nat_lt, nat_le, Bool, true, false, if◌then◌else◌, List, [], ◌∷◌}
 use Rattle.am_written.proofs.ScriptWords.{◌++◌, length, take, drop, slice_index, slice_set, Option, Some, None, is_some, refl, sym, ap, ◌∙◌, subst, arith}
 use Rattle.am_written.proofs.ScriptWords.{get_or-set_other, true≢false, nat_tests, split, Vote, Stamp, View, Outcome, place_of, life_of, name_at, has, size}
-use Rattle.am_written.proofs.ScriptWords.{by_place, without_name, Letter, place_for, with_letter, letter_to, kind_of, OwnSend, Node, Ballot, top, image_of}
+use Rattle.am_written.proofs.ScriptWords.{by_place, without_name, Letter, place_for, with_letter, letter_to, kind_of, OwnSend, Node, Ballot, top}
 use Rattle.am_written.proofs.ScriptWords.{members, others, name_where, those, push_entry, is_member, is_sequencer, has_room, waiting, Plan, quiet, invite_of}
 use Rattle.am_written.proofs.ScriptWords.{accept_of, tells_accepted, with_accept, finish, refresh_at_end, row, step, those_none, rests_at_end, send_answer}
 use Rattle.am_written.proofs.ScriptWords.{ballot_answer, request_in, invite_round, or_else_round, round_in}

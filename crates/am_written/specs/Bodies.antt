@@ -1,7 +1,6 @@
 -- The bodies of scripts are of bytes.
 use Rattle.std.specs.Prelude.{◌≡◌, ℕ, List, Ok, Bool, All}
 use Rattle.am_base.specs.Founding.{Rules}
-use Rattle.am_group.specs.declared.event.Act.{Act}
 use Rattle.am_group.specs.declared.event.Event.{Event}
 use Rattle.am_group.specs.declared.plan.RacePlan.{RacePlan}
 use Rattle.am_group.specs.declared.plan.ThreadPlan.{ThreadPlan}

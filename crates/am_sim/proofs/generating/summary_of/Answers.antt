@@ -1,4 +1,4 @@
-use Rattle.std.proofs.Common.{◌∙◌, ap, refl}
+use Rattle.std.proofs.Common.{ap}
 use Rattle.am_pump.specs.declared.course.Counts.{Counts}
 use Rattle.am_sim.proofs.Texts.{course_summary}
 use Rattle.am_sim.proofs.generating.summary_of.Goals as goal
