@@ -27,7 +27,7 @@ def settled(count):
 
 TEXT = b"group 1 view 1.0 0\nlog 0 empty\nlawful\n"
 LONG_WORD = "gen" * 100
-USAGE = "usage: play | race | gen --seed N --count N [--script] | audit | parts | messages | directory | snapshots | node --name N --founders N,N"
+USAGE = "usage: play | race | gen --seed N --count 1..100000 [--script] | audit | parts | messages | directory | snapshots | node --name PLACE[/LIFE] --founders PLACE,.. [--resilience 0..15] [--window 1..1008] [--pb-up-to 0..1024]"
 GROUP = b"group 1 view 1.0 0\n"
 RACE = b'{"race":{"founders":[0],"seed":1,"threads":[{"node":0,"calls":[{"do":"send","body":"61"},{"do":"take"}]}]}}'
 RACED = b"""\

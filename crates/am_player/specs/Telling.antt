@@ -13,7 +13,7 @@ bad_text_line line = codes "bad text at " ++ decimal line
 
 abbrev pub line_of : Status → List ℕ
 line_of Done = []
-line_of Usage = codes "usage: play | race | gen --seed N --count N [--script] | audit | parts | messages | directory | snapshots | node --name N --founders N,N"
+line_of Usage = codes "usage: play | race | gen --seed N --count 1..100000 [--script] | audit | parts | messages | directory | snapshots | node --name PLACE[/LIFE] --founders PLACE,.. [--resilience 0..15] [--window 1..1008] [--pb-up-to 0..1024]"
 line_of (BadScript cause) = bad_script_line cause
 line_of TooLong = codes "too long"
 line_of ReadFault = codes "read fault"

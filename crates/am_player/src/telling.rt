@@ -9,11 +9,11 @@ use itoa::Buffer;
 use std::io;
 
 /// A line that tells of a status.
-pub type Line = ArrayString<160>;
+pub type Line = ArrayString<256>;
 
 /// Some words as a line.
 fn line(words: &str) -> Line
-    requires { length words.now ≤ 160 }
+    requires { length words.now ≤ 256 }
     ensures { result.bytes ≡ words.now }
 {
     let mut line = ArrayString::new();
@@ -51,7 +51,7 @@ pub fn line_of(status: Status) -> Line
     match status {
         Status::Done => ArrayString::new(),
         Status::Usage => line(
-            "usage: play | race | gen --seed N --count N [--script] | audit | parts | messages | directory | snapshots | node --name N --founders N,N",
+            "usage: play | race | gen --seed N --count 1..100000 [--script] | audit | parts | messages | directory | snapshots | node --name PLACE[/LIFE] --founders PLACE,.. [--resilience 0..15] [--window 1..1008] [--pb-up-to 0..1024]",
         ),
         Status::BadScript(cause) => bad_script_line(cause),
         Status::TooLong => line("too long"),
