@@ -60,8 +60,8 @@ def faults(program, script, sentences):
     want = script.with_suffix(".cause").read_bytes()
     if (ran.returncode, ran.stdout, ran.stderr) != (2, b"", want):
         yield f"status {ran.returncode}, {ran.stderr!r} and not {want!r}"
-    said = explain.answer(explain.Asked(program, word_for(script)), data)
-    if said != sentences.get(script.stem):
+    said, takes = explain.answer(explain.Asked(program, word_for(script)), data)
+    if takes or said != sentences.get(script.stem):
         yield f"'{said}' and not '{sentences.get(script.stem)}'"
 
 
