@@ -40,7 +40,6 @@ UNHEARD = {"no-packet", "not-addressed", "is-stopped"}
 PROMISED = {"known", "unfit", "behind", "catching", "stored"}
 
 
-
 class NoText(Exception):
     """What was read is no text of a play."""
 

@@ -67,7 +67,7 @@ def main():
     paths = [script.with_suffix(".txt") for script in scripts if script.with_suffix(".txt").exists()]
     draw, small = random.Random(1), [text for text in (path.read_bytes() for path in paths) if len(text) <= 4_000]
     tried = [(path, faults(path.read_bytes())) for path in paths]
-    tried += [("a changed text", faults_of_changed(changed(draw.choice(small), draw))) for _ in range(1_000)]
+    tried += [("a changed text", faults_of_changed(changed(draw.choice(small), draw))) for _ in range(1_000 if small else 0)]
     for what, found in tried:
         wrong = list(found)
         passed, failed = passed + (not wrong), failed + bool(wrong)
