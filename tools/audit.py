@@ -1,7 +1,8 @@
+#!/usr/bin/env python3
 """Audits a printed text: whose logs agree with each other, with the group list, and with the events. docs/AUDIT.md says what each
 verdict is.
 
-    python3 tools/audit.py < TEXT
+    tools/audit.py < TEXT
 
 It is written from that page alone, and does what `./muoswyld audit` does. It writes the verdict, and ends with 0 where it is `agrees` or
 `lists-agree`, else with 9; with 8 where the input is no text, with 3 where it is too long; then the cause stands on standard error.
@@ -13,7 +14,7 @@ from collections.abc import Iterator
 from dataclasses import dataclass, field
 from itertools import islice
 
-from words import words
+from words import end, taken, words
 
 MOST_BYTES = 16_777_216
 MOST_NUMBER = 2_000_000_000
@@ -430,7 +431,7 @@ def audit(data: bytes) -> tuple[str, int]:
 
 def main() -> int:
     words(__doc__, most=0)
-    data = sys.stdin.buffer.read(MOST_BYTES + 1)
+    data = taken(MOST_BYTES + 1)
     if len(data) > MOST_BYTES:
         print("too long", file=sys.stderr)
         return 3
@@ -444,4 +445,4 @@ def main() -> int:
 
 
 if __name__ == "__main__":
-    sys.exit(main())
+    end(main)

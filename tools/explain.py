@@ -1,26 +1,30 @@
 #!/usr/bin/env python3
 """Says in words why the program refuses a script, or a text.
 
-    python3 tools/explain.py [PROGRAM [WORD]] < SCRIPT
+    tools/explain.py [PROGRAM [WORD]] < SCRIPT
 
 PROGRAM is crates/am_sim/out/am_sim where none is named, and WORD `play`, `race` or `audit`: where none is said, what the script's own key
-is, else `play`. Of a text, for `audit`, it shows the bad line, and says what may stand there. Whether a script is refused, with which
+is, else `play`. Of a text, for `audit`, it shows the bad line, and says what may stand there. It ends with 0 where the program takes
+what was read, else with 1, and with 2 where the words of its call aren't so. Whether a script is refused, with which
 cause and at which place, the program alone says. Of the keys that stand there it says which one it is, too: it is asked again about
 small scripts that have the event's keys up to one of them, in the order in which they are read, and lawful values behind it. The first
 that it refuses names the key.
 """
 
 import json
+import os
 import pathlib
 import re
 import subprocess
 import sys
 
-from words import words
+from words import end, printable, taken, words
 
 PROGRAM = pathlib.Path(__file__).resolve().parent.parent / "crates" / "am_sim" / "out" / "am_sim"
 
 NOT_JSON, MISSING, UNKNOWN, BAD_VALUE, OUT_OF_RANGE = 1, 2, 3, 4, 5
+
+MOST_BYTES = 16_777_216
 
 COUNT = "a whole number, 1 to 2,000,000,000"
 PLACE = "a place, 0 to 15"
@@ -408,32 +412,57 @@ def word_of(data):
     return "race" if isinstance(document, dict) and "race" in document and "play" not in document else "play"
 
 
-def answer(ask, data):
-    """What there is to say of a script."""
-    status, said = ask.say(data)
+def sentence(ask, data, status, said):
+    """What there is to say of a script, or a text, that the program ended with a status for."""
+    kind = "text" if ask.word == "audit" else "script"
     bad = re.fullmatch("bad text at ([0-9]+)", said)
     if bad:
         return of_text(data, int(bad[1]))
     told = refusal(status, said)
     if told:
         return explain(ask, data, *told)
+    if is_taken(ask, status):
+        return f"the program takes this {kind}, by the word {ask.word}"
     return {
-        0: f"the program takes this {'text' if ask.word == 'audit' else 'script'}, by the word {ask.word}",
-        3: f"too long: a {'text' if ask.word == 'audit' else 'script'} has at most 16,777,216 bytes",
+        3: f"too long: a {kind} has at most {MOST_BYTES:,} bytes",
         7: "spent: the run would have more than 100,000 events, those that settle it among them",
     }.get(status, said or f"the program ended with {status}")
 
 
+def is_taken(ask, status):
+    """Whether the program took what it read; of a text it may say that its logs disagree."""
+    return status == 0 or (ask.word, status) == ("audit", 9)
+
+
+def answer(ask, data):
+    """What there is to say of a script, or a text, and whether the program takes it."""
+    status, said = ask.say(data)
+    return printable(sentence(ask, data, status, said)), is_taken(ask, status)
+
+
+def wrong_words(program, word):
+    """What is wrong with the words of a call; None where nothing is."""
+    if word not in (None, *SCRIPTS, "audit"):
+        return f"{word} isn't play, race or audit"
+    if program == str(PROGRAM) and not PROGRAM.is_file():
+        return f"there is no program {program}: ./muoswyld gen --seed 1 --count 1 builds it"
+    if not os.path.isfile(program) or not os.access(program, os.X_OK):
+        return f"{program} is no program; a script is read from standard input: tools/explain.py < SCRIPT"
+    return None
+
+
 def main():
+    """Says what there is to say of what is read."""
     program, word, *_ = [*words(__doc__, 0, 2), None, None]
     program = program or str(PROGRAM)
-    if word not in (None, *SCRIPTS, "audit"):
-        sys.exit(f"{word} isn't play, race or audit")
-    if not pathlib.Path(program).is_file():
-        sys.exit(f"there is no program {program}: ./muoswyld gen --seed 1 --count 1 builds it")
-    data = sys.stdin.buffer.read()
-    print(answer(Asked(program, word or word_of(data)), data))
+    if wrong := wrong_words(program, word):
+        print(f"explain.py: {wrong}", file=sys.stderr)
+        return 2
+    data = taken(MOST_BYTES + 1)
+    said, takes = answer(Asked(os.path.abspath(program), word or word_of(data)), data)
+    print(said)
+    return 0 if takes else 1
 
 
 if __name__ == "__main__":
-    main()
+    end(main)

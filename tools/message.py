@@ -1,14 +1,13 @@
 #!/usr/bin/env python3
 """Writes the script in which place 1 sends a file as a message, part by part, and both members take all of it.
 
-    python3 tools/message.py FILE > SCRIPT
+    tools/message.py FILE > SCRIPT
     ./muoswyld messages < SCRIPT
 
 FILE has at most 65,535 bytes. Parts are cut as docs/MESSAGES.md says, and each is sent once the one before was answered.
 """
 
 import json
-import pathlib
 import sys
 
 from words import end, words
@@ -41,9 +40,10 @@ def script(message: bytes) -> dict:
 def main() -> int:
     """Writes the script of the file that is named."""
     (file,) = words(__doc__, 1, 1)
-    message = pathlib.Path(file).read_bytes()
+    with open(file, "rb") as source:
+        message = source.read(MOST_MESSAGE + 1)
     if len(message) > MOST_MESSAGE:
-        sys.exit(f"{file} has {len(message)} bytes; a message has at most {MOST_MESSAGE}")
+        sys.exit(f"{file} has more than {MOST_MESSAGE} bytes, which are the most that a message has")
     print(json.dumps(script(message)))
     return 0
 

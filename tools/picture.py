@@ -12,9 +12,9 @@ which nobody hears anything are one. With --html it is a page to step through th
 import html
 import sys
 
-from playtext import Run, key_of, read, short
+from playtext import NoText, Run, key_of, read, short
 from stepping import page
-from words import words
+from words import end, printable, taken, words
 
 FAR = 30            # a letter that is heard so many rows later is drawn as two ends with its number
 ROW = 24            # the height of an event
@@ -420,18 +420,21 @@ class Picture:
 
 
 def main():
+    """Draws the text that is read."""
     given = words(__doc__, 0, 1)
     if given not in ([], ["--html"]):
-        raise SystemExit(__doc__.strip())
-    lines = sys.stdin.read().splitlines()
-    events, group, mark = read(lines)
-    if not group:
-        raise SystemExit("this is no text of a play: there is no group list")
-    run = Run(events, group)
+        print(__doc__.strip(), file=sys.stderr)
+        return 2
+    try:
+        events, group, mark = read(taken())
+        run = Run(events, group)
+    except NoText as error:
+        return printable(f"this is no text of a play: {error}")
     picture = Picture(run, group, mark)
     drawn = picture.draw()
     sys.stdout.write(page(picture, drawn) if given else drawn)
+    return 0
 
 
 if __name__ == "__main__":
-    main()
+    end(main)

@@ -5,7 +5,30 @@ what; the number of an entry that the sequencer sent by itself, as the one above
 sends counts as numbered where it was sent, or, where a tick says that there was no room, at the next one that doesn't.
 """
 
+import re
 from dataclasses import dataclass, field
+
+import audit
+from explain import of_text
+
+# an event's line, with the fields of what is read of it
+NUMBER, PLACE = "[0-9]{1,10}", "(?:[0-9]|1[0-5])"
+NAME = f"{PLACE}(?:/[0-9]{{1,2}})?"
+MEMBERS = f"{NAME}(?:,{NAME})*"
+ACT = (
+    f"(?:take|join|state|leave|stop|tick|return) {PLACE}|send {PLACE} [0-9a-f-]+|(?:done|ask|hear) {PLACE} {NUMBER}"
+    f"|reset {PLACE} {NUMBER}(?: r{NUMBER})?|giveup {PLACE} {NAME}|cut {PLACE} {NUMBER} {NUMBER}"
+)
+FIELDS = {
+    **dict.fromkeys(("queued", "numbered", "stored", "returned", "welcomed"), NUMBER),
+    "took": f"{NUMBER} [a-z]+ [0-9a-fr/., -]+",
+    "put-off": f"{NUMBER} {NUMBER} {NUMBER}",
+    "waiting": f"(?:-|{MEMBERS})",
+    "overtaken": f"{NUMBER}[.]{NAME}",
+    "decided": f"{NUMBER} {MEMBERS}",
+}
+OUTCOME = "|".join([*(f"{word} {fields}" for word, fields in FIELDS.items()), f"(?!(?:{'|'.join(FIELDS)})(?: |$))[a-z-]+(?: [^ |]+)*"])
+EVENT = re.compile(f"{NUMBER} (?:{ACT}) : (?:{OUTCOME})(?: [|] {NUMBER} [A-Z][A-Za-z]* to (?:all|{MEMBERS}))*")
 
 # what a ballot answers as long as it goes on or where it ends
 BALLOT = {"waiting", "fetching", "not-in", "too-few", "crowded", "decided"}
@@ -15,6 +38,10 @@ PLAIN = {"took", "ticked", "stopped", "queued", "asked"}
 UNHEARD = {"no-packet", "not-addressed", "is-stopped"}
 # what a Result answers where its stamp was promised
 PROMISED = {"known", "unfit", "behind", "catching", "stored"}
+
+
+class NoText(Exception):
+    """What was read is no text of a play."""
 
 
 @dataclass
@@ -80,22 +107,33 @@ def stamp_of(word):
     return int(number), name
 
 
-def read(lines):
-    """The events, the group list and the last line of a text."""
+def read(data):
+    """The events, the group list and the last line of a text, or NoText."""
+    try:
+        audit.read(data)
+    except audit.BadText as bad:
+        raise NoText(of_text(data, bad.line)) from None
     events, group, mark, lives = [], [], "", {}
-    for number, line in enumerate(lines):
-        words = line.split()
-        if not words or number == 0 and line.startswith("{"):
+    for number, line in enumerate(data.decode(errors="replace").split("\n")[:-1], 1):
+        words = line.split(" ")
+        if number == 1 and line.startswith("{"):
             continue    # a race's text begins with what was done, as a script
         if words[0] == "group":
             group.append(words[1:])
         elif words[0] in ("lawful", "void"):
             mark = line
-        elif words[0].isdigit():
-            events.append(event_of(line, lives))
         elif words[0] != "log":
-            raise SystemExit("this is no text of a play: " + (line if len(line) <= 60 else line[:57] + "..."))
+            if not EVENT.fullmatch(line):
+                raise NoText(f"line {number} is no event of a play: {shortened(line)}")
+            events.append(event_of(line, lives))
+    if group[0][1] != "view" or group[0][3] == "-":
+        raise NoText("the group list doesn't begin with a view of founders")
     return events, group, mark
+
+
+def shortened(line):
+    """A line, or its beginning."""
+    return line if len(line) <= 60 else line[:57] + "..."
 
 
 def event_of(line, lives):
@@ -134,7 +172,10 @@ class Run:
         self.events = self.drawn(events)
         self.found(group)
         for event in self.events:
-            self.follow(event)
+            try:
+                self.follow(event)
+            except (IndexError, KeyError, ValueError):
+                raise NoText(f"event {event.number} doesn't fit what stands before it: {shortened(event.line)}") from None
 
     def drawn(self, events):
         """The events of names that take part, each with its row. Ticks of a name one behind the other, of which nobody hears

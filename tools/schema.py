@@ -1,8 +1,8 @@
 #!/usr/bin/env python3
 """Validates scripts against docs/script.schema.json, and tries that the schema agrees with the reader.
 
-    python3 tools/schema.py SCRIPT...               says what is wrong with each script
-    python3 tools/schema.py --cases PROGRAM FOLDER..  tries the schema
+    tools/schema.py SCRIPT..                  says what is wrong with each script
+    tools/schema.py --cases PROGRAM FOLDER..  tries the schema
 
 With --cases, each script of the folders that has a text must be valid, and each that has a NAME.cause must not be, but for those
 of UNSAID, whose cause a schema can't say, and those whose word isn't their key's. So must the schema's own examples be. And at each
@@ -19,7 +19,7 @@ import re
 import subprocess
 import sys
 
-from words import end, words
+from words import end, printable, words
 
 SCHEMA = pathlib.Path(__file__).resolve().parent.parent / "docs" / "script.schema.json"
 
@@ -123,7 +123,7 @@ class Schema:
         if sum(not wrong for _, wrong in each) == 1:
             return
         key = value.get("do") if isinstance(value, dict) and "do" in value else next(iter(value), None) if isinstance(value, dict) else None
-        meant = [wrong for one, wrong in each if one["properties"].get("do", {}).get("const") == key or key in one["properties"]]
+        meant = [wrong for one, wrong in each if one["properties"].get("do", {}).get("const") == key or key in list(one["properties"])]
         yield from meant[0] if meant else [f"{where or '/'}: it is none of the {len(said)} forms"]
 
 
@@ -221,14 +221,14 @@ def try_cases(schema, program, folders):
 
 def main(words):
     schema = Schema(SCHEMA.read_bytes())
-    if words[:1] == ["--cases"]:
+    if words[0] == "--cases":
         wrong = list(try_cases(schema, words[1], words[2:]))
     else:
         wrong = [f"{name}: {fault}" for name in words for fault in faults_of(schema, pathlib.Path(name).read_bytes())]
     for line in wrong:
-        print(line)
+        print(printable(line))
     return 1 if wrong else 0
 
 
 if __name__ == "__main__":
-    end(lambda: main(words(__doc__, 1)))
+    end(lambda: main(words(__doc__, 3 if "--cases" in sys.argv[1:2] else 1)))

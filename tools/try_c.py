@@ -5,7 +5,8 @@
 
 PROGRAM is the command whose word `node` is run. N lines (2,000), random and mutated, go to a node in each of nine states: through the
 C driver, through the Rust crate where cargo is there, and to the word `node`, and all must answer the same. Besides it tries each
-refusal, each allocation failing in turn, three members with a crash in C and in Rust, and a shared library from Python. With --sanitize
+refusal, each allocation failing in turn, three members with a crash in C and in Rust, a shared library from Python, and what is said
+where the library isn't there. With --sanitize
 the C programs are built with the address and the undefined sanitizer, and 100,000 lines go to each state. CC names the compiler (else
 cc, gcc or clang; the toolchain's own clang has no headers). It prints what fails, and how many parts passed.
 """
@@ -182,6 +183,22 @@ def from_python(tried: Tried) -> list[str]:
     return [] if (numbers, said) == ([0, 0, 0, 0, 0, 3], wanted) else [f"Python was given {numbers} and {said}"]
 
 
+def not_there(tried: Tried) -> list[str]:
+    """Where the library isn't there, make and cargo say what makes it."""
+    top = tried.folder / "without"
+    shutil.copytree(TOP / "bindings", top / "bindings", ignore=shutil.ignore_patterns("out", "target"))
+    (top / "crates" / "am_c" / "out").mkdir(parents=True)
+    tries = {"make": (["make", f"KIT={tried.kit}"], "c")}
+    if tried.cargo:
+        tries["cargo build"] = ([tried.cargo, "build", "--offline"], "rust")
+    wrong = []
+    for what, (words, folder) in tries.items():
+        ran = run(words, cwd=top / "bindings" / folder, env={**tried.cargo_words, "CARGO_TARGET_DIR": str(top / "target")})
+        if ran.returncode == 0 or b"tools/library.py proves and makes it" not in ran.stderr or b"panicked" in ran.stderr:
+            wrong.append(f"{what} ended with {ran.returncode}: {ran.stderr.decode()[-2000:]}")
+    return wrong
+
+
 def rust_tests(tried: Tried) -> list[str]:
     """The tests of the Rust crate."""
     if not tried.cargo:
@@ -198,7 +215,7 @@ def main() -> int:
     parser.add_argument("--sanitize", action="store_true")
     with tempfile.TemporaryDirectory() as folder:
         tried = Tried(parser.parse_args(), pathlib.Path(folder))
-        parts = built, transcripts, same_options, refusals, no_memory, crash, from_python, rust_tests
+        parts = built, transcripts, same_options, refusals, no_memory, crash, from_python, not_there, rust_tests
         failed = 0
         for part in parts:
             wrong = part(tried)

@@ -1,13 +1,18 @@
-"""Tries what ./muoswyld answers before anything is built.
+#!/usr/bin/env python3
+"""Tries what ./muoswyld answers before anything is built, and what tools and pages say.
 
-    python3 tools/try_command.py TOP
+    tools/try_command.py TOP
 
 It copies the command into a folder without sources, so that whatever would build anything fails with status 70: help, versions and
-words that have no form must be answered there. Then it asks each tool for its page, and calls it with words that have no form. It prints
-what fails, and how many passed.
+words that have no form must be answered there. With small programs in the place of the proved ones it has no room for what it keeps, or
+for what it writes. Then it asks each tool for its page, calls it with words that have no form, and lets those for users write to a full
+device. Each piece of code of the pages must stand in the examples' crates. It prints what fails, and how many passed.
 """
 
+import os
 import pathlib
+import pty
+import re
 import shutil
 import subprocess
 import sys
@@ -31,7 +36,8 @@ WITHOUT_FORM = [
     (["directory", "x.json"], "./muoswyld directory < x.json"),
     ([*GEN[:4], "--script", "5"], "--help says more"),
     ([*GEN, "--script", "--script"], "--help says more"),
-    (["node"], "--help says more"),
+    (["gen", "--seed", "1", "--count", "100001"], "--count is 1 to 100000"),
+    (["node"], "./muoswyld node --name 0 --founders 0,1"),
     (["node", "--name", "1"], "--help says more"),
     (["node", "--name", "1", "--founders"], "--help says more"),
     (["node", "--name", "1", "--founders", "0", "--name", "1"], "--help says more"),
@@ -42,7 +48,6 @@ WITHOUT_FORM = [
     ([*GEN, "x"], "--help says more"),
     (["gen", "--seed", "1", "--count", "0"], "--help says more"),
     (["gen", "--seed", "1", "--count", "00000"], "--help says more"),
-    (["gen", "--seed", "1", "--count", "100001"], "--help says more"),
     (["gen", "--seed", "18446744073709551616", "--count", "1"], "--help says more"),
     (["gen", "--seed", "+1", "--count", "1"], "--help says more"),
     (["gen", "--seed", "000000000000000000001", "--count", "1"], "--help says more"),
@@ -80,6 +85,105 @@ def faults(top: pathlib.Path):
                 yield f"{way + words}: {status}, {said!r}, {told!r}"
 
 
+def room_faults(top: pathlib.Path):
+    """What is wrong where there is no room for what is kept or written. Small programs stand in the place of the proved ones."""
+    (top / "kit").mkdir()
+    for file, said in (("crates/am_play_only/out/am_play_only", "cat"), ("crates/am_sim/out/am_sim", "echo summary"), ("kit/rt", "false")):
+        (top / file).parent.mkdir(exist_ok=True)
+        (top / file).write_text(f"#!/bin/sh\n{said}\n")
+        (top / file).chmod(0o755)
+    (top / "script").write_text("a script\n")
+    (top / "kept").mkdir()
+
+    def called(words: list[str], folder: str, out: str, at_terminal: bool = False) -> tuple[int, str]:
+        """The status of the command, and what it told."""
+        ours, theirs = pty.openpty() if at_terminal else os.pipe()
+        path = f"{top / 'kit'}:/usr/bin:/bin"
+        with open(top / "script", "rb") as read, open(top / out, "wb") as written:
+            status = subprocess.run(
+                [top / "muoswyld", *words], stdin=read, stdout=written, stderr=theirs, timeout=60, check=False, env={"PATH": path, "TMPDIR": str(top / folder)}
+            ).returncode
+        os.close(theirs)
+        told = b""
+        try:
+            while part := os.read(ours, 4096):
+                told += part
+        except OSError:  # where a terminal ends
+            pass
+        os.close(ours)
+        return status, told.decode().replace("\r", "")
+
+    status, told = called(["play"], "nope", "text", True)
+    if status != 70 or told.count("\n") != 1 or "nope" not in told or (top / "text").read_text():
+        yield f"play without a folder for its input: {status}, {told!r}"
+    status, told = called(["play"], "kept", "text", True)
+    if (status, told, (top / "text").read_text()) != (0, "", "a script\n"):
+        yield f"play: {status}, {told!r}"
+    status, told = called(GEN, "kept", "text")
+    if (status, told, (top / "text").read_text()) != (0, "", "summary\n"):
+        yield f"gen: {status}, {told!r}"
+    quick = top / "out" / "quick" / "am_play_only"
+    quick.parent.mkdir(parents=True, exist_ok=True)
+    (top / "crates/am_play_only/out/am_play_only").rename(quick)
+    (top / "crates/am_sim/out/am_sim").unlink()
+    status, told = called(["play"], "kept", "/dev/full")
+    if status != 5 or "write fault\n" not in told:
+        yield f"a first answer to a full device: {status}, {told!r}"
+    if left := list((top / "kept").iterdir()):
+        yield f"left behind: {left}"
+    shutil.rmtree(top / "out")
+    (top / "out").write_text("")
+    for way in (["play"], ["--quick", "play"]):
+        status, told = called(way, "kept", "text")
+        if status != 70 or "nothing can be built in" not in told or told.count("\n") != len(way):
+            yield f"{way} without a folder to build in: {status}, {told!r}"
+
+
+# what each tool for users writes, of a file as a word or as the input
+WRITES = {"picture.py": "scripts/reset.txt", "audit.py": "scripts/reset.txt", "message.py": "README.md", "schema.py": "scripts/reset.txt"}
+
+
+def writing_faults(source: pathlib.Path):
+    """What is wrong with tools that write to a full device, or into a pipe that is closed; and those that can't be called."""
+    for name, file in WRITES.items():
+        words = [file] if name in ("message.py", "schema.py") else []
+        ours, theirs = os.pipe()
+        os.close(ours)
+        for out, cause in ((os.open("/dev/full", os.O_WRONLY), "No space left on device"), (theirs, "Broken pipe")):
+            with open(source / file, "rb") as read:
+                done = subprocess.run([sys.executable, f"tools/{name}", *words], cwd=source, stdin=read, stdout=out, stderr=subprocess.PIPE, text=True, timeout=60, check=False)
+            os.close(out)
+            if (done.returncode, done.stderr) != (1, f"{name}: {cause}\n"):
+                yield f"{name}, {cause}: {done.returncode}, {done.stderr[-200:]!r}"
+    page = (source / "tools" / "README.md").read_text().split("## For the gate")[0]
+    for name in re.findall(r"^\| `(\w+\.py)`", page, re.MULTILINE):
+        if not os.access(source / "tools" / name, os.X_OK) or not (source / "tools" / name).read_text().startswith("#!"):
+            yield f"tools/{name} can't be called by itself"
+
+
+def flat(code: str) -> str:
+    """Code with one blank between its words."""
+    return " ".join(code.split())
+
+
+def pieces_of(page: pathlib.Path) -> list[str]:
+    """The pieces of code of a page."""
+    return re.findall(r"^```rust\n(.*?)^```$", page.read_text(), re.MULTILINE | re.DOTALL)
+
+
+def page_faults(source: pathlib.Path):
+    """Which pieces of code of the pages stand in no file of the examples' crates, but for indentation, what a file imports for its tests,
+    and contracts that a page leaves out."""
+    paths = (path for crate in ("am_examples", "am_tests_runs") for path in sorted((source / "crates" / crate / "src").glob("*.rt")))
+    files = [re.sub(r"^use (crate::.*|std::test::\*);\n", "", path.read_text(), flags=re.MULTILINE) for path in paths]
+    without = [re.sub(r"\n *ensures\b.*?(?=\n *\{\n)", "", file, flags=re.DOTALL) for file in files]
+    stand = [flat(file) for file in [*files, *without]]
+    for page in [source / "README.md", *sorted((source / "docs").glob("*.md"))]:
+        for piece in pieces_of(page):
+            if not any(flat(piece) in file for file in stand):
+                yield f"{page.name}: this stands in no example: {piece[:200]}"
+
+
 def tools_of(source: pathlib.Path) -> list[pathlib.Path]:
     """The tools, programs of nets and examples that are called by themselves."""
     files = (path for folder in ("tools", "net", "examples") for path in sorted((source / folder).glob("*.py")))
@@ -107,10 +211,12 @@ def main() -> int:
         (top / "crates.txt").write_text("am_play_only:\nam_sim:\n")
         shutil.copy(source / "muoswyld", top)
         shutil.copy(source / "tools" / "prove.bash", top / "tools")
-        wrong = [*faults(top), *tool_faults(tools)]
+        wrong = [*faults(top), *room_faults(top), *tool_faults(tools), *writing_faults(source), *page_faults(source)]
     for line in wrong:
         print(f"refused: {line}")
-    print(f"tools/try_command.py: {4 + len(WITHOUT_FORM) + 3 * (len(WITH_FORM) + len(tools)) - len(wrong)} passed, {len(wrong)} failed")
+    pieces = sum(len(pieces_of(page)) for page in [source / "README.md", *(source / "docs").glob("*.md")])
+    tried = 4 + len(WITHOUT_FORM) + 3 * (len(WITH_FORM) + len(tools)) + 7 + 2 * len(WRITES) + 1 + pieces
+    print(f"tools/try_command.py: {tried - len(wrong)} passed, {len(wrong)} failed")
     return 1 if wrong else 0
 
 

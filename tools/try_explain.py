@@ -1,13 +1,14 @@
+#!/usr/bin/env python3
 """Tries the program and tools/explain.py on scripts that are refused.
 
-    python3 tools/try_explain.py PROGRAM FOLDER COMMAND
+    tools/try_explain.py PROGRAM FOLDER COMMAND
 
 FOLDER has scripts NAME.json, and beside each NAME.cause, the line that `PROGRAM WORD < NAME.json` must write on standard error,
 with status 2 and nothing on standard output, where WORD is `race` for names that begin with race_, else `play`; and sentences.txt, a
 line `NAME: SENTENCE` with what tools/explain.py must say of each. Each cause must be there, and of each key every cause that it can
 have. FOLDER/rows.list has more, a line each: WORD NUMBER PLACE TEXT, where TEXT, a JSON string, must be refused by `PROGRAM WORD` for
 the cause of this number at this place. COMMAND, which is ./muoswyld, must write the line, and below it the sentence where standard
-error is a terminal, else how to get it. It prints what fails, and how many passed.
+error is a terminal, else how to get it. What explain.py ends with is tried, too. It prints what fails, and how many passed.
 """
 
 import json
@@ -60,8 +61,8 @@ def faults(program, script, sentences):
     want = script.with_suffix(".cause").read_bytes()
     if (ran.returncode, ran.stdout, ran.stderr) != (2, b"", want):
         yield f"status {ran.returncode}, {ran.stderr!r} and not {want!r}"
-    said = explain.answer(explain.Asked(program, word_for(script)), data)
-    if said != sentences.get(script.stem):
+    said, takes = explain.answer(explain.Asked(program, word_for(script)), data)
+    if takes or said != sentences.get(script.stem):
         yield f"'{said}' and not '{sentences.get(script.stem)}'"
 
 
@@ -101,6 +102,30 @@ def faults_of_command(command, script, sentence):
         yield f"{command} wrote {at_a_terminal(command, script)} at a terminal"
 
 
+def calls_of_explain(program):
+    """Calls of tools/explain.py: the words, what is read, the status, and what stands in what it writes or tells."""
+    taken = b'{"play": {"founders": [0], "events": []}}'
+    return [
+        ([program], taken, 0, "the program takes this script, by the word play\n"),
+        ([program], b'{"play": {"founders": [0], "events": [], "a\\u001b[31m\\u0000": 1}}', 1, "play: `a\\x1b[31m\\x00` doesn't belong there"),
+        ([program], b"\x1b", 1, "column 1, before \\x1b\n"),
+        ([program, "audit"], b"group 1 join 1\nlawful\n", 0, "the program takes this text, by the word audit\n"),
+        ([program, "audit"], b"\xff", 1, "line 1 is "),
+        ([__file__.replace("try_explain.py", "README.md")], taken, 2, "a script is read from standard input: tools/explain.py < SCRIPT\n"),
+        ([program, "gen"], taken, 2, "explain.py: gen isn't play, race or audit\n"),
+    ]
+
+
+def faults_of_explain(program):
+    """What is wrong with the calls of tools/explain.py."""
+    tool = pathlib.Path(explain.__file__)
+    for words_of_call, data, status, wanted in calls_of_explain(program):
+        ran = subprocess.run([sys.executable, tool, *words_of_call], input=data, capture_output=True)
+        said = ran.stderr if status == 2 else ran.stdout
+        if ran.returncode != status or said.count(b"\n") != 1 or wanted not in said.decode() or re.search(rb"[\0-\x09\x0b-\x1f]", said):
+            yield f"explain.py {words_of_call} with {data!r}: {ran.returncode}, {ran.stdout!r}, {ran.stderr!r}"
+
+
 def main():
     program, folder, command = words(__doc__, 3, 3)
     folder = pathlib.Path(folder)
@@ -127,10 +152,14 @@ def main():
         for line in faults_of_command(command, script, sentences[script.stem]):
             print(line)
             failed += 1
+    wrong = list(faults_of_explain(program))
+    passed, failed = passed + len(calls_of_explain(program)) - len(wrong), failed + len(wrong)
+    for line in wrong:
+        print(line)
     if sorted(sentences) != [script.stem for script in scripts]:
         print("sentences.txt doesn't have a line for each script, in order")
         failed += 1
-    print(f"{passed} refusals passed, {failed} failed")
+    print(f"{passed} refusals and calls passed, {failed} failed")
     sys.exit(1 if failed else 0)
 
 

@@ -1,20 +1,22 @@
-"""Tries tools/picture.py on texts of plays.
+"""Tries tools/picture.py on texts of plays, as they are and changed.
 
     python3 tools/try_picture.py FOLDER...
 
 Each FOLDER has scripts NAME.json with their texts NAME.txt; scripts without a text are left out. Each picture must be XML, have a mark
 for each event that it draws with the event's line in it, and an arrow for each letter that was heard; a page to step through it has the
-picture and each event; and each View that an application was given must be the one that the picture has at this number. It prints what
-fails, and how many texts passed.
+picture and each event; and each View that an application was given must be the one that the picture has at this number. Of the texts
+1,000 are changed at one to three places: each is drawn, or is told to be no text of a play. It prints what fails, and how many passed.
 """
 
 import pathlib
+import random
 import sys
 import xml.etree.ElementTree as xml
 
 import picture
 import playtext
 import stepping
+from try_audit import changed
 from words import words
 
 SVG = "{http://www.w3.org/2000/svg}"
@@ -22,7 +24,7 @@ SVG = "{http://www.w3.org/2000/svg}"
 
 def faults(text):
     """What is wrong with the picture of a text."""
-    events, group, mark = playtext.read(text.splitlines())
+    events, group, mark = playtext.read(text)
     run = playtext.Run(events, group)
     for event in run.events:
         if event.outcome[:1] == ["took"] and event.outcome[2] == "view":
@@ -48,15 +50,30 @@ def faults(text):
         yield "the page to step through it lacks the picture or an event"
 
 
+def faults_of_changed(text):
+    """What is wrong with what comes of a text that was changed."""
+    try:
+        events, group, mark = playtext.read(text)
+        picture.Picture(playtext.Run(events, group), group, mark).draw()
+    except playtext.NoText:
+        pass
+    except Exception as error:  # whatever it is
+        yield f"{error!r} at {text!r}"
+
+
 def main():
     passed = failed = 0
-    texts = (script.with_suffix(".txt") for folder in words(__doc__, 1) for script in sorted(pathlib.Path(folder).glob("*.json")))
-    for path in filter(pathlib.Path.exists, texts):
-        wrong = list(faults(path.read_text(encoding="ascii")))
+    scripts = (script for folder in words(__doc__, 1) for script in sorted(pathlib.Path(folder).glob("*.json")))
+    paths = [script.with_suffix(".txt") for script in scripts if script.with_suffix(".txt").exists()]
+    draw, small = random.Random(1), [text for text in (path.read_bytes() for path in paths) if len(text) <= 4_000]
+    tried = [(path, faults(path.read_bytes())) for path in paths]
+    tried += [("a changed text", faults_of_changed(changed(draw.choice(small), draw))) for _ in range(1_000 if small else 0)]
+    for what, found in tried:
+        wrong = list(found)
         passed, failed = passed + (not wrong), failed + bool(wrong)
         for line in wrong:
-            print(f"{path}: {line}")
-    print(f"{passed} pictures passed, {failed} failed")
+            print(f"{what}: {line}")
+    print(f"{passed} texts passed, {failed} failed")
     sys.exit(1 if failed or not passed else 0)
 
 

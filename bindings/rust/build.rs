@@ -1,35 +1,55 @@
 //! Links the proved library, and behind it the toolchain's `c/liblibc_c.a`, by which it calls `malloc`, `realloc` and `free`. KIT is
 //! the toolchain's folder; where it isn't set, the folder of the page that `rt doc` names.
-use std::path::PathBuf;
-use std::process::Command;
+use std::path::{Path, PathBuf};
+use std::process::{exit, Command};
 use std::{env, fs};
 
-fn kit() -> PathBuf {
-    if let Some(kit) = env::var_os("KIT") {
-        return kit.into();
+/// Ends the build with a line that says why.
+fn refuse(why: &str) -> ! {
+    eprintln!("{why}");
+    exit(1)
+}
+
+/// The folder of a page that a path names.
+fn folder_of(page: &[u8]) -> Option<PathBuf> {
+    let page = Path::new(std::str::from_utf8(page).ok()?.trim());
+    Some(page.parent()?.into())
+}
+
+/// The toolchain's folder of static libraries.
+fn kit_libraries() -> PathBuf {
+    let kit = match env::var_os("KIT") {
+        Some(kit) => Some(kit.into()),
+        None => match Command::new("rt").arg("doc").output() {
+            Ok(said) => folder_of(&said.stdout),
+            Err(_) => None,
+        },
+    };
+    match kit.map(|kit: PathBuf| kit.join("c")) {
+        Some(found) if found.join("liblibc_c.a").exists() => found,
+        _ => refuse("the toolchain isn't found: KIT is its folder, where rt isn't on the path"),
     }
-    let page = Command::new("rt")
-        .arg("doc")
-        .output()
-        .expect("set KIT to the toolchain's folder");
-    let page = PathBuf::from(String::from_utf8(page.stdout).expect("a path").trim());
-    page.parent().expect("a folder").into()
 }
 
 fn main() {
     let here = PathBuf::from(env::var_os("CARGO_MANIFEST_DIR").expect("cargo sets it"));
-    let library = fs::canonicalize(here.join("../../crates/am_c/out"))
-        .expect("`rt lib` in crates/am_c makes the library");
+    let top = fs::canonicalize(here.join("../..")).expect("this folder is there");
+    let library = top.join("crates/am_c/out");
+    let archive = library.join("libam_c.a");
+    println!("cargo:rerun-if-changed={}", archive.display());
+    println!("cargo:rerun-if-env-changed=KIT");
+    if !archive.exists() {
+        refuse(&format!(
+            "{} isn't there: {} proves and makes it, in about a minute where the gate has passed, else in half an hour or so",
+            archive.display(),
+            top.join("tools/library.py").display()
+        ));
+    }
     println!("cargo:rustc-link-search=native={}", library.display());
     println!(
         "cargo:rustc-link-search=native={}",
-        kit().join("c").display()
+        kit_libraries().display()
     );
     println!("cargo:rustc-link-lib=static=am_c");
     println!("cargo:rustc-link-lib=static=libc_c");
-    println!(
-        "cargo:rerun-if-changed={}",
-        library.join("libam_c.a").display()
-    );
-    println!("cargo:rerun-if-env-changed=KIT");
 }
