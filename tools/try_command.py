@@ -20,7 +20,7 @@ import tempfile
 
 from words import end, words
 
-USAGE = "usage: play | race | gen --seed N --count N [--script] | audit | parts | messages | directory | snapshots | node --name N --founders N,N\n"
+USAGE = "usage: play | race | gen --seed N --count 1..100000 [--script] | audit | parts | messages | directory | snapshots | node --name PLACE[/LIFE] --founders PLACE,.. [--resilience 0..15] [--window 1..1008] [--pb-up-to 0..1024]\n"
 GEN = ["gen", "--seed", "1", "--count", "50"]
 
 # words that have no form, and what stands in the lines below the usage
