@@ -38,6 +38,8 @@ MOST_BODY = 1024
 TAG_SIZE = 8
 # how long what was read before the end of the input may take to be sent
 LAST_SECONDS = 2
+# behind how much silence of the group a member tells of it
+SILENT_SECONDS = 5
 INPUT = 0
 # a node emits a send at once only where none of its own is under way before it, and else at its next tick
 MOST_UNDER_WAY = 1
@@ -62,6 +64,14 @@ def complain(text: str) -> None:
     if sys.stderr:
         with contextlib.suppress(OSError):
             print(f"{os.path.basename(sys.argv[0])}: {text}", file=sys.stderr, flush=True)
+
+
+def say(text: str) -> None:
+    """Prints a line."""
+    try:
+        print(text, flush=True)
+    except OSError as error:
+        raise Refused(f"standard output can't be written: {error.strerror}") from error
 
 
 def shown(body: bytes) -> str:
@@ -235,6 +245,7 @@ class Member:
         self.under_way = 0
         self.stopped: set[str] = set()
         self.was_member = self.is_leaving = False
+        self.silent_since: float | None = time.monotonic()  # none once it is told
         self.leave_answer = ""
 
     def do(self, line: str, heard: str = "") -> str:
@@ -249,6 +260,8 @@ class Member:
     def act(self, line: str, heard: str = "") -> str:
         """Does a line, and then takes and sends what can be taken and sent behind it."""
         answer = self.do(line, heard)
+        if heard:
+            self.silent_since = time.monotonic()
         if answer.startswith("voted"):
             self.patience = self.ticks + 20
         if answer.split(" ")[0] in TAKES_AFTER:
@@ -269,11 +282,11 @@ class Member:
 
     def took_data(self, number: int, sender: str, body: bytes) -> None:
         """What the application does with a message."""
-        print(f"{number} {sender}: {shown(body)}", flush=True)
+        say(f"{number} {sender}: {shown(body)}")
 
     def took_other(self, number: int, kind: str, parts: list[str]) -> None:
         """What it does with a join, a leave or a view."""
-        print(f"{number} {kind} {' '.join(parts)}", flush=True)
+        say(f"{number} {kind} {' '.join(parts)}")
 
     def send(self) -> None:
         """Sends what waits, as long as the node takes sends."""
@@ -288,8 +301,8 @@ class Member:
     def left_undone(self) -> str:
         """What of the input isn't done; nothing where all is."""
         if self.bodies or self.under_way:
-            return f"{len(self.bodies) + self.under_way} of its messages aren't sent, or not answered as sent"
-        return "it hasn't left" if self.is_leaving else ""
+            return f"messages not sent, or not answered as sent: {len(self.bodies) + self.under_way}"
+        return "this member hasn't left" if self.is_leaving else ""
 
     def leave(self) -> None:
         """Asks to leave once all is sent and answered, again as long as the node doesn't take it: while it joins, or has a ballot."""
@@ -317,6 +330,9 @@ class Member:
         the lowest running member first, the others later."""
         if info.status == "departed":
             raise EOFError
+        if self.silent_since and self.silent_since + SILENT_SECONDS < time.monotonic() and info.members != [self.wanted.name]:
+            self.silent_since = None
+            complain(f"nothing heard for {SILENT_SECONDS} seconds: the others don't run, can't be reached, or go on without this member")
         if self.wanted.name in info.members:
             self.was_member = True
         elif self.was_member and not self.is_leaving:
@@ -514,10 +530,11 @@ def run_member(application: type[Member], wanted: argparse.Namespace) -> int:
     try:
         if wanted.name not in wanted.founders.split(","):
             member.act("join")
+        member.take()
         member.run()
         undone = member.left_undone()
     except EOFError:
-        print("departed", flush=True)
+        say("departed")
         undone = ""
     member.tell_counts()
     journal.write("end")
