@@ -166,7 +166,8 @@ def unknown(tried: Tried) -> list[str]:
     place_0 = "127.0.0.1", tried.ports[0]
     with socket.socket(socket.AF_INET, socket.SOCK_DGRAM) as other, socket.socket(socket.AF_INET, socket.SOCK_DGRAM) as place_2:
         place_2.bind(("127.0.0.2", tried.ports[2]))
-        for data in (b"1 1 0\nAG", b"1" * 5000 + b" 1 0\n", b"", b"x\n", b"1 1\n", b"-1 1 0\n", b"\xff\xff 1 0\n", tag + b"2 1 0\n" + b"A" * 20):
+        elsewhere = [b"1 1 0\nAG", b"1" * 5000 + b" 1 0\n", b"", b"x\n", b"1 1\n", b"\xff\xff 1 0\n", tag + b"2 1 0\n" + b"A" * 20]
+        for data in elsewhere:
             other.sendto(data, place_0)
         for data in nonsense:
             place_2.sendto(tag + data, place_0)
@@ -176,7 +177,7 @@ def unknown(tried: Tried) -> list[str]:
         wrong = [] if member.wants(told + "--pb-up-to differs, or --key") else ["another group isn't told"]
         place_2.sendto(tag + b"2 1 0\n" + b"A" * 20, place_0)
         time.sleep(0.2)
-    status, wanted = member.end(), [str(8 + len(nonsense)), "0", "3"]
+    status, wanted = member.end(), [str(len(elsewhere + nonsense)), "0", "3"]
     if (status, tried.counts("0")) != (0, wanted) or "hear 0 4141" not in tried.journal("0").read_text():
         wrong.append(f"status {status}, counts {tried.counts('0')}, wanted {wanted}")
     return wrong
