@@ -81,9 +81,9 @@ def shown(body: bytes) -> str:
 
 def address_of(text: str) -> tuple[str, int]:
     """The address that HOST:PORT is."""
-    host, colon, port = text.rpartition(":")
+    host, _, port = text.rpartition(":")
     if ":" in host:
-        raise Refused(f"{host} is no address of IPv4, and others aren't supported")
+        raise Refused(f"{host!r} is no address of IPv4, and others aren't supported")
     if not host or not re.fullmatch("[0-9]{1,5}", port) or not 1 <= int(port) <= 65535:
         raise Refused(f"{text!r} is no HOST:PORT with a port of 1 to 65535")
     try:
@@ -493,7 +493,9 @@ def run(application: type[Member] = Member) -> int:
     except (Refused, Ended) as error:
         complain(str(error))
     with contextlib.suppress(OSError):
-        os.dup2(os.open(os.devnull, os.O_WRONLY), 1)  # what standard output didn't take isn't tried again at the exit
+        if sys.stdout:
+            sys.stdout.flush()
+    os.dup2(os.open(os.devnull, os.O_WRONLY), 1)  # what standard output didn't take isn't tried again at the exit
     return 1
 
 

@@ -308,8 +308,9 @@ def refused(tried: Tried) -> list[str]:
         (["--founders", "0,3"], "", 1, "has no address of place 3"),
         (["--program", "/bin/true"], "", 1, "the node has ended, with status 0, before it did anything"),
         (["--program", "x '"], "", 1, "No closing quotation"),
+        (["--program", "/no/such"], "", 1, "'/no/such' isn't there, or can't be run"),
         ([], "3 127.0.0.1:99999\n", 1, "line 4: '127.0.0.1:99999' is no HOST:PORT with a port of 1 to 65535"),
-        ([], "3 [::1]:4000\n", 1, "line 4: [::1] is no address of IPv4"),
+        ([], "3 [::1]:4000\n", 1, "line 4: '[::1]' is no address of IPv4"),
         ([], "0 127.0.0.1:4000\n", 1, "line 4: its place or its address is in a line above"),
         ([], "3 \udcff\0:4000\n", 1, "is unknown as a host"),
     ]
