@@ -123,7 +123,8 @@ class Tried:
 
     def counts(self, name: str) -> list[str]:
         """What a member counted at its end: of unknown senders, unsigned, of another group."""
-        return [line.split("\t") for line in self.journal(name).read_text().splitlines() if line.startswith("counts")][-1][4:]
+        lines = [line for line in self.journal(name).read_text().splitlines() if line.startswith("counts")]
+        return lines[-1].split("\t")[4:] if lines else []
 
     def journal(self, name: str) -> pathlib.Path:
         """Where a member's journal is."""
