@@ -9,12 +9,33 @@ Nothing of a letter needs to be looked at but to whom it goes. Copy this file or
 transport needs.
 """
 
+import contextlib
 import pathlib
+import re
+import shlex
+import shutil
 import subprocess
 from typing import NamedTuple
 
 TOP = pathlib.Path(__file__).resolve().parent.parent
 PROGRAM = TOP / "crates" / "am_sim" / "out" / "am_sim"
+LETTER = re.compile(r"(\*?[0-9/,]+) ((?:[0-9a-f]{2})+)")
+
+
+class NoProgram(OSError):
+    """Why there is no program of a node."""
+
+
+def program_of(words: str | None) -> list[str]:
+    """The command of a node: the words as a shell splits them, and where there are none the program that is built here."""
+    try:
+        command = [str(PROGRAM)] if words is None else shlex.split(words)
+    except ValueError as error:
+        raise NoProgram(f"{words}: {error}") from error
+    if not command or shutil.which(command[0]) is None:
+        hint = "; `./muoswyld gen --seed 1 --count 1` builds it" if words is None else ""
+        raise NoProgram(f"{command[0] if command else 'the program'!r} isn't there, or can't be run{hint}")
+    return command
 
 
 class Letter(NamedTuple):
@@ -34,7 +55,7 @@ class Letter(NamedTuple):
 
 
 class Ended(Exception):
-    """The child has ended: its output is closed, or it can't be written to."""
+    """The child has ended, or what it says is no answer of a node."""
 
 
 class Node:
@@ -42,25 +63,33 @@ class Node:
 
     def __init__(self, name: str, founders: str, *options: str, program: list[str] | None = None):
         words = ["node", "--name", name, "--founders", founders, *options]
-        self.child = subprocess.Popen([*(program or [str(PROGRAM)]), *words], stdin=subprocess.PIPE, stdout=subprocess.PIPE)
+        self.child = subprocess.Popen([*(program or program_of(None)), *words], stdin=subprocess.PIPE, stdout=subprocess.PIPE)
 
     def do(self, line: str) -> tuple[str, list[Letter]]:
         """What the node answers to a line, and the letters that go out."""
         assert self.child.stdin and self.child.stdout
+        if not line or "\n" in line:
+            raise ValueError(f"{line!r} isn't one line")
+        if self.child.stdin.closed:
+            raise Ended("the node is closed")
         try:
             self.child.stdin.write(line.encode() + b"\n")
             self.child.stdin.flush()
         except OSError as error:
-            raise Ended from error
+            raise Ended("the node has ended") from error
         said = self.child.stdout.readline()
         if not said.endswith(b"\n"):
-            raise Ended
-        answer, *letters = said.decode().rstrip("\n").split(" | ")
-        return answer, [Letter(*letter.split(" ", 1)) for letter in letters]
+            raise Ended("the node has ended")
+        answer, *letters = said.decode(errors="replace").rstrip("\n").split(" | ")
+        found = [LETTER.fullmatch(letter) for letter in letters]
+        if not all(found):
+            raise Ended(f"{said[:80]!r} is no answer of a node")
+        return answer, [Letter(*letter.groups()) for letter in found if letter]
 
     def close(self) -> int:
         """Ends the input, and gives the child's status."""
         assert self.child.stdin and self.child.stdout
-        self.child.stdin.close()
+        with contextlib.suppress(OSError):
+            self.child.stdin.close()
         self.child.stdout.close()
         return self.child.wait()

@@ -1,36 +1,52 @@
 #!/usr/bin/env python3
 """One member of a group on a real network: a node as a child process, datagrams as letters, a clock as ticks (docs/NETWORK.md).
 
-    net/udp.py --name 1 --founders 0,1,2 --peers PEERS
+    net/udp.py --name 1 --founders 0,1,2 --resilience 1 --peers PEERS
 
 PEERS has a line `PLACE HOST:PORT` for each place. A name that is no founder's first life asks to join. What the member takes is
 printed, a line each. Each line of standard input is sent, but for `stopped NAME`, which tells that a process has ended for sure (the
-group is then reset without it), and `leave`. At the end of the input the member stops, without leaving.
+group is then reset without it), and `leave`. At the end of the input the member stops, without leaving, once what it has read is sent,
+or 2 seconds later.
 """
 
 import argparse
+import contextlib
 import hashlib
 import hmac
+import math
 import os
 import random
 import re
-import selectors
-import shlex
+import select
 import signal
 import socket
+import stat
 import sys
 import time
+from collections.abc import Callable
 from typing import NamedTuple
 
 from faults import Faults
-from node import PROGRAM, Ended, Letter, Node
+from node import Ended, Letter, Node, program_of
 
 NAME = re.compile(r"([0-9]|1[0-5])(?:/([2-9]|1[0-6]))?")
+# a datagram's first line: its sender, that one's number for the letter, and for whom it is
+HEAD = re.compile(r"(NAME) ([0-9]{1,10}) (\*?NAME(?:,NAME){0,15})".replace("NAME", r"(?:[0-9]|1[0-5])(?:/(?:[2-9]|1[0-6]))?"))
+MOST_HEAD = 256
+LEAST_PACKET, MOST_PACKET = 12, 1152
 MOST_BODY = 1024
+TAG_SIZE = 8
+# how long what was read before the end of the input may take to be sent
+LAST_SECONDS = 2
+# behind how much silence of the group a member tells of it
+SILENT_SECONDS = 5
+INPUT = 0
 # a node emits a send at once only where none of its own is under way before it, and else at its next tick
 MOST_UNDER_WAY = 1
 # answers behind which there may be something to take
 TAKES_AFTER = {"stored", "advanced", "accepted", "numbered", "queued", "welcomed", "decided", "served", "again"}
+# a leave that wasn't tried, or that the node didn't take
+NOT_YET = {"", "busy", "not-member"}
 DIGEST = hashlib.sha256().digest_size
 
 
@@ -39,31 +55,60 @@ def place_of(name: str) -> int:
     return int(name.split("/")[0])
 
 
-def order_of(name: str) -> tuple[int, int]:
-    """What names are ordered by: the place, then the life."""
-    place, _, life = name.partition("/")
-    return int(place), int(life or 1)
-
-
 class Refused(Exception):
-    """Why there is no member: what is wrong with the words of the command or their files."""
+    """Why there is no member, or no longer one: what is wrong with the words of the command or with a file."""
+
+
+def complain(text: str) -> None:
+    """Says something on standard error, where somebody reads it."""
+    if sys.stderr:
+        with contextlib.suppress(OSError):
+            print(f"{os.path.basename(sys.argv[0])}: {text}", file=sys.stderr, flush=True)
+
+
+def say(text: str) -> None:
+    """Prints a line."""
+    try:
+        print(text, flush=True)
+    except OSError as error:
+        raise Refused(f"standard output can't be written: {error.strerror}") from error
+
+
+def shown(body: bytes) -> str:
+    """A body in one line: what can't be shown is replaced."""
+    return re.sub(r"[\x00-\x08\x0a-\x1f\x7f-\x9f\u2028\u2029]", "\ufffd", body.decode(errors="replace"))
+
+
+def address_of(text: str) -> tuple[str, int]:
+    """The address that HOST:PORT is."""
+    host, _, port = text.rpartition(":")
+    if ":" in host:
+        raise Refused(f"{host!r} is no address of IPv4, and others aren't supported")
+    if not host or not re.fullmatch("[0-9]{1,5}", port) or not 1 <= int(port) <= 65535:
+        raise Refused(f"{text!r} is no HOST:PORT with a port of 1 to 65535")
+    try:
+        return socket.gethostbyname(host), int(port)
+    except (OSError, ValueError) as error:
+        raise Refused(f"{host!r} is unknown as a host with an address of IPv4") from error
 
 
 def read_peers(path: str) -> dict[int, tuple[str, int]]:
     """The address of each place, of a file of lines `PLACE HOST:PORT`; what is behind a # is a comment."""
-    peers = {}
-    with open(path, encoding="utf-8") as lines:
+    peers: dict[int, tuple[str, int]] = {}
+    with open(path, encoding="utf-8", errors="replace") as lines:
         for number, line in enumerate(lines, 1):
             words = line.split("#")[0].split()
             if not words:
                 continue
             try:
-                place, host, port = int(words[0]), *words[1].rsplit(":", 1)
-                if len(words) != 2 or not 0 <= place <= 15 or place in peers:
-                    raise ValueError
-                peers[place] = (socket.gethostbyname(host), int(port))
-            except (ValueError, IndexError, OSError) as error:
-                raise Refused(f"{path}, line {number}: a line is PLACE HOST:PORT, each place once, of 0 to 15") from error
+                if len(words) != 2 or not NAME.fullmatch(words[0]) or "/" in words[0]:
+                    raise Refused("a line is PLACE HOST:PORT, with a place of 0 to 15")
+                place, address = int(words[0]), address_of(words[1])
+                if place in peers or address in peers.values():
+                    raise Refused("its place or its address is in a line above")
+                peers[place] = address
+            except Refused as error:
+                raise Refused(f"{path}, line {number}: {error}") from error
     return peers
 
 
@@ -79,7 +124,9 @@ class Info(NamedTuple):
 
 def info_of(answer: str) -> Info:
     """The answer to `info`."""
-    words = answer.split()
+    words = answer.split(" ")
+    if len(words) != 10:
+        raise Ended(f"{answer[:80]!r} is no answer of a node to `info`")
     names = lambda text: [] if text == "-" else text.split(",")
     return Info(words[0], words[1], int(words[2]), names(words[3]), names(words[9]))
 
@@ -96,12 +143,20 @@ class Journal:
                 self.file = os.open(path, os.O_WRONLY | os.O_CREAT | os.O_EXCL | os.O_APPEND, 0o644)
             except FileExistsError as error:
                 raise Refused(f"{path} is there: a name is never run twice; its place comes back as its next life") from error
-            self.write("node", *founding)
+            try:
+                self.write("node", *founding)
+            except Refused:
+                os.unlink(path)
+                raise
 
     def write(self, *fields: str) -> None:
-        """Adds a line."""
-        if self.file is not None:
-            os.write(self.file, ("\t".join(fields) + "\n").encode())
+        """Adds a line, all of it."""
+        line = ("\t".join(fields) + "\n").encode()
+        while self.file is not None and line:
+            try:
+                line = line[os.write(self.file, line) :]
+            except OSError as error:
+                raise Refused(f"the journal can't be written: {error.strerror}") from error
 
     def add(self, line: str, heard: str, answer: str, letters: list[Letter]) -> None:
         """Adds what was answered to a line."""
@@ -111,20 +166,26 @@ class Journal:
 
 
 class Network:
-    """Datagrams: a digest where there is a key, then a line with the sender, its number for the letter and for whom it is, then the
-    packet's bytes. What comes of somebody else, or isn't signed, is dropped and counted."""
+    """Datagrams: a digest where there is a key, the tag of the group, then a line with the sender, its number for the letter and for whom
+    it is, then the packet's bytes. What comes of somebody else, isn't signed, or is of another group is dropped and counted."""
 
-    def __init__(self, me: str, peers: dict[int, tuple[str, int]], key: bytes | None, faults: Faults):
-        self.me, self.peers, self.key, self.faults = me, peers, key, faults
+    def __init__(self, me: str, peers: dict[int, tuple[str, int]], key: bytes | None, tag: bytes, faults: Faults):
+        self.me, self.peers, self.key, self.tag, self.faults = me, peers, key, tag, faults
+        self.places = {address: place for place, address in peers.items()}
         self.socket = socket.socket(socket.AF_INET, socket.SOCK_DGRAM)
         self.socket.setsockopt(socket.SOL_SOCKET, socket.SO_RCVBUF, 1 << 22)
-        self.socket.bind(peers[place_of(me)])
+        host, port = peers[place_of(me)]
+        try:
+            self.socket.bind((host, port))
+        except OSError as error:
+            raise Refused(f"{host}:{port}: {error.strerror}") from error
         self.socket.setblocking(False)
-        self.sent = self.unknown = self.unsigned = 0
+        self.sent = self.unknown = self.unsigned = self.of_others = 0
+        self.told: set[int] = set()
 
     def send(self, letter: Letter, number: int) -> None:
         """Sends a letter to whom it is for."""
-        data = f"{self.me} {number} {letter.to}\n".encode() + bytes.fromhex(letter.data)
+        data = self.tag + f"{self.me} {number} {letter.to}\n".encode() + bytes.fromhex(letter.data)
         if self.key is not None:
             data = hmac.digest(self.key, data, "sha256") + data
         for name in letter.names():
@@ -141,22 +202,36 @@ class Network:
                 return None
             except OSError:
                 continue  # an earlier datagram found nobody
-            if self.key is not None:
-                digest, data = data[:DIGEST], data[DIGEST:]
-                if not hmac.compare_digest(digest, hmac.digest(self.key, data, "sha256")):
-                    self.unsigned += 1
-                    continue
-            head, newline, packet = data.partition(b"\n")
-            words = head.decode(errors="replace").split(" ")
-            if not newline or len(words) != 3 or not words[1].isdecimal() or not self.is_of(words[0], address):
-                self.unknown += 1
-                continue
-            return f"hear {words[2]} {packet.hex() or '-'}", f"{words[0]} {words[1]}"
+            if letter := self.read(data, self.places.get(address)):
+                return letter
 
-    def is_of(self, name: str, address: tuple[str, int]) -> bool:
-        """Whether a datagram from an address can be of a name."""
-        place, _, life = name.partition("/")
-        return place.isdecimal() and (life or "1").isdecimal() and self.peers.get(int(place)) == address
+    def read(self, data: bytes, place: int | None) -> tuple[str, str] | None:
+        """What `receive` gives of a datagram that came from a place's address; None where it is dropped."""
+        if self.key is not None:
+            digest, data = data[:DIGEST], data[DIGEST:]
+            if not hmac.compare_digest(digest, hmac.digest(self.key, data, "sha256")):
+                self.unsigned += 1
+                self.tell(place, "isn't signed with this key")
+                return None
+        if place is None:
+            self.unknown += 1
+            return None
+        if data[:TAG_SIZE] != self.tag:
+            self.of_others += 1
+            self.tell(place, "is of another group: --run, --founders, --resilience, --window or --pb-up-to differs, or --key")
+            return None
+        line, newline, packet = data[TAG_SIZE:].partition(b"\n")
+        head = HEAD.fullmatch(line.decode(errors="replace")) if newline and len(line) <= MOST_HEAD else None
+        if not head or place_of(head[1]) != place or not LEAST_PACKET <= len(packet) <= MOST_PACKET:
+            self.unknown += 1
+            return None
+        return f"hear {head[3]} {packet.hex()}", f"{head[1]} {head[2]}"
+
+    def tell(self, place: int | None, what: str) -> None:
+        """Tells once of a place why what comes of it is dropped."""
+        if place is not None and place not in self.told:
+            self.told.add(place)
+            complain(f"what comes of place {place} is dropped: it {what}")
 
 
 class Member:
@@ -169,7 +244,9 @@ class Member:
         self.bodies: list[bytes] = []
         self.under_way = 0
         self.stopped: set[str] = set()
-        self.is_leaving = False
+        self.was_member = self.is_leaving = False
+        self.silent_since: float | None = time.monotonic()  # none once it is told
+        self.leave_answer = ""
 
     def do(self, line: str, heard: str = "") -> str:
         """Gives the node a line; its letters go out once its answer is in the journal."""
@@ -183,6 +260,8 @@ class Member:
     def act(self, line: str, heard: str = "") -> str:
         """Does a line, and then takes and sends what can be taken and sent behind it."""
         answer = self.do(line, heard)
+        if heard:
+            self.silent_since = time.monotonic()
         if answer.startswith("voted"):
             self.patience = self.ticks + 20
         if answer.split(" ")[0] in TAKES_AFTER:
@@ -203,11 +282,11 @@ class Member:
 
     def took_data(self, number: int, sender: str, body: bytes) -> None:
         """What the application does with a message."""
-        print(f"{number} {sender}: {body.decode(errors='replace')}", flush=True)
+        say(f"{number} {sender}: {shown(body)}")
 
     def took_other(self, number: int, kind: str, parts: list[str]) -> None:
         """What it does with a join, a leave or a view."""
-        print(f"{number} {kind} {' '.join(parts)}", flush=True)
+        say(f"{number} {kind} {' '.join(parts)}")
 
     def send(self) -> None:
         """Sends what waits, as long as the node takes sends."""
@@ -219,6 +298,17 @@ class Member:
             self.under_way += 1
             self.take()
 
+    def left_undone(self) -> str:
+        """What of the input isn't done; nothing where all is."""
+        if self.bodies or self.under_way:
+            return f"messages not sent, or not answered as sent: {len(self.bodies) + self.under_way}"
+        return "this member hasn't left" if self.is_leaving else ""
+
+    def leave(self) -> None:
+        """Asks to leave once all is sent and answered, again as long as the node doesn't take it: while it joins, or has a ballot."""
+        if not self.bodies and not self.under_way and self.leave_answer in NOT_YET:
+            self.leave_answer = self.act("leave").split(" ")[0]
+
     def tick(self) -> None:
         """Ticks; every few ticks it takes what others brought about, and where a stopped name is still a member it resets the group."""
         self.ticks += 1
@@ -226,14 +316,27 @@ class Member:
         if self.ticks % 5 == 0:
             self.take()
             self.send()
-        if self.stopped or self.is_leaving:
-            self.look(info_of(self.node.do("info")[0]))
+        if self.is_leaving:
+            self.leave()
+        if self.stopped or self.is_leaving or self.ticks % 5 == 0:
+            self.look(self.info())
+
+    def info(self) -> Info:
+        """What the node tells of itself; this changes nothing, so the journal hasn't it."""
+        return info_of(self.node.do("info")[0])
 
     def look(self, info: Info) -> None:
         """Gives up stopped names that a ballot of its own waits for; begins one where a stopped name is a member of the last view,
         the lowest running member first, the others later."""
         if info.status == "departed":
             raise EOFError
+        if self.silent_since and self.silent_since + SILENT_SECONDS < time.monotonic() and info.members != [self.wanted.name]:
+            self.silent_since = None
+            complain(f"nothing heard for {SILENT_SECONDS} seconds: the others don't run, can't be reached, or go on without this member")
+        if self.wanted.name in info.members:
+            self.was_member = True
+        elif self.was_member and not self.is_leaving:
+            raise Refused(f"the group goes on without this member: view {info.view} is of {','.join(info.members)}")
         for name in info.waiting:
             if name in self.stopped:
                 self.act(f"giveup {name}")
@@ -243,7 +346,7 @@ class Member:
         if self.ticks >= self.patience:
             self.patience = self.ticks + 20 + 15 * running.index(self.wanted.name)
             self.act(f"reset {self.wanted.least}")
-            self.look(info_of(self.node.do("info")[0])) if self.stopped else None
+            self.look(self.info())
 
     def put(self, body: bytes) -> bool:
         """Sends a message, now or once the node takes it; False where it is too long."""
@@ -255,35 +358,48 @@ class Member:
 
     def said(self, line: str) -> None:
         """What the application does with a line of standard input."""
-        if not self.put(line.encode()):
-            print(f"too long: at most {MOST_BODY} bytes", file=sys.stderr)
+        if not self.put(line.encode(errors="surrogateescape")):
+            complain(f"too long: at most {MOST_BODY} bytes")
 
     def told(self, line: str) -> None:
-        """Does a line of standard input."""
-        word, _, rest = line.partition(" ")
-        if word == "stopped" and rest:
-            self.stopped.add(rest)
-            members = info_of(self.node.do("info")[0]).members
-            running = [name for name in members if name not in self.stopped]
-            rank = running.index(self.wanted.name) if self.wanted.name in running else len(running)
-            self.patience = max(self.patience, self.ticks + 1 + 10 * rank)
-        elif line == "leave":
+        """Does a line of standard input; bytes that aren't UTF-8 are lone surrogates in it."""
+        words = line.split()
+        if words[:1] == ["stopped"]:
+            self.told_stopped(words[1:])
+        elif self.is_leaving:
+            complain("this member leaves, so the line isn't taken")
+        elif words == ["leave"]:
             self.is_leaving = True
-            self.act("leave")
+            self.leave()
+            if self.leave_answer in NOT_YET:
+                complain("leave waits until a send, a join or a reset is done")
         else:
             self.said(line)
+
+    def told_stopped(self, names: list[str]) -> None:
+        """Remembers who has ended, and when to reset the group without it."""
+        if len(names) != 1 or not NAME.fullmatch(names[0]) or names[0] == self.wanted.name:
+            complain("stopped NAME wants the name of another member: PLACE, or PLACE/LIFE with a life of 2 to 16")
+            return
+        self.stopped.add(names[0])
+        members = self.info().members
+        if members and names[0] not in members:
+            complain(f"stopped {names[0]}: no member has this name now")
+        running = [name for name in members if name not in self.stopped]
+        rank = running.index(self.wanted.name) if self.wanted.name in running else len(running)
+        self.patience = max(self.patience, self.ticks + 1 + 10 * rank)
 
     def tell_counts(self) -> None:
         """Writes what was lost and dropped so far."""
         faults, network = self.network.faults, self.network
-        self.journal.write("counts", *map(str, (network.sent, faults.lost, faults.repeated, network.unknown, network.unsigned)))
+        counts = network.sent, faults.lost, faults.repeated, network.unknown, network.unsigned, network.of_others
+        self.journal.write("counts", *map(str, counts))
 
     def run(self) -> None:
-        """Until the input or the time ends, or the node has departed."""
-        lines, ends = selectors.DefaultSelector(), time.monotonic() + self.wanted.seconds
-        lines.register(sys.stdin.fileno(), selectors.EVENT_READ, "input")
-        lines.register(self.network.socket, selectors.EVENT_READ, "network")
-        rest, due = b"", time.monotonic()
+        """Until the time has passed, or the input has ended and what it said is done. A file is read as its messages go out."""
+        ends, due, rest = time.monotonic() + self.wanted.seconds, time.monotonic(), b""
+        reads = not self.wanted.no_input and sys.stdin is not None
+        is_file = reads and stat.S_ISREG(os.fstat(INPUT).st_mode)
         while (now := time.monotonic()) < ends:
             if now >= due:
                 due = max(due + self.wanted.tick / 1000, now)
@@ -291,50 +407,107 @@ class Member:
                 if self.ticks % 10 == 0:
                     self.tell_counts()
             self.network.faults.flush()
-            for key, _ in lines.select(max(0, min(due, self.network.faults.due(), ends) - time.monotonic())):
-                if key.data == "network":
-                    for _ in range(64):
-                        if (letter := self.network.receive()) is None:
-                            break
-                        self.act(*letter)
-                    continue
-                data = os.read(sys.stdin.fileno(), 65536)
-                *whole, rest = (rest + data).split(b"\n")
-                for line in whole:
-                    self.told(line.decode(errors="replace"))
+            watched: list[socket.socket | int] = [self.network.socket]
+            if reads and not (is_file and self.bodies):
+                watched.append(INPUT)
+            ready, _, _ = select.select(watched, [], [], max(0, min(due, self.network.faults.due(), ends) - time.monotonic()))
+            if self.network.socket in ready:
+                for _ in range(64):
+                    if (letter := self.network.receive()) is None:
+                        break
+                    self.act(*letter)
+            if INPUT in ready:
+                data = os.read(INPUT, 65536)
+                *lines, rest = (rest + data).split(b"\n")
                 if not data:
-                    return
+                    reads, ends = False, min(ends, time.monotonic() + LAST_SECONDS)
+                    lines = [rest] if rest else []
+                for line in lines:
+                    self.told(line.decode(errors="surrogateescape"))
+            if not reads and not self.wanted.no_input and not self.left_undone():
+                return
+
+
+def number_of(kind: Callable[[str], float], least: float, most: float) -> Callable[[str], float]:
+    """What reads a word of the command that is a number, of a kind and in a range."""
+
+    def read(text: str) -> float:
+        with contextlib.suppress(ValueError):
+            if least <= (value := kind(text)) <= most:
+                return value
+        raise argparse.ArgumentTypeError(f"{text[:40]!r} is no number from {least} to {most}")
+
+    return read
+
+
+def name_of(text: str) -> str:
+    """A word of the command that is a name."""
+    if not NAME.fullmatch(text):
+        raise argparse.ArgumentTypeError(f"{text!r} is no name: PLACE, 0 to 15, or PLACE/LIFE, with a life of 2 to 16")
+    return text
+
+
+def founders_of(text: str) -> str:
+    """A word of the command that is the founders' places."""
+    places = text.split(",")
+    is_one = all(NAME.fullmatch(place) and "/" not in place for place in places)
+    if not is_one or any(int(one) >= int(other) for one, other in zip(places, places[1:])):
+        raise argparse.ArgumentTypeError(f"{text!r} aren't places of 0 to 15 in ascending order, with commas between them")
+    return text
 
 
 def options() -> argparse.Namespace:
     """The words of the command, whose page is that of the application that is run."""
     page = sys.modules["__main__"].__doc__
     parser = argparse.ArgumentParser(description=page, formatter_class=argparse.RawDescriptionHelpFormatter)
-    parser.add_argument("--name", required=True, help="PLACE, or PLACE/LIFE for a place that comes back")
-    parser.add_argument("--founders", required=True, help="places in ascending order, as 0,1,2")
+    parser.add_argument("--name", type=name_of, required=True, help="PLACE, or PLACE/LIFE for a place that comes back")
+    parser.add_argument("--founders", type=founders_of, required=True, help="places in ascending order, as 0,1,2")
     parser.add_argument("--peers", required=True, help="a file with a line PLACE HOST:PORT for each place")
-    parser.add_argument("--resilience", default="0")
-    parser.add_argument("--window", default="64")
-    parser.add_argument("--pb-up-to", default="256")
-    parser.add_argument("--least", type=int, default=1, help="the fewest members that a reset goes on with")
-    parser.add_argument("--tick", type=float, default=20, help="milliseconds between ticks")
+    parser.add_argument("--run", default="", help="a word that is another one each time a group begins anew on the same network")
+    parser.add_argument("--resilience", type=number_of(int, 0, 15), default=0, help="how many may stop between two resets (0)")
+    parser.add_argument("--window", type=number_of(int, 1, 1008), default=64, help="how many entries wait for the slowest member (64)")
+    parser.add_argument("--pb-up-to", type=number_of(int, 0, 1024), default=256, help="the longest body that the sequencer sends (256)")
+    parser.add_argument("--least", type=number_of(int, 1, 16), default=1, help="the fewest members that a reset goes on with (1)")
+    parser.add_argument("--tick", type=number_of(float, 1, 10_000), default=20, help="milliseconds between ticks (20)")
     parser.add_argument("--key", help="a file; datagrams are signed with its bytes, and unsigned ones dropped")
     parser.add_argument("--journal", help="a new file for what the node is given and answers")
-    parser.add_argument("--seconds", type=float, default=float("inf"), help="how long it runs at most")
-    parser.add_argument("--program", default=str(PROGRAM), help="the command whose word node is run")
-    for name in ("loss", "repeat", "delay"):
-        parser.add_argument(f"--{name}", type=float, default=0, help=argparse.SUPPRESS)
+    parser.add_argument("--no-input", action="store_true", help="doesn't read standard input, and runs until it is ended")
+    parser.add_argument("--seconds", type=number_of(float, 0, math.inf), default=math.inf, help="how long it runs at most")
+    parser.add_argument("--program", help="the command whose word node is run")
+    for fault, most in (("loss", 100), ("repeat", 100), ("delay", 10_000)):
+        parser.add_argument(f"--{fault}", type=number_of(float, 0, most), default=0, help=argparse.SUPPRESS)
     parser.add_argument("--seed", type=int, default=0, help=argparse.SUPPRESS)
     return parser.parse_args()
 
 
 def run(application: type[Member] = Member) -> int:
-    """Runs a member of the words of the command; 0 at the end of the input, 1 where there is none or the node ended before."""
+    """Runs a member of the words of the command; 1 where there is none, where it ends before it should, or what waits isn't sent."""
+    signal.signal(signal.SIGINT, signal.SIG_DFL)
+    if sys.stdout:
+        sys.stdout.reconfigure(errors="replace")
+    wanted = options()
     try:
-        return run_member(application, options())
-    except (Refused, OSError) as error:
-        print(f"{sys.argv[0]}: {error}", file=sys.stderr)
-        return 1
+        return run_member(application, wanted)
+    except OSError as error:
+        complain(f"{error.filename}: {error.strerror}" if error.filename else str(error.strerror or error))
+    except (Refused, Ended) as error:
+        complain(str(error))
+    with contextlib.suppress(OSError):
+        if sys.stdout:
+            sys.stdout.flush()
+    os.dup2(os.open(os.devnull, os.O_WRONLY), 1)  # what standard output didn't take isn't tried again at the exit
+    return 1
+
+
+def started(wanted: argparse.Namespace) -> Node:
+    """The node, once it runs."""
+    founding = ["--resilience", str(wanted.resilience), "--window", str(wanted.window), "--pb-up-to", str(wanted.pb_up_to)]
+    node = Node(wanted.name, wanted.founders, *founding, program=program_of(wanted.program))
+    try:
+        info_of(node.do("info")[0])
+    except Ended as error:
+        raise Refused(f"{error}, with status {node.close()}, before it did anything") from error
+    return node
 
 
 def run_member(application: type[Member], wanted: argparse.Namespace) -> int:
@@ -343,31 +516,34 @@ def run_member(application: type[Member], wanted: argparse.Namespace) -> int:
     if wanted.key:
         with open(wanted.key, "rb") as file:
             key = file.read()
-    founding = ["--resilience", wanted.resilience, "--window", wanted.window, "--pb-up-to", wanted.pb_up_to]
-    if not NAME.fullmatch(wanted.name):
-        raise Refused(f"{wanted.name} is no name: PLACE, 0 to 15, or PLACE/LIFE, 2 to 16")
+        if not key:
+            raise Refused(f"{wanted.key} is empty, and no key")
     peers = read_peers(wanted.peers)
-    if place_of(wanted.name) not in peers:
-        raise Refused(f"{wanted.peers} has no address of place {place_of(wanted.name)}")
+    for needed in (place_of(wanted.name), *map(int, wanted.founders.split(","))):
+        if needed not in peers:
+            raise Refused(f"{wanted.peers} has no address of place {needed}")
+    founding = [wanted.founders, *map(str, (wanted.resilience, wanted.window, wanted.pb_up_to))]
+    tag = hashlib.sha256(os.fsencode("\n".join([wanted.run, *founding]))).digest()[:TAG_SIZE]
     faults = Faults(wanted.loss, wanted.repeat, wanted.delay, random.Random(f"{wanted.seed} {wanted.name}"))
-    network = Network(wanted.name, peers, key, faults)
-    journal = Journal(wanted.journal, [wanted.name, wanted.founders, wanted.resilience, wanted.window, wanted.pb_up_to])
-    node = Node(wanted.name, wanted.founders, *founding, program=shlex.split(wanted.program))
+    network = Network(wanted.name, peers, key, tag, faults)
+    node = started(wanted)
+    journal = Journal(wanted.journal, [wanted.name, *founding])
     member = application(node, journal, network, wanted)
-    signal.signal(signal.SIGINT, signal.SIG_DFL)
     try:
         if wanted.name not in wanted.founders.split(","):
             member.act("join")
+        member.take()
         member.run()
+        undone = member.left_undone()
     except EOFError:
-        print("departed", flush=True)
-    except Ended:
-        print("the node has ended", file=sys.stderr)
-        return 1
+        say("departed")
+        undone = ""
     member.tell_counts()
     journal.write("end")
     node.close()
-    return 0
+    if undone:
+        complain(undone)
+    return 1 if undone else 0
 
 
 if __name__ == "__main__":
