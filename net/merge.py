@@ -6,8 +6,8 @@
 
 Each member's lines stay in their order; a letter is heard behind the line that sent it, a name is given up behind its stop, a place
 returns behind the stop of its life before. Else the times in the journals decide. A life whose journal has no end stopped behind its
-last line, and so did one that its place went on from. A line whose answer never came isn't there. Where no such order exists, it is
-said which letter is in the way.
+last line, and so did one that its place went on from, or that was given up. A line whose answer never came isn't there, nor is a last
+line that is cut. Where no such order exists, it is said which letter is missing, or in the way.
 """
 
 import heapq
@@ -20,7 +20,10 @@ KINDS = (
     "Request Spread Bcast Order Accept Ack Nack Hold JoinAsk Welcome LeaveAsk Gone Invite Vote Fetch Piece Result HandOver"
 ).split()
 CALLS = {"take", "join", "leave", "state", "tick"}
+COUNTS = 6
 NAME = re.compile(r"([0-9]|1[0-5])(?:/([2-9]|1[0-6]))?")
+# the first line of a journal: its name, the founders, and the founding's three numbers
+HEAD = re.compile(rf"node\t{NAME.pattern}\t[0-9]{{1,2}}(,[0-9]{{1,2}})*(\t[0-9]{{1,4}}){{3}}")
 
 
 class Unmerged(Exception):
@@ -62,35 +65,51 @@ class Life:
 def letter_of(text: str) -> tuple[str, str]:
     """For whom a letter is, as the text of a play says it but for `all`, and its kind."""
     to, data = text.split(" ")
-    return to, KINDS[int(data[6:8], 16) - 1]
+    return to, dict(enumerate(KINDS, 1))[int(data[6:8], 16)]
+
+
+def step_of(place: int, fields: list[str]) -> Step:
+    """A line of a journal but for `counts` and `end`; what isn't one is a ValueError or a LookupError."""
+    time, line, heard, said = fields
+    answer, *letters = said.split(" | ")
+    if not answer or event_of(place, line, 0)["do"] in ("stop", "return") or line.startswith("hear ") != bool(heard):
+        raise ValueError
+    letter = None
+    if heard:
+        name, number = heard.split(" ")
+        letter = (name, int(number))
+        parts_of(name)
+    return Step(int(time), line, letter, answer, [letter_of(text) for text in letters])
 
 
 def read(path: str) -> Life:
     """A journal; a last line without its end isn't there."""
-    with open(path, encoding="utf-8") as file:
+    with open(path, encoding="utf-8", errors="replace") as file:
         lines = [line.split("\t") for line in file.read().split("\n")[:-1]]
     if not lines:
         raise Unmerged(f"{path} has no whole line: its process ended before it did anything, so leave it out")
-    if lines[0][0] != "node" or len(lines[0]) != 6:
+    if not HEAD.fullmatch("\t".join(lines[0])):
         raise Unmerged(f"{path} is no journal")
-    life = Life(lines[0][1], lines[0][2:], [], False, [0] * 5)
-    for fields in lines[1:]:
-        if fields[0] == "end":
-            life.has_ended = True
-        elif fields[0] == "counts":
-            life.counts = [int(count) for count in fields[1:]]
-        else:
-            time, line, heard, said = fields
-            answer, *letters = said.split(" | ")
-            whose = heard.split(" ")
-            letter = (whose[0], int(whose[1])) if heard else None
-            life.steps.append(Step(int(time), line, letter, answer, [letter_of(text) for text in letters]))
+    _, name, *founding = lines[0]
+    life = Life(name, founding, [], False, [0] * COUNTS)
+    for number, fields in enumerate(lines[1:], 2):
+        try:
+            if fields == ["end"]:
+                life.has_ended = True
+            elif fields[0] == "counts" and len(fields) == 1 + COUNTS:
+                life.counts = [int(count) for count in fields[1:]]
+            elif not fields[-1].startswith("bad line "):  # which changed nothing
+                life.steps.append(step_of(parts_of(name)[0], fields))
+        except (ValueError, LookupError, Unmerged) as error:
+            line = "\t".join(fields)
+            raise Unmerged(f"{path}, line {number} is no line of a journal: {line[:60]!r}") from error
     return life
 
 
 def with_ends(lives: list[Life]) -> list[Life]:
     """The lives, with a return before each but a place's first, and a stop behind each that stopped."""
     names = {parts_of(life.name) for life in lives}
+    given_up = {step.line.removeprefix("giveup ") for life in lives for step in life.steps if step.line.startswith("giveup ")}
     if len(names) != len(lives):
         raise Unmerged("a name has two journals")
     for life in lives:
@@ -100,11 +119,23 @@ def with_ends(lives: list[Life]) -> list[Life]:
         if life.founding != lives[0].founding:
             raise Unmerged(f"{life.name} has another founding than {lives[0].name}")
         first, last = (life.steps[0].time, life.steps[-1].time) if life.steps else (0, 0)
-        if not life.has_ended or (place, number + 1) in names:
+        if not life.has_ended or (place, number + 1) in names or life.name in given_up:
             life.steps.append(Step(last, "stop", answer="stopped"))
         if number > 1:
             life.steps.insert(0, Step(first, "return", answer=f"returned {number}"))
     return lives
+
+
+def look_for_letters(lives: list[Life]) -> None:
+    """Refuses journals in which a letter was heard that its sender's journal hasn't."""
+    sent = {parts_of(life.name): sum(len(step.letters) for step in life.steps) for life in lives}
+    heard = [(step.heard[1], step.heard[0], life.name) for life in lives for step in life.steps if step.heard]
+    for number, name, hearer in sorted(heard):
+        if parts_of(name) not in sent:
+            raise Unmerged(f"{hearer} heard letter {number} of {name}, whose journal isn't there")
+        if not 1 <= number <= sent[parts_of(name)]:
+            count = sent[parts_of(name)]
+            raise Unmerged(f"{hearer} wants letter {number} of {name}, whose journal has {count}: it was cut, or a line is missing")
 
 
 def wants(life: Life, lives: dict[tuple[int, int], Life]) -> tuple[str, str, int] | None:
@@ -113,8 +144,6 @@ def wants(life: Life, lives: dict[tuple[int, int], Life]) -> tuple[str, str, int
     word, _, rest = step.line.partition(" ")
     place, number = parts_of(life.name)
     if step.heard:
-        if parts_of(step.heard[0]) not in lives:
-            raise Unmerged(f"{life.name} heard letter {step.heard[1]} of {step.heard[0]}, whose journal isn't there")
         return "letter", step.heard[0], step.heard[1]
     if word == "giveup":
         return "stop", rest, 0
@@ -159,9 +188,9 @@ def in_order(lives: list[Life]) -> list[tuple[Life, Step]]:
         if life.at == len(life.steps):
             tell(("end", life.name, 0))
         ask(life)
-    for (what, name, number), lives_there in waiting.items():
+    for (what, name, number), lives_there in sorted(waiting.items(), key=lambda item: item[0][0] == "end"):
         thing = {"letter": f"letter {number} of {name}", "stop": f"the stop of {name}", "end": f"the end of {name}"}[what]
-        raise Unmerged(f"{', '.join(life.name for life in lives_there)} wants {thing}, which is in no journal before it")
+        raise Unmerged(f"{lives_there[0].name} wants {thing}, which is in no journal before it")
     return order
 
 
@@ -201,6 +230,7 @@ class Merged:
 
     def __init__(self, paths: list[str]):
         self.lives = with_ends([read(path) for path in paths])
+        look_for_letters(self.lives)
         founders, resilience, window, pb_up_to = self.lives[0].founding
         self.founding = {
             "founders": [int(place) for place in founders.split(",")],
@@ -231,6 +261,12 @@ class Merged:
         return json.dumps({"play": {**self.founding, "events": self.events[:most]}}, separators=(",", ":"))
 
 
+def write_out(text: str) -> None:
+    """Writes to standard output at once; what it doesn't take is an OSError here, and isn't tried again at the exit."""
+    with open(sys.stdout.fileno(), "w", encoding="utf-8", closefd=False) as out:
+        out.write(text)
+
+
 def main() -> int:
     """Merges the journals that are named."""
     words = sys.argv[1:]
@@ -242,10 +278,13 @@ def main() -> int:
         return 2
     try:
         merged = Merged([word for word in words if word != "--lines"])
-    except (Unmerged, OSError, ValueError) as error:
+        write_out(("\n".join(merged.lines) if "--lines" in words else merged.script()) + "\n")
+    except Unmerged as error:
         print(f"merge.py: {error}", file=sys.stderr)
         return 1
-    print("\n".join(merged.lines) if "--lines" in words else merged.script())
+    except OSError as error:
+        print(f"merge.py: {error.filename or 'standard output'}: {error.strerror}", file=sys.stderr)
+        return 1
     return 0
 
 
