@@ -1,31 +1,38 @@
 #!/usr/bin/env python3
 """A group of processes on this machine, with losses and crashes, and the proved program as the judge of what happened.
 
-    net/cluster.py --nodes 4 --seconds 10 --rate 500 --loss 5 --repeat 2 --delay 5 --kill 2 --seed 1
+    net/cluster.py --nodes 4 --resilience 1 --seconds 10 --rate 300 --loss 5 --repeat 2 --delay 5 --kill 2 --seed 1
 
 Members are processes of their own (net/udp.py) over datagrams on 127.0.0.1. They send `--rate` messages a second in all; of a hundred
 datagrams so many are lost and repeated, and each is delayed by up to so many milliseconds. `--kill` times one of them is killed by
 SIGKILL; the others are told once it has ended, and its place comes back as its next life. Behind that the journals are merged to one
-script, `play` runs it, and each answer of each process is compared with its line. It ends with 1 where one differs.
+script, `play` runs it, and each answer of each process is compared with its line. It ends with 1 where one differs, or where a member
+ended by itself.
 """
 
 import argparse
 import os
 import pathlib
 import random
-import shlex
+import secrets
 import signal
 import socket
 import subprocess
 import sys
 import tempfile
 import time
+from collections.abc import Iterator
 
-from merge import Life, Merged, Unmerged, parts_of
-from node import PROGRAM
+from merge import Life, Merged, Unmerged, write_out
+from node import program_of
+from udp import complain, number_of
 
 HERE = pathlib.Path(__file__).resolve().parent
 MOST_EVENTS = 100_000
+
+
+class Failed(Exception):
+    """Why a run has no result."""
 
 
 def free_ports(count: int) -> list[int]:
@@ -40,13 +47,14 @@ def free_ports(count: int) -> list[int]:
 
 
 class Cluster:
-    """The members' processes, by place."""
+    """The members' processes, by place. Journals are in one folder, what else they need in another."""
 
-    def __init__(self, wanted: argparse.Namespace, folder: pathlib.Path):
-        self.wanted, self.folder = wanted, folder
+    def __init__(self, wanted: argparse.Namespace, journals: pathlib.Path, folder: pathlib.Path):
+        self.wanted, self.journals, self.folder = wanted, journals, folder
         self.lives = [1] * wanted.nodes
         self.running: dict[int, subprocess.Popen] = {}
         self.sent = 0
+        self.run = secrets.token_hex(8)
         peers = "".join(f"{place} 127.0.0.1:{port}\n" for place, port in enumerate(free_ports(wanted.nodes)))
         (folder / "peers").write_text(peers)
         (folder / "key").write_bytes(os.urandom(32))
@@ -55,37 +63,49 @@ class Cluster:
         """A place's name now."""
         return f"{place}/{self.lives[place]}" if self.lives[place] > 1 else str(place)
 
-    def journal(self, place: int) -> pathlib.Path:
-        """Where the journal of a place's life now is."""
-        return self.folder / f"journal-{self.name(place).replace('/', '-')}"
-
-    def wait(self, place: int) -> None:
-        """Waits until a place's process has begun its journal."""
-        ends = time.monotonic() + 20
-        journal = self.journal(place)
-        while not (journal.exists() and journal.stat().st_size) and time.monotonic() < ends:
-            time.sleep(0.01)
+    def file(self, folder: pathlib.Path, kind: str, place: int) -> pathlib.Path:
+        """A file of a kind for a place's life now."""
+        return folder / f"{kind}-{self.name(place).replace('/', '-')}"
 
     def start(self, place: int) -> None:
         """Starts the place's process."""
         wanted, name = self.wanted, self.name(place)
         words = [sys.executable, str(HERE / "udp.py"), "--name", name, "--founders", ",".join(map(str, range(wanted.nodes)))]
-        words += ["--peers", str(self.folder / "peers"), "--key", str(self.folder / "key")]
-        words += ["--journal", str(self.journal(place)), "--program", wanted.program]
-        words += ["--resilience", str(wanted.resilience), "--tick", str(wanted.tick), "--seconds", str(wanted.seconds + 30)]
-        for option in ("loss", "repeat", "delay", "seed"):
+        words += ["--peers", str(self.folder / "peers"), "--key", str(self.folder / "key"), "--run", self.run]
+        words += ["--journal", str(self.file(self.journals, "journal", place)), "--seconds", str(wanted.seconds + 30)]
+        words += ["--program", wanted.program] if wanted.program else []
+        for option in ("resilience", "tick", "loss", "repeat", "delay", "seed"):
             words += [f"--{option}", str(getattr(wanted, option))]
-        self.running[place] = subprocess.Popen(words, stdin=subprocess.PIPE, stdout=subprocess.DEVNULL)
+        with open(self.file(self.folder, "errors", place), "wb") as errors:
+            self.running[place] = subprocess.Popen(words, bufsize=0, stdin=subprocess.PIPE, stdout=subprocess.DEVNULL, stderr=errors)
+
+    def wait(self, place: int) -> None:
+        """Waits until a place's process has begun its journal."""
+        ends = time.monotonic() + 20
+        journal = self.file(self.journals, "journal", place)
+        while not (journal.exists() and journal.stat().st_size):
+            self.look()
+            if time.monotonic() > ends:
+                raise Failed(f"member {self.name(place)} hasn't begun its journal within 20 seconds")
+            time.sleep(0.01)
+
+    def look(self) -> None:
+        """Looks whether each member still runs."""
+        for place, child in self.running.items():
+            if child.poll() is not None:
+                errors = self.file(self.folder, "errors", place).read_text(errors="replace").split("\n")
+                last = next((line for line in reversed(errors) if line.strip()), "it said nothing")
+                raise Failed(f"member {self.name(place)} ended by itself with status {child.returncode}: {last.strip()}")
 
     def tell(self, place: int, line: str) -> None:
         """Gives a member a line."""
-        child = self.running.get(place)
-        if child and child.stdin:
-            try:
-                child.stdin.write(line.encode() + b"\n")
-                child.stdin.flush()
-            except OSError:
-                pass
+        child = self.running[place]
+        assert child.stdin
+        try:
+            child.stdin.write(line.encode() + b"\n")
+        except OSError:
+            child.wait(timeout=20)  # it reads no more
+            self.look()
 
     def kill(self, place: int) -> None:
         """Kills a member, and tells the others once it has ended: it can't act any more."""
@@ -98,11 +118,10 @@ class Cluster:
 
     def back(self, place: int) -> None:
         """Lets a killed member's place come back; it is told who stopped before."""
-        stopped = [self.name(place)]
+        stopped = self.name(place)
         self.lives[place] += 1
         self.start(place)
-        for name in stopped:
-            self.tell(place, f"stopped {name}")
+        self.tell(place, f"stopped {stopped}")
 
     def send(self) -> None:
         """Has the members send one message more, in turn."""
@@ -113,15 +132,21 @@ class Cluster:
 
     def end(self) -> None:
         """Ends the members' inputs, and waits for them."""
+        self.look()
         for child in self.running.values():
             assert child.stdin
             child.stdin.close()
-        for child in self.running.values():
+        for place, child in self.running.items():
             try:
                 child.wait(timeout=20)
-            except subprocess.TimeoutExpired:
-                child.kill()
-                child.wait()
+            except subprocess.TimeoutExpired as error:
+                raise Failed(f"member {self.name(place)} hasn't ended within 20 seconds of its input's end") from error
+
+    def stop(self) -> None:
+        """Kills who still runs."""
+        for child in self.running.values():
+            child.kill()
+            child.wait()
 
 
 def moments(wanted: argparse.Namespace) -> list[tuple[float, str, int]]:
@@ -141,8 +166,9 @@ def moments(wanted: argparse.Namespace) -> list[tuple[float, str, int]]:
     return sorted(plan)
 
 
-def act(wanted: argparse.Namespace, cluster: Cluster) -> None:
+def act(cluster: Cluster) -> None:
     """Runs the cluster for its time."""
+    wanted = cluster.wanted
     for place in range(wanted.nodes):
         cluster.start(place)
     for place in range(wanted.nodes):
@@ -159,6 +185,7 @@ def act(wanted: argparse.Namespace, cluster: Cluster) -> None:
         if now < sending_ends:
             for _ in range(int((now - began) * wanted.rate) - cluster.sent):
                 cluster.send()
+        cluster.look()
         time.sleep(0.002)
     cluster.end()
 
@@ -189,87 +216,111 @@ def times_of(lives: list[Life]) -> tuple[list[int], list[int], int]:
     return answered, [last_take[key] - begun[key] for key in last_take if key in begun], taken
 
 
-def tell(merged: Merged, wanted: argparse.Namespace) -> None:
-    """Prints what happened."""
+def told(merged: Merged, wanted: argparse.Namespace) -> Iterator[str]:
+    """The lines that tell what happened."""
     answered, delivered, taken = times_of(merged.lives)
-    counts = [sum(life.counts[k] for life in merged.lives) for k in range(5)]
+    sent, lost, repeated, unknown, unsigned, others = (sum(counts) for counts in zip(*(life.counts for life in merged.lives)))
     words = [step.line.split(" ")[0] for _, step in merged.steps]
     joined = {step.answer.split(" ")[1] for _, step in merged.steps if step.answer.startswith("took ") and " join " in step.answer}
     letters = sum(len(step.letters) for _, step in merged.steps)
-    print(f"events {len(words)}, letters {letters}, datagrams {counts[0]}: {counts[1]} lost, {counts[2]} repeated")
-    print(f"dropped: {counts[3]} of unknown senders, {counts[4]} unsigned")
+    yield f"events {len(words)}, letters {letters}, datagrams {sent}: {lost} lost, {repeated} repeated"
+    yield f"dropped: {unknown} of unknown senders, {unsigned} unsigned, {others} of another group"
     decided = sum(step.answer.startswith("decided") for _, step in merged.steps)
-    print(f"kills {words.count('stop')}, resets decided {decided}, joins {len(joined)}")
-    print(f"entries taken {taken}, {taken / wanted.seconds / wanted.nodes:.0f} a second and member; sends answered {len(answered)}")
-    print(f"from a send to its answer {hundredths(answered, 50)} ms, 99 of 100 within {hundredths(answered, 99)} ms")
-    print(f"from a send to its last take {hundredths(delivered, 50)} ms, 99 of 100 within {hundredths(delivered, 99)} ms")
+    yield f"kills {words.count('stop')}, resets decided {decided}, joins {len(joined)}"
+    yield f"entries taken {taken}, {taken / wanted.seconds / wanted.nodes:.0f} a second and member; sends answered {len(answered)}"
+    yield f"from a send to its answer {hundredths(answered, 50)} ms, 99 of 100 within {hundredths(answered, 99)} ms"
+    yield f"from a send to its last take {hundredths(delivered, 50)} ms, 99 of 100 within {hundredths(delivered, 99)} ms"
 
 
-def judge(merged: Merged, wanted: argparse.Namespace) -> int:
-    """Runs the script by `play`, and compares its lines with what the processes answered; 1 where one differs, or where the run isn't
-    lawful from another event on than a stop, or with no more stops than the resilience."""
-    program = wanted.judge or wanted.program
-    most = min(len(merged.events), MOST_EVENTS)
-    if most < len(merged.events):
-        print(f"a run has {MOST_EVENTS} events at most: the first of them are judged")
-    done = subprocess.run([*shlex.split(program), "play"], input=merged.script(most).encode(), capture_output=True, check=False)
-    if done.returncode != 0:
-        print(f"play ended with {done.returncode}: {done.stderr.decode().strip()}")
-        return 1
-    lines = done.stdout.decode().splitlines()
-    stops = [number for number, event in enumerate(merged.events[:most], 1) if event["do"] == "stop"]
+def judged(merged: Merged, wanted: argparse.Namespace, text: str) -> tuple[list[str], int]:
+    """Compares the lines of the script's text with what the processes answered: what to say of it, and 1 where one differs, or where the
+    run isn't lawful from another event on than a stop, or with no more stops than the resilience."""
+    lines = text.splitlines()
+    events = merged.events[:MOST_EVENTS]
+    stops = [number for number, event in enumerate(events, 1) if event["do"] == "stop"]
     void = int(lines[-1].split(" ")[-1]) if lines[-1].startswith("void") else 0
-    print(lines[-1] + (f": the stop of {merged.steps[void - 1][0].name}, beyond the resilience" if void in stops else ""))
+    said = [lines[-1] + (f": the stop of {merged.steps[void - 1][0].name}, beyond the resilience" if void in stops else "")]
+    if len(events) < len(merged.events):
+        said.insert(0, f"a run has {MOST_EVENTS} events at most: the first of them are judged")
     if (void and void not in stops) or (not void and not stops and lines[-1] != "lawful") or (void and len(stops) <= wanted.resilience):
-        print(f"{len(stops)} stopped, with a resilience of {wanted.resilience}")
-        return 1
-    for mine, proved in zip(merged.lines[:most], lines):
+        return [*said, f"{len(stops)} stopped, with a resilience of {wanted.resilience}"], 1
+    for mine, proved in zip(merged.lines[:MOST_EVENTS], lines):
         if mine != proved:
-            print(f"a process answered: {mine}\nthe proved play:    {proved}")
-            return 1
-    print(f"the proved play gives all {most} answers again")
-    return 0
+            return [*said, f"a process answered: {mine}", f"the proved play:    {proved}"], 1
+    return [*said, f"the proved play gives all {len(events)} answers again"], 0
 
 
 def options() -> argparse.Namespace:
     """The words of the command."""
-    parser = argparse.ArgumentParser(description=__doc__.split("\n")[0])
-    parser.add_argument("--nodes", type=int, default=4, help="1 to 16")
-    parser.add_argument("--seconds", type=float, default=10)
-    parser.add_argument("--rate", type=float, default=500, help="messages a second, of all members together")
-    parser.add_argument("--loss", type=float, default=0, help="of a hundred datagrams")
-    parser.add_argument("--repeat", type=float, default=0, help="of a hundred datagrams")
-    parser.add_argument("--delay", type=float, default=0, help="milliseconds at most")
-    parser.add_argument("--kill", type=int, default=0, help="how many kills")
+    parser = argparse.ArgumentParser(description=__doc__, formatter_class=argparse.RawDescriptionHelpFormatter)
+    parser.add_argument("--nodes", type=number_of(int, 1, 16), default=4, help="how many members (4)")
+    parser.add_argument("--seconds", type=number_of(float, 0.1, 86_400), default=10, help="how long they run (10)")
+    parser.add_argument("--rate", type=number_of(float, 0, 100_000), default=500, help="messages a second, of all members together (500)")
+    parser.add_argument("--loss", type=number_of(float, 0, 100), default=0, help="of a hundred datagrams (0)")
+    parser.add_argument("--repeat", type=number_of(float, 0, 100), default=0, help="of a hundred datagrams (0)")
+    parser.add_argument("--delay", type=number_of(float, 0, 10_000), default=0, help="milliseconds at most (0)")
+    parser.add_argument("--kill", type=number_of(int, 0, 15), default=0, help="how many kills (0)")
     parser.add_argument("--at-once", action="store_true", help="all kills at one moment, of different members")
-    parser.add_argument("--resilience", type=int, default=1, help="how many stops between two resets keep the run lawful")
-    parser.add_argument("--tick", type=float, default=20, help="milliseconds")
-    parser.add_argument("--seed", type=int, default=1)
-    parser.add_argument("--keep", help="a folder that journals, script and text stay in")
-    parser.add_argument("--program", default=str(PROGRAM), help="the command whose word node is run")
+    parser.add_argument("--resilience", type=number_of(int, 0, 15), default=1, help="how many stops between two resets keep it lawful (1)")
+    parser.add_argument("--tick", type=number_of(float, 1, 10_000), default=20, help="milliseconds (20)")
+    parser.add_argument("--seed", type=int, default=1, help="whom is killed when, and what is lost (1)")
+    parser.add_argument("--keep", help="a new or empty folder, in which journals, script.json and its text script.txt stay")
+    parser.add_argument("--program", help="the command whose word node is run; else the one that is built here")
     parser.add_argument("--judge", help="the command whose word play judges; else the same")
-    return parser.parse_args()
+    wanted = parser.parse_args()
+    if wanted.at_once and wanted.kill > wanted.nodes:
+        parser.error(f"--at-once: there are no {wanted.kill} members to kill")
+    try:
+        if wanted.keep and os.listdir(wanted.keep):
+            parser.error(f"--keep: {wanted.keep} isn't empty")
+    except FileNotFoundError:
+        pass  # it is made
+    except OSError as error:
+        parser.error(f"--keep: {wanted.keep}: {error.strerror}")
+    return wanted
+
+
+def ran(wanted: argparse.Namespace, made: pathlib.Path) -> int:
+    """Runs, merges and judges."""
+    program_of(wanted.program)  # for its cause, where there is none, before anything starts
+    judge = program_of(wanted.judge or wanted.program)
+    journals = pathlib.Path(wanted.keep) if wanted.keep else made / "journals"
+    journals.mkdir(parents=True, exist_ok=True)
+    cluster = Cluster(wanted, journals, made)
+    try:
+        act(cluster)
+    finally:
+        cluster.stop()
+    merged = Merged([str(path) for path in sorted(journals.glob("journal-*"))])
+    script = merged.script(MOST_EVENTS)
+    if wanted.keep:
+        (journals / "script.json").write_text(script)
+    write_out("".join(f"{line}\n" for line in told(merged, wanted)))
+    done = subprocess.run([*judge, "play"], input=script.encode(), capture_output=True, check=False)
+    text = done.stdout.decode(errors="replace")
+    if done.returncode != 0 or not text:
+        raise Failed(f"play ended with {done.returncode}: {done.stderr.decode(errors='replace').strip()}")
+    if wanted.keep:
+        (journals / "script.txt").write_text(text)
+    said, status = judged(merged, wanted, text)
+    write_out("".join(f"{line}\n" for line in said))
+    return status
 
 
 def main() -> int:
-    """Runs, merges and judges."""
+    """Runs a cluster in a folder of its own."""
     wanted = options()
-    if not 1 <= wanted.nodes <= 16:
-        print("--nodes is 1 to 16", file=sys.stderr)
-        return 2
-    with tempfile.TemporaryDirectory() as made:
-        folder = pathlib.Path(wanted.keep or made)
-        folder.mkdir(parents=True, exist_ok=True)
-        act(wanted, Cluster(wanted, folder))
-        try:
-            merged = Merged([str(path) for path in sorted(folder.glob("journal-*"))])
-        except Unmerged as error:
-            print(error)
-            return 1
-        if wanted.keep:
-            (folder / "script.json").write_text(merged.script())
-        tell(merged, wanted)
-        return judge(merged, wanted)
+    try:
+        with tempfile.TemporaryDirectory() as made:
+            return ran(wanted, pathlib.Path(made))
+    except (Failed, Unmerged) as error:
+        cause = str(error)
+    except OSError as error:
+        cause = f"{error.filename or 'standard output'}: {error.strerror}" if error.strerror else str(error)
+    except KeyboardInterrupt:
+        cause = "interrupted"
+    complain(cause)
+    return 130 if cause == "interrupted" else 1
 
 
 if __name__ == "__main__":
