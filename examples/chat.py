@@ -1,7 +1,7 @@
 #!/usr/bin/env python3
 """A chat: everybody in it sees the same lines in the same order, and who comes and goes.
 
-    examples/chat.py --name 0 --founders 0,1 --peers PEERS
+    examples/chat.py --name 0 --founders 0,1 --resilience 1 --peers PEERS
 
 Each line of standard input is said to all. `leave` leaves; `stopped NAME` tells that a process has ended for sure. A place that
 isn't among the founders, or that comes back (`--name 1/2`), joins, and sees what is said from then on.
@@ -12,7 +12,7 @@ import sys
 
 sys.path.insert(0, str(pathlib.Path(__file__).resolve().parent.parent / "net"))
 
-from udp import Member, run
+from udp import Member, run, shown
 
 
 class Chat(Member):
@@ -20,7 +20,7 @@ class Chat(Member):
 
     def took_data(self, number: int, sender: str, body: bytes) -> None:
         """Prints who said what."""
-        print(f"<{sender}> {body.decode(errors='replace')}", flush=True)
+        print(f"<{sender}> {shown(body)}", flush=True)
 
     def took_other(self, number: int, kind: str, parts: list[str]) -> None:
         """Prints who came, who went, and who is left behind a reset."""
