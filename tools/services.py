@@ -1,12 +1,12 @@
 #!/usr/bin/env python3
 """What the services over a group's list write, by their docs alone and without the program's code.
 
-    python3 tools/services.py parts < BYTES             the parts of a message, a line each, in digits
-    PROGRAM play < SCRIPT | python3 tools/services.py messages
-    PROGRAM play < SCRIPT | python3 tools/services.py directory
-    PROGRAM play < SCRIPT | python3 tools/services.py snapshots
+    tools/services.py parts < BYTES             the parts of a message, a line each, in digits
+    ./muoswyld play < SCRIPT | tools/services.py messages
+    ./muoswyld play < SCRIPT | tools/services.py directory
+    ./muoswyld play < SCRIPT | tools/services.py snapshots
 
-The last three read the text of a play. `messages` writes a line for each message that ends in what a name was given, as
+The last three read the text of a play, where the program's words of these names read its script; given anything else they end with 1. `messages` writes a line for each message that ends in what a name was given, as
 docs/MESSAGES.md says what a message is; `directory` what each name's replica has, as docs/DIRECTORY.md says; `snapshots` what a ready
 replica would send at each Join that its name was given. Then each writes the text's last line.
 """
@@ -16,7 +16,8 @@ from collections import defaultdict
 from collections.abc import Iterator
 from dataclasses import dataclass, field
 
-from words import words
+from audit import BadText, View, read
+from words import end, words
 
 MOST_MESSAGE = 65_535
 SHARE = 1_019
@@ -239,8 +240,16 @@ def snapshots(text: list[str]) -> Iterator[str]:
     yield text[-1]
 
 
-def main() -> int:
-    """Writes what is asked for; ends in 2 where that is nothing it knows."""
+def lines_of(data: bytes) -> list[str]:
+    """The lines of a play's text; BadText where it is none."""
+    text, lines = read(data), data.decode().splitlines()
+    if not isinstance(text.group[0], View):
+        raise BadText(1 + next(number for number, line in enumerate(lines) if line.startswith("group 1 ")))
+    return lines
+
+
+def main() -> int | str:
+    """Writes what is asked for; ends in 2 where that is nothing it knows, in 1 where the input is no text."""
     match words(__doc__):
         case ["parts"]:
             message = sys.stdin.buffer.read()
@@ -251,7 +260,11 @@ def main() -> int:
                 print(part.hex())
         case [("messages" | "directory" | "snapshots") as word]:
             made = {"messages": messages, "directory": directory, "snapshots": snapshots}[word]
-            for line in made(sys.stdin.read().splitlines()):
+            try:
+                text = lines_of(sys.stdin.buffer.read())
+            except BadText as bad:
+                return f"standard input is no text of a play: {bad}; a script goes through `./muoswyld play` first"
+            for line in made(text):
                 print(line)
         case _:
             print(__doc__.strip(), file=sys.stderr)
@@ -260,4 +273,4 @@ def main() -> int:
 
 
 if __name__ == "__main__":
-    sys.exit(main())
+    end(main)

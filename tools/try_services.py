@@ -7,7 +7,7 @@ It takes the scripts of the folders, as they are and with other bodies in their 
 order and out of it, snapshots that a node of the same run could send, and bytes that are none of these. For each it compares what
 `messages`, `directory` and `snapshots` write with what the other program makes of the text of `play`, and for random messages what
 `parts` writes. It prints what differs, how many scripts were alike, and how many messages, keys, waiting and restored replicas there
-were in them.
+were in them. Last it calls tools/services.py itself, with a text and with what is none.
 """
 
 import argparse
@@ -84,6 +84,29 @@ def faults(program: str, script: bytes, seen: collections.Counter) -> list[str]:
     return found
 
 
+def tool_faults(program: str) -> list[str]:
+    """What is wrong with calls of the tool: with the text of a play it does as the program with its script, else it says that it is none."""
+    top = pathlib.Path(__file__).resolve().parent.parent
+    script = (top / "scripts" / "snapshot.json").read_bytes()
+    text = subprocess.run([program, "play"], input=script, capture_output=True, check=False).stdout
+    found = []
+    for word, given, wanted in (
+        ("directory", text, 0),
+        ("messages", script, 1),
+        ("directory", script, 1),
+        ("snapshots", b"", 1),
+        ("snapshots", b"\xff\n", 1),
+        ("directory", b"group 1 data 0 1 61\nlawful\n", 1),
+        ("messages", text[:-1], 1),
+    ):
+        done = subprocess.run([top / "tools" / "services.py", word], input=given, capture_output=True, check=False)
+        same = run(program, word, script) == (0, done.stdout.decode().splitlines())
+        told = b"no text of a play" in done.stderr and done.stderr.count(b"\n") == 1 and not done.stdout
+        if done.returncode != wanted or not (same if wanted == 0 else told):
+            found.append(f"tools/services.py {word} < {given[:40]!r}: {done.returncode}, {done.stdout[:80]!r}, {done.stderr[-200:]!r}")
+    return found
+
+
 def scripts_of(folders: list[str]) -> list[dict]:
     """The plays of the folders that are scripts."""
     found = []
@@ -121,6 +144,9 @@ def main() -> int:
         if run(asked.program, "parts", message) != (0, [part.hex() for part in services.parts(message)]):
             print(f"the parts of a message of {len(message)} bytes differ")
             failed += 1
+    for fault in tool_faults(asked.program):
+        print(fault)
+        failed += 1
     if asked.count > len(scripts) and not all(seen[kind] for kind in ("message", "directory", "name", "waiting", "snapshot")):
         print(f"nothing to compare of some kind: {dict(seen)}")
         failed += 1
