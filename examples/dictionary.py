@@ -87,8 +87,10 @@ class Dictionary(Member):
         super().__init__(*parts)
         self.contents: dict[str, str] = {}
         self.is_ready = self.wanted.name in self.wanted.founders.split(",")
-        # of a joiner: whom it asked how often, whether that `want` isn't taken yet, when it last heard of it, and the last one's number
-        self.asked, self.asks, self.is_asking, self.heard, self.want = "", 0, False, 0, 0
+        # of a joiner: whom it asked, whether that `want` isn't taken yet, the tick when it last heard of it, and the last one's number
+        self.asked, self.is_asking, self.heard, self.want = "", False, 0, 0
+        self.tried: set[str] = set()
+        self.later: set[str] = set()
         self.got: dict[str, str] = {}
         self.held: list[tuple[int, str, list]] = []
         # what joiners are still to be sent, and whether a part of it is under way
@@ -144,7 +146,9 @@ class Dictionary(Member):
             self.held = []
 
     def took_other(self, number: int, kind: str, parts: list[str]) -> None:
-        """Joins, leaves and views change no contents."""
+        """Joins, leaves and views change no contents; a join tells who came later than this member."""
+        if kind == "join" and parts[0] != self.wanted.name:
+            self.later.add(parts[0])
 
     def change(self, number: int, sender: str, word: str, key: str, value: str = "") -> None:
         """Changes the contents by a command; a `want` begins to send them, as they are now, and ends what its sender wanted before."""
@@ -171,7 +175,8 @@ class Dictionary(Member):
                 self.bodies.insert(1, part)
 
     def tick(self) -> None:
-        """Asks for the contents where it has none: one member, and another where that one is gone or nothing comes of it."""
+        """Asks for the contents where it has none: one member, and another where that one is gone or nothing comes of it; last who joined
+        later, as they can't have more than this one."""
         super().tick()
         if self.is_ready or self.is_asking:
             return
@@ -179,8 +184,10 @@ class Dictionary(Member):
         others = [name for name in info.members if name != self.wanted.name and name not in self.stopped]
         is_due = self.asked not in others or self.ticks >= self.heard + PATIENCE
         if is_due and others and info.status in ("member", "sequencer"):
-            self.asked = others[self.asks % len(others)]
-            self.asks += 1
+            if self.tried.issuperset(others):
+                self.tried.clear()
+            self.asked = min((name for name in others if name not in self.tried), key=lambda name: name in self.later)
+            self.tried.add(self.asked)
             self.is_asking = self.put(body_of("want", self.asked))
 
 
