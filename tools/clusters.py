@@ -12,7 +12,7 @@ import pathlib
 import subprocess
 import sys
 
-from words import words
+from words import end, words
 
 CLUSTER = pathlib.Path(__file__).resolve().parent.parent / "net" / "cluster.py"
 
@@ -38,7 +38,7 @@ def main() -> int:
     passed = 0
     for seed in range(first, last + 1):
         command = [sys.executable, str(CLUSTER), *options_of(seed), "--program", program]
-        ran = subprocess.run(command, capture_output=True, text=True, timeout=120, check=False)
+        ran = subprocess.run(["timeout", "120", *command], capture_output=True, text=True, check=False)
         told = ran.stdout.splitlines()
         passed += ran.returncode == 0
         print(seed, " ".join(options_of(seed)), "|", " | ".join(told[-2:]) if ran.returncode == 0 else ran.stdout + ran.stderr, flush=True)
@@ -47,4 +47,4 @@ def main() -> int:
 
 
 if __name__ == "__main__":
-    sys.exit(main())
+    end(main)
