@@ -6,9 +6,10 @@
     ./muoswyld play < SCRIPT | tools/services.py directory
     ./muoswyld play < SCRIPT | tools/services.py snapshots
 
-The last three read the text of a play, where the program's words of these names read its script; given anything else they end with 1. `messages` writes a line for each message that ends in what a name was given, as
-docs/MESSAGES.md says what a message is; `directory` what each name's replica has, as docs/DIRECTORY.md says; `snapshots` what a ready
-replica would send at each Join that its name was given. Then each writes the text's last line.
+The last three read the text of a play, where the program's words of these names read its script; given anything else they end with 1.
+`messages` writes a line for each message that ends in what a name was given, as docs/MESSAGES.md says what a message is; `directory`
+what each name's replica has, as docs/DIRECTORY.md says; `snapshots` what a ready replica would send at each Join that its name was
+given. Then each writes the text's last line.
 """
 
 import sys
