@@ -9,13 +9,11 @@ how many parts passed.
 
 import argparse
 import json
-import os
 import pathlib
 import random
 import shlex
 import subprocess
 import sys
-import tempfile
 import time
 
 TOP = pathlib.Path(__file__).resolve().parent.parent
@@ -23,9 +21,8 @@ sys.path += [str(TOP / "net"), str(TOP / "examples")]
 
 from cluster import free_ports  # noqa: E402
 from dictionary import MOST_PAIR, Dictionary, body_of, command_of, parts_of, size_of  # noqa: E402
-from try_net import Process, Tried  # noqa: E402
+from try_net import Process, Tried, try_parts  # noqa: E402
 from udp import MOST_BODY, Info  # noqa: E402
-from words import words  # noqa: E402
 
 
 class Listed(Dictionary):
@@ -272,20 +269,5 @@ def given_up(tried: Tried) -> list[str]:
     return wrong + ([] if statuses == [0, 0, 0] and '"do":"stop","node":0' in found[1] else [f"{statuses}, {found}"])
 
 
-def main() -> int:
-    """Tries each part in a folder of its own."""
-    (command,) = words(__doc__, 1, 1)
-    program = shlex.join([os.path.abspath(word) if os.path.exists(word) else word for word in shlex.split(command)])
-    passed = failed = 0
-    for part in (sameness, bounds, dictionary, refusals, journals, given_up):
-        with tempfile.TemporaryDirectory() as folder:
-            wrong = part(Five(pathlib.Path(folder), program))
-        passed, failed = passed + (not wrong), failed + bool(wrong)
-        for line in wrong:
-            print(f"refused: {part.__name__}: {line}")
-    print(f"tools/try_groups.py: {passed} passed, {failed} failed")
-    return 1 if failed else 0
-
-
 if __name__ == "__main__":
-    sys.exit(main())
+    sys.exit(try_parts(__doc__, Five, (sameness, bounds, dictionary, refusals, journals, given_up)))

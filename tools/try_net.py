@@ -25,6 +25,7 @@ import tempfile
 import textwrap
 import threading
 import time
+from collections.abc import Callable, Iterable
 
 TOP = pathlib.Path(__file__).resolve().parent.parent
 sys.path.insert(0, str(TOP / "net"))
@@ -457,23 +458,21 @@ def merging(tried: Tried) -> list[str]:
     return wrong
 
 
-def main() -> int:
-    """Tries each part in a folder of its own."""
-    (command,) = words(__doc__, 1, 1)
+def try_parts(page: str | None, kind: type[Tried], parts: Iterable[Callable]) -> int:
+    """Tries each part in a folder of its own, with the program that the words of the call name; 1 where one fails."""
+    (command,) = words(page or "", 1, 1)
     program = shlex.join([os.path.abspath(word) if os.path.exists(word) else word for word in shlex.split(command)])
     passed = failed = 0
-    for part in (
-        *(cluster, dropped, unknown, begun_anew, loop, lines_of_a_node, inputs, refused, full_journal),
-        *(dictionary, chat, left_out, once, merging),
-    ):
+    for part in parts:
         with tempfile.TemporaryDirectory() as folder:
-            wrong = part(Tried(pathlib.Path(folder), program))
+            wrong = part(kind(pathlib.Path(folder), program))
         passed, failed = passed + (not wrong), failed + bool(wrong)
         for line in wrong:
             print(f"refused: {part.__name__}: {line}")
-    print(f"tools/try_net.py: {passed} passed, {failed} failed")
+    print(f"tools/{pathlib.Path(sys.argv[0]).name}: {passed} passed, {failed} failed")
     return 1 if failed else 0
 
 
 if __name__ == "__main__":
-    sys.exit(main())
+    some = (cluster, dropped, unknown, begun_anew, loop, lines_of_a_node, inputs, refused, full_journal, dictionary, chat, left_out, once, merging)
+    sys.exit(try_parts(__doc__, Tried, some))
