@@ -21,7 +21,7 @@ from collections.abc import Iterator
 
 sys.path.insert(0, str(pathlib.Path(__file__).resolve().parent.parent / "net"))
 
-from udp import MOST_BODY, Member, complain, run
+from udp import MOST_BODY, Member, complain, run, say, shown
 
 # how many bytes a key and its value have at most as JSON, so that each fits into a part
 MOST_PAIR = 960
@@ -107,9 +107,9 @@ class Dictionary(Member):
                 if not self.put(body_of("delete", key)):
                     complain("not deleted: no key is that long")
             case ["get", key]:
-                print(self.contents.get(key, "-") if self.is_ready else "waiting", flush=True)
+                say(shown(self.contents.get(key, "-").encode()) if self.is_ready else "waiting")
             case ["keys"]:
-                print(*sorted(self.contents) if self.is_ready else ["waiting"], flush=True)
+                say(" ".join(shown(key.encode()) for key in sorted(self.contents)) if self.is_ready else "waiting")
             case _:
                 complain("a line is put KEY VALUE, delete KEY, get KEY, keys, leave or stopped NAME")
 

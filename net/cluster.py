@@ -104,7 +104,7 @@ class Cluster:
         try:
             child.stdin.write(line.encode() + b"\n")
         except OSError:
-            child.wait(timeout=20)  # it reads no more
+            self.wait_for_end(place)  # it reads no more
             self.look()
 
     def kill(self, place: int) -> None:
@@ -130,17 +130,23 @@ class Cluster:
             self.sent += 1
             self.tell(places[self.sent % len(places)], f"message {self.sent}")
 
+    def wait_for_end(self, place: int) -> None:
+        """Waits until a member has ended."""
+        try:
+            self.running[place].wait(timeout=20)
+        except subprocess.TimeoutExpired as error:
+            raise Failed(f"member {self.name(place)} hasn't ended within 20 seconds of its input's end") from error
+
     def end(self) -> None:
-        """Ends the members' inputs, and waits for them."""
+        """Ends the members' inputs, and waits for them. A member that could send no more ends with 1."""
         self.look()
         for child in self.running.values():
             assert child.stdin
             child.stdin.close()
         for place, child in self.running.items():
-            try:
-                child.wait(timeout=20)
-            except subprocess.TimeoutExpired as error:
-                raise Failed(f"member {self.name(place)} hasn't ended within 20 seconds of its input's end") from error
+            self.wait_for_end(place)
+            if child.returncode not in (0, 1) or b"Traceback" in self.file(self.folder, "errors", place).read_bytes():
+                self.look()
 
     def stop(self) -> None:
         """Kills who still runs."""

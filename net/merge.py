@@ -7,7 +7,7 @@
 Each member's lines stay in their order; a letter is heard behind the line that sent it, a name is given up behind its stop, a place
 returns behind the stop of its life before. Else the times in the journals decide. A life whose journal has no end stopped behind its
 last line, and so did one that its place went on from, or that was given up. A line whose answer never came isn't there, nor is a last
-line that is cut. Where no such order exists, it is said which letter is missing, or in the way.
+line that is cut. Where no such order exists, it is said what is missing, or in the way: a letter, a stop or an end.
 """
 
 import heapq
@@ -189,7 +189,7 @@ def in_order(lives: list[Life]) -> list[tuple[Life, Step]]:
             tell(("end", life.name, 0))
         ask(life)
     for (what, name, number), lives_there in sorted(waiting.items(), key=lambda item: item[0][0] == "end"):
-        thing = {"letter": f"letter {number} of {name}", "stop": f"the stop of {name}", "end": f"the end of {name}"}[what]
+        thing = {"letter": f"letter {number} of {name}", "stop": f"the stop of {name} (given up)", "end": f"the end of {name}"}[what]
         raise Unmerged(f"{lives_there[0].name} wants {thing}, which is in no journal before it")
     return order
 

@@ -6,7 +6,7 @@
 PEERS has a line `PLACE HOST:PORT` for each place. A name that is no founder's first life asks to join. What the member takes is
 printed, a line each. Each line of standard input is sent, but for `stopped NAME`, which tells that a process has ended for sure (the
 group is then reset without it), and `leave`. At the end of the input the member stops, without leaving, once what it has read is sent,
-or 2 seconds later.
+or once nothing of that was sent for 2 seconds.
 """
 
 import argparse
@@ -36,8 +36,10 @@ MOST_HEAD = 256
 LEAST_PACKET, MOST_PACKET = 12, 1152
 MOST_BODY = 1024
 TAG_SIZE = 8
-# how long what was read before the end of the input may take to be sent
+# behind the end of the input, how long it may take until the next of what was read is sent
 LAST_SECONDS = 2
+# so much of the input may wait to be sent before more of it is read
+MOST_WAITING = 100_000
 # behind how much silence of the group a member tells of it
 SILENT_SECONDS = 5
 INPUT = 0
@@ -181,7 +183,7 @@ class Network:
             raise Refused(f"{host}:{port}: {error.strerror}") from error
         self.socket.setblocking(False)
         self.sent = self.unknown = self.unsigned = self.of_others = 0
-        self.told: set[int] = set()
+        self.told: set[tuple[int, str]] = set()
 
     def send(self, letter: Letter, number: int) -> None:
         """Sends a letter to whom it is for."""
@@ -228,9 +230,9 @@ class Network:
         return f"hear {head[3]} {packet.hex()}", f"{head[1]} {head[2]}"
 
     def tell(self, place: int | None, what: str) -> None:
-        """Tells once of a place why what comes of it is dropped."""
-        if place is not None and place not in self.told:
-            self.told.add(place)
+        """Tells once of a place and a cause why what comes of it is dropped."""
+        if place is not None and (place, what) not in self.told:
+            self.told.add((place, what))
             complain(f"what comes of place {place} is dropped: it {what}")
 
 
@@ -244,8 +246,9 @@ class Member:
         self.bodies: list[bytes] = []
         self.under_way = 0
         self.stopped: set[str] = set()
-        self.was_member = self.is_leaving = False
+        self.was_member = self.is_leaving = self.was_too_few = False
         self.silent_since: float | None = time.monotonic()  # none once it is told
+        self.sent_last = time.monotonic()
         self.leave_answer = ""
 
     def do(self, line: str, heard: str = "") -> str:
@@ -276,6 +279,7 @@ class Member:
             if kind == "data":
                 if parts[0] == self.wanted.name and self.do(f"done {parts[1]}").startswith("sent"):
                     self.under_way -= 1
+                    self.sent_last = time.monotonic()
                 self.took_data(int(number), parts[0], bytes.fromhex(parts[2].replace("-", "")))
             else:
                 self.took_other(int(number), kind, parts)
@@ -339,14 +343,20 @@ class Member:
             raise Refused(f"the group goes on without this member: view {info.view} is of {','.join(info.members)}")
         for name in info.waiting:
             if name in self.stopped:
-                self.act(f"giveup {name}")
+                self.tell_few(self.act(f"giveup {name}"))
         running = [name for name in info.members if name not in self.stopped]
         if info.status == "coordinator" or len(running) == len(info.members) or self.wanted.name not in running:
             return
         if self.ticks >= self.patience:
             self.patience = self.ticks + 20 + 15 * running.index(self.wanted.name)
-            self.act(f"reset {self.wanted.least}")
+            self.tell_few(self.act(f"reset {self.wanted.least}"))
             self.look(self.info())
+
+    def tell_few(self, answer: str) -> None:
+        """Tells once where a reset can't have as many members as it wants."""
+        if answer.startswith("too-few") and not self.was_too_few:
+            self.was_too_few = True
+            complain(f"no reset: fewer than --least {self.wanted.least} members are left to go on")
 
     def put(self, body: bytes) -> bool:
         """Sends a message, now or once the node takes it; False where it is too long."""
@@ -396,11 +406,12 @@ class Member:
         self.journal.write("counts", *map(str, counts))
 
     def run(self) -> None:
-        """Until the time has passed, or the input has ended and what it said is done. A file is read as its messages go out."""
+        """Until the time has passed, or the input has ended and what it said is done, or nothing of that was sent for a while. A file is
+        read as its messages go out."""
         ends, due, rest = time.monotonic() + self.wanted.seconds, time.monotonic(), b""
         reads = not self.wanted.no_input and sys.stdin is not None
         is_file = reads and stat.S_ISREG(os.fstat(INPUT).st_mode)
-        while (now := time.monotonic()) < ends:
+        while (now := time.monotonic()) < (until := ends if reads or self.wanted.no_input else min(ends, self.sent_last + LAST_SECONDS)):
             if now >= due:
                 due = max(due + self.wanted.tick / 1000, now)
                 self.tick()
@@ -408,9 +419,9 @@ class Member:
                     self.tell_counts()
             self.network.faults.flush()
             watched: list[socket.socket | int] = [self.network.socket]
-            if reads and not (is_file and self.bodies):
+            if reads and len(self.bodies) < (1 if is_file else MOST_WAITING):
                 watched.append(INPUT)
-            ready, _, _ = select.select(watched, [], [], max(0, min(due, self.network.faults.due(), ends) - time.monotonic()))
+            ready, _, _ = select.select(watched, [], [], max(0, min(due, self.network.faults.due(), until) - time.monotonic()))
             if self.network.socket in ready:
                 for _ in range(64):
                     if (letter := self.network.receive()) is None:
@@ -420,7 +431,7 @@ class Member:
                 data = os.read(INPUT, 65536)
                 *lines, rest = (rest + data).split(b"\n")
                 if not data:
-                    reads, ends = False, min(ends, time.monotonic() + LAST_SECONDS)
+                    reads, self.sent_last = False, time.monotonic()
                     lines = [rest] if rest else []
                 for line in lines:
                     self.told(line.decode(errors="surrogateescape"))
@@ -540,7 +551,8 @@ def run_member(application: type[Member], wanted: argparse.Namespace) -> int:
         undone = ""
     member.tell_counts()
     journal.write("end")
-    node.close()
+    if status := node.close():
+        raise Refused(f"the node ended with status {status}")
     if undone:
         complain(undone)
     return 1 if undone else 0
