@@ -16,12 +16,13 @@ import re
 import sys
 from dataclasses import dataclass, field
 
+from node import NAME
+
 KINDS = (
     "Request Spread Bcast Order Accept Ack Nack Hold JoinAsk Welcome LeaveAsk Gone Invite Vote Fetch Piece Result HandOver"
 ).split()
 CALLS = {"take", "join", "leave", "state", "tick"}
 COUNTS = 6
-NAME = re.compile(r"([0-9]|1[0-5])(?:/([2-9]|1[0-6]))?")
 # the first line of a journal: its name, the founders, and the founding's three numbers
 HEAD = re.compile(rf"node\t{NAME.pattern}\t[0-9]{{1,2}}(,[0-9]{{1,2}})*(\t[0-9]{{1,4}}){{3}}")
 
@@ -32,10 +33,10 @@ class Unmerged(Exception):
 
 def parts_of(name: str) -> tuple[int, int]:
     """The place and the life of a name."""
-    match = NAME.fullmatch(name)
-    if not match:
+    if not NAME.fullmatch(name):
         raise Unmerged(f"{name!r} is no name")
-    return int(match[1]), int(match[2] or 1)
+    place, _, life = name.partition("/")
+    return int(place), int(life or 1)
 
 
 @dataclass

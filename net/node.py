@@ -19,6 +19,8 @@ from typing import NamedTuple
 
 TOP = pathlib.Path(__file__).resolve().parent.parent
 PROGRAM = TOP / "crates" / "am_sim" / "out" / "am_sim"
+# a name: PLACE, or PLACE/LIFE for a place that came back
+NAME = re.compile(r"(?:[0-9]|1[0-5])(?:/(?:[2-9]|1[0-6]))?")
 LETTER = re.compile(r"(\*?[0-9/,]+) ((?:[0-9a-f]{2})+)")
 
 

@@ -27,11 +27,10 @@ from collections.abc import Callable
 from typing import NamedTuple
 
 from faults import Faults
-from node import Ended, Letter, Node, program_of
+from node import NAME, Ended, Letter, Node, program_of
 
-NAME = re.compile(r"([0-9]|1[0-5])(?:/([2-9]|1[0-6]))?")
 # a datagram's first line: its sender, that one's number for the letter, and for whom it is
-HEAD = re.compile(r"(NAME) ([0-9]{1,10}) (\*?NAME(?:,NAME){0,15})".replace("NAME", r"(?:[0-9]|1[0-5])(?:/(?:[2-9]|1[0-6]))?"))
+HEAD = re.compile(r"(NAME) ([0-9]{1,10}) (\*?NAME(?:,NAME){0,15})".replace("NAME", NAME.pattern))
 MOST_HEAD = 256
 LEAST_PACKET, MOST_PACKET = 12, 1152
 MOST_BODY = 1024

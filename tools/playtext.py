@@ -12,8 +12,7 @@ import audit
 from explain import of_text
 
 # an event's line, with the fields of what is read of it
-NUMBER, PLACE = "[0-9]{1,10}", "(?:[0-9]|1[0-5])"
-NAME = f"{PLACE}(?:/[0-9]{{1,2}})?"
+NUMBER, PLACE, NAME = "[0-9]{1,10}", audit.PLACE.decode(), audit.NAME.decode()
 MEMBERS = f"{NAME}(?:,{NAME})*"
 ACT = (
     f"(?:take|join|state|leave|stop|tick|return) {PLACE}|send {PLACE} [0-9a-f-]+|(?:done|ask|hear) {PLACE} {NUMBER}"

@@ -418,6 +418,32 @@ def left_out(tried: Tried) -> list[str]:
     return wrong + ([] if told.getvalue().count("nothing heard for 5 seconds") == 1 else [f"it told {told.getvalue()!r}"])
 
 
+def too_few(tried: Tried) -> list[str]:
+    """A reset that can't have its least size is told once, and tried again."""
+    node, told = Node("0", "0,1", program=shlex.split(tried.program)), io.StringIO()
+    member = Member(node, Journal(str(tried.journal("0")), ["0"]), Quiet(), argparse.Namespace(name="0", least=2))
+    member.stopped.add("1")
+    with contextlib.redirect_stderr(told):
+        for _ in range(3):
+            member.ticks += 100
+            member.look(member.info())
+    node.close()
+    tries = tried.journal("0").read_text().count("\treset 2\t")
+    return [] if told.getvalue().count("no reset: fewer than --least 2") == 1 and tries == 3 else [f"{tries} tries: {told.getvalue()!r}"]
+
+
+def last_sent(tried: Tried) -> list[str]:
+    """Behind the end of its input a member goes on as long as something of that is sent, each time within the limit."""
+    other = tried.start("net/udp.py", "1", "--founders", "0,1", "--no-input")
+    shorter = "import sys; sys.path.insert(0, sys.argv.pop(1)); import udp; udp.LAST_SECONDS = 0.3; sys.exit(udp.run())"
+    words = tried.command("net/udp.py", "0", "--founders", "0,1", "--delay", "15")[2:]
+    given = "".join(f"{number}\n" for number in range(60))
+    ran = subprocess.run([sys.executable, "-c", shorter, str(TOP / "net"), *words], input=given, capture_output=True, text=True, timeout=30)
+    other.kill()
+    count = ran.stdout.count(" 0: ")
+    return [] if ran.returncode == 0 and count == 60 else [f"{ran.returncode}, {count} sent: {ran.stderr}"]
+
+
 class Quiet:
     """A network that loses everything."""
 
@@ -474,5 +500,6 @@ def try_parts(page: str | None, kind: type[Tried], parts: Iterable[Callable]) ->
 
 
 if __name__ == "__main__":
-    some = (cluster, dropped, unknown, begun_anew, loop, lines_of_a_node, inputs, refused, full_journal, dictionary, chat, left_out, once, merging)
-    sys.exit(try_parts(__doc__, Tried, some))
+    members = (cluster, dropped, unknown, begun_anew, loop, lines_of_a_node, inputs, refused, full_journal)
+    groups = (dictionary, chat, left_out, too_few, last_sent, once, merging)
+    sys.exit(try_parts(__doc__, Tried, members + groups))
