@@ -17,6 +17,13 @@
 //! handle is written by them alone, slices are there and apart, and calls on one handle come one after another, on its thread.
 //! Nothing compares the declarations below with that file.
 
+pub mod answer;
+mod by_lines;
+pub mod event;
+pub mod names;
+
+use answer::{Did, Outcome};
+use event::Event;
 use std::ffi::c_void;
 use std::{error, fmt, ptr};
 
@@ -55,6 +62,8 @@ pub enum Refusal {
     NoMemory,
     /// The options are none.
     BadOptions,
+    /// What the library wrote is no answer of a node. A library of another version does this.
+    NoAnswer,
 }
 
 impl fmt::Display for Refusal {
@@ -62,6 +71,7 @@ impl fmt::Display for Refusal {
         f.write_str(match self {
             Refusal::NoMemory => "there is no memory for the node",
             Refusal::BadOptions => "these are no options of a node",
+            Refusal::NoAnswer => "what the library wrote is no answer of a node",
         })
     }
 }
@@ -118,6 +128,11 @@ impl Answer {
     }
 }
 
+/// An answer as text; nothing if it is none.
+fn text_of(answer: &[u8]) -> &str {
+    std::str::from_utf8(answer).unwrap_or_default()
+}
+
 /// A node. It is closed when it is dropped, and its state ends with it.
 pub struct Node {
     handle: Handle,
@@ -164,6 +179,37 @@ impl Node {
                 NO_ROOM => self.answer.resize(length, 0),
                 _ => return Err(Refusal::NoMemory),
             }
+        }
+    }
+
+    /// What the node answers to an event.
+    ///
+    /// ```
+    /// use muoswyld::answer::Outcome;
+    /// use muoswyld::event::Event;
+    ///
+    /// let mut node = muoswyld::Node::open("--name 0 --founders 0")?;
+    /// let did = node.handle(&Event::Send(b"hello"))?;
+    /// assert_eq!(did.outcome, Outcome::Queued { request: 1 });
+    /// assert_eq!(did.standing.accepted, 2);
+    /// # Ok::<(), muoswyld::Refusal>(())
+    /// ```
+    pub fn handle(&mut self, event: &Event) -> Result<Did, Refusal> {
+        let done = match event {
+            Event::Look => Some((Outcome::Looked, Vec::new())),
+            _ => {
+                let line = event.line();
+                by_lines::did_of(text_of(self.tell(line.as_bytes())?))
+            }
+        };
+        let standing = by_lines::standing_of(text_of(self.tell(b"info")?));
+        match (done, standing) {
+            (Some((outcome, letters)), Some(standing)) => Ok(Did {
+                outcome,
+                standing,
+                letters,
+            }),
+            _ => Err(Refusal::NoAnswer),
         }
     }
 
