@@ -1,0 +1,323 @@
+//! What a member is given, and what it answers.
+
+use muoswyld::answer::Standing;
+use muoswyld::names::{Name, Names};
+use thiserror::Error;
+
+/// What happened.
+#[derive(Debug)]
+pub enum Input<'a> {
+    /// A datagram came; this is its payload.
+    Datagram(&'a [u8]),
+    /// The application sends a message of at most 65,535 bytes. The ticket comes back with what became of it.
+    Send {
+        /// The caller's number for it.
+        ticket: u64,
+        /// The message.
+        message: Vec<u8>,
+    },
+    /// The member is to leave, once all that it was given to send is sent.
+    Leave,
+    /// The member is to reset the group.
+    Reset {
+        /// The caller's number for it.
+        ticket: u64,
+        /// The fewest members to go on with; None: as the settings say.
+        least: Option<u8>,
+        /// The resilience from then on; None: as it is.
+        resilience: Option<u8>,
+    },
+    /// This name has stopped for certain: it can't act any more.
+    Stopped(Name),
+    /// The application has taken so many deliveries: there is room for as many more.
+    Consumed(usize),
+    /// Nothing but time.
+    Time,
+}
+
+/// Why an input wasn't taken. Nothing has changed.
+#[derive(Debug, PartialEq, Eq, Error)]
+pub enum HandleError {
+    /// The message has more than 65,535 bytes.
+    #[error("a message has at most 65,535 bytes")]
+    TooLong {
+        /// The message, given back.
+        message: Vec<u8>,
+    },
+    /// So many bytes don't fit into what may wait now.
+    #[error("there is room for {room} bytes now")]
+    Full {
+        /// The message, given back.
+        message: Vec<u8>,
+        /// How many bytes fit.
+        room: usize,
+    },
+    /// The member leaves.
+    #[error("the member leaves")]
+    Leaving {
+        /// The message, given back.
+        message: Vec<u8>,
+    },
+    /// The member isn't of a group yet, so that it can't be reset or left.
+    #[error("the member isn't of a group yet")]
+    NotMember,
+    /// The member leaves, and so can't reset the group.
+    #[error("the member leaves, and can't reset")]
+    LeavingNoReset,
+    /// The least size isn't 1 to 16, or the resilience is above 15.
+    #[error("a reset has a least size of 1 to 16 and a resilience of 0 to 15")]
+    OutOfRange,
+    /// The name is the member's own.
+    #[error("the member itself hasn't stopped")]
+    Itself,
+    /// The member has ended.
+    #[error("the member has ended")]
+    Ended,
+}
+
+/// Where something stands in the group's list: the number of the entry, and its index within that.
+#[derive(Clone, Copy, Debug, PartialEq, Eq, PartialOrd, Ord, Hash)]
+pub struct Position {
+    /// The number of the entry, from 1. Of a message of several parts it is the last one's.
+    pub number: u32,
+    /// The index among the messages of one entry, from 0.
+    pub index: u32,
+}
+
+/// What the application is given: the group's list, in order, each once.
+#[derive(Clone, Debug, PartialEq, Eq)]
+pub enum Delivery {
+    /// A message.
+    Message {
+        /// Where it stands.
+        at: Position,
+        /// Who sent it.
+        from: Name,
+        /// The message.
+        message: Vec<u8>,
+    },
+    /// A name became a member. A joiner's first delivery is its own.
+    Joined {
+        /// Where this stands.
+        at: Position,
+        /// The name.
+        name: Name,
+    },
+    /// A member left.
+    Left {
+        /// Where this stands.
+        at: Position,
+        /// The name.
+        name: Name,
+    },
+    /// A view begins.
+    View {
+        /// Where this stands.
+        at: Position,
+        /// Its members.
+        members: Names,
+        /// How many of them may stop.
+        resilience: u8,
+    },
+}
+
+impl Delivery {
+    /// Where it stands.
+    pub fn at(&self) -> Position {
+        match self {
+            Delivery::Message { at, .. }
+            | Delivery::Joined { at, .. }
+            | Delivery::Left { at, .. }
+            | Delivery::View { at, .. } => *at,
+        }
+    }
+}
+
+/// Why a message wasn't delivered by its own member before that ended.
+#[derive(Clone, Copy, Debug, PartialEq, Eq, Error)]
+pub enum Unsent {
+    /// It never went out whole: nobody is given it.
+    #[error("it wasn't sent: nobody is given it")]
+    NotSent,
+    /// It was under way: the others may be given it or not.
+    #[error("it was under way when the member ended: the others may be given it or not")]
+    Unknown,
+}
+
+/// Why a reset came to no view.
+#[derive(Clone, Copy, Debug, PartialEq, Eq, Error)]
+pub enum NotReset {
+    /// Fewer members than the least size are left.
+    #[error("{got} members are left, of {least} at least")]
+    TooFew {
+        /// How many are left.
+        got: u32,
+        /// The least size.
+        least: u32,
+    },
+    /// The window has no room for a view.
+    #[error("the window has no room for a view")]
+    Crowded,
+    /// Another reset overtook it.
+    #[error("another reset overtook it")]
+    Overtaken,
+    /// The members of the latest view don't have this one among them.
+    #[error("the group goes on without this member")]
+    NotIn,
+    /// The member isn't one of its group's members, or leaves, or has ended.
+    #[error("the member is none of its group, leaves or has ended")]
+    NotMember,
+}
+
+/// How a member ends. It does nothing any more then.
+#[derive(Clone, Copy, Debug, PartialEq, Eq)]
+pub enum End {
+    /// It has left.
+    Left,
+    /// It was the last member, and left: the group is over.
+    Closed,
+    /// The group goes on without it. Its place can come back as its next life.
+    LeftOut,
+    /// It asked to join, and stayed unwelcomed over two resets. Its place can come back as its next life.
+    Unwelcomed,
+    /// The node's numbers are used up.
+    NoNumbersLeft,
+    /// The node gave no answer, as without memory.
+    NodeFailed,
+}
+
+/// What is told for logs.
+#[derive(Clone, Copy, Debug, PartialEq, Eq)]
+pub enum Notice {
+    /// The founding has fewer than twice the resilience and one more members: a join during a crash can lock the group.
+    FewFounders,
+    /// The member learnt its group's id, or drew it.
+    Group(u64),
+    /// Nothing was heard of a member for a while.
+    Silent(Name),
+    /// A member that was silent is heard again.
+    Heard(Name),
+    /// The window is full, and this member has taken less than all others.
+    Slow(Name),
+    /// A reset isn't begun, since fewer members run than it is to go on with.
+    TooFew {
+        /// How many run.
+        running: usize,
+        /// The least size.
+        least: u8,
+    },
+    /// More members of a view stopped than its resilience.
+    BeyondResilience(usize),
+    /// The member begins a reset by itself, since somebody stopped.
+    Resets,
+    /// The member begins a reset by itself, since what it waits for isn't answered while all others are heard.
+    ResetsStuck,
+    /// A reset of this member came to no view.
+    NotReset(NotReset),
+    /// What comes of a place is of another group, and dropped.
+    OtherGroup(Name),
+    /// What comes of a name is of another process than before, and dropped.
+    OtherProcess(Name),
+    /// A leave waits: for sends, for a reset, or until another leaver has left.
+    LeaveWaits,
+}
+
+/// What a member answers.
+#[derive(Clone, Debug, PartialEq, Eq)]
+pub enum Output {
+    /// A datagram is to go to each place of these names.
+    Datagram {
+        /// The names whose places get it.
+        to: Names,
+        /// Its payload.
+        payload: Vec<u8>,
+    },
+    /// The application is given something.
+    Deliver(Delivery),
+    /// A message was delivered by this member, which it is told after, or won't be.
+    Settled {
+        /// The caller's number for it.
+        ticket: u64,
+        /// Where it stands.
+        result: Result<Position, Unsent>,
+    },
+    /// A reset was decided, or came to nothing.
+    ResetDone {
+        /// The caller's number for it.
+        ticket: u64,
+        /// The number of the view's entry.
+        result: Result<u32, NotReset>,
+    },
+    /// Lines of the journal, to be written before the datagrams that follow go out.
+    Journal(Vec<u8>),
+    /// Something for logs.
+    Told(Notice),
+    /// The member has ended. It is the last output.
+    Ended(End),
+}
+
+/// How often something happened.
+#[derive(Clone, Copy, Debug, Default, PartialEq, Eq)]
+pub struct Counts {
+    /// Datagrams that came.
+    pub datagrams_heard: u64,
+    /// Datagrams that went out, each place for itself.
+    pub datagrams_sent: u64,
+    /// Datagrams that are none by their form, or come of this place itself.
+    pub malformed: u64,
+    /// Datagrams of another group or founding.
+    pub other_group: u64,
+    /// Datagrams of another process of a name.
+    pub other_process: u64,
+    /// Letters for somebody else.
+    pub not_addressed: u64,
+    /// Letters of askers that weren't heard, since somebody has stopped or leaves.
+    pub askers_put_off: u64,
+    /// Letters that the node heard.
+    pub letters_heard: u64,
+    /// Letters that the node sent.
+    pub letters_sent: u64,
+    /// Calls of the node.
+    pub steps: u64,
+    /// Ticks of the node.
+    pub ticks: u64,
+    /// Bodies that were sent.
+    pub bodies_sent: u64,
+    /// Messages that were given to be sent.
+    pub messages_sent: u64,
+    /// What the application was given.
+    pub deliveries: u64,
+    /// Control bodies, which nobody is given.
+    pub controls: u64,
+    /// Resets that the member began by itself.
+    pub resets: u64,
+}
+
+/// How a member stands.
+#[derive(Clone, Copy, Debug, PartialEq, Eq)]
+pub struct Info {
+    /// Its name.
+    pub name: Name,
+    /// Its group's id, once it knows it.
+    pub group: Option<u64>,
+    /// What it is to its group, the members, and the fronts of its list.
+    pub standing: Standing,
+    /// How many messages wait to be sent, or are under way.
+    pub unsettled: usize,
+    /// How many bytes of messages wait to be sent, each with its head.
+    pub waiting: usize,
+    /// Members that nothing was heard of for a while.
+    pub silent: Names,
+    /// At the sequencer, with a full window: the members that have taken least.
+    pub slow: Names,
+    /// The names that were told as stopped.
+    pub stopped: Names,
+    /// The measured round trip, in microseconds.
+    pub round_trip: Option<u64>,
+    /// Whether it is to leave.
+    pub leaves: bool,
+    /// How it ended.
+    pub ended: Option<End>,
+    /// How often something happened.
+    pub counts: Counts,
+}

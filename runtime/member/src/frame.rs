@@ -1,0 +1,363 @@
+//! The payload of a datagram: letters, or what is said about the group's id. All numbers are big-endian.
+//!
+//! | kind | behind the kind's byte |
+//! |---|---|
+//! | 1, letters | group id (8), sender's name (1), its process word (8), then letters to the end |
+//! | 2, asks for the group's id | digest of the founding (8), name (1), process word (8), nonce (8) |
+//! | 3, tells it | nonce (8), group id (8), name (1), process word (8) |
+//!
+//! A letter is its number (4), flags (1: bit 0 any life of the places, bit 1 lives follow), the mask of the places (2), the lives
+//! (8, if they follow), a length (2), and so many bytes of a packet, 12 to 1,152.
+
+use muoswyld::event::To;
+use muoswyld::names::{Name, Names};
+
+/// The bytes before the letters.
+pub(crate) const HEAD: usize = 18;
+/// The most bytes of a letter before its packet.
+const LETTER_HEAD: usize = 17;
+/// The fewest bytes of a packet.
+pub(crate) const LEAST_PACKET: usize = 12;
+/// The most bytes of a packet.
+pub(crate) const MOST_PACKET: usize = 1152;
+/// The fewest bytes that a datagram may be limited to: one packet with its heads, and some more.
+pub const LEAST_DATAGRAM: usize = 1232;
+
+const LETTERS: u8 = 1;
+const ASK: u8 = 2;
+const TELL: u8 = 3;
+const ANY: u8 = 1;
+const LIVES: u8 = 2;
+
+/// Who speaks: a name and the random word of its process.
+#[derive(Clone, Copy, Debug, PartialEq, Eq)]
+pub(crate) struct Speaker {
+    pub(crate) name: Name,
+    pub(crate) process: u64,
+}
+
+/// A letter in a datagram.
+#[derive(Clone, Copy, Debug, PartialEq, Eq)]
+pub(crate) struct Letter<'a> {
+    pub(crate) number: u32,
+    pub(crate) to: To,
+    pub(crate) packet: &'a [u8],
+}
+
+/// A datagram's payload.
+#[derive(Clone, Copy, Debug, PartialEq, Eq)]
+pub(crate) enum Frame<'a> {
+    Letters {
+        group: u64,
+        from: Speaker,
+        letters: Letters<'a>,
+    },
+    Ask {
+        digest: u64,
+        from: Speaker,
+        nonce: u64,
+    },
+    Tell {
+        nonce: u64,
+        group: u64,
+        from: Speaker,
+    },
+}
+
+/// Bytes that are read from the front.
+#[derive(Clone, Copy, Debug, PartialEq, Eq)]
+struct Bytes<'a>(&'a [u8]);
+
+impl<'a> Bytes<'a> {
+    fn take(&mut self, count: usize) -> Option<&'a [u8]> {
+        let head = self.0.get(..count)?;
+        self.0 = self.0.get(count..)?;
+        Some(head)
+    }
+
+    fn number<const N: usize>(&mut self) -> Option<[u8; N]> {
+        self.take(N)?.try_into().ok()
+    }
+
+    fn u8(&mut self) -> Option<u8> {
+        self.number().map(u8::from_be_bytes)
+    }
+
+    fn u16(&mut self) -> Option<u16> {
+        self.number().map(u16::from_be_bytes)
+    }
+
+    fn u32(&mut self) -> Option<u32> {
+        self.number().map(u32::from_be_bytes)
+    }
+
+    fn u64(&mut self) -> Option<u64> {
+        self.number().map(u64::from_be_bytes)
+    }
+
+    fn speaker(&mut self) -> Option<Speaker> {
+        Some(Speaker {
+            name: Name::of_byte(self.u8()?),
+            process: self.u64()?,
+        })
+    }
+
+    fn letter(&mut self) -> Option<Letter<'a>> {
+        let number = self.u32()?;
+        let flags = self.u8()?;
+        if flags & !(ANY | LIVES) != 0 {
+            return None;
+        }
+        let mask = self.u16()?;
+        let lives = if flags & LIVES != 0 { self.u64()? } else { 0 };
+        let to = To {
+            any: flags & ANY != 0,
+            names: Names::of_parts(mask, lives)?,
+        };
+        let length = usize::from(self.u16()?);
+        if !(LEAST_PACKET..=MOST_PACKET).contains(&length) {
+            return None;
+        }
+        let packet = self.take(length)?;
+        Some(Letter { number, to, packet })
+    }
+}
+
+/// The letters of a datagram. All of them were looked at when it was read.
+#[derive(Clone, Copy, Debug, PartialEq, Eq)]
+pub(crate) struct Letters<'a>(Bytes<'a>);
+
+impl<'a> Iterator for Letters<'a> {
+    type Item = Letter<'a>;
+
+    fn next(&mut self) -> Option<Letter<'a>> {
+        self.0.letter()
+    }
+}
+
+/// What a payload is; None if it is none of the three kinds by its form.
+pub(crate) fn read(payload: &[u8]) -> Option<Frame<'_>> {
+    let mut bytes = Bytes(payload);
+    let frame = match bytes.u8()? {
+        LETTERS => Frame::Letters {
+            group: bytes.u64()?,
+            from: bytes.speaker()?,
+            letters: letters_of(&mut bytes)?,
+        },
+        ASK => Frame::Ask {
+            digest: bytes.u64()?,
+            from: bytes.speaker()?,
+            nonce: bytes.u64()?,
+        },
+        TELL => Frame::Tell {
+            nonce: bytes.u64()?,
+            group: bytes.u64()?,
+            from: bytes.speaker()?,
+        },
+        _ => return None,
+    };
+    bytes.0.is_empty().then_some(frame)
+}
+
+/// One letter at least, and nothing behind the last one.
+fn letters_of<'a>(bytes: &mut Bytes<'a>) -> Option<Letters<'a>> {
+    let letters = Letters(*bytes);
+    bytes.letter()?;
+    while !bytes.0.is_empty() {
+        bytes.letter()?;
+    }
+    Some(letters)
+}
+
+fn push_speaker(payload: &mut Vec<u8>, from: Speaker) {
+    payload.push(from.name.byte());
+    payload.extend(from.process.to_be_bytes());
+}
+
+/// A payload without letters yet.
+pub(crate) fn begin(group: u64, from: Speaker, room: usize) -> Vec<u8> {
+    let mut payload = Vec::with_capacity(room);
+    payload.push(LETTERS);
+    payload.extend(group.to_be_bytes());
+    push_speaker(&mut payload, from);
+    payload
+}
+
+/// How many bytes a letter has at most.
+pub(crate) const fn most_letter(packet: usize) -> usize {
+    LETTER_HEAD + packet
+}
+
+/// Adds a letter. The packet has at most 1,152 bytes, as each packet of a node has.
+pub(crate) fn push_letter(payload: &mut Vec<u8>, letter: &Letter) {
+    let (mask, lives) = letter.to.names.parts();
+    let any = if letter.to.any { ANY } else { 0 };
+    let follow = if lives != 0 { LIVES } else { 0 };
+    payload.extend(letter.number.to_be_bytes());
+    payload.push(any | follow);
+    payload.extend(mask.to_be_bytes());
+    if lives != 0 {
+        payload.extend(lives.to_be_bytes());
+    }
+    let length = letter.packet.len().min(MOST_PACKET);
+    payload.extend((length as u16).to_be_bytes());
+    payload.extend(&letter.packet[..length]);
+}
+
+/// The payload that asks for the group's id.
+pub(crate) fn ask(digest: u64, from: Speaker, nonce: u64) -> Vec<u8> {
+    let mut payload = vec![ASK];
+    payload.extend(digest.to_be_bytes());
+    push_speaker(&mut payload, from);
+    payload.extend(nonce.to_be_bytes());
+    payload
+}
+
+/// The payload that tells the group's id.
+pub(crate) fn tell(nonce: u64, group: u64, from: Speaker) -> Vec<u8> {
+    let mut payload = vec![TELL];
+    payload.extend(nonce.to_be_bytes());
+    payload.extend(group.to_be_bytes());
+    push_speaker(&mut payload, from);
+    payload
+}
+
+#[cfg(test)]
+mod tests {
+    use super::*;
+    use proptest::prelude::*;
+
+    const ME: Speaker = Speaker {
+        name: Name::of_byte(0x21),
+        process: 0x0102_0304_0506_0708,
+    };
+
+    fn to(text: &str, any: bool) -> To {
+        To {
+            any,
+            names: text.parse().expect("names"),
+        }
+    }
+
+    #[test]
+    fn letters_are_read_as_they_were_written() {
+        let packets = [vec![7; 12], vec![8; 1152]];
+        let tos = [to("0,2,15", true), to("0/2,3", false)];
+        let letters: Vec<Letter> = (0..2)
+            .map(|k| Letter {
+                number: u32::MAX - k as u32,
+                to: tos[k],
+                packet: &packets[k],
+            })
+            .collect();
+        let mut payload = begin(99, ME, 0);
+        assert_eq!(payload.len(), HEAD);
+        for letter in &letters {
+            push_letter(&mut payload, letter);
+        }
+        let Some(Frame::Letters {
+            group,
+            from,
+            letters: found,
+        }) = read(&payload)
+        else {
+            panic!("letters");
+        };
+        assert_eq!((group, from), (99, ME));
+        assert_eq!(found.collect::<Vec<_>>(), letters);
+        for short in 0..payload.len() {
+            // cut between two letters it is a datagram of the first one
+            let is_whole = short == HEAD + 4 + 1 + 2 + 2 + 12;
+            assert_eq!(read(&payload[..short]).is_some(), is_whole, "{short}");
+        }
+    }
+
+    #[test]
+    fn bytes_are_as_the_page_says() {
+        let mut payload = begin(1, ME, 0);
+        let packet = [9; 12];
+        let letter = Letter {
+            number: 5,
+            to: to("0/2", false),
+            packet: &packet,
+        };
+        push_letter(&mut payload, &letter);
+        let mut wanted = vec![1, 0, 0, 0, 0, 0, 0, 0, 1, 0x21, 1, 2, 3, 4, 5, 6, 7, 8];
+        wanted.extend([0, 0, 0, 5, 2, 0, 1, 0, 0, 0, 0, 0, 0, 0, 1, 0, 12]);
+        wanted.extend(packet);
+        assert_eq!(payload, wanted);
+        let asks = [
+            2, 0, 0, 0, 0, 0, 0, 0, 3, 0x21, 1, 2, 3, 4, 5, 6, 7, 8, 0, 0, 0, 0, 0, 0, 0, 4,
+        ];
+        assert_eq!(ask(3, ME, 4), asks);
+        let tells = [
+            3, 0, 0, 0, 0, 0, 0, 0, 4, 0, 0, 0, 0, 0, 0, 0, 5, 0x21, 1, 2, 3, 4, 5, 6, 7, 8,
+        ];
+        assert_eq!(tell(4, 5, ME), tells);
+    }
+
+    #[test]
+    fn wrong_forms_are_refused() {
+        let packet = [0; 12];
+        let letter = Letter {
+            number: 1,
+            to: to("1", false),
+            packet: &packet,
+        };
+        let mut good = begin(1, ME, 0);
+        assert_eq!(read(&good), None, "no letter");
+        push_letter(&mut good, &letter);
+        assert!(read(&good).is_some());
+        let with = |at: usize, byte: u8| {
+            let mut bad = good.clone();
+            bad[at] = byte;
+            read(&bad).is_none()
+        };
+        assert!(with(0, 0) && with(0, 4), "a kind");
+        assert!(with(HEAD + 4, 4), "a flag");
+        assert!(with(HEAD + 8, 11) && with(HEAD + 8, 13), "a length");
+        let mut lives = begin(1, ME, 0);
+        let later = Letter {
+            to: to("1/2", false),
+            ..letter
+        };
+        push_letter(&mut lives, &later);
+        lives[HEAD + 6] = 1;
+        assert_eq!(read(&lives), None, "lives that don't go with the mask");
+    }
+
+    proptest! {
+        #[test]
+        fn any_bytes_are_read_or_refused(bytes in prop::collection::vec(any::<u8>(), 0..200), kind in 0_u8..5) {
+            let mut bytes = bytes;
+            if let Some(first) = bytes.first_mut() {
+                *first = kind;
+            }
+            if let Some(Frame::Letters { group, from, letters }) = read(&bytes) {
+                let mut again = begin(group, from, 0);
+                let mut count = 0;
+                for letter in letters {
+                    prop_assert!((LEAST_PACKET..=MOST_PACKET).contains(&letter.packet.len()));
+                    push_letter(&mut again, &letter);
+                    count += 1;
+                }
+                prop_assert!(count > 0);
+                prop_assert!(again.len() <= bytes.len());
+            }
+        }
+
+        #[test]
+        fn a_changed_byte_never_panics(at in 0_usize..400, byte: u8, count in 1_usize..10) {
+            let packet = [3; 20];
+            let mut payload = begin(1, ME, 0);
+            for number in 0..count {
+                push_letter(&mut payload, &Letter { number: number as u32, to: to("0,1/3", false), packet: &packet });
+            }
+            let length = payload.len();
+            payload[at % length] = byte;
+            if let Some(Frame::Letters { letters, .. }) = read(&payload) {
+                prop_assert!(letters.count() <= count);
+            }
+        }
+    }
+}
