@@ -58,8 +58,8 @@ pub enum HandleError {
         /// The message, given back.
         message: Vec<u8>,
     },
-    /// The member isn't of a group yet, so that it can't be reset or left.
-    #[error("the member isn't of a group yet")]
+    /// The member is none of its group's members, or not yet, and so can't reset it.
+    #[error("the member is none of its group's members")]
     NotMember,
     /// The member leaves, and so can't reset the group.
     #[error("the member leaves, and can't reset")]

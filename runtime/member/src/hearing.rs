@@ -1,0 +1,246 @@
+//! What comes: letters of the group, and the group's id, which a member learns before it speaks.
+
+use crate::config::{Plant, Time};
+use crate::event::Notice;
+use crate::every::{Every, Processes};
+use crate::frame::{self, Frame, Letter, Letters, Speaker};
+use crate::member::Member;
+use crate::packet::{kind_of, stamp_of, Kind};
+use muoswyld::answer::{Outcome, Role};
+use muoswyld::event::Event;
+use muoswyld::names::{Name, Names, PLACES};
+
+/// How often a place is told the group's id at most: once in so many microseconds.
+const ANSWER_EVERY: u64 = 1_000;
+
+/// What a member knows of the others' processes.
+#[derive(Debug)]
+pub(crate) struct Hearing {
+    /// The group's id, once it is known.
+    pub(crate) group: Option<u64>,
+    /// When it is asked for next.
+    pub(crate) ask_at: Time,
+    asks: u32,
+    nonce: u64,
+    processes: Processes,
+    /// When something was last heard of each place, or the member began.
+    pub(crate) heard: [Time; 16],
+    /// Which places were told as silent.
+    pub(crate) silent: [bool; 16],
+    answered: [Option<Time>; 16],
+    told_group: [bool; 16],
+    told_process: Every,
+}
+
+impl Hearing {
+    pub(crate) fn new(now: Time, processes: Processes) -> Hearing {
+        Hearing {
+            group: None,
+            ask_at: now,
+            asks: 0,
+            nonce: 0,
+            processes,
+            heard: [now; 16],
+            silent: [false; 16],
+            answered: [None; 16],
+            told_group: [false; 16],
+            told_process: Every::default(),
+        }
+    }
+}
+
+/// The names of the first lives of all places but one.
+fn others(place: u8) -> Names {
+    (0..PLACES)
+        .filter(|other| *other != place)
+        .filter_map(Name::first)
+        .collect()
+}
+
+impl Member {
+    /// Begins: the lowest founder draws the group's id, and everybody else asks for it.
+    pub(crate) fn begin(&mut self) -> Option<()> {
+        self.hearing.nonce = self.chance.word();
+        if self.settings.founding.lowest() == Some(self.me()) {
+            let group = self.chance.word();
+            self.found(group)?;
+        }
+        self.find()
+    }
+
+    /// Asks for the group's id, if it isn't known and it is time.
+    pub(crate) fn find(&mut self) -> Option<()> {
+        if self.hearing.group.is_some() {
+            return Some(());
+        }
+        if self.now >= self.hearing.ask_at {
+            let wait = self.settings.first_resend << self.hearing.asks.min(16);
+            self.hearing.asks += 1;
+            self.hearing.ask_at = self.now.after(wait.min(self.settings.most_resend));
+            let digest = self.settings.founding.digest();
+            let ask = frame::ask(digest, self.speaker(), self.hearing.nonce);
+            self.send_direct(others(self.me().place()), ask);
+        }
+        None
+    }
+
+    /// Knows the group's id: from here on the node speaks.
+    fn found(&mut self, group: u64) -> Option<()> {
+        self.hearing.group = Some(group);
+        self.hearing.heard = [self.now; 16];
+        self.timers.begin(self.now);
+        self.tell(Notice::Group(group));
+        if self.standing.role == Role::Stranger {
+            self.step(&Event::Join, None)?;
+        }
+        Some(())
+    }
+
+    /// Takes a datagram.
+    pub(crate) fn hear(&mut self, payload: &[u8]) -> Option<()> {
+        self.counts.datagrams_heard += 1;
+        match frame::read(payload) {
+            Some(Frame::Letters {
+                group,
+                from,
+                letters,
+            }) => self.hear_letters(group, from, letters),
+            Some(Frame::Ask {
+                digest,
+                from,
+                nonce,
+            }) => {
+                self.asked(digest, from, nonce);
+                Some(())
+            }
+            Some(Frame::Tell { nonce, group, from }) => self.told(nonce, group, from),
+            None => {
+                self.counts.malformed += 1;
+                Some(())
+            }
+        }
+    }
+
+    /// Whether a process may speak for its name; what isn't so is counted, and told once.
+    fn may_speak(&mut self, from: Speaker) -> bool {
+        if from.name.place() == self.me().place() {
+            self.counts.malformed += 1;
+            return false;
+        }
+        if self.hearing.processes.may_have(from.name, from.process) {
+            return true;
+        }
+        self.counts.other_process += 1;
+        if self.hearing.told_process.insert(from.name) {
+            self.tell(Notice::OtherProcess(from.name));
+        }
+        self.has(Plant::TakesAnyProcess)
+    }
+
+    fn drop_other_group(&mut self, from: Speaker) {
+        self.counts.other_group += 1;
+        let told = &mut self.hearing.told_group[usize::from(from.name.place())];
+        if !std::mem::replace(told, true) {
+            self.tell(Notice::OtherGroup(from.name));
+        }
+    }
+
+    /// Answers who asks for the group's id.
+    fn asked(&mut self, digest: u64, from: Speaker, nonce: u64) {
+        let Some(group) = self.hearing.group else {
+            return;
+        };
+        if digest != self.settings.founding.digest() {
+            self.drop_other_group(from);
+            return;
+        }
+        if !self.may_speak(from) {
+            return;
+        }
+        let answered = &mut self.hearing.answered[usize::from(from.name.place())];
+        if answered.is_some_and(|last| self.now.since(last) < ANSWER_EVERY) {
+            return;
+        }
+        *answered = Some(self.now);
+        let tell = frame::tell(nonce, group, self.speaker());
+        self.send_direct(Names::nobody().with(from.name), tell);
+    }
+
+    /// Takes the group's id, if it was asked for by this nonce.
+    fn told(&mut self, nonce: u64, group: u64, from: Speaker) -> Option<()> {
+        if self.hearing.group.is_some() || nonce != self.hearing.nonce || !self.may_speak(from) {
+            return Some(());
+        }
+        self.found(group)
+    }
+
+    fn hear_letters(&mut self, group: u64, from: Speaker, letters: Letters) -> Option<()> {
+        let Some(own) = self.hearing.group else {
+            return Some(()); // it may be of this group or not
+        };
+        if group != own && !self.has(Plant::TakesAnyGroup) {
+            self.drop_other_group(from);
+            return Some(());
+        }
+        if !self.may_speak(from) {
+            return Some(());
+        }
+        self.hearing.processes.remember(from.name, from.process);
+        self.is_heard(from.name);
+        for letter in letters {
+            self.hear_letter(from.name, &letter)?;
+        }
+        Some(())
+    }
+
+    fn is_heard(&mut self, name: Name) {
+        let place = usize::from(name.place());
+        self.hearing.heard[place] = self.now;
+        if std::mem::take(&mut self.hearing.silent[place]) {
+            self.tell(Notice::Heard(name));
+        }
+    }
+
+    fn hear_letter(&mut self, from: Name, letter: &Letter) -> Option<()> {
+        let kind = kind_of(letter.packet);
+        if !letter.to.is_for(self.me()) {
+            self.counts.not_addressed += 1;
+            return Some(());
+        }
+        if kind == Some(Kind::JoinAsk) && self.puts_askers_off() {
+            self.counts.askers_put_off += 1;
+            return Some(());
+        }
+        if kind == Some(Kind::LeaveAsk) {
+            self.leaving.heard(self.now);
+        }
+        self.counts.letters_heard += 1;
+        self.note_report(from, letter.packet);
+        let event = Event::Hear {
+            to: letter.to,
+            packet: letter.packet,
+        };
+        let outcome = self.step(&event, Some((from, letter.number)))?;
+        if outcome == Outcome::Voted {
+            self.voted(stamp_of(letter.packet));
+        }
+        self.note_heard(&outcome);
+        Some(())
+    }
+
+    /// Whether an asker isn't heard now: somebody has stopped and is still a member, a reset is under way, or the member leaves. A
+    /// stranger that is numbered then could lock the group.
+    fn puts_askers_off(&self) -> bool {
+        !self.stopped.among(self.standing.members).is_empty()
+            || self.standing.role == Role::Coordinator
+            || self.leaving.is_wanted()
+    }
+
+    /// What the answer to a letter tells the timers and the reset.
+    fn note_heard(&mut self, outcome: &Outcome) {
+        self.timers.heard(self.now, outcome);
+        if matches!(outcome, Outcome::PutOff { .. }) {
+            self.sending.put_off = true;
+        }
+    }
+}

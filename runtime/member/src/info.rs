@@ -1,0 +1,85 @@
+//! What a member tells of itself, and of the others that it hears.
+
+use crate::event::{Info, Notice};
+use crate::member::Member;
+use muoswyld::answer::Role;
+use muoswyld::names::{Name, Names};
+
+impl Member {
+    /// How the member stands.
+    pub fn info(&self) -> Info {
+        Info {
+            name: self.me(),
+            group: self.hearing.group,
+            standing: self.standing,
+            unsettled: self.sending.unsettled(),
+            waiting: self.sending.queue.waiting(),
+            silent: self.silent(),
+            slow: self.slow(),
+            stopped: self.stopped.latest(),
+            round_trip: self.timers.round_trip.smooth(),
+            leaves: self.leaving.is_wanted(),
+            ended: self.ended,
+            counts: self.counts,
+        }
+    }
+
+    /// The members that this one hears regularly: all others, at a sequencer or coordinator; else the sequencer.
+    fn heard_regularly(&self) -> Names {
+        let standing = &self.standing;
+        let others = standing.members.without(self.me());
+        match standing.role {
+            Role::Sequencer | Role::Coordinator => others,
+            Role::Member if others.has(standing.view.name) => {
+                Names::nobody().with(standing.view.name)
+            }
+            _ => Names::nobody(),
+        }
+    }
+
+    fn is_silent_for(&self, name: Name, micros: u64) -> bool {
+        let heard = self.hearing.heard[usize::from(name.place())];
+        self.now.since(heard) > micros
+    }
+
+    /// Members that nothing was heard of for a while.
+    fn silent(&self) -> Names {
+        let after = self.settings.silent_after;
+        self.heard_regularly()
+            .iter()
+            .filter(|name| self.is_silent_for(*name, after))
+            .collect()
+    }
+
+    /// Whether all that are heard regularly were heard in the last while.
+    pub(crate) fn hears_all(&self) -> bool {
+        let after = self.settings.stuck_after / 2;
+        let names = self.heard_regularly();
+        names.iter().all(|name| !self.is_silent_for(name, after))
+    }
+
+    /// Tells once who is silent.
+    pub(crate) fn look_for_silence(&mut self) {
+        for name in self.silent().iter() {
+            let place = usize::from(name.place());
+            if !std::mem::replace(&mut self.hearing.silent[place], true) {
+                self.tell(Notice::Silent(name));
+                self.suspect(name);
+            }
+        }
+    }
+
+    /// At the sequencer, with three quarters of the window used: the members that have taken no more than what everybody has.
+    fn slow(&self) -> Names {
+        let standing = &self.standing;
+        let used = 4 * u64::from(standing.top.saturating_sub(standing.base));
+        if standing.role != Role::Sequencer || used < 3 * u64::from(self.settings.founding.window) {
+            return Names::nobody();
+        }
+        let others = standing.members.without(self.me());
+        let taken = |name: &Name| self.timers.taken[usize::from(name.place())];
+        let own = standing.taken <= standing.base;
+        let slow = others.iter().filter(|name| taken(name) <= standing.base);
+        slow.chain(own.then_some(self.me())).collect()
+    }
+}

@@ -1,0 +1,222 @@
+//! Messages that wait to be sent, and the bodies that they go out in.
+
+use crate::body::{part_count, part_of, Packing, MOST_PACKED};
+use crate::config::MESSAGE_HEAD;
+use std::collections::VecDeque;
+
+#[derive(Debug)]
+struct Message {
+    ticket: u64,
+    bytes: Vec<u8>,
+}
+
+/// A body to be sent.
+#[derive(Clone, Debug, PartialEq, Eq)]
+pub(crate) struct Load {
+    /// Its bytes.
+    pub(crate) body: Vec<u8>,
+    /// The tickets of the messages that end in it, in their order.
+    pub(crate) tickets: Vec<u64>,
+}
+
+/// Messages that wait, at most so many bytes of them.
+#[derive(Debug)]
+pub(crate) struct Queue {
+    messages: VecDeque<Message>,
+    waiting: usize,
+    most: usize,
+    /// How many parts of the first message went out.
+    parts: usize,
+}
+
+impl Queue {
+    pub(crate) fn new(most: usize) -> Queue {
+        Queue {
+            messages: VecDeque::new(),
+            waiting: 0,
+            most,
+            parts: 0,
+        }
+    }
+
+    /// How many bytes a message may have now.
+    pub(crate) fn room(&self) -> usize {
+        (self.most - self.waiting).saturating_sub(MESSAGE_HEAD)
+    }
+
+    /// How many bytes wait, with the messages' heads.
+    pub(crate) fn waiting(&self) -> usize {
+        self.waiting
+    }
+
+    /// How many messages wait.
+    pub(crate) fn len(&self) -> usize {
+        self.messages.len()
+    }
+
+    pub(crate) fn is_empty(&self) -> bool {
+        self.messages.is_empty()
+    }
+
+    /// Adds a message; gives it back if it doesn't fit.
+    pub(crate) fn push(&mut self, ticket: u64, bytes: Vec<u8>) -> Result<(), Vec<u8>> {
+        let size = bytes.len() + MESSAGE_HEAD;
+        if size > self.most - self.waiting {
+            return Err(bytes);
+        }
+        self.waiting += size;
+        self.messages.push_back(Message { ticket, bytes });
+        Ok(())
+    }
+
+    /// The next body: as many small messages as fit, or a part of a long one.
+    pub(crate) fn next(&mut self) -> Option<Load> {
+        match self.messages.front() {
+            None => None,
+            Some(first) if first.bytes.len() > MOST_PACKED => self.next_part(),
+            Some(_) => Some(self.next_packed()),
+        }
+    }
+
+    fn pop(&mut self) -> Option<Message> {
+        let message = self.messages.pop_front()?;
+        self.waiting -= message.bytes.len() + MESSAGE_HEAD;
+        Some(message)
+    }
+
+    fn next_part(&mut self) -> Option<Load> {
+        let first = self.messages.front()?;
+        let body = part_of(&first.bytes, self.parts);
+        self.parts += 1;
+        let mut tickets = Vec::new();
+        if self.parts == part_count(first.bytes.len()) {
+            self.parts = 0;
+            tickets.push(self.pop()?.ticket);
+        }
+        Some(Load { body, tickets })
+    }
+
+    fn next_packed(&mut self) -> Load {
+        let mut packing = Packing::new();
+        let mut tickets = Vec::new();
+        while self
+            .messages
+            .front()
+            .is_some_and(|message| packing.fits(message.bytes.len()))
+        {
+            if let Some(message) = self.pop() {
+                packing.push(&message.bytes);
+                tickets.push(message.ticket);
+            }
+        }
+        Load {
+            body: packing.into_body(),
+            tickets,
+        }
+    }
+
+    /// Takes all messages out; their tickets.
+    pub(crate) fn clear(&mut self) -> impl Iterator<Item = u64> + '_ {
+        self.waiting = 0;
+        self.parts = 0;
+        self.messages.drain(..).map(|message| message.ticket)
+    }
+}
+
+#[cfg(test)]
+mod tests {
+    use super::*;
+    use crate::body::{read, Body};
+
+    fn queue_of(lengths: &[usize]) -> Queue {
+        let mut queue = Queue::new(1 << 20);
+        for (k, length) in lengths.iter().enumerate() {
+            queue.push(k as u64, vec![k as u8; *length]).expect("room");
+        }
+        queue
+    }
+
+    /// The tickets and the length of each body.
+    fn loads(lengths: &[usize]) -> Vec<(Vec<u64>, usize)> {
+        let mut queue = queue_of(lengths);
+        let mut loads = Vec::new();
+        while let Some(load) = queue.next() {
+            loads.push((load.tickets, load.body.len()));
+        }
+        assert_eq!((queue.waiting(), queue.len()), (0, 0));
+        loads
+    }
+
+    #[test]
+    fn small_messages_are_packed() {
+        assert_eq!(loads(&[]), []);
+        assert_eq!(loads(&[0]), [(vec![0], 3)]);
+        assert_eq!(loads(&[64; 3]), [(vec![0, 1, 2], 199)]);
+        assert_eq!(loads(&[1019, 0]), [(vec![0, 1], 1024)]);
+        assert_eq!(loads(&[1020, 0]), [(vec![0], 1023), (vec![1], 3)]);
+        assert_eq!(loads(&[1021, 1]), [(vec![0], 1024), (vec![1], 4)]);
+        let many = loads(&[64; 16]);
+        assert_eq!(many[0], ((0..15).collect(), 991));
+        assert_eq!(many[1], (vec![15], 67));
+    }
+
+    #[test]
+    fn long_messages_go_in_parts_in_their_order() {
+        let two = [(vec![], 1024), (vec![0], 8)];
+        assert_eq!(loads(&[1022]), two);
+        let mixed = loads(&[5, 1023, 1024, 6]);
+        let wanted = [
+            (vec![0], 8),
+            (vec![], 1024),
+            (vec![1], 9),
+            (vec![], 1024),
+            (vec![2], 10),
+            (vec![3], 9),
+        ];
+        assert_eq!(mixed, wanted);
+        let longest = loads(&[65_535]);
+        assert_eq!(longest.len(), 65);
+        assert!(longest[..64]
+            .iter()
+            .all(|load| load.0.is_empty() && load.1 == 1024));
+        assert_eq!(longest[64], (vec![0], 5 + 65_535 - 64 * 1019));
+    }
+
+    #[test]
+    fn a_long_message_frees_its_room_with_its_last_part() {
+        let mut queue = queue_of(&[2000]);
+        assert_eq!(queue.waiting(), 2032);
+        queue.next();
+        assert_eq!(queue.waiting(), 2032);
+        queue.next();
+        assert_eq!(queue.waiting(), 0);
+    }
+
+    #[test]
+    fn what_does_not_fit_comes_back() {
+        let mut queue = Queue::new(100);
+        assert_eq!(queue.room(), 68);
+        assert_eq!(queue.push(1, vec![1; 69]), Err(vec![1; 69]));
+        assert_eq!(queue.push(1, vec![1; 30]), Ok(()));
+        assert_eq!(queue.room(), 6);
+        assert_eq!(queue.push(2, vec![2; 7]), Err(vec![2; 7]));
+        assert_eq!(queue.push(2, vec![2; 6]), Ok(()));
+        assert_eq!(queue.room(), 0);
+        assert_eq!(queue.push(3, vec![]), Err(vec![]));
+        let load = queue.next().expect("a body");
+        assert_eq!(load.tickets, [1, 2]);
+        let Body::Packed(messages) = read(&load.body) else {
+            panic!("not packed");
+        };
+        assert_eq!(messages.collect::<Vec<_>>(), [&[1; 30][..], &[2; 6]]);
+        assert_eq!(queue.room(), 68);
+    }
+
+    #[test]
+    fn a_queue_that_is_cleared_tells_all_tickets() {
+        let mut queue = queue_of(&[3000, 1, 2]);
+        queue.next();
+        assert_eq!(queue.clear().collect::<Vec<_>>(), [0, 1, 2]);
+        assert_eq!((queue.waiting(), queue.is_empty()), (0, true));
+    }
+}

@@ -1,0 +1,243 @@
+//! Sending: messages wait, go out in bodies one after the other, and are settled when their own member delivers them.
+
+use crate::body::MOST_MESSAGE;
+use crate::config::{Plant, Time};
+use crate::event::{HandleError, Output, Position, Unsent};
+use crate::member::Member;
+use crate::queue::{Load, Queue};
+use muoswyld::answer::Outcome;
+use muoswyld::event::Event;
+use std::collections::VecDeque;
+
+/// A body that the node was given.
+#[derive(Debug)]
+pub(crate) struct UnderWay {
+    request: u32,
+    load: Load,
+    /// When it was first sent.
+    pub(crate) began: Time,
+    /// When it was last sent.
+    pub(crate) sent_at: Time,
+    /// How often it was sent again.
+    pub(crate) tries: u32,
+}
+
+/// What a member sends.
+#[derive(Debug)]
+pub(crate) struct Sending {
+    pub(crate) queue: Queue,
+    /// A body that the node didn't take yet.
+    ready: Option<Load>,
+    /// The body that isn't known to be accepted.
+    pub(crate) under_way: Option<UnderWay>,
+    /// Bodies that are accepted, and that the application wasn't given yet: their requests and tickets.
+    accepted: VecDeque<(u32, Vec<u64>)>,
+    /// Up to where the list was accepted when the node was last asked for the body under way.
+    asked_at: u32,
+    /// Whether the sequencer had no room for the body under way.
+    pub(crate) put_off: bool,
+    /// Whether a body went out since the last release.
+    has_sent: bool,
+    /// Whether the next body waits for the next turn.
+    is_paced: bool,
+}
+
+impl Sending {
+    pub(crate) fn new(queue: Queue) -> Sending {
+        Sending {
+            queue,
+            ready: None,
+            under_way: None,
+            accepted: VecDeque::new(),
+            asked_at: 0,
+            put_off: false,
+            has_sent: false,
+            is_paced: false,
+        }
+    }
+
+    /// A new turn begins.
+    pub(crate) fn new_turn(&mut self) {
+        self.has_sent = false;
+    }
+
+    /// Whether something waits to be sent, or is under way.
+    pub(crate) fn is_idle(&self) -> bool {
+        self.queue.is_empty() && self.ready.is_none() && self.under_way.is_none()
+    }
+
+    /// How many messages aren't delivered yet.
+    pub(crate) fn unsettled(&self) -> usize {
+        let tickets = |load: &Load| load.tickets.len();
+        let accepted: usize = self.accepted.iter().map(|(_, those)| those.len()).sum();
+        self.queue.len()
+            + self.ready.as_ref().map_or(0, tickets)
+            + self.under_way.as_ref().map_or(0, |own| tickets(&own.load))
+            + accepted
+    }
+}
+
+impl Member {
+    /// Takes a message to be sent.
+    pub(crate) fn put(&mut self, ticket: u64, message: Vec<u8>) -> Result<(), HandleError> {
+        if message.len() > MOST_MESSAGE {
+            return Err(HandleError::TooLong { message });
+        }
+        if self.leaving.is_wanted() {
+            return Err(HandleError::Leaving { message });
+        }
+        let room = self.room();
+        let put = self.sending.queue.push(ticket, message);
+        put.map_err(|message| HandleError::Full { message, room })?;
+        self.counts.messages_sent += 1;
+        Ok(())
+    }
+
+    /// Asks what became of the body under way, if more of the list is accepted than when that was last asked.
+    pub(crate) fn collect(&mut self) -> Option<()> {
+        let accepted = self.standing.accepted;
+        let Some(own) = &self.sending.under_way else {
+            return Some(());
+        };
+        if accepted == self.sending.asked_at {
+            return Some(());
+        }
+        self.sending.asked_at = accepted;
+        let outcome = self.step(&Event::Done(own.request), None)?;
+        if let Outcome::Sent { number, .. } = outcome {
+            self.is_accepted(number);
+        }
+        Some(())
+    }
+
+    fn is_accepted(&mut self, number: u32) {
+        let Some(own) = self.sending.under_way.take() else {
+            return;
+        };
+        let sample = self.now.since(own.began);
+        if !self.is_sequencer() || sample > 0 {
+            self.timers.round_trip.measure(sample, own.tries > 0);
+        }
+        self.sending.put_off = false;
+        if self.has(Plant::SettlesEarly) {
+            for (index, ticket) in (0..).zip(own.load.tickets) {
+                let result = Ok(Position { number, index });
+                self.give(Output::Settled { ticket, result });
+            }
+            return;
+        }
+        self.sending
+            .accepted
+            .push_back((own.request, own.load.tickets));
+    }
+
+    /// Gives the node the next body, if none is under way.
+    pub(crate) fn send_next(&mut self) -> Option<()> {
+        self.sending.is_paced = false;
+        if self.sending.under_way.is_some() || !self.is_member() {
+            return Some(());
+        }
+        if self.sending.ready.is_none() {
+            if self.sending.queue.is_empty() {
+                return Some(());
+            }
+            if self.is_sequencer() && self.is_too_fast() {
+                return Some(());
+            }
+            self.sending.ready = self.sending.queue.next();
+        }
+        let Some(load) = self.sending.ready.take() else {
+            return Some(());
+        };
+        self.send(load)
+    }
+
+    /// Whether the sequencer's own bodies would outrun all others: one goes out a turn, below half of the window.
+    fn is_too_fast(&mut self) -> bool {
+        let half = u32::from(self.settings.founding.window / 2).max(1);
+        let above = self.standing.top.saturating_sub(self.standing.base);
+        self.sending.is_paced = self.sending.has_sent && above < half;
+        self.sending.has_sent || above >= half
+    }
+
+    fn send(&mut self, load: Load) -> Option<()> {
+        let letters = self.counts.letters_sent;
+        let top = self.standing.top;
+        self.sending.asked_at = self.standing.accepted;
+        let outcome = self.step(&Event::Send(&load.body), None)?;
+        let Outcome::Queued { request } = outcome else {
+            self.sending.ready = Some(load);
+            return Some(());
+        };
+        self.counts.bodies_sent += 1;
+        self.sending.has_sent = true;
+        // a sequencer without room answers nothing else than that no letter goes out
+        let is_still = letters == self.counts.letters_sent && top == self.standing.top;
+        self.sending.put_off = self.is_sequencer() && is_still;
+        self.sending.under_way = Some(UnderWay {
+            request,
+            load,
+            began: self.now,
+            sent_at: self.now,
+            tries: 0,
+        });
+        Some(())
+    }
+
+    /// When the next body may go out, if only the turn is waited for.
+    pub(crate) fn paced_until(&self) -> Time {
+        if self.sending.is_paced {
+            self.now
+        } else {
+            Time::NEVER
+        }
+    }
+
+    /// Settles the tickets of an own body that the application was just given.
+    pub(crate) fn settle(&mut self, number: u32, request: u32) -> Option<()> {
+        if self
+            .sending
+            .under_way
+            .as_ref()
+            .is_some_and(|own| own.request == request)
+        {
+            self.sending.asked_at = 0;
+            self.collect()?;
+        }
+        let is_next = |own: &(u32, Vec<u64>)| own.0 == request;
+        let tickets = match self.sending.accepted.front() {
+            Some(own) if is_next(own) => self.sending.accepted.pop_front().map(|own| own.1),
+            _ => None,
+        };
+        for (index, ticket) in (0..).zip(tickets.unwrap_or_default()) {
+            let result = Ok(Position { number, index });
+            self.give(Output::Settled { ticket, result });
+        }
+        Some(())
+    }
+
+    /// Sends the body under way anew, as a defect that a test plants.
+    pub(crate) fn send_anew(&mut self) -> Option<()> {
+        if let Some(own) = &self.sending.under_way {
+            let body = own.load.body.clone();
+            self.step(&Event::Send(&body), None)?;
+        }
+        Some(())
+    }
+
+    /// Settles all that wasn't delivered, since the member ends.
+    pub(crate) fn settle_all(&mut self) {
+        let own = self.sending.under_way.take().map(|own| own.load.tickets);
+        let accepted = self.sending.accepted.drain(..).map(|own| own.1);
+        let unknown: Vec<u64> = accepted.chain(own).flatten().collect();
+        let ready = self.sending.ready.take().map(|load| load.tickets);
+        let mut unsent = ready.unwrap_or_default();
+        unsent.extend(self.sending.queue.clear());
+        let give = |result| move |ticket| Output::Settled { ticket, result };
+        let unknown = unknown.into_iter().map(give(Err(Unsent::Unknown)));
+        let unsent = unsent.into_iter().map(give(Err(Unsent::NotSent)));
+        for output in unknown.chain(unsent) {
+            self.give(output);
+        }
+    }
+}
