@@ -1,0 +1,153 @@
+//! What a member of a group is started with.
+
+use crate::addresses::{Addresses, BadAddress};
+use crate::seal::Key;
+use muoswyld::names::{Name, Names};
+use muoswyld_member::Founding;
+use std::net::SocketAddr;
+use std::path::PathBuf;
+use std::time::Duration;
+
+/// What a member of a group is started with. All members of a group are given the same founders, resilience, window,
+/// `pb_up_to` and key.
+///
+/// ```no_run
+/// use muoswyld_group::{Config, Key};
+///
+/// let key = Key::random()?; // made once, and given to all members
+/// let config = Config::new("1".parse()?, "0,1,2".parse()?)
+///     .resilience(1)
+///     .address(0, "10.0.0.1:7000".parse()?)?
+///     .address(1, "10.0.0.2:7000".parse()?)?
+///     .address(2, "10.0.0.3:7000".parse()?)?
+///     .key(key);
+/// # Ok::<(), Box<dyn std::error::Error>>(())
+/// ```
+#[derive(Clone, Debug)]
+pub struct Config {
+    pub(crate) name: Name,
+    pub(crate) founding: Founding,
+    pub(crate) addresses: Addresses,
+    pub(crate) bind: Option<SocketAddr>,
+    pub(crate) key: Option<Key>,
+    pub(crate) insecure: bool,
+    pub(crate) least: Option<u8>,
+    pub(crate) most_waiting: usize,
+    pub(crate) most_unreceived: usize,
+    pub(crate) datagram: usize,
+    pub(crate) tick: Duration,
+    pub(crate) journal: Option<PathBuf>,
+    pub(crate) start_within: Option<Duration>,
+}
+
+impl Config {
+    /// A member of this name in a group with these founders. The resilience is 0, the window 256, and bodies of up to 1,024
+    /// bytes go by the sequencer.
+    pub fn new(name: Name, founders: Names) -> Config {
+        Config {
+            name,
+            founding: Founding {
+                founders,
+                resilience: 0,
+                window: 256,
+                pb_up_to: 1024,
+            },
+            addresses: Addresses::new(),
+            bind: None,
+            key: None,
+            insecure: false,
+            least: None,
+            most_waiting: 4 << 20,
+            most_unreceived: 4_096,
+            datagram: 1_400,
+            tick: Duration::from_millis(50),
+            journal: None,
+            start_within: None,
+        }
+    }
+
+    /// How many members may stop between two resets, 0 to 15, so that nothing which was given out is lost.
+    pub fn resilience(mut self, resilience: u8) -> Config {
+        self.founding.resilience = resilience;
+        self
+    }
+
+    /// How many entries may wait for the slowest member, 1 to 1,008.
+    pub fn window(mut self, window: u16) -> Config {
+        self.founding.window = window;
+        self
+    }
+
+    /// The longest body that goes by the sequencer, 0 to 1,024 bytes; a longer one goes to all, and its number alone by the
+    /// sequencer, which pays where the network has multicast.
+    pub fn pb_up_to(mut self, bytes: u16) -> Config {
+        self.founding.pb_up_to = bytes;
+        self
+    }
+
+    /// The address of a place, of IPv4 or IPv6. It is an error if the place or the address has one already.
+    pub fn address(mut self, place: u8, address: SocketAddr) -> Result<Config, BadAddress> {
+        self.addresses.add(place, address)?;
+        Ok(self)
+    }
+
+    /// The address to bind, where it isn't the one at which the others reach this member.
+    pub fn bind(mut self, address: SocketAddr) -> Config {
+        self.bind = Some(address);
+        self
+    }
+
+    /// The group's key: datagrams are sealed by it, and others are dropped.
+    pub fn key(mut self, key: Key) -> Config {
+        self.key = Some(key);
+        self
+    }
+
+    /// Allows a group without a key. Whoever reaches a member's address can then read all, and end the group.
+    pub fn insecure(mut self) -> Config {
+        self.insecure = true;
+        self
+    }
+
+    /// The fewest members that a reset goes on with, 1 to 16. A majority of the last view if it isn't set.
+    pub fn least(mut self, members: u8) -> Config {
+        self.least = Some(members);
+        self
+    }
+
+    /// How many bytes of messages may wait to be sent (4 MiB).
+    pub fn most_waiting(mut self, bytes: usize) -> Config {
+        self.most_waiting = bytes;
+        self
+    }
+
+    /// How many deliveries may wait to be received before the group is held back (4,096).
+    pub fn most_unreceived(mut self, deliveries: usize) -> Config {
+        self.most_unreceived = deliveries.max(1);
+        self
+    }
+
+    /// The longest payload of a datagram, 1,232 to 65,000 bytes (1,400).
+    pub fn datagram(mut self, bytes: usize) -> Config {
+        self.datagram = bytes;
+        self
+    }
+
+    /// How often an idle member ticks (50 ms).
+    pub fn tick(mut self, every: Duration) -> Config {
+        self.tick = every;
+        self
+    }
+
+    /// A new file in which the member writes what its node was given and what it answered, so that the run can be judged.
+    pub fn journal(mut self, file: PathBuf) -> Config {
+        self.journal = Some(file);
+        self
+    }
+
+    /// How long `create` and `join` wait at most until the member is in the group; without end if it isn't set.
+    pub fn start_within(mut self, time: Duration) -> Config {
+        self.start_within = Some(time);
+        self
+    }
+}

@@ -1,0 +1,373 @@
+//! A member's thread: it carries datagrams, time and commands to the member, and what the member answers to the network and to
+//! the callers.
+
+use crate::addresses::Addresses;
+use crate::config::Config;
+use crate::error::{CreateError, End, ResetError, SendError, ToldError};
+use crate::seal::{fill, Seal};
+use crate::shared::{Command, Reset, Sent, Shared, Told};
+use crate::slot::Slot;
+use crate::socket::Udp;
+use muoswyld::names::{Name, Names};
+use muoswyld_member::{
+    Delivery, HandleError, Input, Member, NotReset, Output, Position, Settings, Time, Unsent,
+};
+use std::collections::HashMap;
+use std::fs::{File, OpenOptions};
+use std::io::Write;
+use std::os::unix::fs::OpenOptionsExt;
+use std::sync::Arc;
+use std::thread::JoinHandle;
+use std::time::{Duration, Instant};
+
+/// How many batches of datagrams are read before anything else is done: what comes faster is lost, and stops nothing.
+const MOST_BATCHES: usize = 4;
+
+/// Who waits for a ticket.
+enum Waiter {
+    Send(Arc<Slot<Sent>>),
+    Reset(Arc<Slot<Reset>>),
+}
+
+/// A member with its network and its callers.
+struct Shell {
+    member: Member,
+    udp: Udp,
+    seal: Seal,
+    shared: Arc<Shared>,
+    began: Instant,
+    waiters: HashMap<u64, Waiter>,
+    tickets: u64,
+    journal: Option<File>,
+    outputs: Vec<Output>,
+    deliveries: Vec<Delivery>,
+    commands: Vec<Command>,
+    datagram: Vec<u8>,
+    /// Datagrams that no member sealed, came from no member's address, or are too long.
+    dropped: u64,
+}
+
+/// The addresses of a member's group, with its own to bind.
+fn checked(config: &Config) -> Result<(), CreateError> {
+    for name in config.founding.founders.with(config.name).iter() {
+        if config.addresses.of(name.place()).is_none() {
+            return Err(CreateError::NoAddress(name.place()));
+        }
+    }
+    if config.key.is_none() && !config.insecure {
+        return Err(CreateError::NoKey);
+    }
+    Ok(())
+}
+
+/// Sixty-four random bits.
+fn random_word() -> std::io::Result<u64> {
+    let mut bytes = [0; 8];
+    fill(&mut bytes)?;
+    Ok(u64::from_be_bytes(bytes))
+}
+
+fn settings_of(config: &Config) -> std::io::Result<Settings> {
+    let mut settings = Settings::new(config.name, config.founding, random_word()?);
+    settings.seed = random_word()?;
+    settings.least = config.least;
+    settings.most_waiting = config.most_waiting.max(1 << 17);
+    settings.deliveries = config.most_unreceived;
+    settings.datagram = config.datagram;
+    settings.slow_tick = u64::try_from(config.tick.as_micros()).unwrap_or(u64::MAX);
+    settings.journal = config.journal.is_some();
+    Ok(settings)
+}
+
+/// A new file that others can't read.
+fn journal_of(config: &Config) -> std::io::Result<Option<File>> {
+    let Some(path) = &config.journal else {
+        return Ok(None);
+    };
+    let mut options = OpenOptions::new();
+    options.write(true).create_new(true).mode(0o600);
+    options.open(path).map(Some)
+}
+
+/// Starts a member's thread.
+pub(crate) fn start(config: Config) -> Result<(Arc<Shared>, JoinHandle<()>), CreateError> {
+    checked(&config)?;
+    let shared = Arc::new(Shared::new(config.most_waiting, config.most_unreceived)?);
+    let settings = settings_of(&config)?;
+    let seal = match &config.key {
+        Some(key) => Seal::by(key)?,
+        None => Seal::none(),
+    };
+    let own = own_address(&config)?;
+    let size = config.datagram + seal.overhead();
+    let udp = Udp::bind(own, &config.addresses, size)?;
+    let journal = journal_of(&config)?;
+    let (begun, opened) = std::sync::mpsc::channel();
+    let callers = shared.clone();
+    let thread = std::thread::Builder::new()
+        .name(format!("member {}", config.name))
+        .spawn(move || {
+            // a node stays on the thread that opened it, so the member is made here
+            let began = Instant::now();
+            match Member::new(settings, Time(0)) {
+                Ok(member) => {
+                    // whoever started this waits for it
+                    let _heard = begun.send(Ok(()));
+                    let mut shell = Shell {
+                        member,
+                        udp,
+                        seal,
+                        shared: callers,
+                        began,
+                        waiters: HashMap::new(),
+                        tickets: 0,
+                        journal,
+                        outputs: Vec::new(),
+                        deliveries: Vec::new(),
+                        commands: Vec::new(),
+                        datagram: Vec::new(),
+                        dropped: 0,
+                    };
+                    let end = shell.run();
+                    shell.close(&end);
+                }
+                Err(error) => {
+                    let _heard = begun.send(Err(error));
+                }
+            }
+        })?;
+    match opened.recv() {
+        Ok(Ok(())) => Ok((shared, thread)),
+        Ok(Err(error)) => Err(CreateError::Member(error)),
+        // the thread ended before it said anything
+        Err(_) => Err(CreateError::Ended(End::Failed("its thread ended".into()))),
+    }
+}
+
+fn own_address(config: &Config) -> Result<std::net::SocketAddr, CreateError> {
+    let place = config.name.place();
+    let addresses: &Addresses = &config.addresses;
+    let own = config.bind.or_else(|| addresses.of(place));
+    own.ok_or(CreateError::NoAddress(place))
+}
+
+impl Shell {
+    fn now(&self) -> Time {
+        Time(u64::try_from(self.began.elapsed().as_micros()).unwrap_or(u64::MAX))
+    }
+
+    /// Until the member ends.
+    fn run(&mut self) -> End {
+        loop {
+            let left = self.member.wake().0.saturating_sub(self.now().0);
+            let most = Duration::from_micros(left);
+            let can_read = self.shared.sleep(self.udp.descriptor(), most);
+            if can_read {
+                if let Err(error) = self.read() {
+                    return End::Failed(format!("the socket can't be read: {error}"));
+                }
+            }
+            if let Some(end) = self.do_commands() {
+                return end;
+            }
+            let received = self.shared.take_received();
+            if received > 0 {
+                self.handle(Input::Consumed(received));
+            }
+            if self.member.wake() <= self.now() {
+                self.handle(Input::Time);
+            }
+            if let Some(end) = self.let_out() {
+                return end;
+            }
+        }
+    }
+
+    /// Gives the member what happened; only messages can be refused, and those are looked at where they are given.
+    fn handle(&mut self, input: Input) {
+        let now = self.now();
+        let _taken = self.member.handle(now, input);
+    }
+
+    /// Reads what came, a bounded number of datagrams.
+    fn read(&mut self) -> std::io::Result<()> {
+        for _ in 0..MOST_BATCHES {
+            let now = self.now();
+            let (member, seal, udp) = (&mut self.member, &mut self.seal, &mut self.udp);
+            let mut unsealed = 0;
+            let brought = udp.receive(|_place, datagram| match seal.open(datagram) {
+                Some(payload) => {
+                    // only messages can be refused
+                    let _taken = member.handle(now, Input::Datagram(payload));
+                }
+                None => unsealed += 1,
+            })?;
+            self.dropped += unsealed + (brought.strangers + brought.long) as u64;
+            if brought.read < crate::socket::BATCH {
+                break;
+            }
+        }
+        Ok(())
+    }
+
+    /// Does what callers asked for; the end, if one of them asked for it.
+    fn do_commands(&mut self) -> Option<End> {
+        let mut commands = std::mem::take(&mut self.commands);
+        self.shared.take_commands(self.member.room(), &mut commands);
+        let mut end = None;
+        for command in commands.drain(..) {
+            match command {
+                Command::Send { message, slot } => self.send(message, slot),
+                Command::Leave => self.handle(Input::Leave),
+                Command::Stopped { name, slot } => slot.fill(self.stopped(name)),
+                Command::Info(slot) => slot.fill(self.member.info()),
+                Command::Stop => end = Some(End::Stopped),
+                Command::Reset {
+                    least,
+                    resilience,
+                    slot,
+                } => self.reset(least, resilience, slot),
+            }
+        }
+        self.commands = commands;
+        end
+    }
+
+    fn ticket(&mut self, waiter: Waiter) -> u64 {
+        self.tickets += 1;
+        self.waiters.insert(self.tickets, waiter);
+        self.tickets
+    }
+
+    fn send(&mut self, message: Vec<u8>, slot: Arc<Slot<Sent>>) {
+        let ticket = self.ticket(Waiter::Send(slot));
+        let input = Input::Send { ticket, message };
+        if let Err(refusal) = self.member.handle(self.now(), input) {
+            let refusal = match refusal {
+                HandleError::TooLong { .. } => SendError::TooLong,
+                HandleError::Full { .. } => SendError::Full,
+                _ => SendError::Leaving,
+            };
+            self.sent(ticket, Err(refusal));
+        }
+    }
+
+    fn reset(&mut self, least: Option<u8>, resilience: Option<u8>, slot: Arc<Slot<Reset>>) {
+        let ticket = self.ticket(Waiter::Reset(slot));
+        let input = Input::Reset {
+            ticket,
+            least,
+            resilience,
+        };
+        if let Err(refusal) = self.member.handle(self.now(), input) {
+            let refusal = match refusal {
+                HandleError::OutOfRange => ResetError::OutOfRange,
+                _ => ResetError::NotReset(NotReset::NotMember),
+            };
+            self.was_reset(ticket, Err(refusal));
+        }
+    }
+
+    fn stopped(&mut self, name: Name) -> Told {
+        match self.member.handle(self.now(), Input::Stopped(name)) {
+            Err(HandleError::Itself) => Err(ToldError::Itself),
+            // nothing else is refused while the member runs
+            _ => Ok(()),
+        }
+    }
+
+    /// Lets out what came of all that: the journal's lines first, then datagrams, then deliveries and answers. The end, if the
+    /// member has ended.
+    fn let_out(&mut self) -> Option<End> {
+        let mut outputs = std::mem::take(&mut self.outputs);
+        let now = self.now();
+        self.member.release(now, &mut outputs);
+        let mut end = None;
+        for output in outputs.drain(..) {
+            match output {
+                Output::Journal(line) => {
+                    if let Err(error) = self.write(&line) {
+                        return Some(End::Failed(format!(
+                            "the journal can't be written: {error}"
+                        )));
+                    }
+                }
+                Output::Datagram { to, payload } => self.push(to, &payload),
+                Output::Deliver(delivery) => {
+                    // a founder's first view, or a joiner's own join, comes first
+                    self.shared.is_in.fill(true);
+                    self.deliveries.push(delivery);
+                }
+                Output::Settled { ticket, result } => self.settle(ticket, result),
+                Output::ResetDone { ticket, result } => {
+                    self.was_reset(ticket, result.map_err(ResetError::NotReset));
+                }
+                Output::Told(notice) => tracing::warn!("{notice}"),
+                Output::Ended(ended) => end = Some(ended.into()),
+            }
+        }
+        self.outputs = outputs;
+        self.udp.flush();
+        self.shared.deliver(&mut self.deliveries);
+        end
+    }
+
+    fn write(&mut self, line: &[u8]) -> std::io::Result<()> {
+        match &mut self.journal {
+            Some(file) => file.write_all(line),
+            None => Ok(()),
+        }
+    }
+
+    fn push(&mut self, to: Names, payload: &[u8]) {
+        if self.seal.seal(payload, &mut self.datagram) {
+            let places = to.iter().map(|name| name.place());
+            self.udp.push(&self.datagram, places);
+        }
+    }
+
+    /// A message was delivered, or won't be.
+    fn settle(&mut self, ticket: u64, result: Result<Position, Unsent>) {
+        let ended = || self.member.info().ended.map_or(End::Stopped, End::from);
+        let result = result.map_err(|why| match why {
+            Unsent::NotSent => SendError::NotSent(ended()),
+            Unsent::Unknown => SendError::Ended(ended()),
+        });
+        self.sent(ticket, result);
+    }
+
+    fn sent(&mut self, ticket: u64, result: Sent) {
+        if let Some(Waiter::Send(slot)) = self.waiters.remove(&ticket) {
+            slot.fill(result);
+        }
+    }
+
+    fn was_reset(&mut self, ticket: u64, result: Reset) {
+        if let Some(Waiter::Reset(slot)) = self.waiters.remove(&ticket) {
+            slot.fill(result);
+        }
+    }
+
+    /// Tells all who wait that the member has ended.
+    fn close(&mut self, end: &End) {
+        self.shared.deliver(&mut self.deliveries);
+        let left = self.shared.close(end);
+        for command in left {
+            match command {
+                Command::Send { slot, .. } => slot.fill(Err(SendError::NotSent(end.clone()))),
+                Command::Reset { slot, .. } => slot.fill(Err(ResetError::Ended(end.clone()))),
+                Command::Info(slot) => slot.fill(self.member.info()),
+                Command::Stopped { slot, .. } => slot.fill(Err(ToldError::Ended(end.clone()))),
+                Command::Leave | Command::Stop => {}
+            }
+        }
+        for (_, waiter) in self.waiters.drain() {
+            match waiter {
+                // the member was stopped, and the message may be under way
+                Waiter::Send(slot) => slot.fill(Err(SendError::Ended(end.clone()))),
+                Waiter::Reset(slot) => slot.fill(Err(ResetError::Ended(end.clone()))),
+            }
+        }
+        tracing::info!("the member has ended: {end}");
+    }
+}

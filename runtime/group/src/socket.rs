@@ -1,0 +1,281 @@
+//! A member's socket: datagrams in batches, and a wait that others can end.
+
+use crate::addresses::Addresses;
+use socket2::{Domain, Protocol, SockAddr, Socket, Type};
+use std::io;
+use std::mem::{size_of, zeroed};
+use std::net::SocketAddr;
+use std::os::fd::{AsRawFd, FromRawFd, OwnedFd, RawFd};
+use std::ptr;
+use std::time::Duration;
+
+/// How many datagrams are read or written by one call of the system.
+pub(crate) const BATCH: usize = 64;
+/// How many bytes the system keeps of what came and isn't read, as far as it allows.
+const KEPT: usize = 1 << 22;
+
+/// A datagram that goes out: where its bytes stand in the batch, and to which place it goes.
+#[derive(Clone, Copy)]
+struct Outgoing {
+    from: usize,
+    to: usize,
+    place: u8,
+}
+
+/// What one turn of reading brought.
+#[derive(Clone, Copy, Debug, Default, PartialEq, Eq)]
+pub struct Brought {
+    /// How many datagrams were read.
+    pub read: usize,
+    /// How many of them came from no member's address.
+    pub strangers: usize,
+    /// How many of them were longer than a member's datagram can be.
+    pub long: usize,
+}
+
+/// A bound UDP socket that doesn't wait, with the buffers for batches.
+pub struct Udp {
+    socket: Socket,
+    addresses: Vec<(u8, SockAddr)>,
+    places: Vec<(SocketAddr, u8)>,
+    size: usize,
+    buffers: Vec<u8>,
+    bytes: Vec<u8>,
+    outgoing: Vec<Outgoing>,
+    /// Datagrams that the system didn't take.
+    pub unsent: u64,
+}
+
+impl Udp {
+    /// Binds an address; `addresses` are those of all places, `size` the most bytes of a datagram. It is an error if the address
+    /// can't be bound.
+    pub fn bind(own: SocketAddr, addresses: &Addresses, size: usize) -> io::Result<Udp> {
+        let socket = Socket::new(Domain::for_address(own), Type::DGRAM, Some(Protocol::UDP))?;
+        // a smaller buffer only loses more datagrams
+        let _taken = socket.set_recv_buffer_size(KEPT);
+        let _taken = socket.set_send_buffer_size(KEPT);
+        socket.set_nonblocking(true)?;
+        socket.bind(&own.into())?;
+        Ok(Udp {
+            socket,
+            addresses: addresses
+                .iter()
+                .map(|(place, address)| (place, address.into()))
+                .collect(),
+            places: addresses
+                .iter()
+                .map(|(place, address)| (address, place))
+                .collect(),
+            size: size + 1,
+            buffers: vec![0; BATCH * (size + 1)],
+            bytes: Vec::new(),
+            outgoing: Vec::new(),
+            unsent: 0,
+        })
+    }
+
+    /// Its file descriptor, to wait for.
+    pub fn descriptor(&self) -> RawFd {
+        self.socket.as_raw_fd()
+    }
+
+    /// The address that it is bound to.
+    pub fn address(&self) -> Option<SocketAddr> {
+        self.socket.local_addr().ok()?.as_socket()
+    }
+
+    /// Reads at most one batch: gives each datagram with the place from whose address it came.
+    pub fn receive(&mut self, mut take: impl FnMut(u8, &mut [u8])) -> io::Result<Brought> {
+        // SAFETY: addresses and headers of sockets are plain data, for which zeros are a value.
+        let mut from: [libc::sockaddr_storage; BATCH] = unsafe { zeroed() };
+        // SAFETY: as above.
+        let mut parts: [libc::iovec; BATCH] = unsafe { zeroed() };
+        // SAFETY: as above.
+        let mut heads: [libc::mmsghdr; BATCH] = unsafe { zeroed() };
+        let base = self.buffers.as_mut_ptr();
+        for k in 0..BATCH {
+            // in range: there are BATCH times `size` bytes
+            parts[k].iov_base = base.wrapping_add(k * self.size).cast();
+            parts[k].iov_len = self.size;
+            let head = &mut heads[k].msg_hdr;
+            head.msg_name = ptr::addr_of_mut!(from[k]).cast();
+            head.msg_namelen = size_of::<libc::sockaddr_storage>() as libc::socklen_t;
+            head.msg_iov = &mut parts[k];
+            head.msg_iovlen = 1;
+        }
+        // SAFETY: each header points to an address, a part and a buffer of its own, all of which outlive the call.
+        let read = unsafe {
+            libc::recvmmsg(
+                self.descriptor(),
+                heads.as_mut_ptr(),
+                BATCH as libc::c_uint,
+                libc::MSG_DONTWAIT,
+                ptr::null_mut(),
+            )
+        };
+        if read < 0 {
+            return nothing_yet(io::Error::last_os_error());
+        }
+        let mut brought = Brought {
+            read: read as usize,
+            ..Brought::default()
+        };
+        for k in 0..brought.read {
+            let length = heads[k].msg_len as usize;
+            if length >= self.size {
+                brought.long += 1;
+                continue;
+            }
+            match self.place_of(&from[k], heads[k].msg_hdr.msg_namelen) {
+                Some(place) => {
+                    let start = k * self.size;
+                    take(place, &mut self.buffers[start..start + length]);
+                }
+                None => brought.strangers += 1,
+            }
+        }
+        Ok(brought)
+    }
+
+    /// The place of an address that the system wrote.
+    fn place_of(&self, from: &libc::sockaddr_storage, length: libc::socklen_t) -> Option<u8> {
+        // SAFETY: the system wrote an address of this length into the storage.
+        let address = unsafe { SockAddr::new(*from, length) }.as_socket()?;
+        let address = SocketAddr::new(address.ip(), address.port());
+        self.places
+            .iter()
+            .find(|(known, _)| *known == address)
+            .map(|(_, place)| *place)
+    }
+
+    /// Adds a datagram to the batch that goes out next, for each of these places.
+    pub fn push(&mut self, datagram: &[u8], places: impl Iterator<Item = u8>) {
+        let from = self.bytes.len();
+        self.bytes.extend_from_slice(datagram);
+        let to = self.bytes.len();
+        let many = places.map(|place| Outgoing { from, to, place });
+        self.outgoing.extend(many);
+    }
+
+    /// Sends all that was added. What the system doesn't take is lost, as a network loses it, and counted.
+    pub fn flush(&mut self) {
+        let mut at = 0;
+        while at < self.outgoing.len() {
+            let sent = self.send_batch(at);
+            if sent == 0 {
+                self.unsent += 1;
+            }
+            at += sent.max(1);
+        }
+        self.outgoing.clear();
+        self.bytes.clear();
+    }
+
+    /// Sends a batch that begins at one of the datagrams; how many the system took.
+    fn send_batch(&mut self, at: usize) -> usize {
+        // SAFETY: headers of sockets are plain data, for which zeros are a value.
+        let mut parts: [libc::iovec; BATCH] = unsafe { zeroed() };
+        // SAFETY: as above.
+        let mut heads: [libc::mmsghdr; BATCH] = unsafe { zeroed() };
+        let mut many = 0;
+        for outgoing in self.outgoing[at..].iter().take(BATCH) {
+            let found = self
+                .addresses
+                .iter()
+                .find(|(place, _)| *place == outgoing.place);
+            let Some((_, address)) = found else {
+                break;
+            };
+            let datagram = &self.bytes[outgoing.from..outgoing.to];
+            parts[many].iov_base = datagram.as_ptr().cast_mut().cast();
+            parts[many].iov_len = datagram.len();
+            let head = &mut heads[many].msg_hdr;
+            head.msg_name = address.as_ptr().cast_mut().cast();
+            head.msg_namelen = address.len();
+            head.msg_iov = &mut parts[many];
+            head.msg_iovlen = 1;
+            many += 1;
+        }
+        if many == 0 {
+            return 0;
+        }
+        // SAFETY: each header points to an address and to bytes that outlive the call, which only reads them.
+        let sent = unsafe {
+            libc::sendmmsg(
+                self.descriptor(),
+                heads.as_mut_ptr(),
+                many as libc::c_uint,
+                libc::MSG_DONTWAIT,
+            )
+        };
+        usize::try_from(sent).unwrap_or(0)
+    }
+}
+
+/// Nothing was read, or an earlier datagram found nobody; any other fault is one.
+fn nothing_yet(error: io::Error) -> io::Result<Brought> {
+    match error.kind() {
+        io::ErrorKind::WouldBlock
+        | io::ErrorKind::Interrupted
+        | io::ErrorKind::ConnectionRefused
+        | io::ErrorKind::ConnectionReset => Ok(Brought::default()),
+        _ => match error.raw_os_error() {
+            Some(libc::EHOSTUNREACH | libc::ENETUNREACH | libc::ENETDOWN) => Ok(Brought::default()),
+            _ => Err(error),
+        },
+    }
+}
+
+/// What ends a member's wait from another thread.
+pub struct Bell {
+    descriptor: OwnedFd,
+}
+
+impl Bell {
+    /// A new one. It is an error if the system gives none.
+    pub fn new() -> io::Result<Bell> {
+        // SAFETY: the call takes no pointers.
+        let raw = unsafe { libc::eventfd(0, libc::EFD_NONBLOCK | libc::EFD_CLOEXEC) };
+        if raw < 0 {
+            return Err(io::Error::last_os_error());
+        }
+        // SAFETY: the descriptor is new, and nothing else has it.
+        let descriptor = unsafe { OwnedFd::from_raw_fd(raw) };
+        Ok(Bell { descriptor })
+    }
+
+    /// Ends the wait that runs, or else the next one.
+    pub fn ring(&self) {
+        let one = 1u64;
+        // SAFETY: the call reads the eight bytes of `one`. It fails only where the bell has been rung more often than it counts.
+        unsafe { libc::write(self.raw(), ptr::addr_of!(one).cast(), 8) };
+    }
+
+    /// Forgets how often it was rung.
+    pub fn hush(&self) {
+        let mut count = 0u64;
+        // SAFETY: the call writes the eight bytes of `count`.
+        unsafe { libc::read(self.raw(), ptr::addr_of_mut!(count).cast(), 8) };
+    }
+
+    fn raw(&self) -> RawFd {
+        self.descriptor.as_raw_fd()
+    }
+
+    /// Waits until it is rung, something can be read from `other`, or the time has passed; whether something can be read there.
+    pub fn wait(&self, other: RawFd, most: Duration) -> bool {
+        let watched = |fd| libc::pollfd {
+            fd,
+            events: libc::POLLIN,
+            revents: 0,
+        };
+        let mut both = [watched(other), watched(self.raw())];
+        let most = libc::timespec {
+            tv_sec: most.as_secs().min(3600) as libc::time_t,
+            tv_nsec: libc::c_long::from(most.subsec_nanos() as i32),
+        };
+        // SAFETY: both descriptors are open, and the call writes to `both` alone.
+        let ready = unsafe { libc::ppoll(both.as_mut_ptr(), 2, &most, ptr::null()) };
+        ready > 0 && both[0].revents != 0
+    }
+}

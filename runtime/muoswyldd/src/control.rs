@@ -1,0 +1,257 @@
+//! Commands to a member that runs, a line each, and their answers, an object of JSON a line: over a Unix socket, or from
+//! standard input.
+
+use crate::exit::{Fault, CANT_CREATE, CONFIG, IO, UNAVAILABLE};
+use muoswyld_group::{End, Group, Name};
+use serde_json::{json, Value};
+use std::io::{BufRead, BufReader, Read, Write};
+use std::os::unix::net::{UnixListener, UnixStream};
+use std::path::Path;
+use std::sync::atomic::{AtomicUsize, Ordering};
+use std::sync::Arc;
+use std::time::Duration;
+
+/// How many bytes a command has at most: a message of the most bytes as digits, and its word.
+const MOST_COMMAND: u64 = 200_000;
+/// How many callers may be connected at a time.
+const MOST_CALLERS: usize = 64;
+/// How long a caller waits for a leave or a reset.
+const PATIENCE: Duration = Duration::from_secs(60);
+
+/// A command to a member that runs.
+#[derive(Clone, Debug, PartialEq, Eq)]
+pub enum Command {
+    /// Sends a message.
+    Send(Vec<u8>),
+    /// Leaves the group.
+    Leave,
+    /// Resets the group, with at least so many members.
+    Reset(Option<u8>),
+    /// This name has stopped for certain.
+    Stopped(Name),
+    /// Tells how the member stands.
+    Status,
+}
+
+impl Command {
+    /// The command of a line; an error that says what it should be.
+    pub fn of(line: &[u8]) -> Result<Command, &'static str> {
+        let text = std::str::from_utf8(line);
+        let (word, rest) = match line.iter().position(|byte| *byte == b' ') {
+            Some(at) => (&line[..at], Some(&line[at + 1..])),
+            None => (line, None),
+        };
+        match (word, rest) {
+            (b"send", Some(message)) => Ok(Command::Send(message.to_vec())),
+            (b"send-hex", Some(digits)) => hex::decode(digits)
+                .map(Command::Send)
+                .map_err(|_| "send-hex wants an even number of hexadecimal digits"),
+            (b"leave", None) => Ok(Command::Leave),
+            (b"reset", None) => Ok(Command::Reset(None)),
+            (b"reset", Some(_)) => {
+                let least = text.ok().and_then(|text| text.get(6..)?.parse().ok());
+                least.map(|least| Command::Reset(Some(least))).ok_or("reset wants a least size of 1 to 16")
+            }
+            (b"stopped", Some(_)) => {
+                let name = text.ok().and_then(|text| text.get(8..)?.parse().ok());
+                name.map(Command::Stopped).ok_or("stopped wants a name: PLACE, or PLACE/LIFE")
+            }
+            (b"status", None) => Ok(Command::Status),
+            _ => Err("a command is send MESSAGE, send-hex DIGITS, leave, reset, reset LEAST, stopped NAME or status"),
+        }
+    }
+
+    /// Its line.
+    pub fn line(&self) -> Vec<u8> {
+        match self {
+            Command::Send(message) => format!("send-hex {}", hex::encode(message)).into_bytes(),
+            Command::Leave => b"leave".to_vec(),
+            Command::Reset(None) => b"reset".to_vec(),
+            Command::Reset(Some(least)) => format!("reset {least}").into_bytes(),
+            Command::Stopped(name) => format!("stopped {name}").into_bytes(),
+            Command::Status => b"status".to_vec(),
+        }
+    }
+
+    /// Does it, and gives its answer.
+    pub fn done_by(self, group: &Group) -> Value {
+        let refused = |error: &dyn std::fmt::Display| json!({ "error": error.to_string() });
+        match self {
+            Command::Send(message) => match group.send(message) {
+                Ok(at) => json!({ "sent": at.number, "index": at.index }),
+                Err(error) => refused(&error),
+            },
+            Command::Leave => match group.leave(PATIENCE) {
+                Ok(()) => json!({ "left": true }),
+                Err(error) => refused(&error),
+            },
+            Command::Reset(least) => match group.reset(least, PATIENCE) {
+                Ok(number) => json!({ "reset": number }),
+                Err(error) => refused(&error),
+            },
+            Command::Stopped(name) => match group.stopped(name) {
+                Ok(()) => json!({ "told": name.to_string() }),
+                Err(error) => refused(&error),
+            },
+            Command::Status => match group.info() {
+                Ok(info) => status(&info),
+                Err(end) => refused(&end),
+            },
+        }
+    }
+}
+
+/// How a member stands, as JSON.
+fn status(info: &muoswyld_group::Info) -> Value {
+    let names = |names: muoswyld_group::Names| -> Vec<String> {
+        names.iter().map(|name| name.to_string()).collect()
+    };
+    let standing = &info.standing;
+    json!({
+        "name": info.name.to_string(),
+        "role": format!("{:?}", standing.role).to_lowercase(),
+        "group": info.group.map(|id| format!("{id:016x}")),
+        "view": standing.view.to_string(),
+        "members": names(standing.members),
+        "resilience": standing.resilience,
+        "base": standing.base,
+        "taken": standing.taken,
+        "accepted": standing.accepted,
+        "top": standing.top,
+        "unsettled": info.unsettled,
+        "waiting-bytes": info.waiting,
+        "silent": names(info.silent),
+        "slow": names(info.slow),
+        "stopped": names(info.stopped),
+        "round-trip-microseconds": info.round_trip,
+        "leaves": info.leaves,
+    })
+}
+
+/// A socket file that is removed when this ends.
+pub struct Listening<'a> {
+    path: &'a Path,
+}
+
+impl Drop for Listening<'_> {
+    fn drop(&mut self) {
+        // one that is gone already is as it should be
+        let _removed = std::fs::remove_file(self.path);
+    }
+}
+
+/// Serves commands at a path, each caller in a thread of its own.
+pub fn serve<'a>(path: &'a Path, group: &Arc<Group>) -> Result<Listening<'a>, Fault> {
+    if UnixStream::connect(path).is_err() {
+        // a file that nobody listens at was left by a process that was ended
+        let _removed = std::fs::remove_file(path);
+    }
+    let cannot = |error| Fault::of(CANT_CREATE, format_args!("{}: {error}", path.display()));
+    let listener = UnixListener::bind(path).map_err(cannot)?;
+    let group = group.clone();
+    let callers = Arc::new(AtomicUsize::new(0));
+    std::thread::Builder::new()
+        .name("commands".into())
+        .spawn(move || {
+            for caller in listener.incoming().flatten() {
+                if callers.fetch_add(1, Ordering::SeqCst) >= MOST_CALLERS {
+                    callers.fetch_sub(1, Ordering::SeqCst);
+                    continue;
+                }
+                let (group, callers) = (group.clone(), callers.clone());
+                std::thread::spawn(move || {
+                    // a caller that is gone hears nothing
+                    let _served = answer_all(&caller, &group);
+                    callers.fetch_sub(1, Ordering::SeqCst);
+                });
+            }
+        })
+        .map_err(cannot)?;
+    Ok(Listening { path })
+}
+
+/// Answers a caller's commands until it ends.
+fn answer_all(caller: &UnixStream, group: &Group) -> std::io::Result<()> {
+    let mut reader = BufReader::new(caller);
+    let mut writer = caller;
+    let mut line = Vec::new();
+    loop {
+        line.clear();
+        reader.by_ref().take(MOST_COMMAND).read_until(b'\n', &mut line)?;
+        if line.is_empty() {
+            return Ok(());
+        }
+        let whole = line.strip_suffix(b"\n").unwrap_or(&line);
+        let is_too_long = whole.len() as u64 >= MOST_COMMAND;
+        let answer = match Command::of(whole) {
+            _ if is_too_long => json!({ "error": "the command is too long" }),
+            Ok(command) => command.done_by(group),
+            Err(why) => json!({ "error": why }),
+        };
+        writeln!(writer, "{answer}")?;
+        if is_too_long || group.ended().is_some() {
+            return Ok(());
+        }
+    }
+}
+
+/// Gives a command to a member that runs, and its answer; an error if the member refuses it or isn't there.
+pub fn ask(path: &Path, command: &Command) -> Result<Value, Fault> {
+    let shown = path.display();
+    let cannot = |error| Fault::of(IO, format_args!("{shown}: {error}"));
+    let mut stream = UnixStream::connect(path)
+        .map_err(|error| Fault::of(UNAVAILABLE, format_args!("no member listens at {shown}: {error}")))?;
+    stream.write_all(&command.line()).map_err(cannot)?;
+    stream.write_all(b"\n").map_err(cannot)?;
+    let mut said = String::new();
+    BufReader::new(&stream).read_line(&mut said).map_err(cannot)?;
+    let answer: Value = serde_json::from_str(&said)
+        .map_err(|_| Fault::of(UNAVAILABLE, format_args!("the member at {shown} ended before it answered")))?;
+    match answer.get("error").and_then(Value::as_str) {
+        Some(error) => Err(Fault::of(UNAVAILABLE, error)),
+        None => Ok(answer),
+    }
+}
+
+/// A line of standard input as a message or a command; what it should be is told.
+pub fn of_input(line: &[u8], is_command: bool) -> Result<Command, Fault> {
+    match is_command {
+        true => Command::of(line).map_err(|why| Fault::of(CONFIG, why)),
+        false => Ok(Command::Send(line.to_vec())),
+    }
+}
+
+/// Whether a member's end is one that its caller asked for.
+pub fn is_left(end: &End) -> bool {
+    matches!(end, End::Left | End::Closed | End::Stopped)
+}
+
+#[cfg(test)]
+mod tests {
+    use super::*;
+
+    #[test]
+    fn each_command_is_read_as_it_is_written() {
+        let name: Name = "3/2".parse().unwrap();
+        let commands = [
+            Command::Send(b"a b\nc".to_vec()),
+            Command::Send(Vec::new()),
+            Command::Leave,
+            Command::Reset(None),
+            Command::Reset(Some(2)),
+            Command::Stopped(name),
+            Command::Status,
+        ];
+        for command in commands {
+            assert_eq!(Command::of(&command.line()), Ok(command));
+        }
+        assert_eq!(Command::of(b"send x y"), Ok(Command::Send(b"x y".to_vec())));
+    }
+
+    #[test]
+    fn what_is_no_command_is_told() {
+        for line in [&b""[..], b"sned x", b"reset x", b"reset 1 2", b"stopped", b"stopped 16", b"leave now", b"send-hex 1", b"\xff"] {
+            assert!(Command::of(line).is_err(), "{line:?}");
+        }
+    }
+}

@@ -1,0 +1,47 @@
+//! `muoswyldd`: a member of a group as a process (docs/NETWORK.md).
+
+mod control;
+mod exit;
+mod key;
+mod log;
+mod metrics;
+mod options;
+mod run;
+mod show;
+
+use clap::Parser;
+use control::{ask, Command};
+use exit::Fault;
+use options::{Verb, Words};
+use std::process::ExitCode;
+
+fn main() -> ExitCode {
+    let words = match Words::try_parse() {
+        Ok(words) => words,
+        Err(error) => {
+            let is_help = !error.use_stderr();
+            // a closed standard error hears nothing
+            let _said = error.print();
+            return ExitCode::from(if is_help { 0 } else { 64 });
+        }
+    };
+    match done(words.verb) {
+        Ok(()) => ExitCode::SUCCESS,
+        Err(fault) => fault.say(),
+    }
+}
+
+fn done(verb: Verb) -> Result<(), Fault> {
+    let (at, command) = match verb {
+        Verb::Run(run) => return run::run(*run),
+        Verb::Keygen { file } => return key::make(&file),
+        Verb::Send { at, message } => (at, Command::Send(message.into_bytes())),
+        Verb::Leave { at } => (at, Command::Leave),
+        Verb::Reset { at, least } => (at, Command::Reset(least)),
+        Verb::Stopped { at, name } => (at, Command::Stopped(name)),
+        Verb::Status { at } => (at, Command::Status),
+    };
+    let answer = ask(&at.socket, &command)?;
+    println!("{answer}");
+    Ok(())
+}

@@ -1,0 +1,359 @@
+//! The words of the command, and the configuration file that may stand in their place.
+
+use crate::exit::{Fault, CONFIG, NO_INPUT};
+use crate::key;
+use crate::show::Form;
+use clap::{Args, Parser, Subcommand, ValueEnum};
+use muoswyld_group::{Config, Name, Names};
+use serde::Deserialize;
+use std::collections::BTreeMap;
+use std::net::{SocketAddr, ToSocketAddrs};
+use std::path::{Path, PathBuf};
+use std::time::Duration;
+
+/// A member of a group: all members are given the same messages in the same order.
+#[derive(Debug, Parser)]
+#[command(name = "muoswyldd", version)]
+pub struct Words {
+    /// What to do.
+    #[command(subcommand)]
+    pub verb: Verb,
+}
+
+/// What the command does.
+#[derive(Debug, Subcommand)]
+pub enum Verb {
+    /// Runs a member
+    Run(Box<Run>),
+    /// Writes a new key file, for all members of a group
+    Keygen {
+        /// The file to make
+        file: PathBuf,
+    },
+    /// Sends a message by a member that runs, and prints its number
+    Send {
+        #[command(flatten)]
+        at: At,
+        /// The message
+        message: String,
+    },
+    /// Has a member that runs leave its group
+    Leave {
+        #[command(flatten)]
+        at: At,
+    },
+    /// Has a member that runs reset its group
+    Reset {
+        #[command(flatten)]
+        at: At,
+        /// The fewest members to go on with
+        least: Option<u8>,
+    },
+    /// Tells a member that runs that another one has stopped for certain
+    Stopped {
+        #[command(flatten)]
+        at: At,
+        /// The name that has stopped
+        name: Name,
+    },
+    /// Prints how a member that runs stands, as JSON
+    Status {
+        #[command(flatten)]
+        at: At,
+    },
+}
+
+/// Where a member listens.
+#[derive(Debug, Args)]
+pub struct At {
+    /// The member's Unix socket
+    #[arg(long, value_name = "PATH")]
+    pub socket: PathBuf,
+}
+
+/// What lines of standard input are.
+#[derive(Clone, Copy, Debug, Default, PartialEq, Eq, ValueEnum, Deserialize)]
+#[serde(rename_all = "lowercase")]
+pub enum Reads {
+    /// Each line is a message
+    #[default]
+    Messages,
+    /// Each line is a command, as on the Unix socket
+    Commands,
+    /// Standard input isn't read
+    Nothing,
+}
+
+/// How logs are written.
+#[derive(Clone, Copy, Debug, Default, PartialEq, Eq, ValueEnum, Deserialize)]
+#[serde(rename_all = "lowercase")]
+pub enum LogForm {
+    /// As text
+    #[default]
+    Text,
+    /// As JSON
+    Json,
+}
+
+/// The settings of a member, as words and as keys of the configuration file. A word stands over the file's key.
+#[derive(Debug, Default, Args, Deserialize)]
+#[serde(default, deny_unknown_fields, rename_all = "kebab-case")]
+pub struct Run {
+    /// A configuration file in TOML, whose keys are the names of these options
+    #[arg(long, value_name = "FILE")]
+    #[serde(skip)]
+    pub config: Option<PathBuf>,
+    /// This member's name: PLACE, 0 to 15, or PLACE/LIFE for a place that comes back, with a life of 2 to 16
+    #[arg(long)]
+    #[serde(deserialize_with = "by_text")]
+    pub name: Option<Name>,
+    /// The founders' places, as 0,1,2
+    #[arg(long, value_name = "PLACES")]
+    #[serde(deserialize_with = "by_text")]
+    pub founders: Option<Names>,
+    /// The address of a place, as 1=host:7000; once for each place
+    #[arg(long = "address", value_name = "PLACE=HOST:PORT", value_parser = address_word)]
+    #[serde(skip)]
+    pub address: Vec<(u8, String)>,
+    #[arg(skip)]
+    addresses: BTreeMap<String, String>,
+    /// The address to bind, if it isn't the one at which others reach this member
+    #[arg(long, value_name = "ADDRESS:PORT")]
+    pub bind: Option<SocketAddr>,
+    /// How many members may stop between two resets, 0 to 15 [default: 0]
+    #[arg(long, value_name = "N")]
+    pub resilience: Option<u8>,
+    /// How many entries may wait for the slowest member, 1 to 1008 [default: 256]
+    #[arg(long, value_name = "N")]
+    pub window: Option<u16>,
+    /// Up to how many bytes a body goes by the sequencer, 0 to 1024 [default: 1024]
+    #[arg(long, value_name = "BYTES")]
+    pub pb_up_to: Option<u16>,
+    /// The fewest members that a reset goes on with, 1 to 16 [default: a majority of the last view]
+    #[arg(long, value_name = "N")]
+    pub least: Option<u8>,
+    /// Milliseconds between two ticks of an idle member [default: 50]
+    #[arg(long, value_name = "MILLISECONDS")]
+    pub tick: Option<u64>,
+    /// The most bytes of a datagram's payload, 1232 to 65000 [default: 1400]
+    #[arg(long, value_name = "BYTES")]
+    pub datagram: Option<usize>,
+    /// The group's key file, as `muoswyldd keygen` writes it
+    #[arg(long, value_name = "FILE")]
+    pub key: Option<PathBuf>,
+    /// Runs without a key: whoever reaches a member's address can then read all, and end the group
+    #[arg(long)]
+    pub insecure: bool,
+    /// A new file for what the node was given and what it answered, so that the run can be judged
+    #[arg(long, value_name = "FILE")]
+    pub journal: Option<PathBuf>,
+    /// A Unix socket to make, for `muoswyldd send` and the like
+    #[arg(long, value_name = "PATH")]
+    pub socket: Option<PathBuf>,
+    /// An address on which metrics are served for Prometheus, as 127.0.0.1:9100
+    #[arg(long, value_name = "ADDRESS:PORT")]
+    pub metrics: Option<SocketAddr>,
+    /// What lines of standard input are [default: messages]
+    #[arg(long, value_enum)]
+    pub input: Option<Reads>,
+    /// How deliveries are printed [default: lines]
+    #[arg(long, value_enum)]
+    pub output: Option<Form>,
+    /// A file for logs, in place of standard error; SIGHUP opens it again
+    #[arg(long, value_name = "FILE")]
+    pub log: Option<PathBuf>,
+    /// How logs are written [default: text]
+    #[arg(long, value_enum)]
+    pub log_form: Option<LogForm>,
+    /// Seconds that the member may take to come into the group [default: without end]
+    #[arg(long, value_name = "SECONDS")]
+    pub start_within: Option<u64>,
+    /// Seconds that leaving may take at the end [default: 10]
+    #[arg(long, value_name = "SECONDS")]
+    pub leave_within: Option<u64>,
+}
+
+/// Reads a name or a set of names from its text.
+fn by_text<'de, T, D>(deserializer: D) -> Result<Option<T>, D::Error>
+where
+    T: std::str::FromStr,
+    T::Err: std::fmt::Display,
+    D: serde::Deserializer<'de>,
+{
+    let text = String::deserialize(deserializer)?;
+    text.parse().map(Some).map_err(serde::de::Error::custom)
+}
+
+fn address_word(word: &str) -> Result<(u8, String), String> {
+    let parts = word.split_once('=');
+    let (place, address) = parts.ok_or("it is PLACE=HOST:PORT")?;
+    let place: Name = place.parse().map_err(|error| format!("{error}"))?;
+    Ok((place.place(), address.to_string()))
+}
+
+/// The address of a host and a port.
+fn resolve(text: &str) -> Result<SocketAddr, Fault> {
+    let found = text.to_socket_addrs().map(|mut found| found.next());
+    match found {
+        Ok(Some(address)) => Ok(address),
+        Ok(None) => Err(Fault::of(CONFIG, format_args!("{text} has no address"))),
+        Err(error) => Err(Fault::of(CONFIG, format_args!("{text}: {error}"))),
+    }
+}
+
+impl Run {
+    /// These words over the configuration file that they name.
+    pub fn with_file(self) -> Result<Run, Fault> {
+        let Some(path) = &self.config else {
+            return Ok(self);
+        };
+        let file = read_file(path)?;
+        Ok(self.over(file))
+    }
+
+    /// Each setting of these words, or else the file's.
+    fn over(mut self, file: Run) -> Run {
+        for (place, address) in file.addresses {
+            let word = address_word(&format!("{place}={address}"));
+            let is_new = |known: &[(u8, String)], place| !known.iter().any(|(it, _)| *it == place);
+            match word {
+                Ok((place, address)) if is_new(&self.address, place) => {
+                    self.address.push((place, address));
+                }
+                _ => {}
+            }
+        }
+        Run {
+            config: self.config,
+            address: self.address,
+            addresses: BTreeMap::new(),
+            insecure: self.insecure || file.insecure,
+            name: self.name.or(file.name),
+            founders: self.founders.or(file.founders),
+            bind: self.bind.or(file.bind),
+            resilience: self.resilience.or(file.resilience),
+            window: self.window.or(file.window),
+            pb_up_to: self.pb_up_to.or(file.pb_up_to),
+            least: self.least.or(file.least),
+            tick: self.tick.or(file.tick),
+            datagram: self.datagram.or(file.datagram),
+            key: self.key.or(file.key),
+            journal: self.journal.or(file.journal),
+            socket: self.socket.or(file.socket),
+            metrics: self.metrics.or(file.metrics),
+            input: self.input.or(file.input),
+            output: self.output.or(file.output),
+            log: self.log.or(file.log),
+            log_form: self.log_form.or(file.log_form),
+            start_within: self.start_within.or(file.start_within),
+            leave_within: self.leave_within.or(file.leave_within),
+        }
+    }
+
+    /// The group's configuration that they say.
+    pub fn group(&self) -> Result<Config, Fault> {
+        let missing = |what| Fault::of(CONFIG, format_args!("--{what} isn't said: --help says more"));
+        let name = self.name.ok_or_else(|| missing("name"))?;
+        let founders = self.founders.ok_or_else(|| missing("founders"))?;
+        let mut config = Config::new(name, founders);
+        for (place, text) in &self.address {
+            let address = resolve(text)?;
+            config = config
+                .address(*place, address)
+                .map_err(|error| Fault::of(CONFIG, error))?;
+        }
+        if let Some(address) = self.bind {
+            config = config.bind(address);
+        }
+        config = match (&self.key, self.insecure) {
+            (Some(path), _) => config.key(key::read(path)?),
+            (None, true) => config.insecure(),
+            (None, false) => config,
+        };
+        Ok(self.numbers(config))
+    }
+
+    /// With the numbers that are said.
+    fn numbers(&self, mut config: Config) -> Config {
+        if let Some(resilience) = self.resilience {
+            config = config.resilience(resilience);
+        }
+        if let Some(window) = self.window {
+            config = config.window(window);
+        }
+        if let Some(bytes) = self.pb_up_to {
+            config = config.pb_up_to(bytes);
+        }
+        if let Some(least) = self.least {
+            config = config.least(least);
+        }
+        if let Some(bytes) = self.datagram {
+            config = config.datagram(bytes);
+        }
+        if let Some(tick) = self.tick {
+            config = config.tick(Duration::from_millis(tick.max(1)));
+        }
+        if let Some(file) = &self.journal {
+            config = config.journal(file.clone());
+        }
+        if let Some(seconds) = self.start_within {
+            config = config.start_within(Duration::from_secs(seconds));
+        }
+        config
+    }
+}
+
+/// The settings of a configuration file.
+fn read_file(path: &Path) -> Result<Run, Fault> {
+    let shown = path.display();
+    let text = std::fs::read_to_string(path)
+        .map_err(|error| Fault::of(NO_INPUT, format_args!("{shown}: {error}")))?;
+    let file: Run =
+        toml::from_str(&text).map_err(|error| Fault::of(CONFIG, format_args!("{shown}: {error}")))?;
+    for (place, address) in &file.addresses {
+        address_word(&format!("{place}={address}"))
+            .map_err(|error| Fault::of(CONFIG, format_args!("{shown}: address of {place:?}: {error}")))?;
+    }
+    Ok(file)
+}
+
+#[cfg(test)]
+mod tests {
+    use super::*;
+
+    fn run_of(words: &[&str]) -> Run {
+        let all = ["muoswyldd", "run"].iter().chain(words);
+        match Words::try_parse_from(all).unwrap().verb {
+            Verb::Run(run) => *run,
+            other => panic!("{other:?}"),
+        }
+    }
+
+    #[test]
+    fn words_stand_over_the_file() {
+        let file: Run = toml::from_str(
+            "name = \"1\"\nfounders = \"0,1\"\nresilience = 1\n[addresses]\n0 = \"127.0.0.1:1\"\n1 = \"127.0.0.1:2\"\n",
+        )
+        .unwrap();
+        let run = run_of(&["--name", "1/2", "--address", "1=127.0.0.1:9"]).over(file);
+        assert_eq!(run.name.unwrap().to_string(), "1/2");
+        assert_eq!(run.founders.unwrap().to_string(), "0,1");
+        assert_eq!(run.resilience, Some(1));
+        let addresses = [(1, "127.0.0.1:9".to_string()), (0, "127.0.0.1:1".to_string())];
+        assert_eq!(run.address, addresses);
+    }
+
+    #[test]
+    fn unknown_keys_and_bad_names_are_refused() {
+        for text in ["nmae = \"1\"", "name = \"16\"", "founders = \"1,0\"", "window = \"x\""] {
+            assert!(toml::from_str::<Run>(text).is_err(), "{text}");
+        }
+    }
+
+    #[test]
+    fn a_group_wants_a_name_and_founders() {
+        assert_eq!(run_of(&[]).group().unwrap_err().status, CONFIG);
+        let words = ["--name", "0", "--founders", "0", "--address", "0=127.0.0.1:7000"];
+        assert!(run_of(&words).group().is_ok());
+    }
+}
