@@ -1,6 +1,6 @@
 //! Answers read from their lines.
 
-use crate::answer::{Did, Entry, Outcome, Packet, Role, Standing};
+use crate::answer::{Entry, Outcome, Packet, Role, Standing};
 use crate::event::To;
 use crate::names::Names;
 use std::str::FromStr;

@@ -3,10 +3,27 @@
 use crate::addresses::{Addresses, BadAddress};
 use crate::seal::Key;
 use muoswyld::names::{Name, Names};
-use muoswyld_member::Founding;
+use muoswyld_member::{Delivery, Founding, Notice};
+use std::fmt;
 use std::net::SocketAddr;
 use std::path::PathBuf;
+use std::sync::Arc;
 use std::time::Duration;
+
+/// What a member calls on its own thread.
+pub(crate) struct Callback<T>(pub(crate) Arc<dyn Fn(T) + Send + Sync>);
+
+impl<T> Clone for Callback<T> {
+    fn clone(&self) -> Callback<T> {
+        Callback(self.0.clone())
+    }
+}
+
+impl<T> fmt::Debug for Callback<T> {
+    fn fmt(&self, f: &mut fmt::Formatter<'_>) -> fmt::Result {
+        f.write_str("Callback")
+    }
+}
 
 /// What a member of a group is started with. All members of a group are given the same founders, resilience, window,
 /// `pb_up_to` and key.
@@ -38,6 +55,8 @@ pub struct Config {
     pub(crate) tick: Duration,
     pub(crate) journal: Option<PathBuf>,
     pub(crate) start_within: Option<Duration>,
+    pub(crate) on_notice: Option<Callback<Notice>>,
+    pub(crate) on_delivery: Option<Callback<Delivery>>,
 }
 
 impl Config {
@@ -63,6 +82,8 @@ impl Config {
             tick: Duration::from_millis(50),
             journal: None,
             start_within: None,
+            on_notice: None,
+            on_delivery: None,
         }
     }
 
@@ -148,6 +169,20 @@ impl Config {
     /// How long `create` and `join` wait at most until the member is in the group; without end if it isn't set.
     pub fn start_within(mut self, time: Duration) -> Config {
         self.start_within = Some(time);
+        self
+    }
+
+    /// Calls this with what an operator should know: who is silent or slow, who was left out and why. It runs on the member's
+    /// thread, and must not wait. If it isn't set, notices go to the log.
+    pub fn on_notice(mut self, call: impl Fn(Notice) + Send + Sync + 'static) -> Config {
+        self.on_notice = Some(Callback(Arc::new(call)));
+        self
+    }
+
+    /// Calls this with each delivery in place of [`receive`](crate::Group::receive). It runs on the member's thread, which saves
+    /// the way to another one: it must not wait, and must not call this member.
+    pub fn on_delivery(mut self, call: impl Fn(Delivery) + Send + Sync + 'static) -> Config {
+        self.on_delivery = Some(Callback(Arc::new(call)));
         self
     }
 }

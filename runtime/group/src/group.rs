@@ -41,7 +41,8 @@ impl Group {
         }
     }
 
-    fn start(config: Config) -> Result<Group, CreateError> {
+    /// Creates a group or joins one, as the name says: a founder's first life creates, any other name joins.
+    pub fn start(config: Config) -> Result<Group, CreateError> {
         let until = deadline(config.start_within);
         let name = config.name;
         let (shared, thread) = shell::start(config)?;
@@ -188,6 +189,12 @@ impl Group {
         }
     }
 
+    /// Ends the member without leaving, as if its process had stopped.
+    pub fn stop(&self) {
+        // an ended member takes no command
+        let _taken = self.shared.command(Command::Stop, None);
+    }
+
     /// How the member ended; None while it runs.
     pub fn ended(&self) -> Option<End> {
         self.shared.ended.look()
@@ -196,8 +203,7 @@ impl Group {
 
 impl Drop for Group {
     fn drop(&mut self) {
-        // an ended member takes no command
-        let _taken = self.shared.command(Command::Stop, None);
+        self.stop();
         if let Some(thread) = self.thread.take() {
             let _ended = thread.join();
         }

@@ -2,7 +2,7 @@
 //! the callers.
 
 use crate::addresses::Addresses;
-use crate::config::Config;
+use crate::config::{Callback, Config};
 use crate::error::{CreateError, End, ResetError, SendError, ToldError};
 use crate::seal::{fill, Seal};
 use crate::shared::{Command, Reset, Sent, Shared, Told};
@@ -10,7 +10,7 @@ use crate::slot::Slot;
 use crate::socket::Udp;
 use muoswyld::names::{Name, Names};
 use muoswyld_member::{
-    Delivery, HandleError, Input, Member, NotReset, Output, Position, Settings, Time, Unsent,
+    Delivery, HandleError, Input, Member, NotReset, Notice, Output, Position, Settings, Time, Unsent,
 };
 use std::collections::HashMap;
 use std::fs::{File, OpenOptions};
@@ -39,6 +39,8 @@ struct Shell {
     waiters: HashMap<u64, Waiter>,
     tickets: u64,
     journal: Option<File>,
+    on_notice: Option<Callback<Notice>>,
+    on_delivery: Option<Callback<Delivery>>,
     outputs: Vec<Output>,
     deliveries: Vec<Delivery>,
     commands: Vec<Command>,
@@ -122,6 +124,8 @@ pub(crate) fn start(config: Config) -> Result<(Arc<Shared>, JoinHandle<()>), Cre
                         waiters: HashMap::new(),
                         tickets: 0,
                         journal,
+                        on_notice: config.on_notice,
+                        on_delivery: config.on_delivery,
                         outputs: Vec::new(),
                         deliveries: Vec::new(),
                         commands: Vec::new(),
@@ -296,13 +300,13 @@ impl Shell {
                 Output::Deliver(delivery) => {
                     // a founder's first view, or a joiner's own join, comes first
                     self.shared.is_in.fill(true);
-                    self.deliveries.push(delivery);
+                    self.deliver(delivery);
                 }
                 Output::Settled { ticket, result } => self.settle(ticket, result),
                 Output::ResetDone { ticket, result } => {
                     self.was_reset(ticket, result.map_err(ResetError::NotReset));
                 }
-                Output::Told(notice) => tracing::warn!("{notice}"),
+                Output::Told(notice) => self.tell(notice),
                 Output::Ended(ended) => end = Some(ended.into()),
             }
         }
@@ -310,6 +314,24 @@ impl Shell {
         self.udp.flush();
         self.shared.deliver(&mut self.deliveries);
         end
+    }
+
+    /// Gives a delivery to the application's call, or adds it to those that wait.
+    fn deliver(&mut self, delivery: Delivery) {
+        match &self.on_delivery {
+            Some(call) => {
+                (call.0)(delivery);
+                self.handle(Input::Consumed(1));
+            }
+            None => self.deliveries.push(delivery),
+        }
+    }
+
+    fn tell(&self, notice: Notice) {
+        match &self.on_notice {
+            Some(call) => (call.0)(notice),
+            None => tracing::warn!("{notice}"),
+        }
     }
 
     fn write(&mut self, line: &[u8]) -> std::io::Result<()> {

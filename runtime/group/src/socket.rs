@@ -79,11 +79,6 @@ impl Udp {
         self.socket.as_raw_fd()
     }
 
-    /// The address that it is bound to.
-    pub fn address(&self) -> Option<SocketAddr> {
-        self.socket.local_addr().ok()?.as_socket()
-    }
-
     /// Reads at most one batch: gives each datagram with the place from whose address it came.
     pub fn receive(&mut self, mut take: impl FnMut(u8, &mut [u8])) -> io::Result<Brought> {
         // SAFETY: addresses and headers of sockets are plain data, for which zeros are a value.

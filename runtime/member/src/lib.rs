@@ -36,6 +36,7 @@ mod info;
 mod journal;
 mod leaving;
 mod member;
+mod notice;
 mod outbox;
 mod packet;
 mod queue;

@@ -26,7 +26,7 @@ pub fn make(path: &Path) -> Result<(), Fault> {
 pub fn read(path: &Path) -> Result<Key, Fault> {
     let shown = path.display();
     let cannot = |error| Fault::of(NO_INPUT, format_args!("{shown}: {error}"));
-    let mut file = File::open(path).map_err(cannot)?;
+    let file = File::open(path).map_err(cannot)?;
     let about = file.metadata().map_err(cannot)?;
     if about.mode() & 0o077 != 0 {
         let line = format_args!("{shown} can be read by others: chmod 600 {shown}");
@@ -34,7 +34,7 @@ pub fn read(path: &Path) -> Result<Key, Fault> {
     }
     let mut text = Vec::new();
     let limit = LENGTH as u64 + 1;
-    file.by_ref().take(limit).read_to_end(&mut text).map_err(cannot)?;
+    file.take(limit).read_to_end(&mut text).map_err(cannot)?;
     key_of(&text).ok_or_else(|| {
         let line = format_args!("{shown} is no key: a key is 64 hexadecimal digits, as `muoswyldd keygen` writes it");
         Fault::of(CONFIG, line)

@@ -1,0 +1,44 @@
+//! Notices in words, for logs.
+
+use crate::event::Notice;
+use std::fmt;
+
+impl fmt::Display for Notice {
+    fn fmt(&self, f: &mut fmt::Formatter<'_>) -> fmt::Result {
+        match self {
+            Notice::FewFounders => f.write_str(
+                "the group has fewer founders than twice its resilience and one more: a join while a member stops can stand still",
+            ),
+            Notice::Group(id) => write!(f, "the group's id is {id:016x}"),
+            Notice::Silent(name) => write!(f, "nothing is heard of {name}"),
+            Notice::Heard(name) => write!(f, "{name} is heard again"),
+            Notice::Slow(name) => {
+                write!(f, "the window is full: {name} has taken less than the others, and holds them")
+            }
+            Notice::TooFew { running, least } => write!(
+                f,
+                "no reset: {running} members run, and a reset goes on with at least {least}"
+            ),
+            Notice::BeyondResilience(stopped) => write!(
+                f,
+                "{stopped} members of a view have stopped, more than its resilience: nothing is claimed of this run from here on"
+            ),
+            Notice::Resets => f.write_str("a member has stopped: this one resets the group"),
+            Notice::ResetsStuck => {
+                f.write_str("nothing is answered though all others are heard: this member resets the group")
+            }
+            Notice::NotReset(why) => write!(f, "a reset came to no view: {why}"),
+            Notice::OtherGroup(name) => write!(
+                f,
+                "what comes of {name} is dropped: it is of another group, of an earlier run, or of other settings"
+            ),
+            Notice::OtherProcess(name) => write!(
+                f,
+                "what comes of {name} is dropped: another process has this name already; a place comes back as its next life"
+            ),
+            Notice::LeaveWaits => {
+                f.write_str("leaving waits for messages on their way, for a reset, or for another member that leaves")
+            }
+        }
+    }
+}
