@@ -1,0 +1,164 @@
+//! Groups of members in one process, over loopback.
+
+use muoswyld_group::{Config, CreateError, Delivery, End, Group, Key, Name, SendError};
+use std::net::{SocketAddr, UdpSocket};
+use std::time::Duration;
+
+const SOON: Duration = Duration::from_secs(20);
+
+/// Addresses that nobody uses now.
+fn addresses(many: u8, host: &str) -> Vec<SocketAddr> {
+    let bound: Vec<UdpSocket> = (0..many)
+        .map(|_| UdpSocket::bind((host, 0)).unwrap())
+        .collect();
+    bound.iter().map(|it| it.local_addr().unwrap()).collect()
+}
+
+fn name(text: &str) -> Name {
+    text.parse().unwrap()
+}
+
+fn config(me: &str, founders: &str, addresses: &[SocketAddr]) -> Config {
+    let mut config = Config::new(name(me), founders.parse().unwrap())
+        .key(Key::of([3; 32]))
+        .start_within(SOON);
+    for (place, address) in addresses.iter().enumerate() {
+        config = config.address(place as u8, *address).unwrap();
+    }
+    config
+}
+
+fn three(host: &str, resilience: u8) -> (Vec<SocketAddr>, Vec<Group>) {
+    let all = addresses(4, host);
+    let starts: Vec<_> = ["2", "0", "1"]
+        .into_iter()
+        .map(|me| {
+            let config = config(me, "0,1,2", &all).resilience(resilience);
+            std::thread::spawn(move || Group::create(config).unwrap())
+        })
+        .collect();
+    let mut groups: Vec<Group> = starts.into_iter().map(|it| it.join().unwrap()).collect();
+    groups.sort_by_key(Group::name);
+    (all, groups)
+}
+
+/// The next messages of a member, so many.
+fn messages(group: &Group, many: usize) -> Vec<(u32, Name, Vec<u8>)> {
+    let mut found = Vec::new();
+    while found.len() < many {
+        if let Delivery::Message { at, from, message } = group.receive_timeout(SOON).unwrap() {
+            found.push((at.number, from, message));
+        }
+    }
+    found
+}
+
+fn all_are_given_the_same(host: &str) {
+    let (_, groups) = three(host, 1);
+    std::thread::scope(|scope| {
+        for group in &groups {
+            scope.spawn(move || {
+                for k in 0..50 {
+                    group.send(format!("{} {k}", group.name())).unwrap();
+                }
+                group.send(vec![group.name().byte(); 65_535]).unwrap();
+            });
+        }
+    });
+    let first = messages(&groups[0], 153);
+    for group in &groups[1..] {
+        assert_eq!(messages(group, 153), first);
+    }
+    for group in &groups {
+        let own: Vec<_> = first.iter().filter(|it| it.1 == group.name()).collect();
+        let sent: Vec<_> = (0..50).map(|k| format!("{} {k}", group.name()).into_bytes()).collect();
+        assert!(own.iter().map(|it| &it.2).take(50).eq(sent.iter()));
+        assert_eq!(own[50].2.len(), 65_535);
+    }
+}
+
+#[test]
+fn all_are_given_the_same_messages_in_one_order() {
+    all_are_given_the_same("127.0.0.1");
+}
+
+#[test]
+fn so_they_are_over_ipv6() {
+    all_are_given_the_same("::1");
+}
+
+#[test]
+fn a_stopped_member_is_left_out_and_its_place_comes_back() {
+    let (all, mut groups) = three("127.0.0.1", 1);
+    groups[1].send("first").unwrap();
+    drop(groups.remove(0)); // the sequencer
+    for group in &groups {
+        group.stopped(name("0")).unwrap();
+    }
+    let at = groups[1].send_timeout("second", SOON).unwrap();
+    let again = Group::join(config("0/2", "0,1,2", &all).resilience(1)).unwrap();
+    assert!(matches!(again.receive_timeout(SOON), Ok(Delivery::Joined { .. })));
+    groups[0].send_timeout("third", SOON).unwrap();
+    assert_eq!(messages(&again, 1)[0].2, b"third");
+    let seen = messages(&groups[1], 3);
+    assert_eq!(seen[1], (at.number, name("2"), b"second".to_vec()));
+    assert!(groups[0].info().unwrap().standing.members.has(name("0/2")));
+}
+
+#[test]
+fn who_leaves_has_left() {
+    let (_, groups) = three("127.0.0.1", 0);
+    let last = groups[2].submit("bye").unwrap();
+    groups[2].leave(SOON).unwrap();
+    last.wait().unwrap();
+    assert_eq!(groups[2].ended(), Some(End::Left));
+    assert!(matches!(groups[2].send("x"), Err(SendError::NotSent(End::Left))));
+    assert_eq!(messages(&groups[0], 1)[0].2, b"bye");
+    let left = std::iter::from_fn(|| groups[0].receive_timeout(SOON).ok())
+        .any(|it| matches!(it, Delivery::Left { name: who, .. } if who == name("2")));
+    assert!(left);
+}
+
+#[test]
+fn what_can_not_start_says_why() {
+    let all = addresses(2, "127.0.0.1");
+    let founder = Group::join(config("0", "0,1", &all));
+    assert!(matches!(founder, Err(CreateError::Founder(_))));
+    let stranger = Group::create(config("1/2", "0,1", &all));
+    assert!(matches!(stranger, Err(CreateError::NoFounder(_))));
+    let nowhere = Group::create(config("0", "0,1,2", &all));
+    assert!(matches!(nowhere, Err(CreateError::NoAddress(2))));
+    let open = Config::new(name("0"), "0".parse().unwrap())
+        .address(0, all[0])
+        .unwrap();
+    assert!(matches!(Group::create(open), Err(CreateError::NoKey)));
+    let alone = config("1", "0,1", &all).start_within(Duration::from_millis(200));
+    assert!(matches!(Group::create(alone), Err(CreateError::Timeout)));
+    let bound = UdpSocket::bind(all[0]).unwrap();
+    let taken = Group::create(config("0", "0,1", &all));
+    assert!(matches!(taken, Err(CreateError::System(_))));
+    drop(bound);
+}
+
+#[test]
+fn messages_that_are_too_long_or_too_many_are_refused() {
+    let all = addresses(1, "127.0.0.1");
+    let group = Group::create(config("0", "0", &all)).unwrap();
+    assert!(matches!(group.send(vec![0; 65_536]), Err(SendError::TooLong)));
+    assert!(group.send(vec![0; 65_535]).is_ok());
+    assert!(group.send(Vec::new()).is_ok());
+    let all = addresses(2, "127.0.0.1");
+    let other = config("1", "0,1", &all);
+    let thread = std::thread::spawn(move || Group::create(other).unwrap());
+    let first = Group::create(config("0", "0,1", &all).most_waiting(200_000)).unwrap();
+    drop(thread.join().unwrap()); // nobody acknowledges any more, and the window fills
+    let mut kept = Vec::new();
+    let refused = loop {
+        match first.try_submit(vec![0; 60_000]) {
+            Ok(ticket) => kept.push(ticket),
+            Err(error) => break error,
+        }
+        assert!(kept.len() < 100);
+    };
+    assert_eq!(refused, SendError::Full);
+}
