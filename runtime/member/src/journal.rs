@@ -80,6 +80,7 @@ impl fmt::Display for Said<'_> {
             Outcome::Overtaken { by } => write!(f, "overtaken {by}"),
             Outcome::NotIn { best } => write!(f, "not-in {best}"),
             Outcome::Decided { number, members } => write!(f, "decided {number} {members}"),
+            Outcome::Occupied { name } => write!(f, "occupied {name}"),
             Outcome::Bad { cause } => write!(f, "bad line {cause}"),
             other => f.write_str(word_of(other)),
         }
