@@ -190,6 +190,10 @@ pub enum Outcome {
         members: Names,
     },
     NotCoordinator,
+    /// The asker's place has a member of another life.
+    Occupied {
+        name: Name,
+    },
     /// The letter was for somebody else.
     NotAddressed,
     /// Before `Look`'s standing: nothing was asked for.

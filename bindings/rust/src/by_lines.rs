@@ -188,6 +188,9 @@ fn outcome_of(words: &mut Words) -> Option<Outcome> {
             number: words.read()?,
             members: words.read()?,
         },
+        "occupied" => Outcome::Occupied {
+            name: words.read()?,
+        },
         "bad" => match words.word()? {
             "line" => Outcome::Bad {
                 cause: words.read()?,

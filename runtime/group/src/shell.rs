@@ -217,7 +217,7 @@ impl Shell {
     /// Does what callers asked for; the end, if one of them asked for it.
     fn do_commands(&mut self) -> Option<End> {
         let mut commands = std::mem::take(&mut self.commands);
-        self.shared.take_commands(self.member.room(), &mut commands);
+        self.shared.take_commands(self.member.free(), &mut commands);
         let mut end = None;
         for command in commands.drain(..) {
             match command {

@@ -17,6 +17,11 @@ impl Time {
         Time(self.0.saturating_add(micros))
     }
 
+    /// A period that is doubled so many times, 32 at most.
+    pub(crate) fn doubled(micros: u64, times: u32) -> u64 {
+        micros.saturating_mul(1 << times.min(32))
+    }
+
     /// The microseconds from an earlier time to this one; 0 if it isn't earlier.
     pub const fn since(self, earlier: Time) -> u64 {
         self.0.saturating_sub(earlier.0)

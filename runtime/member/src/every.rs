@@ -49,6 +49,11 @@ impl Processes {
         self.0[usize::from(name.byte())].is_none_or(|known| known == process)
     }
 
+    /// Whether a name was heard with this process.
+    pub(crate) fn is_of(&self, name: Name, process: u64) -> bool {
+        self.0[usize::from(name.byte())] == Some(process)
+    }
+
     /// Remembers the process of a name, if none was heard of it.
     pub(crate) fn remember(&mut self, name: Name, process: u64) {
         self.0[usize::from(name.byte())].get_or_insert(process);
@@ -76,9 +81,10 @@ mod tests {
     fn a_name_has_its_first_process() {
         let mut processes = Processes::new();
         let name = Name::of_byte(7);
-        assert!(processes.may_have(name, 1));
+        assert!(processes.may_have(name, 1) && !processes.is_of(name, 1));
         processes.remember(name, 2);
         processes.remember(name, 3);
+        assert!(processes.is_of(name, 2) && !processes.is_of(name, 3));
         assert!(processes.may_have(name, 2) && !processes.may_have(name, 3));
         assert!(processes.may_have(Name::of_byte(8), 3));
     }

@@ -74,8 +74,8 @@ impl Member {
             return Some(());
         }
         if self.now >= self.hearing.ask_at {
-            let wait = self.settings.first_resend << self.hearing.asks.min(16);
-            self.hearing.asks += 1;
+            let wait = Time::doubled(self.settings.first_resend, self.hearing.asks);
+            self.hearing.asks = self.hearing.asks.saturating_add(1);
             self.hearing.ask_at = self.now.after(wait.min(self.settings.most_resend));
             let digest = self.settings.founding.digest();
             let ask = frame::ask(digest, self.speaker(), self.hearing.nonce);
@@ -127,7 +127,12 @@ impl Member {
             self.counts.malformed += 1;
             return false;
         }
-        if self.hearing.processes.may_have(from.name, from.process) {
+        let processes = &self.hearing.processes;
+        let is_known = processes.is_of(from.name, from.process);
+        // a process that is heard first once its name has stopped is a second one
+        let may_be_new =
+            processes.may_have(from.name, from.process) && !self.stopped.has(from.name);
+        if is_known || may_be_new {
             return true;
         }
         self.counts.other_process += 1;

@@ -80,6 +80,7 @@ impl fmt::Display for Said<'_> {
             Outcome::Overtaken { by } => write!(f, "overtaken {by}"),
             Outcome::NotIn { best } => write!(f, "not-in {best}"),
             Outcome::Decided { number, members } => write!(f, "decided {number} {members}"),
+            Outcome::Occupied { name } => write!(f, "occupied {name}"),
             Outcome::Bad { cause } => write!(f, "bad line {cause}"),
             other => f.write_str(word_of(other)),
         }
@@ -184,5 +185,110 @@ impl Journal {
     /// The lines since the last time.
     pub(crate) fn take(&mut self) -> Vec<u8> {
         std::mem::take(&mut self.lines).into_bytes()
+    }
+}
+
+#[cfg(test)]
+mod tests {
+    use super::*;
+    use crate::chance::Chance;
+    use crate::config::Founding;
+    use muoswyld::answer::Packet;
+    use muoswyld::Node;
+    use std::collections::BTreeSet;
+
+    /// A node that is asked by events, and one that is asked by their lines.
+    struct Both {
+        name: Name,
+        node: Node,
+        by_lines: Node,
+        journal: Journal,
+    }
+
+    fn both(name: &str) -> Both {
+        let name = name.parse().expect("a name");
+        let founding = Founding {
+            founders: "0,1,2".parse().expect("names"),
+            resilience: 1,
+            window: 4,
+            pb_up_to: 20,
+        };
+        let mut settings = Settings::new(name, founding, 0);
+        settings.journal = true;
+        let options = founding.options(name);
+        let mut journal = Journal::new(&settings);
+        let head = format!("node\t{name}\t0,1,2\t1\t4\t20\n");
+        assert_eq!(journal.take(), head.into_bytes());
+        Both {
+            name,
+            node: Node::open(&options).expect("a node"),
+            by_lines: Node::open(&options).expect("a node"),
+            journal,
+        }
+    }
+
+    fn event_of<'a>(chance: &mut Chance, body: &'a [u8], letters: &'a [Packet]) -> Event<'a> {
+        let any = |count: u64, chance: &mut Chance| (chance.word() % count) as u32;
+        match any(24, chance) {
+            0 | 1 => Event::Send(&body[..any(60, chance) as usize]),
+            2 => Event::Done(1 + any(6, chance)),
+            3..=6 => Event::Take,
+            7 => Event::Join,
+            8 => Event::State,
+            9 if any(8, chance) == 0 => Event::Leave,
+            10 if any(6, chance) == 0 => Event::Reset {
+                least: 1 + any(4, chance) as u8,
+                resilience: any(3, chance) as u8,
+            },
+            11 => Event::Ask(1 + any(5, chance)),
+            12 => Event::GiveUp(Name::of_byte(any(5, chance) as u8)),
+            13 | 14 => Event::Tick,
+            _ => {
+                let letter = &letters[any(letters.len() as u64, chance) as usize];
+                let cut = if any(50, chance) == 0 { 13 } else { usize::MAX };
+                Event::Hear {
+                    to: letter.to,
+                    packet: &letter.bytes[..letter.bytes.len().min(cut)],
+                }
+            }
+        }
+    }
+
+    #[test]
+    fn answers_are_written_as_a_node_writes_them() {
+        let mut words = BTreeSet::new();
+        for seed in 0..40 {
+            let mut chance = Chance::new(seed);
+            let mut nodes = ["0", "1", "2", "5", "6/2"].map(both);
+            let body: Vec<u8> = (0..60).collect();
+            let mut letters: Vec<Packet> = Vec::new();
+            let first = nodes[1].node.handle(&Event::Tick).expect("an answer");
+            nodes[1].by_lines.tell(b"tick").expect("an answer");
+            letters.extend(first.letters);
+            for time in 0..300 {
+                let from = letters.len().saturating_sub(30);
+                let event = event_of(&mut chance, &body, &letters[from..]);
+                let both = &mut nodes[(chance.word() % 5) as usize];
+                let did = both.node.handle(&event).expect("an answer");
+                let said = both
+                    .by_lines
+                    .tell(event.line().as_bytes())
+                    .expect("an answer");
+                let said = String::from_utf8_lossy(said).into_owned();
+                both.journal
+                    .add(Time(time), &event, Some((both.name, 7)), &did);
+                let line = String::from_utf8(both.journal.take()).expect("text");
+                let fields: Vec<&str> = line.trim_end_matches('\n').split('\t').collect();
+                assert_eq!(fields[0], time.to_string());
+                assert_eq!(fields[2], format!("{} 7", both.name));
+                assert_eq!(fields[3..], [said.as_str()]);
+                words.extend(said.split(' ').next().map(str::to_string));
+                letters.extend(did.letters);
+            }
+        }
+        assert!(
+            words.len() > 30,
+            "of the outcomes there were only {words:?}"
+        );
     }
 }

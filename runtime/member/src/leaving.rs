@@ -74,7 +74,7 @@ impl Member {
             return Time::NEVER;
         };
         if !self.standing.members.has(self.me()) {
-            return asked.after(2 * self.settings.stuck_after);
+            return asked.after(self.settings.stuck_after.saturating_mul(2));
         }
         let heard = self.hearing.heard.iter().max().copied();
         heard

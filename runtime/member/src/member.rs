@@ -163,6 +163,11 @@ impl Member {
             .min(self.paced_until())
     }
 
+    /// How many bytes of messages fit now, each counted with [`MESSAGE_HEAD`](crate::MESSAGE_HEAD) more.
+    pub fn free(&self) -> usize {
+        self.sending.queue.free()
+    }
+
     /// How many bytes a message may have to be taken now.
     pub fn room(&self) -> usize {
         self.sending.queue.room().min(MOST_MESSAGE)

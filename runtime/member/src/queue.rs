@@ -39,9 +39,14 @@ impl Queue {
         }
     }
 
+    /// How many bytes of messages fit now, with their heads.
+    pub(crate) fn free(&self) -> usize {
+        self.most.saturating_sub(self.waiting)
+    }
+
     /// How many bytes a message may have now.
     pub(crate) fn room(&self) -> usize {
-        (self.most - self.waiting).saturating_sub(MESSAGE_HEAD)
+        self.free().saturating_sub(MESSAGE_HEAD)
     }
 
     /// How many bytes wait, with the messages' heads.

@@ -57,7 +57,7 @@ impl Member {
             self.resetting.was_beyond = true;
             self.tell(Notice::BeyondResilience(count));
         }
-        let wait = self.settings.reset_step * self.rank() as u64;
+        let wait = self.settings.reset_step.saturating_mul(self.rank() as u64);
         self.resetting.patience = self.resetting.patience.max(self.now.after(wait));
     }
 
@@ -183,7 +183,7 @@ impl Member {
         if self.standing.role == Role::Asking && resetting.voted_for != stamp {
             resetting.voted_for = stamp;
             resetting.voted_at = self.now;
-            resetting.votes += 1;
+            resetting.votes = resetting.votes.saturating_add(1);
         }
     }
 
@@ -208,7 +208,7 @@ impl Member {
         if !self.is_waiting() || self.leaving.is_asked() {
             return Time::NEVER;
         }
-        let wait = self.settings.stuck_after << self.resetting.stuck.min(6);
+        let wait = Time::doubled(self.settings.stuck_after, self.resetting.stuck.min(6));
         let wait = wait.saturating_mul(1 + self.rank() as u64);
         let since = match &self.sending.under_way {
             Some(own) => own.began.max(self.timers.stands_since),
@@ -255,7 +255,7 @@ impl Member {
         self.resetting.was_too_few = false;
         if self.now >= self.stuck_at() && self.hears_all() {
             self.tell(Notice::ResetsStuck);
-            self.resetting.stuck += 1;
+            self.resetting.stuck = self.resetting.stuck.saturating_add(1);
             return self.reset_by_itself();
         }
         Some(())
@@ -278,7 +278,8 @@ impl Member {
     }
 
     fn reset_by_itself(&mut self) -> Option<()> {
-        let wait = self.settings.reset_step * (1 + self.rank() as u64);
+        let step = self.settings.reset_step;
+        let wait = step.saturating_mul(1 + self.rank() as u64);
         self.resetting.patience = self.now.after(wait);
         self.timers.stands_since = self.now;
         self.counts.resets += 1;

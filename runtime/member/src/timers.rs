@@ -9,8 +9,6 @@ use muoswyld::names::{Name, Stamp};
 
 /// The least time after which something is sent again, however short the round trip is.
 const LEAST_RESEND: u64 = 1_000;
-/// How often a period is doubled at most.
-const MOST_DOUBLINGS: u32 = 16;
 
 /// The measured round trip: its smoothed value and its variation, as TCP has them.
 #[derive(Clone, Copy, Debug, Default)]
@@ -25,12 +23,12 @@ impl RoundTrip {
             None => (sample, sample / 2),
             Some((smooth, vary)) => {
                 let sample = if is_doubtful {
-                    sample.min(4 * smooth)
+                    sample.min(smooth.saturating_mul(4))
                 } else {
                     sample
                 };
-                let vary = (3 * vary + smooth.abs_diff(sample)) / 4;
-                ((7 * smooth + sample) / 8, vary)
+                let vary = vary - vary / 4 + smooth.abs_diff(sample) / 4;
+                (smooth - smooth / 8 + sample / 8, vary)
             }
         });
     }
@@ -43,7 +41,10 @@ impl RoundTrip {
     /// After which time something is sent again.
     fn resend(&self, first: u64, most: u64) -> u64 {
         let (smooth, vary) = self.measured.unwrap_or((first, 0));
-        (smooth + 4 * vary).max(LEAST_RESEND).min(most)
+        smooth
+            .saturating_add(vary.saturating_mul(4))
+            .max(LEAST_RESEND)
+            .min(most)
     }
 }
 
@@ -194,7 +195,7 @@ impl Member {
         let most = self.settings.most_resend;
         let first = self.settings.first_resend;
         let resend = self.timers.round_trip.resend(first, most);
-        (resend << tries.min(MOST_DOUBLINGS)).min(most)
+        Time::doubled(resend, tries).min(most)
     }
 
     /// When the next tick comes.
@@ -224,13 +225,13 @@ impl Member {
         timers.is_wanted = false;
         timers.last_tick = self.now;
         timers.moved_at = self.now;
-        timers.tries += 1;
+        timers.tries = timers.tries.saturating_add(1);
         if self.standing.role == Role::Sequencer {
             timers.polled_at = Some(self.now);
         }
         if let Some(own) = &mut self.sending.under_way {
             own.sent_at = self.now;
-            own.tries += 1;
+            own.tries = own.tries.saturating_add(1);
         }
         self.counts.ticks += 1;
         let outcome = self.step(&Event::Tick, None)?;
@@ -266,6 +267,6 @@ mod tests {
         let mut trip = RoundTrip::default();
         trip.measure(800, false);
         trip.measure(1_000_000, true);
-        assert_eq!(trip.smooth(), Some((7 * 800 + 3_200) / 8));
+        assert_eq!(trip.smooth(), Some(700 + 400));
     }
 }

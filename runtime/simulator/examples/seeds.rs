@@ -1,0 +1,32 @@
+//! Runs many seeds, and tells of each that fails: `seeds FIRST COUNT`. It ends with 1 if one failed.
+
+use muoswyld_simulator::{run, Plan};
+use std::process::ExitCode;
+
+fn main() -> ExitCode {
+    let words: Vec<u64> = std::env::args()
+        .skip(1)
+        .filter_map(|word| word.parse().ok())
+        .collect();
+    let [first, count] = words[..] else {
+        eprintln!("seeds FIRST COUNT");
+        return ExitCode::from(2);
+    };
+    let mut failed = 0;
+    for seed in first..first.saturating_add(count) {
+        match run(&Plan::of(seed)) {
+            Ok(report) if count == 1 => println!("{}", report.text),
+            Ok(_) => {}
+            Err(failure) => {
+                failed += 1;
+                println!("{failure}");
+            }
+        }
+    }
+    println!("seeds {count}, failed {failed}");
+    if failed == 0 {
+        ExitCode::SUCCESS
+    } else {
+        ExitCode::FAILURE
+    }
+}

@@ -1,0 +1,348 @@
+//! Lives that begin and end, and what else happens to them.
+
+use crate::checker::{self, App};
+use crate::journals;
+use crate::plan::{Act, Faults};
+use crate::process::Process;
+use crate::world::{Happening, Report, World, TOLD_WITHIN};
+use muoswyld_member::{End, Input, Name, Role};
+use std::collections::BTreeSet;
+use std::fmt::Write;
+
+impl World<'_> {
+    /// Begins the next life of a place. It is told who has stopped.
+    pub(crate) fn start(&mut self, place: u8) -> Result<(), String> {
+        self.end_twin(place);
+        if self.places[usize::from(place)].is_some() {
+            return Ok(());
+        }
+        let life = self.lives[usize::from(place)] + 1;
+        let Some(name) = Name::new(place, life) else {
+            return Ok(());
+        };
+        self.lives[usize::from(place)] = life;
+        self.counts.lives += 1;
+        self.start_process(name, false)?;
+        for stopped in self.stopped.clone() {
+            self.give(place, Input::Stopped(stopped));
+        }
+        Ok(())
+    }
+
+    fn start_process(&mut self, name: Name, is_twin: bool) -> Result<(), String> {
+        self.number += 1;
+        let number = self.number;
+        let place = name.place();
+        let begun = Process::new(self.plan, name, number, is_twin, self.now, &mut self.draw);
+        let process = begun.map_err(|error| format!("{name} doesn't start: {error}"))?;
+        let slow = process.slow;
+        self.places[usize::from(place)] = Some(process);
+        self.release(place)?;
+        let next = self.now + self.draw.below(2 * self.plan.send_every);
+        self.plan_at(next, Happening::Sends { place, number });
+        if slow.is_some() {
+            self.plan_at(self.now + 1, Happening::Consumes { place, number });
+        }
+        Ok(())
+    }
+
+    /// Begins the same life of a place again, as nobody should.
+    pub(crate) fn start_twin(&mut self, place: u8) -> Result<(), String> {
+        let name = Name::new(place, self.lives[usize::from(place)]);
+        let lowest = self.plan.founding.lowest();
+        match name {
+            Some(name) if self.places[usize::from(place)].is_none() && Some(name) != lowest => {
+                self.counts.twins += 1;
+                self.start_process(name, true)
+            }
+            _ => Ok(()),
+        }
+    }
+
+    fn end_twin(&mut self, place: u8) {
+        let twin = self.places[usize::from(place)].take_if(|process| process.app.is_twin);
+        self.done.extend(twin.map(|process| process.app));
+    }
+
+    /// The processes that run and count, but for one.
+    fn others(&self, place: u8) -> impl Iterator<Item = &Process> {
+        let all = self.places.iter().flatten();
+        all.filter(move |process| process.counts() && process.name.place() != place)
+    }
+
+    /// Whether a process may crash so that the run stays lawful and goes on: no more stopped members than the resilience of any view,
+    /// a majority is left of each, and another one knows the group.
+    fn may_crash(&self, place: u8) -> bool {
+        let Some(process) = &self.places[usize::from(place)] else {
+            return false;
+        };
+        let running: BTreeSet<Name> = self.others(place).map(|other| other.name).collect();
+        let views = self.others(place).chain(Some(process));
+        let mut members = BTreeSet::new();
+        let mut resilience = u8::MAX;
+        for standing in views.map(|other| other.member.info().standing) {
+            members.extend(standing.members.iter());
+            if !standing.members.is_empty() {
+                resilience = resilience.min(standing.resilience);
+            }
+            let left = standing
+                .members
+                .iter()
+                .filter(|name| running.contains(name));
+            let least = match self.plan.least {
+                Some(least) => usize::from(least),
+                None => standing.members.len() / 2 + 1,
+            };
+            if !standing.members.is_empty() && left.count() < least {
+                return false;
+            }
+        }
+        let stopped = members
+            .iter()
+            .filter(|name| self.stopped.contains(name))
+            .count();
+        let is_known = self
+            .others(place)
+            .any(|other| other.member.info().group.is_some());
+        let is_lawful = stopped < usize::from(resilience) || !members.contains(&process.name);
+        process.counts() && is_known && is_lawful
+    }
+
+    /// Does what the plan says of a place.
+    pub(crate) fn act(&mut self, place: u8, act: Act) -> Result<(), String> {
+        match act {
+            Act::Crash { back, twin } => self.crash(place, back, twin),
+            Act::Pause(micros) => {
+                let until = self.now + micros;
+                if let Some(process) = &mut self.places[usize::from(place)] {
+                    process.paused_until = until;
+                    self.counts.pauses += 1;
+                }
+                Ok(())
+            }
+            Act::Leave => {
+                let stays = self
+                    .others(place)
+                    .filter(|other| !other.leaves && other.has_list());
+                if stays.count() > 0 {
+                    if let Some(process) = &mut self.places[usize::from(place)] {
+                        process.leaves = true;
+                        self.counts.leaves += 1;
+                        self.give(place, Input::Leave);
+                    }
+                }
+                Ok(())
+            }
+            Act::Join => {
+                let free = (0..16).find(|place| self.lives[usize::from(*place)] == 0);
+                match free.filter(|free| *free >= self.plan.founding.founders.len() as u8) {
+                    Some(free) => self.start(free),
+                    None => Ok(()),
+                }
+            }
+            Act::Reset(more) => {
+                self.reset(place, more);
+                Ok(())
+            }
+        }
+    }
+
+    fn reset(&mut self, place: u8, more: u8) {
+        let Some(process) = &self.places[usize::from(place)] else {
+            return;
+        };
+        let standing = process.member.info().standing;
+        let most = (standing.members.len().saturating_sub(1) / 2) as u8;
+        let resilience = (standing.resilience + more).min(most.max(standing.resilience));
+        self.counts.resets += 1;
+        let input = Input::Reset {
+            ticket: self.counts.resets,
+            least: None,
+            resilience: Some(resilience),
+        };
+        self.give(place, input);
+    }
+
+    fn crash(&mut self, place: u8, back: Option<u64>, twin: bool) -> Result<(), String> {
+        let runs = self.places[usize::from(place)].as_ref().is_some_and(Process::counts);
+        let is_lawful = self.may_crash(place);
+        if !runs || !is_lawful && (self.plan.is_lawful || self.others(place).count() == 0) {
+            return Ok(());
+        }
+        self.die_amid_release(place)?;
+        if !is_lawful && !self.is_void {
+            self.is_void = true;
+            let running = self.places.iter().flatten().map(|process| &process.app);
+            self.lawful = self.done.iter().chain(running).cloned().collect();
+        }
+        self.counts.crashes += 1;
+        self.stop(place, None)?;
+        if let Some(back) = back {
+            self.plan_at(self.now + back, Happening::Starts { place });
+        }
+        if twin && back.is_none_or(|back| back > 2 * TOLD_WITHIN) {
+            self.plan_at(self.now + TOLD_WITHIN + 1, Happening::StartsTwin { place });
+        }
+        Ok(())
+    }
+
+    /// Often the process dies with something unreleased, or amid a release: some of it is out, in its order.
+    fn die_amid_release(&mut self, place: u8) -> Result<(), String> {
+        if self.draw.per_mille(400) {
+            return Ok(());
+        }
+        let now = self.now;
+        let outputs = self.process(place)?.release(now);
+        let count = self.draw.below(outputs.len() as u64 + 1) as usize;
+        for output in outputs.into_iter().take(count) {
+            self.output(place, output)?;
+        }
+        Ok(())
+    }
+
+    /// A process is no more; everybody is told, sooner or later.
+    fn stop(&mut self, place: u8, end: Option<End>) -> Result<(), String> {
+        let Some(process) = self.places[usize::from(place)].take() else {
+            return Ok(());
+        };
+        self.look_at_suspects(&process)?;
+        let name = process.name;
+        self.stopped.insert(name);
+        if self.plan.journal {
+            self.journals.insert(name, process.journal);
+        }
+        self.done.push(process.app);
+        for place in 0..16 {
+            let within = if self.is_calm { 1_000 } else { TOLD_WITHIN };
+            let at = self.now + self.draw.between(100, within);
+            if let Some(other) = &self.places[usize::from(place)] {
+                let number = other.number;
+                self.plan_at(
+                    at,
+                    Happening::IsTold {
+                        place,
+                        number,
+                        name,
+                    },
+                );
+            }
+        }
+        if end == Some(End::Unwelcomed) && !self.is_calm {
+            self.plan_at(self.now + 100_000, Happening::Starts { place });
+        }
+        Ok(())
+    }
+
+    fn look_at_suspects(&self, process: &Process) -> Result<(), String> {
+        let given_up = process.member.info().stopped;
+        match given_up.iter().find(|name| !self.stopped.contains(name)) {
+            Some(name) => Err(format!("{} gave up {name}, which runs", process.name)),
+            None => Ok(()),
+        }
+    }
+
+    /// Looks whether a process has ended by itself.
+    pub(crate) fn look_at_end(&mut self, place: u8) -> Result<(), String> {
+        let Some(process) = &self.places[usize::from(place)] else {
+            return Ok(());
+        };
+        let Some(end) = process.ended else {
+            return Ok(());
+        };
+        if process.app.is_twin {
+            self.end_twin(place);
+            return Ok(());
+        }
+        let name = process.name;
+        let is_expected = match end {
+            End::Left | End::Closed => process.leaves,
+            End::Unwelcomed => true,
+            End::LeftOut => self.is_void,
+            End::NoNumbersLeft | End::NodeFailed => false,
+        };
+        if !is_expected {
+            return Err(format!("{name} ended, though it ran: {end:?}"));
+        }
+        self.stop(place, Some(end))
+    }
+
+    /// The faults end: nobody pauses or crashes any more, and nothing more is sent.
+    pub(crate) fn calm_down(&mut self) {
+        self.is_calm = true;
+        self.faults = Faults::NONE;
+        for place in 0..16 {
+            self.end_twin(place);
+            if let Some(process) = &mut self.places[usize::from(place)] {
+                process.paused_until = 0;
+                process.release_at = None;
+                self.plan_release(place);
+            }
+        }
+    }
+
+    /// Whether all that run are members of one view with one list, of which all is taken, and nothing is under way.
+    pub(crate) fn is_at_rest(&self) -> bool {
+        let running: Vec<&Process> = self.places.iter().flatten().collect();
+        if !running.iter().any(|process| process.has_list()) {
+            return true; // the group is over
+        }
+        let names: Vec<Name> = running.iter().map(|process| process.name).collect();
+        let mut tops = BTreeSet::new();
+        for process in &running {
+            let info = process.member.info();
+            let standing = info.standing;
+            tops.insert(standing.top);
+            let is_one = standing.members.iter().eq(names.iter().copied());
+            let is_quiet = matches!(standing.role, Role::Member | Role::Sequencer);
+            let is_done = info.unsettled == 0 && standing.taken == standing.top;
+            if !is_one || !is_quiet || !is_done || process.leaves {
+                return false;
+            }
+        }
+        tops.len() == 1
+    }
+
+    pub(crate) fn shown(&self) -> String {
+        let mut text = String::new();
+        for process in self.places.iter().flatten() {
+            let info = process.member.info();
+            // writing to a string can't fail
+            let _ = writeln!(text, "    leaves {} {info:?}", process.leaves);
+        }
+        text
+    }
+
+    /// Checks all, and tells of it.
+    pub(crate) fn finish(&mut self) -> Result<Report, String> {
+        let processes: Vec<Process> = self.places.iter_mut().filter_map(Option::take).collect();
+        for mut process in processes {
+            if !self.is_void {
+                self.look_at_suspects(&process)?;
+            }
+            if self.plan.journal && !process.app.is_twin {
+                process.journal.extend(b"end\n");
+                self.journals.insert(process.name, process.journal);
+            }
+            self.done.push(process.app);
+        }
+        let lawful = if self.is_void {
+            &self.lawful
+        } else {
+            &self.done
+        };
+        checker::check(lawful)?;
+        journals::heard_letters_stand(&self.journals)?;
+        let delivered = self.done.iter().map(|app| app.log.len()).sum();
+        let settled: usize = self.done.iter().map(|app| app.settled.len()).sum();
+        let sent: usize = self.done.iter().map(|app: &App| app.sent.len()).sum();
+        let text = format!(
+            "seed {}: {:?}, sent {sent}, settled {settled}, delivered {delivered}, to {} us, void {}, {:016x}",
+            self.plan.seed, self.counts, self.now, self.is_void, self.hash
+        );
+        Ok(Report {
+            text,
+            journals: std::mem::take(&mut self.journals),
+            delivered,
+        })
+    }
+}

@@ -1,0 +1,148 @@
+//! A process of the cluster: a member, its application, and its journal.
+
+use crate::checker::App;
+use crate::draw::Draw;
+use crate::plan::{Plan, Sizes};
+use muoswyld_member::{
+    End, HandleError, Input, Member, Name, Output, Role, Settings, StartError, Time,
+};
+
+/// An application that takes slowly: so many deliveries in so many microseconds.
+#[derive(Clone, Copy, Debug)]
+pub(crate) struct Slow {
+    pub(crate) every: u64,
+    pub(crate) count: usize,
+}
+
+/// A process.
+pub(crate) struct Process {
+    pub(crate) member: Member,
+    pub(crate) name: Name,
+    pub(crate) app: App,
+    pub(crate) journal: Vec<u8>,
+    /// Which process this is: no two have the same number.
+    pub(crate) number: u64,
+    pub(crate) paused_until: u64,
+    pub(crate) release_at: Option<u64>,
+    pub(crate) wake_at: u64,
+    pub(crate) slow: Option<Slow>,
+    /// How many deliveries the application hasn't taken.
+    pub(crate) backlog: usize,
+    pub(crate) ended: Option<End>,
+    pub(crate) leaves: bool,
+}
+
+/// The settings of a name in a plan.
+fn settings_of(plan: &Plan, name: Name, draw: &mut Draw, slow: Option<Slow>) -> Settings {
+    let mut settings = Settings::new(name, plan.founding, draw.word());
+    settings.seed = draw.word();
+    settings.least = plan.least;
+    settings.most_waiting = 200_000;
+    settings.slow_tick = 50_000;
+    settings.silent_after = 700_000;
+    settings.stuck_after = 1_500_000;
+    settings.reset_step = 100_000;
+    settings.journal = plan.journal;
+    settings.plant = plan.plant;
+    settings.deliveries = slow.map_or(1000, |slow| 2 * slow.count);
+    settings
+}
+
+impl Process {
+    /// A process that begins.
+    pub(crate) fn new(
+        plan: &Plan,
+        name: Name,
+        number: u64,
+        is_twin: bool,
+        now: u64,
+        draw: &mut Draw,
+    ) -> Result<Process, StartError> {
+        let slow = draw.per_mille(plan.slow).then(|| Slow {
+            every: draw.between(1_000, 30_000),
+            count: draw.between(1, 10) as usize,
+        });
+        let settings = settings_of(plan, name, draw, slow);
+        Ok(Process {
+            member: Member::new(settings, Time(now))?,
+            name,
+            app: App::new(name, is_twin),
+            journal: Vec::new(),
+            number,
+            paused_until: 0,
+            release_at: None,
+            wake_at: u64::MAX,
+            slow,
+            backlog: 0,
+            ended: None,
+            leaves: false,
+        })
+    }
+
+    /// Whether it runs, and is the only one of its name.
+    pub(crate) fn counts(&self) -> bool {
+        self.ended.is_none() && !self.app.is_twin
+    }
+
+    /// Whether it has a list.
+    pub(crate) fn has_list(&self) -> bool {
+        let role = self.member.info().standing.role;
+        matches!(role, Role::Member | Role::Sequencer | Role::Coordinator)
+    }
+
+    /// Has the application send a message; whether the member took it.
+    pub(crate) fn send(&mut self, sizes: Sizes, now: u64, draw: &mut Draw) -> Result<bool, String> {
+        let ticket = self.app.sent.len() as u64;
+        let message = message_of(self.name, ticket, sizes, draw);
+        let input = Input::Send {
+            ticket,
+            message: message.clone(),
+        };
+        match self.member.handle(Time(now), input) {
+            Ok(()) => {
+                self.app.sent.push(message);
+                Ok(true)
+            }
+            Err(HandleError::Full { .. } | HandleError::Leaving { .. } | HandleError::Ended) => {
+                Ok(false)
+            }
+            Err(error) => Err(format!("{}: a send was refused: {error}", self.name)),
+        }
+    }
+
+    /// Has the application take what it was given, if it isn't slow.
+    pub(crate) fn take_at_once(&mut self) -> usize {
+        match self.slow {
+            None => std::mem::take(&mut self.backlog),
+            Some(_) => 0,
+        }
+    }
+
+    /// What comes of the inputs so far.
+    pub(crate) fn release(&mut self, now: u64) -> Vec<Output> {
+        let mut out = Vec::new();
+        self.member.release(Time(now), &mut out);
+        out
+    }
+}
+
+fn length_of(sizes: Sizes, draw: &mut Draw) -> usize {
+    const EDGES: [usize; 10] = [0, 1, 1018, 1019, 1020, 1021, 1022, 1024, 2038, 2039];
+    let length = match sizes {
+        Sizes::Small => draw.below(101),
+        Sizes::Mixed if draw.per_mille(300) => {
+            return draw.one_of(&EDGES).unwrap_or(0);
+        }
+        Sizes::Mixed => draw.below(4_000),
+        Sizes::Long if draw.per_mille(200) => draw.between(60_000, 65_535),
+        Sizes::Long => draw.below(20_000),
+    };
+    length as usize
+}
+
+/// A message that no other is, as far as its length allows.
+fn message_of(name: Name, ticket: u64, sizes: Sizes, draw: &mut Draw) -> Vec<u8> {
+    let length = length_of(sizes, draw);
+    let head = [&[name.byte()][..], &ticket.to_be_bytes()[2..]].concat();
+    head.iter().rev().cycle().take(length).copied().collect()
+}

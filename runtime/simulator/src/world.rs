@@ -1,0 +1,435 @@
+//! The cluster and its network on virtual time.
+
+use crate::checker::App;
+use crate::draw::Draw;
+use crate::plan::{Act, Faults, Plan};
+use crate::process::Process;
+use muoswyld_member::{Input, Name, Names, Output, Time};
+use std::cmp::Reverse;
+use std::collections::{BTreeMap, BTreeSet, BinaryHeap};
+use std::rc::Rc;
+use thiserror::Error;
+
+/// How long the group may need to come to rest once the faults end, in microseconds.
+const REST: u64 = 60_000_000;
+/// How often it is looked whether it has.
+const LOOK_EVERY: u64 = 20_000;
+/// Within which time everybody is told that a process has stopped.
+pub(crate) const TOLD_WITHIN: u64 = 500_000;
+
+/// What a run found.
+#[derive(Clone, Debug, Error)]
+#[error("seed {seed}, at {at} us: {what}\n    again: SEED={seed} cargo test -p muoswyld-simulator --test seeds one_seed -- --nocapture")]
+pub struct Failure {
+    /// The run's seed.
+    pub seed: u64,
+    /// When it was found.
+    pub at: u64,
+    /// What is wrong.
+    pub what: String,
+}
+
+/// What a run came to.
+#[derive(Clone, Debug, PartialEq, Eq)]
+pub struct Report {
+    /// Some lines that tell of it; a run of the same seed has the same ones.
+    pub text: String,
+    /// The journals of all lives, if they were kept.
+    pub journals: BTreeMap<Name, Vec<u8>>,
+    /// How many deliveries the applications had.
+    pub delivered: usize,
+}
+
+/// What may happen.
+#[derive(Clone, Debug)]
+pub(crate) enum Happening {
+    Arrives { place: u8, payload: Rc<[u8]> },
+    Wakes { place: u8, number: u64 },
+    Releases { place: u8, number: u64 },
+    Sends { place: u8, number: u64 },
+    Consumes { place: u8, number: u64 },
+    IsTold { place: u8, number: u64, name: Name },
+    Starts { place: u8 },
+    StartsTwin { place: u8 },
+    Acts { place: u8, act: Act },
+}
+
+/// What happens when; of the same time what was planned first.
+struct Planned {
+    at: u64,
+    order: u64,
+    what: Happening,
+}
+
+impl PartialEq for Planned {
+    fn eq(&self, other: &Planned) -> bool {
+        (self.at, self.order) == (other.at, other.order)
+    }
+}
+
+impl Eq for Planned {}
+
+impl PartialOrd for Planned {
+    fn partial_cmp(&self, other: &Planned) -> Option<std::cmp::Ordering> {
+        Some(self.cmp(other))
+    }
+}
+
+impl Ord for Planned {
+    fn cmp(&self, other: &Planned) -> std::cmp::Ordering {
+        (self.at, self.order).cmp(&(other.at, other.order))
+    }
+}
+
+/// How often something happened.
+#[derive(Clone, Copy, Debug, Default)]
+pub(crate) struct Counts {
+    pub(crate) events: u64,
+    pub(crate) datagrams: u64,
+    pub(crate) lost: u64,
+    pub(crate) crashes: u64,
+    pub(crate) lives: u64,
+    pub(crate) twins: u64,
+    pub(crate) pauses: u64,
+    pub(crate) resets: u64,
+    pub(crate) leaves: u64,
+}
+
+/// A cluster.
+pub(crate) struct World<'a> {
+    pub(crate) plan: &'a Plan,
+    pub(crate) draw: Draw,
+    pub(crate) now: u64,
+    pub(crate) order: u64,
+    pub(crate) queue: BinaryHeap<Reverse<Planned>>,
+    pub(crate) places: [Option<Process>; 16],
+    pub(crate) lives: [u8; 16],
+    pub(crate) number: u64,
+    pub(crate) faults: Faults,
+    pub(crate) is_calm: bool,
+    /// Whether more have stopped than the resilience, or fewer are left than a reset wants.
+    pub(crate) is_void: bool,
+    pub(crate) stopped: BTreeSet<Name>,
+    pub(crate) done: Vec<App>,
+    /// What the applications had seen when the run was lawful for the last time.
+    pub(crate) lawful: Vec<App>,
+    pub(crate) journals: BTreeMap<Name, Vec<u8>>,
+    pub(crate) captured: Vec<(u8, Rc<[u8]>)>,
+    pub(crate) counts: Counts,
+    pub(crate) hash: u64,
+}
+
+/// Runs a plan, and checks it.
+pub fn run(plan: &Plan) -> Result<Report, Failure> {
+    let mut world = World::new(plan);
+    world.run().map_err(|what| Failure {
+        seed: plan.seed,
+        at: world.now,
+        what,
+    })
+}
+
+impl<'a> World<'a> {
+    fn new(plan: &'a Plan) -> World<'a> {
+        World {
+            plan,
+            draw: Draw::new(plan.seed.wrapping_mul(31).wrapping_add(7)),
+            now: 0,
+            order: 0,
+            queue: BinaryHeap::new(),
+            places: [const { None }; 16],
+            lives: [0; 16],
+            number: 0,
+            faults: plan.faults,
+            is_calm: false,
+            is_void: false,
+            stopped: BTreeSet::new(),
+            done: Vec::new(),
+            lawful: Vec::new(),
+            journals: BTreeMap::new(),
+            captured: Vec::new(),
+            counts: Counts::default(),
+            hash: 0xcbf2_9ce4_8422_2325,
+        }
+    }
+
+    fn run(&mut self) -> Result<Report, String> {
+        if self.plan.ghosts {
+            self.haunt()?;
+        }
+        self.begin();
+        self.run_until(self.plan.ends)?;
+        self.calm_down();
+        let limit = self.now + REST;
+        while !self.is_void && !self.is_at_rest() {
+            if self.now >= limit {
+                return Err(format!("it doesn't come to rest:\n{}", self.shown()));
+            }
+            self.run_until(self.now + LOOK_EVERY)?;
+        }
+        self.finish()
+    }
+
+    /// Has datagrams of an earlier run come, whose founding is the same.
+    fn haunt(&mut self) -> Result<(), String> {
+        let mut plan = self.plan.clone();
+        plan.seed ^= 0x0005_0f77_ab12;
+        plan.ghosts = false;
+        plan.acts.clear();
+        plan.plant = None;
+        let mut earlier = World::new(&plan);
+        earlier.begin();
+        earlier.run_until(300_000)?;
+        let captured = std::mem::take(&mut earlier.captured);
+        for (place, payload) in captured.into_iter().take(400) {
+            let at = self.draw.below(self.plan.ends);
+            self.plan_at(at, Happening::Arrives { place, payload });
+        }
+        Ok(())
+    }
+
+    fn begin(&mut self) {
+        for name in self.plan.founding.founders.iter() {
+            let at = match self.draw.per_mille(700) {
+                true => self.draw.below(1_000),
+                false => self.draw.below(300_000),
+            };
+            self.plan_at(
+                at,
+                Happening::Starts {
+                    place: name.place(),
+                },
+            );
+        }
+        for (at, place, act) in self.plan.acts.clone() {
+            self.plan_at(at, Happening::Acts { place, act });
+        }
+    }
+
+    pub(crate) fn plan_at(&mut self, at: u64, what: Happening) {
+        self.order += 1;
+        let order = self.order;
+        self.queue.push(Reverse(Planned { at, order, what }));
+    }
+
+    fn run_until(&mut self, until: u64) -> Result<(), String> {
+        while let Some(Reverse(next)) = self.queue.peek() {
+            if next.at > until {
+                break;
+            }
+            let Some(Reverse(next)) = self.queue.pop() else {
+                break;
+            };
+            self.now = self.now.max(next.at);
+            self.counts.events += 1;
+            self.happen(next.what)?;
+        }
+        self.now = self.now.max(until);
+        Ok(())
+    }
+
+    /// The process of a place, if it is the one of this number. What would happen to a process that pauses happens when it goes on.
+    fn running(&mut self, what: &Happening) -> Option<u8> {
+        let (place, number) = match what {
+            Happening::Arrives { place, .. } => (*place, None),
+            Happening::Wakes { place, number }
+            | Happening::Releases { place, number }
+            | Happening::Sends { place, number }
+            | Happening::Consumes { place, number }
+            | Happening::IsTold { place, number, .. } => (*place, Some(*number)),
+            _ => return None,
+        };
+        let process = self.places[usize::from(place)].as_ref()?;
+        if process.ended.is_some() || number.is_some_and(|number| number != process.number) {
+            return None;
+        }
+        if process.paused_until > self.now {
+            let until = process.paused_until;
+            self.plan_at(until, what.clone());
+            return None;
+        }
+        Some(place)
+    }
+
+    fn happen(&mut self, what: Happening) -> Result<(), String> {
+        match what {
+            Happening::Starts { place } => return self.start(place),
+            Happening::StartsTwin { place } => return self.start_twin(place),
+            Happening::Acts { place, act } => return self.act(place, act),
+            _ => {}
+        }
+        let Some(place) = self.running(&what) else {
+            return Ok(());
+        };
+        match what {
+            Happening::Arrives { payload, .. } => self.give(place, Input::Datagram(&payload)),
+            Happening::Wakes { .. } => {
+                let process = self.process(place)?;
+                process.wake_at = u64::MAX;
+                self.give(place, Input::Time);
+            }
+            Happening::Releases { .. } => self.release(place)?,
+            Happening::Sends { .. } => self.send(place)?,
+            Happening::Consumes { .. } => self.consume(place)?,
+            Happening::IsTold { name, .. } => self.give(place, Input::Stopped(name)),
+            _ => {}
+        }
+        Ok(())
+    }
+
+    pub(crate) fn process(&mut self, place: u8) -> Result<&mut Process, String> {
+        let process = self.places[usize::from(place)].as_mut();
+        process.ok_or_else(|| format!("place {place} has no process"))
+    }
+
+    /// Gives a member an input. What comes of it is released a little later.
+    pub(crate) fn give(&mut self, place: u8, input: Input) {
+        let now = Time(self.now);
+        if let Some(process) = self.places[usize::from(place)].as_mut() {
+            // what a member refuses changes nothing
+            let _ = process.member.handle(now, input);
+        }
+        self.plan_release(place);
+    }
+
+    pub(crate) fn plan_release(&mut self, place: u8) {
+        let at = self.now + self.draw.below(100);
+        let Some(process) = self.places[usize::from(place)].as_mut() else {
+            return;
+        };
+        if process.release_at.is_none() {
+            process.release_at = Some(at);
+            let number = process.number;
+            self.plan_at(at, Happening::Releases { place, number });
+        }
+    }
+
+    pub(crate) fn release(&mut self, place: u8) -> Result<(), String> {
+        let now = self.now;
+        let process = self.process(place)?;
+        process.release_at = None;
+        let outputs = process.release(now);
+        for output in outputs {
+            self.output(place, output)?;
+        }
+        let process = self.process(place)?;
+        let taken = process.take_at_once();
+        if taken > 0 {
+            self.give(place, Input::Consumed(taken));
+        }
+        self.plan_wake(place);
+        self.look_at_end(place)
+    }
+
+    fn plan_wake(&mut self, place: u8) {
+        let now = self.now;
+        let Some(process) = self.places[usize::from(place)].as_mut() else {
+            return;
+        };
+        let wake = process.member.wake().0.max(now + 1);
+        if wake < process.wake_at {
+            process.wake_at = wake;
+            let number = process.number;
+            self.plan_at(wake, Happening::Wakes { place, number });
+        }
+    }
+
+    fn fold(&mut self, bytes: &[u8]) {
+        for byte in bytes {
+            self.hash = (self.hash ^ u64::from(*byte)).wrapping_mul(0x0100_0000_01b3);
+        }
+    }
+
+    pub(crate) fn output(&mut self, place: u8, output: Output) -> Result<(), String> {
+        match output {
+            Output::Datagram { to, payload } => {
+                self.fold(&payload);
+                self.carry(to, payload.into());
+            }
+            Output::Journal(lines) => self.process(place)?.journal.extend(lines),
+            Output::Deliver(delivery) => {
+                let at = delivery.at();
+                self.fold(&[at.number.to_be_bytes(), at.index.to_be_bytes()].concat());
+                let process = self.process(place)?;
+                process.backlog += 1;
+                process.app.deliver(delivery)?;
+            }
+            Output::Settled { ticket, result } => {
+                self.fold(&ticket.to_be_bytes());
+                self.process(place)?.app.settle(ticket, result)?;
+            }
+            Output::Ended(end) => self.process(place)?.ended = Some(end),
+            Output::ResetDone { .. } | Output::Told(_) => {}
+        }
+        Ok(())
+    }
+
+    /// Carries a datagram to each place of some names.
+    fn carry(&mut self, to: Names, payload: Rc<[u8]>) {
+        for name in to.iter() {
+            self.counts.datagrams += 1;
+            let place = name.place();
+            if self.captured.len() < 400 && !self.plan.ghosts {
+                self.captured.push((place, payload.clone()));
+            }
+            let faults = self.faults;
+            if self.draw.per_mille(faults.lost) {
+                self.counts.lost += 1;
+                continue;
+            }
+            let times = 1 + u64::from(self.draw.per_mille(faults.repeated));
+            for _ in 0..times {
+                let late = match self.draw.per_mille(faults.late) {
+                    true => self.draw.below(300_000),
+                    false => 0,
+                };
+                let delay = self.draw.between(faults.least_delay, faults.most_delay);
+                let payload = payload.clone();
+                self.plan_at(
+                    self.now + delay + late,
+                    Happening::Arrives { place, payload },
+                );
+            }
+        }
+    }
+
+    fn send(&mut self, place: u8) -> Result<(), String> {
+        if self.is_calm {
+            return Ok(());
+        }
+        let (now, sizes, every) = (self.now, self.plan.sizes, self.plan.send_every);
+        let mut draw = self.draw.clone();
+        let process = self.process(place)?;
+        let burst = if draw.per_mille(100) {
+            draw.between(2, 40)
+        } else {
+            1
+        };
+        for _ in 0..burst {
+            if !process.leaves && !process.send(sizes, now, &mut draw)? {
+                break;
+            }
+        }
+        let number = process.number;
+        self.draw = draw;
+        self.plan_release(place);
+        let next = self.now + self.draw.between(1, 2 * every);
+        self.plan_at(next, Happening::Sends { place, number });
+        Ok(())
+    }
+
+    fn consume(&mut self, place: u8) -> Result<(), String> {
+        let process = self.process(place)?;
+        let Some(slow) = process.slow else {
+            return Ok(());
+        };
+        let count = slow.count.min(process.backlog);
+        process.backlog -= count;
+        let number = process.number;
+        if count > 0 {
+            self.give(place, Input::Consumed(count));
+        }
+        self.plan_at(self.now + slow.every, Happening::Consumes { place, number });
+        Ok(())
+    }
+}
