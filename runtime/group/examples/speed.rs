@@ -13,10 +13,17 @@ fn number(at: usize, otherwise: usize) -> usize {
     word.and_then(|word| word.parse().ok()).unwrap_or(otherwise)
 }
 
-fn started(place: u8, all: &[SocketAddr], resilience: u8, counted: Arc<AtomicU64>) -> Result<Group, Box<dyn std::error::Error + Send + Sync>> {
+fn started(
+    place: u8,
+    all: &[SocketAddr],
+    resilience: u8,
+    counted: Arc<AtomicU64>,
+) -> Result<Group, Box<dyn std::error::Error + Send + Sync>> {
     let founders = (0..all.len() as u8).filter_map(Name::first).collect();
     let name = Name::first(place).ok_or("sixteen places")?;
-    let mut config = Config::new(name, founders).resilience(resilience).key(Key::of([1; 32]));
+    let mut config = Config::new(name, founders)
+        .resilience(resilience)
+        .key(Key::of([1; 32]));
     for (at, address) in all.iter().enumerate() {
         config = config.address(at as u8, *address)?;
     }
@@ -29,8 +36,13 @@ fn started(place: u8, all: &[SocketAddr], resilience: u8, counted: Arc<AtomicU64
 fn main() -> Result<(), Box<dyn std::error::Error + Send + Sync>> {
     let (members, bytes, seconds) = (number(1, 3), number(2, 64), number(3, 5));
     let (resilience, senders) = (number(4, 0), number(5, members));
-    let bound: Vec<UdpSocket> = (0..members).map(|_| UdpSocket::bind("127.0.0.1:0")).collect::<Result<_, _>>()?;
-    let all: Vec<SocketAddr> = bound.iter().map(UdpSocket::local_addr).collect::<Result<_, _>>()?;
+    let bound: Vec<UdpSocket> = (0..members)
+        .map(|_| UdpSocket::bind("127.0.0.1:0"))
+        .collect::<Result<_, _>>()?;
+    let all: Vec<SocketAddr> = bound
+        .iter()
+        .map(UdpSocket::local_addr)
+        .collect::<Result<_, _>>()?;
     drop(bound);
     let counts: Vec<Arc<AtomicU64>> = (0..members).map(|_| Arc::default()).collect();
     let starts: Vec<_> = (0..members)
@@ -62,12 +74,18 @@ fn main() -> Result<(), Box<dyn std::error::Error + Send + Sync>> {
         let took = began.elapsed().as_secs_f64();
         for (place, (count, before)) in counts.iter().zip(before).enumerate() {
             let many = count.load(Ordering::Relaxed) - before;
-            println!("member {place}: {:.0} messages a second", many as f64 / took);
+            println!(
+                "member {place}: {:.0} messages a second",
+                many as f64 / took
+            );
         }
         is_over.store(true, Ordering::Relaxed);
         let alone = Instant::now();
         drop(groups.first().map(|group| group.send("last")));
-        println!("the last message waited {:.1} ms", alone.elapsed().as_secs_f64() * 1e3);
+        println!(
+            "the last message waited {:.1} ms",
+            alone.elapsed().as_secs_f64() * 1e3
+        );
     });
     Ok(())
 }

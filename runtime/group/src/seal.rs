@@ -59,7 +59,7 @@ impl std::fmt::Debug for Key {
 pub(crate) fn fill(bytes: &mut [u8]) -> io::Result<()> {
     SystemRandom::new()
         .fill(bytes)
-        .map_err(|_| io::Error::new(io::ErrorKind::Other, "the system gives no random bytes"))
+        .map_err(|_| io::Error::other("the system gives no random bytes"))
 }
 
 /// The length of a derived key.
@@ -118,8 +118,7 @@ impl Seal {
     pub fn by(key: &Key) -> io::Result<Seal> {
         let mut word = [0; WORD];
         fill(&mut word)?;
-        let own = derived(key, &word)
-            .ok_or_else(|| io::Error::new(io::ErrorKind::Other, "no key was derived"))?;
+        let own = derived(key, &word).ok_or_else(|| io::Error::other("no key was derived"))?;
         Ok(Seal {
             secret: Some(Secret {
                 key: key.clone(),

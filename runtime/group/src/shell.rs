@@ -10,7 +10,8 @@ use crate::slot::Slot;
 use crate::socket::Udp;
 use muoswyld::names::{Name, Names};
 use muoswyld_member::{
-    Delivery, HandleError, Input, Member, NotReset, Notice, Output, Position, Settings, Time, Unsent,
+    Delivery, HandleError, Input, Member, NotReset, Notice, Output, Position, Settings, Time,
+    Unsent,
 };
 use std::collections::HashMap;
 use std::fs::{File, OpenOptions};

@@ -71,7 +71,9 @@ fn all_are_given_the_same(host: &str) {
     }
     for group in &groups {
         let own: Vec<_> = first.iter().filter(|it| it.1 == group.name()).collect();
-        let sent: Vec<_> = (0..50).map(|k| format!("{} {k}", group.name()).into_bytes()).collect();
+        let sent: Vec<_> = (0..50)
+            .map(|k| format!("{} {k}", group.name()).into_bytes())
+            .collect();
         assert!(own.iter().map(|it| &it.2).take(50).eq(sent.iter()));
         assert_eq!(own[50].2.len(), 65_535);
     }
@@ -97,7 +99,10 @@ fn a_stopped_member_is_left_out_and_its_place_comes_back() {
     }
     let at = groups[1].send_timeout("second", SOON).unwrap();
     let again = Group::join(config("0/2", "0,1,2", &all).resilience(1)).unwrap();
-    assert!(matches!(again.receive_timeout(SOON), Ok(Delivery::Joined { .. })));
+    assert!(matches!(
+        again.receive_timeout(SOON),
+        Ok(Delivery::Joined { .. })
+    ));
     groups[0].send_timeout("third", SOON).unwrap();
     assert_eq!(messages(&again, 1)[0].2, b"third");
     let seen = messages(&groups[1], 3);
@@ -112,7 +117,10 @@ fn who_leaves_has_left() {
     groups[2].leave(SOON).unwrap();
     last.wait().unwrap();
     assert_eq!(groups[2].ended(), Some(End::Left));
-    assert!(matches!(groups[2].send("x"), Err(SendError::NotSent(End::Left))));
+    assert!(matches!(
+        groups[2].send("x"),
+        Err(SendError::NotSent(End::Left))
+    ));
     assert_eq!(messages(&groups[0], 1)[0].2, b"bye");
     let left = std::iter::from_fn(|| groups[0].receive_timeout(SOON).ok())
         .any(|it| matches!(it, Delivery::Left { name: who, .. } if who == name("2")));
@@ -144,7 +152,10 @@ fn what_can_not_start_says_why() {
 fn messages_that_are_too_long_or_too_many_are_refused() {
     let all = addresses(1, "127.0.0.1");
     let group = Group::create(config("0", "0", &all)).unwrap();
-    assert!(matches!(group.send(vec![0; 65_536]), Err(SendError::TooLong)));
+    assert!(matches!(
+        group.send(vec![0; 65_536]),
+        Err(SendError::TooLong)
+    ));
     assert!(group.send(vec![0; 65_535]).is_ok());
     assert!(group.send(Vec::new()).is_ok());
     let all = addresses(2, "127.0.0.1");

@@ -2,7 +2,7 @@
 //! standard input.
 
 use crate::exit::{Fault, CANT_CREATE, CONFIG, IO, UNAVAILABLE};
-use muoswyld_group::{End, Group, Name};
+use muoswyld_group::{Group, Name};
 use serde_json::{json, Value};
 use std::io::{BufRead, BufReader, Read, Write};
 use std::os::unix::net::{UnixListener, UnixStream};
@@ -177,7 +177,10 @@ fn answer_all(caller: &UnixStream, group: &Group) -> std::io::Result<()> {
     let mut line = Vec::new();
     loop {
         line.clear();
-        reader.by_ref().take(MOST_COMMAND).read_until(b'\n', &mut line)?;
+        reader
+            .by_ref()
+            .take(MOST_COMMAND)
+            .read_until(b'\n', &mut line)?;
         if line.is_empty() {
             return Ok(());
         }
@@ -199,14 +202,24 @@ fn answer_all(caller: &UnixStream, group: &Group) -> std::io::Result<()> {
 pub fn ask(path: &Path, command: &Command) -> Result<Value, Fault> {
     let shown = path.display();
     let cannot = |error| Fault::of(IO, format_args!("{shown}: {error}"));
-    let mut stream = UnixStream::connect(path)
-        .map_err(|error| Fault::of(UNAVAILABLE, format_args!("no member listens at {shown}: {error}")))?;
+    let mut stream = UnixStream::connect(path).map_err(|error| {
+        Fault::of(
+            UNAVAILABLE,
+            format_args!("no member listens at {shown}: {error}"),
+        )
+    })?;
     stream.write_all(&command.line()).map_err(cannot)?;
     stream.write_all(b"\n").map_err(cannot)?;
     let mut said = String::new();
-    BufReader::new(&stream).read_line(&mut said).map_err(cannot)?;
-    let answer: Value = serde_json::from_str(&said)
-        .map_err(|_| Fault::of(UNAVAILABLE, format_args!("the member at {shown} ended before it answered")))?;
+    BufReader::new(&stream)
+        .read_line(&mut said)
+        .map_err(cannot)?;
+    let answer: Value = serde_json::from_str(&said).map_err(|_| {
+        Fault::of(
+            UNAVAILABLE,
+            format_args!("the member at {shown} ended before it answered"),
+        )
+    })?;
     match answer.get("error").and_then(Value::as_str) {
         Some(error) => Err(Fault::of(UNAVAILABLE, error)),
         None => Ok(answer),
@@ -219,11 +232,6 @@ pub fn of_input(line: &[u8], is_command: bool) -> Result<Command, Fault> {
         true => Command::of(line).map_err(|why| Fault::of(CONFIG, why)),
         false => Ok(Command::Send(line.to_vec())),
     }
-}
-
-/// Whether a member's end is one that its caller asked for.
-pub fn is_left(end: &End) -> bool {
-    matches!(end, End::Left | End::Closed | End::Stopped)
 }
 
 #[cfg(test)]
@@ -250,7 +258,17 @@ mod tests {
 
     #[test]
     fn what_is_no_command_is_told() {
-        for line in [&b""[..], b"sned x", b"reset x", b"reset 1 2", b"stopped", b"stopped 16", b"leave now", b"send-hex 1", b"\xff"] {
+        for line in [
+            &b""[..],
+            b"sned x",
+            b"reset x",
+            b"reset 1 2",
+            b"stopped",
+            b"stopped 16",
+            b"leave now",
+            b"send-hex 1",
+            b"\xff",
+        ] {
             assert!(Command::of(line).is_err(), "{line:?}");
         }
     }

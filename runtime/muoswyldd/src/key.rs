@@ -36,7 +36,9 @@ pub fn read(path: &Path) -> Result<Key, Fault> {
     let limit = LENGTH as u64 + 1;
     file.take(limit).read_to_end(&mut text).map_err(cannot)?;
     key_of(&text).ok_or_else(|| {
-        let line = format_args!("{shown} is no key: a key is 64 hexadecimal digits, as `muoswyldd keygen` writes it");
+        let line = format_args!(
+            "{shown} is no key: a key is 64 hexadecimal digits, as `muoswyldd keygen` writes it"
+        );
         Fault::of(CONFIG, line)
     })
 }

@@ -9,7 +9,8 @@ use tiny_http::{Header, Response, Server};
 
 /// Serves metrics at an address.
 pub fn serve(address: SocketAddr, group: &Arc<Group>) -> Result<(), Fault> {
-    let cannot = |error: &dyn std::fmt::Display| Fault::of(SYSTEM, format_args!("{address}: {error}"));
+    let cannot =
+        |error: &dyn std::fmt::Display| Fault::of(SYSTEM, format_args!("{address}: {error}"));
     let server = Server::http(address).map_err(|error| cannot(&error))?;
     let group = group.clone();
     std::thread::Builder::new()
@@ -23,7 +24,8 @@ pub fn serve(address: SocketAddr, group: &Arc<Group>) -> Result<(), Fault> {
                     (true, Err(end)) => (503, format!("{end}\n")),
                 };
                 let mut response = Response::from_string(text).with_status_code(status);
-                if let Ok(header) = Header::from_bytes("Content-Type", "text/plain; version=0.0.4") {
+                if let Ok(header) = Header::from_bytes("Content-Type", "text/plain; version=0.0.4")
+                {
                     response.add_header(header);
                 }
                 // who asked may be gone
@@ -39,27 +41,111 @@ fn values(info: &Info) -> Vec<(&'static str, &'static str, u64)> {
     let (standing, counts) = (&info.standing, &info.counts);
     let is_in = standing.members.has(info.name);
     vec![
-        ("muoswyld_in_group", "1 if the member is in its view, else 0", u64::from(is_in)),
-        ("muoswyld_members", "members of the view", standing.members.len() as u64),
-        ("muoswyld_view_number", "number of the view's entry", u64::from(standing.view_number)),
-        ("muoswyld_top", "number of the last entry", u64::from(standing.top)),
-        ("muoswyld_accepted", "number up to which entries are accepted", u64::from(standing.accepted)),
-        ("muoswyld_taken", "number up to which entries are delivered", u64::from(standing.taken)),
-        ("muoswyld_base", "number up to which entries are trimmed", u64::from(standing.base)),
-        ("muoswyld_unsettled_messages", "messages that wait or are under way", info.unsettled as u64),
-        ("muoswyld_waiting_bytes", "bytes of messages that wait", info.waiting as u64),
-        ("muoswyld_silent_members", "members that nothing was heard of for a while", info.silent.len() as u64),
-        ("muoswyld_slow_members", "members that hold the window, as far as this one knows", info.slow.len() as u64),
-        ("muoswyld_round_trip_microseconds", "measured round trip", info.round_trip.unwrap_or(0)),
-        ("muoswyld_datagrams_heard_total", "datagrams that came", counts.datagrams_heard),
-        ("muoswyld_datagrams_sent_total", "datagrams that went out", counts.datagrams_sent),
-        ("muoswyld_datagrams_malformed_total", "datagrams that are none by their form", counts.malformed),
-        ("muoswyld_datagrams_other_group_total", "datagrams of another group", counts.other_group),
-        ("muoswyld_letters_heard_total", "letters that the node heard", counts.letters_heard),
-        ("muoswyld_letters_sent_total", "letters that the node sent", counts.letters_sent),
-        ("muoswyld_messages_sent_total", "messages that were given to be sent", counts.messages_sent),
-        ("muoswyld_deliveries_total", "deliveries to the application", counts.deliveries),
-        ("muoswyld_resets_total", "resets that the member began by itself", counts.resets),
+        (
+            "muoswyld_in_group",
+            "1 if the member is in its view, else 0",
+            u64::from(is_in),
+        ),
+        (
+            "muoswyld_members",
+            "members of the view",
+            standing.members.len() as u64,
+        ),
+        (
+            "muoswyld_view_number",
+            "number of the view's entry",
+            u64::from(standing.view_number),
+        ),
+        (
+            "muoswyld_top",
+            "number of the last entry",
+            u64::from(standing.top),
+        ),
+        (
+            "muoswyld_accepted",
+            "number up to which entries are accepted",
+            u64::from(standing.accepted),
+        ),
+        (
+            "muoswyld_taken",
+            "number up to which entries are delivered",
+            u64::from(standing.taken),
+        ),
+        (
+            "muoswyld_base",
+            "number up to which entries are trimmed",
+            u64::from(standing.base),
+        ),
+        (
+            "muoswyld_unsettled_messages",
+            "messages that wait or are under way",
+            info.unsettled as u64,
+        ),
+        (
+            "muoswyld_waiting_bytes",
+            "bytes of messages that wait",
+            info.waiting as u64,
+        ),
+        (
+            "muoswyld_silent_members",
+            "members that nothing was heard of for a while",
+            info.silent.len() as u64,
+        ),
+        (
+            "muoswyld_slow_members",
+            "members that hold the window, as far as this one knows",
+            info.slow.len() as u64,
+        ),
+        (
+            "muoswyld_round_trip_microseconds",
+            "measured round trip",
+            info.round_trip.unwrap_or(0),
+        ),
+        (
+            "muoswyld_datagrams_heard_total",
+            "datagrams that came",
+            counts.datagrams_heard,
+        ),
+        (
+            "muoswyld_datagrams_sent_total",
+            "datagrams that went out",
+            counts.datagrams_sent,
+        ),
+        (
+            "muoswyld_datagrams_malformed_total",
+            "datagrams that are none by their form",
+            counts.malformed,
+        ),
+        (
+            "muoswyld_datagrams_other_group_total",
+            "datagrams of another group",
+            counts.other_group,
+        ),
+        (
+            "muoswyld_letters_heard_total",
+            "letters that the node heard",
+            counts.letters_heard,
+        ),
+        (
+            "muoswyld_letters_sent_total",
+            "letters that the node sent",
+            counts.letters_sent,
+        ),
+        (
+            "muoswyld_messages_sent_total",
+            "messages that were given to be sent",
+            counts.messages_sent,
+        ),
+        (
+            "muoswyld_deliveries_total",
+            "deliveries to the application",
+            counts.deliveries,
+        ),
+        (
+            "muoswyld_resets_total",
+            "resets that the member began by itself",
+            counts.resets,
+        ),
     ]
 }
 

@@ -252,7 +252,12 @@ impl Run {
 
     /// The group's configuration that they say.
     pub fn group(&self) -> Result<Config, Fault> {
-        let missing = |what| Fault::of(CONFIG, format_args!("--{what} isn't said: --help says more"));
+        let missing = |what| {
+            Fault::of(
+                CONFIG,
+                format_args!("--{what} isn't said: --help says more"),
+            )
+        };
         let name = self.name.ok_or_else(|| missing("name"))?;
         let founders = self.founders.ok_or_else(|| missing("founders"))?;
         let mut config = Config::new(name, founders);
@@ -308,11 +313,15 @@ fn read_file(path: &Path) -> Result<Run, Fault> {
     let shown = path.display();
     let text = std::fs::read_to_string(path)
         .map_err(|error| Fault::of(NO_INPUT, format_args!("{shown}: {error}")))?;
-    let file: Run =
-        toml::from_str(&text).map_err(|error| Fault::of(CONFIG, format_args!("{shown}: {error}")))?;
+    let file: Run = toml::from_str(&text)
+        .map_err(|error| Fault::of(CONFIG, format_args!("{shown}: {error}")))?;
     for (place, address) in &file.addresses {
-        address_word(&format!("{place}={address}"))
-            .map_err(|error| Fault::of(CONFIG, format_args!("{shown}: address of {place:?}: {error}")))?;
+        address_word(&format!("{place}={address}")).map_err(|error| {
+            Fault::of(
+                CONFIG,
+                format_args!("{shown}: address of {place:?}: {error}"),
+            )
+        })?;
     }
     Ok(file)
 }
@@ -339,13 +348,21 @@ mod tests {
         assert_eq!(run.name.unwrap().to_string(), "1/2");
         assert_eq!(run.founders.unwrap().to_string(), "0,1");
         assert_eq!(run.resilience, Some(1));
-        let addresses = [(1, "127.0.0.1:9".to_string()), (0, "127.0.0.1:1".to_string())];
+        let addresses = [
+            (1, "127.0.0.1:9".to_string()),
+            (0, "127.0.0.1:1".to_string()),
+        ];
         assert_eq!(run.address, addresses);
     }
 
     #[test]
     fn unknown_keys_and_bad_names_are_refused() {
-        for text in ["nmae = \"1\"", "name = \"16\"", "founders = \"1,0\"", "window = \"x\""] {
+        for text in [
+            "nmae = \"1\"",
+            "name = \"16\"",
+            "founders = \"1,0\"",
+            "window = \"x\"",
+        ] {
             assert!(toml::from_str::<Run>(text).is_err(), "{text}");
         }
     }
@@ -353,7 +370,14 @@ mod tests {
     #[test]
     fn a_group_wants_a_name_and_founders() {
         assert_eq!(run_of(&[]).group().unwrap_err().status, CONFIG);
-        let words = ["--name", "0", "--founders", "0", "--address", "0=127.0.0.1:7000"];
+        let words = [
+            "--name",
+            "0",
+            "--founders",
+            "0",
+            "--address",
+            "0=127.0.0.1:7000",
+        ];
         assert!(run_of(&words).group().is_ok());
     }
 }

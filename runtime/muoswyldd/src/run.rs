@@ -38,7 +38,8 @@ pub fn run(words: Run) -> Result<(), Fault> {
             found.store(true, Ordering::SeqCst);
         }
     });
-    let signals = Signals::new([SIGTERM, SIGINT, SIGHUP]).map_err(|error| Fault::of(SYSTEM, error))?;
+    let signals =
+        Signals::new([SIGTERM, SIGINT, SIGHUP]).map_err(|error| Fault::of(SYSTEM, error))?;
     let group = Arc::new(Group::start(config)?);
     let process = Process {
         group: group.clone(),
@@ -81,7 +82,10 @@ fn heed(mut signals: Signals, process: &Process, log: Log) -> Result<(), Fault> 
                 let group = group.clone();
                 std::thread::spawn(move || {
                     if let Err(LeaveError::Timeout) = group.leave(within) {
-                        tracing::error!("the member hasn't left within {} seconds", within.as_secs());
+                        tracing::error!(
+                            "the member hasn't left within {} seconds",
+                            within.as_secs()
+                        );
                         std::process::exit(i32::from(TRY_AGAIN));
                     }
                 });
@@ -143,7 +147,10 @@ impl Process {
                 Form::None => Ok(()),
             };
             written.and_then(|()| out.flush()).map_err(|error| {
-                Fault::of(IO, format_args!("standard output can't be written: {error}"))
+                Fault::of(
+                    IO,
+                    format_args!("standard output can't be written: {error}"),
+                )
             })?;
         };
         by_end(&end)?;

@@ -97,7 +97,10 @@ mod tests {
     #[test]
     fn controls_are_replaced() {
         assert_eq!(shown(b"a\tb\x1b[2J\n"), "a\tb\u{fffd}[2J\u{fffd}");
-        assert_eq!(shown("a\u{202e}b\u{2066}c\u{200f}".as_bytes()), "a\u{fffd}b\u{fffd}c\u{fffd}");
+        assert_eq!(
+            shown("a\u{202e}b\u{2066}c\u{200f}".as_bytes()),
+            "a\u{fffd}b\u{fffd}c\u{fffd}"
+        );
         assert_eq!(shown(b"\xff"), "\u{fffd}");
         assert_eq!(shown("äöü".as_bytes()), "äöü");
     }

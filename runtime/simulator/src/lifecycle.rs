@@ -164,7 +164,9 @@ impl World<'_> {
     }
 
     fn crash(&mut self, place: u8, back: Option<u64>, twin: bool) -> Result<(), String> {
-        let runs = self.places[usize::from(place)].as_ref().is_some_and(Process::counts);
+        let runs = self.places[usize::from(place)]
+            .as_ref()
+            .is_some_and(Process::counts);
         let is_lawful = self.may_crash(place);
         if !runs || !is_lawful && (self.plan.is_lawful || self.others(place).count() == 0) {
             return Ok(());
