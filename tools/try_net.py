@@ -55,16 +55,17 @@ class Process:
         self.child.stdin.write(line + "\n")
         self.child.stdin.flush()
 
+    def until(self, wanted: str, seconds: float = 30) -> list[str]:
+        """The lines that come in so much time, up to the first that is this one."""
+        ends, lines = time.monotonic() + seconds, []
+        with contextlib.suppress(queue.Empty):
+            while lines[-1:] != [wanted]:
+                lines.append(self.lines.get(timeout=max(0, ends - time.monotonic())))
+        return lines
+
     def wants(self, wanted: str, seconds: float = 30) -> bool:
         """Whether a line comes that is this one, in so much time."""
-        ends = time.monotonic() + seconds
-        while (left := ends - time.monotonic()) > 0:
-            try:
-                if self.lines.get(timeout=left) == wanted:
-                    return True
-            except queue.Empty:
-                return False
-        return False
+        return self.until(wanted, seconds)[-1:] == [wanted]
 
     def end(self) -> int:
         """Ends its input, and gives its status."""
@@ -161,10 +162,10 @@ def unknown(tried: Tried) -> list[str]:
     """Without a key a datagram of an address that isn't its sender's is dropped and counted; nonsense, too, also in a datagram of the
     group; what is of another run or founding is counted for itself, and told once."""
     member = tried.start("net/udp.py", "0")
-    tag = hashlib.sha256(b"\n0,1,2\n1\n64\n256").digest()[:8]
+    tag = hashlib.sha256(b"\n0,1,2\n1\n64\n256").digest()[:8] + b"process!"
     heads = [b"1 1 0", b"2 1", b"2 1 0 0", b"2 x 0", b"2 " + b"1" * 11 + b" 0", "2 \u0661 0".encode(), b"2 1 0\t", b"2 1 \xff", b"02 1 0"]
     heads += [b"1" * 5000 + b" 1 0", b"2 1 " + b"0," * 500 + b"0"]
-    nonsense = [head + b"\n" + b"AG" * 20 for head in heads] + [b"", b"2 1 0", b"2 1 0\n", b"2 1 0\nAG", b"2 1 0\n" + b"A" * 1153]
+    nonsense = [head + b"\n" + b"AG" * 20 for head in heads] + [b"", b"\n", b"2 1 0", b"2 1 0\n", b"2 1 0\nAG", b"2 1 0\n" + b"A" * 1153]
     place_0 = "127.0.0.1", tried.ports[0]
     with socket.socket(socket.AF_INET, socket.SOCK_DGRAM) as other, socket.socket(socket.AF_INET, socket.SOCK_DGRAM) as place_2:
         place_2.bind(("127.0.0.2", tried.ports[2]))
@@ -182,6 +183,96 @@ def unknown(tried: Tried) -> list[str]:
     status, wanted = member.end(), [str(len(elsewhere + nonsense)), "0", "3"]
     if (status, tried.counts("0")) != (0, wanted) or "hear 0 4141" not in tried.journal("0").read_text():
         wrong.append(f"status {status}, counts {tried.counts('0')}, wanted {wanted}")
+    return wrong
+
+
+def second_process(tried: Tried) -> list[str]:
+    """A name that runs again in a second process is dropped and told, once, by who heard the first one; its place's next life isn't."""
+    members = {name: tried.start("net/udp.py", name) for name in ("0", "1", "2")}
+    members["0"].tell("hello")
+    wrong = [f"{name} wasn't given it" for name in ("1", "2") if not members[name].wants("2 0: hello")]
+    members["0"].kill()
+    os.unlink(tried.journal("0"))
+    again = tried.start("net/udp.py", "0")
+    told = "udp.py: what comes of place 0 is dropped: it is of a second process with the name 0; end it, and let its place come back as its"
+    wrong += [f"{name} doesn't tell of it" for name in ("1", "2") if not members[name].wants(f"{told} next life")]
+    again.kill()
+    for name in ("1", "2"):
+        members[name].tell("stopped 0")
+    lines = members["2"].until("3 view 2.1 1,2")
+    members["0/2"] = tried.start("net/udp.py", "0/2")
+    lines += members["2"].until("4 join 0/2")
+    members["1"].tell("on")
+    lines += members["2"].until("5 1: on")
+    if lines[-1:] != ["5 1: on"] or any("dropped" in line for line in lines) or not members["0/2"].wants("5 1: on"):
+        wrong.append(f"its next life: {lines}")
+    statuses = [members[name].end() for name in ("1", "2", "0/2")]
+    return wrong + ([] if statuses == [0, 0, 0] else [f"they ended with {statuses}"])
+
+
+def wrong_keys(tried: Tried) -> list[str]:
+    """Of a key that isn't the same, of one that isn't there, and of another run both sides tell, also where one is sent nothing else."""
+    (tried.folder / "key").write_bytes(b"a key of these three")
+    (tried.folder / "other").write_bytes(b"another key")
+    keyed, wrong = tried.start("net/udp.py", "0", "--key", str(tried.folder / "key")), []
+    unsigned = "isn't signed with this key"
+    other = "is of another group: --run, --founders, --resilience, --window or --pb-up-to differs, or --key"
+    cases = (
+        ("1/2", ["--key", str(tried.folder / "other")], unsigned, unsigned),
+        ("2/2", [], unsigned, other),
+        ("1/3", ["--key", str(tried.folder / "key"), "--run", "two"], other, other),
+    )
+    for name, more, told, tells in cases:
+        member = tried.start("net/udp.py", name, *more)
+        if not keyed.wants(f"udp.py: what comes of place {name[0]} is dropped: it {told}", 5):
+            wrong.append(f"0 doesn't tell of {name}")
+        if not member.wants(f"udp.py: what comes of place 0 is dropped: it {tells}", 5):
+            wrong.append(f"{name} doesn't tell of 0")
+        member.kill()
+    return wrong + ([] if keyed.end() == 0 else ["an end"])
+
+
+def window_full(tried: Tried) -> list[str]:
+    """Where a frozen member keeps the window full the sequencer tells who isn't heard, and the others who tells it; then all goes on."""
+    members = {name: tried.start("net/udp.py", name, "--window", "4") for name in ("0", "1", "2")}
+    members["1"].tell("hello")
+    wrong = [f"{name} wasn't given it" for name in members if not members[name].wants("2 1: hello")]
+    members["2"].child.send_signal(signal.SIGSTOP)
+    for number in range(9):
+        members["1"].tell(f"more {number}")
+    told = "udp.py: nothing is numbered: the window is full; "
+    if not members["0"].wants(told + "not heard for 5 seconds: 2"):
+        wrong.append("0 doesn't tell who isn't heard")
+    if not members["1"].wants(told + "0, which numbers, tells who isn't heard"):
+        wrong.append("1 doesn't tell that the window is full")
+    members["2"].child.send_signal(signal.SIGCONT)
+    wrong += [f"{name} wasn't given the last one" for name in members if not members[name].wants("11 1: more 8")]
+    statuses = [member.end() for member in members.values()]
+    return wrong + ([] if statuses == [0, 0, 0] else [f"they ended with {statuses}"])
+
+
+def beyond(tried: Tried) -> list[str]:
+    """A member tells where more have stopped than the resilience between two resets, and not where a reset stands between them."""
+    told, wrong = "udp.py: stopped: 0,1, more than the resilience of view 1.0, 1: nothing is claimed from here on", []
+    for is_apart, views in ((True, ["3 view 2.1 1,2", "4 view 3.2 2"]), (False, ["3 view 2.2 2"])):
+        (folder := tried.folder / str(is_apart)).mkdir()
+        group = Tried(folder, tried.program)
+        members = {name: group.start("net/udp.py", name) for name in ("0", "1", "2")}
+        members["2"].tell("hello")
+        wrong += [f"{name} wasn't given it" for name, member in members.items() if not member.wants("2 2: hello")]
+        members.pop("0").kill()
+        lines = []
+        if is_apart:
+            for member in members.values():
+                member.tell("stopped 0")
+            lines = members["2"].until(views[0])
+        members.pop("1").kill()
+        members["2"].tell("stopped 1" if is_apart else "stopped 0\nstopped 1")
+        lines += members["2"].until(views[-1])
+        if lines.count(told) != (not is_apart) or [line for line in lines if " view " in line and line != told] != views:
+            wrong.append(f"{is_apart}: {lines}")
+        if members["2"].end():
+            wrong.append("an end")
     return wrong
 
 
@@ -500,6 +591,6 @@ def try_parts(page: str | None, kind: type[Tried], parts: Iterable[Callable]) ->
 
 
 if __name__ == "__main__":
-    members = (cluster, dropped, unknown, begun_anew, loop, lines_of_a_node, inputs, refused, full_journal)
-    groups = (dictionary, chat, left_out, too_few, last_sent, once, merging)
+    members = (cluster, dropped, unknown, begun_anew, second_process, wrong_keys, loop, lines_of_a_node, inputs, refused, full_journal)
+    groups = (dictionary, chat, left_out, too_few, window_full, beyond, last_sent, once, merging)
     sys.exit(try_parts(__doc__, Tried, members + groups))
