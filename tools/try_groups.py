@@ -221,6 +221,14 @@ def refusals(tried: Tried) -> list[str]:
     return wrong
 
 
+def late(tried: Tried) -> list[str]:
+    """Who isn't done in time is killed, and told, and what is there is judged."""
+    words = "--nodes 2 --seconds 0.5 --rate 20000 --patience 0.2".split()
+    status, said, told = ran("cluster.py", *words, "--program", tried.program)
+    is_told = "killed, as they weren't done 0.2 seconds after their inputs' end: 0, 1\n" in said
+    return [] if status == 0 and is_told and "answers again" in said else [f"{status}, {said}{told}"]
+
+
 def journals(tried: Tried) -> list[str]:
     """What a cluster keeps is what it judged; cut and spoilt journals are refused for their cause."""
     kept = tried.folder / "kept"
@@ -270,4 +278,4 @@ def given_up(tried: Tried) -> list[str]:
 
 
 if __name__ == "__main__":
-    sys.exit(try_parts(__doc__, Five, (sameness, bounds, dictionary, refusals, journals, given_up)))
+    sys.exit(try_parts(__doc__, Five, (sameness, bounds, dictionary, refusals, late, journals, given_up)))

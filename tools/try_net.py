@@ -195,7 +195,7 @@ def second_process(tried: Tried) -> list[str]:
     os.unlink(tried.journal("0"))
     again = tried.start("net/udp.py", "0")
     told = "udp.py: what comes of place 0 is dropped: it is of a second process with the name 0; end it, and let its place come back as its"
-    wrong += [f"{name} doesn't tell of it" for name in ("1", "2") if not members[name].wants(f"{told} next life")]
+    wrong += [f"{name} doesn't tell of it" for name in ("1", "2") if not members[name].wants(f"{told} next life", 10)]
     again.kill()
     for name in ("1", "2"):
         members[name].tell("stopped 0")
@@ -211,19 +211,19 @@ def second_process(tried: Tried) -> list[str]:
 
 
 def wrong_keys(tried: Tried) -> list[str]:
-    """Of a key that isn't the same, of one that isn't there, and of another run both sides tell, also where one is sent nothing else."""
+    """Of a key that isn't the same, of one that isn't there, and of another run both sides tell, also who is sent nothing else."""
     (tried.folder / "key").write_bytes(b"a key of these three")
     (tried.folder / "other").write_bytes(b"another key")
-    keyed, wrong = tried.start("net/udp.py", "0", "--key", str(tried.folder / "key")), []
+    keyed, wrong = tried.start("net/udp.py", "0", "--founders", "0", "--key", str(tried.folder / "key")), []
     unsigned = "isn't signed with this key"
     other = "is of another group: --run, --founders, --resilience, --window or --pb-up-to differs, or --key"
     cases = (
-        ("1/2", ["--key", str(tried.folder / "other")], unsigned, unsigned),
-        ("2/2", [], unsigned, other),
-        ("1/3", ["--key", str(tried.folder / "key"), "--run", "two"], other, other),
+        ("1", ["--key", str(tried.folder / "other")], unsigned, unsigned),
+        ("2", [], unsigned, other),
+        ("1/2", ["--key", str(tried.folder / "key"), "--run", "two"], other, other),
     )
     for name, more, told, tells in cases:
-        member = tried.start("net/udp.py", name, *more)
+        member = tried.start("net/udp.py", name, "--founders", "0", *more)
         if not keyed.wants(f"udp.py: what comes of place {name[0]} is dropped: it {told}", 5):
             wrong.append(f"0 doesn't tell of {name}")
         if not member.wants(f"udp.py: what comes of place 0 is dropped: it {tells}", 5):
@@ -560,7 +560,12 @@ def merging(tried: Tried) -> list[str]:
         ([one, two.replace("0 1\t", "0 2\t") + "end\n"], 1, "1 wants letter 2 of 0"),
         ([one, one], 1, "a name has two journals"),
         ([one, two.replace("\t64\t", "\t32\t")], 1, "has another founding"),
-        ([one.replace("node\t0\t", "node\t0/2\t")], 1, "life before isn't there"),
+        ([one.replace("node\t0\t", "node\t0/2\t")], 1, "0 stopped, and its journal isn't there"),
+        ([one.replace("node\t0\t", "node\t0/2\t"), ""], 0, '[{"do":"stop","node":0},{"do":"return","node":0},{"do":"send"'),
+        ([one.replace("node\t0\t", "node\t0/3\t"), "nod"], 1, "0/2 stopped, and its journal isn't there"),
+        ([head.format(0) + "2\tgiveup 1\t\tnot-coordinator\n"], 1, "1 stopped, and its journal isn't there"),
+        ([head.format(0) + "2\tgiveup 1\t\tnot-coordinator\nend\n", ""], 0, '[{"do":"stop","node":1},{"do":"giveup","node":0,"name":1}]'),
+        (["", ""], 1, "no journal has a whole line"),
         (["x\n"], 1, "is no journal"),
     ]
     wrong = []
