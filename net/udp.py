@@ -276,7 +276,7 @@ class Member:
         self.full: list[str] = []
         self.full_since: float | None = None  # none once it is told
         self.sent_last = time.monotonic()
-        self.leave_answer = ""
+        self.leave_answer = self.fetching = ""
 
     def do(self, line: str, heard: str = "") -> str:
         """Gives the node a line; its letters go out once its answer is in the journal."""
@@ -297,6 +297,8 @@ class Member:
             self.patience = self.ticks + 20
         if word in ("held", "put-off"):
             self.tell_full(fields[-2:])
+        if word == "fetching":
+            self.fetching = fields[0]
         if word in TAKES_AFTER:
             self.take()
             self.send()
@@ -360,8 +362,8 @@ class Member:
         return info_of(self.node.do("info")[0])
 
     def look(self, info: Info) -> None:
-        """Gives up stopped names that a ballot of its own waits for; begins one where a stopped name is a member of the last view,
-        the lowest running member first, the others later."""
+        """Gives up stopped names that a ballot of its own waits for, or fetches from; begins one where a stopped name is a member of the
+        last view, the lowest running member first, the others later."""
         if info.status == "departed":
             raise EOFError
         if self.silent_since and self.silent_since + SILENT_SECONDS < time.monotonic() and info.members != [self.wanted.name]:
@@ -372,8 +374,9 @@ class Member:
         elif self.was_member and not self.is_leaving:
             raise Refused(f"the group goes on without this member: view {info.view} is of {','.join(info.members)}")
         self.tell_beyond(info)
-        for name in info.waiting:
+        for name in [*info.waiting, self.fetching] if info.status == "coordinator" else []:
             if name in self.stopped:
+                self.fetching = ""
                 self.tell_few(self.act(f"giveup {name}"))
         running = [name for name in info.members if name not in self.stopped]
         if info.status == "coordinator" or len(running) == len(info.members) or self.wanted.name not in running:

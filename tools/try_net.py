@@ -523,6 +523,28 @@ def too_few(tried: Tried) -> list[str]:
     return [] if told.getvalue().count("no reset: fewer than --least 2") == 1 and tries == 3 else [f"{tries} tries: {told.getvalue()!r}"]
 
 
+def fetching(tried: Tried) -> list[str]:
+    """A ballot that fetches from a member that then stops gives it up and goes on."""
+    nodes = {name: Node(name, "0,1,2", program=shlex.split(tried.program)) for name in "012"}
+    member = Member(nodes["1"], Journal(str(tried.journal("1")), ["1"]), Quiet(), argparse.Namespace(name="1", least=1))
+    (bcast,) = nodes["0"].do("send 61")[1]
+    nodes["2"].do(bcast.heard())
+    with contextlib.redirect_stderr(io.StringIO()), contextlib.redirect_stdout(io.StringIO()):
+        member.told("stopped 0")
+        member.ticks += 100
+        member.look(member.info())
+        (invite,) = re.findall(r"\treset 1\t\t.* \| (.*)\n", tried.journal("1").read_text())
+        (vote,) = nodes["2"].do(f"hear {invite}")[1]
+        member.act(vote.heard(), "2 1")
+        member.told("stopped 2")
+        for _ in range(3):
+            member.look(member.info())
+    for node in nodes.values():
+        node.close()
+    answers = re.findall(r"\t((?:fetching|decided) [^|]*?)(?: \||\n)", tried.journal("1").read_text())
+    return [] if answers == ["fetching 2 2", "decided 2 1"] else [f"{answers}: {tried.journal('1').read_text()}"]
+
+
 def last_sent(tried: Tried) -> list[str]:
     """Behind the end of its input a member goes on as long as something of that is sent, each time within the limit."""
     other = tried.start("net/udp.py", "1", "--founders", "0,1", "--no-input")
@@ -597,5 +619,5 @@ def try_parts(page: str | None, kind: type[Tried], parts: Iterable[Callable]) ->
 
 if __name__ == "__main__":
     members = (cluster, dropped, unknown, begun_anew, second_process, wrong_keys, loop, lines_of_a_node, inputs, refused, full_journal)
-    groups = (dictionary, chat, left_out, too_few, window_full, beyond, last_sent, once, merging)
+    groups = (dictionary, chat, left_out, too_few, fetching, window_full, beyond, last_sent, once, merging)
     sys.exit(try_parts(__doc__, Tried, members + groups))
