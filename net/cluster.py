@@ -254,6 +254,7 @@ def judged(merged: Merged, wanted: argparse.Namespace, text: str) -> tuple[list[
     """Compares the lines of the script's text with what the processes answered: what to say of it, and 1 where one differs, or where the
     run isn't lawful from another event on than a stop, or with no more stops than the resilience."""
     lines = text.splitlines()
+    play = "the proved play" if wanted.program is None and wanted.judge is None else "play"
     events = merged.events[:MOST_EVENTS]
     stops = [number for number, event in enumerate(events, 1) if event["do"] == "stop"]
     void = int(lines[-1].split(" ")[-1]) if lines[-1].startswith("void") else 0
@@ -264,8 +265,8 @@ def judged(merged: Merged, wanted: argparse.Namespace, text: str) -> tuple[list[
         return [*said, f"{len(stops)} stopped, with a resilience of {wanted.resilience}"], 1
     for mine, proved in zip(merged.lines[:MOST_EVENTS], lines):
         if mine != proved:
-            return [*said, f"a process answered: {mine}", f"the proved play:    {proved}"], 1
-    return [*said, f"the proved play gives all {len(events)} answers again"], 0
+            return [*said, f"a process answered: {mine}", f"{f'{play}:':<20}{proved}"], 1
+    return [*said, f"{play} gives all {len(events)} answers again"], 0
 
 
 def options() -> argparse.Namespace:
