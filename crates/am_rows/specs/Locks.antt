@@ -102,3 +102,39 @@ LastTwoLeaveAtOnce = text_of (rules_with (0 ∷ 1 ∷ []) 1 64 256) (
     codes "log 1 1 view 1.0 0,1" ∷
     codes "lawful" ∷
     [])
+
+abbrev pub LeaveLost : Type 0
+LeaveLost = text_of (rules_with (0 ∷ 1 ∷ []) 1 64 256) (
+    on 1 act.Leave ∷ on 0 (act.Hear 1) ∷ on 0 (act.Send (97 ∷ [])) ∷ on 1 act.Tick ∷ on 0 (act.Hear 3) ∷ on 0 act.Tick ∷ on 1 act.Tick ∷
+    on 0 (act.Hear 4) ∷ on 0 act.Take ∷ on 0 act.Take ∷ on 0 (act.Reset 1 1) ∷ on 0 act.Take ∷ on 0 act.Take ∷ on 0 act.Take ∷ on 0 (act.Done 1) ∷
+    on 1 act.Tick ∷ on 0 (act.Hear 5) ∷ on 1 (act.Hear 6) ∷
+    []) ≡ lines (
+    codes "1 leave 1 : asked | 1 LeaveAsk to 0" ∷
+    codes "2 hear 0 1 : numbered 2 | 2 Bcast to 1" ∷
+    codes "3 send 0 61 : queued 1" ∷
+    codes "4 tick 1 : ticked | 3 LeaveAsk to 0" ∷
+    codes "5 hear 0 3 : again" ∷
+    codes "6 tick 0 : ticked" ∷
+    codes "7 tick 1 : ticked | 4 LeaveAsk to 0" ∷
+    codes "8 hear 0 4 : again" ∷
+    codes "9 take 0 : took 1 view 1.0 0,1" ∷
+    codes "10 take 0 : empty" ∷
+    codes "11 reset 0 1 : decided 4 0" ∷
+    codes "12 take 0 : took 2 leave 1" ∷
+    codes "13 take 0 : took 3 data 0 1 61" ∷
+    codes "14 take 0 : took 4 view 2.0 0" ∷
+    codes "15 done 0 1 : sent 1 3" ∷
+    codes "16 tick 1 : ticked | 5 LeaveAsk to 0" ∷
+    codes "17 hear 0 5 : let-go 2 | 6 Gone to 1" ∷
+    codes "18 hear 1 6 : departed" ∷
+    codes "group 1 view 1.0 0,1" ∷
+    codes "group 2 leave 1" ∷
+    codes "group 3 data 0 1 61" ∷
+    codes "group 4 view 2.0 0" ∷
+    codes "log 0 1 view 1.0 0,1" ∷
+    codes "log 0 2 leave 1" ∷
+    codes "log 0 3 data 0 1 61" ∷
+    codes "log 0 4 view 2.0 0" ∷
+    codes "log 1 empty" ∷
+    codes "lawful" ∷
+    [])

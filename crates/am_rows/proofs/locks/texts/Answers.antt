@@ -14,3 +14,7 @@ returns-clause-joiner_not_welcomed c = refl
 pub returns-clause-last_two_leave_at_once : goal.returns-clause-last_two_leave_at_once
 unfolding opened
 returns-clause-last_two_leave_at_once c = refl
+
+pub returns-clause-leave_lost : goal.returns-clause-leave_lost
+unfolding opened
+returns-clause-leave_lost c = refl
