@@ -1,6 +1,6 @@
 """Tries net/ and examples/ on two addresses of this machine, 127.0.0.1 and 127.0.0.2: a small cluster with a crash,
-members that drop what isn't theirs, a dictionary and a chat, the loop of docs/NETWORK.md, inputs and journals of all sorts, and
-journals that can't be merged.
+members that drop what isn't theirs, what members tell of others and of resets, a dictionary and a chat, the loop of docs/NETWORK.md,
+inputs and journals of all sorts, and journals that can't be merged.
 
     python3 tools/try_net.py PROGRAM
 
@@ -545,11 +545,27 @@ def fetching(tried: Tried) -> list[str]:
     return [] if answers == ["fetching 2 2", "decided 2 1"] else [f"{answers}: {tried.journal('1').read_text()}"]
 
 
+def over_a_reset(tried: Tried) -> list[str]:
+    """A send whose request was lost is numbered in the view that a reset brings."""
+    nodes = {name: Node(name, "0,1,2", "--resilience", "1", program=shlex.split(tried.program)) for name in "012"}
+    nodes["1"].do("send 61")
+    for line in ("reset 2", "giveup 0", "tick", "tick"):
+        letters = nodes["1"].do(line)[1]
+        while letters:
+            letter = letters.pop(0)
+            for name in {"1", "2"}.intersection(letter.names()):
+                letters += nodes[name].do(letter.heard())[1]
+    answers = [nodes[name].do(line)[0] for name, line in (("1", "done 1"), *[("2", "take")] * 3)]
+    for node in nodes.values():
+        node.close()
+    return [] if answers == ["sent 1 3", "took 1 view 1.0 0,1,2", "took 2 view 2.1 1,2", "took 3 data 1 1 61"] else [f"{answers}"]
+
+
 def last_sent(tried: Tried) -> list[str]:
     """Behind the end of its input a member goes on as long as something of that is sent, each time within the limit."""
     other = tried.start("net/udp.py", "1", "--founders", "0,1", "--no-input")
-    shorter = "import sys; sys.path.insert(0, sys.argv.pop(1)); import udp; udp.LAST_SECONDS = 0.3; sys.exit(udp.run())"
-    words = tried.command("net/udp.py", "0", "--founders", "0,1", "--delay", "15")[2:]
+    shorter = "import sys; sys.path.insert(0, sys.argv.pop(1)); import udp; udp.LAST_SECONDS = 1; sys.exit(udp.run())"
+    words = tried.command("net/udp.py", "0", "--founders", "0,1", "--delay", "40")[2:]
     given = "".join(f"{number}\n" for number in range(60))
     ran = subprocess.run([sys.executable, "-c", shorter, str(TOP / "net"), *words], input=given, capture_output=True, text=True, timeout=30)
     other.kill()
@@ -619,5 +635,5 @@ def try_parts(page: str | None, kind: type[Tried], parts: Iterable[Callable]) ->
 
 if __name__ == "__main__":
     members = (cluster, dropped, unknown, begun_anew, second_process, wrong_keys, loop, lines_of_a_node, inputs, refused, full_journal)
-    groups = (dictionary, chat, left_out, too_few, fetching, window_full, beyond, last_sent, once, merging)
+    groups = (dictionary, chat, left_out, too_few, fetching, over_a_reset, window_full, beyond, last_sent, once, merging)
     sys.exit(try_parts(__doc__, Tried, members + groups))
