@@ -95,7 +95,7 @@ class Tried:
     def command(self, script: str, name: str, *more: str) -> list[str]:
         """The command of a member."""
         words = [sys.executable, str(TOP / script), "--name", name, "--founders", "0,1,2", "--peers", str(self.folder / "peers")]
-        return [*words, "--resilience", "1", "--seconds", "60", "--program", self.program, *more]
+        return [*words, "--resilience", "1", "--seconds", "300", "--program", self.program, *more]
 
     def start(self, script: str, name: str, *more: str) -> Process:
         """Starts a member."""
