@@ -142,7 +142,7 @@ def bounds(_: Tried) -> list[str]:
     return wrong + ([] if len(parts) < 12 else [f"{len(parts)} parts"])
 
 
-def gets(member: Process, line: str, wanted: str, seconds: float = 5) -> bool:
+def gets(member: Process, line: str, wanted: str, seconds: float = 30) -> bool:
     """Whether a member answers a line as wanted, at once or later."""
     ends = time.monotonic() + seconds
     while time.monotonic() < ends:
@@ -188,7 +188,7 @@ def dictionary(tried: Tried) -> list[str]:
     members["1"].tell("put now 2\nput last 1")
     keys = " ".join(sorted([*(f"{name}-{number}" for name in "01" for number in range(40)), "now", "last"]))
     for name, member in members.items():
-        if not gets(member, "keys", keys, 15) or not gets(member, "get now", "2") or not gets(member, "get 1-7", "v" * 900):
+        if not gets(member, "keys", keys, 60) or not gets(member, "get now", "2") or not gets(member, "get 1-7", "v" * 900):
             wrong.append(f"{name} hasn't the contents")
     statuses += [member.end() for member in members.values()]
     return wrong + ([] if set(statuses) == {0} else [f"they ended with {statuses}"])
