@@ -123,6 +123,15 @@ class Tried:
         said = [child.communicate(timeout=30) for child in children]
         return [(child.returncode, out.decode(), err.decode()) for child, (out, err) in zip(children, said)]
 
+    def lacks(self, name: str, wanted: str) -> list[str]:
+        """Waits until a member's journal has a text; what is wrong, where it hasn't."""
+        ends = time.monotonic() + 20
+        while wanted not in self.journal(name).read_text():
+            if time.monotonic() > ends:
+                return [f"the journal of {name} hasn't {wanted!r}"]
+            time.sleep(0.02)
+        return []
+
     def counts(self, name: str) -> list[str]:
         """What a member counted at its end: of unknown senders, unsigned, of another group."""
         lines = [line for line in self.journal(name).read_text().splitlines() if line.startswith("counts")]
@@ -274,6 +283,31 @@ def beyond(tried: Tried) -> list[str]:
         if members["2"].end():
             wrong.append("an end")
     return wrong
+
+
+def joiner_not_welcomed(tried: Tried) -> list[str]:
+    """A group that waits for a joiner that it can't welcome goes on once that has ended (docs/NETWORK.md), and the run is lawful."""
+    both = "--founders", "0,1"
+    members = {name: tried.start("net/udp.py", name, *both) for name in ("0", "1")}
+    wrong = [f"{name} has no view" for name in members if not members[name].wants("1 view 1.0 0,1")]
+    members["1"].kill()
+    members["2"] = tried.start("net/udp.py", "2", *both)
+    wrong += tried.lacks("0", "\tnumbered 2")
+    members["0"].tell("stopped 1")
+    wrong += tried.lacks("0", "\tdecided 3 0,2")
+    lines = members["0"].until("2 join 2", 0.5)
+    members["2"].kill()
+    members["0"].tell("stopped 2")
+    members["2/2"] = tried.start("net/udp.py", "2/2", *both)
+    wanted = ["2 join 2", "3 view 2.0 0,2", "4 view 3.0 0", "5 join 2/2"]
+    if lines or (lines := members["0"].until(wanted[-1])) != wanted or not members["2/2"].wants(wanted[-1]):
+        wrong.append(f"0 took {lines}")
+    statuses = [members[name].end() for name in ("0", "2/2")]
+    journals = [tried.journal(name) for name in ("0", "1", "2", "2/2")]
+    merged = subprocess.run([sys.executable, TOP / "net" / "merge.py", *journals], capture_output=True, check=False)
+    played = subprocess.run([*shlex.split(tried.program), "play"], input=merged.stdout, capture_output=True, check=False)
+    is_lawful = played.stdout.endswith(b"\nlawful\n")
+    return wrong + ([] if is_lawful and statuses == [0, 0] else [f"{statuses}, {merged.stderr} {played.stdout[-99:]} {played.stderr}"])
 
 
 def begun_anew(tried: Tried) -> list[str]:
@@ -634,6 +668,7 @@ def try_parts(page: str | None, kind: type[Tried], parts: Iterable[Callable]) ->
 
 
 if __name__ == "__main__":
-    members = (cluster, dropped, unknown, begun_anew, second_process, wrong_keys, loop, lines_of_a_node, inputs, refused, full_journal)
+    members = (cluster, dropped, unknown, begun_anew, second_process, wrong_keys, joiner_not_welcomed)
+    alone = (loop, lines_of_a_node, inputs, refused, full_journal)
     groups = (dictionary, chat, left_out, too_few, fetching, over_a_reset, window_full, beyond, last_sent, once, merging)
-    sys.exit(try_parts(__doc__, Tried, members + groups))
+    sys.exit(try_parts(__doc__, Tried, members + alone + groups))
