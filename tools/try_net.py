@@ -1,6 +1,6 @@
 """Tries net/ and examples/ on two addresses of this machine, 127.0.0.1 and 127.0.0.2: a small cluster with a crash,
-members that drop what isn't theirs, what members tell of others and of resets, a dictionary and a chat, the loop of docs/NETWORK.md,
-inputs and journals of all sorts, and journals that can't be merged.
+members that drop what isn't theirs, a dictionary and a chat, the loop of docs/NETWORK.md, inputs and journals of all sorts, and
+journals that can't be merged.
 
     python3 tools/try_net.py PROGRAM
 
@@ -193,121 +193,6 @@ def unknown(tried: Tried) -> list[str]:
     if (status, tried.counts("0")) != (0, wanted) or "hear 0 4141" not in tried.journal("0").read_text():
         wrong.append(f"status {status}, counts {tried.counts('0')}, wanted {wanted}")
     return wrong
-
-
-def second_process(tried: Tried) -> list[str]:
-    """A name that runs again in a second process is dropped and told, once, by who heard the first one; its place's next life isn't."""
-    members = {name: tried.start("net/udp.py", name) for name in ("0", "1", "2")}
-    members["0"].tell("hello")
-    wrong = [f"{name} wasn't given it" for name in ("1", "2") if not members[name].wants("2 0: hello")]
-    members["0"].kill()
-    os.unlink(tried.journal("0"))
-    again = tried.start("net/udp.py", "0")
-    told = "udp.py: what comes of place 0 is dropped: it is of a second process with the name 0; end it, and let its place come back as its"
-    wrong += [f"{name} doesn't tell of it" for name in ("1", "2") if not members[name].wants(f"{told} next life", 10)]
-    again.kill()
-    for name in ("1", "2"):
-        members[name].tell("stopped 0")
-    lines = members["2"].until("3 view 2.1 1,2")
-    members["0/2"] = tried.start("net/udp.py", "0/2")
-    lines += members["2"].until("4 join 0/2")
-    members["1"].tell("on")
-    lines += members["2"].until("5 1: on")
-    if lines[-1:] != ["5 1: on"] or any("dropped" in line for line in lines) or not members["0/2"].wants("5 1: on"):
-        wrong.append(f"its next life: {lines}")
-    statuses = [members[name].end() for name in ("1", "2", "0/2")]
-    return wrong + ([] if statuses == [0, 0, 0] else [f"they ended with {statuses}"])
-
-
-def wrong_keys(tried: Tried) -> list[str]:
-    """Of a key that isn't the same, of one that isn't there, and of another run both sides tell, also who is sent nothing else."""
-    (tried.folder / "key").write_bytes(b"a key of these three")
-    (tried.folder / "other").write_bytes(b"another key")
-    keyed, wrong = tried.start("net/udp.py", "0", "--founders", "0", "--key", str(tried.folder / "key")), []
-    unsigned = "isn't signed with this key"
-    other = "is of another group: --run, --founders, --resilience, --window or --pb-up-to differs, or --key"
-    cases = (
-        ("1", ["--key", str(tried.folder / "other")], unsigned, unsigned),
-        ("2", [], unsigned, other),
-        ("1/2", ["--key", str(tried.folder / "key"), "--run", "two"], other, other),
-    )
-    for name, more, told, tells in cases:
-        member = tried.start("net/udp.py", name, "--founders", "0", *more)
-        if not keyed.wants(f"udp.py: what comes of place {name[0]} is dropped: it {told}", 5):
-            wrong.append(f"0 doesn't tell of {name}")
-        if not member.wants(f"udp.py: what comes of place 0 is dropped: it {tells}", 5):
-            wrong.append(f"{name} doesn't tell of 0")
-        member.kill()
-    return wrong + ([] if keyed.end() == 0 else ["an end"])
-
-
-def window_full(tried: Tried) -> list[str]:
-    """Where a frozen member keeps the window full the sequencer tells who isn't heard, and the others who tells it; then all goes on."""
-    members = {name: tried.start("net/udp.py", name, "--window", "4") for name in ("0", "1", "2")}
-    members["1"].tell("hello")
-    wrong = [f"{name} wasn't given it" for name in members if not members[name].wants("2 1: hello")]
-    members["2"].child.send_signal(signal.SIGSTOP)
-    for number in range(9):
-        members["1"].tell(f"more {number}")
-    told = "udp.py: nothing is numbered: the window is full; "
-    if not members["0"].wants(told + "not heard for 5 seconds: 2"):
-        wrong.append("0 doesn't tell who isn't heard")
-    if not members["1"].wants(told + "0, which numbers, tells who isn't heard"):
-        wrong.append("1 doesn't tell that the window is full")
-    members["2"].child.send_signal(signal.SIGCONT)
-    wrong += [f"{name} wasn't given the last one" for name in members if not members[name].wants("11 1: more 8")]
-    statuses = [member.end() for member in members.values()]
-    return wrong + ([] if statuses == [0, 0, 0] else [f"they ended with {statuses}"])
-
-
-def beyond(tried: Tried) -> list[str]:
-    """A member tells where more have stopped than the resilience between two resets, and not where a reset stands between them."""
-    told, wrong = "udp.py: stopped: 0,1, more than the resilience of view 1.0, 1: nothing is claimed from here on", []
-    for is_apart, views in ((True, ["3 view 2.1 1,2", "4 view 3.2 2"]), (False, ["3 view 2.2 2"])):
-        (folder := tried.folder / str(is_apart)).mkdir()
-        group = Tried(folder, tried.program)
-        members = {name: group.start("net/udp.py", name) for name in ("0", "1", "2")}
-        members["2"].tell("hello")
-        wrong += [f"{name} wasn't given it" for name, member in members.items() if not member.wants("2 2: hello")]
-        members.pop("0").kill()
-        lines = []
-        if is_apart:
-            for member in members.values():
-                member.tell("stopped 0")
-            lines = members["2"].until(views[0])
-        members.pop("1").kill()
-        members["2"].tell("stopped 1" if is_apart else "stopped 0\nstopped 1")
-        lines += members["2"].until(views[-1])
-        if lines.count(told) != (not is_apart) or [line for line in lines if " view " in line and line != told] != views:
-            wrong.append(f"{is_apart}: {lines}")
-        if members["2"].end():
-            wrong.append("an end")
-    return wrong
-
-
-def joiner_not_welcomed(tried: Tried) -> list[str]:
-    """A group that waits for a joiner that it can't welcome goes on once that has ended (docs/NETWORK.md), and the run is lawful."""
-    both = "--founders", "0,1"
-    members = {name: tried.start("net/udp.py", name, *both) for name in ("0", "1")}
-    wrong = [f"{name} has no view" for name in members if not members[name].wants("1 view 1.0 0,1")]
-    members["1"].kill()
-    members["2"] = tried.start("net/udp.py", "2", *both)
-    wrong += tried.lacks("0", "\tnumbered 2")
-    members["0"].tell("stopped 1")
-    wrong += tried.lacks("0", "\tdecided 3 0,2")
-    lines = members["0"].until("2 join 2", 0.5)
-    members["2"].kill()
-    members["0"].tell("stopped 2")
-    members["2/2"] = tried.start("net/udp.py", "2/2", *both)
-    wanted = ["2 join 2", "3 view 2.0 0,2", "4 view 3.0 0", "5 join 2/2"]
-    if lines or (lines := members["0"].until(wanted[-1])) != wanted or not members["2/2"].wants(wanted[-1]):
-        wrong.append(f"0 took {lines}")
-    statuses = [members[name].end() for name in ("0", "2/2")]
-    journals = [tried.journal(name) for name in ("0", "1", "2", "2/2")]
-    merged = subprocess.run([sys.executable, TOP / "net" / "merge.py", *journals], capture_output=True, check=False)
-    played = subprocess.run([*shlex.split(tried.program), "play"], input=merged.stdout, capture_output=True, check=False)
-    is_lawful = played.stdout.endswith(b"\nlawful\n")
-    return wrong + ([] if is_lawful and statuses == [0, 0] else [f"{statuses}, {merged.stderr} {played.stdout[-99:]} {played.stderr}"])
 
 
 def begun_anew(tried: Tried) -> list[str]:
@@ -557,44 +442,6 @@ def too_few(tried: Tried) -> list[str]:
     return [] if told.getvalue().count("no reset: fewer than --least 2") == 1 and tries == 3 else [f"{tries} tries: {told.getvalue()!r}"]
 
 
-def fetching(tried: Tried) -> list[str]:
-    """A ballot that fetches from a member that then stops gives it up and goes on."""
-    nodes = {name: Node(name, "0,1,2", program=shlex.split(tried.program)) for name in "012"}
-    member = Member(nodes["1"], Journal(str(tried.journal("1")), ["1"]), Quiet(), argparse.Namespace(name="1", least=1))
-    (bcast,) = nodes["0"].do("send 61")[1]
-    nodes["2"].do(bcast.heard())
-    with contextlib.redirect_stderr(io.StringIO()), contextlib.redirect_stdout(io.StringIO()):
-        member.told("stopped 0")
-        member.ticks += 100
-        member.look(member.info())
-        (invite,) = re.findall(r"\treset 1\t\t.* \| (.*)\n", tried.journal("1").read_text())
-        (vote,) = nodes["2"].do(f"hear {invite}")[1]
-        member.act(vote.heard(), "2 1")
-        member.told("stopped 2")
-        for _ in range(3):
-            member.look(member.info())
-    for node in nodes.values():
-        node.close()
-    answers = re.findall(r"\t((?:fetching|decided) [^|]*?)(?: \||\n)", tried.journal("1").read_text())
-    return [] if answers == ["fetching 2 2", "decided 2 1"] else [f"{answers}: {tried.journal('1').read_text()}"]
-
-
-def over_a_reset(tried: Tried) -> list[str]:
-    """A send whose request was lost is numbered in the view that a reset brings."""
-    nodes = {name: Node(name, "0,1,2", "--resilience", "1", program=shlex.split(tried.program)) for name in "012"}
-    nodes["1"].do("send 61")
-    for line in ("reset 2", "giveup 0", "tick", "tick"):
-        letters = nodes["1"].do(line)[1]
-        while letters:
-            letter = letters.pop(0)
-            for name in {"1", "2"}.intersection(letter.names()):
-                letters += nodes[name].do(letter.heard())[1]
-    answers = [nodes[name].do(line)[0] for name, line in (("1", "done 1"), *[("2", "take")] * 3)]
-    for node in nodes.values():
-        node.close()
-    return [] if answers == ["sent 1 3", "took 1 view 1.0 0,1,2", "took 2 view 2.1 1,2", "took 3 data 1 1 61"] else [f"{answers}"]
-
-
 def last_sent(tried: Tried) -> list[str]:
     """Behind the end of its input a member goes on as long as something of that is sent, each time within the limit."""
     other = tried.start("net/udp.py", "1", "--founders", "0,1", "--no-input")
@@ -668,7 +515,6 @@ def try_parts(page: str | None, kind: type[Tried], parts: Iterable[Callable]) ->
 
 
 if __name__ == "__main__":
-    members = (cluster, dropped, unknown, begun_anew, second_process, wrong_keys, joiner_not_welcomed)
-    alone = (loop, lines_of_a_node, inputs, refused, full_journal)
-    groups = (dictionary, chat, left_out, too_few, fetching, over_a_reset, window_full, beyond, last_sent, once, merging)
-    sys.exit(try_parts(__doc__, Tried, members + alone + groups))
+    members = (cluster, dropped, unknown, begun_anew, loop, lines_of_a_node, inputs, refused, full_journal)
+    groups = (dictionary, chat, left_out, too_few, last_sent, once, merging)
+    sys.exit(try_parts(__doc__, Tried, members + groups))
