@@ -260,7 +260,7 @@ def loop(tried: Tried) -> list[str]:
         member.all = members
     for thread in threads:
         thread.start()
-    ends = time.monotonic() + 20
+    ends = time.monotonic() + 60
     while min(len(member.took_bodies) for member in members.values()) < 30 and time.monotonic() < ends:
         for member in members.values():
             member.lines.put("tick")
