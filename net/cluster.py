@@ -5,9 +5,9 @@
 
 Members are processes of their own (net/udp.py) over datagrams on 127.0.0.1. They send `--rate` messages a second in all; of a hundred
 datagrams so many are lost and repeated, and each is delayed by up to so many milliseconds. `--kill` times one of them is killed by
-SIGKILL; the others are told once it has ended, and its place comes back as its next life. Behind that the journals are merged to one
-script, `play` runs it, and each answer of each process is compared with its line. It ends with 1 where one differs, or where a member
-ended by itself.
+SIGKILL; the others are told once it has ended, and its place comes back as its next life. In the end their inputs end; whom that doesn't
+end within `--patience` seconds, as it has still much to send, is killed. Behind that the journals are merged to one script, `play` runs it,
+and each answer of each process is compared with its line. It ends with 1 where one differs, or where a member ended by itself.
 """
 
 import argparse
@@ -29,6 +29,8 @@ from udp import complain, number_of
 
 HERE = pathlib.Path(__file__).resolve().parent
 MOST_EVENTS = 100_000
+# how long a member may take to begin its journal
+START_SECONDS = 20
 
 
 class Failed(Exception):
@@ -54,6 +56,7 @@ class Cluster:
         self.lives = [1] * wanted.nodes
         self.running: dict[int, subprocess.Popen] = {}
         self.sent = 0
+        self.late: list[str] = []
         self.run = secrets.token_hex(8)
         peers = "".join(f"{place} 127.0.0.1:{port}\n" for place, port in enumerate(free_ports(wanted.nodes)))
         (folder / "peers").write_text(peers)
@@ -72,22 +75,23 @@ class Cluster:
         wanted, name = self.wanted, self.name(place)
         words = [sys.executable, str(HERE / "udp.py"), "--name", name, "--founders", ",".join(map(str, range(wanted.nodes)))]
         words += ["--peers", str(self.folder / "peers"), "--key", str(self.folder / "key"), "--run", self.run]
-        words += ["--journal", str(self.file(self.journals, "journal", place)), "--seconds", str(wanted.seconds + 30)]
+        words += ["--journal", str(self.file(self.journals, "journal", place)), "--seconds", str(wanted.seconds + wanted.patience + 10)]
         words += ["--program", wanted.program] if wanted.program else []
         for option in ("resilience", "tick", "loss", "repeat", "delay", "seed"):
             words += [f"--{option}", str(getattr(wanted, option))]
         with open(self.file(self.folder, "errors", place), "wb") as errors:
             self.running[place] = subprocess.Popen(words, bufsize=0, stdin=subprocess.PIPE, stdout=subprocess.DEVNULL, stderr=errors)
 
-    def wait(self, place: int) -> None:
-        """Waits until a place's process has begun its journal."""
-        ends = time.monotonic() + 20
+    def has_begun(self, place: int) -> bool:
+        """Waits until a place's process has begun its journal; False where it takes too long."""
+        ends = time.monotonic() + START_SECONDS
         journal = self.file(self.journals, "journal", place)
         while not (journal.exists() and journal.stat().st_size):
             self.look()
             if time.monotonic() > ends:
-                raise Failed(f"member {self.name(place)} hasn't begun its journal within 20 seconds")
+                return False
             time.sleep(0.01)
+        return True
 
     def look(self) -> None:
         """Looks whether each member still runs."""
@@ -104,15 +108,16 @@ class Cluster:
         try:
             child.stdin.write(line.encode() + b"\n")
         except OSError:
-            self.wait_for_end(place)  # it reads no more
+            self.has_ended(place, time.monotonic() + self.wanted.patience)  # it reads no more
             self.look()
 
     def kill(self, place: int) -> None:
-        """Kills a member, and tells the others once it has ended: it can't act any more."""
-        self.wait(place)
+        """Kills a member, and tells the others once it has ended: it can't act any more. Where it has no journal, an empty one says so."""
+        self.has_begun(place)
         child = self.running.pop(place)
         child.send_signal(signal.SIGKILL)
         child.wait()
+        self.file(self.journals, "journal", place).touch()
         for other in self.running:
             self.tell(other, f"stopped {self.name(place)}")
 
@@ -130,22 +135,28 @@ class Cluster:
             self.sent += 1
             self.tell(places[self.sent % len(places)], f"message {self.sent}")
 
-    def wait_for_end(self, place: int) -> None:
-        """Waits until a member has ended."""
+    def has_ended(self, place: int, ends: float) -> bool:
+        """Waits until a member has ended; where it hasn't by then, it is killed."""
+        child = self.running[place]
         try:
-            self.running[place].wait(timeout=20)
-        except subprocess.TimeoutExpired as error:
-            raise Failed(f"member {self.name(place)} hasn't ended within 20 seconds of its input's end") from error
+            child.wait(timeout=max(0, ends - time.monotonic()))
+        except subprocess.TimeoutExpired:
+            child.kill()
+            child.wait()
+            return False
+        return True
 
     def end(self) -> None:
-        """Ends the members' inputs, and waits for them. A member that could send no more ends with 1."""
+        """Ends the members' inputs, and waits for them. A member that could send no more ends with 1; who isn't done in time is killed."""
         self.look()
         for child in self.running.values():
             assert child.stdin
             child.stdin.close()
+        ends = time.monotonic() + self.wanted.patience
         for place, child in self.running.items():
-            self.wait_for_end(place)
-            if child.returncode not in (0, 1) or b"Traceback" in self.file(self.folder, "errors", place).read_bytes():
+            if not self.has_ended(place, ends):
+                self.late.append(self.name(place))
+            elif child.returncode not in (0, 1) or b"Traceback" in self.file(self.folder, "errors", place).read_bytes():
                 self.look()
 
     def stop(self) -> None:
@@ -178,7 +189,8 @@ def act(cluster: Cluster) -> None:
     for place in range(wanted.nodes):
         cluster.start(place)
     for place in range(wanted.nodes):
-        cluster.wait(place)
+        if not cluster.has_begun(place):
+            raise Failed(f"member {cluster.name(place)} hasn't begun its journal within {START_SECONDS} seconds")
     began, plan = time.monotonic(), moments(wanted)
     sending_ends = began + wanted.seconds * 0.85
     while (now := time.monotonic()) < began + wanted.seconds:
@@ -242,6 +254,7 @@ def judged(merged: Merged, wanted: argparse.Namespace, text: str) -> tuple[list[
     """Compares the lines of the script's text with what the processes answered: what to say of it, and 1 where one differs, or where the
     run isn't lawful from another event on than a stop, or with no more stops than the resilience."""
     lines = text.splitlines()
+    play = "the proved play" if wanted.program is None and wanted.judge is None else "play"
     events = merged.events[:MOST_EVENTS]
     stops = [number for number, event in enumerate(events, 1) if event["do"] == "stop"]
     void = int(lines[-1].split(" ")[-1]) if lines[-1].startswith("void") else 0
@@ -252,8 +265,8 @@ def judged(merged: Merged, wanted: argparse.Namespace, text: str) -> tuple[list[
         return [*said, f"{len(stops)} stopped, with a resilience of {wanted.resilience}"], 1
     for mine, proved in zip(merged.lines[:MOST_EVENTS], lines):
         if mine != proved:
-            return [*said, f"a process answered: {mine}", f"the proved play:    {proved}"], 1
-    return [*said, f"the proved play gives all {len(events)} answers again"], 0
+            return [*said, f"a process answered: {mine}", f"{f'{play}:':<20}{proved}"], 1
+    return [*said, f"{play} gives all {len(events)} answers again"], 0
 
 
 def options() -> argparse.Namespace:
@@ -269,6 +282,7 @@ def options() -> argparse.Namespace:
     parser.add_argument("--at-once", action="store_true", help="all kills at one moment, of different members")
     parser.add_argument("--resilience", type=number_of(int, 0, 15), default=1, help="how many stops between two resets keep it lawful (1)")
     parser.add_argument("--tick", type=number_of(float, 1, 10_000), default=20, help="milliseconds (20)")
+    parser.add_argument("--patience", type=number_of(float, 0, 86_400), default=20, help="seconds until who hasn't ended is killed (20)")
     parser.add_argument("--seed", type=int, default=1, help="whom is killed when, and what is lost (1)")
     parser.add_argument("--keep", help="a new or empty folder, in which journals, script.json and its text script.txt stay")
     parser.add_argument("--program", help="the command whose word node is run; else the one that is built here")
@@ -302,6 +316,8 @@ def ran(wanted: argparse.Namespace, made: pathlib.Path) -> int:
     if wanted.keep:
         (journals / "script.json").write_text(script)
     write_out("".join(f"{line}\n" for line in told(merged, wanted)))
+    if cluster.late:
+        write_out(f"killed, as they weren't done {wanted.patience:g} seconds after their inputs' end: {', '.join(cluster.late)}\n")
     done = subprocess.run([*judge, "play"], input=script.encode(), capture_output=True, check=False)
     text = done.stdout.decode(errors="replace")
     if done.returncode != 0 or not text:

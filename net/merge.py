@@ -7,7 +7,8 @@
 Each member's lines stay in their order; a letter is heard behind the line that sent it, a name is given up behind its stop, a place
 returns behind the stop of its life before. Else the times in the journals decide. A life whose journal has no end stopped behind its
 last line, and so did one that its place went on from, or that was given up. A line whose answer never came isn't there, nor is a last
-line that is cut. Where no such order exists, it is said what is missing, or in the way: a letter, a stop or an end.
+line that is cut. A life that was killed before its journal had a line did nothing: its empty journal, or /dev/null, stands for it. Where
+no such order exists, it is said what is missing, or in the way: a journal, a letter, a stop or an end.
 """
 
 import heapq
@@ -39,6 +40,11 @@ def parts_of(name: str) -> tuple[int, int]:
     return int(place), int(life or 1)
 
 
+def name_of(place: int, life: int) -> str:
+    """The name of a place's life."""
+    return f"{place}/{life}" if life > 1 else str(place)
+
+
 @dataclass
 class Step:
     """What a life was given, or its stop or return, with its answer and its letters: to whom, and the kind."""
@@ -61,6 +67,7 @@ class Life:
     counts: list[int]
     at: int = 0
     sent: int = 0
+    time: int = 0  # where it has no steps, when it stopped
 
 
 def letter_of(text: str) -> tuple[str, str]:
@@ -83,12 +90,12 @@ def step_of(place: int, fields: list[str]) -> Step:
     return Step(int(time), line, letter, answer, [letter_of(text) for text in letters])
 
 
-def read(path: str) -> Life:
-    """A journal; a last line without its end isn't there."""
+def read(path: str) -> Life | None:
+    """A journal; a last line without its end isn't there. None where there is no line."""
     with open(path, encoding="utf-8", errors="replace") as file:
         lines = [line.split("\t") for line in file.read().split("\n")[:-1]]
     if not lines:
-        raise Unmerged(f"{path} has no whole line: its process ended before it did anything, so leave it out")
+        return None
     if not HEAD.fullmatch("\t".join(lines[0])):
         raise Unmerged(f"{path} is no journal")
     _, name, *founding = lines[0]
@@ -107,20 +114,45 @@ def read(path: str) -> Life:
     return life
 
 
+def given_up(life: Life) -> dict[str, int]:
+    """Whom a life gave up, each with the last time when it did."""
+    return {step.line.removeprefix("giveup "): step.time for step in life.steps if step.line.startswith("giveup ")}
+
+
+def with_idle(lives: list[Life], count: int) -> list[Life]:
+    """The lives, and those that did nothing and stopped: whose place came back, or who were given up, without a journal. There are as many
+    as empty journals at most."""
+    known = {parts_of(life.name) for life in lives}
+    stopped: dict[tuple[int, int], int] = {}
+    for life in lives:
+        place, number = parts_of(life.name)
+        begun = life.steps[0].time if life.steps else life.time
+        for (there, last), time in [((place, number - 1), begun), *((parts_of(name), time) for name, time in given_up(life).items())]:
+            for name in ((there, each) for each in range(1, last + 1)):
+                stopped[name] = min(time, stopped.get(name, time))
+    idle = sorted(stopped.keys() - known)
+    if len(idle) > count:
+        wanted = f"{name_of(*idle[count])} stopped, and its journal isn't there"
+        raise Unmerged(f"{wanted}; where it was killed before that had a line, name an empty file in its place")
+    lives += [Life(name_of(*each), lives[0].founding, [], False, [0] * COUNTS) for each in idle]
+    ends = max((life.steps[-1].time for life in lives if life.steps), default=0)
+    for life in lives:
+        life.time = stopped.get(parts_of(life.name), ends)
+    return lives
+
+
 def with_ends(lives: list[Life]) -> list[Life]:
     """The lives, with a return before each but a place's first, and a stop behind each that stopped."""
     names = {parts_of(life.name) for life in lives}
-    given_up = {step.line.removeprefix("giveup ") for life in lives for step in life.steps if step.line.startswith("giveup ")}
+    gone = {name for life in lives for name in given_up(life)}
     if len(names) != len(lives):
         raise Unmerged("a name has two journals")
     for life in lives:
         place, number = parts_of(life.name)
-        if number > 1 and (place, number - 1) not in names:
-            raise Unmerged(f"{life.name} came back, and the journal of its place's life before isn't there")
         if life.founding != lives[0].founding:
             raise Unmerged(f"{life.name} has another founding than {lives[0].name}")
-        first, last = (life.steps[0].time, life.steps[-1].time) if life.steps else (0, 0)
-        if not life.has_ended or (place, number + 1) in names or life.name in given_up:
+        first, last = (life.steps[0].time, life.steps[-1].time) if life.steps else (life.time, life.time)
+        if not life.has_ended or (place, number + 1) in names or life.name in gone:
             life.steps.append(Step(last, "stop", answer="stopped"))
         if number > 1:
             life.steps.insert(0, Step(first, "return", answer=f"returned {number}"))
@@ -230,7 +262,11 @@ class Merged:
     """The events of the journals, and of each the line that `play` must print."""
 
     def __init__(self, paths: list[str]):
-        self.lives = with_ends([read(path) for path in paths])
+        read_all = [read(path) for path in paths]
+        lives = [life for life in read_all if life]
+        if not lives:
+            raise Unmerged("no journal has a whole line: no process did anything")
+        self.lives = with_ends(with_idle(lives, len(read_all) - len(lives)))
         look_for_letters(self.lives)
         founders, resilience, window, pb_up_to = self.lives[0].founding
         self.founding = {

@@ -10,6 +10,7 @@ or once nothing of that was sent for 2 seconds.
 """
 
 import argparse
+import collections
 import contextlib
 import hashlib
 import hmac
@@ -35,11 +36,13 @@ MOST_HEAD = 256
 LEAST_PACKET, MOST_PACKET = 12, 1152
 MOST_BODY = 1024
 TAG_SIZE = 8
+# so many random bytes tell a process from every other one
+PROCESS_SIZE = 8
 # behind the end of the input, how long it may take until the next of what was read is sent
 LAST_SECONDS = 2
 # so much of the input may wait to be sent before more of it is read
 MOST_WAITING = 100_000
-# behind how much silence of the group a member tells of it
+# after how much silence of the group, and after how long with a full window, a member tells of it
 SILENT_SECONDS = 5
 INPUT = 0
 # a node emits a send at once only where none of its own is under way before it, and else at its next tick
@@ -121,6 +124,7 @@ class Info(NamedTuple):
     number: int
     members: list[str]
     waiting: list[str]
+    resilience: int = 0
 
 
 def info_of(answer: str) -> Info:
@@ -129,7 +133,7 @@ def info_of(answer: str) -> Info:
     if len(words) != 10:
         raise Ended(f"{answer[:80]!r} is no answer of a node to `info`")
     names = lambda text: [] if text == "-" else text.split(",")
-    return Info(words[0], words[1], int(words[2]), names(words[3]), names(words[9]))
+    return Info(words[0], words[1], int(words[2]), names(words[3]), names(words[9]), int(words[4]))
 
 
 class Journal:
@@ -167,8 +171,9 @@ class Journal:
 
 
 class Network:
-    """Datagrams: a digest where there is a key, the tag of the group, then a line with the sender, its number for the letter and for whom
-    it is, then the packet's bytes. What comes of somebody else, isn't signed, or is of another group is dropped and counted."""
+    """Datagrams: a digest where there is a key, the tag of the group, random bytes of the sender's process, then a line with the sender,
+    its number for the letter and for whom it is, then the packet's bytes. What comes of somebody else, isn't signed, is of another group,
+    or of another process than the one that a name was first heard of, is dropped and counted."""
 
     def __init__(self, me: str, peers: dict[int, tuple[str, int]], key: bytes | None, tag: bytes, faults: Faults):
         self.me, self.peers, self.key, self.tag, self.faults = me, peers, key, tag, faults
@@ -182,17 +187,23 @@ class Network:
             raise Refused(f"{host}:{port}: {error.strerror}") from error
         self.socket.setblocking(False)
         self.sent = self.unknown = self.unsigned = self.of_others = 0
+        self.process = os.urandom(PROCESS_SIZE)
+        self.processes: dict[str, bytes] = {}
         self.told: set[tuple[int, str]] = set()
+        self.refused: collections.Counter[int] = collections.Counter()
 
     def send(self, letter: Letter, number: int) -> None:
         """Sends a letter to whom it is for."""
-        data = self.tag + f"{self.me} {number} {letter.to}\n".encode() + bytes.fromhex(letter.data)
-        if self.key is not None:
-            data = hmac.digest(self.key, data, "sha256") + data
+        data = self.signed(f"{self.me} {number} {letter.to}\n".encode() + bytes.fromhex(letter.data))
         for name in letter.names():
             if address := self.peers.get(place_of(name)):
                 self.sent += 1
                 self.faults.send(self.socket, data, address)
+
+    def signed(self, said: bytes) -> bytes:
+        """A datagram that says this."""
+        data = self.tag + self.process + said
+        return data if self.key is None else hmac.digest(self.key, data, "sha256") + data
 
     def receive(self) -> tuple[str, str] | None:
         """The line by which a letter is heard, and whose it is with that one's number; None where nothing is there."""
@@ -212,21 +223,35 @@ class Network:
             digest, data = data[:DIGEST], data[DIGEST:]
             if not hmac.compare_digest(digest, hmac.digest(self.key, data, "sha256")):
                 self.unsigned += 1
-                self.tell(place, "isn't signed with this key")
+                self.refuse(place, "isn't signed with this key")
                 return None
         if place is None:
             self.unknown += 1
             return None
         if data[:TAG_SIZE] != self.tag:
             self.of_others += 1
-            self.tell(place, "is of another group: --run, --founders, --resilience, --window or --pb-up-to differs, or --key")
+            self.refuse(place, "is of another group: --run, --founders, --resilience, --window or --pb-up-to differs, or --key")
             return None
-        line, newline, packet = data[TAG_SIZE:].partition(b"\n")
+        process, said = data[TAG_SIZE:][:PROCESS_SIZE], data[TAG_SIZE:][PROCESS_SIZE:]
+        line, newline, packet = said.partition(b"\n")
         head = HEAD.fullmatch(line.decode(errors="replace")) if newline and len(line) <= MOST_HEAD else None
         if not head or place_of(head[1]) != place or not LEAST_PACKET <= len(packet) <= MOST_PACKET:
             self.unknown += 1
             return None
+        if self.processes.setdefault(head[1], process) != process:
+            self.unknown += 1
+            self.tell(place, f"is of a second process with the name {head[1]}; end it, and let its place come back as its next life")
+            return None
         return f"hear {head[3]} {packet.hex()}", f"{head[1]} {head[2]}"
+
+    def refuse(self, place: int | None, what: str) -> None:
+        """Tells why what comes of a place is dropped, and lets that place tell it too: it drops what it is sent here, after its first
+        datagram that is refused, the second, the fourth and so on."""
+        self.tell(place, what)
+        if place is not None:
+            self.refused[place] += 1
+            if self.refused[place].bit_count() == 1:
+                self.faults.send(self.socket, self.signed(b"\n"), self.peers[place])
 
     def tell(self, place: int | None, what: str) -> None:
         """Tells once of a place and a cause why what comes of it is dropped."""
@@ -245,10 +270,13 @@ class Member:
         self.bodies: list[bytes] = []
         self.under_way = 0
         self.stopped: set[str] = set()
-        self.was_member = self.is_leaving = self.was_too_few = False
+        self.was_member = self.is_leaving = self.was_too_few = self.was_beyond = False
         self.silent_since: float | None = time.monotonic()  # none once it is told
+        self.heard_last: dict[str, float] = {}
+        self.full: list[str] = []
+        self.full_since: float | None = None  # none once it is told
         self.sent_last = time.monotonic()
-        self.leave_answer = ""
+        self.leave_answer = self.fetching = ""
 
     def do(self, line: str, heard: str = "") -> str:
         """Gives the node a line; its letters go out once its answer is in the journal."""
@@ -262,11 +290,16 @@ class Member:
     def act(self, line: str, heard: str = "") -> str:
         """Does a line, and then takes and sends what can be taken and sent behind it."""
         answer = self.do(line, heard)
+        word, *fields = answer.split(" ")
         if heard:
-            self.silent_since = time.monotonic()
-        if answer.startswith("voted"):
+            self.silent_since = self.heard_last[heard.split(" ")[0]] = time.monotonic()
+        if word == "voted":
             self.patience = self.ticks + 20
-        if answer.split(" ")[0] in TAKES_AFTER:
+        if word in ("held", "put-off"):
+            self.tell_full(fields[-2:])
+        if word == "fetching":
+            self.fetching = fields[0]
+        if word in TAKES_AFTER:
             self.take()
             self.send()
         return answer
@@ -329,8 +362,8 @@ class Member:
         return info_of(self.node.do("info")[0])
 
     def look(self, info: Info) -> None:
-        """Gives up stopped names that a ballot of its own waits for; begins one where a stopped name is a member of the last view,
-        the lowest running member first, the others later."""
+        """Gives up stopped names that a ballot of its own waits for, or fetches from; begins one where a stopped name is a member of the
+        last view, the lowest running member first, the others later."""
         if info.status == "departed":
             raise EOFError
         if self.silent_since and self.silent_since + SILENT_SECONDS < time.monotonic() and info.members != [self.wanted.name]:
@@ -340,8 +373,10 @@ class Member:
             self.was_member = True
         elif self.was_member and not self.is_leaving:
             raise Refused(f"the group goes on without this member: view {info.view} is of {','.join(info.members)}")
-        for name in info.waiting:
+        self.tell_beyond(info)
+        for name in [*info.waiting, self.fetching] if info.status == "coordinator" else []:
             if name in self.stopped:
+                self.fetching = ""
                 self.tell_few(self.act(f"giveup {name}"))
         running = [name for name in info.members if name not in self.stopped]
         if info.status == "coordinator" or len(running) == len(info.members) or self.wanted.name not in running:
@@ -350,6 +385,30 @@ class Member:
             self.patience = self.ticks + 20 + 15 * running.index(self.wanted.name)
             self.tell_few(self.act(f"reset {self.wanted.least}"))
             self.look(self.info())
+
+    def tell_full(self, room: list[str]) -> None:
+        """Tells once where the same base and top leave no room for a while. The sequencer hears each member that runs, so it tells who
+        wasn't heard meanwhile; another member hears the sequencer alone."""
+        now = time.monotonic()
+        if room != self.full:
+            self.full, self.full_since = room, now
+        elif self.full_since and self.full_since + SILENT_SECONDS < now:
+            info = self.info()
+            others = [name for name in info.members if name != self.wanted.name]
+            silent = [name for name in others if self.heard_last.get(name, 0) < self.full_since]
+            cause = f"not heard for {SILENT_SECONDS} seconds: {','.join(silent)}" if silent else "all members are heard"
+            if info.status != "sequencer":
+                cause = f"{info.view.partition('.')[2]}, which numbers, tells who isn't heard"
+            self.full_since = None
+            complain(f"nothing is numbered: the window is full; {cause}")
+
+    def tell_beyond(self, info: Info) -> None:
+        """Tells once where more members have stopped between two resets than the resilience allows."""
+        gone = [name for name in info.members if name in self.stopped]
+        if len(gone) > info.resilience and not self.was_beyond:
+            self.was_beyond = True
+            beyond = f"more than the resilience of view {info.view}, {info.resilience}"
+            complain(f"stopped: {','.join(gone)}, {beyond}: nothing is claimed from here on")
 
     def tell_few(self, answer: str) -> None:
         """Tells once where a reset can't have as many members as it wants."""
@@ -391,7 +450,8 @@ class Member:
             complain("stopped NAME wants the name of another member: PLACE, or PLACE/LIFE with a life of 2 to 16")
             return
         self.stopped.add(names[0])
-        members = self.info().members
+        self.tell_beyond(info := self.info())
+        members = info.members
         if members and names[0] not in members:
             complain(f"stopped {names[0]}: no member has this name now")
         running = [name for name in members if name not in self.stopped]

@@ -35,7 +35,8 @@ LEGEND = [
     ("dot", "another event"), ("numbered", "entry numbered"), ("stored", "stored"), ("taken", "given to the application"),
     ("arrow", "letter heard"), ("again", "heard again"), ("lost", "never heard"), ("cut", "cut, and refused"),
     ("far", "heard later, by its number"),
-    ("stop", "stopped"), ("end", "departed"), ("begin", "returned"), ("band", "in a view"), ("leads", "its sequencer"),
+    ("stop", "stopped"), ("end", "departed"), ("begin", "returned"), ("band", "in a view"),
+    ("band1", "in the next view"), ("band2", "in the third"), ("band3", "in the fourth"), ("leads", "its sequencer"),
     ("dotted", "not a member"),
     ("void", "from here on the run isn't lawful"),
 ]
@@ -128,11 +129,15 @@ class Picture:
         height = self.legend(bottom)
         width = self.width()
         ground = tag("rect", width="100%", height="100%", fill="white")
-        parts = [tag("title", f"A play of {self.rows} events"), self.patterns(), ground]
+        parts = [tag("title", escape(self.title())), self.patterns(), ground]
         parts += self.under + self.lines + self.marks + self.words
         size = f"{width:.0f}", f"{height:.0f}"
         return tag("svg", "\n" + "\n".join(parts) + "\n", xmlns="http://www.w3.org/2000/svg",
                    width=size[0], height=size[1], viewBox=f"0 0 {size[0]} {size[1]}") + "\n"
+
+    def title(self):
+        """What the picture is of."""
+        return f"A play of {self.rows} events, {self.mark}"
 
     def width(self):
         longest = max([len(self.entry_text(e)) for e in self.group] + [10])
@@ -172,6 +177,7 @@ class Picture:
             top, bottom = self.y(row), end if after[0] is None else self.y(after[0])
             fill = self.stamps.index(stamp) % 4
             self.under.append(self.band(x - BAND / 2, top, BAND, max(bottom - top, 2), fill))
+            self.used |= {f"band{fill}"} if fill else set()
             if stamp[1] == name:
                 self.used.add("leads")
                 self.under.append(self.leads(x, top, max(bottom - top, 2)))
@@ -404,8 +410,8 @@ class Picture:
             self.arrow(x - 14, y, x + 14, y, mark == "again", "refused" if mark == "cut" else "")
         elif mark == "lost":
             self.lost(x - 14, y - 4, 1)
-        elif mark == "band":
-            self.under.append(self.band(x - 14, y - 8, 28, 16, 0))
+        elif mark.startswith("band"):
+            self.under.append(self.band(x - 14, y - 8, 28, 16, int(mark.removeprefix("band") or 0)))
         elif mark == "leads":
             self.under.append(self.band(x - 14, y - 8, 28, 16, 0))
             self.under.append(tag("rect", x=x - 14, y=y - 8, width=4, height=16, fill="#444"))

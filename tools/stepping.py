@@ -1,16 +1,18 @@
 """A page to step through a run: its picture, and what each node has come to at a moment."""
 
+import html
 import json
 
 PAGE = """<!doctype html>
 <html lang="en">
 <head>
 <meta charset="utf-8">
-<title>A run, event by event</title>
+<title>%(title)s</title>
 <style>
 body { margin: 0; font: 14px 'DejaVu Sans', Verdana, sans-serif; color: #111; }
 header { position: sticky; top: 0; z-index: 1; background: white; border-bottom: 1px solid #999; padding: 8px 16px; }
 input[type=range] { width: 40%%; vertical-align: middle; }
+h1 { font-size: 16px; margin: 0 0 6px; }
 #line { font-family: 'DejaVu Sans Mono', monospace; margin: 6px 0; min-height: 1.3em; white-space: pre-wrap; }
 table { border-collapse: collapse; } td, th { padding: 1px 14px 1px 0; text-align: left; font-weight: normal; }
 th { color: #555; } td { font-family: 'DejaVu Sans Mono', monospace; }
@@ -20,6 +22,7 @@ g.followed rect { stroke: #c00; stroke-width: 3; } g.followed circle { stroke: #
 </head>
 <body>
 <header>
+<h1>%(title)s</h1>
 <button id="back" title="key: arrow up">&#9664;</button>
 <input id="slider" type="range" min="1" max="%(count)s" value="1">
 <button id="on" title="key: arrow down">&#9654;</button>
@@ -104,4 +107,5 @@ def page(picture, drawing: str) -> str:
     founders = {name: f"{node.bands[0][1][0]}.{node.bands[0][1][1]}" for name, node in run.nodes.items() if node.bands and node.bands[0][0] == -1}
     data = json.dumps(rows).replace("</", "<\\/")
     told = f"Object.assign({data}, {{ founders: {json.dumps(founders)} }})"
-    return PAGE % {"count": len(rows), "drawing": drawing, "rows": told, "names": json.dumps(picture.names), "height": 24}
+    title = html.escape(picture.title())
+    return PAGE % {"title": title, "count": len(rows), "drawing": drawing, "rows": told, "names": json.dumps(picture.names), "height": 24}

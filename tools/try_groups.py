@@ -142,7 +142,7 @@ def bounds(_: Tried) -> list[str]:
     return wrong + ([] if len(parts) < 12 else [f"{len(parts)} parts"])
 
 
-def gets(member: Process, line: str, wanted: str, seconds: float = 5) -> bool:
+def gets(member: Process, line: str, wanted: str, seconds: float = 30) -> bool:
     """Whether a member answers a line as wanted, at once or later."""
     ends = time.monotonic() + seconds
     while time.monotonic() < ends:
@@ -188,7 +188,7 @@ def dictionary(tried: Tried) -> list[str]:
     members["1"].tell("put now 2\nput last 1")
     keys = " ".join(sorted([*(f"{name}-{number}" for name in "01" for number in range(40)), "now", "last"]))
     for name, member in members.items():
-        if not gets(member, "keys", keys, 15) or not gets(member, "get now", "2") or not gets(member, "get 1-7", "v" * 900):
+        if not gets(member, "keys", keys, 60) or not gets(member, "get now", "2") or not gets(member, "get 1-7", "v" * 900):
             wrong.append(f"{name} hasn't the contents")
     statuses += [member.end() for member in members.values()]
     return wrong + ([] if set(statuses) == {0} else [f"they ended with {statuses}"])
@@ -219,6 +219,14 @@ def refusals(tried: Tried) -> list[str]:
         if found[0] != status or said not in found[2] or "Traceback" in found[2]:
             wrong.append(f"cluster.py {given}: {found}")
     return wrong
+
+
+def late(tried: Tried) -> list[str]:
+    """Who isn't done in time is killed, and told, and what is there is judged."""
+    words = "--nodes 2 --seconds 0.5 --rate 20000 --patience 0.2".split()
+    status, said, told = ran("cluster.py", *words, "--program", tried.program)
+    is_told = "killed, as they weren't done 0.2 seconds after their inputs' end: 0, 1\n" in said
+    return [] if status == 0 and is_told and "answers again" in said else [f"{status}, {said}{told}"]
 
 
 def journals(tried: Tried) -> list[str]:
@@ -270,4 +278,4 @@ def given_up(tried: Tried) -> list[str]:
 
 
 if __name__ == "__main__":
-    sys.exit(try_parts(__doc__, Five, (sameness, bounds, dictionary, refusals, journals, given_up)))
+    sys.exit(try_parts(__doc__, Five, (sameness, bounds, dictionary, refusals, late, journals, given_up)))

@@ -55,16 +55,17 @@ class Process:
         self.child.stdin.write(line + "\n")
         self.child.stdin.flush()
 
+    def until(self, wanted: str, seconds: float = 30) -> list[str]:
+        """The lines that come in so much time, up to the first that is this one."""
+        ends, lines = time.monotonic() + seconds, []
+        with contextlib.suppress(queue.Empty):
+            while lines[-1:] != [wanted]:
+                lines.append(self.lines.get(timeout=max(0, ends - time.monotonic())))
+        return lines
+
     def wants(self, wanted: str, seconds: float = 30) -> bool:
         """Whether a line comes that is this one, in so much time."""
-        ends = time.monotonic() + seconds
-        while (left := ends - time.monotonic()) > 0:
-            try:
-                if self.lines.get(timeout=left) == wanted:
-                    return True
-            except queue.Empty:
-                return False
-        return False
+        return self.until(wanted, seconds)[-1:] == [wanted]
 
     def end(self) -> int:
         """Ends its input, and gives its status."""
@@ -94,7 +95,7 @@ class Tried:
     def command(self, script: str, name: str, *more: str) -> list[str]:
         """The command of a member."""
         words = [sys.executable, str(TOP / script), "--name", name, "--founders", "0,1,2", "--peers", str(self.folder / "peers")]
-        return [*words, "--resilience", "1", "--seconds", "60", "--program", self.program, *more]
+        return [*words, "--resilience", "1", "--seconds", "300", "--program", self.program, *more]
 
     def start(self, script: str, name: str, *more: str) -> Process:
         """Starts a member."""
@@ -121,6 +122,15 @@ class Tried:
             children.append(child)
         said = [child.communicate(timeout=30) for child in children]
         return [(child.returncode, out.decode(), err.decode()) for child, (out, err) in zip(children, said)]
+
+    def lacks(self, name: str, wanted: str) -> list[str]:
+        """Waits until a member's journal has a text; what is wrong, where it hasn't."""
+        ends = time.monotonic() + 20
+        while wanted not in self.journal(name).read_text():
+            if time.monotonic() > ends:
+                return [f"the journal of {name} hasn't {wanted!r}"]
+            time.sleep(0.02)
+        return []
 
     def counts(self, name: str) -> list[str]:
         """What a member counted at its end: of unknown senders, unsigned, of another group."""
@@ -161,10 +171,10 @@ def unknown(tried: Tried) -> list[str]:
     """Without a key a datagram of an address that isn't its sender's is dropped and counted; nonsense, too, also in a datagram of the
     group; what is of another run or founding is counted for itself, and told once."""
     member = tried.start("net/udp.py", "0")
-    tag = hashlib.sha256(b"\n0,1,2\n1\n64\n256").digest()[:8]
+    tag = hashlib.sha256(b"\n0,1,2\n1\n64\n256").digest()[:8] + b"process!"
     heads = [b"1 1 0", b"2 1", b"2 1 0 0", b"2 x 0", b"2 " + b"1" * 11 + b" 0", "2 \u0661 0".encode(), b"2 1 0\t", b"2 1 \xff", b"02 1 0"]
     heads += [b"1" * 5000 + b" 1 0", b"2 1 " + b"0," * 500 + b"0"]
-    nonsense = [head + b"\n" + b"AG" * 20 for head in heads] + [b"", b"2 1 0", b"2 1 0\n", b"2 1 0\nAG", b"2 1 0\n" + b"A" * 1153]
+    nonsense = [head + b"\n" + b"AG" * 20 for head in heads] + [b"", b"\n", b"2 1 0", b"2 1 0\n", b"2 1 0\nAG", b"2 1 0\n" + b"A" * 1153]
     place_0 = "127.0.0.1", tried.ports[0]
     with socket.socket(socket.AF_INET, socket.SOCK_DGRAM) as other, socket.socket(socket.AF_INET, socket.SOCK_DGRAM) as place_2:
         place_2.bind(("127.0.0.2", tried.ports[2]))
@@ -250,7 +260,7 @@ def loop(tried: Tried) -> list[str]:
         member.all = members
     for thread in threads:
         thread.start()
-    ends = time.monotonic() + 20
+    ends = time.monotonic() + 60
     while min(len(member.took_bodies) for member in members.values()) < 30 and time.monotonic() < ends:
         for member in members.values():
             member.lines.put("tick")
@@ -435,8 +445,8 @@ def too_few(tried: Tried) -> list[str]:
 def last_sent(tried: Tried) -> list[str]:
     """Behind the end of its input a member goes on as long as something of that is sent, each time within the limit."""
     other = tried.start("net/udp.py", "1", "--founders", "0,1", "--no-input")
-    shorter = "import sys; sys.path.insert(0, sys.argv.pop(1)); import udp; udp.LAST_SECONDS = 0.3; sys.exit(udp.run())"
-    words = tried.command("net/udp.py", "0", "--founders", "0,1", "--delay", "15")[2:]
+    shorter = "import sys; sys.path.insert(0, sys.argv.pop(1)); import udp; udp.LAST_SECONDS = 1; sys.exit(udp.run())"
+    words = tried.command("net/udp.py", "0", "--founders", "0,1", "--delay", "40")[2:]
     given = "".join(f"{number}\n" for number in range(60))
     ran = subprocess.run([sys.executable, "-c", shorter, str(TOP / "net"), *words], input=given, capture_output=True, text=True, timeout=30)
     other.kill()
@@ -469,7 +479,12 @@ def merging(tried: Tried) -> list[str]:
         ([one, two.replace("0 1\t", "0 2\t") + "end\n"], 1, "1 wants letter 2 of 0"),
         ([one, one], 1, "a name has two journals"),
         ([one, two.replace("\t64\t", "\t32\t")], 1, "has another founding"),
-        ([one.replace("node\t0\t", "node\t0/2\t")], 1, "life before isn't there"),
+        ([one.replace("node\t0\t", "node\t0/2\t")], 1, "0 stopped, and its journal isn't there"),
+        ([one.replace("node\t0\t", "node\t0/2\t"), ""], 0, '[{"do":"stop","node":0},{"do":"return","node":0},{"do":"send"'),
+        ([one.replace("node\t0\t", "node\t0/3\t"), "nod"], 1, "0/2 stopped, and its journal isn't there"),
+        ([head.format(0) + "2\tgiveup 1\t\tnot-coordinator\n"], 1, "1 stopped, and its journal isn't there"),
+        ([head.format(0) + "2\tgiveup 1\t\tnot-coordinator\nend\n", ""], 0, '[{"do":"stop","node":1},{"do":"giveup","node":0,"name":1}]'),
+        (["", ""], 1, "no journal has a whole line"),
         (["x\n"], 1, "is no journal"),
     ]
     wrong = []

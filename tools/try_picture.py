@@ -45,9 +45,15 @@ def faults(text):
     left_out = [e for e in events if e.number not in shown and e.outcome != ["idle"]]
     if left_out:
         yield f"event {left_out[0].number} isn't drawn"
+    bands = {drawing.stamps.index(stamp) % 4 for node in run.nodes.values() for _, stamp in node.bands}
+    explained = {fill for fill in range(4) if text_drawn.count(f'height="16" fill="url(#view{fill})"') > 0}
+    if bands - {0} != explained - {0}:
+        yield f"the legend has the views' fills {explained}, and the picture {bands}"
     page = stepping.page(drawing, text_drawn)
     if text_drawn not in page or page.count('"line":') != len(run.events):
         yield "the page to step through it lacks the picture or an event"
+    if page.count(f"<title>{picture.escape(drawing.title())}</title>") != 2:
+        yield "the page to step through it has another title than the picture"
 
 
 def faults_of_changed(text):

@@ -5,6 +5,7 @@ pub mod StopTable
 pub mod Asked
 pub mod Directed
 pub mod Repaired
+pub mod Locks
 pub mod ScenariosFirst
 pub mod ScenariosWindow
 pub mod ScenariosMoves

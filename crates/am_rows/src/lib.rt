@@ -3,6 +3,7 @@
 
 pub mod asked;
 pub mod directed;
+pub mod locks;
 pub mod repaired;
 pub mod scenarios_all;
 pub mod scenarios_first;
