@@ -9,7 +9,7 @@ use std::os::unix::net::{UnixListener, UnixStream};
 use std::path::Path;
 use std::sync::atomic::{AtomicUsize, Ordering};
 use std::sync::Arc;
-use std::time::Duration;
+use std::time::{Duration, Instant};
 
 /// How many bytes a command has at most: a message of the most bytes as digits, and its word.
 const MOST_COMMAND: u64 = 200_000;
@@ -128,13 +128,21 @@ fn status(info: &muoswyld_group::Info) -> Value {
     })
 }
 
-/// A socket file that is removed when this ends.
+/// How long the end of a member waits for answers that are being written.
+const LAST_ANSWERS: Duration = Duration::from_secs(1);
+
+/// A socket file that is removed when this ends, after the commands under way have their answers.
 pub struct Listening<'a> {
     path: &'a Path,
+    busy: Arc<AtomicUsize>,
 }
 
 impl Drop for Listening<'_> {
     fn drop(&mut self) {
+        let began = Instant::now();
+        while self.busy.load(Ordering::SeqCst) > 0 && began.elapsed() < LAST_ANSWERS {
+            std::thread::sleep(Duration::from_millis(1));
+        }
         // one that is gone already is as it should be
         let _removed = std::fs::remove_file(self.path);
     }
@@ -150,6 +158,8 @@ pub fn serve<'a>(path: &'a Path, group: &Arc<Group>) -> Result<Listening<'a>, Fa
     let listener = UnixListener::bind(path).map_err(cannot)?;
     let group = group.clone();
     let callers = Arc::new(AtomicUsize::new(0));
+    let busy = Arc::new(AtomicUsize::new(0));
+    let answered = busy.clone();
     std::thread::Builder::new()
         .name("commands".into())
         .spawn(move || {
@@ -158,20 +168,20 @@ pub fn serve<'a>(path: &'a Path, group: &Arc<Group>) -> Result<Listening<'a>, Fa
                     callers.fetch_sub(1, Ordering::SeqCst);
                     continue;
                 }
-                let (group, callers) = (group.clone(), callers.clone());
+                let (group, callers, busy) = (group.clone(), callers.clone(), answered.clone());
                 std::thread::spawn(move || {
                     // a caller that is gone hears nothing
-                    let _served = answer_all(&caller, &group);
+                    let _served = answer_all(&caller, &group, &busy);
                     callers.fetch_sub(1, Ordering::SeqCst);
                 });
             }
         })
         .map_err(cannot)?;
-    Ok(Listening { path })
+    Ok(Listening { path, busy })
 }
 
 /// Answers a caller's commands until it ends.
-fn answer_all(caller: &UnixStream, group: &Group) -> std::io::Result<()> {
+fn answer_all(caller: &UnixStream, group: &Group, busy: &AtomicUsize) -> std::io::Result<()> {
     let mut reader = BufReader::new(caller);
     let mut writer = caller;
     let mut line = Vec::new();
@@ -184,6 +194,7 @@ fn answer_all(caller: &UnixStream, group: &Group) -> std::io::Result<()> {
         if line.is_empty() {
             return Ok(());
         }
+        busy.fetch_add(1, Ordering::SeqCst);
         let whole = line.strip_suffix(b"\n").unwrap_or(&line);
         let is_too_long = whole.len() as u64 >= MOST_COMMAND;
         let answer = match Command::of(whole) {
@@ -191,7 +202,9 @@ fn answer_all(caller: &UnixStream, group: &Group) -> std::io::Result<()> {
             Ok(command) => command.done_by(group),
             Err(why) => json!({ "error": why }),
         };
-        writeln!(writer, "{answer}")?;
+        let written = writeln!(writer, "{answer}");
+        busy.fetch_sub(1, Ordering::SeqCst);
+        written?;
         if is_too_long || group.ended().is_some() {
             return Ok(());
         }

@@ -33,7 +33,10 @@ pub fn run(words: Run) -> Result<(), Fault> {
     let is_void = Arc::new(AtomicBool::new(false));
     let found = is_void.clone();
     let config = run.group()?.on_notice(move |notice| {
-        tracing::warn!("{notice}");
+        match notice {
+            Notice::Group(_) | Notice::Heard(_) => tracing::info!("{notice}"),
+            _ => tracing::warn!("{notice}"),
+        }
         if matches!(notice, Notice::BeyondResilience(_)) {
             found.store(true, Ordering::SeqCst);
         }
