@@ -2,16 +2,33 @@
 
 use muoswyld_group::{Config, CreateError, Delivery, End, Group, Key, Name, SendError};
 use std::net::{SocketAddr, UdpSocket};
+use std::sync::atomic::{AtomicU16, Ordering};
 use std::time::Duration;
 
 const SOON: Duration = Duration::from_secs(20);
 
-/// Addresses that nobody uses now.
+/// Addresses of this machine that no other test uses: on IPv4 a host of its own by this process's number.
 fn addresses(many: u8, host: &str) -> Vec<SocketAddr> {
-    let bound: Vec<UdpSocket> = (0..many)
-        .map(|_| UdpSocket::bind((host, 0)).unwrap())
-        .collect();
-    bound.iter().map(|it| it.local_addr().unwrap()).collect()
+    static NEXT: AtomicU16 = AtomicU16::new(0);
+    let id = std::process::id();
+    (0..many)
+        .map(|_| {
+            let next = NEXT.fetch_add(1, Ordering::SeqCst);
+            let own = format!(
+                "127.{}.{}.2:{}",
+                1 + id / 256 % 254,
+                id % 256,
+                20_000 + next
+            );
+            match host {
+                "::1" => SocketAddr::new(
+                    [0, 0, 0, 0, 0, 0, 0, 1].into(),
+                    20_000 + (id % 20_000) as u16 + next,
+                ),
+                _ => own.parse().unwrap(),
+            }
+        })
+        .collect()
 }
 
 fn name(text: &str) -> Name {

@@ -2,10 +2,11 @@
 
 use std::fs;
 use std::io::{Read, Write};
-use std::net::{TcpStream, UdpSocket};
+use std::net::TcpStream;
 use std::os::unix::fs::PermissionsExt;
 use std::path::{Path, PathBuf};
 use std::process::{Child, Command, Output, Stdio};
+use std::sync::atomic::{AtomicU16, Ordering};
 use std::time::{Duration, Instant};
 
 const PROGRAM: &str = env!("CARGO_BIN_EXE_muoswyldd");
@@ -14,7 +15,7 @@ const SOON: Duration = Duration::from_secs(30);
 /// A folder with a key and addresses for three places, which is gone with it.
 struct Place {
     folder: PathBuf,
-    ports: Vec<u16>,
+    addresses: Vec<String>,
     children: Vec<Child>,
 }
 
@@ -22,16 +23,10 @@ impl Place {
     fn new(test: &str) -> Place {
         let folder = std::env::temp_dir().join(format!("muoswyldd-{test}-{}", std::process::id()));
         fs::create_dir_all(&folder).unwrap();
-        let bound: Vec<UdpSocket> = (0..4)
-            .map(|_| UdpSocket::bind("127.0.0.1:0").unwrap())
-            .collect();
-        let ports = bound
-            .iter()
-            .map(|it| it.local_addr().unwrap().port())
-            .collect();
+        let addresses = (0..4).map(|_| own_address()).collect();
         let place = Place {
             folder,
-            ports,
+            addresses,
             children: Vec::new(),
         };
         assert!(run(&["keygen", &place.path("key")]).status.success());
@@ -55,8 +50,8 @@ impl Place {
         .map(String::from)
         .to_vec();
         words.extend(["--key".into(), self.path("key")]);
-        for (place, port) in self.ports.iter().enumerate() {
-            words.extend(["--address".into(), format!("{place}=127.0.0.1:{port}")]);
+        for (place, address) in self.addresses.iter().enumerate() {
+            words.extend(["--address".into(), format!("{place}={address}")]);
         }
         words
     }
@@ -126,6 +121,15 @@ impl Drop for Place {
     }
 }
 
+/// An address of this machine that no other test uses: a host of its own, by this process's number.
+fn own_address() -> String {
+    static NEXT: AtomicU16 = AtomicU16::new(0);
+    let id = std::process::id();
+    let (high, low) = (id / 256 % 256, id % 256);
+    let port = 20_000 + NEXT.fetch_add(1, Ordering::SeqCst);
+    format!("127.{}.{}.1:{port}", 1 + high % 254, low)
+}
+
 fn run(words: &[&str]) -> Output {
     Command::new(PROGRAM)
         .args(words)
@@ -157,7 +161,7 @@ fn a_group_of_processes_goes_on_without_one_and_takes_its_place_back() {
     place.ask("2", &["send", "second"]);
     let back = place.start("0/2", &["--input", "nothing", "--output", "json"]);
     place.ask("0/2", &["send", "third"]);
-    until(|| place.out("0/2").contains("third"));
+    until(|| ["0/2", "1", "2"].iter().all(|name| place.out(name).contains("third")));
     let seen = place.out("1");
     let texts: Vec<&str> = seen
         .lines()
@@ -221,11 +225,7 @@ fn lines_of_the_input_are_messages_or_commands() {
 #[test]
 fn metrics_are_served() {
     let mut place = Place::new("metrics");
-    let port = {
-        let free = std::net::TcpListener::bind("127.0.0.1:0").unwrap();
-        free.local_addr().unwrap().port()
-    };
-    let address = format!("127.0.0.1:{port}");
+    let address = own_address();
     for name in ["0", "1", "2"] {
         let more: &[&str] = if name == "0" {
             &["--metrics", &address]
@@ -331,9 +331,9 @@ fn a_configuration_file_says_what_words_say() {
     let mut place = Place::new("config");
     let config = place.path("config.toml");
     let text = format!(
-        "name = \"0\"\nfounders = \"0\"\nkey = \"{}\"\ninput = \"messages\"\noutput = \"json\"\n[addresses]\n0 = \"127.0.0.1:{}\"\n",
+        "name = \"0\"\nfounders = \"0\"\nkey = \"{}\"\ninput = \"messages\"\noutput = \"json\"\n[addresses]\n0 = \"{}\"\n",
         place.path("key"),
-        place.ports[0]
+        place.addresses[0]
     );
     fs::write(&config, text).unwrap();
     let mut child = Command::new(PROGRAM)
