@@ -63,6 +63,7 @@ def main() -> int:
     with tempfile.TemporaryDirectory() as name:
         tree = pathlib.Path(name) / "tree"
         put(tree, PROGRAM, "usr/bin/muoswyldd", 0o755)
+        subprocess.run(["strip", "--strip-debug", tree / "usr/bin/muoswyldd"], check=True)
         put(tree, HERE / "muoswyldd.service", "lib/systemd/system/muoswyldd.service", 0o644)
         put(tree, HERE / "muoswyldd.toml", "usr/share/doc/muoswyldd/muoswyldd.toml", 0o644)
         put(tree, CONTROL.format(version=version()), "DEBIAN/control", 0o644)
