@@ -161,7 +161,11 @@ fn a_group_of_processes_goes_on_without_one_and_takes_its_place_back() {
     place.ask("2", &["send", "second"]);
     let back = place.start("0/2", &["--input", "nothing", "--output", "json"]);
     place.ask("0/2", &["send", "third"]);
-    until(|| ["0/2", "1", "2"].iter().all(|name| place.out(name).contains("third")));
+    until(|| {
+        ["0/2", "1", "2"]
+            .iter()
+            .all(|name| place.out(name).contains("third"))
+    });
     let seen = place.out("1");
     let texts: Vec<&str> = seen
         .lines()
