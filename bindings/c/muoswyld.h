@@ -19,7 +19,8 @@
    - Calls on one handle come one after another, from the thread that opened it. Two handles have nothing in common.
    - malloc, realloc and free are one allocator's, as a C library's are. No call is made from a signal handler.
 
-   Link crates/am_c/out/libam_c.a (libam_c_unproved.a of `tools/library.py --quick` is unproved), and behind it c/liblibc_c.a of the toolchain's folder (docs/EMBEDDING.md). */
+   Link crates/am_c/out/libam_c.a, and behind it c/liblibc_c.a of the toolchain's folder (docs/EMBEDDING.md). Nothing is proved of
+   libam_c_unproved.a beside it, which `tools/library.py --quick` builds. */
 #ifndef MUOSWYLD_H
 #define MUOSWYLD_H
 
