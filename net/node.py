@@ -35,7 +35,7 @@ def program_of(words: str | None) -> list[str]:
     except ValueError as error:
         raise NoProgram(f"{words}: {error}") from error
     if not command or shutil.which(command[0]) is None:
-        hint = "; `./muoswyld gen --seed 1 --count 1` builds it" if words is None else ""
+        hint = "; `./muoswyld build` builds it" if words is None else ""
         raise NoProgram(f"{command[0] if command else 'the program'!r} isn't there, or can't be run{hint}")
     return command
 

@@ -445,7 +445,7 @@ def wrong_words(program, word):
     if word not in (None, *SCRIPTS, "audit"):
         return f"{word} isn't play, race or audit"
     if program == str(PROGRAM) and not PROGRAM.is_file():
-        return f"there is no program {program}: ./muoswyld gen --seed 1 --count 1 builds it"
+        return f"there is no program {program}: ./muoswyld build builds it"
     if not os.path.isfile(program) or not os.access(program, os.X_OK):
         return f"{program} is no program; a script is read from standard input: tools/explain.py < SCRIPT"
     return None

@@ -183,6 +183,32 @@ def from_python(tried: Tried) -> list[str]:
     return [] if (numbers, said) == ([0, 0, 0, 0, 0, 3], wanted) else [f"Python was given {numbers} and {said}"]
 
 
+def version_of(library: ctypes.CDLL) -> bytes:
+    """What a library says that it is."""
+    library.muoswyld_version.restype = ctypes.c_char_p
+    return library.muoswyld_version()
+
+
+def unproved(tried: Tried) -> list[str]:
+    """The library without proofs answers as the word `node` too. Each of the two says what it is, of the same sources."""
+    if tried.sanitize:
+        return []
+    wrong = told("tools/library.py --quick", run([sys.executable, str(TOP / "tools" / "library.py"), "--quick"], seconds=1800))
+    out = tried.folder / "unproved"
+    words = ["make", "-C", str(TOP / "bindings" / "c"), "ARCHIVE=../../crates/am_c/out/libam_c_unproved.a", f"KIT={tried.kit}", f"OUT={out}", f"CC={tried.compiler}"]
+    wrong = wrong or told("make of the library without proofs", run(words))
+    if wrong:
+        return wrong
+    draw, options = random.Random("unproved"), ["--name", "1", "--founders", "0,1,2"]
+    lines = b"\n".join([line.encode() for line in ANYTHING] + [mutated(draw) for _ in range(500)])
+    if run([str(out / "driver"), *options], lines).stdout != run([*tried.program, "node", *options], lines).stdout:
+        wrong.append("the library without proofs answers otherwise than the word node")
+    one, other = (version_of(ctypes.CDLL(str(folder / "libmuoswyld.so"))) for folder in (tried.folder, out))
+    if not one.startswith(b"proved ") or other != b"un" + one:
+        wrong.append(f"the libraries say that they are {one!r} and {other!r}")
+    return wrong
+
+
 def not_there(tried: Tried) -> list[str]:
     """Where the library isn't there, make and cargo say what makes it."""
     top = tried.folder / "without"
@@ -215,7 +241,7 @@ def main() -> int:
     parser.add_argument("--sanitize", action="store_true")
     with tempfile.TemporaryDirectory() as folder:
         tried = Tried(parser.parse_args(), pathlib.Path(folder))
-        parts = built, transcripts, same_options, refusals, no_memory, crash, from_python, not_there, rust_tests
+        parts = built, transcripts, same_options, refusals, no_memory, crash, from_python, unproved, not_there, rust_tests
         failed = 0
         for part in parts:
             wrong = part(tried)

@@ -5,7 +5,7 @@
 
 It copies the command into a folder without sources, so that whatever would build anything fails with status 70: help, versions and
 words that have no form must be answered there. With small programs in the place of the proved ones it has no room for what it keeps, or
-for what it writes. Then it asks each tool for its page, calls it with words that have no form, and lets those for users write to a full
+for what it writes. How it proves and builds is tried by try_building.py. Then it asks each tool for its page, calls it with words that have no form, and lets those for users write to a full
 device. Each piece of code of the pages must stand in the examples' crates. It prints what fails, and how many passed.
 """
 
@@ -18,6 +18,7 @@ import subprocess
 import sys
 import tempfile
 
+import try_building
 from words import end, words
 
 USAGE = "usage: play | race | gen --seed N --count 1..100000 [--script] | audit | parts | messages | directory | snapshots | node --name PLACE[/LIFE] --founders PLACE,.. [--resilience 0..15] [--window 1..1008] [--pb-up-to 0..1024]\n"
@@ -34,6 +35,9 @@ WITHOUT_FORM = [
     (["race", "race"], "./muoswyld race < race"),
     (["audit", "x.txt"], "./muoswyld audit < x.txt"),
     (["directory", "x.json"], "./muoswyld directory < x.json"),
+    (["play", "--quick"], "./muoswyld --quick play"),
+    (["gen", "--proved"], "./muoswyld --proved gen"),
+    (["build", "x"], "--help says more"),
     ([*GEN[:4], "--script", "5"], "--help says more"),
     ([*GEN, "--script", "--script"], "--help says more"),
     (["gen", "--seed", "1", "--count", "100001"], "--count is 1 to 100000"),
@@ -42,6 +46,22 @@ WITHOUT_FORM = [
     (["node", "--name", "1", "--founders"], "--help says more"),
     (["node", "--name", "1", "--founders", "0", "--name", "1"], "--help says more"),
     (["node", "--name", "1", "--founders", "0", "--other", "1"], "--help says more"),
+    (["node", "--name", "1/17", "--founders", "0,1"], "--name 1/17: a name is a place, 0 to 15, or a later life of one"),
+    (["node", "--name", "1/1", "--founders", "0,1"], "--name 1/1: a name is"),
+    (["node", "--name", "16", "--founders", "0,1"], "--name 16: a name is"),
+    (["node", "--name", "01", "--founders", "0,1"], "--name 01: a name is"),
+    (["node", "--name", "1", "--founders", "1,0"], "--founders 1,0: founders are places"),
+    (["node", "--name", "1", "--founders", "0,0"], "--founders 0,0: founders are places"),
+    (["node", "--name", "1", "--founders", "0,"], "--founders 0,: founders are places"),
+    (["node", "--name", "1", "--founders", ""], "--founders : founders are places"),
+    (["node", "--name", "1", "--founders", "0,1/2"], "--founders 0,1/2: founders are places"),
+    (["node", "--name", "1", "--founders", "-"], "--founders -: founders are places"),
+    (["node", "--name", "1", "--founders", "0,1", "--resilience", "16"], "--resilience 16: it is 0 to 15"),
+    (["node", "--name", "1", "--founders", "0,1", "--resilience", "-1"], "--resilience -1: it is 0 to 15"),
+    (["node", "--name", "1", "--founders", "0,1", "--window", "0"], "--window 0: it is 1 to 1008"),
+    (["node", "--name", "1", "--founders", "0,1", "--window", "1009"], "--window 1009: it is 1 to 1008"),
+    (["node", "--name", "1", "--founders", "0,1", "--window", "064"], "--window 064: it is 1 to 1008"),
+    (["node", "--name", "1", "--founders", "0,1", "--pb-up-to", "1025"], "--pb-up-to 1025: it is 0 to 1024"),
     (["gen"], "--help says more"),
     (["gen", "--seed", "1"], "--help says more"),
     (["gen", "--seed", "1", "--seed", "1"], "--help says more"),
@@ -54,7 +74,7 @@ WITHOUT_FORM = [
 ]
 
 # words that have a form: nothing is there to build, so the call ends with 70, in each way
-WITH_FORM = [["play"], ["race"], ["audit"], ["messages"], ["directory"], ["snapshots"], ["parts"], [*GEN, "--script"], ["gen", "--script", *GEN[1:]], [*GEN[:3], "--script", *GEN[3:]], ["node", "--founders", "0,1", "--name", "1/2"], GEN, ["gen", "--count", "100000", "--seed", "18446744073709551615"], ["gen", "--count", "0009", "--seed", "0"]]
+WITH_FORM = [["play"], ["race"], ["audit"], ["messages"], ["directory"], ["snapshots"], ["parts"], [*GEN, "--script"], ["gen", "--script", *GEN[1:]], [*GEN[:3], "--script", *GEN[3:]], ["node", "--founders", "0,1", "--name", "1/2"], ["node", "--founders", "0,9,10,15", "--name", "15/16", "--window", "1008", "--resilience", "15", "--pb-up-to", "0"], ["build"], ["build", "--quick"], GEN, ["gen", "--count", "100000", "--seed", "18446744073709551615"], ["gen", "--count", "0009", "--seed", "0"]]
 
 
 def run(top: pathlib.Path, words: list[str]) -> tuple[int, str, str]:
@@ -79,7 +99,7 @@ def faults(top: pathlib.Path):
         if (status, said) != (1, "") or not told.startswith(USAGE) or wanted not in told:
             yield f"{words}: {status}, {said!r}, {told!r}"
     for words in WITH_FORM:
-        for way in ([], ["--quick"], ["--proved"]):
+        for way in ([], ["--quick"], ["--proved"]) if len(words) != 2 else ([],):
             status, said, told = run(top, way + words)
             if (status, said) != (70, "") or USAGE in told:
                 yield f"{way + words}: {status}, {said!r}, {told!r}"
@@ -92,6 +112,12 @@ def room_faults(top: pathlib.Path):
         (top / file).parent.mkdir(exist_ok=True)
         (top / file).write_text(f"#!/bin/sh\n{said}\n")
         (top / file).chmod(0o755)
+    for name in ("am_play_only", "am_sim"):
+        # as if it were proved and built of these sources
+        (top / "crates" / name / "src").mkdir()
+        (top / "crates" / name / "src" / "main.rt").write_text("// none\n")
+        note = 'top=$0; . "$top/tools/prove.bash"; mark "$(program_of "$1")" "$(sum_of_sources "$1")" "$(date +%s.%N)"'
+        subprocess.run(["bash", "-c", note, str(top), name], check=True)
     (top / "script").write_text("a script\n")
     (top / "kept").mkdir()
 
@@ -125,6 +151,7 @@ def room_faults(top: pathlib.Path):
     quick = top / "out" / "quick" / "am_play_only"
     quick.parent.mkdir(parents=True, exist_ok=True)
     (top / "crates/am_play_only/out/am_play_only").rename(quick)
+    (top / "crates/am_play_only/out/am_play_only.sum").rename(quick.with_name("am_play_only.sum"))
     (top / "crates/am_sim/out/am_sim").unlink()
     status, told = called(["play"], "kept", "/dev/full")
     if status != 5 or "write fault\n" not in told:
@@ -209,13 +236,14 @@ def main() -> int:
             (top / "crates" / name).mkdir(parents=True)
         (top / "tools").mkdir()
         (top / "crates.txt").write_text("am_play_only:\nam_sim:\n")
+        (top / "HANDLES").write_text("Handles allowed: none.\n")
         shutil.copy(source / "muoswyld", top)
         shutil.copy(source / "tools" / "prove.bash", top / "tools")
-        wrong = [*faults(top), *room_faults(top), *tool_faults(tools), *writing_faults(source), *page_faults(source)]
+        wrong = [*faults(top), *room_faults(top), *tool_faults(tools), *writing_faults(source), *page_faults(source), *try_building.building_faults(source)]
     for line in wrong:
         print(f"refused: {line}")
     pieces = sum(len(pieces_of(page)) for page in [source / "README.md", *(source / "docs").glob("*.md")])
-    tried = 4 + len(WITHOUT_FORM) + 3 * (len(WITH_FORM) + len(tools)) + 7 + 2 * len(WRITES) + 1 + pieces
+    tried = 4 + len(WITHOUT_FORM) + 3 * (len(WITH_FORM) + len(tools)) + 7 + 2 * len(WRITES) + 1 + pieces + try_building.TRIED
     print(f"tools/try_command.py: {tried - len(wrong)} passed, {len(wrong)} failed")
     return 1 if wrong else 0
 

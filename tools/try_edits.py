@@ -30,7 +30,7 @@ import subprocess
 import sys
 import tempfile
 
-from library import TOP, is_there, kit
+from library import TOP, kit
 from words import words
 
 CRATES = TOP / "crates"
@@ -354,6 +354,11 @@ def try_round(crate, edits: list[Edit], room: pathlib.Path, guard: list[str]) ->
         tried.failed += again.failed
         tried.seconds += again.seconds
     return tried
+
+
+def is_there(crate) -> bool:
+    """Whether a crate below is built of its sources, or `rt ci` has left it, which puts no stamp on it."""
+    return crate.is_built() or (os.path.isdir(crate.rlib) and not os.path.exists(f"{crate.folder}/out/rlib/stamp"))
 
 
 def known(name: str):

@@ -19,7 +19,8 @@
    - Calls on one handle come one after another, from the thread that opened it. Two handles have nothing in common.
    - malloc, realloc and free are one allocator's, as a C library's are. No call is made from a signal handler.
 
-   Link crates/am_c/out/libam_c.a, and behind it c/liblibc_c.a of the toolchain's folder (docs/EMBEDDING.md). */
+   Link crates/am_c/out/libam_c.a, and behind it c/liblibc_c.a of the toolchain's folder (docs/EMBEDDING.md). Nothing is proved of
+   libam_c_unproved.a beside it, which `tools/library.py --quick` builds. */
 #ifndef MUOSWYLD_H
 #define MUOSWYLD_H
 
@@ -62,6 +63,10 @@ enum {
 int muoswyld_open(muoswyld_node *node, const uint8_t *options, size_t n);
 int muoswyld_step(muoswyld_node *node, const uint8_t *line, size_t n, uint8_t *answer, size_t room, size_t *length);
 int muoswyld_close(muoswyld_node *node);
+
+/* What is linked: "proved SOURCES TOOLCHAIN", or "unproved SOURCES TOOLCHAIN" if `tools/library.py --quick` built it. SOURCES is the
+   beginning of a sum of the sources. This call is C, which tools/library.py adds to the library. */
+const char *muoswyld_version(void);
 
 /* Opens a closed handle: `options` are the n bytes behind the word `node` of a command, with one blank between two words:
    `--name N --founders N,N,..`, and maybe `--resilience N`, `--window N` and `--pb-up-to N`, each once, in any order. A name that

@@ -1,5 +1,6 @@
 //! Links the proved library, and behind it the toolchain's `c/liblibc_c.a`, by which it calls `malloc`, `realloc` and `free`. KIT is
-//! the toolchain's folder; where it isn't set, the folder of the page that `rt doc` names.
+//! the toolchain's folder; where it isn't set, the folder of the page that `rt doc` names. With MUOSWYLD_UNPROVED=1 it links the
+//! library without proofs, which `tools/library.py --quick` builds.
 use std::path::{Path, PathBuf};
 use std::process::{exit, Command};
 use std::{env, fs};
@@ -35,12 +36,17 @@ fn main() {
     let here = PathBuf::from(env::var_os("CARGO_MANIFEST_DIR").expect("cargo sets it"));
     let top = fs::canonicalize(here.join("../..")).expect("this folder is there");
     let library = top.join("crates/am_c/out");
-    let archive = library.join("libam_c.a");
+    let name = match env::var_os("MUOSWYLD_UNPROVED") {
+        Some(wish) if wish == "1" => "am_c_unproved",
+        _ => "am_c",
+    };
+    let archive = library.join(format!("lib{name}.a"));
     println!("cargo:rerun-if-changed={}", archive.display());
+    println!("cargo:rerun-if-env-changed=MUOSWYLD_UNPROVED");
     println!("cargo:rerun-if-env-changed=KIT");
     if !archive.exists() {
         refuse(&format!(
-            "{} isn't there: {} proves and makes it, in about a minute where the gate has passed, else in half an hour or so",
+            "{} isn't there: {} proves and makes it, in some minutes where the gate has passed, else in half an hour or so; with --quick it makes an unproved one in minutes, for MUOSWYLD_UNPROVED=1",
             archive.display(),
             top.join("tools/library.py").display()
         ));
@@ -50,6 +56,6 @@ fn main() {
         "cargo:rustc-link-search=native={}",
         kit_libraries().display()
     );
-    println!("cargo:rustc-link-lib=static=am_c");
+    println!("cargo:rustc-link-lib=static={name}");
     println!("cargo:rustc-link-lib=static=libc_c");
 }

@@ -20,7 +20,7 @@ fn judge() -> PathBuf {
         .into_iter()
         .chain(built)
         .find(|path| path.exists())
-        .expect("no program judges: MUOSWYLD_PLAY names it, or `./muoswyld gen --seed 1 --count 1` builds it")
+        .expect("no program judges: MUOSWYLD_PLAY names it, or `./muoswyld build` builds it")
 }
 
 #[test]
