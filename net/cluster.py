@@ -263,6 +263,8 @@ def judged(merged: Merged, wanted: argparse.Namespace, text: str) -> tuple[list[
         said.insert(0, f"a run has {MOST_EVENTS} events at most: the first of them are judged")
     if (void and void not in stops) or (not void and not stops and lines[-1] != "lawful") or (void and len(stops) <= wanted.resilience):
         return [*said, f"{len(stops)} stopped, with a resilience of {wanted.resilience}"], 1
+    if len(lines) <= len(events):
+        return [*said, f"the text of play has {len(lines)} lines, for {len(events)} events"], 1
     for mine, proved in zip(merged.lines[:MOST_EVENTS], lines):
         if mine != proved:
             return [*said, f"a process answered: {mine}", f"{f'{play}:':<20}{proved}"], 1

@@ -1,10 +1,11 @@
 """Makes each allocation of the program fail in turn: it then tells that there was no memory and writes nothing, or does all as ever.
-And compares how often it asks for memory, and for how many bytes together, with the most that a list has for some scripts.
+And compares how often it asks for memory, and for how many bytes together, with what a list has for some scripts: more is refused, and
+where it is less, that is told.
 
 Usage: allocations.py PROGRAM LIST SCRIPT...
 
-A line of the list is a script, how many allocations the program makes for it at most, and how many bytes these ask for at most. A
-script in a folder `races` is a race, of one thread; what stands in a folder `audits` is a text to audit, which agrees.
+A line of the list is a script, how many allocations the program makes for it, and how many bytes these ask for. A script in a folder
+`races` is a race, of one thread; what stands in a folder `audits` is a text to audit, which agrees.
 """
 
 import os
@@ -61,12 +62,13 @@ def refused_by(program, library, script):
 
 def is_within(program, library, line):
     """Whether the program asks for no more memory than a line of the list says."""
-    script, most, most_bytes = line.split()
+    script, listed, listed_bytes = line.split()
     count, size, _ = asked_by(program, library, script)
-    if count > int(most) or size > int(most_bytes):
-        print(f"refused: {script} takes {count} allocations of {size} bytes together, where {most} of {most_bytes} are the most")
+    if count > int(listed) or size > int(listed_bytes):
+        print(f"refused: {script} takes {count} allocations of {size} bytes together, and not {listed} of {listed_bytes}")
         return False
-    print(f"{script}: {count} allocations of {size} bytes together, at most {most} of {most_bytes}")
+    less = "" if (count, size) == (int(listed), int(listed_bytes)) else f", and the list has {listed} of {listed_bytes}: it can have less"
+    print(f"{script}: {count} allocations of {size} bytes together{less}")
     return True
 
 

@@ -1,21 +1,27 @@
 #!/usr/bin/env python3
-"""Gives random and mutated lines to nodes in each state: each line that isn't empty must have one answer of a form that an answer can
-have, and each process ends with status 0 at the end of its input.
+"""Gives lines to nodes: those of cases/lines must have the answers that stand there; of random and mutated ones, to nodes in each state,
+each that isn't empty must have one answer of a form that an answer can have. Each process ends with status 0 at the end of its input.
 
     tools/try_lines.py PROGRAM [COUNT [SEED]]
 
 PROGRAM is the command whose word `node` is run; COUNT lines, 20,000 where none is said, go to each of nine nodes. It prints what
 fails, and how many lines were answered.
+
+A file cases/lines/NAME.lines has nodes: a line with the options of one, then each line that it is given, and behind that, four blanks
+further in, the line that it answers. Lines that begin with # and empty ones are comments.
 """
 
+import pathlib
 import random
 import re
 import shlex
 import subprocess
 import sys
+from typing import NamedTuple
 
 from words import words
 
+CASES = pathlib.Path(__file__).resolve().parent.parent / "cases" / "lines"
 OTHER = "41470312010000000101000c"  # a HandOver of place 1
 ACCEPT = "414703050000000001000019" + "00000000" * 2 + "0000000101"
 # how a node of place 1 of the founders 0, 1, 2 comes to a state, and the name that it runs under
@@ -58,10 +64,56 @@ def mutated(draw: random.Random) -> bytes:
     return bytes(line).replace(b"\n", b" ")
 
 
+class Told(NamedTuple):
+    """A node of a case: where it stands, its options, what it is given and what it answers."""
+
+    where: str
+    options: list[str]
+    given: list[str]
+    answers: list[str]
+
+    def wrong(self, said: bytes) -> list[str]:
+        """Where what was said differs from the answers."""
+        found = said.decode(errors="replace").split("\n")[:-1]
+        if len(found) != len(self.given):
+            return [f"{self.where}: {len(found)} answers to {len(self.given)} lines"]
+        lines = zip(self.given, self.answers, found)
+        return [f"{self.where}: {given[:80]!r} was answered {one!r}, and not {answer!r}" for given, answer, one in lines if one != answer]
+
+
+def told_nodes() -> list[Told]:
+    """The nodes of cases/lines."""
+    nodes: list[Told] = []
+    for path in sorted(CASES.glob("*.lines")):
+        for number, line in enumerate(path.read_text().splitlines(), 1):
+            if line.startswith("--name "):
+                nodes.append(Told(f"{path.name}:{number}", line.split(" "), [], []))
+            elif line.startswith("    "):
+                nodes[-1].answers.append(line[4:])
+            elif line and not line.startswith("#"):
+                nodes[-1].given.append(line)
+    return nodes
+
+
+def try_told(command: list[str]) -> list[str]:
+    """What is wrong with the answers of a command to the lines of cases/lines."""
+    wrong = [] if (nodes := told_nodes()) else ["cases/lines has no nodes"]
+    for node in nodes:
+        if len(node.given) != len(node.answers):
+            wrong.append(f"{node.where}: {len(node.given)} lines with {len(node.answers)} answers")
+        lines = "".join(f"{line}\n" for line in node.given).encode()
+        ran = subprocess.run([*command, *node.options], input=lines, capture_output=True, timeout=60, check=False)
+        wrong += node.wrong(ran.stdout) + ([] if ran.returncode == 0 else [f"{node.where}: status {ran.returncode}, {ran.stderr!r}"])
+    return wrong
+
+
 def main() -> int:
-    """Tries all states."""
+    """Tries the cases and all states."""
     program, *more = words(__doc__, 1, 3)
     count, seed = int(more[0]) if more else 20000, int(more[1]) if more[1:] else 1
+    wrong_cases = try_told([*shlex.split(program), "node"])
+    for line in wrong_cases:
+        print(f"refused: {line}")
     answered = failed = 0
     for state, (name, begins) in STATES.items():
         draw = random.Random(f"{seed} {state}")
@@ -77,8 +129,8 @@ def main() -> int:
                 print(f"    {lines[wrong]!r} was answered {answers[wrong]!r}")
             failed += 1
         answered += len(answers)
-    print(f"tools/try_lines.py: {answered} lines answered; {len(STATES) - failed} passed, {failed} failed")
-    return 1 if failed else 0
+    print(f"tools/try_lines.py: {answered} lines answered; {len(STATES) - failed} passed, {failed} failed; of cases/lines {len(told_nodes())} nodes, {len(wrong_cases)} wrong")
+    return 1 if failed or wrong_cases else 0
 
 
 if __name__ == "__main__":

@@ -4,10 +4,15 @@
 
 Each race of FOLDER is run so many times, three where none are said. `PROGRAM race < NAME.json` must end with status 0 and say nothing
 on standard error; its first line must be a script, and `PROGRAM play` of that line must write exactly the other lines. Where there
-is a NAME.txt, which a race of one thread can have, the whole text must be that. It prints what fails, and how many runs passed.
+is a NAME.txt, which a race of one thread can have, the whole text must be that. As often runs a race in which one thread takes what
+another one sends at the same place: it must be given all, and rest in between, so that its node hardly ever ticks, at least in one of
+the runs. (No clause says when a caller does what it does, and where the processors are busy, it may tick.) It prints what fails, and
+how many runs passed.
 """
 
+import json
 import pathlib
+import re
 import subprocess
 import sys
 
@@ -15,6 +20,10 @@ from words import words
 
 # so many seconds may a race or a play take
 MOST_SECONDS = 110
+
+# so many sends has the race of a thread that waits for another, and so many ticks at most: it made none to 4, with eight tasks for each
+# processor, and where it didn't rest 23 to 817
+SENDS, MOST_TICKS = 300, 10
 
 
 class Wrong(Exception):
@@ -42,21 +51,44 @@ def raced(program, data, players):
     return whole, text.decode()
 
 
+def try_file(program, race):
+    """Tries a race of a file."""
+    wanted = race.with_suffix(".txt")
+    whole, _ = raced(program, race.read_bytes(), [program])
+    if wanted.exists() and wanted.read_bytes() != whole:
+        raise Wrong(f"its text isn't {wanted}")
+
+
+def ticks_waiting(program):
+    """How often the node ticks in a race in which one thread waits for what another one sends."""
+    calls = [{"do": "take"}] * (SENDS + 1), [{"do": "send", "body": "61"}] * SENDS
+    race = {"founders": [0], "seed": 1, "turns": 100, "threads": [{"node": 0, "calls": some} for some in calls]}
+    _, text = raced(program, json.dumps({"race": race}).encode(), [program])
+    took, ticks = (len(re.findall(f"^[0-9]+ {word}", text, re.M)) for word in ("take 0 : took ", "tick 0 : "))
+    if took != SENDS + 1:
+        raise Wrong(f"{took} of {SENDS + 1} entries were taken")
+    return ticks
+
+
+def try_waiting(program, times):
+    """Tries that race so many times."""
+    least = min(ticks_waiting(program) for _ in range(times))
+    if least > MOST_TICKS:
+        raise Wrong(f"its node ticks {least} times or more, where {MOST_TICKS} are the most: it doesn't rest")
+
+
 def main(program, folder, times="3"):
     passed, failed = 0, 0
     races = sorted(pathlib.Path(folder).glob("*.json"))
-    for race in races:
-        wanted = race.with_suffix(".txt")
-        for _ in range(int(times)):
-            try:
-                whole, _ = raced(program, race.read_bytes(), [program])
-                if wanted.exists() and wanted.read_bytes() != whole:
-                    raise Wrong(f"its text isn't {wanted}")
-                passed += 1
-            except Wrong as wrong:
-                print(f"{race}: {wrong}")
-                failed += 1
-    print(f"{len(races)} races, {passed} runs passed, {failed} failed")
+    tries = [(race, try_file, race) for race in races for _ in range(int(times))]
+    for what, attempt, given in [*tries, ("a thread that waits for another", try_waiting, int(times))]:
+        try:
+            attempt(program, given)
+            passed += 1
+        except Wrong as wrong:
+            print(f"{what}: {wrong}")
+            failed += 1
+    print(f"{len(races)} races and one of a thread that waits, {passed} passed, {failed} failed")
     return 1 if failed or not races else 0
 
 

@@ -7,7 +7,8 @@ It takes the scripts of the folders, as they are and with other bodies in their 
 order and out of it, snapshots that a node of the same run could send, and bytes that are none of these. For each it compares what
 `messages`, `directory` and `snapshots` write with what the other program makes of the text of `play`, and for random messages what
 `parts` writes. It prints what differs, how many scripts were alike, and how many messages, keys, waiting and restored replicas there
-were in them. Last it calls tools/services.py itself, with a text and with what is none.
+were in them. Then come the longest messages, and keys and values at their limits, with what docs/ says of them. Last it calls
+tools/services.py itself, with a text and with what is none.
 """
 
 import argparse
@@ -21,6 +22,8 @@ import sys
 import services
 
 WORDS = ("messages", "directory", "snapshots")
+# the longest message, and what a part has of one
+MOST_MESSAGE, SHARE = 65_535, 1_019
 
 
 def run(program: str, word: str, given: bytes) -> tuple[int, list[str]]:
@@ -31,7 +34,7 @@ def run(program: str, word: str, given: bytes) -> tuple[int, list[str]]:
 
 def command(draw: random.Random) -> bytes:
     """A command of one of a few keys, or nearly one."""
-    key = bytes([draw.randrange(97, 101)]) * draw.choice((1, 1, 1, 2, 32, 33))
+    key = bytes([draw.randrange(97, 101)]) * draw.choice((0, 1, 1, 1, 2, 32, 33))
     value = bytes(draw.randrange(256) for _ in range(draw.choice((0, 1, 3, 64, 65))))
     kind = draw.choice((1, 1, 2, 3, 3, 5))
     body = bytes([kind, len(key)]) + key + (b"" if kind == 2 else bytes([len(value)]) + value)
@@ -82,6 +85,45 @@ def faults(program: str, script: bytes, seen: collections.Counter) -> list[str]:
             kind = line.split(" ")[0]
             seen["waiting" if line.endswith(" waiting") else kind] += 1
     return found
+
+
+def alone(bodies: list[bytes]) -> bytes:
+    """The script in which place 0, alone in its group, sends bodies and takes all."""
+    events = [{"do": "take", "node": 0}]
+    for number, body in enumerate(bodies, 1):
+        events += [{"do": "send", "node": 0, "body": body.hex()}, {"do": "done", "node": 0, "req": number}, {"do": "take", "node": 0}]
+    return json.dumps({"play": {"founders": [0], "events": events}}).encode()
+
+
+def message_faults(program: str) -> list[str]:
+    """What is wrong with the longest messages: a message that is cut into its parts is the one that ends with the last of them; one
+    byte more is too long, and a part of it is a plain body."""
+    found = []
+    for size in (0, 1, SHARE, SHARE + 1, MOST_MESSAGE - 1, MOST_MESSAGE, MOST_MESSAGE + 1):
+        message = bytes(k * k % 251 for k in range(size))
+        shares = [message[at : at + SHARE] for at in range(0, size, SHARE)] or [b""]
+        parts = [b"S" + k.to_bytes(2, "big") + len(shares).to_bytes(2, "big") + share for k, share in enumerate(shares)]
+        fits = size <= MOST_MESSAGE
+        done = subprocess.run([program, "parts"], input=message, capture_output=True, timeout=120, check=False)
+        wanted = (0, "".join(f"{part.hex()}\n" for part in parts).encode(), b"") if fits else (3, b"", b"too long\n")
+        if (done.returncode, done.stdout, done.stderr) != wanted:
+            found.append(f"parts of {size} bytes: status {done.returncode}, {done.stderr!r}")
+        ends = [f"message 0 {len(parts) + 1} 0 {message.hex() or '-'}"] if fits else []
+        if (got := run(program, "messages", alone(parts))) != (0, [*ends, "lawful"]):
+            found.append(f"the message of {size} bytes: status {got[0]}, {[line[:60] for line in got[1]]}")
+    return found
+
+
+def key_faults(program: str) -> list[str]:
+    """What is wrong with keys of 1 to 32 bytes and values of 0 to 64, and of one byte less or more: those are no commands."""
+    put = lambda key, value, kind=1: bytes([kind, len(key)]) + key + bytes([len(value)]) + value
+    delete = lambda key: bytes([2, len(key)]) + key
+    bodies = [delete(b""), put(b"", b"v"), put(b"", b"w", 3), put(b"k" * 33, b"v"), put(b"k" * 33, b"v", 3), put(b"a", b"v" * 65), put(b"a", b"v" * 65, 3)]
+    bodies += [put(b"b", b""), put(b"k" * 32, b"v" * 64), put(b"c", b"v" * 64, 3), put(b"d", b"v"), delete(b"d")]
+    front = len(bodies) + 1
+    wanted = [f"directory 0 {front} 3", f"name 0 62 - {front - 4}", f"name 0 63 {'76' * 64} {front - 2}", f"name 0 {'6b' * 32} {'76' * 64} {front - 3}", "lawful"]
+    got = run(program, "directory", alone(bodies))
+    return [] if got == (0, wanted) else [f"directory: status {got[0]}, {got[1]}"]
 
 
 def tool_faults(program: str) -> list[str]:
@@ -144,7 +186,7 @@ def main() -> int:
         if run(asked.program, "parts", message) != (0, [part.hex() for part in services.parts(message)]):
             print(f"the parts of a message of {len(message)} bytes differ")
             failed += 1
-    for fault in tool_faults(asked.program):
+    for fault in message_faults(asked.program) + key_faults(asked.program) + tool_faults(asked.program):
         print(fault)
         failed += 1
     if asked.count > len(scripts) and not all(seen[kind] for kind in ("message", "directory", "name", "waiting", "snapshot")):

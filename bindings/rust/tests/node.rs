@@ -162,3 +162,61 @@ fn a_group_goes_on_without_a_member_that_crashed() {
         "{one:?}"
     );
 }
+
+#[test]
+fn a_letter_for_any_life_is_heard_by_a_second_life() {
+    let mut joiner = Node::open("--name 3 --founders 0,1,2").unwrap();
+    let asked = joiner.step("join").unwrap();
+    assert_eq!((asked.said.as_str(), asked.letters.len()), ("asked", 1));
+    let others = [0, 1, 2, 4, 5, 6, 7, 8, 9, 10, 11, 12, 13, 14, 15].map(|place| place.to_string());
+    let letter = &asked.letters[0];
+    assert_eq!(letter.names().collect::<Vec<_>>(), others);
+    assert_eq!(letter.to, format!("*{}", others.join(",")));
+    let mut second = Node::open("--name 0/2 --founders 0,1,2").unwrap();
+    assert_eq!(second.step(&letter.heard()).unwrap().said, "elsewhere");
+    let first_lives = letter.heard().replace('*', "");
+    assert_eq!(second.step(&first_lives).unwrap().said, "not-addressed");
+    let mut sequencer = Node::open("--name 0 --founders 0,1,2").unwrap();
+    let numbered = sequencer.step(&letter.heard()).unwrap();
+    assert_eq!(numbered.said, "numbered 2");
+    let names: Vec<Vec<&str>> = numbered
+        .letters
+        .iter()
+        .map(|l| l.names().collect())
+        .collect();
+    assert_eq!(names, [vec!["1", "2"], vec!["3"]]);
+}
+
+#[test]
+fn a_place_comes_back_as_its_second_life() {
+    let mut group = Group::new(3);
+    group.run(3);
+    group.nodes[2] = None;
+    group.tell(0, "reset 2");
+    group.tell(0, "giveup 2");
+    group.run(20);
+    group.nodes[2] = Node::open("--name 2/2 --founders 0,1,2 --resilience 1").ok();
+    assert_eq!(group.tell(2, "state"), "stranger");
+    assert_eq!(group.tell(2, "join"), "asked");
+    group.run(20);
+    assert_eq!(group.tell(2, "state"), "joined 3");
+    group.tell(1, "send 61");
+    group.run(10);
+    assert_eq!(group.take(2), ["3 join 2/2", "4 data 1 1 61"]);
+    let first = [
+        "1 view 1.0 0,1,2",
+        "2 view 2.0 0,1",
+        "3 join 2/2",
+        "4 data 1 1 61",
+    ];
+    assert_eq!(group.take(0), first);
+    // what it is sent names this life, and no other hears it
+    let sent = group.nodes[0].as_mut().unwrap().step("send 62").unwrap();
+    let letter = &sent.letters[0];
+    assert_eq!(letter.names().collect::<Vec<_>>(), ["1", "2/2"]);
+    let mut first_life = Node::open("--name 2 --founders 0,1,2 --resilience 1").unwrap();
+    assert_eq!(
+        first_life.step(&letter.heard()).unwrap().said,
+        "not-addressed"
+    );
+}
