@@ -209,10 +209,14 @@ fn a_flood_of_strangers_takes_no_message_and_no_memory() {
             let began = Instant::now();
             let mut flood = 0u32;
             while !is_over.load(Ordering::SeqCst) {
-                // short ones, long ones, and ones that begin as sealed ones do
-                let datagram = vec![0xa1; [8, 100, 1_400, 9_000][flood as usize % 4]];
-                let _sent = stranger.send_to(&datagram, all[flood as usize % 3]);
-                flood += 1;
+                // short ones, long ones, and ones that begin as sealed ones do: 50,000 a second
+                for _ in 0..50 {
+                    let datagram = vec![0xa1; [8, 100, 1_400, 9_000][flood as usize % 4]];
+                    let _sent = stranger.send_to(&datagram, all[flood as usize % 3]);
+                    flood += 1;
+                }
+                let due = Duration::from_micros(u64::from(flood) * 20);
+                std::thread::sleep(due.saturating_sub(began.elapsed()));
             }
             f64::from(flood) / began.elapsed().as_secs_f64()
         });
