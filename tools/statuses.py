@@ -1,4 +1,5 @@
 """Runs the program once for each status and each way to it, and looks at the whole line on standard error, the status and what was written.
+Then it runs it with the memory and the stack that docs/SCRIPTS.md states, on what takes the most.
 
 Usage: statuses.py PROGRAM
 """

@@ -5,9 +5,8 @@
 
 PROGRAM is the command whose word `node` is run. N lines (2,000), random and mutated, go to a node in each of nine states: through the
 C driver, through the Rust crate where cargo is there, and to the word `node`, and all must answer the same. Besides it tries each
-refusal, each allocation failing in turn, three members with a crash in C and in Rust, a shared library from Python, and what is said
-where the library isn't there. With --sanitize
-the C programs are built with the address and the undefined sanitizer, and 100,000 lines go to each state. CC names the compiler (else
+refusal, each allocation failing in turn, calls on a thread with little stack, three members with a crash in C and in Rust, a shared
+library from Python, and what is said where the library isn't there. With --sanitize the C programs are built with the address and the undefined sanitizer, and 100,000 lines go to each state. CC names the compiler (else
 cc, gcc or clang; the toolchain's own clang has no headers). It prints what fails, and how many parts passed.
 """
 
