@@ -36,8 +36,8 @@ typedef struct {
     void *at;
 } muoswyld_node;
 
-/* So many bytes of stack a call takes at most: `muoswyld_open` takes the most, `muoswyld_step` the most where a ballot begins. */
-#define MUOSWYLD_STACK 327680
+/* So many bytes of stack a call takes at most: `muoswyld_step` takes the most, where a ballot is looked at. */
+#define MUOSWYLD_STACK 163840
 
 /* What a call gives. */
 enum {
