@@ -228,7 +228,7 @@ def with_memory(line, words, source, most=24 << 20):
 
 
 # the limits that docs/SCRIPTS.md states: the memory for what is read, of which nothing is a script, and the stack
-A_BYTE, BESIDES, STACK = 76, 8 << 20, 640 << 10
+A_BYTE, BESIDES, STACK = 76, 8 << 20, 448 << 10
 # what takes the most memory for its size, and its line
 NESTED = b"[" * 120 + b"]" * 120
 LARGE = {
