@@ -12,11 +12,11 @@ from pathlib import Path
 
 from words import words
 
-MADE = re.compile(r"\b(NoMemory|AllocError)\b(?!\s*>)")
+MADE = re.compile(r"\b(NoMemory|NO_MEMORY|AllocError)\b(?!\s*>)")
 SAID = re.compile(r"^\s*(//|use |pub use |ghost |ensures |requires |impl |#)")
 # what opens a block without being a condition
 BLOCK = re.compile(r"(impl|mod|trait|struct|enum|loop)\b")
-FUNCTION = re.compile(r"(pub |pub\(crate\) )?(const )?fn\b")
+FUNCTION = re.compile(r'(pub |pub\(crate\) )?(const |extern "C" )?fn\b')
 CLOSING = re.compile(r"[)\]{]|\}(?! else)")
 
 

@@ -1,4 +1,5 @@
 """Runs the program once for each status and each way to it, and looks at the whole line on standard error, the status and what was written.
+Then it runs it with the memory and the stack that docs/SCRIPTS.md states, on what takes the most.
 
 Usage: statuses.py PROGRAM
 """
@@ -53,6 +54,12 @@ CASES = [
     ([], SMALL, USAGE, 1, b""),
     ([""], SMALL, USAGE, 1, b""),
     (["Play"], SMALL, USAGE, 1, b""),
+    # words that aren't UTF-8
+    ([b"\xff"], SMALL, USAGE, 1, b""),
+    ([b"play\xff"], SMALL, USAGE, 1, b""),
+    (["play", b"\xc3\x28"], SMALL, USAGE, 1, b""),
+    (["node", "--name", b"\xed\xa0\x80", "--founders", "0"], b"", USAGE, 1, b""),
+    (["Pläy"], SMALL, USAGE, 1, b""),
     (["play", "play"], SMALL, USAGE, 1, b""),
     (["race", "race"], RACE, USAGE, 1, b""),
     (["Race"], RACE, USAGE, 1, b""),
@@ -146,6 +153,7 @@ node --window 1008 --founders 0 --name 15/16
 node --pb-up-to 1024 --resilience 15 --name 0 --window 1 --founders 3,7
 """
 CASES += [(words.split(" "), b"", "", 0, b"") for words in NODES.splitlines()]
+NODE = NODES.splitlines()[0].split(" ")
 
 
 def run(program, words, **how):
@@ -176,6 +184,8 @@ def where_something_fails(program, failed):
     folder = os.open("/", os.O_RDONLY)
     full = os.open("/dev/full", os.O_WRONLY)
     nothing = subprocess.DEVNULL
+    empty, _writes = os.pipe()
+    os.set_blocking(empty, False)
 
     def line(words, source, sink, **how):
         done = subprocess.run([program, *words], stdin=source, stdout=sink, stderr=subprocess.PIPE, timeout=110, check=False, **how)
@@ -196,6 +206,8 @@ def where_something_fails(program, failed):
         with tempfile.TemporaryFile() as race:
             race.write(RACE)
             tell(failed, "a full device for race", line(["race"], again(race), full), (5, b"write fault\n"))
+        tell(failed, "a pipe without data that doesn't wait", line(["play"], empty, nothing), (4, b"read fault\n"))
+        tell(failed, "a pipe without data that doesn't wait, for node", line(NODE, empty, nothing), (4, b"read fault\n"))
         tell(failed, "a directory for audit", line(["audit"], folder, nothing), (4, b"read fault\n"))
         with tempfile.TemporaryFile() as text:
             text.write(TEXT)
@@ -210,16 +222,42 @@ def where_something_fails(program, failed):
         tell(failed, "little memory for gen", with_memory(line, gen("1", "100000"), again(small)), (6, b"no memory\n"))
 
 
-def with_memory(line, words, source):
-    """What the program tells where it has 24 megabytes."""
-    most = 24 << 20
+def with_memory(line, words, source, most=24 << 20):
+    """What the program tells where it has so many bytes of memory, 24 megabytes."""
     return line(words, source, subprocess.DEVNULL, preexec_fn=lambda: resource.setrlimit(resource.RLIMIT_AS, (most, most)))
+
+
+# the limits that docs/SCRIPTS.md states: the memory for what is read, of which nothing is a script, and the stack
+A_BYTE, BESIDES, STACK = 76, 8 << 20, 448 << 10
+# what takes the most memory for its size, and its line
+NESTED = b"[" * 120 + b"]" * 120
+LARGE = {
+    "nested arrays": (b"[%s]", NESTED, "bad script 4 at 0"),
+    "nested arrays as events": (FOUNDERS + b"%s]}}", NESTED, "bad script 4 at 1"),
+    "nested objects": (b"[%s]", b'{"":' * 120 + b"[]" + b"}" * 120, "bad script 4 at 0"),
+    "arrays of a number": (b"[%s]", b"[0]", "bad script 4 at 0"),
+    "arrays that have no end": (b"%s", b"[" * 300, "bad script 1 at 0"),
+    "numbers": (b'{"play":{"founders":[%s],"events":[]}}', b"0", "bad script 5 at 0"),
+}
+
+
+def within_limits(program, failed):
+    """What is no script is refused within the memory that is stated, and each word does with the stack that is."""
+    for name, (frame, part, line) in LARGE.items():
+        text = frame % b",".join([part] * ((2 << 20) // (len(part) + 1)))
+        most = BESIDES + A_BYTE * len(text)
+        ran = subprocess.run([program, "play"], input=text, capture_output=True, timeout=110, check=False, preexec_fn=lambda: resource.setrlimit(resource.RLIMIT_AS, (most, most)))
+        tell(failed, f"{name} with {most} bytes of memory", (ran.returncode, ran.stderr), (2, f"{line}\n".encode()))
+    for words, text, written in [(["play"], SMALL, TEXT), (["race"], RACE, RACED), (["audit"], RACED, b"agrees\n"), (gen("1", "50"), b"", SUMMARY)]:
+        ran = subprocess.run([program, *words], input=text, capture_output=True, timeout=110, check=False, preexec_fn=lambda: resource.setrlimit(resource.RLIMIT_STACK, (STACK, STACK)))
+        tell(failed, f"{words} with {STACK} bytes of stack", (ran.returncode, ran.stdout), (0, written))
 
 
 def main(program):
     failed = []
     on_its_input(program, failed)
     where_something_fails(program, failed)
+    within_limits(program, failed)
     return 1 if failed else 0
 
 

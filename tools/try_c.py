@@ -5,9 +5,8 @@
 
 PROGRAM is the command whose word `node` is run. N lines (2,000), random and mutated, go to a node in each of nine states: through the
 C driver, through the Rust crate where cargo is there, and to the word `node`, and all must answer the same. Besides it tries each
-refusal, each allocation failing in turn, three members with a crash in C and in Rust, a shared library from Python, and what is said
-where the library isn't there. With --sanitize
-the C programs are built with the address and the undefined sanitizer, and 100,000 lines go to each state. CC names the compiler (else
+refusal, each allocation failing in turn, calls on a thread with little stack, three members with a crash in C and in Rust, a shared
+library from Python, and what is said where the library isn't there. With --sanitize the C programs are built with the address and the undefined sanitizer, and 100,000 lines go to each state. CC names the compiler (else
 cc, gcc or clang; the toolchain's own clang has no headers). It prints what fails, and how many parts passed.
 """
 
@@ -26,6 +25,7 @@ from library import kit
 from try_lines import STATES, mutated
 
 TOP = pathlib.Path(__file__).resolve().parent.parent
+BAD_OPTIONS = 5  # as muoswyld.h has it
 ANYTHING = "send 61", "tick", "take", "hear 1 414703050000000001000019" + "00000000" * 2 + "0000000101", "info", "send", "reset 2"
 
 
@@ -95,28 +95,51 @@ def transcripts(tried: Tried) -> list[str]:
     return wrong
 
 
+# values of options, of which the first are taken and the last two or three aren't
+VALUES = {
+    "--name": ["0", "1", "15", "1/2", "3/16", "15/16", "16", "01", "1/1"],
+    "--resilience": ["0", "1", "15", "16", "-1", "00"],
+    "--window": ["1", "64", "1008", "1009", "0", "064"],
+    "--pb-up-to": ["0", "256", "1024", "1025", "+1"],
+}
+BAD_FOUNDERS = "1,0", "0,1/2", "-", "0,0", "0,1,", "0,16", ",0", "0 1"
+
+
+def founders_of(draw: random.Random) -> str:
+    """A list of founders: of one to sixteen places, and mostly as it is to be."""
+    places = sorted(draw.sample(range(16), draw.choice([1, 2, 3, 5, 8, 12, 15, 16])))
+    return ",".join(map(str, places)) if draw.random() < 0.85 else draw.choice(BAD_FOUNDERS)
+
+
+def options_of(draw: random.Random) -> list[str]:
+    """Words of options: mostly a name and founders, and any of the others, in any order; some are none."""
+    names = [name for name in ("--name", "--founders") if draw.random() < 0.95]
+    names += draw.sample(["--resilience", "--window", "--pb-up-to"], draw.randrange(4))
+    words = []
+    for name in draw.sample(names, len(names)):
+        value = founders_of(draw) if name == "--founders" else draw.choice(VALUES[name][:3] if draw.random() < 0.9 else VALUES[name])
+        words += [name, value]
+    more = [["--resilience"], ["--other", "1"], ["--name", "1"], ["node"]]
+    return words + (draw.choice(more) if draw.random() < 0.1 else [])
+
+
 def same_options(tried: Tried) -> list[str]:
-    """The same options are taken, those of the word `node` and no others."""
-    wrong, draw = [], random.Random(f"options {tried.seed}")
-    values = {
-        "--name": ["0", "1", "15", "1/2", "3/16", "16", "01", "1/1", "x", ""],
-        "--founders": ["0,1,2", "0", "1,0", "0,1/2", "-", "0,15", "0,0", "0,1,"],
-        "--resilience": ["0", "15", "16", "-1"],
-        "--window": ["1", "64", "1008", "1009", "0"],
-        "--pb-up-to": ["0", "256", "1024", "1025"],
-    }
-    for _ in range(300):
-        words: list[str] = []
-        for option in draw.sample(["--name", "--founders"] + draw.sample(sorted(values), draw.randrange(4)), k=2 + draw.randrange(1)):
-            words += [option, draw.choice(values[option][:2] if draw.random() < 0.7 else values[option])]
-        more = draw.choice([[], [], ["--window", draw.choice(values["--window"])], ["--resilience"], ["--other", "1"]])
-        words = [word for word in words + more if word]
-        wanted = run([*tried.program, "node", *words], b"tick\n")
+    """The same options are taken, those of the word `node` and no others; those that aren't taken are said to be none."""
+    wrong, draw, taken, longest = [], random.Random(f"options {tried.seed}"), 0, 0
+    for _ in range(400):
+        words = options_of(draw)
+        wanted = run([*tried.program, "node", *words], b"info\n")
+        taken += wanted.returncode == 0
+        longest = max(longest, len(" ".join(words)) if wanted.returncode == 0 else 0)
         for what, driver in tried.drivers().items():
-            ran = run([*driver, *words], b"tick\n")
-            if (ran.returncode == 0, ran.stdout) != (wanted.returncode == 0, wanted.stdout):
+            ran = run([*driver, *words], b"info\n")
+            status = {0: 0, 1: BAD_OPTIONS if what == "C" else 1}.get(wanted.returncode, -1)
+            if (ran.returncode, ran.stdout) != (status, wanted.stdout):
                 wrong.append(f"{what} took {words} with {ran.returncode}, {ran.stdout!r}; the word node with {wanted.returncode}, {wanted.stdout!r}")
-    return wrong
+            elif what == "Rust" and status == 1 and b"BadOptions" not in ran.stderr:
+                wrong.append(f"Rust said of {words}: {ran.stderr!r}")
+    # what was drawn is of both kinds, and some of it is as long as options can be
+    return wrong or ([] if 150 < taken < 380 and longest > 100 else [f"of the options that were drawn {taken} were taken, of {longest} bytes at most"])
 
 
 def refusals(tried: Tried) -> list[str]:
@@ -143,6 +166,42 @@ def no_memory(tried: Tried) -> list[str]:
         if int(ran.stderr.split()[-2]) < at:
             break
     return wrong or ([] if failed > at * 4 // 5 else [f"want of memory was told {failed} times in {at} runs"])
+
+
+def stack_script(draw: random.Random) -> str:
+    """A script for bindings/c/stack.c: groups of two to sixteen members that send, take, leave, join, crash, reset and hear what is no packet."""
+    count = draw.choice([2, 3, 5, 16])
+    names = [*range(count)]
+    window, pb_up_to, body = draw.choice([8, 64, 1008]), draw.choice([0, 256, 1024]), "62" * 1024
+    options = f"--founders {','.join(map(str, names))} --resilience {draw.choice([0, 1, count - 1])} --window {window} --pb-up-to {pb_up_to}"
+    lines = [f"open {name} {options} --name {name}" for name in names]
+    for _ in range(6):
+        lines += [f"tell {draw.choice(names)} send {draw.choice(['-', '61', body])}" for _ in range(4)] + ["run 2"]
+        lines += [f"tell {name} {line}" for name in names for line in ("take", "take", "done 1", "info", "state")]
+        lines += [f"tell {name} {mutated(draw).decode('latin-1')}" for name in names for _ in range(4)]
+    if count < 16:
+        lines += [f"open {count} {options} --name {count}", f"tell {count} join", "run 8"]
+    # one crashes, another resets and gives it up, more than once, and one leaves
+    lines += [f"close {names[0]}"]
+    for least in (1, 2, count):
+        lines += [f"tell {names[1]} reset {least}", "run 1", f"tell {names[1]} giveup 0", f"tell {names[1]} ask {least}", "run 6"]
+    lines += [f"tell {names[-1]} leave", "run 8", *(f"tell {name} take" for name in names[1:] for _ in range(9))]
+    lines += [f"close {name}" for name in names[1:]] + ([f"close {count}"] if count < 16 else [])
+    return "".join(f"{line}\n" for line in lines if "\n" not in line and "\0" not in line)
+
+
+def small_stack(tried: Tried) -> list[str]:
+    """No call takes more stack than muoswyld.h says, on a thread that has no more."""
+    if tried.sanitize:
+        return []
+    wrong, most = [], {}
+    for state in range(12):
+        ran = run([str(tried.folder / "stack")], stack_script(random.Random(f"stack {tried.seed} {state}")).encode("latin-1"))
+        wrong += told(f"stack, script {state},", ran)
+        said = ran.stdout.split()
+        for name, size in zip(said[:6:2], said[1:6:2]):
+            most[name] = max(most.get(name, 0), int(size))
+    return wrong or ([] if most[b"step"] > 4096 and most[b"open"] > 4096 else [f"the calls took {most}"])
 
 
 def crash(tried: Tried) -> list[str]:
@@ -241,7 +300,7 @@ def main() -> int:
     parser.add_argument("--sanitize", action="store_true")
     with tempfile.TemporaryDirectory() as folder:
         tried = Tried(parser.parse_args(), pathlib.Path(folder))
-        parts = built, transcripts, same_options, refusals, no_memory, crash, from_python, unproved, not_there, rust_tests
+        parts = built, transcripts, same_options, refusals, no_memory, small_stack, crash, from_python, unproved, not_there, rust_tests
         failed = 0
         for part in parts:
             wrong = part(tried)

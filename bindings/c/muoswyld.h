@@ -18,6 +18,7 @@
    - The pointers of one call lead to memory that is there, and no two to the same. `line` and `options` are read, no more.
    - Calls on one handle come one after another, from the thread that opened it. Two handles have nothing in common.
    - malloc, realloc and free are one allocator's, as a C library's are. No call is made from a signal handler.
+   - The thread has MUOSWYLD_STACK bytes of stack left. No proof speaks of the stack; bindings/c/stack.c measures it.
 
    Link crates/am_c/out/libam_c.a, and behind it c/liblibc_c.a of the toolchain's folder (docs/EMBEDDING.md). Nothing is proved of
    libam_c_unproved.a beside it, which `tools/library.py --quick` builds. */
@@ -35,6 +36,9 @@ extern "C" {
 typedef struct {
     void *at;
 } muoswyld_node;
+
+/* So many bytes of stack a call takes at most: `muoswyld_step` takes the most, where a ballot is looked at. */
+#define MUOSWYLD_STACK 163840
 
 /* What a call gives. */
 enum {

@@ -103,6 +103,15 @@ step_answers rules m new event outcome letters shown (Ok done) before after orde
     )
 step_answers rules m new event outcome letters shown (Err lack) before after order does are text = tt
 
+-- the same of the node that stands apart, behind a box
+pub step_answers_of : {E : Type 0} (rules : Rules) (m kept new : Node) (event : NodeEvent) (outcome : Outcome) (letters shown : List Letter)
+    (told : Result (Unit {0}) E) (before after : List ℕ) → kept ≡ m → IsInOrder kept.core → Does (λ n. row n event) kept outcome letters new
+    → shown ≡ letters → OnOk told (after ≡ before ++ (outcome_text rules outcome ++ flat_map letter_text shown))
+    → OnOk told (AnswersBy (λ n. stepped rules (step n event)) m before new after)
+step_answers_of rules m kept new event outcome letters shown told before after same order does are text =
+    subst (λ (n : Node). OnOk told (AnswersBy (λ a. stepped rules (step a event)) n before new after)) same
+    (step_answers rules kept new event outcome letters shown told before after order does are text)
+
 pub told_answers : {E : Type 0} (m : Node) (told : Result (Unit {0}) E) (before after : List ℕ) → OnOk told (after ≡ before ++ info_text m)
     → OnOk told (AnswersBy (λ n. unchanged n (info_text n)) m before m after)
 told_answers m (Ok done) before after text = λ all end. (text ∙ ap (λ (t : List ℕ). before ++ t) (info_end all m end), end)

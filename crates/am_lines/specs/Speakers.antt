@@ -14,7 +14,7 @@ pub record SpeakerState : Type 0 where
   pub failed : Bool
 
 abbrev pub speaking : Speaker → SpeakerState
-speaking s = record { rules = s.founding; node = state_of s.node; failed = s.failed }
+speaking s = record { rules = s.founding; node = state_of s.node.value; failed = s.failed }
 
 -- what was added to a text, and the node that is kept then, are those of an answer, whatever node this one is the end of
 abbrev pub AnswersBy : (Node → Answer) → Node → List ℕ → Node → List ℕ → Type 0

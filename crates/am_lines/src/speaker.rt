@@ -1,5 +1,8 @@
 ghost use Rattle.std.specs.Prelude.{◌≡◌, true, false, OnOk, OnErr, IfOk, IsErr, string_bytes};
+ghost use Rattle.am_base.specs.Names.{has};
+ghost use Rattle.am_model.specs.Node.{founder, stranger};
 ghost use Rattle.am_model.specs.Nodes.{HasNumbersLeft};
+ghost use Rattle.am_node.specs.Stands.{state_of};
 ghost use Rattle.am_lines.specs.Answers.{is_addressed, is_info, info_text, unchanged};
 
 use crate::line::{BadLine, Line};
@@ -12,16 +15,17 @@ use am_base::items::Items;
 use am_base::name::Name;
 use am_base::names::Names;
 use am_letter::out_box::{OutBox, Rooms};
+use am_node::founding::Room;
 use am_node::node::Node;
 use std::alloc::Global;
 use std::mem;
 
 /// A node that speaks lines. Contracts see it as its group's founding, its node, of which it keeps the end of the list, and
-/// whether there was no memory for an answer.
+/// whether there was no memory for an answer. The node is large, so it stands apart, and no call has it on its stack.
 #[derive(Drop)]
 pub struct Speaker {
     founding: Founding,
-    node: Node,
+    node: Box<Node>,
     rooms: Rooms,
     failed: bool,
 }
@@ -46,6 +50,25 @@ fn is_info(line: &Line) -> bool
     }
 }
 
+/// A founder's node, in a place apart. It is an error where there is no memory.
+#[inline(never)]
+fn founder_of(alloc: Global, name: Name, founding: &Founding) -> Result<Box<Node>, NoMemory>
+    requires { has founding.now.founders name ≡ true }
+    ensures { IfOk result (λ n. state_of n.value ≡ founder founding.now name) }
+{
+    let room = Room::new(alloc, founding)?;
+    Ok(Box::new(alloc, Node::founder_in(room, name))?)
+}
+
+/// The node of a name that no one has seen, in a place apart. It is an error where there is no memory.
+#[inline(never)]
+fn stranger_of(alloc: Global, name: Name, founding: &Founding) -> Result<Box<Node>, NoMemory>
+    ensures { IfOk result (λ n. state_of n.value ≡ stranger founding.now name) }
+{
+    let room = Room::new(alloc, founding)?;
+    Ok(Box::new(alloc, Node::stranger_in(room, name))?)
+}
+
 impl Speaker {
     ghost use Rattle.am_model.specs.Step.{step};
     ghost use Rattle.am_play.specs.World.{first_node};
@@ -62,9 +85,9 @@ impl Speaker {
         ensures ready { IfOk result (λ s. (speaking s).failed ≡ false) }
     {
         let node = if founding.founders().has(name) {
-            Node::founder(alloc, name, founding)?
+            founder_of(alloc, name, founding)?
         } else {
-            Node::stranger(alloc, name, founding)?
+            stranger_of(alloc, name, founding)?
         };
         Ok(Speaker {
             founding: *founding,
@@ -87,11 +110,12 @@ impl Speaker {
         ensures rules { (speaking self.new).rules ≡ (speaking self.old).rules }
         ensures flag { (speaking self.new).failed ≡ (speaking self.old).failed }
     {
-        let spare = self.node.room_for(alloc, event)?;
+        let node = &mut *self.node;
+        let spare = node.room_for(alloc, event)?;
         let left = mem::replace(&mut self.rooms, Rooms::new());
         let mut out = OutBox::over(alloc, left)?;
-        let _order = self.node.accept_front();
-        let outcome = self.node.step(event, spare, &mut out);
+        let _order = node.accept_front();
+        let outcome = node.step(event, spare, &mut out);
         let told = push_step(answer, &self.founding, &outcome, out.letters());
         let (_, rooms) = out.into_letters(alloc);
         self.rooms = rooms;

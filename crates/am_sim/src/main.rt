@@ -18,15 +18,24 @@ use am_player::status::Status;
 use am_player::telling::tell;
 use simulate::simulate;
 use std::alloc::Global;
+use std::io::ErrorKind;
 use std::process::ExitCode;
 use std::sync::Wait;
 use std::thread::Threads;
 use std::{env, io};
 
-/// The process's words; None where there was no memory for them.
-fn words_of(rt: &HostRuntime) -> Option<Vec<String>> {
-    let args = env::args(rt).ok()?;
-    args.collect(rt.alloc()).ok()
+/// The process's words; else how the call ends: where one isn't UTF-8 they have no form, and there may be no memory for them.
+fn words_of(rt: &HostRuntime) -> Result<Vec<String>, Status> {
+    match env::args(rt) {
+        Ok(args) => match args.collect(rt.alloc()) {
+            Ok(words) => Ok(words),
+            Err(_) => Err(Status::NoMemory),
+        },
+        Err(error) => match error.kind() {
+            ErrorKind::InvalidData => Err(Status::Usage),
+            _ => Err(Status::NoMemory),
+        },
+    }
 }
 
 /// Does what the words behind the program's name ask for.
@@ -51,8 +60,8 @@ fn answer<R: Threads + Wait + Sync>(
 /// Does what the process's words ask for, from standard input to standard output.
 fn main(rt: HostRuntime) -> ExitCode {
     let status = match words_of(&rt) {
-        Some(owned) => answer(&rt, rt.alloc(), rt.stdin(), rt.stdout(), owned.as_slice()),
-        None => Status::NoMemory,
+        Ok(owned) => answer(&rt, rt.alloc(), rt.stdin(), rt.stdout(), owned.as_slice()),
+        Err(status) => status,
     };
     let _ = tell(&rt, status);
     ExitCode::from(status.number())

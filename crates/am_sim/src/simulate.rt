@@ -102,7 +102,9 @@ fn is_race(words: &[&str]) -> bool
     }
 }
 
-/// Reads a race to its end, lets its threads make their calls, and writes what was done, and the text of its run.
+/// Reads a race to its end, lets its threads make their calls, and writes what was done, and the text of its run. It stands apart, so
+/// that other words don't have what it keeps on their stack.
+#[inline(never)]
 #[tactic(auto, using(am_player::proofs::Given::gave_whole))]
 fn race_script<R: Threads + Wait + Sync, S: Source, K: Sink, G: Gate + Sync>(
     rt: &R,

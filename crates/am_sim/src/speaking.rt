@@ -40,7 +40,8 @@ fn status_of(end: SpokenEnd) -> Status
     }
 }
 
-/// A node answers the lines of a source to its end.
+/// A node answers the lines of a source to its end. It stands apart, so that other words don't have the node on their stack.
+#[inline(never)]
 pub fn speak_node<R: Wait, S: Source, K: Sink>(
     rt: &R,
     alloc: Global,
