@@ -1,9 +1,12 @@
 pub mod Beginnings
 pub mod Bounds
 pub mod Deeds
+pub mod Founders
 pub mod Marks
 pub mod Meaning
 pub mod Openings
+pub mod Prefixes
+pub mod Saying
 pub mod Segments
 pub mod Texts
 pub mod Wrongs
