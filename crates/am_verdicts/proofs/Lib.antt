@@ -6,6 +6,7 @@ pub mod Marks
 pub mod Meaning
 pub mod Openings
 pub mod Prefixes
+pub mod Rights
 pub mod Saying
 pub mod Segments
 pub mod Texts

@@ -69,17 +69,17 @@ last_stays all place name number line there other h = record {
   named = h.named;
   numbered = h.numbered;
   last = λ k x behind within is. elim (below_next k place within) [
-      inl low ↦ h.last k x behind low is
-      | inr same ↦ λ named. let one : line ≡ x = cc in other (ap (λ (l : Line). l.name) one ∙ named)
-    ];
+    | inl low ↦ h.last k x behind low is
+    | inr same ↦ λ named. let one : line ≡ x = cc in other (ap (λ (l : Line). l.name) one ∙ named)
+  ];
 }
 
 none_stays : (all : List Line) (place name : ℕ) (line : Line) → slice_get all place ≡ Some line → line.name ≢ name → HasNone all place name
     → HasNone all (place + 1) name
 none_stays all place name line there other h k x within is = elim (below_next k place within) [
-    inl low ↦ h k x low is
-    | inr same ↦ λ named. let one : line ≡ x = cc in other (ap (λ (l : Line). l.name) one ∙ named)
-    ]
+  | inl low ↦ h k x low is
+  | inr same ↦ λ named. let one : line ≡ x = cc in other (ap (λ (l : Line). l.name) one ∙ named)
+]
 
 last_by : (all : List Line) (place name : ℕ) (line : Line) (b : Bool) (o : Option ℕ) → slice_get all place ≡ Some line → (line.name == name) ≡ b
     → LastBy all place name o → LastBy all (place + 1) name (cond b (Some line.number) o)
@@ -108,9 +108,9 @@ none_first_stays : (all : List Line) (place : ℕ) (holds : Line → Type 0) (li
     → ((k : ℕ) (other : Line) → k < place → slice_get all k ≡ Some other → holds other → ⊥)
     → (k : ℕ) (other : Line) → k < place + 1 → slice_get all k ≡ Some other → holds other → ⊥
 none_first_stays all place holds line there other h k x within is held = elim (below_next k place within) [
-    inl low ↦ h k x low is held
-    | inr same ↦ let one : x ≡ line = cc in other (subst holds one held)
-    ]
+  | inl low ↦ h k x low is held
+  | inr same ↦ let one : x ≡ line = cc in other (subst holds one held)
+]
 
 first_by : (all : List Line) (place number : ℕ) (line : Line) (o : Option Line) (b : Bool) → slice_get all place ≡ Some line → (line.number == number) ≡ b
     → FirstBy all place (λ x. x.number ≡ number) o → FirstBy all (place + 1) (λ x. x.number ≡ number) (or_else o (cond b (Some line) None))

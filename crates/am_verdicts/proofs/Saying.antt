@@ -184,8 +184,13 @@ begin_found : (s : Reading) (place : ℕ) (line : Line) (o : Option ℕ) → sli
     → Found s (early_at o line)
 begin_found s place line (Some last) there by = tt
 begin_found s place line None there by = found_if s (may_begin line (outline_of line.text)) (verdicts.Early line.name line.number)
-    (λ is. (place, line, is_line_at s.logs place line there, by,
-    λ outline read begins. let yes = ap (may_begin line) read ∙ may_begin_if line outline begins in let no : true ≡ false = sym yes ∙ is in cc))
+    (λ is. (
+      place,
+      line,
+      is_line_at s.logs place line there,
+      by,
+      λ outline read begins. let yes = ap (may_begin line) read ∙ may_begin_if line outline begins in let no : true ≡ false = sym yes ∙ is in cc,
+    ))
 
 early_found : (s : Reading) (place : ℕ) (before lines : List Line) → IsAt s.logs place before lines → Found s (first_early before lines)
 early_found s place before [] at = tt
@@ -387,8 +392,17 @@ sent_found : (s : Reading) (place : ℕ) (text : List ℕ) (sent : Result (ℕ �
 sent_found s place text (Err fault) lists turn there is = tt
 sent_found s place text (Ok sent) lists turn there is =
     found_if s (is_text (body_at s.sends (first_asked 0 sent.0 sent.1 s.sends)) sent.2) (verdicts.Unsent sent.0 sent.1)
-    (λ other. (lists, (place, text, sent.2, there, is,
-    λ k send line. same_send s.sends sent.0 sent.1 k send sent.2 (turn sent.0) line other)))
+    (λ other. (
+      lists,
+      (
+        place,
+        text,
+        sent.2,
+        there,
+        is,
+        λ k send line. same_send s.sends sent.0 sent.1 k send sent.2 (turn sent.0) line other,
+      ),
+    ))
 
 unsent_found : (s : Reading) (place : ℕ) (texts : List (List ℕ)) → Lists s → ((name : ℕ) → IsRun 1 (lines_of name s.sends))
     → ((k : ℕ) → slice_get s.group (place + k) ≡ slice_get texts k) → Found s (first_unsent s.sends texts)
@@ -416,9 +430,16 @@ unlogged_found s place before (taken ∷ takes) lists at =
     let there = here_at s.takes place before taken takes at in
     found_or s (unlogged_at s.logs before taken) (first_unlogged s.logs (taken ∷ before) takes)
     (found_if s (is_line (slice_get (lines_of taken.name s.logs) (count_of taken.name before)) taken) (verdicts.Unlogged taken.name taken.number)
-    (λ other. (lists, (place, taken, is_line_at s.takes place taken there,
-    λ line is. line_there (slice_get (lines_of taken.name s.logs) (count_of taken.name before)) taken line
-    (ap (slice_get (lines_of taken.name s.logs)) (at.counts taken.name) ∙ is) other))))
+    (λ other. (
+      lists,
+      (
+        place,
+        taken,
+        is_line_at s.takes place taken there,
+        λ line is. line_there (slice_get (lines_of taken.name s.logs) (count_of taken.name before)) taken line
+            (ap (slice_get (lines_of taken.name s.logs)) (at.counts taken.name) ∙ is) other,
+      ),
+    )))
     (unlogged_found s (place + 1) (taken ∷ before) takes lists (at_next s.takes place before taken takes at))
 
 untaken_found : (s : Reading) (place : ℕ) (before lines : List Line) → Lists s → IsAt s.logs place before lines → Found s (first_untaken s.takes before lines)

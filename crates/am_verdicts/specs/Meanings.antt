@@ -10,8 +10,8 @@ use Rattle.am_verdicts.specs.declared.verdict.Verdict.{Verdict}
 use Rattle.am_verdicts.specs.declared.verdict.Verdict.TheVariants as verdicts
 use Rattle.am_verdicts.specs.Fields.{outline_of, data_in}
 use Rattle.am_verdicts.specs.Lines.{Line, Reading}
-use Rattle.am_verdicts.specs.Verdicts.{bare_entry, lines_of, count_of, verdict_of}
-use Rattle.am_verdicts.specs.Agreement.{IsFounding, Begins, StandsAlone, Lists, Agreed}
+use Rattle.am_verdicts.specs.Verdicts.{bare_entry, lines_of, count_of, verdict_of, is_right}
+use Rattle.am_verdicts.specs.Agreement.{IsFounding, Begins, IsSentAt, StandsAlone, Lists, Agreed}
 
 -- ---- lines before a place
 
@@ -86,3 +86,11 @@ Says s verdicts.Agrees = Agreed s × (0 < s.events)
 -- each verdict says what holds
 abbrev pub VerdictsSay : Type 0
 VerdictsSay = (s : Reading) → Says s (verdict_of s)
+
+-- no send stands at two numbers of a list
+abbrev pub StandOnce : List (List ℕ) → Type 0
+StandOnce group = (from req j k : ℕ) → IsSentAt group j from req → IsSentAt group k from req → j ≡ k
+
+-- where a list of at most 2,000,000,000 entries has no send twice, what a verdict that agrees means is told by one that agrees
+abbrev pub AgreedAgrees : Type 0
+AgreedAgrees = (s : Reading) → length s.group ≤ most_number → StandOnce s.group → Agreed s → is_right (verdict_of s) ≡ true
