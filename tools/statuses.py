@@ -31,6 +31,7 @@ LONG_WORD = "gen" * 100
 USAGE = "usage: play | race | gen --seed N --count 1..100000 [--script] | audit | parts | messages | directory | snapshots | node --name PLACE[/LIFE] --founders PLACE,.. [--resilience 0..15] [--window 1..1008] [--pb-up-to 0..1024]"
 GROUP = b"group 1 view 1.0 0\n"
 RACE = b'{"race":{"founders":[0],"seed":1,"threads":[{"node":0,"calls":[{"do":"send","body":"61"},{"do":"take"}]}]}}'
+RACE_OF_TWO = b'{"race":{"founders":[0],"seed":1,"threads":[{"node":0,"calls":[{"do":"take"}]},{"node":0,"calls":[{"do":"take"}]}]}}'
 RACED = b"""\
 {"play":{"events":[{"body":"61","do":"send","node":0},{"do":"done","node":0,"req":1},{"do":"take","node":0}],"founders":[0],"pb_up_to":256,"resilience":0,"window":64}}
 1 send 0 61 : queued 1
@@ -180,7 +181,7 @@ def on_its_input(program, failed):
 
 
 def where_something_fails(program, failed):
-    """A directory as input, a full or closed output, a full or closed standard error, and little memory."""
+    """A directory as input, a full or closed output, a full or closed standard error, little memory, and no threads."""
     folder = os.open("/", os.O_RDONLY)
     full = os.open("/dev/full", os.O_WRONLY)
     nothing = subprocess.DEVNULL
@@ -208,6 +209,10 @@ def where_something_fails(program, failed):
             tell(failed, "a full device for race", line(["race"], again(race), full), (5, b"write fault\n"))
         tell(failed, "a pipe without data that doesn't wait", line(["play"], empty, nothing), (4, b"read fault\n"))
         tell(failed, "a pipe without data that doesn't wait, for node", line(NODE, empty, nothing), (4, b"read fault\n"))
+        with tempfile.TemporaryFile() as race:
+            race.write(RACE_OF_TWO)
+            tell(failed, "a race", line(["race"], again(race), nothing), (0, b""))
+            tell(failed, "a race without threads", without_threads(line, ["race"], again(race)), (6, b"no memory\n"))
         tell(failed, "a directory for audit", line(["audit"], folder, nothing), (4, b"read fault\n"))
         with tempfile.TemporaryFile() as text:
             text.write(TEXT)
@@ -251,6 +256,16 @@ def within_limits(program, failed):
     for words, text, written in [(["play"], SMALL, TEXT), (["race"], RACE, RACED), (["audit"], RACED, b"agrees\n"), (gen("1", "50"), b"", SUMMARY)]:
         ran = subprocess.run([program, *words], input=text, capture_output=True, timeout=110, check=False, preexec_fn=lambda: resource.setrlimit(resource.RLIMIT_STACK, (STACK, STACK)))
         tell(failed, f"{words} with {STACK} bytes of stack", (ran.returncode, ran.stdout), (0, written))
+
+
+def without_threads(line, words, source):
+    """What the program tells where no thread can be made: a thread's stack would have a terabyte, and there is a gigabyte in all."""
+
+    def limit():
+        resource.setrlimit(resource.RLIMIT_STACK, (1 << 40, resource.getrlimit(resource.RLIMIT_STACK)[1]))
+        resource.setrlimit(resource.RLIMIT_AS, (1 << 30, 1 << 30))
+
+    return line(words, source, subprocess.DEVNULL, preexec_fn=limit)
 
 
 def main(program):

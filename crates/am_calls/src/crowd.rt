@@ -1,5 +1,8 @@
+use am_base::NoMemory;
 use std::sync::atomic::{AtomicU64, Ordering};
+use std::sync::{Mutex, Wait};
 use std::thread;
+use std::thread::Threads;
 
 /// How often a caller looks whether the others have come as far.
 const MOST_LOOKS: u32 = 100_000;
@@ -11,7 +14,7 @@ const ROOM: u64 = 32;
 /// has done something: else it would spend its turns while the others wait for a processor. It is in rounds, each of which ends
 /// with the next thing that is done, or where all rest. Then it is calm, and the callers are due to go on in turn, one at a calm.
 /// No clause speaks of it, since none speaks of when a caller does what it does. Nobody waits for good: who has looked for the
-/// others 100,000 times goes on.
+/// others 100,000 times goes on, and nobody rests while somebody hasn't begun.
 #[derive(Drop)]
 pub struct Crowd {
     /// How many callers there are.
@@ -103,6 +106,9 @@ impl Crowd {
 
     /// Rests until a round is over; whether it is.
     pub fn rest(&self, round: u64) -> bool {
+        if self.begun.load(Ordering::SeqCst) < self.all {
+            return false;
+        }
         self.lie_down(round);
         for _ in 0..MOST_LOOKS {
             let now = self.resting.load(Ordering::SeqCst);
@@ -117,4 +123,20 @@ impl Crowd {
         }
         false
     }
+}
+
+/// Sees that so many callers can each have a thread, all at once, where this thread is the first one's: it makes the others, which
+/// wait for the last of them and end. No clause says so. A caller without a thread would make its calls once another has ended.
+pub fn gather<R: Threads + Wait + Sync>(rt: &R, callers: usize) -> Result<(), NoMemory> {
+    let gate = Mutex::new(());
+    let shared = &gate;
+    thread::scope(thread::scope_env(), rt, |scope| {
+        let _closed = shared.lock(rt);
+        for _ in 1..callers {
+            if scope.spawn(move || drop(shared.lock(rt))).is_err() {
+                return Err(NoMemory);
+            }
+        }
+        Ok(())
+    })
 }

@@ -6,6 +6,7 @@ ghost use Rattle.am_races.specs.Plans.{calls_of, is_call, MayRace, ArePlayed};
 ghost use Rattle.am_races.specs.Ran.{fresh_caller, fresh_callers, numbers_of, HasRun, ends_thread, first_refusal};
 
 use crate::caller::Caller;
+use crate::crowd::gather;
 use crate::gate::Gate;
 use crate::kernels::Kernels;
 use crate::naming::Racing;
@@ -105,6 +106,7 @@ fn all_run<R: Threads + Wait + Sync, N: Racing + Send + Sync, G: Gate + Sync>(
         ≡ numbers_of callers.items) }
     ensures ran { IfOk result (λ ran. All (λ r. HasRun N.plan r.caller r.refusal) ran.items) }
 {
+    gather(rt, callers.len())?;
     let ran = thread::map_vec(
         rt,
         callers,
@@ -170,7 +172,7 @@ fn race_over<R: Threads + Wait + Sync, N: Racing + Send + Sync, G: Gate + Sync>(
 
 /// Does a race (docs/PROTOCOL.md, "Races"): a thread for each thread plan makes its calls, and the journal that they leave is
 /// legal with their tags. Each thread's calls are done as far as they go on. There is no journal where a call, or the race
-/// itself, had no memory.
+/// itself, had no memory, or where the threads can't be made.
 pub fn race<R: Threads + Wait + Sync, G: Gate + Sync>(
     rt: &R,
     alloc: Global,

@@ -22,13 +22,13 @@ use Rattle.am_verdicts.specs.Verdicts.{verdict_of, verdict_line}
 use Rattle.am_verdicts.proofs.Wrongs.{agrees_means, lists_agree_means}
 use Rattle.am_player.specs.Plays.{KeepsRun, PlayedBy, IsPlayedBy}
 use Rattle.am_player.specs.Runs.{done_of, run_watch}
-use Rattle.am_player.specs.Statuses.{Took}
+use Rattle.am_player.specs.Statuses.{IfBadScript, Took}
 use Rattle.am_player.specs.declared.status.Status.{Status}
-use Rattle.am_player.specs.declared.status.Status.TheVariants.{Done, WriteFault, NoMemory}
+use Rattle.am_player.specs.declared.status.Status.TheVariants.{Done, BadScript, WriteFault, NoMemory}
 use Rattle.am_player.proofs.Played.{keeps_run, watch_is}
 use Rattle.am_sim.specs.Playing.{shown_text}
 use Rattle.am_sim.specs.Racing.{events_of, IsRaceText}
-use Rattle.am_sim.specs.Simulation.{Keeps, Played, IsPlayed, GeneratedAs, Raced, Audited, EndsGen, IsAnswer, IsAnswerAlone}
+use Rattle.am_sim.specs.Simulation.{Plays, ReadsScript, Keeps, Played, IsPlayed, GeneratedAs, Raced, Audited, EndsGen, IsAnswer, IsAnswerAlone}
 use Rattle.am_sim.proofs.Reread.{play_reads, play_agrees, race_again, race_reads, race_agrees}
 
 -- ---- what every run keeps
@@ -91,6 +91,22 @@ took_none left count limit Done source ends = (gave_none limit (left source), re
 took_none left count limit WriteFault source ends = (gave_none limit (left source), refl)
 took_none left count limit NoMemory source ends = (gave_none limit (left source), refl)
 took_none left count limit _ source ends = absurd ends
+
+-- ---- a status that tells of a script
+
+pub bad_if : (status : Status) (P : Type 0) → P → IfBadScript status (λ cause. P)
+bad_if (BadScript cause) P is = is
+bad_if _ P is = tt
+
+plays_reads : (form : Option Form) → Plays form → ReadsScript form
+plays_reads (Some (forms.Play what)) is = tt
+plays_reads _ is = absurd is
+
+pub reads_if : (form : Option Form) (status : Status) → IfBadScript status (λ cause. Plays form) → IfBadScript status (λ cause. ReadsScript form)
+reads_if form (BadScript cause) is = plays_reads form is
+reads_if form _ is = tt
+
+-- ---- what is answered
 
 -- what waits for nobody is answered as its form asks
 pub alone_is : (form : Option Form) (before after : Option (List ℕ)) (text : List ℕ) → IsAnswerAlone form before after text → IsAnswer form before after text

@@ -163,10 +163,22 @@ Waits (Some form.Race) = Unit {0}
 Waits (Some (form.Node node)) = Unit {0}
 Waits _ = ⊥
 
--- by this first cause the bytes are no race, or no play where that is read
+-- the forms that play a script
+abbrev pub Plays : Option Form → Type 0
+Plays (Some (form.Play what)) = Unit {0}
+Plays _ = ⊥
+
+-- the forms that read a script, of a play or of a race
+abbrev pub ReadsScript : Option Form → Type 0
+ReadsScript (Some (form.Play what)) = Unit {0}
+ReadsScript (Some form.Race) = Unit {0}
+ReadsScript _ = ⊥
+
+-- by this first cause the bytes are no play, or no race, where the form reads one; the other forms refuse no script
 abbrev pub IsRefused : Option Form → List ℕ → ScriptRefusal → Type 0
+IsRefused (Some (form.Play what)) bytes cause = reading bytes ≡ Err cause
 IsRefused (Some form.Race) bytes cause = race_reading bytes ≡ Err cause
-IsRefused _ bytes cause = reading bytes ≡ Err cause
+IsRefused _ bytes cause = ⊥
 
 -- how gen ends
 abbrev pub EndsGen : Status → Type 0

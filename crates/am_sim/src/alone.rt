@@ -5,7 +5,7 @@ ghost use Rattle.am_words.specs.declared.form.Form.TheVariants as form;
 ghost use Rattle.am_verdicts.specs.Lines.{read_text};
 ghost use Rattle.am_player.specs.Plays.{IsSpent};
 ghost use Rattle.am_player.specs.Statuses.{IfBadScript, IsOfAudit, Took, Wrote};
-ghost use Rattle.am_sim.specs.Simulation.{form_of_words, most_of, Reads, Waits, IsRefused, EndsGen, IsAnswerAlone, IsSummary, IfBadText, IfAudit, Judges};
+ghost use Rattle.am_sim.specs.Simulation.{form_of_words, most_of, Plays, Reads, Waits, IsRefused, EndsGen, IsAnswerAlone, IsSummary, IfBadText, IfAudit, Judges};
 
 use crate::auditing::audit_text;
 use crate::generating::{generate_script, summary_of_run};
@@ -41,6 +41,10 @@ pub fn simulate_alone<S: Source, K: Sink>(
     ensures bad_script { IfSome result (λ status. IfBadScript status (λ cause. (bytes : List ℕ)
         × ReadToEnd (S.left source.old) (S.left source.new) bytes
         × IsRefused (form_of_words words.now) bytes cause)) }
+    ensures scripts { IfSome result (λ status. IfBadScript status (λ cause.
+        Plays (form_of_words words.now))) }
+    ensures plays { IfSome result (λ status. status ≡ Status.Spent
+        → Plays (form_of_words words.now)) }
     ensures spent { IfSome result (λ status. status ≡ Status.Spent → (bytes : List ℕ)
         × ReadToEnd (S.left source.old) (S.left source.new) bytes × IsSpent bytes) }
     ensures wrote { IfSome result (λ status. Wrote K.contents K.count

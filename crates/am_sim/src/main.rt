@@ -66,3 +66,6 @@ fn main(rt: HostRuntime) -> ExitCode {
     let _ = tell(&rt, status);
     ExitCode::from(status.number())
 }
+
+#[cfg(test)]
+mod meeting;

@@ -9,7 +9,7 @@ ghost use Rattle.am_sim.specs.Speaking.{Spoken, IfNode, IsNode};
 ghost use Rattle.am_verdicts.specs.Lines.{read_text};
 ghost use Rattle.am_player.specs.Plays.{IsSpent};
 ghost use Rattle.am_player.specs.Statuses.{most_input, OnDone, OnWriteFault, IfBadScript, Writes, IsOfAudit, Took, Wrote, WrotePart, reads_after, writes_after};
-ghost use Rattle.am_sim.specs.Simulation.{form_of_words, most_of, Reads, IsRefused, EndsGen, IsAnswer, IsRacedText, IfBadText, IfAudit, Judges, Raced};
+ghost use Rattle.am_sim.specs.Simulation.{form_of_words, most_of, Plays, Reads, ReadsScript, IsRefused, EndsGen, IsAnswer, IsRacedText, IfBadText, IfAudit, Judges, Raced};
 
 use crate::alone::simulate_alone;
 use crate::racing::write_race;
@@ -46,7 +46,8 @@ pub fn simulate<R: Threads + Wait + Sync, S: Source, K: Sink, G: Gate + Sync>(
     ensures usage { (result ≡ Status.Usage) ↔ (form_of_words words.now ≡ None) }
     ensures unread { (Reads (form_of_words words.now) → ⊥) → source.new ≡ source.old }
     ensures generates { Generates (form_of_words words.now) → EndsGen result }
-    ensures races { form_of_words words.now ≡ Some form.Race → result ≢ Status.Spent }
+    ensures scripts { IfBadScript result (λ cause. ReadsScript (form_of_words words.now)) }
+    ensures plays { result ≡ Status.Spent → Plays (form_of_words words.now) }
     ensures reads { S.count source.new ≡ reads_after result (S.count source.old) }
     ensures writes { K.count sink.new ≡ writes_after result (K.count sink.old) }
     ensures too_long { result ≡ Status.TooLong

@@ -3,7 +3,7 @@ use am_base::founding::Founding;
 use am_base::items::Items;
 use am_base::name::Name;
 use am_base::names::Names;
-use am_calls::gate::{Gate, Meeting};
+use am_calls::gate::Gate;
 use am_calls::plans::may_race;
 use am_calls::race::race;
 use am_group::event::{Act, By};
@@ -66,16 +66,6 @@ fn records_of<R: Threads + Wait + Sync, G: Gate + Sync>(
         Ok(journal) => journal.records().len(),
         Err(_) => 0,
     }
-}
-
-/// Each of two calls at two nodes waits under its node's lock for the other.
-#[test]
-fn two_nodes_at_once(rt: HostRuntime) -> Result<(), Fail> {
-    let plan = plan_of(rt.alloc(), 3, &[(0, 1), (1, 1)], 200)?;
-    let gate = Meeting::new();
-    assert!(rt; records_of(&rt, rt.alloc(), &plan, &gate) == 2);
-    assert!(rt; gate.has_met());
-    Ok(())
 }
 
 /// Counts the acts that are done under two nodes' locks, and those of two callers.

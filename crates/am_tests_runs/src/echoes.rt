@@ -44,6 +44,8 @@ fn echo_once<R: Wait, N: Racing, G: Gate>(
 struct Echo;
 
 impl Job for Echo {
+    ghost did = { λ _ _. Unit {0} };
+
     fn run<R: Wait, N: Racing, G: Gate>(
         &self,
         rt: &R,
@@ -81,5 +83,15 @@ fn one_that_founds_alone_echoes(rt: HostRuntime) -> Result<(), Fail> {
     let plan = plan_of(rt.alloc(), 1, &[(0, 0)], 200)?;
     let records = echo_twice(&rt, rt.alloc(), &plan)?;
     assert!(rt; records == 9);
+    Ok(())
+}
+
+// Two callers at one place share its node: what one of them takes the other doesn't, and one that waits in vain makes its 200 turns. One
+// alone leaves 9 records, so two leave more.
+#[test]
+fn two_that_share_a_place_echo(rt: HostRuntime) -> Result<(), Fail> {
+    let plan = plan_of(rt.alloc(), 1, &[(0, 0), (0, 0)], 200)?;
+    let records = echo_twice(&rt, rt.alloc(), &plan)?;
+    assert!(rt; 9 < records);
     Ok(())
 }

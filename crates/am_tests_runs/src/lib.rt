@@ -7,3 +7,7 @@ mod calls;
 mod echoes;
 #[cfg(test)]
 mod examples;
+#[cfg(test)]
+mod one_caller;
+#[cfg(test)]
+mod worlds;

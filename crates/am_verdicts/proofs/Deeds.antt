@@ -22,7 +22,7 @@ turned_by : (b : Bool) (o : Option ℕ) (send : Line) (sends : List Line) → (b
 turned_by true o send sends here later = (here refl, subst (λ (n : ℕ). IsRun (n + 1) sends) (here refl) later)
 turned_by false o send sends here later = later
 
-turned : (sends before : List Line) (name : ℕ) → first_skipped before sends ≡ None → IsRun (unwrap_or (last_of name before) 0 + 1) (lines_of name sends)
+pub turned : (sends before : List Line) (name : ℕ) → first_skipped before sends ≡ None → IsRun (unwrap_or (last_of name before) 0 + 1) (lines_of name sends)
 turned [] before name none = tt
 turned (send ∷ sends) before name none =
     let here = eqb-true send.number (unwrap_or (last_of send.name before) 0 + 1)

@@ -1,9 +1,13 @@
 pub mod Beginnings
 pub mod Bounds
 pub mod Deeds
+pub mod Founders
 pub mod Marks
 pub mod Meaning
 pub mod Openings
+pub mod Prefixes
+pub mod Rights
+pub mod Saying
 pub mod Segments
 pub mod Texts
 pub mod Wrongs

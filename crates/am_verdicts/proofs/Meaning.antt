@@ -8,6 +8,7 @@ use Rattle.am_base.specs.Most.{most_number}
 use Rattle.am_base.specs.Names.{has}
 use Rattle.am_base.specs.Lists.{blank, after, fits, AllFit}
 use Rattle.am_base.specs.declared.image.Image.{Image}
+use Rattle.am_base.specs.declared.entry.GroupView.{GroupView}
 use Rattle.am_group.specs.Journals.{item_at}
 use Rattle.am_spelling.specs.declared.fault.FieldFault.{FieldFault}
 use Rattle.am_verdicts.specs.declared.verdict.Verdict.TheVariants as verdicts
@@ -18,7 +19,8 @@ use Rattle.am_verdicts.specs.Fields.{outline_of, data_in, is_send}
 use Rattle.am_verdicts.specs.Lines.{Line, Reading}
 use Rattle.am_verdicts.specs.Verdicts.{or_else, last_of, first_fault, is_text, first_astray, once_more, stands, is_at, lost_at, first_lost, may_begin, early_at}
 use Rattle.am_verdicts.specs.Verdicts.{first_early, bare_entry, founds, fits_at, image_after, first_misfit, lines_of, wrong_lists}
-use Rattle.am_verdicts.specs.Agreement.{IsPiece, Begins, BeginsAt, StandsAlone, IsFounded, AreFitting, Lists}
+use Rattle.am_verdicts.specs.Agreement.{IsPiece, Begins, BeginsAt, StandsAlone, IsFounding, IsFounded, AreFitting, Lists}
+use Rattle.am_verdicts.proofs.Founders.{founding_of}
 use Rattle.am_verdicts.proofs.Segments.{none_first, none_second, log_runs, log_in_list, all_in, number_at, there_at, lead}
 
 pub right_if : {A : Type 0} (b : Bool) (x : A) → cond b None (Some x) ≡ None → b ≡ true
@@ -114,13 +116,13 @@ segment_of s name faultless listed begin some =
 
 -- ---- answered sends
 
-send_by : (from req : ℕ) (sent : Result (ℕ × ℕ × List ℕ) FieldFault) → is_send from req sent ≡ true → (body : List ℕ) × (sent ≡ Ok (from, req, body))
+pub send_by : (from req : ℕ) (sent : Result (ℕ × ℕ × List ℕ) FieldFault) → is_send from req sent ≡ true → (body : List ℕ) × (sent ≡ Ok (from, req, body))
 send_by from req (Ok parts) is =
     let both = and_both (parts.0 == from) (parts.1 == req) is in
     (parts.2, ap (λ (n : ℕ). Ok (n, parts.1, parts.2)) (eqb-true parts.0 from both.0) ∙ ap (λ (n : ℕ). Ok (from, n, parts.2)) (eqb-true parts.1 req both.1))
 send_by from req (Err fault) is = cc
 
-send_is : (from req : ℕ) (body : List ℕ) (sent : Result (ℕ × ℕ × List ℕ) FieldFault) → sent ≡ Ok (from, req, body) → is_send from req sent ≡ true
+pub send_is : (from req : ℕ) (body : List ℕ) (sent : Result (ℕ × ℕ × List ℕ) FieldFault) → sent ≡ Ok (from, req, body) → is_send from req sent ≡ true
 send_is from req body sent is =
     ap (is_send from req) is ∙ ap (λ b. b && (req == req)) (eq-eqb from from refl) ∙ eq-eqb req req refl
 
@@ -244,9 +246,9 @@ fitting number image (text ∷ texts) behind none =
       (fit.2, rest.2),
     )
 
-found_by : (r : Result Outline FieldFault) → fits_at 1 blank r ≡ true → (outline : Outline) × (r ≡ Ok outline) × (founds outline ≡ true)
+found_by : (r : Result Outline FieldFault) → fits_at 1 blank r ≡ true → (view : GroupView) × (r ≡ Ok (outlines.View view)) × IsFounding view
 found_by (Err fault) h = cc
-found_by (Ok outline) h = (outline, refl, h)
+found_by (Ok outline) h = let found = founding_of outline h in (found.0, ap (λ (o : Outline). Ok o) found.1, found.2)
 
 founded_first : (group : List (List ℕ)) → first_misfit 1 blank group ≡ None → IsFounded group
 founded_first [] none text is = cc
@@ -257,12 +259,16 @@ founded_first (first ∷ texts) none text is =
     (outline_of first)) texts) none)) in
     (found.0, ap outline_of (sym same) ∙ found.1, found.2)
 
+first_read : (r : Result Outline FieldFault) → fits_at 1 blank r ≡ true → (outline : Outline) × (r ≡ Ok outline)
+first_read (Err fault) h = cc
+first_read (Ok outline) h = (outline, refl)
+
 founded_fits : (group : List (List ℕ)) → first_misfit 1 blank group ≡ None → AreFitting group
 founded_fits [] none = ([], refl, tt)
 founded_fits (first ∷ texts) none =
     let later = first_misfit 2 (image_after 1 blank (outline_of first)) texts in
     let here = cond (fits_at 1 blank (outline_of first)) None (Some (verdicts.Misfit 1)) in
-    let found = found_by (outline_of first) (right_if (fits_at 1 blank (outline_of first)) (verdicts.Misfit 1) (none_first here later none)) in
+    let found = first_read (outline_of first) (right_if (fits_at 1 blank (outline_of first)) (verdicts.Misfit 1) (none_first here later none)) in
     let rest = fitting 2 (after blank 1 (bare_entry found.0)) texts (omega arith)
     (subst (λ (r : Result Outline FieldFault). first_misfit 2 (image_after 1 blank r) texts ≡ None) found.1 (none_second here later none)) in (
       found.0 ∷ rest.0,

@@ -1,8 +1,9 @@
 -- What is claimed of a text whose verdict agrees.
-use Rattle.std.specs.Prelude.{◌≡◌, ◌≢◌, ℕ, ◌+◌, ◌<◌, ◌≤◌, ◌==◌, not, List, [], ◌∷◌, ◌++◌, length, map, slice_get, Some, Ok, Err, true}
+use Rattle.std.specs.Prelude.{◌≡◌, ◌≢◌, ℕ, ◌+◌, ◌<◌, ◌≤◌, ◌==◌, not, List, [], ◌∷◌, ◌++◌, length, map, slice_get, slice_index, Some, Ok, Err, true}
 use Rattle.std.specs.List.{list_all}
 use Rattle.am_base.specs.Names.{has}
 use Rattle.am_base.specs.Lists.{blank, after, AllFit}
+use Rattle.am_base.specs.declared.entry.GroupView.{GroupView}
 use Rattle.am_group.specs.Journals.{item_at}
 use Rattle.am_verdicts.specs.declared.outline.Outline.{Outline}
 use Rattle.am_verdicts.specs.declared.outline.Outline.TheVariants as outlines
@@ -10,7 +11,7 @@ use Rattle.am_verdicts.specs.declared.line.Answer.{Answer}
 use Rattle.am_verdicts.specs.Fields.{outline_of, data_in}
 use Rattle.am_verdicts.specs.Lines.{Line, Reading, read_text}
 use Rattle.am_verdicts.specs.declared.verdict.Verdict.TheVariants as verdicts
-use Rattle.am_verdicts.specs.Verdicts.{bare_entry, founds, lines_of, verdict_of}
+use Rattle.am_verdicts.specs.Verdicts.{bare_entry, lines_of, verdict_of}
 
 -- a log's lines are the list's entries from a number on, without a gap
 pub record IsPiece (group : List (List ℕ)) (log : List Line) (start : ℕ) : Type 0 where
@@ -36,9 +37,17 @@ pub record StandsAlone (group : List (List ℕ)) (from req number : ℕ) : Type 
   pub there : IsSentAt group number from req
   pub only : (k : ℕ) → IsSentAt group k from req → k ≡ number
 
+-- a founders' view: of round 1, by the lowest of its names, which are all of life 1, without resilience. A name of life 1 is its place
+pub record IsFounding (v : GroupView) : Type 0 where
+  pub round : v.stamp.round ≡ 1
+  pub founder : slice_index v.members v.stamp.by ≡ 1
+  pub lowest : (place : ℕ) → place < v.stamp.by → slice_index v.members place ≡ 0
+  pub lives : (place : ℕ) → slice_index v.members place ≤ 1
+  pub resilience : v.resilience ≡ 0
+
 -- entry 1 is a founders' view
 abbrev pub IsFounded : List (List ℕ) → Type 0
-IsFounded group = (text : List ℕ) → item_at group 1 ≡ Some text → (outline : Outline) × (outline_of text ≡ Ok outline) × (founds outline ≡ true)
+IsFounded group = (text : List ℕ) → item_at group 1 ≡ Some text → (view : GroupView) × (outline_of text ≡ Ok (outlines.View view)) × IsFounding view
 
 -- each entry behind the first fits those before it
 abbrev pub FitBehind : List Outline → Type 0

@@ -1,4 +1,5 @@
 pub mod Agreement
 pub mod Fields
 pub mod Lines
+pub mod Meanings
 pub mod Verdicts

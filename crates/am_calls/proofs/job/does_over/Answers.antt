@@ -10,9 +10,12 @@ finish-requires g c = record {
 
 pub returns-clause-left : goal.returns-clause-left
 returns-clause-left g c = record {
-  callers = c.in_ok-callers.callers.items;
-  numbers = c.in_ok-callers.ensures.numbers
-      ∙ fresh_numbers (length g.N.Racing.plan.threads) c.in_ok-kernels.callers.items c.in_ok-kernels.ensures;
-  legal = c.finish.ensures.legal;
-  ends = c.finish.ensures.ends;
+  left = record {
+    callers = c.in_ok-callers.callers.items;
+    numbers = c.in_ok-callers.ensures.numbers
+        ∙ fresh_numbers (length g.N.Racing.plan.threads) c.in_ok-kernels.callers.items c.in_ok-kernels.ensures;
+    legal = c.finish.ensures.legal;
+    ends = c.finish.ensures.ends;
+  };
+  done = c.in_ok-callers.ensures.done;
 }

@@ -4,8 +4,8 @@ use Rattle.am_words.specs.declared.form.Form.{Form}
 use Rattle.am_words.specs.declared.form.Form.TheVariants as form
 use Rattle.am_player.specs.Statuses.{IfBadScript, Took, Wrote}
 use Rattle.am_player.proofs.Statuses.{wrote_more}
-use Rattle.am_sim.specs.Simulation.{form_of_words, most_of, IsRefused, IsAnswerAlone}
-use Rattle.am_sim.proofs.Answered.{is_played}
+use Rattle.am_sim.specs.Simulation.{form_of_words, most_of, Plays, IsRefused, IsAnswerAlone}
+use Rattle.am_sim.proofs.Answered.{bad_if, is_played}
 use Rattle.am_sim.proofs.alone.simulate_alone.Given.{Over}
 use Rattle.am_sim.proofs.alone.simulate_alone.Goals as goal
 
@@ -17,6 +17,12 @@ returns-in-Some-Play-clause-bad_script g c =
     subst (λ (a : Option Form). IfBadScript c.play.result (λ cause. (x : List ℕ)
     × ReadToEnd (g.S.Source.left c.args.source.now) (g.S.Source.left c.play.new.source) x
     × IsRefused a x cause)) (same g c) c.play.ensures.bad_script
+
+pub returns-in-Some-Play-clause-scripts : goal.returns-in-Some-Play-clause-scripts
+returns-in-Some-Play-clause-scripts g c = bad_if c.play.result (Plays (form_of_words c.args.words.now)) (subst Plays (same g c) tt)
+
+pub returns-in-Some-Play-clause-plays : goal.returns-in-Some-Play-clause-plays
+returns-in-Some-Play-clause-plays g c = λ is. subst Plays (same g c) tt
 
 pub returns-in-Some-Play-clause-took : goal.returns-in-Some-Play-clause-took
 returns-in-Some-Play-clause-took g c =

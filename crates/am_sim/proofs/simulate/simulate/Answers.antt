@@ -5,8 +5,9 @@ use Rattle.am_words.specs.declared.form.Form.{Form}
 use Rattle.am_words.specs.declared.form.Form.TheVariants as form
 use Rattle.am_words.specs.Forms.{Generates}
 use Rattle.am_player.specs.Statuses.{IfBadScript, OnDone, OnWriteFault, WrotePart}
-use Rattle.am_sim.specs.Simulation.{form_of_words, most_of, Reads, IsRefused, IsAnswer}
+use Rattle.am_sim.specs.Simulation.{form_of_words, most_of, Reads, ReadsScript, IsRefused, IsAnswer}
 use Rattle.am_player.proofs.Statuses.{took_counts, took_more, took_few, wrote_counts, wrote_part, wrote_whole, wrote_none}
+use Rattle.am_sim.proofs.Answered.{bad_if, reads_if}
 use Rattle.am_sim.proofs.simulate.simulate.Given.{Over}
 use Rattle.am_sim.proofs.simulate.simulate.Goals as goal
 
@@ -29,6 +30,10 @@ returns-then-is_race-clause-bad_script g c =
     subst (λ (a : Option Form). IfBadScript c.race_script.result (λ cause. (x : List ℕ)
     × ReadToEnd (g.S.Source.left c.args.source.now) (g.S.Source.left c.race_script.new.source) x
     × IsRefused a x cause)) (sym (is_asked g c)) c.race_script.ensures.bad_script
+
+pub returns-then-is_race-clause-scripts : goal.returns-then-is_race-clause-scripts
+returns-then-is_race-clause-scripts g c =
+    bad_if c.race_script.result (ReadsScript (form_of_words c.args.words.now)) (subst ReadsScript (sym (is_asked g c)) tt)
 
 pub returns-then-is_race-clause-part : goal.returns-then-is_race-clause-part
 returns-then-is_race-clause-part g c = λ not_node.
@@ -67,3 +72,6 @@ returns-then-is_race-clause-unwritten g c = λ not_node none.
 pub returns-clause-within : goal.returns-clause-within
 returns-clause-within g c = λ not_node other.
     took_few g.S.Source.left g.S.Source.count _ c.in-Some-simulate_alone.status _ _ other c.in-Some-simulate_alone.ensures.took
+
+pub returns-clause-scripts : goal.returns-clause-scripts
+returns-clause-scripts g c = reads_if (form_of_words c.args.words.now) c.in-Some-simulate_alone.status c.in-Some-simulate_alone.ensures.scripts
