@@ -2,6 +2,7 @@ pub mod Lists
 pub mod Records
 pub mod Resiliences
 pub mod Parts
+pub mod Processes
 pub mod Claim
 pub mod Rows
 pub mod Calm
