@@ -89,3 +89,9 @@ pub mod Left
 pub mod Upheld
 pub mod Counted
 pub mod RepairedSettled
+pub mod Asks
+pub mod Lined
+pub mod Outs
+pub mod Settled
+pub mod SettledRuns
+pub mod AnsweredRuns

@@ -65,7 +65,7 @@ followed rules events e v r own range body numbers is records owns =
     let world : run rules (events ++ e ∷ []) ≡ v = runs_go_on (start rules) events (e ∷ []) ∙ is in
     let long : length w.records ≡ length events = one_record_each rules events in
     let by : (other : ℕ) → parts_by rules (events ++ e ∷ []) other
-        ≡ more_parts (parts_by rules events) (current w (place_of e.node)) (part_of r own) other = λ other.
+    ≡ more_parts (parts_by rules events) (current w (place_of e.node)) (part_of r own) other = λ other.
     ap (parts_of other (start rules) (events ++ e ∷ [])) (ap (λ (u : World). u.records) world ∙ records)
     ∙ parts_push other (start rules) events e w.records r long
     ∙ ap (λ o. parts_by rules events other ++ (if other == current w (place_of e.node) then part_of r o else [])) owns in

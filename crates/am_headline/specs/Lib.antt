@@ -4,6 +4,7 @@ pub mod Resiliences
 pub mod Parts
 pub mod Processes
 pub mod Claim
+pub mod Answers
 pub mod Rows
 pub mod Calm
 pub mod Rounds
