@@ -1,5 +1,5 @@
 -- What is answered in every run, and behind a lossless schedule.
-use Rattle.am_headline.proofs.Words.{◌≡◌, ℕ, ◌<◌, ◌≤◌, List, ◌++◌, true, subst, arith, Rules, MayFound, has, Event, top, World, start, current, run}
+use Rattle.am_headline.proofs.Words.{◌≡◌, ℕ, ◌<◌, List, ◌++◌, true, subst, arith, Rules, MayFound, has, Event, top, World, start, current, run}
 use Rattle.am_headline.proofs.Words.{lawful_front, runs_go_on}
 use Rattle.am_model.specs.Node.{members}
 use Rattle.am_play.specs.Settle.{settle_events}

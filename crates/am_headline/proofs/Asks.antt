@@ -1,6 +1,6 @@
 -- Of a node's sends only the one that waits goes out: which sends the letters of each step ask for.
-use Rattle.am_laws.proofs.Words.{[], ◌≡◌, ℕ, ◌+◌, ◌≤◌, ◌==◌, ◌||◌, not, min, nat_lt, nat_le, if◌then◌else◌, Bool, true, false, List, ◌∷◌, Option, Some, None}
-use Rattle.am_laws.proofs.Words.{refl, sym, subst, arith, All, All-nil, GroupView, Stamp, Report, Row, Image, Vote, Data, Join, Leave, View, Entry, Outcome}
+use Rattle.am_laws.proofs.Words.{[], ◌≡◌, ℕ, ◌+◌, ◌≤◌, not, min, nat_le, if◌then◌else◌, Bool, true, false, List, ◌∷◌, Option, Some, None}
+use Rattle.am_laws.proofs.Words.{refl, All, All-nil, GroupView, Stamp, Row, Vote, Data, Join, Leave, View, Entry, Outcome}
 use Rattle.am_laws.proofs.Words.{Status}
 use Rattle.am_laws.proofs.Words.{at_place, Packet, Letter, OwnSend, Node, Ballot, NodeEvent, top, image_of, push_entry, trim_up_to, waiting, Plan, quiet}
 use Rattle.am_laws.proofs.Words.{take_report, answer_request, request_row, ack_row, nack_row, spread_row, store_fitting, store, with_noted, receive_entry}
@@ -9,15 +9,14 @@ use Rattle.am_laws.proofs.Words.{begin_list}
 use Rattle.am_laws.proofs.Words.{welcome_row, leave_ask_row, gone_row, with_promise, invite_row, take_vote, vote_row, fetch_row, push_fetched, catch_up}
 use Rattle.am_laws.proofs.Words.{decide_anew, piece_promised, piece_for, piece_row, hears_result, result_row, hear_row, hear, step, row, hear_refusal, refuse}
 use Rattle.am_laws.proofs.Words.{finish, refresh_at_end, reset_row, asks_to_leave, Verdict, decide, begin, keep_vote, give_up, give_up_of, send_row, done_row}
-use Rattle.am_laws.proofs.Words.{take_row, join_row, state_row, leave_row, ask_row, give_up_row, tick_row, queue, give_out, emit, with_queued, join_by}
+use Rattle.am_laws.proofs.Words.{take_row, join_row, state_row, leave_row, ask_row, give_up_row, tick_row, give_out, emit, with_queued, join_by}
 use Rattle.am_laws.proofs.Words.{state_by}
-use Rattle.am_laws.proofs.Words.{go, leave_now, leave_by, ask_of, tick_ballot, tick_member, put_off, and_result, tick_sequencer, tick_acting, tick_with}
+use Rattle.am_laws.proofs.Words.{go, leave_by, ask_of, tick_ballot, tick_member, put_off, and_result, tick_sequencer, tick_acting, tick_with}
 use Rattle.am_laws.proofs.Words.{tick_by}
 use Rattle.am_base.specs.declared.outcome.Outcome.TheVariants as said
 use Rattle.am_base.specs.declared.event.NodeEvent.TheVariants as does
 use Rattle.am_packet.specs.declared.packet.Packet.TheVariants as packet
 use Rattle.am_packet.specs.Boxes.{with_letter}
-use Rattle.am_state.specs.Sends as own
 use Rattle.am_model.specs.declared.status.Status.TheVariants as status
 use Rattle.am_base.specs.Names.{without_name}
 use Rattle.am_base.specs.Stamps.{stamp_eq}

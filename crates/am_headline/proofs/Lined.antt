@@ -1,9 +1,8 @@
 -- A node's sends stand in line, and the request that may have gone out never falls.
-use Rattle.am_laws.proofs.Words.{◌≡◌, ℕ, ◌+◌, ◌≤◌, min, Bool, true, false, List, [], ◌∷◌, ◌++◌, find, filter, map, Option, Some, None, refl, sym, ap, subst}
-use Rattle.am_laws.proofs.Words.{arith, split, not, Leave, Outcome, OwnSend, Node, Ballot, push_entry, waiting, Verdict, refresh, settle, refresh_at_end}
-use Rattle.am_laws.proofs.Words.{settle_at}
-use Rattle.am_laws.proofs.Words.{accepted_at, with_queued, Cause, Looks, finds_itself_out, Change, Changes, refreshes, settles, looks, queues, collects, closes}
-use Rattle.am_laws.proofs.Words.{along, refresh_is, rests_refresh}
+use Rattle.am_laws.proofs.Words.{◌≡◌, ℕ, ◌+◌, ◌≤◌, min, true, false, List, [], ◌∷◌, find, Some, None, refl, ap, subst}
+use Rattle.am_laws.proofs.Words.{arith, split, Leave, Outcome, OwnSend, Node, Ballot, push_entry, waiting, Verdict, refresh, settle, refresh_at_end}
+use Rattle.am_laws.proofs.Words.{Cause, Looks, finds_itself_out, Change, Changes, refreshes, settles, looks, queues, collects, closes}
+use Rattle.am_laws.proofs.Words.{along, refresh_is}
 use Rattle.std.specs.Prelude.{is_some}
 use Rattle.am_state.specs.Sends as own
 use Rattle.am_state.specs.Sends.{are_in_line, next_in, is_unsettled}

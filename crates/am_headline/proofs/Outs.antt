@@ -1,26 +1,24 @@
 -- Of each name's sends no more has gone out than the one that waits.
-use Rattle.am_laws.proofs.Words.{equals_itself, ◌≡◌, ℕ, ◌+◌, ◌≤◌, ◌==◌, not, nat_lt, nat_le, Bool, true, false, if◌then◌else◌, List, [], ◌∷◌, ◌++◌, length}
-use Rattle.am_laws.proofs.Words.{take}
+use Rattle.am_laws.proofs.Words.{equals_itself, ◌≡◌, ℕ, ◌+◌, ◌≤◌, ◌==◌, not, nat_lt, nat_le, Bool, true, false, if◌then◌else◌, List, [], ◌∷◌, length}
 use Rattle.am_laws.proofs.Words.{Option, Some, None, refl, sym, ap, ◌∙◌, subst, arith, split, drop, list_any, All, All-nil, All-cons, All-append, All-weaker}
 use Rattle.am_laws.proofs.Words.{All-drop}
 use Rattle.am_laws.proofs.Words.{Report, Stamp, Entry, Data, Leave, View, Outcome, NodeEvent, Rules, MayFound, KeptBody, is_of, keep_body, Packet, Letter, Act}
 use Rattle.am_laws.proofs.Words.{Event}
-use Rattle.am_laws.proofs.Words.{is_for, letter_at, Node, Ballot, push_entry, trim_up_to, waiting, with_queued, Verdict, refresh, settle, refresh_at_end, Step}
+use Rattle.am_laws.proofs.Words.{is_for, letter_at, Node, Ballot, push_entry, waiting, with_queued, Verdict, refresh, refresh_at_end, Step}
 use Rattle.am_laws.proofs.Words.{step}
-use Rattle.am_laws.proofs.Words.{hear, hear_refusal, packet_length, World, start, first_node, founders_view, founder, stranger, is_stopped, with_record}
+use Rattle.am_laws.proofs.Words.{hear, hear_refusal, packet_length, World, start, founders_view, is_stopped, with_record}
 use Rattle.am_laws.proofs.Words.{with_step}
-use Rattle.am_laws.proofs.Words.{hears_letter, hear_cut, lives_on, acts_as, happens, happen, run, set_at, Cause, calls, hears, BringsSend, by_request}
+use Rattle.am_laws.proofs.Words.{hears_letter, hear_cut, lives_on, acts_as, happens, happen, run, Cause, hears, BringsSend, by_request}
 use Rattle.am_laws.proofs.Words.{by_spread}
 use Rattle.am_laws.proofs.Words.{Numbers, asked_send, own_send, asked_join, asked_leave, Carries, whole_entry, by_number, Looks, decides, Change, Changes}
 use Rattle.am_laws.proofs.Words.{refreshes}
 use Rattle.am_laws.proofs.Words.{settles, numbers, keeps_body, stores, begins_list, looks, fetches, stores_view, closes, unchanged, changed, Says, request}
 use Rattle.am_laws.proofs.Words.{spread}
-use Rattle.am_laws.proofs.Words.{bcast, order, piece, LetterSays, Effect, actor, heard_by, all_get, all_item, along, refresh_is, settle_is}
+use Rattle.am_laws.proofs.Words.{bcast, order, piece, Effect, actor, all_get, all_item, along, refresh_is, settle_is}
 use Rattle.am_base.specs.declared.outcome.Outcome.TheVariants as said
 use Rattle.am_base.specs.declared.event.NodeEvent.TheVariants as does
 use Rattle.am_packet.specs.declared.packet.Packet.TheVariants as packet
 use Rattle.am_group.specs.declared.event.Act.TheVariants as act
-use Rattle.std.specs.Prelude.{is_some}
 use Rattle.std.proofs.Common.{eqb-true, get_or}
 use Rattle.am_state.specs.Sends as own
 use Rattle.am_state.proofs.Lines.{push_line, waiting_low}

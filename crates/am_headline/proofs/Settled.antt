@@ -1,24 +1,20 @@
 -- Each own send that stands in a node's list, from where the node joined up to what it has accepted, is settled.
-use Rattle.am_laws.proofs.Words.{equals_itself, ◌≡◌, ◌≢◌, ◌⊎◌, inl, inr, ⊎_elim, ℕ, zero, suc, ◌+◌, ◌-◌, ◌<◌, ◌≤◌, ◌==◌, ◌&&◌, max, min, nat_lt, nat_le, Bool}
+use Rattle.am_laws.proofs.Words.{◌≡◌, ◌⊎◌, inl, inr, ℕ, zero, suc, ◌+◌, ◌-◌, ◌<◌, ◌≤◌, ◌==◌, ◌&&◌, max, nat_lt, nat_le, Bool}
 use Rattle.am_laws.proofs.Words.{true}
-use Rattle.am_laws.proofs.Words.{false, not, if◌then◌else◌, List, [], ◌∷◌, ◌++◌, length, take, drop, find, Option, Some, None, slice_get, refl, sym, ap, ◌∙◌}
-use Rattle.am_laws.proofs.Words.{subst}
-use Rattle.am_laws.proofs.Words.{arith, split, nat_tests, length-append, length-drop, length-take, get_or, All, cases_lt, Stamp, Image, Entry, Data, Leave}
+use Rattle.am_laws.proofs.Words.{false, List, [], ◌∷◌, ◌++◌, length, take, drop, find, Option, Some, None, slice_get, refl, sym, ap, ◌∙◌}
+use Rattle.am_laws.proofs.Words.{arith, split, nat_tests, length-drop, length-take, get_or, cases_lt, Stamp, Image, Entry, Data, Leave}
 use Rattle.am_laws.proofs.Words.{Outcome, Log}
-use Rattle.am_laws.proofs.Words.{top_of, entry_at, Rules, MayFound, Packet, Letter, OwnSend, Event, Node, Ballot, push_entry, waiting, accepted_at, settle_at}
+use Rattle.am_laws.proofs.Words.{top_of, entry_at, OwnSend, Node, Ballot, push_entry, waiting, accepted_at, settle_at}
 use Rattle.am_laws.proofs.Words.{Verdict}
-use Rattle.am_laws.proofs.Words.{settle_waiting, settle, refresh, refresh_at_end, advance, lead, own_report, tell, go_on, pass_over, is_sequencer, Step, step}
-use Rattle.am_laws.proofs.Words.{row}
-use Rattle.am_laws.proofs.Words.{done_row, finish, World, start, first_node, founder, stranger, with_record, with_step, happens, happen, run, has, Cause, calls}
+use Rattle.am_laws.proofs.Words.{settle_waiting, settle, refresh, refresh_at_end, lead, own_report, tell, go_on, pass_over, is_sequencer}
+use Rattle.am_laws.proofs.Words.{start, Cause, calls}
 use Rattle.am_laws.proofs.Words.{hears}
-use Rattle.am_laws.proofs.Words.{Looks, finds_itself_out, Change, Changes, refreshes, settles, begins_list, looks, takes, closes, numbers, stores, fetches}
+use Rattle.am_laws.proofs.Words.{Looks, finds_itself_out, Change, refreshes, settles, begins_list, looks, takes, closes, numbers, stores, fetches}
 use Rattle.am_laws.proofs.Words.{stores_view}
-use Rattle.am_laws.proofs.Words.{decides, View, departs, changed, unchanged, Effect, actor}
-use Rattle.am_laws.proofs.Words.{IsCause, Happens, steps, along, refresh_is, settle_is, rests_refresh, rests_at_end, entry_is, get_front, asking_log}
-use Rattle.am_laws.proofs.Words.{heard_letter}
-use Rattle.am_laws.proofs.Words.{events_have_effects}
+use Rattle.am_laws.proofs.Words.{decides, View}
+use Rattle.am_laws.proofs.Words.{settle_is, rests_refresh, rests_at_end, entry_is, get_front}
 use Rattle.std.proofs.Common.{cond, append_assoc}
-use Rattle.std.specs.List.{position, position_or_len, list_all}
+use Rattle.std.specs.List.{position, position_or_len}
 use Rattle.std.proofs.lemmas.List.{get_or-drop, get_or-take}
 use Rattle.std.proofs.lemmas.List.Folds.{find_at}
 use Rattle.std.proofs.lemmas.Option.{slice_get-get_or, get_or_from_slice_get, slice_get_past, slice_get_within}
@@ -30,20 +26,9 @@ use Rattle.am_state.specs.Refresh.{let_go}
 use Rattle.am_state.specs.Sends as own
 use Rattle.am_state.specs.Sends.{are_in_line, next_in, is_unsettled, is_request}
 use Rattle.am_state.proofs.Lines.{waiting_next, settle_line}
-use Rattle.am_model.specs.declared.status.Status.TheVariants.{Departed}
-use Rattle.am_model.specs.Node.{entries_above}
 use Rattle.am_model.specs.Refresh.{is_data_of}
-use Rattle.am_laws.specs.Courses as course
-use Rattle.am_laws.specs.Courses.{Ending, at_end, closing}
-use Rattle.am_laws.specs.Effects.{Answers, HasTaken, AnswersAsk, HasBegun}
-use Rattle.am_laws.proofs.Plans.{course_changes}
-use Rattle.am_laws.proofs.RunCounts.{numbers_hold, set_same, first_of}
-use Rattle.am_laws.proofs.Named.{run_named, few_names}
-use Rattle.am_laws.proofs.{Blank.blank_holds, TakenRuns.taken_holds}
 use Rattle.am_runs.proofs.Chains.{front, passed_front}
-use Rattle.am_play.proofs.Runs.{runs_go_on}
-use Rattle.am_headline.proofs.Lined.{IsLined, Rose, rose, rose_refreshed, out_to, nobody_waits}
-use Rattle.am_headline.proofs.Outs.{EntryOut, NodeOut, PacketOut, AllOut, outs, out_changes, node_more, packet_more, run_out}
+use Rattle.am_headline.proofs.Lined.{out_to}
 
 -- ---- entries
 

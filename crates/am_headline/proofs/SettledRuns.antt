@@ -1,16 +1,16 @@
 -- In every run each own send that stands in a node's list, up to what it has accepted, is answered.
-use Rattle.am_laws.proofs.Words.{equals_itself, ◌≡◌, ◌≢◌, ◌⊎◌, inl, inr, ⊎_elim, ℕ, zero, suc, ◌+◌, ◌-◌, ◌<◌, ◌≤◌, ◌==◌, ◌&&◌, max, min, Bool, true, false}
+use Rattle.am_laws.proofs.Words.{equals_itself, ◌≡◌, ◌≢◌, ◌⊎◌, inl, inr, ⊎_elim, ℕ, ◌+◌, ◌-◌, ◌<◌, ◌≤◌, ◌==◌, max, min, true, false}
 use Rattle.am_laws.proofs.Words.{List, []}
-use Rattle.am_laws.proofs.Words.{◌∷◌, ◌++◌, length, if◌then◌else◌, find, Option, Some, None, slice_get, refl, sym, ap, ◌∙◌, subst, arith, split, nat_tests, All}
+use Rattle.am_laws.proofs.Words.{◌∷◌, ◌++◌, if◌then◌else◌, find, Option, Some, None, refl, sym, ap, ◌∙◌, subst, arith, split, nat_tests, All}
 use Rattle.am_laws.proofs.Words.{Stamp}
-use Rattle.am_laws.proofs.Words.{Image, Entry, Data, Leave, Outcome, Log, top_of, entry_at, Rules, MayFound, Packet, Letter, OwnSend, Event, Node, push_entry}
+use Rattle.am_laws.proofs.Words.{Image, Entry, Data, Leave, Outcome, Log, entry_at, Rules, MayFound, Packet, Letter, OwnSend, Event, Node, push_entry}
 use Rattle.am_laws.proofs.Words.{settle}
-use Rattle.am_laws.proofs.Words.{refresh, refresh_at_end, Step, step, row, done_row, finish, World, start, first_node, founder, stranger, with_record}
+use Rattle.am_laws.proofs.Words.{refresh, refresh_at_end, Step, step, row, done_row, finish, World, start, founder, stranger, with_record}
 use Rattle.am_laws.proofs.Words.{with_step, happens}
-use Rattle.am_laws.proofs.Words.{happen, run, Cause, calls, hears, Change, Changes, closes, departs, looks, changed, unchanged, Effect, actor, IsCause, Happens}
+use Rattle.am_laws.proofs.Words.{happen, run, Cause, calls, hears, Change, Changes, departs, looks, changed, unchanged, Effect, actor, IsCause, Happens}
 use Rattle.am_laws.proofs.Words.{steps}
-use Rattle.am_laws.proofs.Words.{along, refresh_is, settle_is, rests_refresh, rests_at_end, entry_is, asking_log, heard_letter, events_have_effects, all_get}
-use Rattle.am_laws.proofs.Words.{top, set_at}
+use Rattle.am_laws.proofs.Words.{along, refresh_is, settle_is, rests_refresh, entry_is, asking_log, heard_letter, events_have_effects, all_get}
+use Rattle.am_laws.proofs.Words.{top}
 use Rattle.std.proofs.Common.{eqb-true, append-nil, append_assoc}
 use Rattle.am_base.specs.declared.outcome.Outcome.TheVariants as said
 use Rattle.am_base.specs.declared.event.NodeEvent.TheVariants as does
@@ -19,17 +19,16 @@ use Rattle.am_state.specs.Cores.{CoreState}
 use Rattle.am_state.specs.Sends as own
 use Rattle.am_state.specs.Sends.{are_in_line, next_in, is_unsettled, is_request}
 use Rattle.am_model.specs.declared.status.Status.TheVariants.{Departed}
-use Rattle.am_laws.specs.Courses.{Course, Deeds, plainly, looked, Ending, at_end, let_go, closing}
+use Rattle.am_laws.specs.Courses.{Deeds, plainly, looked, Ending, at_end, let_go, closing}
 use Rattle.am_laws.specs.Effects.{Answers, HasTaken, AnswersAsk, HasBegun}
 use Rattle.am_laws.proofs.Plans.{course_changes}
 use Rattle.am_laws.proofs.RunCounts.{numbers_hold, set_same, first_of}
 use Rattle.am_laws.proofs.Named.{run_named, few_names, change_named}
 use Rattle.am_laws.proofs.{Blank.blank_holds, TakenRuns.taken_holds}
-use Rattle.am_runs.proofs.Chains.{front}
 use Rattle.am_play.proofs.Runs.{runs_go_on}
 use Rattle.am_headline.proofs.Lined.{IsLined, Rose, rose, rose_refreshed, out_to}
-use Rattle.am_headline.proofs.Outs.{EntryOut, NodeOut, PacketOut, AllOut, outs, out_changes, out_pushed, node_more, packet_more, run_out}
-use Rattle.am_headline.proofs.Settled.{entry_above, stood, AreSettled, Ready, settled_now, Went, went_same, went_pushed, went_change, FrontLow, front_change}
+use Rattle.am_headline.proofs.Outs.{EntryOut, NodeOut, PacketOut, outs, out_changes, out_pushed, node_more, packet_more, run_out}
+use Rattle.am_headline.proofs.Settled.{entry_above, stood, AreSettled, settled_now, Went, went_pushed, went_change, FrontLow, front_change}
 
 -- ---- what the node is before the end of a step
 
