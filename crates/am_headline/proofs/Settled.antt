@@ -214,7 +214,7 @@ refresh_front m = split (is_sequencer m)
     (λ t. rw t ((passed_front m.core.taken _ m.core.start, refl)))
     (λ f. rw f ((passed_front m.core.taken _ m.core.start, refl)))
 
-end_front : (m : Node) → (front (refresh_at_end m) ≡ front m) × ((refresh_at_end m).core.start ≡ m.core.start)
+pub end_front : (m : Node) → (front (refresh_at_end m) ≡ front m) × ((refresh_at_end m).core.start ≡ m.core.start)
 unfolding refresh_at_end
 end_front m =
     let same = ap (λ (x : Node). x.core) (settle_is (refresh m)) in

@@ -1,4 +1,4 @@
-ghost use Rattle.am_headline.specs.Answers.{AcceptedAreAnswered, RepairedAreAnswered};
+ghost use Rattle.am_headline.specs.Answers.{AcceptedAreAnswered, AcceptedAreGiven, RepairedAreAnswered, RepairedAreGiven};
 ghost use Rattle.am_headline.specs.{Claim.Repairs, Standing.RepairableIsOneList};
 ghost use Rattle.am_headline.specs.Trimmed.{RepairableCounts, RepairableTrims};
 
@@ -29,4 +29,11 @@ pub fn lossless_schedules_repair()
 pub fn sends_that_stand_are_answered()
     ensures accepted { AcceptedAreAnswered }
     ensures repaired { RepairedAreAnswered }
+{}
+
+/// And it is given: in every run a member's application can take, one after another, all that its node has accepted; so behind that schedule
+/// each member's can, up to where the sequencer stood.
+pub fn entries_that_stand_are_given()
+    ensures accepted { AcceptedAreGiven }
+    ensures repaired { RepairedAreGiven }
 {}
