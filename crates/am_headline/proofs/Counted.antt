@@ -1,7 +1,7 @@
 -- Whose storage counts behind the last View, where a run may be repaired: each of them is a member still.
 use Rattle.am_headline.proofs.Words.{image_whole, image_at, GroupView}
 use Rattle.am_headline.proofs.RepairedWords.{◌≡◌, ◌≢◌, ℕ, zero, suc, ◌+◌, ◌<◌, ◌≤◌, ◌==◌, true, false, List, [], ◌∷◌, ◌++◌, length, slice_index, All, sym, ap}
-use Rattle.am_headline.proofs.RepairedWords.{◌∙◌, subst, arith, nat_tests, All-nil, All-cons, Entry, Data, Join, Leave, View, Image, Rules, MayFound, IsSet}
+use Rattle.am_headline.proofs.RepairedWords.{◌∙◌, subst, arith, nat_tests, All-nil, All-cons, Entry, Leave, View, Image, Rules, MayFound, IsSet}
 use Rattle.am_headline.proofs.RepairedWords.{has, place_of, name_at, names_from, names_of, fold, blank, members_of, counted_at, Event, view_grows, Begins}
 use Rattle.am_headline.proofs.RepairedWords.{IsGood, mem, view_of, begins_trans, begins_length, length_push, good_begins, told_push, mem_push, ends_of, Group}
 use Rattle.am_headline.proofs.RepairedWords.{Leads, counted_in, opening, chain_of, current_of, Kept, Node, top, told_at, members, lowest_or_first, MayRepair}

@@ -21,6 +21,9 @@ pub mod Heard
 pub mod Views
 pub mod Fitted
 pub mod Names
+pub mod RangeRows
+pub mod Ranges
+pub mod RangeBytes
 pub mod Limits
 pub mod RecordsSettled
 pub mod Lives
@@ -28,6 +31,7 @@ pub mod Sound
 pub mod Raised
 pub mod RaisedRuns
 pub mod Made
+pub mod Processes
 pub mod RepairWords
 pub mod Sets
 pub mod Letters
@@ -85,3 +89,10 @@ pub mod Left
 pub mod Upheld
 pub mod Counted
 pub mod RepairedSettled
+pub mod Asks
+pub mod Lined
+pub mod Outs
+pub mod Settled
+pub mod SettledRuns
+pub mod Given
+pub mod AnsweredRuns

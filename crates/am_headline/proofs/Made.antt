@@ -1,21 +1,21 @@
 -- Each event of a run is a part of one node, or of none.
-use Rattle.am_headline.proofs.Words.{◌≡◌, ℕ, List, [], ◌∷◌, ◌++◌, length, take, Option, Some, None, Bool, true, false, not, ◌||◌, ◌==◌, ◌+◌, if◌then◌else◌}
-use Rattle.am_headline.proofs.Words.{refl, sym, ap, ◌∙◌, subst, arith, append_assoc, append-nil, length-append, All, eqb-true, Rules, place_of, Outcome, Letter}
+use Rattle.am_headline.proofs.Words.{◌≡◌, ℕ, List, [], ◌∷◌, ◌++◌, take, Option, Some, None, Bool, true, false, not, ◌||◌, ◌==◌, ◌+◌, if◌then◌else◌}
+use Rattle.am_headline.proofs.Words.{refl, sym, ap, ◌∙◌, subst, append_assoc, append-nil, All, eqb-true, Rules, place_of, Outcome, Letter}
 use Rattle.am_headline.proofs.Words.{Packet, Act, Event, Record, letter_at, is_for, Node, has_departed, Step, hear, World, start, first_node, current}
-use Rattle.am_headline.proofs.Words.{is_stopped, record_of, with_record, with_step, hears_letter, hear_cut, lives_on, acts_as, happens, happen, run, runs_go_on}
-use Rattle.std.proofs.Math.Seq.{take-append_seam}
-use Rattle.std.proofs.lemmas.List.Elements.{All-take}
+use Rattle.am_headline.proofs.Words.{is_stopped, record_of, with_record, with_step, hears_letter, hear_cut, lives_on, acts_as, happens, happen, run}
+use Rattle.am_laws.proofs.Words.{All-head, All-tail}
 use Rattle.am_base.specs.declared.outcome.Outcome.TheVariants as said
 use Rattle.am_base.specs.declared.event.NodeEvent.{NodeEvent}
 use Rattle.am_base.specs.declared.event.NodeEvent.TheVariants as does
-use Rattle.am_packet.specs.Limits.{IsPacket}
 use Rattle.am_packet.specs.Spelling.{spelling}
 use Rattle.am_model.specs.Step.{step}
 use Rattle.am_meaning.proofs.Bytes.{spelling_is_heard, cut_is_heard}
 use Rattle.am_play.specs.World.{does_event}
-use Rattle.am_laws.specs.Bytes.{BodyWithin, IsShort}
-use Rattle.am_laws.proofs.RunLimits.{letters_are_packets}
-use Rattle.am_headline.specs.Parts.{Part, unless_stopped, hearing_of, own_event, part_of, part_at, parts_of, node_by, Answered, IsMade, RunsAreMadeOfNodes}
+use Rattle.am_laws.specs.Bytes.{BodyWithin}
+use Rattle.am_laws.proofs.RunLimits.{Limited}
+use Rattle.am_headline.specs.Parts.{Part, unless_stopped, hearing_of, own_event, part_of, part_at, parts_of, node_by, Answered, IsMade, HaveNumbers}
+use Rattle.am_headline.specs.Parts.{RunsAreMadeOfNodes}
+use Rattle.am_headline.proofs.{Ranges.all_numbers, Ranges.ranged_next, Ranges.ranged_start, RangeBytes.HoldsPackets, RangeBytes.holds_packets}
 
 -- ---- parts one after another
 
@@ -123,10 +123,6 @@ returns_by true b w e n name place = quiet_made w w e n name (said.Running (w.li
 returns_by false true w e n name place = quiet_made w w e n name said.NoLife refl refl
 returns_by false false w e n name place = lives_made w e n name (said.Returned (w.lives place + 1)) place
 
--- all letters hold packets
-abbrev HoldsPackets : World → Type 0
-HoldsPackets w = (number : ℕ) (letter : Letter) → letter_at w.letters number ≡ Some letter → IsPacket letter.packet
-
 acts_made : (w : World) (e : Event) (n name : ℕ) (a : Act) → HoldsPackets w → Made w n name (own_event w n a) (acts_as w e n a)
 acts_made w e n name (Act.GiveUp other) holds = gives_by (is_stopped w n) (is_stopped w other) w e n name other
 acts_made w e n name Act.Stop holds = stops_by (is_stopped w n) w e n name (w.stopped ++ n ∷ [])
@@ -144,38 +140,22 @@ event_made w e name holds = acts_made w e (current w (place_of e.node)) name e.a
 
 -- ---- a run
 
-all_front : (P : Event → Type 0) (xs ys : List Event) → All P (xs ++ ys) → All P xs
-all_front P xs ys h = subst (All P) (take-append_seam xs ys) (All-take P (length xs) (xs ++ ys) h)
-
-short_front : (rules : Rules) (xs ys : List Event) → IsShort rules (xs ++ ys) → IsShort rules xs
-short_front rules xs ys short = record {
-  founds = short.founds;
-  bodies = all_front (λ (e : Event). BodyWithin e.act) xs ys short.bodies;
-  few = let few = short.few in omega (arith, length-append xs ys);
-}
-
 -- the records of the events to come, and by these the name's node comes to where it is at the end
-along : (rules : Rules) (before es : List Event) (name : ℕ) → IsShort rules (before ++ es)
-    → (records : List Record) × ((happen (run rules before) es).records ≡ (run rules before).records ++ records)
-    × IsMade ((run rules before).nodes name) (parts_of name (run rules before) es records) ((happen (run rules before) es).nodes name)
-unfolding happen parts_of
-along rules before [] name short = ([], sym (append-nil (run rules before).records), made_none ((run rules before).nodes name))
-along rules before (e ∷ es) name short =
-    let w = run rules before in
-    let holds : HoldsPackets w = letters_are_packets rules before (short_front rules before (e ∷ es) short) in
-    let one = event_made w e name holds in
-    let next : run rules (before ++ e ∷ []) ≡ happens w e = runs_go_on (start rules) before (e ∷ []) in
-    let whole : IsShort rules ((before ++ e ∷ []) ++ es) = subst (IsShort rules) (sym (append_assoc before (e ∷ []) es)) short in
-    let P : World → Type 0 = λ v. (records : List Record) × ((happen v es).records ≡ v.records ++ records)
-    × IsMade (v.nodes name) (parts_of name v es records) ((happen v es).nodes name) in
-    let rest = subst P next (along rules (before ++ e ∷ []) es name whole) in (
+along : (rules : Rules) (w : World) (es : List Event) (name : ℕ) → All (λ (e : Event). BodyWithin e.act) es → HaveNumbers w es → Limited rules all_numbers w
+    → (records : List Record) × ((happen w es).records ≡ w.records ++ records)
+    × IsMade (w.nodes name) (parts_of name w es records) ((happen w es).nodes name)
+unfolding happen parts_of HaveNumbers
+along rules w [] name bodies numbers h = ([], sym (append-nil w.records), made_none (w.nodes name))
+along rules w (e ∷ es) name bodies numbers h =
+    let one = event_made w e name (holds_packets rules w h) in
+    let next = ranged_next rules w e (All-head (λ (x : Event). BodyWithin x.act) e es bodies) numbers.0 h in
+    let rest = along rules (happens w e) es name (All-tail (λ (x : Event). BodyWithin x.act) e es bodies) numbers.1 next in (
       one.0 ∷ rest.0,
       rest.1 ∙ ap (λ (rs : List Record). rs ++ rest.0) one.1 ∙ append_assoc w.records (one.0 ∷ []) rest.0,
       made_more (w.nodes name) ((happens w e).nodes name) ((happen (happens w e) es).nodes name) (part_at name w e one.0) (parts_of name (happens w e) es rest.0) one.2 rest.2,
     )
 
 pub made_of_nodes : RunsAreMadeOfNodes
-unfolding happen
-made_of_nodes rules events short name =
-    let all = along rules [] events name short in
+made_of_nodes rules events range name =
+    let all = along rules (start rules) events name range.bodies range.numbers (ranged_start rules range.founds) in
     subst (λ (rs : List Record). IsMade (first_node rules name) (parts_of name (start rules) events rs) ((run rules events).nodes name)) (sym all.1) all.2

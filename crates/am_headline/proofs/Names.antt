@@ -5,7 +5,7 @@ use Rattle.am_laws.proofs.Words.{Letter, Event, Node, Ballot, push_entry, set_at
 use Rattle.am_laws.proofs.Words.{World, start, run, with_record, with_step, heard_by, Cause, hears, Looks, decides, HasOpen, Balloting, with_more, without_one}
 use Rattle.am_laws.proofs.Words.{as_it_is, Numbers, asked_send, own_send, asked_join, asked_leave, Carries, whole_entry, by_number, BringsSend, by_request}
 use Rattle.am_laws.proofs.Words.{by_spread, Change, refreshes, settles, numbers, stores, begins_list, promises, opens, looks, fetches, stores_view, closes}
-use Rattle.am_laws.proofs.Words.{Says, bcast, order, piece, LetterSays, Effect, actor, IsCause, idles, stops, returns, steps, all_get, all_item, refresh_is}
+use Rattle.am_laws.proofs.Words.{Says, bcast, order, piece, LetterSays, Effect, actor, IsCause, steps, all_get, all_item, refresh_is}
 use Rattle.am_laws.proofs.Words.{settle_is, along, EachKeeps, runs_keep, sender_of, first_founder, first_has}
 use Rattle.am_laws.proofs.Named.{AllNamed, few_names, each_named, start_named}
 use Rattle.am_laws.proofs.RunCounts.{was_heard}

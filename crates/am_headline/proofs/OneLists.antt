@@ -1,8 +1,8 @@
 -- What one list of a group gives: each member's list tells what the sequencer's tells up to there.
 use Rattle.am_base.specs.declared.entry.GroupView.{GroupView}
 use Rattle.am_headline.proofs.RepairWords.{◌≡◌, max, ◌⊎◌, inl, inr, either, ℕ, zero, suc, ◌+◌, ◌-◌, ◌<◌, ◌≤◌, nat_le, true, List, [], ◌∷◌, length, take, Some}
-use Rattle.am_headline.proofs.RepairWords.{slice_get, refl, sym, ap, ◌∙◌, arith, length-append, subst, cases_lt, nat_tests, take-append-add, Image, Entry, Data}
-use Rattle.am_headline.proofs.RepairWords.{Join, Leave, View, has, entry_at, image_at, blank, fold, after, fits, members_of, fit_at, IsGood, mem, view_of, key}
+use Rattle.am_headline.proofs.RepairWords.{slice_get, refl, sym, ap, ◌∙◌, arith, length-append, subst, cases_lt, nat_tests, take-append-add, Image, Entry}
+use Rattle.am_headline.proofs.RepairWords.{View, has, entry_at, image_at, blank, fold, after, fits, members_of, fit_at, IsGood, mem, view_of, key}
 use Rattle.am_headline.proofs.RepairWords.{fold_append, good_begins, begins_length, begins_take, length_take, take_begins, begins_both, begins_push, view_up}
 use Rattle.am_headline.proofs.RepairWords.{view_below, get_behind, Node, top, image_of, view, members, World, split, current, run, slice_get_within, Fronts}
 use Rattle.am_headline.proofs.RepairWords.{run_owned, false, false_from_ne_true, is_member, is_stopped, Rules, MayFound, Event, MayRepair, is_past, after_same}

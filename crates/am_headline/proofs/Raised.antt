@@ -2,7 +2,7 @@
 use Rattle.am_model.specs.Ballots.{decided_view}
 use Rattle.am_laws.proofs.Words.{◌≡◌, inl, inr, ℕ, suc, ◌+◌, ◌-◌, ◌<◌, ◌≤◌, ◌==◌, nat_lt, true, false, List, [], ◌∷◌, ◌++◌, length, take, Option}
 use Rattle.am_laws.proofs.Words.{Some, None, refl, sym, ap, ◌∙◌, subst, arith, nat_tests, length-append, All, All-nil, All-cons, All-head, All-tail, All-append}
-use Rattle.am_laws.proofs.Words.{All-take, split, and_both, place_of, has, Stamp, stamp_lt, stamp_eq, Entry, Data, Join, Leave, View, Image, Outcome, Rules}
+use Rattle.am_laws.proofs.Words.{All-take, split, and_both, place_of, has, Stamp, stamp_lt, stamp_eq, Entry, Leave, View, Image, Outcome, Rules}
 use Rattle.am_laws.proofs.Words.{Log, blank, top_of, told_by, image_at, with_entry, members_of, after, fold, Packet, Node, Ballot, top, view, members, acts}
 use Rattle.am_laws.proofs.Words.{is_sequencer, is_member, has_log, push_entry, trim_up_to, overtake, Verdict, need_of, left_in, trim_for, is_view, refresh}
 use Rattle.am_laws.proofs.Words.{Cause, hears, Balloting, with_more, without_one, as_it_is, Looks, decides, Change, refreshes, settles, numbers, stores}

@@ -5,7 +5,7 @@ use Rattle.am_headline.proofs.RepairWords.{cases_lt, Join, nat_tests, Stamp, Ima
 use Rattle.am_headline.proofs.RepairWords.{members_of, members_at, entry_at, fits, image_at, counted_at, CoreState, accept, pass_over, since_accepted}
 use Rattle.am_headline.proofs.RepairWords.{image-top, IsUsed, used_fold, member_row, least_taken, own_report, tell, go_on, let_go, Node, Ballot, top, image_of}
 use Rattle.am_headline.proofs.RepairWords.{view, members, acts, push_entry, with_report, lead, refresh, settle, with_admitted, World, split}
-use Rattle.am_headline.proofs.RepairWords.{Cause, BringsReport, HasOpen, BeginsBy, by_reset, Balloting, with_more, without_one, as_it_is, Promises}
+use Rattle.am_headline.proofs.RepairWords.{Cause, BringsReport, HasOpen, BeginsBy, by_reset, Balloting, with_more, without_one, as_it_is}
 use Rattle.am_headline.proofs.RepairWords.{invited, overtaken, told_result, Numbers, asked_send, own_send, asked_join, asked_leave, Change, refreshes, settles}
 use Rattle.am_headline.proofs.RepairWords.{takes_report, admits, numbers, keeps_body, notes, stores, begins_list, departs, promises, opens, looks, fetches}
 use Rattle.am_headline.proofs.RepairWords.{stores_view, queues, collects, takes, asks_to_join, asks_to_leave, closes, settle_is, told_pushed, view_pushed}

@@ -1,13 +1,13 @@
 -- What each record of a run tells is within its limits, and each name's requests are 1, 2, 3 and so on.
 use Rattle.am_headline.proofs.Words.{slice_get_within, append-nil, append_assoc, place_of, Record, name_of, record_of, IsIdle, Answers, AnswersAsk, HasTaken}
-use Rattle.am_headline.proofs.Words.{WasSettled, numbers_hold, runs_keep, IsOfBallot, LastOk, ballots_are_own}
+use Rattle.am_headline.proofs.Words.{WasSettled, runs_keep, IsOfBallot, LastOk, ballots_are_own}
 use Rattle.am_laws.proofs.Words.{◌≡◌, ℕ, zero, suc, ◌+◌, ◌-◌, ◌<◌, ◌≤◌, ◌==◌, nat_le, Bool, true, false, if◌then◌else◌, List, [], ◌∷◌, ◌++◌, length, ◌⊎◌, inl}
 use Rattle.am_laws.proofs.Words.{inr, Option, Some, None, slice_get, refl, sym, ap, ◌∙◌, subst, arith, nat_tests, All, All-nil, All-cons, All-head, All-tail}
-use Rattle.am_laws.proofs.Words.{All-append, range_with_len, length-append, most_number, split, Entry, Data, Leave, View, Outcome, Log, entry_at, top_of, Rules}
+use Rattle.am_laws.proofs.Words.{All-append, range_with_len, most_number, split, Entry, Data, Leave, View, Outcome, Log, entry_at, top_of, Rules}
 use Rattle.am_laws.proofs.Words.{MayFound, Act, Event, Node, Ballot, push_entry, Verdict, Step, World, start, run, happen, happens, with_record, with_step}
 use Rattle.am_laws.proofs.Words.{Cause, calls, Looks, finds_itself_out, Change, Changes, no_change, changed, refreshes, settles, looks, queues, collects}
 use Rattle.am_laws.proofs.Words.{closes, Effect, actor, IsCall, IsCause, Happens, idles, stops, returns, steps, all_get, first_has, current}
-use Rattle.am_laws.proofs.Words.{events_have_effects, rests_refresh, settle_is, rests_at_end, BodyWithin, IsShort, Bounds}
+use Rattle.am_laws.proofs.Words.{events_have_effects, equals_itself, rests_refresh, settle_is, rests_at_end, BodyWithin, Bounds}
 use Rattle.am_stands.proofs.Words.{either}
 use Rattle.std.proofs.lemmas.List.FromFn.{length-range_with_len}
 use Rattle.std.proofs.lemmas.Grind.{flat_map-append}
@@ -16,17 +16,16 @@ use Rattle.am_base.specs.declared.event.NodeEvent.TheVariants as does
 use Rattle.am_state.specs.Sends as own
 use Rattle.am_laws.specs.Events as event
 use Rattle.am_laws.specs.Effects.{WasQueued}
-use Rattle.am_laws.specs.Numbers.{NodeNumbers}
-use Rattle.am_laws.proofs.RunCounts.{bounds_after}
 use Rattle.am_laws.proofs.Limits.{EntryWithin, AreNumbers}
 use Rattle.am_laws.proofs.NodeLimits.{SendWithin}
-use Rattle.am_laws.proofs.RunLimits.{first_bounds, small_run}
 use Rattle.am_laws.proofs.Named.{run_named}
 use Rattle.am_runs.proofs.SentKept.{EntrySent}
 use Rattle.am_runs.proofs.SentRuns.{AllSent, each_keeps, sent_start}
 use Rattle.am_runs.specs.Ballots.{BallotsOk}
 use Rattle.am_headline.specs.Records.{AsksBytes, IsSayable, IsAnswer, IsSound, RecordsAreSound, queued_in, queued_by, requests_given, RequestsInTurn, IsBack}
 use Rattle.am_headline.proofs.Names.{EntryNamed, run_said}
+use Rattle.am_headline.specs.Parts.{HasNumbersAt, HaveNumbers, StaysInRange}
+use Rattle.am_headline.proofs.Ranges.{all_numbers, are_numbers, ranged_next}
 use Rattle.am_headline.proofs.Limits.{Held, run_held}
 use Rattle.am_headline.proofs.RecordsSettled.{IsUpTo, SendsOk, sends_ok}
 use Rattle.am_headline.proofs.Lives.{tells}
@@ -100,11 +99,8 @@ last_by m n (changed {n = x} z zs) = either (change_last m x z)
 
 -- ---- what is known of a run up to an event
 
-record Facts (rules : Rules) (many : ℕ) (b : Bounds) (w : World) : Type 0 where
-  held : Held rules b w
-  small : AreNumbers b
-  few : many + 1 ≤ most_number
-  numbers : (name : ℕ) → NodeNumbers many (length w.group) (w.nodes name)
+record Facts (rules : Rules) (w : World) : Type 0 where
+  held : Held rules all_numbers w
   named : (name : ℕ) → name < 256 → All EntryNamed (w.nodes name).core.log.entries
   sent : AllSent w
   ballots : BallotsOk w
@@ -117,48 +113,50 @@ pub of_ballot : (w : World) (name : ℕ) (c : Cause) (o : Outcome) → BallotsOk
 of_ballot w name c o ballots a =
     subst IsOfBallot (sym a.same) (subst (LastOk w name (w.nodes name).core.promise) a.last (ballots.each name)).answer
 
-queued_so : (rules : Rules) (many : ℕ) (b : Bounds) (w : World) (name : ℕ) (a : Act) (c : Cause) (n : Node) (req : ℕ) → Facts rules many b w
-    → IsCause w name a c → Changes c (said.Queued req) (w.nodes name) n → WasQueued (w.nodes name) n req → IsAnswer a (said.Queued req)
-queued_so rules many b w name a c n req f cause changes q =
+queued_so : (w : World) (name : ℕ) (a : Act) (c : Cause) (n : Node) (req : ℕ) → n.sends.last ≤ most_number → IsCause w name a c
+    → Changes c (said.Queued req) (w.nodes name) n → WasQueued (w.nodes name) n req → IsAnswer a (said.Queued req)
+queued_so w name a c n req low cause changes q =
     let more = q.more in
-    let low = (f.numbers name).requests in
+    let next = q.next in
     let sends : SendsBy c (said.Queued req) = either (last_by (w.nodes name) n changes) (λ same. absurd (omega (arith, same, more))) (λ s. s) in
     ((sends.0, send_act w a sends.0 (subst (IsCause w name a) sends.2 cause)), omega arith)
 
-sent_so : (rules : Rules) (many : ℕ) (b : Bounds) (w : World) (name : ℕ) (a : Act) (c : Cause) (req number : ℕ) → Facts rules many b w
+sent_so : (rules : Rules) (w : World) (name : ℕ) (a : Act) (c : Cause) (req number : ℕ) → Facts rules w
     → IsCause w name a c → WasSettled (w.nodes name) c req number → IsAnswer a (said.Sent req number)
-sent_so rules many b w name a c req number f cause s =
+sent_so rules w name a c req number f cause s =
     let m = w.nodes name in
-    let within = (all_get (SendWithin b) m.sends.queue s.index s.send (f.held.limited.within.each name).sends s.there).req in
+    let within = (all_get (SendWithin all_numbers) m.sends.queue s.index s.send (f.held.limited.within.each name).sends s.there).req in
     let up = all_get (IsUpTo m.core.acc) m.sends.queue s.index s.send (f.sends name).settled s.there number s.settled in
-    let acc = (f.numbers name).accepted in
-    let high = (f.numbers name).entries in
-    let requests = f.small.requests in
+    let acc = (f.held.limited.low.each name).accepted in
+    let high = (f.held.limited.low.each name).entries in
+    let lists = are_numbers.lists in
+    let requests = are_numbers.requests in
     let same = s.request in
     (done_act w a req (subst (IsCause w name a) s.asked cause), omega (arith, within, requests, same), omega arith)
 
-took_so : (rules : Rules) (many : ℕ) (b : Bounds) (w : World) (name : ℕ) (a : Act) (c : Cause) (n : Node) (number : ℕ) (e : Entry) → Facts rules many b w
+took_so : (rules : Rules) (w : World) (name : ℕ) (a : Act) (c : Cause) (n : Node) (number : ℕ) (e : Entry) → Facts rules w
     → name < 256 → IsCause w name a c → HasTaken (w.nodes name) c n number e → IsAnswer a (said.Took number e)
-took_so rules many b w name a c n number e f low cause t =
+took_so rules w name a c n number e f low cause t =
     let m = w.nodes name in
-    let within = has_entry (EntryWithin b) m.core.log number e (f.held.limited.within.each name).entries t.there in
+    let within = has_entry (EntryWithin all_numbers) m.core.log number e (f.held.limited.within.each name).entries t.there in
     let named = has_entry EntryNamed m.core.log number e (f.named name low) t.there in
     let sent = has_entry (EntrySent w.records) m.core.log number e (f.sent.all.each name).entries t.there in
-    let high = (f.numbers name).entries in
-    (take_act w a (subst (IsCause w name a) t.asked cause), omega arith, sayable w.records b e f.small f.sound within.0 named.0 sent.0)
+    let high = (f.held.limited.low.each name).entries in
+    let lists = are_numbers.lists in
+    (take_act w a (subst (IsCause w name a) t.asked cause), omega arith, sayable w.records all_numbers e are_numbers f.sound within.0 named.0 sent.0)
 
-answered : (rules : Rules) (many : ℕ) (b : Bounds) (w : World) (name : ℕ) (a : Act) (c : Cause) (n : Node) (o : Outcome) → Facts rules many b w
-    → name < 256 → IsCause w name a c → Changes c o (w.nodes name) n → Answers (w.nodes name) c n o → IsAnswer a o
-answered rules many b w name a c n (said.Queued req) f low cause changes answer = either answer
-    (λ q. queued_so rules many b w name a c n req f cause changes q)
+answered : (rules : Rules) (w : World) (name : ℕ) (a : Act) (c : Cause) (n : Node) (o : Outcome) → Facts rules w
+    → name < 256 → n.sends.last ≤ most_number → IsCause w name a c → Changes c o (w.nodes name) n → Answers (w.nodes name) c n o → IsAnswer a o
+answered rules w name a c n (said.Queued req) f low last cause changes answer = either answer
+    (λ q. queued_so w name a c n req last cause changes q)
     (λ ask. absurd (of_ballot w name c (said.Queued req) f.ballots ask))
-answered rules many b w name a c n (said.Sent req number) f low cause changes answer = either answer
-    (λ s. sent_so rules many b w name a c req number f cause s)
+answered rules w name a c n (said.Sent req number) f low last cause changes answer = either answer
+    (λ s. sent_so rules w name a c req number f cause s)
     (λ ask. absurd (of_ballot w name c (said.Sent req number) f.ballots ask))
-answered rules many b w name a c n (said.Took number e) f low cause changes answer = either answer
-    (λ t. took_so rules many b w name a c n number e f low cause t)
+answered rules w name a c n (said.Took number e) f low last cause changes answer = either answer
+    (λ t. took_so rules w name a c n number e f low cause t)
     (λ ask. absurd (of_ballot w name c (said.Took number e) f.ballots ask))
-answered rules many b w name a c n _ f low cause changes answer = tt
+answered rules w name a c n _ f low last cause changes answer = tt
 
 idle_answer : (a : Act) (o : Outcome) → IsIdle o → IsAnswer a o
 idle_answer a (said.Queued req) idle = absurd idle
@@ -173,16 +171,17 @@ record Adds (w : World) (a : Act) (v : World) : Type 0 where
   asked : new.event.act ≡ a
   answer : IsAnswer a new.outcome
 
-adds_by : (rules : Rules) (many : ℕ) (b : Bounds) (w : World) (e : Event) (v : World) → Happens w e v → Facts rules many b w → Adds w e.act v
+adds_by : (rules : Rules) (w : World) (e : Event) (v : World) → Happens w e v → Facts rules w → (v.nodes (actor w e)).sends.last ≤ most_number
+    → Adds w e.act v
 unfolding with_record with_step
-adds_by rules many b w e v (idles o idle) f = record { new = record_of w e o []; records = refl; asked = refl; answer = idle_answer e.act o idle }
-adds_by rules many b w e v (stops runs) f = record { new = record_of w e said.Stopped []; records = refl; asked = refl; answer = tt }
-adds_by rules many b w e v (returns place is gone more) f = record { new = record_of w e _ []; records = refl; asked = refl; answer = tt }
-adds_by rules many b w e v (steps c s runs cause effect) f = record {
+adds_by rules w e v (idles o idle) f last = record { new = record_of w e o []; records = refl; asked = refl; answer = idle_answer e.act o idle }
+adds_by rules w e v (stops runs) f last = record { new = record_of w e said.Stopped []; records = refl; asked = refl; answer = tt }
+adds_by rules w e v (returns place is gone more) f last = record { new = record_of w e _ []; records = refl; asked = refl; answer = tt }
+adds_by rules w e v (steps c s runs cause effect) f last = record {
   new = record_of w e s.outcome s.letters;
   records = refl;
   asked = refl;
-  answer = answered rules many b w (actor w e) e.act c s.node s.outcome f (f.low e) cause effect.changes effect.answer;
+  answer = answered rules w (actor w e) e.act c s.node s.outcome f (f.low e) (rw (equals_itself (actor w e)) at last) cause effect.changes effect.answer;
 }
 
 -- ---- runs
@@ -200,44 +199,43 @@ all_last : (P : Event → Type 0) (xs : List Event) (y : Event) → All P (xs ++
 all_last P [] y h = All-head P y [] h
 all_last P (x ∷ xs) y h = all_last P xs y (All-tail P x (xs ++ y ∷ []) h)
 
-short_front : (rules : Rules) (es : List Event) (e : Event) → IsShort rules (es ++ e ∷ []) → IsShort rules es
-short_front rules es e short =
-    let few = short.few in
-    let long = length-append es (e ∷ []) in
-    record {
-      founds = short.founds;
-      bodies = all_front (λ (x : Event). BodyWithin x.act) es (e ∷ []) short.bodies;
-      few = omega (arith, few, long);
-    }
+numbers_front : (w : World) (es : List Event) (e : Event) → HaveNumbers w (es ++ e ∷ []) → HaveNumbers w es × HasNumbersAt (happen w es) e
+unfolding happen HaveNumbers
+numbers_front w [] e h = (tt, h.0)
+numbers_front w (x ∷ es) e h = let k = numbers_front (happens w x) es e h.1 in ((h.0, k.0), k.1)
 
-facts : (rules : Rules) (es : List Event) → IsShort rules es → All IsSound (run rules es).records
-    → Facts rules (length es) (bounds_after (length es) first_bounds) (run rules es)
-facts rules es short sound =
-    let few = short.few in
-    let said = run_said rules es short.founds in
-    let numbers = numbers_hold rules es in
+range_front : (rules : Rules) (es : List Event) (e : Event) → StaysInRange rules (es ++ e ∷ []) → StaysInRange rules es
+range_front rules es e range = record {
+  founds = range.founds;
+  bodies = all_front (λ (x : Event). BodyWithin x.act) es (e ∷ []) range.bodies;
+  numbers = (numbers_front (start rules) es e range.numbers).0;
+}
+
+facts : (rules : Rules) (es : List Event) → StaysInRange rules es → All IsSound (run rules es).records → Facts rules (run rules es)
+facts rules es range sound =
+    let said = run_said rules es range.founds in
     record {
-      held = run_held rules es short.founds short.bodies;
-      small = small_run rules es short;
-      few = omega arith;
-      numbers = numbers.each;
+      held = run_held rules es range;
       named = λ name low. (said.each name low).entries;
       sent = runs_keep AllSent each_keeps (start rules) es (sent_start rules);
-      ballots = ballots_are_own rules es short.founds;
+      ballots = ballots_are_own rules es range.founds;
       sends = sends_ok rules es;
       sound = sound;
       low = λ e. (let least = said.base.least (place_of e.node) in let most = said.base.most (place_of e.node) in omega arith);
     }
 
 -- the record of an event more is sound
-record_sound : (rules : Rules) (es : List Event) (e : Event) → IsShort rules es → AsksBytes e.act → All IsSound (run rules es).records
-    → All IsSound (happens (run rules es) e).records
-record_sound rules es e short asks sound =
+record_sound : (rules : Rules) (es : List Event) (e : Event) → StaysInRange rules es → BodyWithin e.act → HasNumbersAt (run rules es) e → AsksBytes e.act
+    → All IsSound (run rules es).records → All IsSound (happens (run rules es) e).records
+record_sound rules es e range body numbers asks sound =
     let w = run rules es in
     let v = happens w e in
-    let adds = adds_by rules (length es) (bounds_after (length es) first_bounds) w e v (events_have_effects w e) (facts rules es short sound) in
+    let f = facts rules es range sound in
+    let sends = ((ranged_next rules w e body numbers f.held.limited).low.each (actor w e)).sends in
+    let requests = are_numbers.requests in
+    let adds = adds_by rules w e v (events_have_effects w e) f (omega arith) in
     let told = tells w e in
-    let named = run_named rules es short.founds in
+    let named = run_named rules es range.founds in
     let same : w.records ++ adds.new ∷ [] ≡ w.records ++ told.new ∷ [] = sym adds.records ∙ told.records in
     let one : adds.new ≡ told.new = last_same w.records adds.new told.new same in
     let act : adds.new.event.act ≡ e.act = adds.asked in
@@ -254,28 +252,28 @@ record_sound rules es e short asks sound =
     last_same (z ∷ zs) x y is = last_same zs x y (let rest : zs ++ x ∷ [] ≡ zs ++ y ∷ [] = cc in rest)
 
 abbrev SoundIf : Rules → List Event → Type 0
-SoundIf rules es = IsShort rules es → All (λ (e : Event). AsksBytes e.act) es → All IsSound (run rules es).records
+SoundIf rules es = StaysInRange rules es → All (λ (e : Event). AsksBytes e.act) es → All IsSound (run rules es).records
 
 sound_more : (rules : Rules) (es : List Event) (e : Event) → SoundIf rules es → SoundIf rules (es ++ e ∷ [])
-sound_more rules es e h short asks =
-    let before = short_front rules es e short in
+sound_more rules es e h range asks =
+    let before = range_front rules es e range in
     let sound = h before (all_front (λ (x : Event). AsksBytes x.act) es (e ∷ []) asks) in
     subst (λ (w : World). All IsSound w.records) (sym (run_push rules es e))
-    (record_sound rules es e before (all_last (λ (x : Event). AsksBytes x.act) es e asks) sound)
+    (record_sound rules es e before (all_last (λ (x : Event). BodyWithin x.act) es e range.bodies) (numbers_front (start rules) es e range.numbers).1
+    (all_last (λ (x : Event). AsksBytes x.act) es e asks) sound)
 
 all_sound : (rules : Rules) (events : List Event) → SoundIf rules events
 unfolding happen
-all_sound rules events = by_last (SoundIf rules) (sound_more rules) [] events (λ short asks. All-nil IsSound)
+all_sound rules events = by_last (SoundIf rules) (sound_more rules) [] events (λ range asks. All-nil IsSound)
 
 pub records_are_sound : RecordsAreSound
-records_are_sound rules events short asks =
-    let sound = all_sound rules events short asks in
+records_are_sound rules events range asks =
+    let sound = all_sound rules events range asks in
     let w = run rules events in
-    let f = facts rules events short sound in
+    let f = facts rules events range sound in
     record {
       records = sound;
-      group = all_sayable w.records (bounds_after (length events) first_bounds) w.group f.small sound f.held.group (run_said rules events short.founds).group
-          f.sent.all.list;
+      group = all_sayable w.records all_numbers w.group are_numbers sound f.held.group (run_said rules events range.founds).group f.sent.all.list;
     }
 
 -- ---- requests in turn

@@ -3,7 +3,7 @@ use Rattle.am_headline.proofs.RepairWords.{eq-eqb, eqb-true, ◌≡◌, ◌⊎�
 use Rattle.am_headline.proofs.RepairWords.{slice_get, refl, sym, ap, ◌∙◌, subst, arith, All, nat_tests, Stamp, Outcome, Rules, has, Letter, Event, letter_at}
 use Rattle.am_headline.proofs.RepairWords.{Node, top, is_sequencer, has_departed, is_unfinished, next_stamp, Step, World, with_record, with_step, happens}
 use Rattle.am_headline.proofs.RepairWords.{split, Cause, LetterSays, Effect, actor, IsCause, all_get, few_names, heard_names, Along, AllOwned, heard_used}
-use Rattle.am_headline.proofs.RepairWords.{each_along, Repair, Leads, FollowsView, IsApart, IsLeaver, IsElsewhere, IsCalm, Calm, IsOurs, is_stopped, None}
+use Rattle.am_headline.proofs.RepairWords.{each_along, Repair, Leads, FollowsView, IsApart, IsLeaver, IsElsewhere, IsCalm, Calm, IsOurs, is_stopped}
 use Rattle.am_headline.proofs.RepairWords.{MayTell, leads, decided, Ballot, ◌<◌}
 use Rattle.am_headline.proofs.Going.{OurStep, Ours, idles, steps, ours, lead_changes, follow_changes, apart_changes, left_changes, sender_is, member_there}
 use Rattle.am_headline.proofs.{Nodes.CalmCause, Nodes.acting, Nodes.leading, Nodes.leads_not, RepairLeading.Goes, RepairLeading.told_taken, RepairLeading.Trusts}

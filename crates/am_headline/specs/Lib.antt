@@ -2,7 +2,9 @@ pub mod Lists
 pub mod Records
 pub mod Resiliences
 pub mod Parts
+pub mod Processes
 pub mod Claim
+pub mod Answers
 pub mod Rows
 pub mod Calm
 pub mod Rounds

@@ -1,12 +1,14 @@
 -- What one name does in a run, alone.
-use Rattle.std.specs.Prelude.{◌≡◌, ℕ, List, [], ◌∷◌, ◌++◌, take, Option, Some, None, not, ◌==◌, if◌then◌else◌}
-use Rattle.am_base.specs.Founding.{Rules}
+use Rattle.std.specs.Prelude.{◌≡◌, ℕ, List, [], ◌∷◌, ◌++◌, take, Option, Some, None, Ok, not, ◌==◌, if◌then◌else◌, All}
+use Rattle.am_base.specs.Founding.{Rules, MayFound}
 use Rattle.am_base.specs.Names.{place_of}
 use Rattle.am_base.specs.declared.outcome.Outcome.{Outcome}
 use Rattle.am_base.specs.declared.event.NodeEvent.{NodeEvent}
 use Rattle.am_base.specs.declared.event.NodeEvent.TheVariants as does
 use Rattle.am_packet.specs.Boxes.{Letter}
+use Rattle.am_packet.specs.Limits.{IsPacket}
 use Rattle.am_packet.specs.Spelling.{spelling}
+use Rattle.am_packet.specs.Reading.{reading}
 use Rattle.am_group.specs.declared.event.Act.{Act}
 use Rattle.am_group.specs.declared.event.Act.TheVariants as act
 use Rattle.am_group.specs.declared.event.Event.{Event}
@@ -14,9 +16,10 @@ use Rattle.am_group.specs.declared.event.Record.{Record}
 use Rattle.am_group.specs.Journals.{letter_at}
 use Rattle.am_group.specs.Addressed.{is_for}
 use Rattle.am_model.specs.Node.{Node}
+use Rattle.am_model.specs.Nodes.{HasNumbersLeft}
 use Rattle.am_model.specs.Step.{step}
 use Rattle.am_play.specs.World.{World, start, first_node, current, is_stopped, happens, run}
-use Rattle.am_laws.specs.Bytes.{IsShort}
+use Rattle.am_laws.specs.Bytes.{BodyWithin, IsShort, run_of_bytes}
 
 -- what a node did: an event of its own or bytes that it heard, what it answered, and what it sent
 pub record Part : Type 0 where
@@ -56,6 +59,42 @@ own_event w name (act.Hear number) = hearing_of w name (λ bytes. bytes) (letter
 own_event w name (act.Cut number keep) = hearing_of w name (take keep) (letter_at w.letters number)
 own_event w name act.Return = None
 
+-- ---- runs of any length, in which nodes have numbers left
+
+-- a node that does an event has numbers left before it
+abbrev pub HasNumbersAt : World → Event → Type 0
+HasNumbersAt w e = (what : NodeEvent) → own_event w (current w (place_of e.node)) e.act ≡ Some what
+    → HasNumbersLeft (w.nodes (current w (place_of e.node)))
+
+-- each that does one of these does
+unfoldable pub HaveNumbers : World → List Event → Type 0
+HaveNumbers w [] = Unit {0}
+HaveNumbers w (e ∷ es) = HasNumbersAt w e × HaveNumbers (happens w e) es
+
+-- a founding and events whose nodes have numbers left
+pub record StaysInRange (rules : Rules) (events : List Event) : Type 0 where
+  pub founds : MayFound rules
+  pub bodies : All (λ (e : Event). BodyWithin e.act) events
+  pub numbers : HaveNumbers (start rules) events
+
+-- each run of at most 100,000 events is such a run
+abbrev pub ShortRunsStayInRange : Type 0
+ShortRunsStayInRange = (rules : Rules) (events : List Event) → IsShort rules events → StaysInRange rules events
+
+-- each letter of such a run holds a packet within a packet's limits
+abbrev pub LettersStayPackets : Type 0
+LettersStayPackets = (rules : Rules) (events : List Event) → StaysInRange rules events → (number : ℕ) (letter : Letter)
+    → letter_at (run rules events).letters number ≡ Some letter → IsPacket letter.packet
+
+-- so its bytes are read as it
+abbrev pub LettersStayRead : Type 0
+LettersStayRead = (rules : Rules) (events : List Event) → StaysInRange rules events → (number : ℕ) (letter : Letter)
+    → letter_at (run rules events).letters number ≡ Some letter → reading (spelling letter.packet) ≡ Ok letter.packet
+
+-- and where nodes hear bytes the run is the same
+abbrev pub RunsStayOfBytes : Type 0
+RunsStayOfBytes = (rules : Rules) (events : List Event) → StaysInRange rules events → run_of_bytes rules events ≡ run rules events
+
 -- ---- what a name did in a run, by the records that its events left
 
 abbrev pub part_of : Record → Option NodeEvent → List Part
@@ -88,7 +127,7 @@ pub record IsMade (m : Node) (parts : List Part) (n : Node) : Type 0 where
   pub node : n ≡ node_by m parts
   pub answers : Answered m parts
 
--- so is each name's node in every run
+-- so is each name's node in every run in which nodes have numbers left
 abbrev pub RunsAreMadeOfNodes : Type 0
-RunsAreMadeOfNodes = (rules : Rules) (events : List Event) → IsShort rules events → (name : ℕ)
+RunsAreMadeOfNodes = (rules : Rules) (events : List Event) → StaysInRange rules events → (name : ℕ)
     → IsMade (first_node rules name) (parts_of name (start rules) events (run rules events).records) ((run rules events).nodes name)

@@ -16,7 +16,7 @@ use Rattle.am_group.specs.declared.event.Event.{Event}
 use Rattle.am_group.specs.declared.event.Record.{Record}
 use Rattle.am_group.specs.Deliveries.{name_of}
 use Rattle.am_play.specs.World.{World, current, run}
-use Rattle.am_laws.specs.Bytes.{IsShort}
+use Rattle.am_headline.specs.Parts.{StaysInRange}
 
 -- ---- lives
 
@@ -94,7 +94,7 @@ pub record RunSound (w : World) : Type 0 where
   pub group : All IsSayable w.group
 
 abbrev pub RecordsAreSound : Type 0
-RecordsAreSound = (rules : Rules) (events : List Event) → IsShort rules events → All (λ (e : Event). AsksBytes e.act) events → RunSound (run rules events)
+RecordsAreSound = (rules : Rules) (events : List Event) → StaysInRange rules events → All (λ (e : Event). AsksBytes e.act) events → RunSound (run rules events)
 
 -- ---- requests
 

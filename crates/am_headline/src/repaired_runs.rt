@@ -1,3 +1,4 @@
+ghost use Rattle.am_headline.specs.Answers.{AcceptedAreAnswered, AcceptedAreGiven, RepairedAreAnswered, RepairedAreGiven};
 ghost use Rattle.am_headline.specs.{Claim.Repairs, Standing.RepairableIsOneList};
 ghost use Rattle.am_headline.specs.Trimmed.{RepairableCounts, RepairableTrims};
 
@@ -21,4 +22,18 @@ pub fn repairable_runs_trim_taken()
 /// The claim: where a lawful run may be repaired, a lossless schedule brings each member of the sequencer's list to where the sequencer stood.
 pub fn lossless_schedules_repair()
     ensures { Repairs }
+{}
+
+/// And what stands is answered: in every run no own send is pending that stands in a node's list, from where the node joined up to what it has
+/// accepted. So behind that schedule none is of each member of the sequencer's list, up to where the sequencer stood.
+pub fn sends_that_stand_are_answered()
+    ensures accepted { AcceptedAreAnswered }
+    ensures repaired { RepairedAreAnswered }
+{}
+
+/// And it is given: in every run a member's application can take, one after another, all that its node has accepted; so behind that schedule
+/// each member's can, up to where the sequencer stood.
+pub fn entries_that_stand_are_given()
+    ensures accepted { AcceptedAreGiven }
+    ensures repaired { RepairedAreGiven }
 {}

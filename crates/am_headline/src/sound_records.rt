@@ -6,9 +6,9 @@ pub fn lives_are_told()
     ensures { LivesAreTold }
 {}
 
-/// In a run of at most 100,000 events, whose bodies are bytes, each send, answer and take is of its act alone, with numbers within their
-/// limits; each entry that is taken or stands in the group list is of names that there are, within their limits; and a place returns with a
-/// life that there is.
+/// In a run in which nodes have numbers left (`letters_stay_packets`), and whose bodies are bytes, each send, answer and take is of its act
+/// alone, with numbers within their limits; each entry that is taken or stands in the group list is of names that there are, within their
+/// limits; and a place returns with a life that there is.
 pub fn records_are_sound()
     ensures { RecordsAreSound }
 {}

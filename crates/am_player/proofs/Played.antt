@@ -10,13 +10,14 @@ use Rattle.am_play.proofs.Runs.{watched_is_run, front_is_lawful}
 use Rattle.am_headline.proofs.Fitted.{views_fit}
 use Rattle.am_headline.proofs.Holds.{headline_holds, prefix_whole}
 use Rattle.am_headline.proofs.RepairedSettled.{settled_is_repaired}
+use Rattle.am_headline.proofs.AnsweredRuns.{settled_is_answered}
 use Rattle.am_runs.proofs.SentRuns.{sent_holds}
 use Rattle.am_runs.proofs.Holds.{unballoted_holds}
 use Rattle.am_schedules.specs.declared.script.Script.{Script}
 use Rattle.am_schedules.specs.Scripts.{reading}
 use Rattle.am_schedules.specs.Limits.{ScriptWithin}
 use Rattle.am_player.specs.Runs.{done_of, run_watch, IsRunText}
-use Rattle.am_player.specs.Plays.{KeepsRun, Repaired, PlayedBy, IsText}
+use Rattle.am_player.specs.Plays.{KeepsRun, Repaired, Answered, PlayedBy, IsText}
 
 -- ---- a run that is settled behind its own events
 
@@ -56,6 +57,10 @@ keeps_run rules events may = record {
 repaired : (rules : Rules) (events : List Event) → MayFound rules → Repaired rules events
 repaired rules events may place low lawful repair name member = settled_is_repaired rules events place may low lawful repair name member
 
+-- and what stands in it is answered
+answered : (rules : Rules) (events : List Event) → MayFound rules → Answered rules events
+answered rules events may place low lawful repair name member = settled_is_answered rules events place may low lawful repair name member
+
 pub played_by : (what : Rules → Watch → List ℕ) (bytes text : List ℕ) (script : Script) → reading bytes ≡ Ok script → ScriptWithin script
     → IsText what script text → PlayedBy what bytes text
 unfolding IsRunText
@@ -73,4 +78,5 @@ played_by what bytes text script is within same =
       few = same.1;
       keeps = keeps_run founding (done_of founding events settles) within.may_found;
       repaired = λ _settled. repaired founding events within.may_found;
+      answered = λ _settled. answered founding events within.may_found;
     }

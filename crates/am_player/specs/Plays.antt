@@ -9,6 +9,7 @@ use Rattle.am_play.specs.World.{current, run}
 use Rattle.am_play.specs.Claims.{Headline, FitsView, Sent, NoBallot, HoldsUnballoted}
 use Rattle.am_play.specs.Lawful.{Watch, lawful_front}
 use Rattle.am_headline.specs.Claim.{MayRepair, HasCaughtUp}
+use Rattle.am_headline.specs.Answers.{AnswersUpTo}
 use Rattle.am_io.specs.Outside.{ReadToEnd}
 use Rattle.am_schedules.specs.declared.script.Script.{Script}
 use Rattle.am_schedules.specs.Limits.{IsWithin}
@@ -35,8 +36,14 @@ Repaired rules events = (place : ℕ) → place < 16 → lawful_front rules even
     → (name : ℕ) → has (members ((run rules events).nodes (current (run rules events) place))) name ≡ true
     → HasCaughtUp ((run rules (done_of rules events true)).nodes name) (top ((run rules events).nodes (current (run rules events) place)))
 
+-- And of each of them no own send is pending that stands in its list up to there, from where it joined.
+abbrev pub Answered : Rules → List Event → Type 0
+Answered rules events = (place : ℕ) → place < 16 → lawful_front rules events ≡ events → MayRepair (run rules events) place
+    → (name : ℕ) → has (members ((run rules events).nodes (current (run rules events) place))) name ≡ true
+    → AnswersUpTo ((run rules (done_of rules events true)).nodes name) (top ((run rules events).nodes (current (run rules events) place)))
+
 -- what was read is a script within its limits, what was written is shown of its run, which has at most 100,000 events, and that run keeps what is claimed;
--- where it is settled, it is repaired
+-- where it is settled, it is repaired, and what stands is answered
 pub record PlayedBy (what : Rules → Watch → List ℕ) (bytes text : List ℕ) : Type 0 where
   pub founding : Rules
   pub events : List Event
@@ -47,6 +54,7 @@ pub record PlayedBy (what : Rules → Watch → List ℕ) (bytes text : List ℕ
   pub few : length (done_of founding events settles) ≤ most_events
   pub keeps : KeepsRun founding (done_of founding events settles)
   pub repaired : settles ≡ true → Repaired founding events
+  pub answered : settles ≡ true → Answered founding events
 
 -- a text is shown of the script that was read to the end of what was left
 abbrev pub IsPlayedBy : (Rules → Watch → List ℕ) → Option (List ℕ) → Option (List ℕ) → List ℕ → Type 0

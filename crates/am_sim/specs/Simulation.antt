@@ -14,7 +14,7 @@ use Rattle.am_schedules.specs.Scripts.{script_of, reading}
 use Rattle.am_schedules.specs.declared.refusal.ScriptRefusal.{ScriptRefusal}
 use Rattle.am_schedules.specs.Races.{race_reading}
 use Rattle.am_player.specs.Runs.{done_of, run_watch}
-use Rattle.am_player.specs.Plays.{KeepsRun, Repaired}
+use Rattle.am_player.specs.Plays.{KeepsRun, Repaired, Answered}
 use Rattle.am_player.specs.Statuses.{most_input}
 use Rattle.am_sim.specs.Playing.{shown_text}
 use Rattle.am_sim.specs.Racing.{events_of, race_text, IsRaced}
@@ -60,8 +60,8 @@ pub record Keeps (rules : Rules) (events : List Event) : Type 0 where
   pub replicas : (name : ℕ) → has_log ((front_of rules events).nodes name).status ≡ true → ReplicaHolds rules (front_of rules events) name
 
 -- what was read is a script, what was written is shown of its run, which has at most 100,000 events, and that run keeps what is claimed; where it is
--- settled, it is repaired. Where the run's text was written, an audit reads it as that run; and where the run is lawful, or nobody began a ballot, its
--- verdict agrees
+-- settled, it is repaired, and what stands is answered. Where the run's text was written, an audit reads it as that run; and where the run is lawful, or
+-- nobody began a ballot, its verdict agrees
 pub record Played (what : Shown) (bytes text : List ℕ) : Type 0 where
   pub founding : Rules
   pub events : List Event
@@ -71,6 +71,7 @@ pub record Played (what : Shown) (bytes text : List ℕ) : Type 0 where
   pub few : length (done_of founding events settles) ≤ most_events
   pub keeps : Keeps founding (done_of founding events settles)
   pub repaired : settles ≡ true → Repaired founding events
+  pub answered : settles ≡ true → Answered founding events
   pub reads : what ≡ shown.Text → ReadsAs founding (done_of founding events settles) text
   pub agrees : what ≡ shown.Text → IsOfOneList founding (done_of founding events settles) → AgreesAs founding (done_of founding events settles) text
 

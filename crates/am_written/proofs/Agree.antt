@@ -6,7 +6,8 @@ use Rattle.am_written.proofs.Words.{NoBallot, Segment, Once, Sent, broken_at, wa
 use Rattle.am_written.proofs.Words.{IsOfBytes, AreOfBytes, IsShort, BodyWithin, run_named, numbers_hold, ListFits, unballoted_holds, unballoted_lists_fit}
 use Rattle.am_written.proofs.Words.{headline_holds, lists_fit, Reading, or_else, first_fault, first_astray, first_lost, first_early, first_misfit}
 use Rattle.am_written.proofs.Words.{first_skipped, first_unsent, first_unlogged, first_untaken, lines_of, wrong_lists, wrong_events, verdict_of, IsSayable}
-use Rattle.am_written.proofs.Words.{AsksBytes, IsRaised, records_are_sound, requests_in_turn, resiliences_hold, sends_of, answers_of, takes_of, texts_of}
+use Rattle.am_written.proofs.Words.{AsksBytes, IsRaised, records_are_sound, short_runs_stay, requests_in_turn, resiliences_hold, sends_of, answers_of, takes_of}
+use Rattle.am_written.proofs.Words.{texts_of}
 use Rattle.am_written.proofs.Words.{logs_in, reading_of, right_verdict, AgreesAs, RunsHaveTheirTexts, LawfulTextsAgree}
 use Rattle.am_written.proofs.{Runs.group_begins, Runs.run_read, Fitting.no_misfit, Logs.IsRight, Logs.no_fault, Logs.no_astray, Logs.no_early, Logs.run_goes}
 use Rattle.am_written.proofs.{Sends.none_lost, Sends.answers_once, Sends.none_skipped, Sends.requests_are, Asked.InTurn, Asked.none_unsent}
@@ -41,7 +42,7 @@ right rules events h =
     let begins = group_begins rules events in
     record {
       fits = h.lists.fits;
-      say = (records_are_sound rules events h.short h.asks).group;
+      say = (records_are_sound rules events (short_runs_stay rules events h.short) h.asks).group;
       raised = (resiliences_hold rules events h.short.founds).group;
       rest = begins.0;
       begins = begins.1;
@@ -101,7 +102,7 @@ lists_right rules events broken s h group lines answers =
 in_turn : (rules : Rules) (events : List Event) → IsFit rules events → InTurn (sends_of (run rules events).records)
 in_turn rules events h = λ name.
     let w = run rules events in
-    let is = requests_are name w.records (records_are_sound rules events h.short h.asks).records in
+    let is = requests_are name w.records (records_are_sound rules events (short_runs_stay rules events h.short) h.asks).records in
     is ∙ requests_in_turn rules events h.short.founds name ∙ ap (λ (l : List ℕ). range_with_len 1 (length l)) (sym is)
 
 events_right : (rules : Rules) (events : List Event) (s : Reading) → IsFit rules events
@@ -111,7 +112,7 @@ unfolding wrong_events
 events_right rules events s h group lines sends takes =
     let w = run rules events in
     let r = right rules events h in
-    let sound = records_are_sound rules events h.short h.asks in
+    let sound = records_are_sound rules events (short_runs_stay rules events h.short) h.asks in
     let turn = in_turn rules events h in
     let skipped : first_skipped [] s.sends ≡ None = ap (first_skipped []) sends ∙ none_skipped [] (sends_of w.records) (λ name. refl) turn in
     let asked = all_asked (sends_of w.records) w.group (λ k from req body at.

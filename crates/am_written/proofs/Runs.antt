@@ -4,7 +4,8 @@ use Rattle.am_written.proofs.Words.{arith, subst, Ok, Option, Some, None, All, f
 use Rattle.am_written.proofs.Words.{Outcome, split, Act, Event, Record, name_of, taken_in, given_to, deliveries, founders_view, has_log, Decided, World}
 use Rattle.am_written.proofs.Words.{happens, happen, run, logs, Watch, watch_start, watch, watch_all, watch_run, greatest_complete, is_lawful, broken_now}
 use Rattle.am_written.proofs.Words.{text_of, play_text, watched_is_run, one_record_each, runs_begin, IsOfBytes, Reading, read_text, IsShort, numbers_hold}
-use Rattle.am_written.proofs.Words.{IsSayable, AsksBytes, IsAnswer, IsBack, IsSound, LivesTold, lives_are_told, records_are_sound, IsRaised, GivesRaised}
+use Rattle.am_written.proofs.Words.{IsSayable, AsksBytes, IsAnswer, IsBack, IsSound, LivesTold, lives_are_told, records_are_sound, short_runs_stay, IsRaised}
+use Rattle.am_written.proofs.Words.{GivesRaised}
 use Rattle.am_written.proofs.Words.{GaveRaised, resiliences_hold, reading_of}
 use Rattle.am_written.proofs.Reading.{IsShown, AreShown, IsListed, AreListed, AreGiven, AreLogs, IsMark}
 use Rattle.am_written.proofs.{Chars.GivesBytes, Outcomes.IsQueued, Outcomes.IsAnswered, Outcomes.IsTaken, Outcomes.IsCounted, Whole.IsPrinted, Whole.read_as}
@@ -160,7 +161,7 @@ printed_run : (rules : Rules) (events : List Event) (rest : List Entry) → IsSh
     → IsPrinted rules (run rules events).records (founders_view rules) rest (logs (run rules events)) (watch_run rules events).broken
 printed_run rules events rest short asks group =
     let w = run rules events in
-    let sound = records_are_sound rules events short asks in
+    let sound = records_are_sound rules events (short_runs_stay rules events short) asks in
     let raised = resiliences_hold rules events short.founds in
     let few = short.few in
     let many = one_record_each rules events in

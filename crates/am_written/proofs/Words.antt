@@ -35,7 +35,7 @@ pub use Rattle.am_chain.proofs.Turns.{no_send_twice}
 pub use Rattle.am_runs.proofs.Holds.{unballoted_holds, unballoted_lists_fit}
 pub use Rattle.am_runs.specs.Lists.{ListFits}
 pub use Rattle.am_headline.proofs.{Holds.headline_holds, Holds.lists_fit, Lives.lives_are_told, RaisedRuns.resiliences_hold, Sound.records_are_sound}
-pub use Rattle.am_headline.proofs.{Sound.requests_in_turn}
+pub use Rattle.am_headline.proofs.{Sound.requests_in_turn, RangeBytes.short_runs_stay}
 pub use Rattle.am_headline.specs.Records.{IsSayable, AsksBytes, returned_as, names_after, HasLife, IsAnswer, IsBack, IsSound, LivesTold, queued_in, queued_by}
 pub use Rattle.am_headline.specs.Records.{requests_given, names_told, AreTold, first_names}
 pub use Rattle.am_headline.specs.{Resiliences.IsRaised, Resiliences.GivesRaised, Resiliences.GaveRaised}
