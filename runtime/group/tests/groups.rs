@@ -50,7 +50,9 @@ fn three(host: &str, resilience: u8) -> (Vec<SocketAddr>, Vec<Group>) {
     let starts: Vec<_> = ["2", "0", "1"]
         .into_iter()
         .map(|me| {
-            let config = config(me, "0,1,2", &all).resilience(resilience);
+            let config = config(me, "0,1,2", &all)
+                .resilience(resilience)
+                .most_unreceived(1 << 20);
             std::thread::spawn(move || Group::create(config).unwrap())
         })
         .collect();
@@ -232,4 +234,27 @@ fn a_flood_of_strangers_takes_no_message_and_no_memory() {
     println!("{sent} messages beside {flood:.0} datagrams a second");
     assert_eq!(messages(&groups[0], sent).len(), sent);
     assert!(memory() < before + (16 << 20));
+}
+
+#[test]
+fn who_receives_nothing_holds_the_group_back_and_loses_nothing() {
+    let all = addresses(2, "127.0.0.1");
+    let slow = config("1", "0,1", &all).most_unreceived(10).window(16);
+    let thread = std::thread::spawn(move || Group::create(slow).unwrap());
+    let fast = Group::create(config("0", "0,1", &all).window(16)).unwrap();
+    let slow = thread.join().unwrap();
+    let mut tickets: Vec<_> = (0..2_000u32)
+        .map(|k| fast.submit(vec![k as u8; 600]).unwrap())
+        .collect();
+    let last = tickets.pop().unwrap();
+    assert!(matches!(
+        last.wait_timeout(Duration::from_millis(300)),
+        Err(SendError::Timeout)
+    ));
+    let received = messages(&slow, 2_000);
+    last.wait_timeout(SOON).unwrap();
+    assert!(received
+        .iter()
+        .enumerate()
+        .all(|(k, it)| it.2 == vec![k as u8; 600]));
 }
