@@ -14,7 +14,12 @@ fn main() -> ExitCode {
     };
     let mut failed = 0;
     for seed in first..first.saturating_add(count) {
-        match run(&Plan::of(seed)) {
+        let began = std::time::Instant::now();
+        let ran = run(&Plan::of(seed));
+        if began.elapsed().as_secs() >= 3 {
+            println!("seed {seed} took {:?}", began.elapsed());
+        }
+        match ran {
             Ok(report) if count == 1 => println!("{}", report.text),
             Ok(_) => {}
             Err(failure) => {

@@ -51,7 +51,11 @@ impl World<'_> {
         let name = Name::new(place, self.lives[usize::from(place)]);
         let lowest = self.plan.founding.lowest();
         match name {
-            Some(name) if self.places[usize::from(place)].is_none() && Some(name) != lowest => {
+            Some(name)
+                if self.places[usize::from(place)].is_none()
+                    && Some(name) != lowest
+                    && !self.is_calm =>
+            {
                 self.counts.twins += 1;
                 self.start_process(name, true)
             }

@@ -75,6 +75,8 @@ pub struct Plan {
     pub ends: u64,
     /// Microseconds between two sends of a process.
     pub send_every: u64,
+    /// How many messages a process sends at most.
+    pub most_sends: usize,
     /// How messages are made.
     pub sizes: Sizes,
     /// Of a thousand processes so many have an application that takes slowly.
@@ -103,14 +105,15 @@ impl Plan {
             window: draw.one_of(&[1, 4, 16, 16, 64, 256]).unwrap_or(16),
             pb_up_to: draw.one_of(&[0, 256, 1024, 1024]).unwrap_or(1024),
         };
-        let ends = draw.between(1_000_000, 4_000_000);
+        let ends = draw.between(500_000, 2_500_000);
         let mut plan = Plan {
             seed,
             founding,
             least: draw.per_mille(300).then_some(1),
             faults: faults_of(&mut draw),
             ends,
-            send_every: draw.one_of(&[3_000, 20_000, 100_000]).unwrap_or(20_000),
+            send_every: draw.one_of(&[5_000, 20_000, 100_000]).unwrap_or(20_000),
+            most_sends: 80,
             sizes: draw
                 .one_of(&[Sizes::Small, Sizes::Small, Sizes::Mixed, Sizes::Long])
                 .unwrap_or(Sizes::Small),
@@ -121,8 +124,12 @@ impl Plan {
             journal: draw.per_mille(200),
             plant: None,
         };
+        if plan.sizes == Sizes::Mixed {
+            plan.most_sends = 40;
+        }
         if plan.sizes == Sizes::Long {
-            plan.send_every *= 10;
+            plan.send_every *= 5;
+            plan.most_sends = 4;
         }
         plan.draw_acts(&mut draw);
         plan

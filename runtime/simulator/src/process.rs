@@ -91,9 +91,12 @@ impl Process {
     }
 
     /// Has the application send a message; whether the member took it.
-    pub(crate) fn send(&mut self, sizes: Sizes, now: u64, draw: &mut Draw) -> Result<bool, String> {
+    pub(crate) fn send(&mut self, plan: &Plan, now: u64, draw: &mut Draw) -> Result<bool, String> {
+        if self.app.sent.len() >= plan.most_sends {
+            return Ok(false);
+        }
         let ticket = self.app.sent.len() as u64;
-        let message = message_of(self.name, ticket, sizes, draw);
+        let message = message_of(self.name, ticket, plan.sizes, draw);
         let input = Input::Send {
             ticket,
             message: message.clone(),

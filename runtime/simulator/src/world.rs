@@ -55,7 +55,7 @@ pub(crate) enum Happening {
 }
 
 /// What happens when; of the same time what was planned first.
-struct Planned {
+pub(crate) struct Planned {
     at: u64,
     order: u64,
     what: Happening,
@@ -397,7 +397,7 @@ impl<'a> World<'a> {
         if self.is_calm {
             return Ok(());
         }
-        let (now, sizes, every) = (self.now, self.plan.sizes, self.plan.send_every);
+        let (now, plan, every) = (self.now, self.plan, self.plan.send_every);
         let mut draw = self.draw.clone();
         let process = self.process(place)?;
         let burst = if draw.per_mille(100) {
@@ -406,7 +406,7 @@ impl<'a> World<'a> {
             1
         };
         for _ in 0..burst {
-            if !process.leaves && !process.send(sizes, now, &mut draw)? {
+            if !process.leaves && !process.send(plan, now, &mut draw)? {
                 break;
             }
         }
@@ -419,11 +419,15 @@ impl<'a> World<'a> {
     }
 
     fn consume(&mut self, place: u8) -> Result<(), String> {
+        let is_calm = self.is_calm;
         let process = self.process(place)?;
         let Some(slow) = process.slow else {
             return Ok(());
         };
-        let count = slow.count.min(process.backlog);
+        let count = match is_calm {
+            true => process.backlog,
+            false => slow.count.min(process.backlog),
+        };
         process.backlog -= count;
         let number = process.number;
         if count > 0 {
