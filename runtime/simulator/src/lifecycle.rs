@@ -5,7 +5,7 @@ use crate::journals;
 use crate::plan::{Act, Faults};
 use crate::process::Process;
 use crate::world::{Happening, Report, World, TOLD_WITHIN};
-use muoswyld_member::{End, Input, Name, Role};
+use muoswyld_member::{End, Input, Name, Names, Role};
 use std::collections::BTreeSet;
 use std::fmt::Write;
 
@@ -93,10 +93,7 @@ impl World<'_> {
                 .members
                 .iter()
                 .filter(|name| running.contains(name));
-            let least = match self.plan.least {
-                Some(least) => usize::from(least),
-                None => standing.members.len() / 2 + 1,
-            };
+            let least = self.least(standing.members);
             if !standing.members.is_empty() && left.count() < least {
                 return false;
             }
@@ -286,6 +283,18 @@ impl World<'_> {
         }
     }
 
+    /// Whether fewer of a process's members run than a reset goes on with, so that it waits for good.
+    fn is_too_small(&self, process: &Process, running: &[Name]) -> bool {
+        let members = process.member.info().standing.members;
+        let left = members.iter().filter(|name| running.contains(name)).count();
+        left < members.len() && left < self.least(members)
+    }
+
+    /// The fewest members that a reset of some goes on with.
+    fn least(&self, members: Names) -> usize {
+        self.plan.least.map_or(members.len() / 2 + 1, usize::from)
+    }
+
     /// Whether all that run are members of one view with one list, of which all is taken, and nothing is under way.
     pub(crate) fn is_at_rest(&self) -> bool {
         let running: Vec<&Process> = self.places.iter().flatten().collect();
@@ -293,6 +302,12 @@ impl World<'_> {
             return true; // the group is over
         }
         let names: Vec<Name> = running.iter().map(|process| process.name).collect();
+        if running
+            .iter()
+            .all(|process| !process.has_list() || self.is_too_small(process, &names))
+        {
+            return true; // nobody may reset it
+        }
         let mut tops = BTreeSet::new();
         for process in &running {
             let info = process.member.info();

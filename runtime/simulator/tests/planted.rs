@@ -56,7 +56,15 @@ fn a_ticket_that_is_settled_before_its_delivery() {
 
 #[test]
 fn a_letter_that_goes_out_before_its_line() {
-    let (_, what) = found_with(Plant::LetterBeforeJournal, |plan| plan.journal = true);
+    let (_, what) = found_with(Plant::LetterBeforeJournal, |plan| {
+        plan.journal = true;
+        for (_, _, act) in &mut plan.acts {
+            *act = Act::Crash {
+                back: Some(200_000),
+                twin: false,
+            };
+        }
+    });
     assert!(what.contains("whose journal has"), "{what}");
 }
 
