@@ -24,8 +24,6 @@ const MOST_PARTS: usize = MOST_MESSAGE.div_ceil(SHARE);
 const LENGTH: usize = 2;
 /// The longest message that can be packed: it fills a body.
 pub(crate) const MOST_PACKED: usize = MOST_BODY - 1 - LENGTH;
-/// The most messages of one body.
-pub(crate) const MOST_IN_BODY: usize = (MOST_BODY - 1) / LENGTH;
 
 const PACKED: u8 = b'P';
 const PART: u8 = b'S';
@@ -271,7 +269,7 @@ mod tests {
             packing.push(b"");
             count += 1;
         }
-        assert_eq!(count, MOST_IN_BODY);
+        assert_eq!(count, (1024 - 1) / 2);
         let body = packing.into_body();
         assert_eq!(body.len(), 1023);
         let Body::Packed(messages) = read(&body) else {

@@ -12,8 +12,6 @@
 use muoswyld::event::To;
 use muoswyld::names::{Name, Names};
 
-/// The bytes before the letters.
-pub(crate) const HEAD: usize = 18;
 /// The most bytes of a letter before its packet.
 const LETTER_HEAD: usize = 17;
 /// The fewest bytes of a packet.
@@ -226,6 +224,9 @@ pub(crate) fn tell(nonce: u64, group: u64, from: Speaker) -> Vec<u8> {
 mod tests {
     use super::*;
     use proptest::prelude::*;
+
+    /// The bytes before the letters.
+    const HEAD: usize = 18;
 
     const ME: Speaker = Speaker {
         name: Name::of_byte(0x21),

@@ -212,7 +212,7 @@ impl Member {
             self.counts.not_addressed += 1;
             return Some(());
         }
-        if kind == Some(Kind::JoinAsk) && self.puts_askers_off() {
+        if kind == Some(Kind::JoinAsk) && self.puts_off(from) {
             self.counts.askers_put_off += 1;
             return Some(());
         }
@@ -234,11 +234,13 @@ impl Member {
     }
 
     /// Whether an asker isn't heard now: somebody has stopped and is still a member, a reset is under way, or the member leaves. A
-    /// stranger that is numbered then could lock the group.
-    fn puts_askers_off(&self) -> bool {
-        !self.stopped.among(self.standing.members).is_empty()
+    /// stranger that is numbered then could lock the group. One that is numbered already is heard, so that it is welcomed.
+    fn puts_off(&self, asker: Name) -> bool {
+        let members = self.standing.members;
+        let is_bad_time = !self.stopped.among(members).is_empty()
             || self.standing.role == Role::Coordinator
-            || self.leaving.is_wanted()
+            || self.leaving.is_wanted();
+        is_bad_time && !members.has(asker)
     }
 
     /// What the answer to a letter tells the timers and the reset.
