@@ -190,12 +190,14 @@ fn is_settled(app: &App, list: &List) -> Result<(), String> {
         let Some(message) = app.sent.get(*ticket as usize) else {
             continue;
         };
-        let is_there = |delivery: &&Delivery| matches!(delivery, Delivery::Message { from, message: there, .. } if *from == app.name && there == message);
+        let is_there = |delivery: &Delivery| matches!(delivery, Delivery::Message { from, message: there, .. } if *from == app.name && there == message);
         match result {
-            Ok(at) if !list.get(at).is_some_and(is_there) => {
+            Ok(at) if !list.get(at).is_some_and(|there| is_there(there)) => {
                 return Err(format!("{}: ticket {ticket} isn't at {at:?}", app.name));
             }
-            Err(Unsent::NotSent) if message.len() >= 16 && list.values().any(|d| is_there(&d)) => {
+            Err(Unsent::NotSent)
+                if message.len() >= 16 && list.values().any(|there| is_there(there)) =>
+            {
                 return Err(format!(
                     "{}: ticket {ticket} wasn't sent, and is there",
                     app.name

@@ -121,17 +121,8 @@ impl World<'_> {
                 }
                 Ok(())
             }
-            Act::Leave => {
-                let stays = self
-                    .others(place)
-                    .filter(|other| !other.leaves && other.has_list());
-                if stays.count() > 0 {
-                    if let Some(process) = &mut self.places[usize::from(place)] {
-                        process.leaves = true;
-                        self.counts.leaves += 1;
-                        self.give(place, Input::Leave);
-                    }
-                }
+            Act::Leave | Act::LeaveAnyway => {
+                self.leave(place, act == Act::LeaveAnyway);
                 Ok(())
             }
             Act::Join => {
@@ -144,6 +135,19 @@ impl World<'_> {
             Act::Reset(more) => {
                 self.reset(place, more);
                 Ok(())
+            }
+        }
+    }
+
+    fn leave(&mut self, place: u8, anyway: bool) {
+        let stays = |other: &&Process| !other.leaves && other.has_list();
+        let staying = self.others(place).filter(stays).count();
+        let may_leave = anyway || staying > 0;
+        if let Some(process) = self.places[usize::from(place)].as_mut() {
+            if may_leave {
+                process.leaves = true;
+                self.counts.leaves += 1;
+                self.give(place, Input::Leave);
             }
         }
     }

@@ -43,6 +43,8 @@ pub enum Act {
     Pause(u64),
     /// It leaves, if another member stays.
     Leave,
+    /// It leaves, also as the last one.
+    LeaveAnyway,
     /// A new place joins.
     Join,
     /// It resets the group, with so much more resilience.
