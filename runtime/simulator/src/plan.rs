@@ -103,7 +103,7 @@ impl Plan {
         let resilience = draw.one_of(&[0, 1, 1, 1, 2, 2, 3]).unwrap_or(1);
         let founding = Founding {
             founders: (0..founders).filter_map(Name::first).collect::<Names>(),
-            resilience: resilience.min(founders.saturating_sub(1) / 2),
+            resilience: resilience.min(founders.saturating_sub(1)),
             window: draw.one_of(&[1, 4, 16, 16, 64, 256]).unwrap_or(16),
             pb_up_to: draw.one_of(&[0, 256, 1024, 1024]).unwrap_or(1024),
         };
