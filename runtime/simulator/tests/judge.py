@@ -29,7 +29,8 @@ def judge(program: str, folder: pathlib.Path) -> int:
         print(f"{folder.name}: play ended with {done.returncode}: {done.stderr.decode(errors='replace').strip()}")
         return 1
     # more may stop than the resilience, as the plan has it: that isn't looked at here, the answers are
-    said, status = judged(merged, argparse.Namespace(resilience=-1), done.stdout.decode(errors="replace"))
+    wanted = argparse.Namespace(resilience=-1, program=program, judge=program)
+    said, status = judged(merged, wanted, done.stdout.decode(errors="replace"))
     print(f"{folder.name}: {'; '.join(said)}")
     return status
 

@@ -1,6 +1,8 @@
 //! Some runs are judged: their journals are merged to a script, and the proved `play` must answer what the members' nodes did.
 
+use muoswyld_member::Name;
 use muoswyld_simulator::{journals, run, Plan};
+use std::collections::BTreeMap;
 use std::path::{Path, PathBuf};
 use std::process::Command;
 use std::{env, fs};
@@ -23,28 +25,59 @@ fn judge() -> PathBuf {
         .expect("no program judges: MUOSWYLD_PLAY names it, or `./muoswyld build` builds it")
 }
 
-#[test]
-fn the_judge_answers_as_the_members_did() {
-    let folder = env::temp_dir().join(format!("muoswyld-judged-{}", std::process::id()));
-    let mut folders = Vec::new();
-    for seed in 1..=SEEDS {
-        let mut plan = Plan::of(seed);
-        plan.journal = true;
-        let report = run(&plan).unwrap_or_else(|failure| panic!("{failure}"));
-        let run_folder = folder.join(format!("seed-{seed}"));
-        journals::write(&run_folder, &report.journals).expect("journals are written");
-        folders.push(run_folder);
-    }
+/// A new folder for the journals of runs.
+fn folder(kind: &str) -> PathBuf {
+    env::temp_dir().join(format!("muoswyld-{kind}-{}", std::process::id()))
+}
+
+/// The journals of a seed.
+fn journals_of(seed: u64) -> BTreeMap<Name, Vec<u8>> {
+    let mut plan = Plan::of(seed);
+    plan.journal = true;
+    let report = run(&plan).unwrap_or_else(|failure| panic!("{failure}"));
+    report.journals
+}
+
+/// Whether the judge agrees with the runs in some folders, and what it says.
+fn judged(folders: &[PathBuf]) -> (bool, String) {
     let script = Path::new(env!("CARGO_MANIFEST_DIR")).join("tests/judge.py");
     let said = Command::new("python3")
         .arg(script)
         .arg(judge())
-        .args(&folders)
+        .args(folders)
         .output()
         .expect("python3 runs");
-    let text = String::from_utf8_lossy(&said.stdout);
+    let text = String::from_utf8_lossy(&said.stdout).into_owned();
     println!("{text}{}", String::from_utf8_lossy(&said.stderr));
-    assert!(said.status.success());
+    (said.status.success(), text)
+}
+
+#[test]
+fn the_judge_answers_as_the_members_did() {
+    let folder = folder("judged");
+    let mut folders = Vec::new();
+    for seed in 1..=SEEDS {
+        let run_folder = folder.join(format!("seed-{seed}"));
+        journals::write(&run_folder, &journals_of(seed)).expect("journals are written");
+        folders.push(run_folder);
+    }
+    let (agrees, text) = judged(&folders);
+    assert!(agrees);
     assert_eq!(text.matches("answers again").count() as u64, SEEDS);
+    fs::remove_dir_all(&folder).expect("journals are removed");
+}
+
+#[test]
+fn an_answer_that_is_changed_is_found() {
+    let folder = folder("changed");
+    let mut journals = journals_of(2);
+    for lines in journals.values_mut() {
+        let text = String::from_utf8_lossy(lines).replacen("\tticked", "\tidle", 1);
+        *lines = text.into_bytes();
+    }
+    journals::write(&folder, &journals).expect("journals are written");
+    let (agrees, text) = judged(std::slice::from_ref(&folder));
+    assert!(!agrees);
+    assert!(text.contains(" : idle"), "{text}");
     fs::remove_dir_all(&folder).expect("journals are removed");
 }
