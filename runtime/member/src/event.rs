@@ -197,7 +197,7 @@ pub enum Notice {
     Silent(Name),
     /// A member that was silent is heard again.
     Heard(Name),
-    /// The window is full, and this member has taken less than all others.
+    /// Half of the window is used and has been for a while, since this member takes nothing. It is told at the sequencer.
     Slow(Name),
     /// A reset isn't begun, since fewer members run than it is to go on with.
     TooFew {
@@ -308,7 +308,7 @@ pub struct Info {
     pub waiting: usize,
     /// Members that nothing was heard of for a while.
     pub silent: Names,
-    /// At the sequencer, with a full window: the members that have taken least.
+    /// At the sequencer, with half of the window used: the members that have taken least.
     pub slow: Names,
     /// The names that were told as stopped.
     pub stopped: Names,

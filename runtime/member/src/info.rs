@@ -3,7 +3,7 @@
 use crate::event::{Info, Notice};
 use crate::member::Member;
 use muoswyld::answer::Role;
-use muoswyld::names::{Name, Names};
+use muoswyld::names::{Name, Names, PLACES};
 
 impl Member {
     /// How the member stands.
@@ -69,11 +69,28 @@ impl Member {
         }
     }
 
-    /// At the sequencer, with three quarters of the window used: the members that have taken no more than what everybody has.
+    /// Tells once who is slow, if the window has stood for a while.
+    pub(crate) fn look_for_slow(&mut self) {
+        let stood = self.now.since(self.timers.stands_since) > self.settings.silent_after;
+        let slow = self.slow();
+        for place in 0..PLACES {
+            let told = &mut self.timers.slow[usize::from(place)];
+            match slow.at(place) {
+                Some(name) if stood && !*told => {
+                    *told = true;
+                    self.tell(Notice::Slow(name));
+                }
+                Some(_) => {}
+                None => *told = false,
+            }
+        }
+    }
+
+    /// At the sequencer, with half of the window used, where it puts its own sends off: the members that have taken no more than what everybody has.
     fn slow(&self) -> Names {
         let standing = &self.standing;
-        let used = 4 * u64::from(standing.top.saturating_sub(standing.base));
-        if standing.role != Role::Sequencer || used < 3 * u64::from(self.settings.founding.window) {
+        let used = 2 * u64::from(standing.top.saturating_sub(standing.base));
+        if standing.role != Role::Sequencer || used < u64::from(self.settings.founding.window) {
             return Names::nobody();
         }
         let others = standing.members.without(self.me());

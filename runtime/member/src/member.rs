@@ -257,6 +257,9 @@ impl Member {
 
     /// Does what can be done now, until nothing more comes of it.
     fn go_on(&mut self) -> Option<()> {
+        if self.ended.is_some() {
+            return None;
+        }
         self.find()?;
         for _ in 0..MOST_LOOKS {
             let before = self.counts.steps;

@@ -77,6 +77,8 @@ pub(crate) struct Timers {
     reported: u32,
     /// Up to where each place said that it took the list.
     pub(crate) taken: [u32; 16],
+    /// Which places were told as slow.
+    pub(crate) slow: [bool; 16],
 }
 
 impl Timers {
@@ -93,6 +95,7 @@ impl Timers {
             is_wanted: false,
             reported: 0,
             taken: [0; 16],
+            slow: [false; 16],
         }
     }
 
@@ -240,6 +243,7 @@ impl Member {
             self.sending.put_off = matches!(outcome, Outcome::PutOff { .. });
         }
         self.look_for_silence();
+        self.look_for_slow();
         self.left_by(&outcome)
     }
 }

@@ -1,8 +1,8 @@
 //! Members by their public calls: limits, order, back pressure, ticks by need, and bytes that are none.
 
 use muoswyld_member::{
-    Delivery, End, Founding, HandleError, Input, Member, Name, Output, Position, Role, Settings,
-    StartError, Time, MESSAGE_HEAD, MOST_MESSAGE,
+    Delivery, End, Founding, HandleError, Input, Member, Name, Notice, Output, Position, Role,
+    Settings, StartError, Time, MESSAGE_HEAD, MOST_MESSAGE,
 };
 use proptest::prelude::*;
 
@@ -278,6 +278,27 @@ fn a_member_that_took_a_quarter_of_the_window_reports() {
         carried(&mut [&mut first, &mut second], 5);
     }
     assert_eq!(second.info().counts.ticks, before + 2);
+}
+
+#[test]
+fn who_takes_nothing_is_told_as_slow() {
+    let founding = founding("0,1", 0, 8);
+    let mut first = member("0", founding);
+    let mut slow = settings("1", founding);
+    slow.deliveries = 1;
+    let mut second = Member::new(slow, Time(0)).expect("a member");
+    carried(&mut [&mut first, &mut second], 0);
+    let mut told = Vec::new();
+    for turn in 0..300 {
+        let now = turn * 50_000;
+        send(&mut first, now, turn, &[0; 1000]);
+        tick(&mut second, now);
+        let outputs = carried(&mut [&mut first, &mut second], now);
+        told.extend(outputs.into_iter().next().unwrap_or_default());
+    }
+    assert_eq!(first.info().slow.to_string(), "1");
+    let is_slow = |output: &Output| *output == Output::Told(Notice::Slow(Name::of_byte(1)));
+    assert_eq!(count(&told, is_slow), 1);
 }
 
 #[test]
