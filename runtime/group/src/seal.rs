@@ -211,6 +211,25 @@ mod tests {
         out
     }
 
+    proptest::proptest! {
+        #[test]
+        fn any_bytes_are_opened_or_dropped(
+            mut bytes in proptest::collection::vec(proptest::prelude::any::<u8>(), 0..200),
+            first in proptest::prelude::prop_oneof![
+                proptest::prelude::Just(SEALED),
+                proptest::prelude::Just(OPEN),
+                proptest::prelude::any::<u8>(),
+            ],
+        ) {
+            if let Some(byte) = bytes.first_mut() {
+                *byte = first;
+            }
+            assert_eq!(Seal::by(&Key::of([7; KEY])).unwrap().open(&mut bytes.clone()), None);
+            let opened = Seal::none().open(&mut bytes.clone()).map(<[u8]>::to_vec);
+            assert_eq!(opened.is_some(), bytes.first() == Some(&OPEN));
+        }
+    }
+
     #[test]
     fn what_is_sealed_is_opened_by_the_key_alone() {
         let key = Key::of([7; KEY]);

@@ -251,6 +251,19 @@ pub fn of_input(line: &[u8], is_command: bool) -> Result<Command, Fault> {
 mod tests {
     use super::*;
 
+    proptest::proptest! {
+        #[test]
+        fn any_line_is_a_command_or_is_refused(
+            word in "(send|send-hex|leave|reset|stopped|status|)",
+            rest in proptest::collection::vec(proptest::prelude::any::<u8>(), 0..40),
+        ) {
+            let line = [word.as_bytes(), &rest].concat();
+            if let Ok(command) = Command::of(&line) {
+                assert_eq!(Command::of(&command.line()), Ok(command));
+            }
+        }
+    }
+
     #[test]
     fn each_command_is_read_as_it_is_written() {
         let name: Name = "3/2".parse().unwrap();
