@@ -4,9 +4,11 @@
     tools/try_c.py PROGRAM [--count N] [--seed N] [--sanitize]
 
 PROGRAM is the command whose word `node` is run. N lines (2,000), random and mutated, go to a node in each of nine states: through the
-C driver, through the Rust crate where cargo is there, and to the word `node`, and all must answer the same. Besides it tries each
-refusal, each allocation failing in turn, calls on a thread with little stack, three members with a crash in C and in Rust, a shared
-library from Python, and what is said where the library isn't there. With --sanitize the C programs are built with the address and the undefined sanitizer, and 100,000 lines go to each state. CC names the compiler (else
+C driver, through the Rust crate where cargo is there, and to the word `node`, and all must answer the same. So must events as bytes,
+which are read by tools/binary.py, and the lines that ask the same. Besides it tries each refusal, each allocation failing in turn,
+calls on a thread with little stack, three members with a crash in C and in Rust, a shared library from Python, and what is said where
+the library isn't there. With --sanitize the C programs are built with the address and the undefined sanitizer, and 100,000 lines go to
+each state. CC names the compiler (else
 cc, gcc or clang; the toolchain's own clang has no headers). It prints what fails, and how many parts passed.
 """
 
@@ -21,6 +23,7 @@ import subprocess
 import sys
 import tempfile
 
+from binary import answer_of, event_of
 from library import kit
 from try_lines import STATES, mutated
 
@@ -268,6 +271,70 @@ def unproved(tried: Tried) -> list[str]:
     return wrong
 
 
+class Member:
+    """A node of the shared library, whose rooms are mostly too short at first."""
+
+    def __init__(self, library: ctypes.CDLL, draw: random.Random, options: bytes):
+        self.library, self.draw, self.node, self.length = library, draw, ctypes.c_void_p(), ctypes.c_size_t()
+        if library.muoswyld_open(ctypes.byref(self.node), options, ctypes.c_size_t(len(options))):
+            raise ValueError(f"{options!r} opens no node")
+
+    def call(self, word: str, asked: bytes, room: int) -> tuple[int, bytes]:
+        """The number of a call, and what it wrote."""
+        answer = ctypes.create_string_buffer(room + 1)
+        function = getattr(self.library, f"muoswyld_{word}")
+        number = function(ctypes.byref(self.node), asked, ctypes.c_size_t(len(asked)), answer, ctypes.c_size_t(room), ctypes.byref(self.length))
+        return number, answer.raw[: self.length.value] if number == 0 else b""
+
+    def ask(self, word: str, asked: bytes) -> bytes:
+        """The answer to a line or an event; where it waits, anything else is refused until then."""
+        number, answer = self.call(word, asked, self.draw.randrange(100))
+        if number == 2:
+            other = "do" if word == "step" else "step"
+            if (self.call(word, b"x" + asked, 0)[0], self.call(other, asked, 0)[0]) != (6, 6):
+                raise ValueError(f"{asked!r} waits, and something else isn't refused")
+            number, answer = self.call(word, asked, self.length.value)
+        if number:
+            raise ValueError(f"{asked!r} was given {number}")
+        return answer
+
+    def close(self) -> list[int]:
+        """Closes it; the numbers of that, and of what is asked then."""
+        return [self.library.muoswyld_close(ctypes.byref(self.node)), self.call("do", b"\1", 100)[0], self.call("step", b"tick", 100)[0]]
+
+
+def tell_apart(one: Member, other: Member, line: bytes, resilience: int) -> None:
+    """Gives one node a line and the other the event that asks the same, or bytes that are none; what they answer is the same."""
+    answer = one.ask("step", line)
+    none = answer.startswith(b"bad line")
+    event = bytes([one.draw.choice([0, 7, 15, 22, 255])]) + one.draw.randbytes(one.draw.randrange(4)) if none else event_of(line.decode(), resilience)
+    text, info, flags = answer_of(other.ask("do", event), resilience)
+    wanted = one.ask("step", b"info").decode()
+    numbers = wanted.split(" ")
+    same = text.startswith("bad line") if none else text == answer.decode()
+    if not same or info != wanted or flags & 1 != (numbers[6] != numbers[7]):
+        raise ValueError(f"{line!r} was answered {answer!r}, and the event {event.hex()} {text!r}, {info!r} and {flags}")
+
+
+def events(tried: Tried) -> list[str]:
+    """Events as bytes are answered as the lines that ask the same, by two nodes; bytes that are none change nothing."""
+    if tried.sanitize:
+        return []
+    library, wrong = ctypes.CDLL(str(tried.folder / "libmuoswyld.so")), []
+    for state, (name, begins) in STATES.items():
+        draw, resilience = random.Random(f"events {tried.seed} {state}"), len(state) % 2
+        options = f"--name {name} --founders 0,1,2 --resilience {resilience}".encode()
+        one, other = Member(library, draw, options), Member(library, draw, options)
+        try:
+            for line in [line.encode() for line in begins] + [mutated(draw) for _ in range(tried.count)]:
+                tell_apart(one, other, line, resilience)
+        except (ValueError, KeyError) as fault:
+            wrong.append(f"{state}: {fault}")
+        if (numbers := one.close() + other.close()) != [0, 3, 3] * 2:
+            wrong.append(f"{state}: closed nodes gave {numbers}")
+    return wrong
+
+
 def not_there(tried: Tried) -> list[str]:
     """Where the library isn't there, make and cargo say what makes it."""
     top = tried.folder / "without"
@@ -300,7 +367,7 @@ def main() -> int:
     parser.add_argument("--sanitize", action="store_true")
     with tempfile.TemporaryDirectory() as folder:
         tried = Tried(parser.parse_args(), pathlib.Path(folder))
-        parts = built, transcripts, same_options, refusals, no_memory, small_stack, crash, from_python, unproved, not_there, rust_tests
+        parts = built, transcripts, same_options, refusals, no_memory, small_stack, crash, from_python, events, unproved, not_there, rust_tests
         failed = 0
         for part in parts:
             wrong = part(tried)

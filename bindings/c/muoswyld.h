@@ -10,12 +10,15 @@
        muoswyld_step(&node, "tick", 4, answer, sizeof answer, &length);
        muoswyld_close(&node);
 
+   The same node is given events as bytes, and answers bytes, by muoswyld_do (docs/EMBEDDING.md, "The binary call"): the same that
+   lines and their answers say, with no digits to write and to read.
+
    What is proved of these calls is stated beside them in crates/am_c/src/lib.rt: the node behind a handle is that of the lines
-   that have their answers, and no call reads or writes outside what it is passed and what the handle owns. It holds for a
+   and events that have their answers, and no call reads or writes outside what it is passed and what the handle owns. It holds for a
    caller that keeps to this:
 
    - A handle begins as {0}, and only these calls write to it. An open one isn't copied.
-   - The pointers of one call lead to memory that is there, and no two to the same. `line` and `options` are read, no more.
+   - The pointers of one call lead to memory that is there, and no two to the same. `line`, `event` and `options` are read, no more.
    - Calls on one handle come one after another, from the thread that opened it. Two handles have nothing in common.
    - malloc, realloc and free are one allocator's, as a C library's are. No call is made from a signal handler.
    - The thread has MUOSWYLD_STACK bytes of stack left. No proof speaks of the stack; bindings/c/stack.c measures it.
@@ -44,7 +47,7 @@ typedef struct {
 enum {
     /* all was done */
     MUOSWYLD_DONE = 0,
-    /* There was no memory. A handle stays closed, or answers no line any more: close it. */
+    /* There was no memory. A handle stays closed, or answers nothing any more: close it. */
     MUOSWYLD_NO_MEMORY = 1,
     /* the answer is longer than its room */
     MUOSWYLD_NO_ROOM = 2,
@@ -54,7 +57,7 @@ enum {
     MUOSWYLD_OPEN = 4,
     /* the options are none */
     MUOSWYLD_BAD_OPTIONS = 5,
-    /* another line's answer waits for room */
+    /* the answer to another line or event waits for room */
     MUOSWYLD_OTHER_LINE = 6,
     /* a pointer is null that may not be */
     MUOSWYLD_NULL = 7,
@@ -66,6 +69,7 @@ enum {
    functions below, which look at pointers and lengths first, and then make the same call. */
 int muoswyld_open(muoswyld_node *node, const uint8_t *options, size_t n);
 int muoswyld_step(muoswyld_node *node, const uint8_t *line, size_t n, uint8_t *answer, size_t room, size_t *length);
+int muoswyld_do(muoswyld_node *node, const uint8_t *event, size_t n, uint8_t *answer, size_t room, size_t *length);
 int muoswyld_close(muoswyld_node *node);
 
 /* What is linked: "proved SOURCES TOOLCHAIN", or "unproved SOURCES TOOLCHAIN" if `tools/library.py --quick` built it. SOURCES is the
@@ -89,16 +93,34 @@ static inline int muoswyld_checked_open(muoswyld_node *node, const void *options
 
    DONE: the line has its answer. At any other number it has none, and `answer` is as it was:
    NO_ROOM: `length` says how many bytes the answer has. Give the same line again, with so much room. The answer waits until
-     then; so that it is never lost, any other line is refused with OTHER_LINE, and changes nothing. (Lines above 4,096 bytes
+     then; so that it is never lost, any other line or event is refused with OTHER_LINE, and changes nothing. (Lines above 4,096 bytes
      are all the same to a node: their answer is `bad line 4`.) Few answers have more than 4,096 bytes; of nine letters, the most
      that there are, one has some 24,000.
-   NO_MEMORY: no line has an answer from now on. It isn't given while an answer waits.
+   NO_MEMORY: nothing has an answer from now on. It isn't given while an answer waits.
    CLOSED, and nothing changes. NULL (`answer` may be null where `room` is 0), LENGTH. */
 static inline int muoswyld_checked_step(muoswyld_node *node, const void *line, size_t n, void *answer, size_t room, size_t *length) {
     uint8_t none;
     if (node == NULL || line == NULL || length == NULL || (answer == NULL && room != 0)) return MUOSWYLD_NULL;
     if (n > PTRDIFF_MAX || room > PTRDIFF_MAX) return MUOSWYLD_LENGTH;
     return muoswyld_step(node, (const uint8_t *)line, n, answer == NULL ? &none : (uint8_t *)answer, room, length);
+}
+
+/* Gives an open node an event of n bytes. Its answer is written to the head of `answer`, which has `room` bytes, and its length to
+   `length`: how the node stands, what came of the event, and its letters. Bytes that are no event are answered so, too. Lines and
+   events may come in any order.
+
+   DONE: the event has its answer. At any other number it has none, and `answer` is as it was:
+   NO_ROOM: `length` says how many bytes the answer has. Give the same event again, with so much room. The answer waits until
+     then; so that it is never lost, any other event or line is refused with OTHER_LINE, and changes nothing. (Events above 4,096
+     bytes are all the same to a node.) Few answers have more than 4,096 bytes; of nine letters, the most that there are, one has
+     some 11,600.
+   NO_MEMORY: nothing has an answer from now on. It isn't given while an answer waits.
+   CLOSED, and nothing changes. NULL (`answer` may be null where `room` is 0), LENGTH. */
+static inline int muoswyld_checked_do(muoswyld_node *node, const void *event, size_t n, void *answer, size_t room, size_t *length) {
+    uint8_t none;
+    if (node == NULL || event == NULL || length == NULL || (answer == NULL && room != 0)) return MUOSWYLD_NULL;
+    if (n > PTRDIFF_MAX || room > PTRDIFF_MAX) return MUOSWYLD_LENGTH;
+    return muoswyld_do(node, (const uint8_t *)event, n, answer == NULL ? &none : (uint8_t *)answer, room, length);
 }
 
 /* Closes a handle, and gives its memory back. DONE; CLOSED where it was closed. NULL. */
@@ -108,6 +130,7 @@ static inline int muoswyld_checked_close(muoswyld_node *node) {
 
 #define muoswyld_open muoswyld_checked_open
 #define muoswyld_step muoswyld_checked_step
+#define muoswyld_do muoswyld_checked_do
 #define muoswyld_close muoswyld_checked_close
 
 #ifdef __cplusplus

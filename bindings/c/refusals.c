@@ -42,6 +42,8 @@ static void open_and_close(void) {
     WANT(muoswyld_close(&node) == MUOSWYLD_CLOSED);
     length = 77;
     WANT(step("tick", sizeof answer) == MUOSWYLD_CLOSED && same() && length == 77);
+    memcpy(before, answer, sizeof answer);
+    WANT(muoswyld_do(&node, "\1", 1, answer, sizeof answer, &length) == MUOSWYLD_CLOSED && same() && length == 77);
 }
 
 static void steps(void) {
@@ -79,11 +81,41 @@ static void rooms(void) {
     WANT(step("", sizeof answer) == MUOSWYLD_DONE && length == 10 && memcmp(answer, "bad line 1", 10) == 0);
 }
 
+static int ask(const void *event, size_t n, size_t room) {
+    memcpy(before, answer, sizeof answer);
+    return muoswyld_do(&node, event, n, answer, room, &length);
+}
+
+/* Events, too: where an answer waits, neither another event nor a line of the same bytes is answered, and the other way round. */
+static void events(void) {
+    length = 77;
+    memcpy(before, answer, sizeof answer);
+    WANT(muoswyld_do(NULL, "\1", 1, answer, sizeof answer, &length) == MUOSWYLD_NULL);
+    WANT(muoswyld_do(&node, NULL, 0, answer, sizeof answer, &length) == MUOSWYLD_NULL);
+    WANT(muoswyld_do(&node, "\1", 1, NULL, 1, &length) == MUOSWYLD_NULL);
+    WANT(muoswyld_do(&node, "\1", 1, answer, sizeof answer, NULL) == MUOSWYLD_NULL);
+    WANT(muoswyld_do(&node, "\1", SIZE_MAX, answer, sizeof answer, &length) == MUOSWYLD_LENGTH);
+    WANT(muoswyld_do(&node, "\1", 1, answer, SIZE_MAX, &length) == MUOSWYLD_LENGTH);
+    WANT(length == 77 && same());
+    WANT(ask("\1", 1, 0) == MUOSWYLD_NO_ROOM && same());
+    size_t wanted = length;
+    WANT(ask("\2", 1, sizeof answer) == MUOSWYLD_OTHER_LINE && same() && length == wanted);
+    WANT(step("\1", sizeof answer) == MUOSWYLD_OTHER_LINE && same());
+    WANT(step("tick", sizeof answer) == MUOSWYLD_OTHER_LINE && same());
+    WANT(ask("\1", 1, wanted - 1) == MUOSWYLD_NO_ROOM && same() && length == wanted);
+    WANT(ask("\1", 1, wanted) == MUOSWYLD_DONE && length == wanted && answer[48] == 14);
+    WANT(step("tick", 0) == MUOSWYLD_NO_ROOM);
+    WANT(ask("tick", 4, sizeof answer) == MUOSWYLD_OTHER_LINE);
+    WANT(step("tick", sizeof answer) == MUOSWYLD_DONE && memcmp(answer, "ticked", 6) == 0);
+    WANT(ask("", 0, sizeof answer) == MUOSWYLD_DONE && length == 51 && answer[48] == 255 && answer[49] == 1 && answer[50] == 0);
+}
+
 int main(void) {
     open_and_close();
     WANT(muoswyld_open(&node, options, strlen(options)) == MUOSWYLD_DONE);
     steps();
     rooms();
+    events();
     WANT(muoswyld_close(&node) == MUOSWYLD_DONE);
     return 0;
 }

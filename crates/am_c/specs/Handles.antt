@@ -27,7 +27,7 @@ abbrev pub held : Ptr → Option Session → Fml
 held p None = nothing_at p
 held p (Some session) = box_owns may_free the_row p session
 
--- the handle is open, with the node that the options ask for, before its first line
+-- the handle is open, with the node that the options ask for, before it is asked anything
 abbrev pub Opened : List ℕ → Option Session → Type 0
 Opened options None = ⊥
 Opened options (Some session) = (node : NodeWords) × (form_of (words_of options) ≡ Some (form.Node node)) × IsBehind session node.founding node.name [] None

@@ -2,7 +2,7 @@
 use Rattle.std.specs.Prelude.{ℤ, pos, Option, Some, None}
 use Rattle.am_c.specs.declared.session.Session.{Session}
 use Rattle.am_c.specs.declared.session.StepEnd.{StepEnd}
-use Rattle.am_c.specs.declared.session.StepEnd.TheVariants.{Told, NoMemory, NoRoom, OtherLine}
+use Rattle.am_c.specs.declared.session.StepEnd.TheVariants.{Told, NoMemory, NoRoom, Other}
 use Rattle.am_c.specs.declared.options.OptionsFault.{OptionsFault}
 use Rattle.am_c.specs.declared.options.OptionsFault.TheVariants as faults
 
@@ -30,9 +30,9 @@ open_now = pos 4
 abbrev pub bad_options : ℤ
 bad_options = pos 5
 
--- another line's answer waits for room
-abbrev pub other_line : ℤ
-other_line = pos 6
+-- the answer to another line or event waits for room
+abbrev pub other_waits : ℤ
+other_waits = pos 6
 
 -- ---- which a call gives
 
@@ -50,4 +50,4 @@ abbrev pub number_of : StepEnd → ℤ
 number_of Told = done
 number_of NoMemory = no_memory
 number_of NoRoom = no_room
-number_of OtherLine = other_line
+number_of Other = other_waits

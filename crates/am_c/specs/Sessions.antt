@@ -1,14 +1,17 @@
--- What a session stands for: a node behind the lines that have their answers.
+-- What a session stands for: a node behind the lines and events that have their answers.
 use Rattle.std.specs.Prelude.{◌≡◌, ◌≢◌, ◌<◌, ◌≤◌, ℕ, List, ◌++◌, ◌∷◌, [], take, drop, length, Option, Some, None, codes, string_bytes}
 use Rattle.am_base.specs.Founding.{Rules}
+use Rattle.am_model.specs.Node.{Node}
 use Rattle.am_model.specs.Ends.{IsEndOf}
 use Rattle.am_play.specs.World.{first_node}
 use Rattle.am_spelling.specs.Fields.{parts_of}
 use Rattle.am_words.specs.declared.form.Form.{Form}
-use Rattle.am_words.specs.declared.form.Form.TheVariants as form
+use Rattle.am_words.specs.declared.form.Form.TheVariants as words
 use Rattle.am_lines.specs.Answers.{Answer, answer_of}
-use Rattle.am_lines.specs.Speaking.{node_after}
 use Rattle.am_lines.specs.Speakers.{speaking}
+use Rattle.am_bytes.specs.Answers.{answer_to}
+use Rattle.am_c.specs.declared.session.AskForm.{AskForm}
+use Rattle.am_c.specs.declared.session.AskForm.TheVariants.{Line, Event}
 use Rattle.am_c.specs.declared.session.Session.{Session}
 use Rattle.am_c.specs.declared.session.Stage.TheVariants.{Ready, Waits}
 
@@ -20,37 +23,78 @@ words_of options = parts_of 32 (codes "node " ++ options)
 
 -- a form asks for a node
 abbrev pub IsNode : Option Form → Type 0
-IsNode (Some (form.Node node)) = Unit {0}
+IsNode (Some (words.Node node)) = Unit {0}
 IsNode _ = ⊥
+
+-- ---- what is asked
+
+-- what a call asks of a node: a line, or an event as bytes
+pub record Asked : Type 0 where
+  pub form : AskForm
+  pub bytes : List ℕ
+
+abbrev pub a_line : List ℕ → Asked
+a_line bytes = record { form = Line; bytes = bytes }
+
+abbrev pub an_event : List ℕ → Asked
+an_event bytes = record { form = Event; bytes = bytes }
+
+-- the answer in this form to these bytes
+abbrev pub answer_in : AskForm → Rules → Node → List ℕ → Answer
+answer_in Line rules m bytes = answer_of rules m bytes
+answer_in Event rules m bytes = answer_to m bytes
+
+abbrev pub answer_for : Rules → Node → Asked → Answer
+answer_for rules m asked = answer_in asked.form rules m asked.bytes
+
+-- the node behind what was asked
+unfoldable pub node_behind : Rules → Node → List Asked → Node
+node_behind rules m [] = m
+node_behind rules m (first ∷ later) = node_behind rules (answer_for rules m first).node later
 
 -- ---- sessions
 
--- what is kept of a line: all of it, or so much that it is longer than a line may be
+-- what is kept of a line or an event: all of it, or so much that it is longer than one may be
 abbrev pub kept : List ℕ → List ℕ
-kept line = take 4097 line
+kept bytes = take 4097 bytes
 
--- the answer to a line, of a name's node behind the lines before it
-abbrev pub answer_behind : Rules → ℕ → List (List ℕ) → List ℕ → Answer
-answer_behind rules name lines line = answer_of rules (node_after rules (first_node rules name) lines) line
+-- the answer to what is asked, of a name's node behind what was asked before it
+abbrev pub answer_behind : Rules → ℕ → List Asked → Asked → Answer
+answer_behind rules name before asked = answer_for rules (node_behind rules (first_node rules name) before) asked
 
--- every line has its answer: the node is a name's behind these lines
-pub record IsReady (s : Session) (rules : Rules) (name : ℕ) (lines : List (List ℕ)) : Type 0 where
+-- of a text and bytes, those of the form
+abbrev pub made_in : AskForm → List ℕ → List ℕ → List ℕ
+made_in Line text bytes = text
+made_in Event text bytes = bytes
+
+-- the answer that was made last
+abbrev pub made_of : Session → List ℕ
+made_of s = made_in s.form (string_bytes s.text) s.bytes.items
+
+-- this answer was made, by a node that comes to this one
+pub record MadeBy (made : List ℕ) (node : Node) (answer : Answer) : Type 0 where
+  pub text : made ≡ answer.text
+  pub end : IsEndOf answer.node node
+
+-- all that was asked has its answer: the node is a name's behind it
+pub record IsReady (s : Session) (rules : Rules) (name : ℕ) (before : List Asked) : Type 0 where
   pub stage : s.stage ≡ Ready
   pub founded : (speaking s.speaker).rules ≡ rules
-  pub node : IsEndOf (node_after rules (first_node rules name) lines) (speaking s.speaker).node
+  pub node : IsEndOf (node_behind rules (first_node rules name) before) (speaking s.speaker).node
 
--- behind these lines one more was given, and its answer waits for room
-pub record IsWaiting (s : Session) (rules : Rules) (name : ℕ) (lines : List (List ℕ)) (line : List ℕ) : Type 0 where
+-- behind that one thing more was asked, and its answer waits for room
+pub record IsWaiting (s : Session) (rules : Rules) (name : ℕ) (before : List Asked) (asked : Asked) : Type 0 where
   pub stage : s.stage ≡ Waits
-  pub waits : s.line.items ≡ kept line
-  pub answer : string_bytes s.answer ≡ (answer_behind rules name lines line).text
+  pub form : s.form ≡ asked.form
+  pub waits : s.asked.items ≡ kept asked.bytes
+  pub answer : made_of s ≡ (answer_behind rules name before asked).text
   pub founded : (speaking s.speaker).rules ≡ rules
-  pub node : IsEndOf (answer_behind rules name lines line).node (speaking s.speaker).node
+  pub node : IsEndOf (answer_behind rules name before asked).node (speaking s.speaker).node
 
--- a session of a name's node: the lines that have their answers, and the line whose answer waits for room
-abbrev pub IsBehind : Session → Rules → ℕ → List (List ℕ) → Option (List ℕ) → Type 0
-IsBehind s rules name lines None = IsReady s rules name lines
-IsBehind s rules name lines (Some line) = IsWaiting s rules name lines line
+-- a session of a name's node: what has its answers, and that whose answer waits for room
+abbrev pub IsBehind : Session → Rules → ℕ → List Asked → Option Asked → Type 0
+IsBehind s rules name before None = IsReady s rules name before
+IsBehind s rules name before (Some asked) = IsWaiting s rules name before asked
 
 -- ---- a step
 
@@ -60,16 +104,16 @@ pub record IsWritten (text room room' : List ℕ) (said : ℕ) : Type 0 where
   pub long : said ≡ length text
   pub fits : length text ≤ length room
 
--- a line has its answer, and the node is behind one line more
-abbrev pub Told : Session → List ℕ → Session → List ℕ → List ℕ → ℕ → Type 0
-Told old line new room room' said = (rules : Rules) (name : ℕ) (lines : List (List ℕ)) (waiting : Option (List ℕ)) → IsBehind old rules name lines waiting
-    → IsBehind new rules name (lines ++ line ∷ []) None × IsWritten (answer_behind rules name lines line).text room room' said
+-- what was asked has its answer, and the node is behind it
+abbrev pub Told : Session → Asked → Session → List ℕ → List ℕ → ℕ → Type 0
+Told old asked new room room' said = (rules : Rules) (name : ℕ) (before : List Asked) (waiting : Option Asked) → IsBehind old rules name before waiting
+    → IsBehind new rules name (before ++ asked ∷ []) None × IsWritten (answer_behind rules name before asked).text room room' said
 
--- the room was too short: no line has its answer that had none, and how long the answer is was written
-abbrev pub FoundNoRoom : Session → List ℕ → Session → List ℕ → ℕ → Type 0
-FoundNoRoom old line new room said = (rules : Rules) (name : ℕ) (lines : List (List ℕ)) (waiting : Option (List ℕ)) → IsBehind old rules name lines waiting
-    → IsBehind new rules name lines (Some line) × (said ≡ length (answer_behind rules name lines line).text) × (length room < said)
+-- the room was too short: nothing has its answer that had none, and how long the answer is was written
+abbrev pub FoundNoRoom : Session → Asked → Session → List ℕ → ℕ → Type 0
+FoundNoRoom old asked new room said = (rules : Rules) (name : ℕ) (before : List Asked) (waiting : Option Asked) → IsBehind old rules name before waiting
+    → IsBehind new rules name before (Some asked) × (said ≡ length (answer_behind rules name before asked).text) × (length room < said)
 
--- the answer to another line waits for room
-abbrev pub WaitsForOther : Session → List ℕ → Type 0
-WaitsForOther s line = (s.stage ≡ Waits) × (s.line.items ≢ kept line)
+-- the answer to something else waits for room
+abbrev pub WaitsForOther : Session → Asked → Type 0
+WaitsForOther s asked = (s.stage ≡ Waits) × (s.form ≡ asked.form → s.asked.items ≢ kept asked.bytes)

@@ -1,18 +1,20 @@
-//! A node for C and whatever calls C: a handle is opened with a node's options, answers lines, and is closed. The lines and the
-//! answers are those of the program's word `node` (docs/NETWORK.md), and bindings/c/muoswyld.h is the header.
+//! A node for C and whatever calls C: a handle is opened with a node's options, answers lines and events, and is closed. The lines and
+//! their answers are those of the program's word `node` (docs/NETWORK.md), the events and theirs say the same in bytes
+//! (docs/EMBEDDING.md), and bindings/c/muoswyld.h is the header.
 #![tactic(auto)]
 
 ghost use Rattle.std.specs.Prelude.{◌≡◌, ◌≢◌, ◌↔◌, None, IsSome, IfSome, IsUtf8};
 ghost use Rattle.am_words.specs.Forms.{form_of};
 ghost use Rattle.am_c.specs.declared.session.Stage.TheVariants as stages;
-ghost use Rattle.am_c.specs.Numbers.{done, no_memory, no_room, closed, open_now, bad_options, other_line, number_closing};
-ghost use Rattle.am_c.specs.Sessions.{IsNode, words_of, Told, FoundNoRoom, WaitsForOther};
+ghost use Rattle.am_c.specs.Numbers.{done, no_memory, no_room, closed, open_now, bad_options, other_waits, number_closing};
+ghost use Rattle.am_c.specs.Sessions.{a_line, an_event, IsNode, words_of, Told, FoundNoRoom, WaitsForOther};
 ghost use Rattle.am_c.specs.Handles.{Opened, Between};
 
 use handle::Handle;
 use numbers::{CLOSED, DONE, OPEN};
 use options::opened;
 use parts::Parts;
+use session::AskForm;
 use std::alloc::Global;
 use std::mem::replace;
 
@@ -48,10 +50,46 @@ pub extern "C" fn muoswyld_open(alloc: Global, node: &mut Handle, options: &[u8]
     }
 }
 
-/// Gives a line its answer: 0, and the answer stands at the head of `answer`, and its length in `length`. Else no line has its answer
+/// Gives what is asked in a form its answer, as `muoswyld_step` and `muoswyld_do` do.
+fn ask(
+    alloc: Global,
+    node: &mut Handle,
+    form: AskForm,
+    asked: &[u8],
+    answer: &mut [u8],
+    length: &mut usize,
+) -> i32
+    ensures told { result ≡ done → Between node.old.session node.new.session
+        (λ old new. Told old (record { form = form; bytes = asked.now }) new answer.old answer.new length.new) }
+    ensures no_room { result ≡ no_room → Between node.old.session node.new.session
+        (λ old new. FoundNoRoom old (record { form = form; bytes = asked.now }) new answer.old length.new) }
+    ensures no_memory { result ≡ no_memory → Between node.old.session node.new.session
+        (λ old new. new.stage ≡ stages.Spent) }
+    ensures other { result ≡ other_waits → Between node.old.session node.new.session
+        (λ old new. WaitsForOther old (record { form = form; bytes = asked.now })) }
+    ensures closed { (result ≡ closed) ↔ (node.old.session ≡ None) }
+    ensures fails { IfSome node.old.session (λ s. s.stage ≡ stages.Spent → result ≡ no_memory) }
+    ensures lasts { IfSome node.old.session (λ s. s.stage ≡ stages.Waits → result ≢ no_memory) }
+    ensures same_other { result ≡ other_waits → node.new.session ≡ node.old.session }
+    ensures same_closed { result ≡ closed → node.new.session ≡ None }
+    ensures unwritten { result ≢ done → answer.new ≡ answer.old }
+    ensures unsaid { result ≢ done → result ≢ no_room → length.new ≡ length.old }
+    ensures numbers { result ≢ done → result ≢ no_memory → result ≢ no_room → result ≢ closed
+        → result ≡ other_waits }
+{
+    let Some(parts) = replace(node, Handle::closed()).take(alloc) else {
+        return CLOSED;
+    };
+    let mut session = parts.into_box();
+    let end = session.step(alloc, form, asked, answer, length);
+    *node = Handle::of(Parts::of(session));
+    end.number()
+}
+
+/// Gives a line its answer: 0, and the answer stands at the head of `answer`, and its length in `length`. Else nothing has its answer
 /// that had none: 1 where there is no memory, and from then on; 2 where the answer is longer than there is room, and then `length`
 /// says how long it is, and it waits until the same line comes again; 3 where the handle is closed; 6 where the answer to another line
-/// waits.
+/// or to an event waits.
 #[unsafe(no_mangle)]
 pub extern "C" fn muoswyld_step(
     alloc: Global,
@@ -61,30 +99,55 @@ pub extern "C" fn muoswyld_step(
     length: &mut usize,
 ) -> i32
     ensures told { result ≡ done → Between node.old.session node.new.session
-        (λ old new. Told old line.now new answer.old answer.new length.new) }
+        (λ old new. Told old (a_line line.now) new answer.old answer.new length.new) }
     ensures no_room { result ≡ no_room → Between node.old.session node.new.session
-        (λ old new. FoundNoRoom old line.now new answer.old length.new) }
+        (λ old new. FoundNoRoom old (a_line line.now) new answer.old length.new) }
     ensures no_memory { result ≡ no_memory → Between node.old.session node.new.session
         (λ old new. new.stage ≡ stages.Spent) }
-    ensures other { result ≡ other_line → Between node.old.session node.new.session
-        (λ old new. WaitsForOther old line.now) }
+    ensures other { result ≡ other_waits → Between node.old.session node.new.session
+        (λ old new. WaitsForOther old (a_line line.now)) }
     ensures closed { (result ≡ closed) ↔ (node.old.session ≡ None) }
     ensures fails { IfSome node.old.session (λ s. s.stage ≡ stages.Spent → result ≡ no_memory) }
     ensures lasts { IfSome node.old.session (λ s. s.stage ≡ stages.Waits → result ≢ no_memory) }
-    ensures same_other { result ≡ other_line → node.new.session ≡ node.old.session }
+    ensures same_other { result ≡ other_waits → node.new.session ≡ node.old.session }
     ensures same_closed { result ≡ closed → node.new.session ≡ None }
     ensures unwritten { result ≢ done → answer.new ≡ answer.old }
     ensures unsaid { result ≢ done → result ≢ no_room → length.new ≡ length.old }
     ensures numbers { result ≢ done → result ≢ no_memory → result ≢ no_room → result ≢ closed
-        → result ≡ other_line }
+        → result ≡ other_waits }
 {
-    let Some(parts) = replace(node, Handle::closed()).take(alloc) else {
-        return CLOSED;
-    };
-    let mut session = parts.into_box();
-    let end = session.step(alloc, line, answer, length);
-    *node = Handle::of(Parts::of(session));
-    end.number()
+    ask(alloc, node, AskForm::Line, line, answer, length)
+}
+
+/// Gives an event as bytes its answer as bytes (docs/EMBEDDING.md, "The binary call"), with the numbers of `muoswyld_step`. It is the
+/// same node: behind all lines and events that have their answers.
+#[unsafe(no_mangle)]
+pub extern "C" fn muoswyld_do(
+    alloc: Global,
+    node: &mut Handle,
+    event: &[u8],
+    answer: &mut [u8],
+    length: &mut usize,
+) -> i32
+    ensures told { result ≡ done → Between node.old.session node.new.session
+        (λ old new. Told old (an_event event.now) new answer.old answer.new length.new) }
+    ensures no_room { result ≡ no_room → Between node.old.session node.new.session
+        (λ old new. FoundNoRoom old (an_event event.now) new answer.old length.new) }
+    ensures no_memory { result ≡ no_memory → Between node.old.session node.new.session
+        (λ old new. new.stage ≡ stages.Spent) }
+    ensures other { result ≡ other_waits → Between node.old.session node.new.session
+        (λ old new. WaitsForOther old (an_event event.now)) }
+    ensures closed { (result ≡ closed) ↔ (node.old.session ≡ None) }
+    ensures fails { IfSome node.old.session (λ s. s.stage ≡ stages.Spent → result ≡ no_memory) }
+    ensures lasts { IfSome node.old.session (λ s. s.stage ≡ stages.Waits → result ≢ no_memory) }
+    ensures same_other { result ≡ other_waits → node.new.session ≡ node.old.session }
+    ensures same_closed { result ≡ closed → node.new.session ≡ None }
+    ensures unwritten { result ≢ done → answer.new ≡ answer.old }
+    ensures unsaid { result ≢ done → result ≢ no_room → length.new ≡ length.old }
+    ensures numbers { result ≢ done → result ≢ no_memory → result ≢ no_room → result ≢ closed
+        → result ≡ other_waits }
+{
+    ask(alloc, node, AskForm::Event, event, answer, length)
 }
 
 /// Closes a handle, and gives its memory back: 0, or 3 where it is closed.

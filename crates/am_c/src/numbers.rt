@@ -12,5 +12,5 @@ pub(crate) const CLOSED: i32 = 3;
 pub(crate) const OPEN: i32 = 4;
 /// The options are none.
 pub(crate) const BAD_OPTIONS: i32 = 5;
-/// The answer to another line waits for room.
-pub(crate) const OTHER_LINE: i32 = 6;
+/// The answer to another line or event waits for room.
+pub(crate) const OTHER: i32 = 6;

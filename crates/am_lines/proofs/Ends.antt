@@ -1,7 +1,6 @@
 -- A node answers as every node does of which it is the end.
-use Rattle.std.proofs.Common.{◌≡◌, ℕ, ◌+◌, ◌++◌, List, Bool, true, false, IsTrue, ◌↔◌, ◌&&◌, nat_lt, Result, Ok, Err, OnOk, refl, sym, ap, ap₂, ◌∙◌, subst, arith}
+use Rattle.std.proofs.Common.{◌≡◌, ℕ, ◌+◌, ◌++◌, List, Bool, true, false, IsTrue, ◌↔◌, ◌&&◌, nat_lt, Result, Ok, Err, IfOk, refl, sym, ap, ap₂, ◌∙◌, subst, arith}
 use Rattle.std.specs.Prelude.{codes, decimal}
-use Rattle.std.specs.List.{flat_map}
 use Rattle.std.proofs.lemmas.Bool.Decides.{nat_tests}
 use Rattle.am_base.specs.Most.{most_number}
 use Rattle.am_base.specs.Founding.{Rules}
@@ -21,11 +20,13 @@ use Rattle.am_model.specs.Info.{info_of, waited_for}
 use Rattle.am_model.specs.Nodes.{HasNumbersLeft}
 use Rattle.am_model.specs.declared.info.Info.{Info}
 use Rattle.am_node.proofs.Told.{info_at_end}
-use Rattle.am_play.specs.Text.{outcome_text, stamp_text, names_text}
+use Rattle.am_play.specs.Text.{stamp_text, names_text}
 use Rattle.am_lines.specs.declared.line.Line.{Line}
+use Rattle.am_lines.specs.declared.reply.Reply.{Reply}
+use Rattle.am_lines.specs.declared.reply.Reply.TheVariants as replies
 use Rattle.am_lines.specs.Lines.{line_of}
-use Rattle.am_lines.specs.Answers.{Answer, letter_text, role_word, numbers_text, info_text, has_numbers_left, stepped, unchanged, is_info, answer_by, answer_to, answer_of}
-use Rattle.am_lines.specs.Speakers.{AnswersBy}
+use Rattle.am_lines.specs.Answers.{role_word, numbers_text, info_text, has_numbers_left, Replied, stepped, unchanged, is_info, reply_by, reply_to, reply_text, answer_to, answer_of}
+use Rattle.am_lines.specs.Speakers.{RepliesBy, AnswersBy}
 
 -- ---- info
 
@@ -91,74 +92,73 @@ numbers_are b m says = tested b (has_numbers_left m) (λ is. numbers_told m (say
 
 -- ---- steps
 
-pub step_answers : {E : Type 0} (rules : Rules) (m new : Node) (event : NodeEvent) (outcome : Outcome) (letters shown : List Letter) (told : Result (Unit {0}) E)
-    (before after : List ℕ) → IsInOrder m.core → Does (λ n. row n event) m outcome letters new
-    → shown ≡ letters → OnOk told (after ≡ before ++ (outcome_text rules outcome ++ flat_map letter_text shown))
-    → OnOk told (AnswersBy (λ n. stepped rules (step n event)) m before new after)
+pub step_replies : (m new : Node) (event : NodeEvent) (outcome : Outcome) (letters shown : List Letter) → IsInOrder m.core
+    → Does (λ n. row n event) m outcome letters new → shown ≡ letters → RepliesBy (λ n. stepped (step n event)) m (replies.Did outcome shown) new
 unfolding step
-step_answers rules m new event outcome letters shown (Ok done) before after order does are text = λ all end.
+step_replies m new event outcome letters shown order does are = λ all end.
     let alike = ends_step_alike all m event end order in (
-      text ∙ ap₂ (λ o ls. before ++ (outcome_text rules o ++ flat_map letter_text ls)) (does.answer ∙ sym alike.answer) (are ∙ does.sent ∙ sym alike.sent),
+      ap₂ (λ (o : Outcome) (ls : List Letter). replies.Did o ls) (does.answer ∙ sym alike.answer) (are ∙ does.sent ∙ sym alike.sent),
       alike.node new does.node,
     )
-step_answers rules m new event outcome letters shown (Err lack) before after order does are text = tt
 
 -- the same of the node that stands apart, behind a box
-pub step_answers_of : {E : Type 0} (rules : Rules) (m kept new : Node) (event : NodeEvent) (outcome : Outcome) (letters shown : List Letter)
-    (told : Result (Unit {0}) E) (before after : List ℕ) → kept ≡ m → IsInOrder kept.core → Does (λ n. row n event) kept outcome letters new
-    → shown ≡ letters → OnOk told (after ≡ before ++ (outcome_text rules outcome ++ flat_map letter_text shown))
-    → OnOk told (AnswersBy (λ n. stepped rules (step n event)) m before new after)
-step_answers_of rules m kept new event outcome letters shown told before after same order does are text =
-    subst (λ (n : Node). OnOk told (AnswersBy (λ a. stepped rules (step a event)) n before new after)) same
-    (step_answers rules kept new event outcome letters shown told before after order does are text)
-
-pub told_answers : {E : Type 0} (m : Node) (told : Result (Unit {0}) E) (before after : List ℕ) → OnOk told (after ≡ before ++ info_text m)
-    → OnOk told (AnswersBy (λ n. unchanged n (info_text n)) m before m after)
-told_answers m (Ok done) before after text = λ all end. (text ∙ ap (λ (t : List ℕ). before ++ t) (info_end all m end), end)
-told_answers m (Err lack) before after text = tt
+pub step_replies_of : (m kept new : Node) (event : NodeEvent) (outcome : Outcome) (letters shown : List Letter) → kept ≡ m → IsInOrder kept.core
+    → Does (λ n. row n event) kept outcome letters new → shown ≡ letters → RepliesBy (λ n. stepped (step n event)) m (replies.Did outcome shown) new
+step_replies_of m kept new event outcome letters shown same order does are =
+    subst (λ (n : Node). RepliesBy (λ a. stepped (step a event)) n (replies.Did outcome shown) new) same
+    (step_replies kept new event outcome letters shown order does are)
 
 -- ---- lines
 
-spent_answer : (rules : Rules) (n : Node) (said : Line) → is_info said ≡ false → has_numbers_left n ≡ false → unchanged n (codes "no numbers left") ≡ answer_to rules n said
-spent_answer rules n said other spent = rw (other, spent) refl
+spent_reply : (n : Node) (asked : Line) → is_info asked ≡ false → has_numbers_left n ≡ false → unchanged n replies.Spent ≡ reply_to n asked
+spent_reply n asked other spent = rw (other, spent) refl
 
-done_answer : (rules : Rules) (n : Node) (said : Line) → is_info said ≡ false → has_numbers_left n ≡ true → answer_by rules n said ≡ answer_to rules n said
-done_answer rules n said other left = rw (other, left) refl
+done_reply : (n : Node) (asked : Line) → is_info asked ≡ false → has_numbers_left n ≡ true → reply_by n asked ≡ reply_to n asked
+done_reply n asked other left = rw (other, left) refl
 
-info_answer : (rules : Rules) (n : Node) (said : Line) → is_info said ≡ true → unchanged n (info_text n) ≡ answer_to rules n said
-info_answer rules n said is = rw is refl
+info_reply : (n : Node) (asked : Line) → is_info asked ≡ true → unchanged n replies.Info ≡ reply_to n asked
+info_reply n asked is = rw is refl
 
--- where another answer is the same at each node of which this is the end
-other_answers : (answer other : Node → Answer) (m new : Node) (before after : List ℕ) → ((all : Node) → IsEndOf all m → answer all ≡ other all)
-    → AnswersBy answer m before new after → AnswersBy other m before new after
-other_answers answer other m new before after same h = λ all end. (
-  (h all end).0 ∙ ap (λ (a : Answer). before ++ a.text) (same all end),
-  subst (λ (a : Answer). IsEndOf a.node new) (same all end) (h all end).1,
+-- where something else comes, and it is the same at each node of which this is the end
+other_replies : (replied other : Node → Replied) (m : Node) (told : Reply) (new : Node) → ((all : Node) → IsEndOf all m → replied all ≡ other all)
+    → RepliesBy replied m told new → RepliesBy other m told new
+other_replies replied other m told new same h = λ all end. (
+  (h all end).0 ∙ ap (λ (r : Replied). r.reply) (same all end),
+  subst (λ (r : Replied). IsEndOf r.node new) (same all end) (h all end).1,
 )
 
-pub spent_answers : {E : Type 0} (rules : Rules) (m : Node) (said : Line) (told : Result (Unit {0}) E) (before after : List ℕ) → is_info said ≡ false
-    → has_numbers_left m ≡ false → OnOk told (after ≡ before ++ codes "no numbers left") → OnOk told (AnswersBy (λ n. answer_to rules n said) m before m after)
-spent_answers rules m said (Ok done) before after other spent text =
-    other_answers (λ n. unchanged n (codes "no numbers left")) (λ n. answer_to rules n said) m m before after
-    (λ all end. spent_answer rules all said other (sym (numbers_end all m end) ∙ spent)) (λ all end. (text, end))
-spent_answers rules m said (Err lack) before after other spent text = tt
+pub info_replies : (m : Node) (asked : Line) → is_info asked ≡ true → RepliesBy (λ n. reply_to n asked) m replies.Info m
+info_replies m asked is =
+    other_replies (λ n. unchanged n replies.Info) (λ n. reply_to n asked) m replies.Info m (λ all end. info_reply all asked is) (λ all end. (refl, end))
 
-pub done_answers : {E : Type 0} (rules : Rules) (m new : Node) (said : Line) (told : Result (Unit {0}) E) (before after : List ℕ) → is_info said ≡ false
-    → has_numbers_left m ≡ true → OnOk told (AnswersBy (λ n. answer_by rules n said) m before new after)
-    → OnOk told (AnswersBy (λ n. answer_to rules n said) m before new after)
-done_answers rules m new said (Ok done) before after other left h =
-    other_answers (λ n. answer_by rules n said) (λ n. answer_to rules n said) m new before after
-    (λ all end. done_answer rules all said other (sym (numbers_end all m end) ∙ left)) h
-done_answers rules m new said (Err lack) before after other left h = tt
+pub spent_replies : (m : Node) (asked : Line) → is_info asked ≡ false → has_numbers_left m ≡ false → RepliesBy (λ n. reply_to n asked) m replies.Spent m
+spent_replies m asked other spent =
+    other_replies (λ n. unchanged n replies.Spent) (λ n. reply_to n asked) m replies.Spent m
+    (λ all end. spent_reply all asked other (sym (numbers_end all m end) ∙ spent)) (λ all end. (refl, end))
 
-pub info_answers : {E : Type 0} (rules : Rules) (m : Node) (said : Line) (told : Result (Unit {0}) E) (before after : List ℕ) → is_info said ≡ true
-    → OnOk told (AnswersBy (λ n. unchanged n (info_text n)) m before m after) → OnOk told (AnswersBy (λ n. answer_to rules n said) m before m after)
-info_answers rules m said (Ok done) before after is h =
-    other_answers (λ n. unchanged n (info_text n)) (λ n. answer_to rules n said) m m before after (λ all end. info_answer rules all said is) h
-info_answers rules m said (Err lack) before after is h = tt
+pub done_replies : {E : Type 0} (m new : Node) (asked : Line) (done : Result Reply E) → is_info asked ≡ false → has_numbers_left m ≡ true
+    → IfOk done (λ told. RepliesBy (λ n. reply_by n asked) m told new) → IfOk done (λ told. RepliesBy (λ n. reply_to n asked) m told new)
+done_replies m new asked (Ok told) other left h =
+    other_replies (λ n. reply_by n asked) (λ n. reply_to n asked) m told new (λ all end. done_reply all asked other (sym (numbers_end all m end) ∙ left)) h
+done_replies m new asked (Err lack) other left h = tt
 
-pub read_answers : (rules : Rules) (m new : Node) (text : List ℕ) (said : Line) (before after : List ℕ) → said ≡ line_of rules text
-    → AnswersBy (λ n. answer_to rules n said) m before new after → AnswersBy (λ n. answer_of rules n text) m before new after
+-- ---- answers
+
+reply_text_end : (rules : Rules) (all m : Node) (told : Reply) → IsEndOf all m → reply_text rules m told ≡ reply_text rules all told
+reply_text_end rules all m (replies.Did outcome letters) end = refl
+reply_text_end rules all m replies.Info end = info_end all m end
+reply_text_end rules all m (replies.Bad cause) end = refl
+reply_text_end rules all m replies.Spent end = refl
+
+pub told_answers : (rules kept : Rules) (m apart new : Node) (text : List ℕ) (asked : Line) (told : Reply) (before after : List ℕ) → kept ≡ rules
+    → apart ≡ new → asked ≡ line_of rules text → RepliesBy (λ n. reply_to n asked) m told new → after ≡ before ++ reply_text kept apart told
+    → AnswersBy (λ n. answer_of rules n text) m before new after
 unfolding answer_of
-read_answers rules m new text said before after is h =
-    let P : Line → Type 0 = λ l. AnswersBy (λ n. answer_to rules n l) m before new after in subst P is h
+told_answers rules kept m apart new text asked told before after same at is h says = λ all end.
+    let r = h all end in
+    subst (λ (l : Line). (after ≡ before ++ (answer_to rules all l).text) × IsEndOf (answer_to rules all l).node new) is (
+      says ∙ ap (λ (u : Rules). before ++ reply_text u apart told) same ∙ ap (λ (n : Node). before ++ reply_text rules n told) at
+          ∙ ap (λ (t : List ℕ). before ++ t)
+          (reply_text_end rules (reply_to all asked).node new told r.1 ∙ ap (reply_text rules (reply_to all asked).node) r.0),
+      r.1,
+    )

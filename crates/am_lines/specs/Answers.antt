@@ -1,10 +1,11 @@
 -- What a node answers to a line.
-use Rattle.std.specs.Prelude.{ℕ, ◌+◌, List, ◌++◌, codes, decimal, Bool, true, false, ◌&&◌, nat_lt, if◌then◌else◌, slice_index}
+use Rattle.std.specs.Prelude.{ℕ, ◌+◌, List, [], ◌++◌, codes, decimal, Bool, true, false, ◌&&◌, nat_lt, if◌then◌else◌, slice_index}
 use Rattle.std.specs.List.{flat_map}
 use Rattle.am_base.specs.Founding.{Rules}
 use Rattle.am_base.specs.Most.{most_number}
 use Rattle.am_base.specs.Names.{place_of, has}
 use Rattle.am_base.specs.declared.event.NodeEvent.TheVariants as does
+use Rattle.am_base.specs.declared.outcome.Outcome.TheVariants as said
 use Rattle.am_packet.specs.Boxes.{Letter}
 use Rattle.am_packet.specs.Spelling.{spelling}
 use Rattle.am_model.specs.Node.{Node, top, view, members, image_of}
@@ -16,6 +17,8 @@ use Rattle.am_model.specs.declared.info.Role.TheVariants as role
 use Rattle.am_play.specs.Text.{stamp_text, names_text, hex_byte, outcome_text}
 use Rattle.am_lines.specs.declared.line.Line.{Line}
 use Rattle.am_lines.specs.declared.line.Line.TheVariants as line
+use Rattle.am_lines.specs.declared.reply.Reply.{Reply}
+use Rattle.am_lines.specs.declared.reply.Reply.TheVariants as replies
 use Rattle.am_lines.specs.Lines.{line_of, cause_of}
 
 -- ---- letters
@@ -60,28 +63,28 @@ info_text m =
     ++ (codes " " ++ (names_text (members m)
     ++ (numbers_text m ++ names_text (waited_for m.ballot))))))))
 
--- ---- answers
+-- ---- what comes of a line
 
--- what a node makes of a line: the node after it, and what it answers, without the newline
-pub record Answer : Type 0 where
+-- what comes of a line, and the node after it
+pub record Replied : Type 0 where
   pub node : Node
-  pub text : List ℕ
+  pub reply : Reply
 
--- an answer that changes nothing
-abbrev pub unchanged : Node → List ℕ → Answer
-unchanged m text = record { node = m; text = text }
+-- what comes of a line that changes nothing
+abbrev pub unchanged : Node → Reply → Replied
+unchanged m told = record { node = m; reply = told }
 
--- the answer of a step: its outcome, and its letters in order
-abbrev pub stepped : Rules → Step → Answer
-stepped rules s = record { node = s.node; text = outcome_text rules s.outcome ++ flat_map letter_text s.letters }
+-- what comes of a step: its outcome, and its letters in order
+abbrev pub stepped : Step → Replied
+stepped s = record { node = s.node; reply = replies.Did s.outcome s.letters }
 
--- the answer to a line where no number is used up
-abbrev pub answer_by : Rules → Node → Line → Answer
-answer_by rules m (line.Does event) = stepped rules (step m event)
-answer_by rules m (line.Hears any to bytes) =
-    if is_addressed any to m.core.who then stepped rules (step m (does.Hear bytes)) else unchanged m (codes "not-addressed")
-answer_by rules m line.Info = unchanged m (info_text m)
-answer_by rules m (line.Bad cause) = unchanged m (codes "bad line " ++ decimal (cause_of cause))
+-- what comes of a line where no number is used up
+abbrev pub reply_by : Node → Line → Replied
+reply_by m (line.Does event) = stepped (step m event)
+reply_by m (line.Hears any to bytes) =
+    if is_addressed any to m.core.who then stepped (step m (does.Hear bytes)) else unchanged m (replies.Did said.NotAddressed [])
+reply_by m line.Info = unchanged m replies.Info
+reply_by m (line.Bad cause) = unchanged m (replies.Bad cause)
 
 -- none of a node's numbers is at its end
 abbrev pub has_numbers_left : Node → Bool
@@ -94,12 +97,29 @@ is_info (line.Hears any to bytes) = false
 is_info line.Info = true
 is_info (line.Bad cause) = false
 
--- where one is, every line but info has one answer
+-- where one is, the same comes of every line but info
+abbrev pub reply_to : Node → Line → Replied
+reply_to m asked =
+    if is_info asked then unchanged m replies.Info
+    else if has_numbers_left m then reply_by m asked
+    else unchanged m replies.Spent
+
+-- ---- answers
+
+-- what a node makes of a line: the node after it, and what it answers, without the newline
+pub record Answer : Type 0 where
+  pub node : Node
+  pub text : List ℕ
+
+-- the text of what came of a line, of the node after it
+abbrev pub reply_text : Rules → Node → Reply → List ℕ
+reply_text rules m (replies.Did outcome letters) = outcome_text rules outcome ++ flat_map letter_text letters
+reply_text rules m replies.Info = info_text m
+reply_text rules m (replies.Bad cause) = codes "bad line " ++ decimal (cause_of cause)
+reply_text rules m replies.Spent = codes "no numbers left"
+
 abbrev pub answer_to : Rules → Node → Line → Answer
-answer_to rules m said =
-    if is_info said then unchanged m (info_text m)
-    else if has_numbers_left m then answer_by rules m said
-    else unchanged m (codes "no numbers left")
+answer_to rules m asked = record { node = (reply_to m asked).node; text = reply_text rules (reply_to m asked).node (reply_to m asked).reply }
 
 -- the answer to a line's bytes
 unfoldable pub answer_of : Rules → Node → List ℕ → Answer

@@ -5,6 +5,7 @@ pub mod ending;
 pub mod laws;
 pub mod line;
 pub mod reading;
+pub mod reply;
 pub mod speaker;
 pub mod speaking;
 pub mod telling;

@@ -3,17 +3,19 @@ ghost use Rattle.am_base.specs.Names.{has};
 ghost use Rattle.am_model.specs.Node.{founder, stranger};
 ghost use Rattle.am_model.specs.Nodes.{HasNumbersLeft};
 ghost use Rattle.am_node.specs.Stands.{state_of};
-ghost use Rattle.am_lines.specs.Answers.{is_addressed, is_info, info_text, unchanged};
+ghost use Rattle.am_lines.specs.Answers.{is_addressed, is_info};
 
-use crate::line::{BadLine, Line};
+use crate::line::Line;
 use crate::reading::read_line;
-use crate::telling::{push_info, push_step};
+use crate::reply::Reply;
+use crate::telling::push_reply;
 use am_base::NoMemory;
 use am_base::event::NodeEvent;
 use am_base::founding::Founding;
 use am_base::items::Items;
 use am_base::name::Name;
 use am_base::names::Names;
+use am_base::outcome::Outcome;
 use am_letter::out_box::{OutBox, Rooms};
 use am_node::founding::Room;
 use am_node::node::Node;
@@ -74,8 +76,8 @@ impl Speaker {
     ghost use Rattle.am_play.specs.World.{first_node};
     ghost use Rattle.am_base.specs.declared.event.NodeEvent.TheVariants as does;
     ghost use Rattle.am_lines.specs.declared.line.Line.TheVariants as said;
-    ghost use Rattle.am_lines.specs.Answers.{stepped, answer_by, answer_to, answer_of};
-    ghost use Rattle.am_lines.specs.Speakers.{speaking, AnswersBy};
+    ghost use Rattle.am_lines.specs.Answers.{stepped, reply_by, reply_to, answer_of};
+    ghost use Rattle.am_lines.specs.Speakers.{speaking, RepliesBy, HasFewLetters, AnswersBy};
 
     /// A name's node at its beginning: a founder where it is one of the founders, and else a name that nobody has seen. It is an
     /// error where there is no memory.
@@ -97,16 +99,19 @@ impl Speaker {
         })
     }
 
-    /// Does a step, and adds what it came to.
-    fn step(
-        &mut self,
-        alloc: Global,
-        event: &NodeEvent,
-        answer: &mut String,
-    ) -> Result<(), NoMemory>
+    /// Its node.
+    pub fn node(&self) -> &Node
+        ensures { state_of result.now ≡ (speaking self.now).node }
+    {
+        &self.node
+    }
+
+    /// Does a step.
+    fn step(&mut self, alloc: Global, event: &NodeEvent) -> Result<Reply, NoMemory>
         requires { HasNumbersLeft (speaking self.old).node }
-        ensures ok { OnOk result (AnswersBy (λ m. stepped (speaking self.old).rules (step m event.now))
-            (speaking self.old).node (string_bytes answer.old) (speaking self.new).node (string_bytes answer.new)) }
+        ensures ok { IfOk result (λ reply. RepliesBy (λ m. stepped (step m event.now))
+            (speaking self.old).node reply (speaking self.new).node) }
+        ensures few { IfOk result HasFewLetters }
         ensures rules { (speaking self.new).rules ≡ (speaking self.old).rules }
         ensures flag { (speaking self.new).failed ≡ (speaking self.old).failed }
     {
@@ -116,81 +121,68 @@ impl Speaker {
         let mut out = OutBox::over(alloc, left)?;
         let _order = node.accept_front();
         let outcome = node.step(event, spare, &mut out);
-        let told = push_step(answer, &self.founding, &outcome, out.letters());
-        let (_, rooms) = out.into_letters(alloc);
+        let (letters, rooms) = out.into_letters(alloc);
         self.rooms = rooms;
-        told
+        Ok(Reply::Did { outcome, letters })
     }
 
-    /// Hears bytes where the node is addressed, and adds what came of it.
+    /// Hears bytes where the node is addressed.
     fn hear(
         &mut self,
         alloc: Global,
         any: bool,
         to: Names,
         bytes: Items<u8>,
-        answer: &mut String,
-    ) -> Result<(), NoMemory>
+    ) -> Result<Reply, NoMemory>
         requires { HasNumbersLeft (speaking self.old).node }
-        ensures ok { OnOk result (AnswersBy (λ m. answer_by (speaking self.old).rules m
-            (said.Hears any to bytes))
-            (speaking self.old).node (string_bytes answer.old) (speaking self.new).node (string_bytes answer.new)) }
+        ensures ok { IfOk result (λ reply. RepliesBy (λ m. reply_by m (said.Hears any to bytes))
+            (speaking self.old).node reply (speaking self.new).node) }
+        ensures few { IfOk result HasFewLetters }
         ensures rules { (speaking self.new).rules ≡ (speaking self.old).rules }
         ensures flag { (speaking self.new).failed ≡ (speaking self.old).failed }
     {
         if is_addressed(any, to, self.node.name()) {
-            return self.step(alloc, &NodeEvent::Hear(bytes), answer);
+            return self.step(alloc, &NodeEvent::Hear(bytes));
         }
-        answer.push_str("not-addressed")
+        Ok(Reply::Did {
+            outcome: Outcome::NotAddressed,
+            letters: Items::new(alloc),
+        })
     }
 
-    /// Adds the answer to a bad line.
-    fn refuse(&self, cause: BadLine, answer: &mut String) -> Result<(), NoMemory>
-        ensures { OnOk result (AnswersBy (λ m. answer_by (speaking self.now).rules m (said.Bad cause))
-            (speaking self.now).node (string_bytes answer.old) (speaking self.now).node (string_bytes answer.new)) }
-    {
-        let number = cause.cause();
-        write!(answer, "bad line {number}")
-    }
-
-    /// Adds what the node knows of itself and of its group.
-    fn tell(&self, answer: &mut String) -> Result<(), NoMemory>
-        ensures { OnOk result (AnswersBy (λ m. unchanged m (info_text m))
-            (speaking self.now).node (string_bytes answer.old) (speaking self.now).node (string_bytes answer.new)) }
-    {
-        push_info(answer, &self.node)
-    }
-
-    /// Does what a line says where no number is used up, and adds the answer to it.
-    fn do_line(&mut self, alloc: Global, line: Line, answer: &mut String) -> Result<(), NoMemory>
+    /// Does what a line says where no number is used up.
+    fn do_line(&mut self, alloc: Global, line: Line) -> Result<Reply, NoMemory>
         requires { HasNumbersLeft (speaking self.old).node }
-        ensures ok { OnOk result (AnswersBy (λ m. answer_by (speaking self.old).rules m line)
-            (speaking self.old).node (string_bytes answer.old) (speaking self.new).node (string_bytes answer.new)) }
+        ensures ok { IfOk result (λ reply. RepliesBy (λ m. reply_by m line)
+            (speaking self.old).node reply (speaking self.new).node) }
+        ensures few { IfOk result HasFewLetters }
         ensures rules { (speaking self.new).rules ≡ (speaking self.old).rules }
         ensures flag { (speaking self.new).failed ≡ (speaking self.old).failed }
     {
         match line {
-            Line::Does(event) => self.step(alloc, &event, answer),
-            Line::Hears { any, to, bytes } => self.hear(alloc, any, to, bytes, answer),
-            Line::Info => self.tell(answer),
-            Line::Bad(cause) => self.refuse(cause, answer),
+            Line::Does(event) => self.step(alloc, &event),
+            Line::Hears { any, to, bytes } => self.hear(alloc, any, to, bytes),
+            Line::Info => Ok(Reply::Info),
+            Line::Bad(cause) => Ok(Reply::Bad(cause)),
         }
     }
 
-    /// Does what a line says, and adds the answer to it.
-    fn answer_to(&mut self, alloc: Global, line: Line, answer: &mut String) -> Result<(), NoMemory>
-        ensures ok { OnOk result (AnswersBy (λ m. answer_to (speaking self.old).rules m line)
-            (speaking self.old).node (string_bytes answer.old) (speaking self.new).node (string_bytes answer.new)) }
+    /// Does what a line says: what comes of it is that which the protocol gives for the whole node. It is an error where there is no
+    /// memory; the node may have changed then.
+    pub fn reply(&mut self, alloc: Global, line: Line) -> Result<Reply, NoMemory>
+        ensures ok { IfOk result (λ reply. RepliesBy (λ m. reply_to m line)
+            (speaking self.old).node reply (speaking self.new).node) }
+        ensures few { IfOk result HasFewLetters }
         ensures rules { (speaking self.new).rules ≡ (speaking self.old).rules }
         ensures flag { (speaking self.new).failed ≡ (speaking self.old).failed }
     {
         if is_info(&line) {
-            return self.tell(answer);
+            return Ok(Reply::Info);
         }
         if !self.node.has_numbers_left() {
-            return answer.push_str("no numbers left");
+            return Ok(Reply::Spent);
         }
-        self.do_line(alloc, line, answer)
+        self.do_line(alloc, line)
     }
 
     /// Does what a line says, and adds the answer to it, without a newline: that which the protocol gives for the whole node. It is
@@ -213,7 +205,8 @@ impl Speaker {
         }
         self.failed = true;
         let line = read_line(alloc, &self.founding, line)?;
-        self.answer_to(alloc, line, answer)?;
+        let reply = self.reply(alloc, line)?;
+        push_reply(answer, &self.founding, &self.node, &reply)?;
         self.failed = false;
         Ok(())
     }

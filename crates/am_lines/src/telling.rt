@@ -3,12 +3,11 @@ ghost use Rattle.std.specs.List.{flat_map};
 ghost use Rattle.am_model.specs.Node.{image_of, top};
 ghost use Rattle.am_model.specs.Info.{info_of};
 ghost use Rattle.am_node.specs.Stands.{state_of};
-ghost use Rattle.am_play.specs.Text.{outcome_text};
-ghost use Rattle.am_lines.specs.Answers.{to_text, letter_text, role_word, numbers_text, info_text};
+ghost use Rattle.am_lines.specs.Answers.{to_text, letter_text, role_word, numbers_text, info_text, reply_text};
 
+use crate::reply::Reply;
 use am_base::NoMemory;
 use am_base::founding::Founding;
-use am_base::outcome::Outcome;
 use am_model::info::{Info, Role};
 use am_node::node::Node;
 use am_packet::letter::Letter;
@@ -37,7 +36,7 @@ fn push_letter(out: &mut String, letter: &Letter) -> Result<(), NoMemory>
 }
 
 /// Adds letters in order.
-pub fn push_letters(out: &mut String, letters: &[Letter]) -> Result<(), NoMemory>
+fn push_letters(out: &mut String, letters: &[Letter]) -> Result<(), NoMemory>
     ensures { OnOk result (string_bytes out.new
         ≡ string_bytes out.old ++ flat_map letter_text letters.now) }
 {
@@ -45,20 +44,6 @@ pub fn push_letters(out: &mut String, letters: &[Letter]) -> Result<(), NoMemory
         push_letter(out, letter)?;
     }
     Ok(())
-}
-
-/// Adds what a step came to: its outcome and its letters.
-pub fn push_step(
-    out: &mut String,
-    founding: &Founding,
-    outcome: &Outcome,
-    letters: &[Letter],
-) -> Result<(), NoMemory>
-    ensures { OnOk result (string_bytes out.new ≡ string_bytes out.old
-        ++ (outcome_text founding.now outcome.now ++ flat_map letter_text letters.now)) }
-{
-    push_outcome(out, founding, outcome)?;
-    push_letters(out, letters)
 }
 
 /// The word of a role.
@@ -92,7 +77,7 @@ fn push_numbers(out: &mut String, node: &Node, info: &Info) -> Result<(), NoMemo
 
 /// Adds what a node knows of itself and of its group.
 #[tactic(auto, unfolding(crate::specs::Answers::info_text))]
-pub fn push_info(out: &mut String, node: &Node) -> Result<(), NoMemory>
+fn push_info(out: &mut String, node: &Node) -> Result<(), NoMemory>
     ensures { OnOk result (string_bytes out.new
         ≡ string_bytes out.old ++ info_text (state_of node.now)) }
 {
@@ -105,4 +90,28 @@ pub fn push_info(out: &mut String, node: &Node) -> Result<(), NoMemory>
     push_names(out, info.members)?;
     push_numbers(out, node, &info)?;
     push_names(out, node.waits_for())
+}
+
+/// Adds what came of a line, of the node after it: the answer without a newline.
+pub fn push_reply(
+    out: &mut String,
+    founding: &Founding,
+    node: &Node,
+    reply: &Reply,
+) -> Result<(), NoMemory>
+    ensures { OnOk result (string_bytes out.new ≡ string_bytes out.old
+        ++ reply_text founding.now (state_of node.now) reply.now) }
+{
+    match reply {
+        Reply::Did { outcome, letters } => {
+            push_outcome(out, founding, outcome)?;
+            push_letters(out, letters.as_slice())
+        }
+        Reply::Info => push_info(out, node),
+        Reply::Bad(cause) => {
+            let number = cause.cause();
+            write!(out, "bad line {number}")
+        }
+        Reply::Spent => out.push_str("no numbers left"),
+    }
 }

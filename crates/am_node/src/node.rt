@@ -28,10 +28,10 @@ pub struct Node {
 }
 
 impl Node {
-    ghost use Rattle.std.specs.Prelude.{◌≡◌, ◌==◌, ◌≤◌, ◌↔◌, [], length, not, true, IfOk, IsTrue};
+    ghost use Rattle.std.specs.Prelude.{◌≡◌, ◌==◌, ◌≤◌, ◌↔◌, [], length, nat_lt, not, true, IfOk, IsTrue};
     ghost use Rattle.std.specs.Option.{option_copied};
     ghost use Rattle.am_handlers.specs.Prelude.{entry_at, has, IsInOrder, members, image_of, top, view, Does, Tells};
-    ghost use Rattle.am_model.specs.Node.{founder, stranger};
+    ghost use Rattle.am_model.specs.Node.{founder, stranger, unsettled_count};
     ghost use Rattle.am_model.specs.Step.{row};
     ghost use Rattle.am_state.specs.Sends.{is_settled};
     ghost use Rattle.am_model.specs.Info.{info_of, ballot_end, waited_for};
@@ -113,6 +113,13 @@ impl Node {
         ensures { result ≡ is_settled req (state_of self.now).sends }
     {
         self.parts.sender.is_settled(req)
+    }
+
+    /// Whether a send of its own isn't settled.
+    pub fn is_sending(&self) -> bool
+        ensures { result ≡ nat_lt 0 (unsettled_count (state_of self.now)) }
+    {
+        0 < self.parts.sender.unsettled_count()
     }
 
     /// How its ballot of a round stands; None where its last ballot's round is lower, or it had none.

@@ -2,7 +2,7 @@ use Rattle.std.proofs.Common.{Some, sym, ap, ◌∙◌, w32}
 use Rattle.std.proofs.lemmas.Int.{to_z-of_z}
 use Rattle.std.specs.Prelude.{option_map}
 use Rattle.am_c.proofs.Calls.{between, told_is, no_room_is}
-use Rattle.am_c.proofs.muoswyld_step.Goals as goal
+use Rattle.am_c.proofs.ask.Goals as goal
 
 pub returns-clause-told : goal.returns-clause-told
 returns-clause-told c given =
