@@ -180,6 +180,7 @@ impl<'a> Reader<'a> {
                 base: self.number()?,
                 top: self.number()?,
             },
+            52 => Outcome::Occupied { name: self.name()? },
             25 => Outcome::NoBody {
                 from: self.name()?,
                 request: self.number()?,
