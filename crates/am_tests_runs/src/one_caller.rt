@@ -79,6 +79,7 @@ fn each_call_is_answered(rt: HostRuntime) -> Result<(), Fail> {
         top: AtomicU64::new(0),
         answers: Mutex::new(Vec::new(rt.alloc())),
     };
+    assert!(rt; plan.threads.as_slice().len() == 1);
     let _journal = let_do(&rt, rt.alloc(), &plan, &NoGate, &calls)?;
     assert!(rt; calls.top.load(Ordering::SeqCst) == 1);
     assert!(rt; are_right(calls.answers.lock(&rt).as_slice()));

@@ -48,6 +48,7 @@ fn a_stop_breaks_a_run(rt: HostRuntime) -> Result<(), Fail> {
     step(&mut world, 0, Act::Tick)?;
     step(&mut world, 1, Act::Stop)?;
     let records = world.journal().records();
+    assert!(rt; records.len() == 2);
     assert!(rt; broken_at(rt.alloc(), &founding, records)? == Some(2));
     assert!(rt; broken_at(rt.alloc(), &founding, &records[..1])? == None);
     Ok(())
