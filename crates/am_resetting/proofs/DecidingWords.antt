@@ -28,4 +28,4 @@ pub use Rattle.am_ballots.specs.Kept.{Kept, ballot_of}
 pub use Rattle.am_handlers.specs.{Keeps.NodeKeeps, Keeps.IsSteady, Keeps.IsOwnBallot, Verdicts.ComesTo, Parts.node_of}
 pub use Rattle.am_handlers.proofs.{Keeping.due_pushed, Keeping.keeps_steady, Keeping.over_own, Keeping.own_for, Keeping.own_steady, Ends.told_same}
 pub use Rattle.am_handlers.proofs.{Ends.top_same, Shown.own_vote_same}
-pub use Rattle.am_resetting.specs.Deciding.{IsTakenOut, IsUpTo, MayStore, MayBeView}
+pub use Rattle.am_resetting.specs.Deciding.{Answered, IsTakenOut, IsUpTo, MayStore, MayBeView, put_back}

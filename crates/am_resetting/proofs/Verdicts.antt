@@ -4,7 +4,7 @@ use Rattle.am_resetting.proofs.DecidingWords.{unwrap_or, refl, sym, ap, subst, �
 use Rattle.am_resetting.proofs.DecidingWords.{Shown, better_of, best_from, best_vote, all_names, vote_lt, Log, top_of, Stands, split, least_of, Node, Ballot}
 use Rattle.am_resetting.proofs.DecidingWords.{top, those, push_entry, trim_up_to, Verdict, own_vote, best_of, is_waited_for, left_in, taken_by, with_answer}
 use Rattle.am_resetting.proofs.DecidingWords.{with_end, goes_on, ends, decided_view, decide_view, trim_for, decide, IsEndOf, with_log, told_same, top_same}
-use Rattle.am_resetting.proofs.DecidingWords.{own_vote_same, ComesTo}
+use Rattle.am_resetting.proofs.DecidingWords.{own_vote_same, ComesTo, Answered, IsOwnBallot, over_own}
 use Rattle.am_base.specs.declared.outcome.Outcome.TheVariants as said
 use Rattle.am_state.specs.Reports as reports
 use Rattle.am_resetting.proofs.Looked.{Looked, Waited, Idle, Counted, some_waited, few, enough}
@@ -111,6 +111,23 @@ ended m n b answer is = is ∙ ap (λ (x : Outcome). record m { ballot = Some (w
 pub kept_on : (m n : Node) (b : Ballot) {o p : Outcome} → o ≡ p → n ≡ record m { ballot = Some (with_answer b p) }
     → n ≡ record m { ballot = Some (with_answer b o) }
 kept_on m n b answer is = is ∙ ap (λ (x : Outcome). record m { ballot = Some (with_answer b x) }) (sym answer)
+
+-- the ballot that was given an answer is the node's own, as it was
+pub own_ended : (m : Node) (b : Ballot) {new : Ballot} {given result : Outcome} → Answered (with_end b given) given result new → b.resilience ≤ 15
+    → IsOwnBallot m new
+own_ended m b {new} {given} is few = subst (λ (x : Ballot). IsOwnBallot m x) (sym is.ballot) (over_own m (with_end b given) refl few)
+
+pub own_kept_on : (m : Node) (b : Ballot) {new : Ballot} {given result : Outcome} → Answered (with_answer b given) given result new → IsOwnBallot m b
+    → b.is_over ≡ false → IsOwnBallot m new
+own_kept_on m b {new} {given} is own is_open = subst (λ (x : Ballot). IsOwnBallot m x) (sym is.ballot) (record {
+  stamp = λ open_. own.stamp is_open;
+  by = λ open_. own.by is_open;
+  ahead = λ open_. own.ahead is_open;
+  logged = λ open_. own.logged is_open;
+  itself = λ open_. own.itself is_open;
+  unvoted = λ open_. own.unvoted is_open;
+  resilience = own.resilience;
+})
 
 pub not_in_comes : {m : Node} {b : Ballot} {best : Shown} {who : ℕ} {needed : List ℕ} (n : Node) (o : Outcome) → Looked m b best who needed
     → has best.vote.members m.core.who ≡ false → o ≡ said.NotIn best.vote.view → n ≡ record m { ballot = Some (with_end b o) } → (all : Node) → IsEndOf all m

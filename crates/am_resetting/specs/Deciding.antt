@@ -11,9 +11,7 @@ use Rattle.am_base.specs.Names.{has, is_within}
 use Rattle.am_base.specs.Stamps.{stamp_lt}
 use Rattle.am_state.specs.Cores.{IsInOrder}
 use Rattle.am_model.specs.Node.{has_log, Node, Ballot, top, image_of, members, acts}
-use Rattle.am_handlers.specs.declared.parts.Parts.{Parts}
 use Rattle.am_handlers.specs.Keeps.{IsOwnBallot}
-use Rattle.am_handlers.specs.Parts.{node_of}
 
 -- an unfinished ballot that is the node's own, and was taken out of it
 pub record IsTakenOut (m : Node) (b : Ballot) : Type 0 where
@@ -48,7 +46,11 @@ pub record MayStore (m : Node) (base : ℕ) (e : Entry) : Type 0 where
   pub bound : top m + 1 - max m.core.base base ≤ m.core.rules.window + 15
   pub number : top m < most_number
 
--- the answer is given, and the parts have the ballot that it belongs to
-pub record Answered (old : Parts) (b : Ballot) (given result : Outcome) (new : Parts) : Type 0 where
-  pub node : node_of new ≡ record (node_of old) { ballot = Some b }
+-- a node with a ballot in it again
+abbrev pub put_back : Node → Ballot → Node
+put_back m b = record m { ballot = Some b }
+
+-- the answer is given, and the ballot is this
+pub record Answered (b : Ballot) (given result : Outcome) (new : Ballot) : Type 0 where
+  pub ballot : new ≡ b
   pub answer : result ≡ given

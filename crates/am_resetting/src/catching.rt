@@ -217,6 +217,7 @@ fn piece_for<'a>(
 /// A fetched entry comes (docs/PROTOCOL.md, "Ballots and views"). Elsewhere where it isn't of the promised view's list; the
 /// first refusal where it can't be stored; else what the unfinished ballot comes to, or without one Stored, with an Ack where
 /// the view is reached. The node must have a list.
+#[inline(never)]
 pub fn on_piece<'a>(parts: &mut Parts, arrival: &Arrival, entry: &EntryRef) -> Reply<'a>
     requires logged { has_log parts.old.status ≡ true }
     requires entry { IsEntry entry.now }

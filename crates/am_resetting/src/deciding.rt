@@ -5,9 +5,10 @@ ghost use Rattle.am_base.specs.declared.entry.Entry.TheVariants.{View};
 ghost use Rattle.am_model.specs.Ballots.{with_end, with_answer, decide, decided_view, decide_view, trim_for, taken_by};
 ghost use Rattle.am_state.specs.Reports.{reports_from, least_of};
 ghost use Rattle.am_ballots.specs.Kept.{ballot_of};
-ghost use Rattle.am_resetting.specs.Deciding.{Answered, IsTakenOut, MayBeView, MayStore};
+ghost use Rattle.am_resetting.specs.Deciding.{Answered, IsTakenOut, MayBeView, MayStore, put_back};
 ghost use Rattle.am_handlers.specs.Verdicts.{ComesTo, IsTold};
 
+use crate::promising::put_back;
 use crate::reading::{base_of, name_of};
 use am_ballots::ballot::Ballot;
 use am_base::entry::{EntryParts, EntryRef, GroupView};
@@ -59,25 +60,20 @@ pub fn store(parts: &mut Parts, base: u32, entry: &EntryRef)
 }
 
 /// The ballot ends with this answer.
-fn close(parts: &mut Parts, mut ballot: Ballot, answer: Outcome) -> Outcome
-    requires resilience { ballot.resilience ≤ 15 }
+fn close(ballot: &mut Ballot, answer: Outcome) -> Outcome
     requires plain { is_took answer ≡ false }
-    ensures { Answered parts.old (with_end (ballot_of ballot) answer) answer result parts.new }
+    ensures { Answered (with_end (ballot_of ballot.old) answer) answer result (ballot_of ballot.new) }
 {
     ballot.end(&answer);
-    parts.ballot = Some(ballot);
     answer
 }
 
 /// The ballot goes on, and this is its answer.
-fn keep_on(parts: &mut Parts, mut ballot: Ballot, answer: Outcome) -> Outcome
-    requires own { IsOwnBallot (node_of parts.old) (ballot_of ballot) }
-    requires is_open { ballot.is_over ≡ false }
+fn keep_on(ballot: &mut Ballot, answer: Outcome) -> Outcome
     requires plain { is_took answer ≡ false }
-    ensures { Answered parts.old (with_answer (ballot_of ballot) answer) answer result parts.new }
+    ensures { Answered (with_answer (ballot_of ballot.old) answer) answer result (ballot_of ballot.new) }
 {
     ballot.go_on(&answer);
-    parts.ballot = Some(ballot);
     answer
 }
 
@@ -135,33 +131,37 @@ fn restart(parts: &mut Parts, base: u32)
 }
 
 /// Pushes the view of these members, and ends the ballot.
-fn push_view(parts: &mut Parts, ballot: Ballot, names: Names) -> Outcome
-    requires ballot { IsTakenOut (node_of parts.old) (ballot_of ballot) }
+fn push_view(parts: &mut Parts, ballot: &mut Ballot, names: Names) -> Outcome
+    requires ballot { IsTakenOut (node_of parts.old) (ballot_of ballot.old) }
     requires names { MayBeView (node_of parts.old) names }
     requires room { nat_lt (parts.old.core.rules.window + 16 - size names)
         (top_of parts.old.core.log + 1 - parts.old.core.base) ≡ false }
     ensures comes { (all : Node) → IsEndOf all (node_of parts.old)
-        → ComesTo (decide_view all (ballot_of ballot) names) result (node_of parts.new) }
+        → ComesTo (decide_view all (ballot_of ballot.old) names) result
+        (put_back (node_of parts.new) (ballot_of ballot.new)) }
     ensures told { IsTold result }
+    ensures own { IsOwnBallot (node_of parts.new) (ballot_of ballot.new) }
 {
     let _before = parts.accept_front();
     let answer = decided_answer(parts, names);
     let base = base_of(parts);
-    push(parts, &view_of(parts, &ballot, names));
+    push(parts, &view_of(parts, ballot, names));
     restart(parts, base);
-    close(parts, ballot, answer)
+    close(ballot, answer)
 }
 
 /// Pushes the view of these members, where there is room for so many. Crowded where there isn't, else Decided; the ballot ends.
-fn decide_view(parts: &mut Parts, ballot: Ballot, names: Names) -> Outcome
-    requires ballot { IsTakenOut (node_of parts.old) (ballot_of ballot) }
+fn decide_view(parts: &mut Parts, ballot: &mut Ballot, names: Names) -> Outcome
+    requires ballot { IsTakenOut (node_of parts.old) (ballot_of ballot.old) }
     requires names { MayBeView (node_of parts.old) names }
     ensures comes { (all : Node) → IsEndOf all (node_of parts.old)
-        → ComesTo (decide_view all (ballot_of ballot) names) result (node_of parts.new) }
+        → ComesTo (decide_view all (ballot_of ballot.old) names) result
+        (put_back (node_of parts.new) (ballot_of ballot.new)) }
     ensures told { IsTold result }
+    ensures own { IsOwnBallot (node_of parts.new) (ballot_of ballot.new) }
 {
     if is_crowded(parts, names) {
-        return close(parts, ballot, crowded_answer(parts));
+        return close(ballot, crowded_answer(parts));
     }
     push_view(parts, ballot, names)
 }
@@ -177,48 +177,64 @@ fn least_taken(parts: &Parts, ballot: &Ballot, names: Names) -> u32
 }
 
 /// Trims the list to what these members have taken, and pushes their view.
-fn trim_and_decide(parts: &mut Parts, ballot: Ballot, names: Names) -> Outcome
-    requires ballot { IsTakenOut (node_of parts.old) (ballot_of ballot) }
+fn trim_and_decide(parts: &mut Parts, ballot: &mut Ballot, names: Names) -> Outcome
+    requires ballot { IsTakenOut (node_of parts.old) (ballot_of ballot.old) }
     requires names { MayBeView (node_of parts.old) names }
     ensures comes { (all : Node) → IsEndOf all (node_of parts.old)
-        → ComesTo (decide_view (trim_for all (ballot_of ballot) names) (ballot_of ballot) names)
-        result (node_of parts.new) }
+        → ComesTo (decide_view (trim_for all (ballot_of ballot.old) names) (ballot_of ballot.old) names)
+        result (put_back (node_of parts.new) (ballot_of ballot.new)) }
     ensures told { IsTold result }
+    ensures own { IsOwnBallot (node_of parts.new) (ballot_of ballot.new) }
 {
-    let least = least_taken(parts, &ballot, names);
+    let least = least_taken(parts, ballot, names);
     trim(parts, least);
     decide_view(parts, ballot, names)
 }
 
-/// Looks at an unfinished ballot that was taken out of the parts (docs/PROTOCOL.md, "A ballot"), and puts it back. NotIn where
-/// the coordinator isn't needed; Waiting for who is needed and neither voted nor was given up; Fetching from who holds the best
-/// vote; TooFew where fewer than the least size are left; else what pushing the view comes to.
-pub fn decide(parts: &mut Parts, ballot: Ballot) -> Outcome
-    requires { IsTakenOut (node_of parts.old) (ballot_of ballot) }
+/// Looks at an unfinished ballot that was taken out of the parts, and changes it where it stands, so that it isn't copied for each
+/// answer that it may get.
+fn look(parts: &mut Parts, ballot: &mut Ballot) -> Outcome
+    requires { IsTakenOut (node_of parts.old) (ballot_of ballot.old) }
     ensures comes { (all : Node) → IsEndOf all (node_of parts.old)
-        → ComesTo (decide all (ballot_of ballot)) result (node_of parts.new) }
+        → ComesTo (decide all (ballot_of ballot.old)) result
+        (put_back (node_of parts.new) (ballot_of ballot.new)) }
     ensures told { IsTold result }
+    ensures own { IsOwnBallot (node_of parts.new) (ballot_of ballot.new) }
 {
     let own = own_vote(parts);
     let who = name_of(parts);
     let best = ballot.best(who, &own);
     let needed = best.members();
     if !needed.has(who) {
-        return close(parts, ballot, Outcome::NotIn { best: best.view() });
+        return close(ballot, Outcome::NotIn { best: best.view() });
     }
     let waited = ballot.waited_for(who, needed);
     if 0 < waited.len() {
-        return keep_on(parts, ballot, Outcome::Waiting { names: waited });
+        return keep_on(ballot, Outcome::Waiting { names: waited });
     }
     let from = best.by();
     if from != who {
         let want = own.top + 1;
-        return keep_on(parts, ballot, Outcome::Fetching { from, want });
+        return keep_on(ballot, Outcome::Fetching { from, want });
     }
     let left = ballot.left_in(needed);
     let (got, least) = (left.len(), u32::from(ballot.least()));
     if got < least {
-        return close(parts, ballot, Outcome::TooFew { got, least });
+        return close(ballot, Outcome::TooFew { got, least });
     }
     trim_and_decide(parts, ballot, left)
+}
+
+/// Looks at an unfinished ballot that was taken out of the parts (docs/PROTOCOL.md, "A ballot"), and puts it back. NotIn where
+/// the coordinator isn't needed; Waiting for who is needed and neither voted nor was given up; Fetching from who holds the best
+/// vote; TooFew where fewer than the least size are left; else what pushing the view comes to.
+pub fn decide(parts: &mut Parts, mut ballot: Ballot) -> Outcome
+    requires { IsTakenOut (node_of parts.old) (ballot_of ballot) }
+    ensures comes { (all : Node) → IsEndOf all (node_of parts.old)
+        → ComesTo (decide all (ballot_of ballot)) result (node_of parts.new) }
+    ensures told { IsTold result }
+{
+    let answer = look(parts, &mut ballot);
+    put_back(parts, ballot);
+    answer
 }

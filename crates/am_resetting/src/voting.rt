@@ -107,6 +107,7 @@ fn take_vote<'a>(
 
 /// Another name votes: Overtaken where its stamp is above the promise; Elsewhere where no unfinished ballot has it; Known where
 /// the name was given up; else what the ballot comes to.
+#[inline(never)]
 pub fn on_vote<'a>(parts: &mut Parts, from: Name, stamp: Stamp, vote: &Vote) -> Reply<'a>
     requires within { IsStamp stamp }
     requires number { top_of parts.old.core.log < most_number }
@@ -161,6 +162,7 @@ fn give_up_of<'a>(parts: &mut Parts, name: Name, ballot: Ballot) -> Reply<'a>
 
 /// A stopped name is given up: NotCoordinator where there is no unfinished ballot, Unfit for the node itself, else what the
 /// ballot comes to.
+#[inline(never)]
 pub fn on_give_up<'a>(parts: &mut Parts, name: Name) -> Reply<'a>
     requires number { top_of parts.old.core.log < most_number }
     ensures { Replies (give_up_row (node_of parts.old) name) result

@@ -1,7 +1,7 @@
 use Rattle.am_resetting.proofs.DecidingWords.{◌≡◌, ◌+◌, ◌-◌, ◌≤◌, ℕ, List, length, true, Some, ap, sym, subst, ◌∙◌, arith, nat_tests, Entry, View, Stamp}
 use Rattle.am_resetting.proofs.DecidingWords.{Outcome, fits, size, has, stamp_lt, IsKept, reports_from, NodeKeeps, node_of, ballot_of, Node, Ballot, image_of}
-use Rattle.am_resetting.proofs.DecidingWords.{push_entry, with_end, decided_view, IsEndOf, has_size, IsTakenOut, MayBeView}
-use Rattle.am_resetting.proofs.{Orders.lt_self, Views.fits_view, Nodes.keeps_pushed, Nodes.taken_idle, Verdicts.decided_comes}
+use Rattle.am_resetting.proofs.DecidingWords.{push_entry, with_end, decided_view, IsEndOf, has_size, IsTakenOut, MayBeView, put_back}
+use Rattle.am_resetting.proofs.{Orders.lt_self, Views.fits_view, Nodes.keeps_pushed, Nodes.taken_idle, Verdicts.decided_comes, Verdicts.own_ended}
 use Rattle.am_resetting.proofs.deciding.push_view.Goals as goal
 
 -- the View of a ballot that was taken out fits
@@ -22,7 +22,7 @@ own_view_keeps m b names capacity kept is may keeps =
 
 pub push-requires-clause-fits : goal.push-requires-clause-fits
 push-requires-clause-fits c = ap (fits (image_of (node_of c.args.parts.now))) c.view_of.ensures.value
-    ∙ own_view_fits (node_of c.args.parts.now) (ballot_of c.args.ballot) c.args.names c.requires.ballot c.requires.names
+    ∙ own_view_fits (node_of c.args.parts.now) (ballot_of c.args.ballot.now) c.args.names c.requires.ballot c.requires.names
 
 pub push-requires-clause-room : goal.push-requires-clause-room
 push-requires-clause-room c =
@@ -37,18 +37,22 @@ pub push-requires-clause-keeps : goal.push-requires-clause-keeps
 push-requires-clause-keeps c =
     let old = node_of c.args.parts.now in
     subst (λ (e : Entry). NodeKeeps (push_entry old e)) (sym c.view_of.ensures.value)
-    (own_view_keeps old (ballot_of c.args.ballot) c.args.names
+    (own_view_keeps old (ballot_of c.args.ballot.now) c.args.names
     (old.core.rules.window + 15) c.accept_front-before.ensures.kept c.requires.ballot c.requires.names c.args.parts.now.keeps)
 
 pub returns-clause-comes : goal.returns-clause-comes
 returns-clause-comes c =
     let old = node_of c.args.parts.now in
     let mid = node_of c.push.new.parts in
-    let b = ballot_of c.args.ballot in
+    let b = ballot_of c.args.ballot.now in
     let e = View (decided_view old b c.args.names) in
-    decided_comes old mid (node_of c.close.new.parts) b c.args.names c.close.result c.requires.room
+    decided_comes old mid (put_back (node_of c.restart.new.parts) (ballot_of c.close.new.ballot)) b c.args.names c.close.result c.requires.room
     (λ all end. subst (λ (x : Entry). IsEndOf (push_entry all x) mid) c.view_of.ensures.value (c.push.ensures.changes all end))
     (c.close.ensures.answer ∙ c.decided_answer-answer.ensures.value)
-    (c.close.ensures.node ∙ ap (λ (x : Node). record x { ballot = Some (with_end b c.decided_answer-answer.result) }) c.restart.ensures
+    (ap (put_back (node_of c.restart.new.parts)) c.close.ensures.ballot ∙ ap (λ (x : Node). record x { ballot = Some (with_end b c.decided_answer-answer.result) }) c.restart.ensures
     ∙ ap (λ k. record mid { reports = reports_from k; ballot = Some (with_end b c.decided_answer-answer.result) }) c.base_of-base.ensures
     ∙ ap (λ (o : Outcome). record mid { reports = reports_from old.core.base; ballot = Some (with_end b o) }) (sym c.close.ensures.answer))
+
+pub returns-clause-own : goal.returns-clause-own
+returns-clause-own c =
+    own_ended (node_of c.restart.new.parts) (ballot_of c.args.ballot.now) c.close.ensures (c.requires.ballot.own).resilience
