@@ -40,8 +40,8 @@ typedef struct {
     void *at;
 } muoswyld_node;
 
-/* So many bytes of stack a call takes at most: `muoswyld_step` takes the most, where a ballot is looked at. */
-#define MUOSWYLD_STACK 163840
+/* So many bytes of stack a call takes at most: `muoswyld_step` and `muoswyld_do` take the most, where a vote comes to a ballot. */
+#define MUOSWYLD_STACK 65536
 
 /* What a call gives. */
 enum {
