@@ -1,0 +1,3 @@
+mod Words
+pub mod Rows
+pub mod Calm

@@ -1,0 +1,49 @@
+-- The lossless schedule in which applications take, too, and what is claimed of it.
+use Rattle.std.specs.Prelude.{◌≡◌, ℕ, zero, suc, ◌-◌, ◌≤◌, List, [], ◌∷◌, ◌++◌, true, All}
+use Rattle.am_base.specs.Founding.{Rules, MayFound}
+use Rattle.am_base.specs.Names.{has}
+use Rattle.am_group.specs.declared.event.Act.TheVariants as act
+use Rattle.am_group.specs.declared.event.Event.{Event}
+use Rattle.am_model.specs.Node.{top}
+use Rattle.am_play.specs.Settle.{Settling, and_then, event_at, running, round}
+use Rattle.am_play.specs.World.{World, current, run}
+use Rattle.am_headline.specs.Calm.{Repair, Calm}
+use Rattle.am_headline.specs.Rounds.{IsOurs}
+
+-- ---- the schedule
+
+unfoldable pub so_many : ℕ → Event → List Event
+so_many zero e = []
+so_many (suc left) e = e ∷ so_many left e
+
+-- a place's application takes all that its node has accepted
+abbrev pub takes_of : World → ℕ → List Event
+takes_of w place = let m = w.nodes (current w place) in so_many (m.core.acc - m.core.taken) (event_at place act.Take)
+
+unfoldable pub takes_at : World → List ℕ → List Event
+takes_at w [] = []
+takes_at w (place ∷ places) = takes_of w place ++ takes_at w places
+
+-- so does the one of each place that runs
+abbrev pub takes : World → List Event
+takes w = takes_at w (running w)
+
+-- and then there is a round
+abbrev pub taking_round : Settling → Settling
+taking_round s = round (and_then s (takes s.world))
+
+unfoldable pub taking_rounds : ℕ → Settling → Settling
+taking_rounds zero s = s
+taking_rounds (suc left) s = taking_rounds left (taking_round s)
+
+-- ---- claims
+
+-- ticks, hearings of the schedule's own letters, and takes
+pub data IsTaking (r : Repair) : Event → Type 0 where
+  ours : (e : Event) → IsOurs r e → IsTaking r e
+  takes_one : (place : ℕ) → IsTaking r (event_at place act.Take)
+
+-- a calm world of a run stays calm through them
+abbrev pub TakingStaysCalm : Type 0
+TakingStaysCalm = (rules : Rules) (events more : List Event) (r : Repair) → MayFound rules → Calm r (run rules events) → All (IsTaking r) more
+    → Calm r (run rules (events ++ more))
