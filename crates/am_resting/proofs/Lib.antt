@@ -1,3 +1,5 @@
 mod Words
 pub mod Rows
 pub mod Calm
+pub mod Given
+pub mod Rounds
