@@ -3,3 +3,4 @@ pub mod Rows
 pub mod Calm
 pub mod Given
 pub mod Rounds
+pub mod Answered

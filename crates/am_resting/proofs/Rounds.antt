@@ -3,7 +3,7 @@ use Rattle.am_resting.proofs.Words.{◌≡◌, ℕ, zero, suc, ◌+◌, ◌*◌,
 use Rattle.am_resting.proofs.Words.{Rules, MayFound, has, Event, top, Settling, and_then, World, run, happens, happen, run_owned, event_at, Act, Repair, Calm, IsOurs}
 use Rattle.am_resting.proofs.Words.{Fine, fine_goes, letters_more, takes, taking_round, taking_rounds, after_rounds, HasAll, TakingRepairs, HasCaughtUp}
 use Rattle.am_resting.proofs.Words.{after_waves, round_is, Stable, round_keeps, round_stores, HasStored, AllStored, AllKnown, round_reports, round_accepts}
-use Rattle.am_resting.proofs.Words.{leader_accepts, ◌-◌}
+use Rattle.am_resting.proofs.Words.{leader_accepts, ◌-◌, ◌/◌, repair_of, calm_begins, repairable_agrees, round_count, RepairedByTaking, Node, current}
 use Rattle.am_resting.proofs.Calm.{take_goes, take_fine}
 use Rattle.am_resting.proofs.Given.{takes_keep, takes_give}
 
@@ -144,3 +144,15 @@ taking_repairs rules events r many may calm sent near name there =
       sent = sent;
       each = λ i here other. (let have = near i here in record { fine = fine; stored_ = omega arith });
     }) name there
+
+pub repaired_by_taking : RepairedByTaking
+repaired_by_taking rules events place may low lawful repair name there =
+    let w = run rules events in
+    let q = current w place in
+    let k = (rules.window + 22) / 8 in
+    let b = calm_begins rules events place may low repair (repairable_agrees rules events place may low lawful repair) in
+    let behind = b.1 in
+    let enough : top (w.nodes q) ≤ (w.nodes q).core.base + 8 * k = omega arith in
+    let count : round_count rules ≡ k + 2 = omega arith in
+    subst (λ n. HasAll (after_rounds n w) name (top (w.nodes q))) (sym count)
+    (all_have rules (repair_of w q) k (w.nodes q).core.base w enough b.0 name there)

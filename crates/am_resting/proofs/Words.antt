@@ -18,7 +18,7 @@ pub use Rattle.am_headline.proofs.RepairLeading.{Trusts, leads_as, trusts_refres
 pub use Rattle.am_headline.proofs.{RepairLists.LogGrows, RepairLists.grows_same, Ends.reports_stay, Saying.Grow, Saying.calm_stays, Fine.Fine, Fine.fine_goes}
 pub use Rattle.am_headline.proofs.{Fine.grow_goes, Steps.letter_either, Fine.letters_more}
 pub use Rattle.am_resting.specs.Taking.{takes_of, takes, taking_round, after_rounds, IsTaking, ours, takes_one, TakingStaysCalm, HasAll}
-pub use Rattle.am_resting.specs.Taking.{TakingRepairs}
+pub use Rattle.am_resting.specs.Taking.{TakingRepairs, RepairedByTaking, AnsweredByTaking}
 unfoldable pub use Rattle.am_resting.specs.Taking.{so_many, takes_at, taking_rounds}
 pub use Rattle.am_headline.proofs.RepairWords.{size, tells_accepted, accept_of, letter_to, Report}
 pub use Rattle.am_headline.specs.Calm.{CalmNodes, AgreesFrom}
@@ -32,3 +32,12 @@ pub use Rattle.am_headline.proofs.{Ticking.node_is, Ticking.runs_there, Nodes.ac
 pub use Rattle.am_headline.proofs.Rounds.{after_waves, round_is, Stable, round_keeps, round_stores}
 pub use Rattle.am_headline.proofs.{ThirdWave.HasStored, Repaired.AllStored, Accepting.AllKnown, Accepting.round_reports, Accepting.round_accepts}
 pub use Rattle.am_headline.proofs.{Accepting.leader_accepts}
+pub use Rattle.am_headline.proofs.{Beginning.repair_of, Beginning.calm_begins, RepairedSettled.repairable_agrees}
+pub use Rattle.am_play.specs.{Lawful.lawful_front, Settle.round_count}
+pub use Rattle.am_headline.specs.Claim.{MayRepair}
+pub use Rattle.am_model.specs.Node.{members}
+pub use Rattle.am_headline.proofs.RepairWords.{◌/◌}
+pub use Rattle.am_headline.proofs.AnsweredRuns.{accepted_are_answered}
+pub use Rattle.am_headline.specs.Answers.{AnswersUpTo}
+pub use Rattle.am_headline.proofs.RepairWords.{ticks, hearings}
+unfoldable pub use Rattle.am_headline.proofs.RepairWords.{waves}

@@ -1,13 +1,15 @@
 -- The lossless schedule in which applications take, too, and what is claimed of it.
-use Rattle.std.specs.Prelude.{◌≡◌, ℕ, zero, suc, ◌+◌, ◌-◌, ◌*◌, ◌≤◌, List, [], ◌∷◌, ◌++◌, length, true, All}
+use Rattle.std.specs.Prelude.{◌≡◌, ℕ, zero, suc, ◌+◌, ◌-◌, ◌*◌, ◌<◌, ◌≤◌, List, [], ◌∷◌, ◌++◌, length, true, All}
 use Rattle.am_base.specs.Founding.{Rules, MayFound}
 use Rattle.am_base.specs.Names.{has}
 use Rattle.am_group.specs.declared.event.Act.TheVariants as act
 use Rattle.am_group.specs.declared.event.Event.{Event}
-use Rattle.am_model.specs.Node.{top}
-use Rattle.am_play.specs.Settle.{Settling, and_then, event_at, running, round}
+use Rattle.am_model.specs.Node.{top, members}
+use Rattle.am_play.specs.Lawful.{lawful_front}
+use Rattle.am_play.specs.Settle.{Settling, and_then, event_at, running, round, round_count}
 use Rattle.am_play.specs.World.{World, current, happen, run}
-use Rattle.am_headline.specs.Claim.{HasCaughtUp}
+use Rattle.am_headline.specs.Claim.{MayRepair, HasCaughtUp}
+use Rattle.am_headline.specs.Answers.{AnswersUpTo}
 use Rattle.am_headline.specs.Calm.{Repair, Calm}
 use Rattle.am_headline.specs.Rounds.{IsOurs}
 
@@ -65,3 +67,17 @@ TakingRepairs = (rules : Rules) (events : List Event) (r : Repair) (many : ℕ) 
     → r.sent ≤ length (run rules events).letters
     → ((name : ℕ) → has r.members name ≡ true → r.high ≤ top ((run rules events).nodes name) + 8 * many)
     → (name : ℕ) → has r.members name ≡ true → HasAll (after_rounds (many + 2) (run rules events)) name r.high
+
+-- and so in every lawful run that may be repaired, after as many rounds as a schedule has in which nobody takes
+abbrev pub RepairedByTaking : Type 0
+RepairedByTaking = (rules : Rules) (events : List Event) (place : ℕ) → MayFound rules → place < 16 → lawful_front rules events ≡ events
+    → MayRepair (run rules events) place
+    → (name : ℕ) → has (members ((run rules events).nodes (current (run rules events) place))) name ≡ true
+    → HasAll (after_rounds (round_count rules) (run rules events)) name (top ((run rules events).nodes (current (run rules events) place)))
+
+-- and no own send of theirs is pending that stood there
+abbrev pub AnsweredByTaking : Type 0
+AnsweredByTaking = (rules : Rules) (events : List Event) (place : ℕ) → MayFound rules → place < 16 → lawful_front rules events ≡ events
+    → MayRepair (run rules events) place
+    → (name : ℕ) → has (members ((run rules events).nodes (current (run rules events) place))) name ≡ true
+    → AnswersUpTo ((after_rounds (round_count rules) (run rules events)).nodes name) (top ((run rules events).nodes (current (run rules events) place)))
