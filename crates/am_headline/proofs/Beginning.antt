@@ -1,6 +1,6 @@
 -- Where a group may be repaired and its lists agree, the world is calm; so the schedule repairs it.
 use Rattle.am_headline.proofs.RepairWords.{false_from_ne_true, inl, inr, ◌≡◌, ℕ, ◌<◌, true, false, length, refl, sym, ap, ◌∙◌, subst, arith, cases_lt, Image}
-use Rattle.am_headline.proofs.RepairWords.{Rules, place_of, life_of, has, members_of, members_at, image-top, Node, top, image_of, view, members, acts}
+use Rattle.am_headline.proofs.RepairWords.{List, Event, ◌+◌, MayFound, Rules, place_of, life_of, has, members_of, members_at, image-top, Node, top, image_of, view, members, acts}
 use Rattle.am_headline.proofs.RepairWords.{is_member, stranger, has_departed, World, current, is_stopped, run, MayRepair, AllOwned, run_owned}
 use Rattle.am_headline.proofs.RepairWords.{IsAtRest, Repair, Leads, ◌≤◌, split, FollowsView, IsApart, IsLeaver, is_past, Calm, Agree, RepairsWhereListsAgree}
 use Rattle.am_headline.specs.Claim.{IsOut}
@@ -61,7 +61,7 @@ there_now rules w name laws old a runs =
 
 -- ---- the beginning
 
-abbrev repair_of : World → ℕ → Repair
+abbrev pub repair_of : World → ℕ → Repair
 repair_of w q = record {
   by = q;
   view = view (w.nodes q);
@@ -189,10 +189,19 @@ stored_first rules w place b =
           record { fine = fine; stored_ = omega arith });
     }
 
+-- so a calm world begins there, in which no member is more than the window and 15 entries behind
+pub calm_begins : (rules : Rules) (events : List Event) (place : ℕ) → MayFound rules → place < 16 → MayRepair (run rules events) place
+    → (let w = run rules events in let q = current w place in Agree w (w.nodes q)
+    → AllStored rules (repair_of w q) (w.nodes q).core.base w × (top (w.nodes q) ≤ (w.nodes q).core.base + (rules.window + 15)))
+calm_begins rules events place may low repair agree =
+    let w = run rules events in
+    let q = current w place in
+    let b : Begun rules w place = assumption (run_owned rules events may, old_lives rules events, run_leaves rules events) in
+    (stored_first rules w place b, (b.laws.kept q).few)
+
 pub repairs_where_lists_agree : RepairsWhereListsAgree
 repairs_where_lists_agree rules events place may low repair agree name there =
     let w = run rules events in
     let q = current w place in
-    let b : Begun rules w place = assumption (run_owned rules events may, old_lives rules events, run_leaves rules events) in
-    let few = (b.laws.kept q).few in
-    all_catch_up rules (repair_of w q) (w.nodes q).core.base w few (stored_first rules w place b) name there
+    let b = calm_begins rules events place may low repair agree in
+    all_catch_up rules (repair_of w q) (w.nodes q).core.base w b.1 b.0 name there

@@ -3,6 +3,7 @@ use Rattle.am_headline.proofs.RepairedWords.{lawful_front, ◌≡◌, ℕ, ◌<�
 use Rattle.am_headline.proofs.RepairedWords.{is_member, top, members, World, start, current, run, settle_events, MayRepair, HasCaughtUp, Repairs, split}
 use Rattle.am_headline.proofs.RepairedWords.{runs_go_on, taken_holds, steps_move, held, repairs_where_lists_agree, sequencers_trim_known, acting}
 use Rattle.am_headline.proofs.RepairedWords.{one_list_agrees, RepairableTrims, RepairableCounts}
+use Rattle.am_headline.specs.Standing.{Agree}
 use Rattle.am_headline.proofs.{OneList.lawful_events, OneList.small_name, OneList.member_small, OneList.listed_runs, OneList.leader_runs}
 use Rattle.am_headline.proofs.{OneList.repairable_is_one_list, Counted.repairable_counts, Trims.Trims, Trims.settled_trims, Kept.trims_start, Kept.trims_keeps}
 
@@ -27,11 +28,16 @@ trims_taken rules events place may low lawful repair name member =
     sym_name : (q name : ℕ) → (name == q) ≡ true → q ≡ name
     sym_name q name u = grind (arith, nat_tests)
 
+-- so its lists agree
+pub repairable_agrees : (rules : Rules) (events : List Event) (place : ℕ) → MayFound rules → place < 16 → lawful_front rules events ≡ events
+    → MayRepair (run rules events) place → Agree (run rules events) ((run rules events).nodes (current (run rules events) place))
+repairable_agrees rules events place may low lawful repair =
+    one_list_agrees rules events place may low repair (repairable_is_one_list rules events place may low lawful repair)
+    (record { trims = trims_taken rules events place may low lawful repair; counted = repairable_counts rules events place may low lawful repair })
+
 pub repairs : Repairs
 repairs rules events place may low lawful repair =
-    repairs_where_lists_agree rules events place may low repair
-    (one_list_agrees rules events place may low repair (repairable_is_one_list rules events place may low lawful repair)
-    (record { trims = trims_taken rules events place may low lawful repair; counted = repairable_counts rules events place may low lawful repair }))
+    repairs_where_lists_agree rules events place may low repair (repairable_agrees rules events place may low lawful repair)
 
 -- and the run of all that was done, the events that settle it among them
 pub settled_is_repaired : (rules : Rules) (events : List Event) (place : ℕ) → MayFound rules → place < 16 → lawful_front rules events ≡ events

@@ -1,12 +1,15 @@
 -- The lossless schedule in which applications take, too, and what is claimed of it.
-use Rattle.std.specs.Prelude.{◌≡◌, ℕ, zero, suc, ◌-◌, ◌≤◌, List, [], ◌∷◌, ◌++◌, true, All}
+use Rattle.std.specs.Prelude.{◌≡◌, ℕ, zero, suc, ◌+◌, ◌-◌, ◌*◌, ◌<◌, ◌≤◌, List, [], ◌∷◌, ◌++◌, length, true, All}
 use Rattle.am_base.specs.Founding.{Rules, MayFound}
 use Rattle.am_base.specs.Names.{has}
 use Rattle.am_group.specs.declared.event.Act.TheVariants as act
 use Rattle.am_group.specs.declared.event.Event.{Event}
-use Rattle.am_model.specs.Node.{top}
-use Rattle.am_play.specs.Settle.{Settling, and_then, event_at, running, round}
-use Rattle.am_play.specs.World.{World, current, run}
+use Rattle.am_model.specs.Node.{top, members}
+use Rattle.am_play.specs.Lawful.{lawful_front}
+use Rattle.am_play.specs.Settle.{Settling, and_then, event_at, running, round, round_count}
+use Rattle.am_play.specs.World.{World, current, happen, run}
+use Rattle.am_headline.specs.Claim.{MayRepair, HasCaughtUp}
+use Rattle.am_headline.specs.Answers.{AnswersUpTo}
 use Rattle.am_headline.specs.Calm.{Repair, Calm}
 use Rattle.am_headline.specs.Rounds.{IsOurs}
 
@@ -47,3 +50,34 @@ pub data IsTaking (r : Repair) : Event → Type 0 where
 abbrev pub TakingStaysCalm : Type 0
 TakingStaysCalm = (rules : Rules) (events more : List Event) (r : Repair) → MayFound rules → Calm r (run rules events) → All (IsTaking r) more
     → Calm r (run rules (events ++ more))
+
+-- the world after so many taking rounds
+abbrev pub after_rounds : ℕ → World → World
+after_rounds many w = (taking_rounds many (record { world = w; events = [] })).world
+
+-- a member has stored and accepted all up to a number, and where all take once more, its application has it
+pub record HasAll (w : World) (name number : ℕ) : Type 0 where
+  pub caught : HasCaughtUp (w.nodes name) number
+  pub given : number ≤ ((happen w (takes w)).nodes name).core.taken
+
+-- From a calm world of a run in which no member is more than so many entries behind, eight a round: two rounds more, and each member has all
+-- up to where the sequencer stood.
+abbrev pub TakingRepairs : Type 0
+TakingRepairs = (rules : Rules) (events : List Event) (r : Repair) (many : ℕ) → MayFound rules → Calm r (run rules events)
+    → r.sent ≤ length (run rules events).letters
+    → ((name : ℕ) → has r.members name ≡ true → r.high ≤ top ((run rules events).nodes name) + 8 * many)
+    → (name : ℕ) → has r.members name ≡ true → HasAll (after_rounds (many + 2) (run rules events)) name r.high
+
+-- and so in every lawful run that may be repaired, after as many rounds as a schedule has in which nobody takes
+abbrev pub RepairedByTaking : Type 0
+RepairedByTaking = (rules : Rules) (events : List Event) (place : ℕ) → MayFound rules → place < 16 → lawful_front rules events ≡ events
+    → MayRepair (run rules events) place
+    → (name : ℕ) → has (members ((run rules events).nodes (current (run rules events) place))) name ≡ true
+    → HasAll (after_rounds (round_count rules) (run rules events)) name (top ((run rules events).nodes (current (run rules events) place)))
+
+-- and no own send of theirs is pending that stood there
+abbrev pub AnsweredByTaking : Type 0
+AnsweredByTaking = (rules : Rules) (events : List Event) (place : ℕ) → MayFound rules → place < 16 → lawful_front rules events ≡ events
+    → MayRepair (run rules events) place
+    → (name : ℕ) → has (members ((run rules events).nodes (current (run rules events) place))) name ≡ true
+    → AnswersUpTo ((after_rounds (round_count rules) (run rules events)).nodes name) (top ((run rules events).nodes (current (run rules events) place)))

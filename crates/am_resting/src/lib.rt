@@ -1,9 +1,18 @@
 //! How a group in one view comes to rest: the lossless schedule in which applications take, too (docs/REPAIR.md).
 #![tactic(auto)]
 
-ghost use Rattle.am_resting.specs.Taking.{TakingStaysCalm};
+ghost use Rattle.am_resting.specs.Taking.{AnsweredByTaking, RepairedByTaking, TakingRepairs, TakingStaysCalm};
 
 /// A calm world of a run stays calm through ticks, hearings of the schedule's own letters, and takes.
 pub fn taking_stays_calm()
     ensures { TakingStaysCalm }
+{}
+
+/// Where no member of a calm world is more than eight times so many entries behind, two rounds more in which applications take bring each of
+/// them to where its sequencer stood, and its application is given all of that. So it is in every lawful run that may be repaired, after as many
+/// rounds as a schedule has in which nobody takes; and no own send that stood there is pending.
+pub fn taking_repairs()
+    ensures calm { TakingRepairs }
+    ensures repaired { RepairedByTaking }
+    ensures answered { AnsweredByTaking }
 {}
