@@ -104,14 +104,16 @@ unfolding with_record
 calm_recorded r w e o h =
     let v = with_record w e o in
     let a = same_alike r w v h refl in
-    let grow = grows_alike r w v a in
-    (record {
-      nodes = nodes_alike r w v h a;
-      current_ = h.current_;
-      runs = h.runs;
-      apart = h.apart;
-      letters = λ number l late there. calm_stays r w v l.packet grow (h.letters number l late there);
-    }, grow)
+    let grow = grows_alike r w v a in (
+      record {
+        nodes = nodes_alike r w v h a;
+        current_ = h.current_;
+        runs = h.runs;
+        apart = h.apart;
+        letters = λ number l late there. calm_stays r w v l.packet grow (h.letters number l late there);
+      },
+      grow,
+    )
 
 -- ---- a Take
 
@@ -202,17 +204,19 @@ calm_taken rules r w e name laws h few =
     let s = step (w.nodes name) does.Take in
     let v = with_step w e name s in
     let a = take_is_alike rules r w v name laws h few (one_changed w e name s) in
-    let grow = grows_alike r w v a in
-    (record {
-      nodes = nodes_alike r w v h a;
-      current_ = h.current_;
-      runs = h.runs;
-      apart = λ i none goes there. apart_alike r (w.nodes i) (v.nodes i) (a.each i)
-          (h.apart i none goes (subst (λ x. has_departed x ≡ false) (a.each i).status there));
-      letters = λ number l late there. either (letter_either w.letters s.letters number l there)
-          (λ old. calm_stays r w v l.packet grow (h.letters number l late old))
-          (λ new. take_letters r v (w.nodes name) new.0 l new.1);
-    }, grow)
+    let grow = grows_alike r w v a in (
+      record {
+        nodes = nodes_alike r w v h a;
+        current_ = h.current_;
+        runs = h.runs;
+        apart = λ i none goes there. apart_alike r (w.nodes i) (v.nodes i) (a.each i)
+            (h.apart i none goes (subst (λ x. has_departed x ≡ false) (a.each i).status there));
+        letters = λ number l late there. either (letter_either w.letters s.letters number l there)
+            (λ old. calm_stays r w v l.packet grow (h.letters number l late old))
+            (λ new. take_letters r v (w.nodes name) new.0 l new.1);
+      },
+      grow,
+    )
 
 by_if : (P : World → Type 0) (b : Bool) (u v : World) → P u → P v → P (if b then u else v)
 by_if P true u v f g = f
