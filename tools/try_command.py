@@ -6,7 +6,7 @@
 It copies the command into a folder without sources, so that whatever would build anything fails with status 70: help, versions and
 words that have no form must be answered there. With small programs in the place of the proved ones it has no room for what it keeps, or
 for what it writes. How it proves and builds is tried by try_building.py. Then it asks each tool for its page, calls it with words that have no form, and lets those for users write to a full
-device. Each piece of code of the pages must stand in the examples' crates. It prints what fails, and how many passed.
+device. Each piece of code of the pages must stand in the examples' crates, or in the example of the group in native code. It prints what fails, and how many passed.
 """
 
 import os
@@ -198,15 +198,29 @@ def pieces_of(page: pathlib.Path) -> list[str]:
     return re.findall(r"^```rust\n(.*?)^```$", page.read_text(), re.MULTILINE | re.DOTALL)
 
 
+# how many pieces each page has, so that none is overlooked
+PIECES = {"README.md": 1, "EMBEDDING.md": 4, "LIBRARY.md": 4, "MEMBER.md": 1}
+
+
+def shown(file: str) -> list[str]:
+    """The examples of a crate of Rust that its first comment has, without the lines that Rust's pages don't show."""
+    doc = re.sub(r"^//! ?", "", "\n".join(line for line in file.split("\n") if line.startswith("//!")), flags=re.MULTILINE)
+    return [re.sub(r"^# .*\n", "", piece, flags=re.MULTILINE) for piece in re.findall(r"^```\w*\n(.*?)^```$", doc, re.MULTILINE | re.DOTALL)]
+
+
 def page_faults(source: pathlib.Path):
     """Which pieces of code of the pages stand in no file of the examples' crates, but for indentation, what a file imports for its tests,
-    and contracts that a page leaves out."""
+    and contracts that a page leaves out; nor in the example of the group in native code, which is tried with its tests."""
     paths = (path for crate in ("am_examples", "am_tests_runs") for path in sorted((source / "crates" / crate / "src").glob("*.rt")))
     files = [re.sub(r"^use (crate::.*|std::test::\*);\n", "", path.read_text(), flags=re.MULTILINE) for path in paths]
     without = [re.sub(r"\n *ensures\b.*?(?=\n *\{\n)", "", file, flags=re.DOTALL) for file in files]
-    stand = [flat(file) for file in [*files, *without]]
+    native = shown((source / "runtime" / "group" / "src" / "lib.rs").read_text())
+    stand = [flat(file) for file in [*files, *without, *native]]
     for page in [source / "README.md", *sorted((source / "docs").glob("*.md"))]:
-        for piece in pieces_of(page):
+        pieces = pieces_of(page)
+        if len(pieces) != PIECES.get(page.name, 0):
+            yield f"{page.name}: it has {len(pieces)} pieces of code, and not {PIECES.get(page.name, 0)}"
+        for piece in pieces:
             if not any(flat(piece) in file for file in stand):
                 yield f"{page.name}: this stands in no example: {piece[:200]}"
 
@@ -242,8 +256,7 @@ def main() -> int:
         wrong = [*faults(top), *room_faults(top), *tool_faults(tools), *writing_faults(source), *page_faults(source), *try_building.building_faults(source)]
     for line in wrong:
         print(f"refused: {line}")
-    pieces = sum(len(pieces_of(page)) for page in [source / "README.md", *(source / "docs").glob("*.md")])
-    tried = 4 + len(WITHOUT_FORM) + 3 * (len(WITH_FORM) + len(tools)) + 7 + 2 * len(WRITES) + 1 + pieces + try_building.TRIED
+    tried = 4 + len(WITHOUT_FORM) + 3 * (len(WITH_FORM) + len(tools)) + 7 + 2 * len(WRITES) + 1 + sum(PIECES.values()) + try_building.TRIED
     print(f"tools/try_command.py: {tried - len(wrong)} passed, {len(wrong)} failed")
     return 1 if wrong else 0
 
