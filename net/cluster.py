@@ -136,6 +136,14 @@ def judged(merged: Merged, wanted: argparse.Namespace, text: str) -> tuple[list[
     return [*said, f"{play} gives all {len(events)} answers again"], 0
 
 
+def claimed_of(merged: Merged, last: str) -> dict[str, int] | None:
+    """The last number that each life took before the event from which on nothing is claimed; None where all is."""
+    if not last.startswith("void"):
+        return None
+    before = merged.steps[: int(last.split(" ")[-1]) - 1]
+    return {life.name: int(step.answer.split(" ")[1]) for life, step in before if step.answer.startswith("took ")}
+
+
 def options() -> argparse.Namespace:
     """The words of the command."""
     parser = argparse.ArgumentParser(description=__doc__, formatter_class=argparse.RawDescriptionHelpFormatter)
@@ -198,7 +206,7 @@ def ran(wanted: argparse.Namespace, made: pathlib.Path) -> int:
     if wanted.keep:
         (journals / "script.txt").write_text(text)
     said, status = judged(merged, wanted, text)
-    seen, is_seen_wrong = cluster.compared(merged.lives, text.endswith("\nlawful\n"))
+    seen, is_seen_wrong = cluster.compared(merged.lives, claimed_of(merged, text.splitlines()[-1]))
     write_out("".join(f"{line}\n" for line in [*said, *seen]))
     return max(status, is_seen_wrong)
 

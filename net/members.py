@@ -160,8 +160,9 @@ class Members:
         """What became of the datagrams."""
         raise NotImplementedError
 
-    def compared(self, lives: list[Life], is_lawful: bool) -> tuple[list[str], int]:
-        """Compares what the applications saw: what to say of it, and 1 where something is wrong. The journals have all of it here."""
+    def compared(self, lives: list[Life], claimed: dict[str, int] | None) -> tuple[list[str], int]:
+        """Compares what the applications saw, up to each life's last entry that is claimed where that isn't all: what to say of it, and 1
+        where something is wrong. The journals have all of it here."""
         return [], 0
 
 

@@ -6,12 +6,14 @@
 - Each message stands in the list once at most, and only where its sender sent it; those that were given by one way stand in their order.
 - A message whose send was answered stands at the position of the answer. Of a life that ended by its input all messages stand there.
 - What a life printed is what its journal says that its node gave it: all of it, or, where it was killed, the beginning.
+
+Where more stopped than the resilience, all but the last of these is looked at in what each life was given before that.
 """
 
 import json
 import pathlib
 from collections.abc import Iterator
-from dataclasses import dataclass
+from dataclasses import dataclass, replace
 from typing import NamedTuple
 
 from merge import Life
@@ -116,8 +118,9 @@ def gaps(life: Seen, whole: dict[At, dict]) -> Iterator[str]:
         spoke.add(sender)
 
 
-def of_sender(life: Seen, whole: dict[At, dict]) -> Iterator[str]:
-    """What of the list isn't what a life sent, in the order in which it sent it; and what is missing of it."""
+def of_sender(life: Seen, whole: dict[At, dict], claimed: int | None) -> Iterator[str]:
+    """What of the list isn't what a life sent, in the order in which it sent it; and what is missing of it, up to the last number that is
+    claimed of what it was given, where that isn't all."""
     places: dict[str, At] = {}
     given = {message for channel in life.channels for message in channel}
     for at, delivery in whole.items():
@@ -130,9 +133,10 @@ def of_sender(life: Seen, whole: dict[At, dict]) -> Iterator[str]:
         if order != sorted(order):
             yield f"messages of {life.name} don't stand in the order in which it was given them"
     for message, answer in life.answers.items():
-        if "sent" in answer and places.get(message) != At(answer["sent"], answer["index"]):
+        is_claimed = "sent" in answer and (claimed is None or answer["sent"] <= claimed)
+        if is_claimed and places.get(message) != At(answer["sent"], answer["index"]):
             yield f"{message[:20]!r} of {life.name} was answered {answer}, and stands at {places.get(message)}"
-    if life.has_ended:
+    if life.has_ended and claimed is None:
         refused = {message for message, answer in life.answers.items() if "error" in answer}
         for message in given - refused - places.keys():
             yield f"{message[:20]!r} of {life.name} stands nowhere, and it ended with all sent"
@@ -214,14 +218,20 @@ def against_journal(seen: Seen, life: Life | None) -> Iterator[str]:
         yield f"{seen.name} printed {len(seen.log)} deliveries, and its journal has {len(wanted)}"
 
 
-def differences(lives: list[Seen], journals: dict[str, Life]) -> list[str]:
-    """What is wrong with what the applications saw."""
-    whole, wrong = one_list(lives)
-    for life in lives:
+def differences(lives: list[Seen], journals: dict[str, Life], claimed: dict[str, int] | None = None) -> list[str]:
+    """What is wrong with what the applications saw. Where not all of the run is claimed, each life has a last number that is: the lives are
+    compared with each other up to there, and each with its own journal."""
+    most = {life.name: None if claimed is None else claimed.get(life.name, 0) for life in lives}
+    cut = lives
+    if claimed is not None:
+        cut = [replace(life, log=[it for it in life.log if it["number"] <= claimed.get(life.name, 0)]) for life in lives]
+    whole, wrong = one_list(cut)
+    for life in cut:
         if life.log and not begins(life):
             wrong.append(f"{life.name} was given {shown(life.log[0])} first")
         if life.log:
             wrong += gaps(life, whole)
-        wrong += of_sender(life, whole)
+        wrong += of_sender(life, whole, most[life.name])
+    for life in lives:
         wrong += against_journal(life, journals.get(life.name))
     return wrong

@@ -193,6 +193,12 @@ def comparing(_: Tried) -> list[str]:
         if not any(said in line for line in found):
             wrong.append(f"{what}: {found}")
     lives, journals = three()
+    lives[1].log[2] = message(2, 1, "0", "x")
+    claimed = {"0": 6, "1": 2}, {"0": 6, "1": 1}
+    of_lists = [[line for line in differences(lives, journals, each) if "its journal has" not in line] for each in claimed]
+    if not of_lists[0] or of_lists[1]:
+        wrong.append("what isn't claimed is compared, or what is isn't")
+    lives, journals = three()
     lives[0].log.append(message(7, 0, "0", "a"))
     journals["0"].steps.append(Step(0, "take", answer="took 7 data 0 9 50000161"))
     if not any("stands there twice" in line for line in differences(lives, journals)):
