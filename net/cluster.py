@@ -164,10 +164,11 @@ def options() -> argparse.Namespace:
     parser.add_argument("--native", action="store_true", help="members are processes of muoswyldd, and a relay makes the faults")
     parser.add_argument("--member", help="with --native, the command whose word run is a member; else the one that is built here")
     parser.add_argument("--least", type=number_of(int, 1, 16), help="with --native, the fewest members of a reset (a majority)")
+    parser.add_argument("--leave", action="store_true", help="with --native, the members leave at the end, all at once")
     parser.add_argument("--judge", help="the command whose word play judges; else the same")
     wanted = parser.parse_args()
-    if not wanted.native and (wanted.member or wanted.least):
-        parser.error("--member and --least are for --native")
+    if not wanted.native and (wanted.member or wanted.least or wanted.leave):
+        parser.error("--member, --least and --leave are for --native")
     if wanted.at_once and wanted.kill > wanted.nodes:
         parser.error(f"--at-once: there are no {wanted.kill} members to kill")
     try:

@@ -85,9 +85,13 @@ class Members:
         """Looks whether each member still runs."""
         for place, child in self.running.items():
             if child.poll() is not None:
-                errors = self.file(self.folder, "errors", place).read_text(errors="replace").split("\n")
-                last = next((line for line in reversed(errors) if line.strip()), "it said nothing")
-                raise Failed(f"member {self.name(place)} ended by itself with status {child.returncode}: {last.strip()}")
+                raise self.failed(place)
+
+    def failed(self, place: int) -> Failed:
+        """What to say of a member that ended by itself, with its last line."""
+        errors = self.file(self.folder, "errors", place).read_text(errors="replace").split("\n")
+        last = next((line for line in reversed(errors) if line.strip()), "it said nothing")
+        return Failed(f"member {self.name(place)} ended by itself with status {self.running[place].returncode}: {last.strip()}")
 
     def tell(self, place: int, line: str) -> None:
         """Gives a member a line."""
@@ -148,7 +152,7 @@ class Members:
             if not self.has_ended(place, ends):
                 self.late.append(self.name(place))
             elif child.returncode not in self.statuses or b"Traceback" in self.file(self.folder, "errors", place).read_bytes():
-                self.look()
+                raise self.failed(place)
 
     def stop(self) -> None:
         """Kills who still runs."""

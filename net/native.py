@@ -13,6 +13,7 @@ import queue
 import secrets
 import shlex
 import shutil
+import signal
 import socket
 import threading
 import time
@@ -139,6 +140,11 @@ class Running:
         else:
             self.callers[number // 2 % CALLERS].send(message)
 
+    def close(self) -> None:
+        """Ends its input, and its callers."""
+        for each in (self.input, *self.callers):
+            each.close()
+
     def seen(self) -> Seen:
         """What its application sent and saw."""
         self.log.read()
@@ -226,20 +232,24 @@ class Native(Members):
         return len({member.log.last() for member in running}) <= 1
 
     def end(self) -> None:
-        """Waits until all is sent and printed, and ends the members' inputs. Who isn't done in time is killed."""
+        """Waits until all is sent and printed, and ends the members' inputs, or has them leave. Who isn't done in time is killed."""
         ends = time.monotonic() + self.wanted.patience
         while not self.is_settled() and time.monotonic() < ends:
             self.look()
             time.sleep(0.02)
         self.look()
-        for place in self.running:
-            for each in (self.of_place[place].input, *self.of_place[place].callers):
-                each.close()
+        for place, child in self.running.items():
+            if self.wanted.leave:
+                child.send_signal(signal.SIGTERM)
+            else:
+                self.of_place[place].close()
         self.wait_for_all(max(ends, time.monotonic() + 1))
 
     def stop(self) -> None:
         """Kills who still runs, and ends the relay."""
         super().stop()
+        for member in self.all:
+            member.close()
         self.relay.close()
 
     def told(self, lives: list[Life]) -> list[str]:

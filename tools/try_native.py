@@ -109,7 +109,7 @@ def refusals(tried: Tried) -> list[str]:
         if found[0] != status or said not in found[2] or "Traceback" in found[2]:
             wrong.append(f"{given}: {found}")
     found = ran("cluster.py", "--member", tried.member)
-    if found[0] != 2 or "--member and --least are for --native" not in found[2]:
+    if found[0] != 2 or "--member, --least and --leave are for --native" not in found[2]:
         wrong.append(f"--member alone: {found}")
     return wrong
 
