@@ -104,8 +104,12 @@ class Members:
             self.look()
 
     def kill(self, place: int) -> None:
-        """Kills a member, and tells the others once it has ended: it can't act any more. Where it has no journal, an empty one says so."""
+        """Kills a member that has begun, or takes too long to."""
         self.has_begun(place)
+        self.remove(place)
+
+    def remove(self, place: int) -> None:
+        """Ends a process, and tells the others once it has ended: it can't act any more. Where it has no journal, an empty one says so."""
         child = self.running.pop(place)
         child.send_signal(signal.SIGKILL)
         child.wait()

@@ -25,6 +25,10 @@ from relay import HOST, Relay
 from seen import Log, Seen, differences
 
 MEMBER = pathlib.Path(__file__).resolve().parent.parent / "runtime" / "target" / "release" / "muoswyldd"
+# the status of a joiner that nobody welcomed, and what it says
+UNWELCOMED = 69, b"nobody welcomed it"
+# after the end of their inputs or the word to leave, how long members may take at least
+LAST_SECONDS = 10
 # how many callers are at a member's socket, and after how long one tries again to reach it
 CALLERS = 3
 AGAIN_SECONDS = 0.01
@@ -170,6 +174,7 @@ class Native(Members):
         self.all: list[Running] = []
         self.of_place: dict[int, Running] = {}
         self.stopped: list[str] = []
+        self.unwelcomed = 0
         key = folder / "key"
         key.write_text(f"{secrets.token_hex(32)}\n")
         os.chmod(key, 0o600)
@@ -203,10 +208,10 @@ class Native(Members):
         """Gives a member a command."""
         self.of_place[place].input.give(line)
 
-    def kill(self, place: int) -> None:
-        """Kills a member, and tells the others once it has ended."""
+    def remove(self, place: int) -> None:
+        """Ends a process, and tells the others once it has ended."""
         self.of_place[place].is_killed = True
-        super().kill(place)
+        super().remove(place)
         self.stopped.append(self.name(place))
 
     def back(self, place: int) -> None:
@@ -231,6 +236,15 @@ class Native(Members):
             return False
         return len({member.log.last() for member in running}) <= 1
 
+    def look(self) -> None:
+        """Looks whether each member still runs. A joiner that nobody welcomed has ended as it should, and its place comes back."""
+        for place in [place for place, child in self.running.items() if child.poll() == UNWELCOMED[0]]:
+            if UNWELCOMED[1] in self.file(self.folder, "errors", place).read_bytes():
+                self.unwelcomed += 1
+                self.remove(place)
+                self.back(place)
+        super().look()
+
     def end(self) -> None:
         """Waits until all is sent and printed, and ends the members' inputs, or has them leave. Who isn't done in time is killed."""
         ends = time.monotonic() + self.wanted.patience
@@ -238,12 +252,16 @@ class Native(Members):
             self.look()
             time.sleep(0.02)
         self.look()
-        for place, child in self.running.items():
-            if self.wanted.leave:
+        for place, child in list(self.running.items()):
+            member = self.of_place[place]
+            if member.waits():
+                self.late.append(member.name)
+                self.remove(place)
+            elif self.wanted.leave:
                 child.send_signal(signal.SIGTERM)
             else:
-                self.of_place[place].close()
-        self.wait_for_all(max(ends, time.monotonic() + 1))
+                member.close()
+        self.wait_for_all(max(ends, time.monotonic() + LAST_SECONDS))
 
     def stop(self) -> None:
         """Kills who still runs, and ends the relay."""
@@ -256,7 +274,9 @@ class Native(Members):
         """What became of the datagrams, as the relay counted them, and of the messages."""
         sent, lost, repeated = self.relay.counts()
         answers = sum("sent" in answer for member in self.all for answer in member.seen().answers.values())
-        return [f"datagrams {sent}: {lost} lost, {repeated} repeated", f"messages {self.sent}: {answers} answered at a socket"]
+        messages = f"messages {self.sent}: {answers} answered at a socket"
+        unwelcomed = f"; joiners that nobody welcomed: {self.unwelcomed}" if self.unwelcomed else ""
+        return [f"datagrams {sent}: {lost} lost, {repeated} repeated", messages + unwelcomed]
 
     def compared(self, lives: list[Life], claimed: dict[str, int] | None) -> tuple[list[str], int]:
         """Compares what the applications saw: what to say of it, and 1 where something is wrong."""
