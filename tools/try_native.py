@@ -82,7 +82,8 @@ def clusters(tried: Tried) -> list[str]:
     for seed in (1, 2):
         more = f"--nodes 4 --seconds 2 --rate 150 --loss 5 --repeat 2 --delay 5 --kill 1 --seed {seed}".split()
         status, said, told = tried.ran(*more)
-        counted = re.search("kills [1-9].*, resets decided [1-9].*, joins [1-9]", said) and " 0 lost" not in said and " 0 repeated" not in said
+        has_faults = " 0 lost" not in said and " 0 repeated" not in said
+        counted = has_faults and re.search("kills [1-9].*, resets decided [1-9].*, joins [1-9]", said)
         judged = "\nlawful\n" in said and "answers again\n" in said and "are pieces of one list\n" in said
         if (status, told) != (0, "") or not counted or not judged or "killed" in said:
             wrong.append(f"seed {seed}: {status}, {said}{told}")
