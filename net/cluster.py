@@ -14,156 +14,19 @@ import argparse
 import os
 import pathlib
 import random
-import secrets
-import signal
-import socket
 import subprocess
 import sys
 import tempfile
 import time
 from collections.abc import Iterator
 
+from members import START_SECONDS, Failed, Interpreted, Members
 from merge import Life, Merged, Unmerged, write_out
+from native import Native
 from node import program_of
 from udp import complain, number_of
 
-HERE = pathlib.Path(__file__).resolve().parent
 MOST_EVENTS = 100_000
-# how long a member may take to begin its journal
-START_SECONDS = 20
-
-
-class Failed(Exception):
-    """Why a run has no result."""
-
-
-def free_ports(count: int) -> list[int]:
-    """So many ports that nobody has now."""
-    sockets = [socket.socket(socket.AF_INET, socket.SOCK_DGRAM) for _ in range(count)]
-    for each in sockets:
-        each.bind(("127.0.0.1", 0))
-    ports = [each.getsockname()[1] for each in sockets]
-    for each in sockets:
-        each.close()
-    return ports
-
-
-class Cluster:
-    """The members' processes, by place. Journals are in one folder, what else they need in another."""
-
-    def __init__(self, wanted: argparse.Namespace, journals: pathlib.Path, folder: pathlib.Path):
-        self.wanted, self.journals, self.folder = wanted, journals, folder
-        self.lives = [1] * wanted.nodes
-        self.running: dict[int, subprocess.Popen] = {}
-        self.sent = 0
-        self.late: list[str] = []
-        self.run = secrets.token_hex(8)
-        peers = "".join(f"{place} 127.0.0.1:{port}\n" for place, port in enumerate(free_ports(wanted.nodes)))
-        (folder / "peers").write_text(peers)
-        (folder / "key").write_bytes(os.urandom(32))
-
-    def name(self, place: int) -> str:
-        """A place's name now."""
-        return f"{place}/{self.lives[place]}" if self.lives[place] > 1 else str(place)
-
-    def file(self, folder: pathlib.Path, kind: str, place: int) -> pathlib.Path:
-        """A file of a kind for a place's life now."""
-        return folder / f"{kind}-{self.name(place).replace('/', '-')}"
-
-    def start(self, place: int) -> None:
-        """Starts the place's process."""
-        wanted, name = self.wanted, self.name(place)
-        words = [sys.executable, str(HERE / "udp.py"), "--name", name, "--founders", ",".join(map(str, range(wanted.nodes)))]
-        words += ["--peers", str(self.folder / "peers"), "--key", str(self.folder / "key"), "--run", self.run]
-        words += ["--journal", str(self.file(self.journals, "journal", place)), "--seconds", str(wanted.seconds + wanted.patience + 10)]
-        words += ["--program", wanted.program] if wanted.program else []
-        for option in ("resilience", "tick", "loss", "repeat", "delay", "seed"):
-            words += [f"--{option}", str(getattr(wanted, option))]
-        with open(self.file(self.folder, "errors", place), "wb") as errors:
-            self.running[place] = subprocess.Popen(words, bufsize=0, stdin=subprocess.PIPE, stdout=subprocess.DEVNULL, stderr=errors)
-
-    def has_begun(self, place: int) -> bool:
-        """Waits until a place's process has begun its journal; False where it takes too long."""
-        ends = time.monotonic() + START_SECONDS
-        journal = self.file(self.journals, "journal", place)
-        while not (journal.exists() and journal.stat().st_size):
-            self.look()
-            if time.monotonic() > ends:
-                return False
-            time.sleep(0.01)
-        return True
-
-    def look(self) -> None:
-        """Looks whether each member still runs."""
-        for place, child in self.running.items():
-            if child.poll() is not None:
-                errors = self.file(self.folder, "errors", place).read_text(errors="replace").split("\n")
-                last = next((line for line in reversed(errors) if line.strip()), "it said nothing")
-                raise Failed(f"member {self.name(place)} ended by itself with status {child.returncode}: {last.strip()}")
-
-    def tell(self, place: int, line: str) -> None:
-        """Gives a member a line."""
-        child = self.running[place]
-        assert child.stdin
-        try:
-            child.stdin.write(line.encode() + b"\n")
-        except OSError:
-            self.has_ended(place, time.monotonic() + self.wanted.patience)  # it reads no more
-            self.look()
-
-    def kill(self, place: int) -> None:
-        """Kills a member, and tells the others once it has ended: it can't act any more. Where it has no journal, an empty one says so."""
-        self.has_begun(place)
-        child = self.running.pop(place)
-        child.send_signal(signal.SIGKILL)
-        child.wait()
-        self.file(self.journals, "journal", place).touch()
-        for other in self.running:
-            self.tell(other, f"stopped {self.name(place)}")
-
-    def back(self, place: int) -> None:
-        """Lets a killed member's place come back; it is told who stopped before."""
-        stopped = self.name(place)
-        self.lives[place] += 1
-        self.start(place)
-        self.tell(place, f"stopped {stopped}")
-
-    def send(self) -> None:
-        """Has the members send one message more, in turn."""
-        places = sorted(self.running)
-        if places:
-            self.sent += 1
-            self.tell(places[self.sent % len(places)], f"message {self.sent}")
-
-    def has_ended(self, place: int, ends: float) -> bool:
-        """Waits until a member has ended; where it hasn't by then, it is killed."""
-        child = self.running[place]
-        try:
-            child.wait(timeout=max(0, ends - time.monotonic()))
-        except subprocess.TimeoutExpired:
-            child.kill()
-            child.wait()
-            return False
-        return True
-
-    def end(self) -> None:
-        """Ends the members' inputs, and waits for them. A member that could send no more ends with 1; who isn't done in time is killed."""
-        self.look()
-        for child in self.running.values():
-            assert child.stdin
-            child.stdin.close()
-        ends = time.monotonic() + self.wanted.patience
-        for place, child in self.running.items():
-            if not self.has_ended(place, ends):
-                self.late.append(self.name(place))
-            elif child.returncode not in (0, 1) or b"Traceback" in self.file(self.folder, "errors", place).read_bytes():
-                self.look()
-
-    def stop(self) -> None:
-        """Kills who still runs."""
-        for child in self.running.values():
-            child.kill()
-            child.wait()
 
 
 def moments(wanted: argparse.Namespace) -> list[tuple[float, str, int]]:
@@ -183,14 +46,14 @@ def moments(wanted: argparse.Namespace) -> list[tuple[float, str, int]]:
     return sorted(plan)
 
 
-def act(cluster: Cluster) -> None:
+def act(cluster: Members) -> None:
     """Runs the cluster for its time."""
     wanted = cluster.wanted
     for place in range(wanted.nodes):
         cluster.start(place)
     for place in range(wanted.nodes):
         if not cluster.has_begun(place):
-            raise Failed(f"member {cluster.name(place)} hasn't begun its journal within {START_SECONDS} seconds")
+            raise Failed(f"member {cluster.name(place)} hasn't begun within {START_SECONDS} seconds")
     began, plan = time.monotonic(), moments(wanted)
     sending_ends = began + wanted.seconds * 0.85
     while (now := time.monotonic()) < began + wanted.seconds:
@@ -234,16 +97,18 @@ def times_of(lives: list[Life]) -> tuple[list[int], list[int], int]:
     return answered, [last_take[key] - begun[key] for key in last_take if key in begun], taken
 
 
-def told(merged: Merged, wanted: argparse.Namespace) -> Iterator[str]:
+def told(merged: Merged, cluster: Members) -> Iterator[str]:
     """The lines that tell what happened."""
+    wanted = cluster.wanted
     answered, delivered, taken = times_of(merged.lives)
-    sent, lost, repeated, unknown, unsigned, others = (sum(counts) for counts in zip(*(life.counts for life in merged.lives)))
+    datagrams, *more = cluster.told(merged.lives)
     words = [step.line.split(" ")[0] for _, step in merged.steps]
     joined = {step.answer.split(" ")[1] for _, step in merged.steps if step.answer.startswith("took ") and " join " in step.answer}
     letters = sum(len(step.letters) for _, step in merged.steps)
-    yield f"events {len(words)}, letters {letters}, datagrams {sent}: {lost} lost, {repeated} repeated"
-    yield f"dropped: {unknown} of unknown senders, {unsigned} unsigned, {others} of another group"
-    decided = sum(step.answer.startswith("decided") for _, step in merged.steps)
+    yield f"events {len(words)}, letters {letters}, {datagrams}"
+    yield from more
+    # a member that asks how its ballot stands is told of its view again
+    decided = len({step.answer for _, step in merged.steps if step.answer.startswith("decided")})
     yield f"kills {words.count('stop')}, resets decided {decided}, joins {len(joined)}"
     yield f"entries taken {taken}, {taken / wanted.seconds / wanted.nodes:.0f} a second and member; sends answered {len(answered)}"
     yield f"from a send to its answer {hundredths(answered, 50)} ms, 99 of 100 within {hundredths(answered, 99)} ms"
@@ -271,6 +136,14 @@ def judged(merged: Merged, wanted: argparse.Namespace, text: str) -> tuple[list[
     return [*said, f"{play} gives all {len(events)} answers again"], 0
 
 
+def claimed_of(merged: Merged, last: str) -> dict[str, int] | None:
+    """The last number that each life took before the event from which on nothing is claimed; None where all is."""
+    if not last.startswith("void"):
+        return None
+    before = merged.steps[: int(last.split(" ")[-1]) - 1]
+    return {life.name: int(step.answer.split(" ")[1]) for life, step in before if step.answer.startswith("took ")}
+
+
 def options() -> argparse.Namespace:
     """The words of the command."""
     parser = argparse.ArgumentParser(description=__doc__, formatter_class=argparse.RawDescriptionHelpFormatter)
@@ -288,8 +161,14 @@ def options() -> argparse.Namespace:
     parser.add_argument("--seed", type=int, default=1, help="whom is killed when, and what is lost (1)")
     parser.add_argument("--keep", help="a new or empty folder, in which journals, script.json and its text script.txt stay")
     parser.add_argument("--program", help="the command whose word node is run; else the one that is built here")
+    parser.add_argument("--native", action="store_true", help="members are processes of muoswyldd, and a relay makes the faults")
+    parser.add_argument("--member", help="with --native, the command whose word run is a member; else the one that is built here")
+    parser.add_argument("--least", type=number_of(int, 1, 16), help="with --native, the fewest members of a reset (a majority)")
+    parser.add_argument("--leave", action="store_true", help="with --native, the members leave at the end, all at once")
     parser.add_argument("--judge", help="the command whose word play judges; else the same")
     wanted = parser.parse_args()
+    if not wanted.native and (wanted.member or wanted.least or wanted.leave):
+        parser.error("--member, --least and --leave are for --native")
     if wanted.at_once and wanted.kill > wanted.nodes:
         parser.error(f"--at-once: there are no {wanted.kill} members to kill")
     try:
@@ -304,11 +183,12 @@ def options() -> argparse.Namespace:
 
 def ran(wanted: argparse.Namespace, made: pathlib.Path) -> int:
     """Runs, merges and judges."""
-    program_of(wanted.program)  # for its cause, where there is none, before anything starts
+    if not wanted.native:
+        program_of(wanted.program)  # for its cause, where there is none, before anything starts
     judge = program_of(wanted.judge or wanted.program)
     journals = pathlib.Path(wanted.keep) if wanted.keep else made / "journals"
     journals.mkdir(parents=True, exist_ok=True)
-    cluster = Cluster(wanted, journals, made)
+    cluster = (Native if wanted.native else Interpreted)(wanted, journals, made)
     try:
         act(cluster)
     finally:
@@ -317,7 +197,7 @@ def ran(wanted: argparse.Namespace, made: pathlib.Path) -> int:
     script = merged.script(MOST_EVENTS)
     if wanted.keep:
         (journals / "script.json").write_text(script)
-    write_out("".join(f"{line}\n" for line in told(merged, wanted)))
+    write_out("".join(f"{line}\n" for line in told(merged, cluster)))
     if cluster.late:
         write_out(f"killed, as they weren't done {wanted.patience:g} seconds after their inputs' end: {', '.join(cluster.late)}\n")
     done = subprocess.run([*judge, "play"], input=script.encode(), capture_output=True, check=False)
@@ -327,8 +207,9 @@ def ran(wanted: argparse.Namespace, made: pathlib.Path) -> int:
     if wanted.keep:
         (journals / "script.txt").write_text(text)
     said, status = judged(merged, wanted, text)
-    write_out("".join(f"{line}\n" for line in said))
-    return status
+    seen, is_seen_wrong = cluster.compared(merged.lives, claimed_of(merged, text.splitlines()[-1]))
+    write_out("".join(f"{line}\n" for line in [*said, *seen]))
+    return max(status, is_seen_wrong)
 
 
 def main() -> int:

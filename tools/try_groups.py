@@ -19,7 +19,7 @@ import time
 TOP = pathlib.Path(__file__).resolve().parent.parent
 sys.path += [str(TOP / "net"), str(TOP / "examples")]
 
-from cluster import free_ports  # noqa: E402
+from members import free_ports  # noqa: E402
 from dictionary import MOST_PAIR, Dictionary, body_of, command_of, parts_of, size_of  # noqa: E402
 from try_net import Process, Tried, try_parts  # noqa: E402
 from udp import MOST_BODY, Info  # noqa: E402

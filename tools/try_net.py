@@ -30,7 +30,7 @@ from collections.abc import Callable, Iterable
 TOP = pathlib.Path(__file__).resolve().parent.parent
 sys.path.insert(0, str(TOP / "net"))
 
-from cluster import free_ports  # noqa: E402
+from members import free_ports  # noqa: E402
 from node import Ended, Node
 from udp import Journal, Member, Refused
 from words import words

@@ -19,10 +19,33 @@ use std::io::Write;
 use std::os::unix::fs::OpenOptionsExt;
 use std::sync::Arc;
 use std::thread::JoinHandle;
-use std::time::{Duration, Instant};
+use std::time::{Duration, Instant, SystemTime};
 
 /// How many batches of datagrams are read before anything else is done: what comes faster is lost, and stops nothing.
 const MOST_BATCHES: usize = 4;
+
+/// Microseconds since 1970 as the system has them at a member's start, and from then on a clock that never goes back: the journals of
+/// members on one machine have one time.
+struct Clock {
+    began: Instant,
+    epoch: Duration,
+}
+
+impl Clock {
+    fn new() -> Clock {
+        let epoch = SystemTime::UNIX_EPOCH.elapsed();
+        Clock {
+            began: Instant::now(),
+            // a system that is set to a time before 1970 counts from 0
+            epoch: epoch.unwrap_or_default(),
+        }
+    }
+
+    fn now(&self) -> Time {
+        let now = self.epoch.saturating_add(self.began.elapsed());
+        Time(u64::try_from(now.as_micros()).unwrap_or(u64::MAX))
+    }
+}
 
 /// Who waits for a ticket.
 enum Waiter {
@@ -36,7 +59,7 @@ struct Shell {
     udp: Udp,
     seal: Seal,
     shared: Arc<Shared>,
-    began: Instant,
+    clock: Clock,
     waiters: HashMap<u64, Waiter>,
     tickets: u64,
     journal: Option<File>,
@@ -111,8 +134,8 @@ pub(crate) fn start(config: Config) -> Result<(Arc<Shared>, JoinHandle<()>), Cre
         .name(format!("member {}", config.name))
         .spawn(move || {
             // a node stays on the thread that opened it, so the member is made here
-            let began = Instant::now();
-            match Member::new(settings, Time(0)) {
+            let clock = Clock::new();
+            match Member::new(settings, clock.now()) {
                 Ok(member) => {
                     // whoever started this waits for it
                     let _heard = begun.send(Ok(()));
@@ -121,7 +144,7 @@ pub(crate) fn start(config: Config) -> Result<(Arc<Shared>, JoinHandle<()>), Cre
                         udp,
                         seal,
                         shared: callers,
-                        began,
+                        clock,
                         waiters: HashMap::new(),
                         tickets: 0,
                         journal,
@@ -158,7 +181,7 @@ fn own_address(config: &Config) -> Result<std::net::SocketAddr, CreateError> {
 
 impl Shell {
     fn now(&self) -> Time {
-        Time(u64::try_from(self.began.elapsed().as_micros()).unwrap_or(u64::MAX))
+        self.clock.now()
     }
 
     /// Until the member ends.
@@ -371,8 +394,14 @@ impl Shell {
         }
     }
 
-    /// Tells all who wait that the member has ended.
+    /// Ends the journal of a member that its caller stopped, and tells all who wait that the member has ended.
     fn close(&mut self, end: &End) {
+        if *end == End::Stopped {
+            // the line that tells this end from a crash
+            if let Err(error) = self.write(b"end\n") {
+                tracing::error!("the journal's end can't be written: {error}");
+            }
+        }
         self.shared.deliver(&mut self.deliveries);
         let left = self.shared.close(end);
         for command in left {

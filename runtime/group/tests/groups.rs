@@ -258,3 +258,34 @@ fn who_receives_nothing_holds_the_group_back_and_loses_nothing() {
         .enumerate()
         .all(|(k, it)| it.2 == vec![k as u8; 600]));
 }
+
+#[test]
+fn a_journal_has_the_times_of_the_system_and_the_end_of_a_stopped_member() {
+    let micros = || {
+        let now = std::time::SystemTime::UNIX_EPOCH.elapsed().unwrap();
+        now.as_micros() as u64
+    };
+    let own = addresses(1, "127.0.0.1");
+    let file = std::env::temp_dir().join(format!("muoswyld-journal-{}", std::process::id()));
+    let before = micros();
+    let group = Group::create(config("0", "0", &own).journal(file.clone())).unwrap();
+    group.send("hello").unwrap();
+    group.stop();
+    while group.ended().is_none() {
+        std::thread::sleep(Duration::from_millis(1));
+    }
+    let after = micros();
+    let journal = std::fs::read_to_string(&file).unwrap();
+    std::fs::remove_file(&file).unwrap();
+    let lines: Vec<&str> = journal.lines().collect();
+    assert_eq!(lines.last(), Some(&"end"), "{journal}");
+    let times: Vec<u64> = lines[1..lines.len() - 1]
+        .iter()
+        .map(|line| line.split_once('\t').unwrap().0.parse().unwrap())
+        .collect();
+    assert!(!times.is_empty() && times.windows(2).all(|two| two[0] <= two[1]));
+    assert!(
+        before <= times[0] && times[times.len() - 1] <= after + 1,
+        "{before} {times:?} {after}"
+    );
+}

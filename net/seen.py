@@ -1,0 +1,237 @@
+"""What the applications of a cluster's members sent and saw, compared with each other and with the members' journals.
+
+- All lives printed pieces of one list: at a position all have the same delivery, and nobody misses one between its first and its last.
+  A joiner isn't given a long message that began before its join.
+- A founder's piece begins with the founders' view, a joiner's with its own join.
+- Each message stands in the list once at most, and only where its sender sent it; those that were given by one way stand in their order.
+- A message whose send was answered stands at the position of the answer. Of a life that ended by its input all messages stand there.
+- What a life printed is what its journal says that its node gave it: all of it, or, where it was killed, the beginning.
+
+Where more stopped than the resilience, all but the last of these is looked at in what each life was given before that.
+"""
+
+import json
+import pathlib
+from collections.abc import Iterator
+from dataclasses import dataclass, replace
+from typing import NamedTuple
+
+from merge import Life
+
+# the longest message that isn't sent in parts
+MOST_PACKED = 1021
+SHARE = 1019
+
+
+class At(NamedTuple):
+    """A position in the list: an entry's number, and which of that entry's messages it is."""
+
+    number: int
+    index: int
+
+
+class Log:
+    """What a member prints, an object of JSON a line, read as it comes; a last line that is cut isn't there."""
+
+    def __init__(self, path: pathlib.Path):
+        self.path, self.offset = path, 0
+        self.deliveries: list[dict] = []
+
+    def read(self) -> None:
+        """Reads what came since the last time."""
+        with open(self.path, "rb") as file:
+            file.seek(self.offset)
+            whole, _, _ = file.read().rpartition(b"\n")
+        if whole:
+            self.offset += len(whole) + 1
+            self.deliveries += [json.loads(line) for line in whole.split(b"\n")]
+
+    def last(self) -> At | None:
+        """The last position that was read."""
+        return at_of(self.deliveries[-1]) if self.deliveries else None
+
+
+@dataclass
+class Seen:
+    """What a life's application sent, by each way in order, what was answered, and what it was given."""
+
+    name: str
+    channels: list[list[str]]
+    answers: dict[str, dict]
+    log: list[dict]
+    has_ended: bool  # by the end of its input
+
+    def missing(self) -> set[str]:
+        """The messages that it was to send, that it wasn't refused, and that it wasn't given itself."""
+        refused = {message for message, answer in self.answers.items() if "error" in answer}
+        own = {delivery["text"] for delivery in self.log if delivery.get("from") == self.name}
+        return {message for channel in self.channels for message in channel} - refused - own
+
+
+def at_of(delivery: dict) -> At:
+    """Where a delivery stands."""
+    return At(delivery["number"], delivery["index"])
+
+
+def shown(delivery: dict) -> str:
+    """A delivery in a line, cut where it is long."""
+    text = json.dumps(delivery)
+    return text if len(text) <= 100 else f"{text[:97]}.."
+
+
+def one_list(lives: list[Seen]) -> tuple[dict[At, dict], list[str]]:
+    """The list of which each life was given a piece, in order, and what speaks against that."""
+    found: dict[At, dict] = {}
+    wrong = []
+    for life in lives:
+        last = None
+        for delivery in life.log:
+            at = at_of(delivery)
+            if last is not None and at <= last:
+                wrong.append(f"{life.name} was given {shown(delivery)} behind what stands later")
+            if found.setdefault(at, delivery) != delivery:
+                wrong.append(f"{life.name} was given {shown(delivery)}, and another one {shown(found[at])}")
+            last = at
+    return dict(sorted(found.items())), wrong
+
+
+def begins(life: Seen) -> bool:
+    """Whether a life's piece begins with the founders' view, or with its own join."""
+    first = life.log[0]
+    if "/" in life.name:
+        return first["kind"] == "joined" and first["name"] == life.name
+    return first["kind"] == "view" and first["number"] == 1 and life.name in first["members"]
+
+
+def gaps(life: Seen, whole: dict[At, dict]) -> Iterator[str]:
+    """What stands between two deliveries of a life, and wasn't given to it."""
+    had = {at_of(delivery) for delivery in life.log}
+    first, last = min(had), max(had)
+    spoke: set[str] = set()
+    for at, delivery in whole.items():
+        if not first <= at <= last:
+            continue
+        sender = delivery.get("from", "")
+        began_before = "/" in life.name and len(delivery.get("text", "")) > MOST_PACKED and sender not in spoke
+        if at not in had and not began_before:
+            yield f"{life.name} wasn't given {shown(delivery)}"
+        spoke.add(sender)
+
+
+def of_sender(life: Seen, whole: dict[At, dict], claimed: int | None) -> Iterator[str]:
+    """What of the list isn't what a life sent, in the order in which it sent it; and what is missing of it, up to the last number that is
+    claimed of what it was given, where that isn't all."""
+    places: dict[str, At] = {}
+    given = {message for channel in life.channels for message in channel}
+    for at, delivery in whole.items():
+        if delivery.get("from") == life.name:
+            if delivery.get("text") not in given or delivery["text"] in places:
+                yield f"{shown(delivery)} isn't what {life.name} sent, or stands there twice"
+            places[delivery.get("text", "")] = at
+    for channel in life.channels:
+        order = [places[message] for message in channel if message in places]
+        if order != sorted(order):
+            yield f"messages of {life.name} don't stand in the order in which it was given them"
+    for message, answer in life.answers.items():
+        is_claimed = "sent" in answer and (claimed is None or answer["sent"] <= claimed)
+        if is_claimed and places.get(message) != At(answer["sent"], answer["index"]):
+            yield f"{message[:20]!r} of {life.name} was answered {answer}, and stands at {places.get(message)}"
+    if life.has_ended and claimed is None:
+        refused = {message for message, answer in life.answers.items() if "error" in answer}
+        for message in given - refused - places.keys():
+            yield f"{message[:20]!r} of {life.name} stands nowhere, and it ended with all sent"
+
+
+def packed(body: bytes) -> list[bytes] | None:
+    """The messages of a packed body; None where it is none."""
+    messages, rest = [], body[1:]
+    while rest and body[:1] == b"P":
+        length = int.from_bytes(rest[:2], "big")
+        if len(rest) < 2 + length:
+            return None
+        messages.append(rest[2 : 2 + length])
+        rest = rest[2 + length :]
+    return messages or None
+
+
+class Parts:
+    """Puts messages together of the parts that a life's node gave it (docs/MESSAGES.md)."""
+
+    def __init__(self) -> None:
+        self.begun: dict[str, tuple[str, list[bytes]]] = {}
+
+    def messages(self, sender: str, body: bytes) -> list[bytes]:
+        """The messages that end with a body."""
+        place = sender.split("/")[0]
+        who, shares = self.begun.pop(place, (sender, []))
+        index, count = int.from_bytes(body[1:3], "big"), int.from_bytes(body[3:5], "big")
+        if body[:1] != b"S" or len(body) < 5:
+            return packed(body) or [body]
+        if index == 0:
+            who, shares = sender, []
+        if who != sender or index != len(shares):
+            return []
+        shares = [*shares, body[5:]]
+        if len(shares) == count:
+            return [b"".join(shares)]
+        self.begun[place] = who, shares
+        return []
+
+
+def taken(life: Life) -> Iterator[tuple[At, str, str]]:
+    """What a life's journal says that its node gave it: where, of what kind, and what."""
+    parts = Parts()
+    for step in life.steps:
+        if not step.answer.startswith("took "):
+            continue
+        number, kind, *rest = step.answer.split(" ")[1:]
+        if kind == "data":
+            body = b"" if rest[2] == "-" else bytes.fromhex(rest[2])
+            for index, message in enumerate(parts.messages(rest[0], body)):
+                yield At(int(number), index), "message", f"{rest[0]} {message.decode(errors='replace')}"
+        elif kind == "view":
+            yield At(int(number), 0), "view", rest[1]
+        else:
+            yield At(int(number), 0), {"join": "joined", "leave": "left"}[kind], rest[0]
+
+
+def printed(delivery: dict) -> tuple[At, str, str]:
+    """A delivery, as a journal has it."""
+    match delivery["kind"]:
+        case "message":
+            what = f"{delivery['from']} {delivery['text']}"
+        case "view":
+            what = ",".join(delivery["members"])
+        case _:
+            what = delivery["name"]
+    return at_of(delivery), delivery["kind"], what
+
+
+def against_journal(seen: Seen, life: Life | None) -> Iterator[str]:
+    """Where what a life printed isn't what its journal says."""
+    wanted = list(taken(life)) if life else []
+    for number, delivery in enumerate(seen.log):
+        if number >= len(wanted) or printed(delivery) != wanted[number]:
+            yield f"{seen.name} was given {shown(delivery)}, and its journal has {str(wanted[number : number + 1])[:100]}"
+            return
+    if seen.has_ended and len(wanted) > len(seen.log):
+        yield f"{seen.name} printed {len(seen.log)} deliveries, and its journal has {len(wanted)}"
+
+
+def differences(lives: list[Seen], journals: dict[str, Life], claimed: dict[str, int] | None = None) -> list[str]:
+    """What is wrong with what the applications saw. Where not all of the run is claimed, each life has a last number that is: the lives are
+    compared with each other up to there, and each with its own journal."""
+    most = {life.name: None if claimed is None else claimed.get(life.name, 0) for life in lives}
+    cut = lives
+    if claimed is not None:
+        cut = [replace(life, log=[it for it in life.log if it["number"] <= claimed.get(life.name, 0)]) for life in lives]
+    whole, wrong = one_list(cut)
+    for life in cut:
+        if life.log and not begins(life):
+            wrong.append(f"{life.name} was given {shown(life.log[0])} first")
+        if life.log:
+            wrong += gaps(life, whole)
+        wrong += of_sender(life, whole, most[life.name])
+    for life in lives:
+        wrong += against_journal(life, journals.get(life.name))
+    return wrong
