@@ -1,5 +1,5 @@
 -- What stood is answered behind rounds in which applications take.
-use Rattle.am_resting.proofs.Words.{◌≡◌, ℕ, zero, suc, ◌≤◌, List, [], ◌++◌, length, refl, sym, ap, ◌∙◌, subst, arith, Rules, Event, Node, top, members, Settling}
+use Rattle.am_resting.proofs.Words.{◌≡◌, ℕ, zero, suc, ◌+◌, ◌≤◌, List, [], ◌++◌, length, refl, sym, ap, ◌∙◌, subst, arith, Event, top, Settling}
 use Rattle.am_resting.proofs.Words.{and_then, ticks, hearings, waves, World, current, start, run, happen, runs_go_on, takes, taking_round, taking_rounds, after_rounds}
 use Rattle.am_resting.proofs.Words.{round_count, AnsweredByTaking, AnswersUpTo, accepted_are_answered}
 use Rattle.am_resting.proofs.Rounds.{repaired_by_taking}
@@ -29,14 +29,14 @@ settles_rounds (suc k) w s h = settles_rounds k w (taking_round s) (settles_roun
 
 pub answered_by_taking : AnsweredByTaking
 unfolding happen
-answered_by_taking rules events place may low lawful repair name there =
+answered_by_taking rules events place more may low lawful repair name there =
     let w = run rules events in
     let last = top (w.nodes (current w place)) in
     let s : Settling = record { world = w; events = [] } in
-    let es = (taking_rounds (round_count rules) s).events in
-    let is : after_rounds (round_count rules) w ≡ run rules (events ++ es) = settles_rounds (round_count rules) w s refl
+    let es = (taking_rounds (round_count rules + more) s).events in
+    let is : after_rounds (round_count rules + more) w ≡ run rules (events ++ es) = settles_rounds (round_count rules + more) w s refl
     ∙ sym (runs_go_on (start rules) events es) in
-    let far = (repaired_by_taking rules events place may low lawful repair name there).caught.accepted in
+    let far = (repaired_by_taking rules events place more may low lawful repair name there).caught.accepted in
     let accepted : last ≤ ((run rules (events ++ es)).nodes name).core.acc = subst (λ (v : World). last ≤ (v.nodes name).core.acc) is far in
     let all : AnswersUpTo ((run rules (events ++ es)).nodes name) last = λ number req body from within at.
     accepted_are_answered rules (events ++ es) name may number req body from (omega arith) at in

@@ -1,16 +1,16 @@
 -- A calm world stays calm where applications take.
-use Rattle.am_resting.proofs.Words.{◌≡◌, ◌⊎◌, inl, inr, either, ℕ, ◌+◌, ◌<◌, ◌≤◌, ◌==◌, true, false, List, [], ◌∷◌, ◌++◌, length, Some, refl, sym, ap, ◌∙◌, subst, arith}
-use Rattle.am_resting.proofs.Words.{split, nat_tests, slice_get, All, All-head, All-tail, eqb-true, eq-eqb, Outcome, Rules, MayFound, has, Letter, letter_at, Log, top_of}
-use Rattle.am_resting.proofs.Words.{told_by, image_at, Event, Node, top, view, is_member, is_sequencer, has_departed, is_unfinished, Step, step, refresh, refresh_at_end}
-use Rattle.am_resting.proofs.Words.{settle, settle_is, World, current, is_stopped, run, start, with_record, with_step, happens, happen, runs_go_on}
+use Rattle.am_resting.proofs.Words.{◌≡◌, inl, inr, either, ℕ, ◌+◌, ◌<◌, ◌≤◌, ◌==◌, true, false, List, [], ◌∷◌, refl, sym, ap, ◌∙◌, subst, arith}
+use Rattle.am_resting.proofs.Words.{split, nat_tests, All, All-head, All-tail, eqb-true, eq-eqb, Outcome, Rules, has, Log, top_of}
+use Rattle.am_resting.proofs.Words.{told_by, image_at, Event, Node, top, is_member, has_departed, is_unfinished, Step, step, refresh, refresh_at_end}
+use Rattle.am_resting.proofs.Words.{settle_is, World, is_stopped, run, start, with_record, with_step, happens, happen, runs_go_on}
 use Rattle.am_resting.proofs.Words.{events_have_effects, actor, MayTell, leads, decided, AllOwned, each_along, each_owned, few_names, run_owned, Fronts, event_at, Act}
-use Rattle.am_resting.proofs.Words.{Repair, Leads, FollowsView, IsApart, IsLeaver, IsElsewhere, IsCalm, Calm, CalmNodes, AgreesFrom, IsOurs, Alike, alike_here}
+use Rattle.am_resting.proofs.Words.{Repair, Leads, FollowsView, IsElsewhere, Calm, CalmNodes, Alike}
 use Rattle.am_resting.proofs.Words.{view_alike, acts_alike, leads_alike, rest_alike, Trusts, leads_as, trusts_refresh, LogGrows, grows_same, reports_stay, Grow}
-use Rattle.am_resting.proofs.Words.{calm_stays, Fine, fine_goes, grow_goes, letter_either, IsTaking, ours, takes_one, TakingStaysCalm, Report}
-use Rattle.am_resting.proofs.Words.{has_log, Stamp, FrontsOf, Bool, if◌then◌else◌, does_event}
+use Rattle.am_resting.proofs.Words.{calm_stays, Fine, fine_goes, letter_either, IsTaking, ours, takes_one, TakingStaysCalm}
+use Rattle.am_resting.proofs.Words.{has_log, Stamp, Bool, if◌then◌else◌}
 use Rattle.am_base.specs.declared.outcome.Outcome.TheVariants as said
 use Rattle.am_base.specs.declared.event.NodeEvent.TheVariants as does
-use Rattle.am_resting.proofs.Rows.{Took, nothing, next, take_is, take_node, take_letters, take_alike, took_alike, alike_then, alike_end, taken_on}
+use Rattle.am_resting.proofs.Rows.{Took, nothing, next, take_is, take_node, take_letters, take_alike, took_alike}
 
 -- ---- all nodes are alike
 

@@ -1,8 +1,8 @@
 -- All that a member has accepted is given by its takes.
-use Rattle.am_resting.proofs.Words.{◌≡◌, ℕ, zero, suc, ◌+◌, ◌-◌, ◌<◌, ◌≤◌, ◌==◌, true, false, List, [], ◌∷◌, ◌++◌, length, Some, refl, sym, ap, ◌∙◌, subst, arith}
-use Rattle.am_resting.proofs.Words.{split, eqb-true, nat_tests, Rules, place_of, has, Entry, Log, top_of, entry_at, Event, Node, is_member, Plan, Step, step, row, finish, quiet}
+use Rattle.am_resting.proofs.Words.{◌≡◌, ℕ, zero, suc, ◌+◌, ◌-◌, ◌<◌, ◌≤◌, ◌==◌, true, false, List, [], ◌∷◌, Some, refl, sym, ap, ◌∙◌, subst, arith}
+use Rattle.am_resting.proofs.Words.{split, eqb-true, nat_tests, Rules, place_of, has, Entry, Log, top_of, entry_at, Node, is_member, Plan, step, row, finish, quiet}
 use Rattle.am_resting.proofs.Words.{take_row, refresh_at_end, World, current, with_step, happens, happen, runs_go_on, does_event, event_at, running, Act, Fronts}
-use Rattle.am_resting.proofs.Words.{Repair, FollowsView, Leads, Fine, Grow, takes_of, takes, so_many, takes_at, entry_is, slice_get-get_or, get_or, Join}
+use Rattle.am_resting.proofs.Words.{Repair, Fine, takes_of, takes, so_many, takes_at, entry_is, slice_get-get_or, get_or, Join}
 use Rattle.am_resting.proofs.Words.{IsThere, member_there, few_members, node_is, runs_there, acting, leading, IsAmong}
 use Rattle.am_base.specs.declared.event.NodeEvent.TheVariants as does
 use Rattle.am_base.specs.declared.outcome.Outcome.TheVariants as said

@@ -1,9 +1,9 @@
 -- Rounds in which applications take: all is stored, then reported, then accepted, then given.
-use Rattle.am_resting.proofs.Words.{◌≡◌, ℕ, zero, suc, ◌+◌, ◌*◌, ◌≤◌, ◌==◌, min, true, false, List, [], length, refl, sym, ap, ◌∙◌, subst, arith, split, eqb-true}
-use Rattle.am_resting.proofs.Words.{Rules, MayFound, has, Event, top, Settling, and_then, World, run, happens, happen, run_owned, event_at, Act, Repair, Calm, IsOurs}
+use Rattle.am_resting.proofs.Words.{◌≡◌, ℕ, zero, suc, ◌+◌, ◌*◌, ◌≤◌, ◌==◌, true, false, [], length, refl, sym, ap, ◌∙◌, subst, arith, split, eqb-true}
+use Rattle.am_resting.proofs.Words.{Rules, has, top, Settling, and_then, World, run, happens, happen, run_owned, event_at, Act, Repair}
 use Rattle.am_resting.proofs.Words.{Fine, fine_goes, letters_more, takes, taking_round, taking_rounds, after_rounds, HasAll, TakingRepairs, HasCaughtUp}
 use Rattle.am_resting.proofs.Words.{after_waves, round_is, Stable, round_keeps, round_stores, HasStored, AllStored, AllKnown, round_reports, round_accepts}
-use Rattle.am_resting.proofs.Words.{leader_accepts, ◌-◌, ◌/◌, repair_of, calm_begins, repairable_agrees, round_count, RepairedByTaking, Node, current}
+use Rattle.am_resting.proofs.Words.{leader_accepts, ◌-◌, ◌/◌, repair_of, calm_begins, repairable_agrees, round_count, RepairedByTaking, current}
 use Rattle.am_resting.proofs.Calm.{take_goes, take_fine}
 use Rattle.am_resting.proofs.Given.{takes_keep, takes_give}
 
@@ -146,13 +146,13 @@ taking_repairs rules events r many may calm sent near name there =
     }) name there
 
 pub repaired_by_taking : RepairedByTaking
-repaired_by_taking rules events place may low lawful repair name there =
+repaired_by_taking rules events place more may low lawful repair name there =
     let w = run rules events in
     let q = current w place in
-    let k = (rules.window + 22) / 8 in
+    let k = (rules.window + 22) / 8 + more in
     let b = calm_begins rules events place may low repair (repairable_agrees rules events place may low lawful repair) in
     let behind = b.1 in
     let enough : top (w.nodes q) ≤ (w.nodes q).core.base + 8 * k = omega arith in
-    let count : round_count rules ≡ k + 2 = omega arith in
+    let count : round_count rules + more ≡ k + 2 = omega arith in
     subst (λ n. HasAll (after_rounds n w) name (top (w.nodes q))) (sym count)
     (all_have rules (repair_of w q) k (w.nodes q).core.base w enough b.0 name there)

@@ -1,6 +1,6 @@
 -- What a Take makes of a node.
-use Rattle.am_resting.proofs.Words.{◌≡◌, ℕ, ◌+◌, ◌≤◌, ◌==◌, true, false, List, [], ◌∷◌, Option, Some, None, refl, sym, ap, ◌∙◌, subst, arith, split, slice_get}
-use Rattle.am_resting.proofs.Words.{Outcome, Letter, Entry, entry_at, Node, is_member, is_sequencer, others, Plan, Step, step, quiet, finish, refresh, refresh_at_end}
+use Rattle.am_resting.proofs.Words.{◌≡◌, ℕ, ◌+◌, ◌==◌, true, false, [], ◌∷◌, Option, Some, None, refl, sym, ap, ◌∙◌, subst, arith, split, slice_get}
+use Rattle.am_resting.proofs.Words.{Outcome, Letter, Entry, entry_at, Node, is_member, others, Plan, step, quiet, finish, refresh, refresh_at_end}
 use Rattle.am_resting.proofs.Words.{settle, row, take_row, Alike, alike_here, alike_refresh, alike_settle, World, Repair, IsCalm}
 use Rattle.am_resting.proofs.Words.{zero, suc, size, tells_accepted, accept_of, letter_to}
 use Rattle.am_base.specs.declared.event.NodeEvent.TheVariants as does

@@ -68,16 +68,16 @@ TakingRepairs = (rules : Rules) (events : List Event) (r : Repair) (many : ℕ) 
     → ((name : ℕ) → has r.members name ≡ true → r.high ≤ top ((run rules events).nodes name) + 8 * many)
     → (name : ℕ) → has r.members name ≡ true → HasAll (after_rounds (many + 2) (run rules events)) name r.high
 
--- and so in every lawful run that may be repaired, after as many rounds as a schedule has in which nobody takes
+-- and so in every lawful run that may be repaired, after as many rounds as a schedule has in which nobody takes, and after each later one
 abbrev pub RepairedByTaking : Type 0
-RepairedByTaking = (rules : Rules) (events : List Event) (place : ℕ) → MayFound rules → place < 16 → lawful_front rules events ≡ events
+RepairedByTaking = (rules : Rules) (events : List Event) (place more : ℕ) → MayFound rules → place < 16 → lawful_front rules events ≡ events
     → MayRepair (run rules events) place
     → (name : ℕ) → has (members ((run rules events).nodes (current (run rules events) place))) name ≡ true
-    → HasAll (after_rounds (round_count rules) (run rules events)) name (top ((run rules events).nodes (current (run rules events) place)))
+    → HasAll (after_rounds (round_count rules + more) (run rules events)) name (top ((run rules events).nodes (current (run rules events) place)))
 
 -- and no own send of theirs is pending that stood there
 abbrev pub AnsweredByTaking : Type 0
-AnsweredByTaking = (rules : Rules) (events : List Event) (place : ℕ) → MayFound rules → place < 16 → lawful_front rules events ≡ events
+AnsweredByTaking = (rules : Rules) (events : List Event) (place more : ℕ) → MayFound rules → place < 16 → lawful_front rules events ≡ events
     → MayRepair (run rules events) place
     → (name : ℕ) → has (members ((run rules events).nodes (current (run rules events) place))) name ≡ true
-    → AnswersUpTo ((after_rounds (round_count rules) (run rules events)).nodes name) (top ((run rules events).nodes (current (run rules events) place)))
+    → AnswersUpTo ((after_rounds (round_count rules + more) (run rules events)).nodes name) (top ((run rules events).nodes (current (run rules events) place)))

@@ -10,7 +10,7 @@ pub fn taking_stays_calm()
 
 /// Where no member of a calm world is more than eight times so many entries behind, two rounds more in which applications take bring each of
 /// them to where its sequencer stood, and its application is given all of that. So it is in every lawful run that may be repaired, after as many
-/// rounds as a schedule has in which nobody takes; and no own send that stood there is pending.
+/// rounds as a schedule has in which nobody takes, and after each later round; and no own send that stood there is pending.
 pub fn taking_repairs()
     ensures calm { TakingRepairs }
     ensures repaired { RepairedByTaking }
