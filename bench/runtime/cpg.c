@@ -128,11 +128,12 @@ static void flood(size_t bytes, uint64_t from, uint64_t until, int sends) {
     pthread_mutex_lock(&mutex);
     cell.from = from, cell.until = until;
     pthread_mutex_unlock(&mutex);
+    int is_late = now() >= from;
     while (sends && now() < until)
         if (send_one(sent, bytes, until)) sent++;
     sleep_until(until);
     pthread_mutex_lock(&mutex);
-    printf("{\"sent\": %" PRIu32 ", \"in_time\": %" PRIu64 "}\n", sent, cell.in_time);
+    printf("{\"sent\": %" PRIu32 ", \"in_time\": %" PRIu64 ", \"is_late\": %s}\n", sent, cell.in_time, is_late ? "true" : "false");
     pthread_mutex_unlock(&mutex);
 }
 

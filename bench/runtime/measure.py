@@ -75,8 +75,11 @@ def flood(group: Group, size: int, senders: set[int], seconds: float) -> Flood:
     own, every, took = used_by(group.processes()) - own, used_by_all() - every, (clock() - began) / SECOND
     said = [member.hear(SETTLE) for member in group.members.values()]
     is_settled = settle(group, sum(each["sent"] for each in said))
+    if any(each["is_late"] for each in said):
+        raise Fault("a member was told too late, as the machine is busy")
     delivered = [each["in_time"] for each in said]
-    cost = own / sum(delivered) * 1e6 if any(delivered) else math.inf
+    is_fair = any(delivered) and abs(took - seconds) < seconds / 10
+    cost = own / took / (sum(delivered) / seconds) * 1e6 if is_fair else math.nan
     return Flood(min(delivered) / seconds, cost, max(0.0, every - own) / took, is_settled)
 
 

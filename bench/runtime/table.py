@@ -27,12 +27,10 @@ class Results:
 
     def shown(self, cell: tuple, of: Callable[[object], float]) -> str:
         """The median of a cell's values, with their spread, and of how many it is if some are missing; "-" if there is none."""
-        values = [of(value) for value in self.values.get(cell, [])]
+        values = [number for number in map(of, self.values.get(cell, [])) if not math.isnan(number)]
         if not values:
             return "-"
         middle = statistics.median(values)
-        if math.isinf(middle):
-            return "-"
         digits = 0 if middle >= 100 else 1 if middle >= 10 else 2
         spread = f" ±{(max(values) - min(values)) / middle / 2:.0%}" if len(values) > 1 and middle else ""
         missing = f" ({len(values)} of {self.tried[cell]})" if len(values) < self.tried[cell] else ""

@@ -163,6 +163,7 @@ impl Load {
             (cell.from, cell.until) = (from, until);
             cell.number
         };
+        let is_late = now() >= from;
         let mut sent = 0;
         while sends && now() < until {
             let _ticket = self.group.submit(message_of(cell, sent, bytes))?;
@@ -170,7 +171,9 @@ impl Load {
         }
         sleep_until(until);
         let in_time = lock(&self.cell).in_time;
-        Ok(format!("{{\"sent\": {sent}, \"in_time\": {in_time}}}"))
+        Ok(format!(
+            "{{\"sent\": {sent}, \"in_time\": {in_time}, \"is_late\": {is_late}}}"
+        ))
     }
 
     /// Waits until so many messages of the cell are delivered.
