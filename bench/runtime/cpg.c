@@ -25,7 +25,7 @@ struct head {
 /* What was delivered of the messages of one cell. */
 struct cell {
     uint32_t number, own;
-    uint64_t from, until, delivered, in_time, order, many_took, resumed;
+    uint64_t delivered, order, last, many_took, resumed;
     int keeps, is_smaller;
 };
 
@@ -65,7 +65,7 @@ static void deliver(cpg_handle_t of, const struct cpg_name *group, uint32_t node
     if (head.cell == cell.number) {
         uint64_t time = now();
         cell.delivered++;
-        cell.in_time += cell.from <= time && time < cell.until;
+        cell.last = time;
         cell.order = (cell.order ^ ((uint64_t)node << 32 | head.number)) * 0x100000001b3ull;
         if (cell.keeps && cell.many_took < MOST_TOOK) took[cell.many_took++] = time - head.sent;
         if (cell.is_smaller && !cell.resumed) cell.resumed = time;
@@ -125,16 +125,10 @@ static int send_one(uint32_t number, size_t bytes, uint64_t until) {
 
 static void flood(size_t bytes, uint64_t from, uint64_t until, int sends) {
     uint32_t sent = 0;
-    pthread_mutex_lock(&mutex);
-    cell.from = from, cell.until = until;
-    pthread_mutex_unlock(&mutex);
-    int is_late = now() >= from;
+    sleep_until(from);
     while (sends && now() < until)
         if (send_one(sent, bytes, until)) sent++;
-    sleep_until(until);
-    pthread_mutex_lock(&mutex);
-    printf("{\"sent\": %" PRIu32 ", \"in_time\": %" PRIu64 ", \"is_late\": %s}\n", sent, cell.in_time, is_late ? "true" : "false");
-    pthread_mutex_unlock(&mutex);
+    printf("{\"sent\": %" PRIu32 "}\n", sent);
 }
 
 static void settle(uint64_t all, uint64_t until) {
@@ -146,7 +140,7 @@ static void settle(uint64_t all, uint64_t until) {
         if (seen.delivered >= all || now() >= until) break;
         sleep_until(now() + 1000000);
     }
-    printf("{\"delivered\": %" PRIu64 ", \"order\": \"%" PRIx64 "\"}\n", seen.delivered, seen.order);
+    printf("{\"delivered\": %" PRIu64 ", \"order\": \"%" PRIx64 "\", \"last\": %" PRIu64 "}\n", seen.delivered, seen.order, seen.last);
 }
 
 static void single(size_t bytes, size_t many, uint64_t pause, uint64_t until, int sends) {

@@ -63,8 +63,9 @@ class Process:
     """A member as a process. Its lines, with times of the monotonic clock:
 
     cell NUMBER                             counts messages of this cell from now on
-    flood BYTES FROM UNTIL SENDS            sends until a time, if SENDS is 1; counts what is delivered between the two
-    settle MANY UNTIL                       waits until so many messages of the cell are delivered; a digest of their order
+    flood BYTES FROM UNTIL SENDS            sends between two times as fast as it can, if SENDS is 1
+    settle MANY UNTIL                       waits until so many messages of the cell are delivered; a digest of their order, and when the
+                                            last was
     single BYTES MANY PAUSE UNTIL SENDS     sends one at a time; how long each took until its delivery here
     pace BYTES EVERY                        begins to send one each so many nanoseconds
     resumed UNTIL                           when the first message in a view with fewer members was delivered

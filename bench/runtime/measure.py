@@ -9,7 +9,7 @@ from groups import Fault, Group, clock, sleep_until
 
 TICKS = os.sysconf("SC_CLK_TCK")
 SECOND = 1_000_000_000
-WARM = 0.3  # seconds of a flood before the part that is counted
+SOON = 20_000_000  # nanoseconds from when members are told of a flood to its begin
 SETTLE = 10.0  # seconds in which all that was sent must be delivered
 LEAST = 10  # messages of one at a time, so that they count
 PAUSE = 3_000_000  # nanoseconds between two messages of one at a time, half of it to three halves
@@ -17,8 +17,8 @@ PAUSE = 3_000_000  # nanoseconds between two messages of one at a time, half of 
 
 @dataclass
 class Flood:
-    """Messages a second at the member that was given least, processor seconds a million deliveries, processors that others used; whether
-    all was delivered to all in the end."""
+    """Messages a second, from the begin to the last delivery at the last member; processor seconds of all members a million deliveries;
+    processors that others used; whether all was delivered to all in the end."""
 
     rate: float
     cost: float
@@ -65,33 +65,21 @@ def share(values: list[int], percent: int) -> float:
 def flood(group: Group, size: int, senders: set[int], seconds: float) -> Flood:
     """Senders send as fast as the group takes it. In the end all is delivered to all, in one order."""
     group.new_cell()
-    since = clock() + int(WARM * SECOND)
+    own, every, since = used_by(group.processes()), used_by_all(), clock() + SOON
     until = since + int(seconds * SECOND)
-    for place, member in group.members.items():
-        member.tell(f"flood {size} {since} {until} {int(place in senders)}")
-    sleep_until(since)
-    own, every, began = used_by(group.processes()), used_by_all(), clock()
-    sleep_until(until)
-    own, every, took = used_by(group.processes()) - own, used_by_all() - every, (clock() - began) / SECOND
-    said = [member.hear(SETTLE) for member in group.members.values()]
-    is_settled = settle(group, sum(each["sent"] for each in said))
-    if any(each["is_late"] for each in said):
-        raise Fault("a member was told too late, as the machine is busy")
-    delivered = [each["in_time"] for each in said]
-    is_fair = any(delivered) and abs(took - seconds) < seconds / 10
-    cost = own / took / (sum(delivered) / seconds) * 1e6 if is_fair else math.nan
-    return Flood(min(delivered) / seconds, cost, max(0.0, every - own) / took, is_settled)
-
-
-def settle(group: Group, sent: int) -> bool:
-    """Whether all that was sent is delivered to each member in a while. It is a fault if it is in different orders, or more than that."""
+    ends = group.ask(lambda place: f"flood {size} {since} {until} {int(place in senders)}", seconds + SETTLE)
+    sent = sum(end["sent"] for end in ends.values())
     ends = group.ask(f"settle {sent} {clock() + int(SETTLE * SECOND)}", SETTLE + 5)
-    delivered = {end["delivered"] for end in ends.values()}
+    own, every, took = used_by(group.processes()) - own, used_by_all() - every, (clock() - since) / SECOND
+    delivered = [end["delivered"] for end in ends.values()]
+    is_settled = set(delivered) == {sent}
     if max(delivered) > sent:
         raise Fault(f"{max(delivered)} messages were delivered of {sent}")
-    if delivered == {sent} and len({end["order"] for end in ends.values()}) > 1:
+    if is_settled and len({end["order"] for end in ends.values()}) > 1:
         raise Fault("members were given different orders")
-    return delivered == {sent}
+    spent = (max(end["last"] for end in ends.values()) - since) / SECOND if is_settled else took
+    cost = own / sum(delivered) * 1e6 if any(delivered) else math.nan
+    return Flood(min(delivered) / spent, cost, max(0.0, every - own) / took, is_settled)
 
 
 def single(group: Group, size: int, sender: int, many: int) -> Single:

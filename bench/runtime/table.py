@@ -31,8 +31,8 @@ class Results:
         if not values:
             return "-"
         middle = statistics.median(values)
-        digits = 0 if middle >= 100 else 1 if middle >= 10 else 2
-        spread = f" ±{(max(values) - min(values)) / middle / 2:.0%}" if len(values) > 1 and middle else ""
+        digits = 0 if middle >= 100 or float(middle).is_integer() else 1 if middle >= 10 else 2
+        spread = f" ±{(max(values) - min(values)) / middle / 2:.0%}" if middle and min(values) < max(values) else ""
         missing = f" ({len(values)} of {self.tried[cell]})" if len(values) < self.tried[cell] else ""
         return f"{middle:,.{digits}f}{spread}{missing}"
 

@@ -25,11 +25,9 @@ const MOST_WAITING: usize = 1 << 18;
 #[derive(Default)]
 struct Cell {
     number: u32,
-    from: u64,
-    until: u64,
     delivered: u64,
-    in_time: u64,
     order: u64,
+    last: u64,
     keeps: bool,
     took: Vec<u64>,
     is_smaller: bool,
@@ -55,7 +53,7 @@ impl Cell {
         }
         let now = now();
         self.delivered += 1;
-        self.in_time += u64::from((self.from..self.until).contains(&now));
+        self.last = now;
         let who = u64::from(from.place()) << 32 | u64::from(number);
         self.order = (self.order ^ who).wrapping_mul(0x0100_0000_01b3);
         if self.keeps {
@@ -154,38 +152,30 @@ impl Load {
         })
     }
 
-    /// Sends messages until a time, as fast as the group takes them.
+    /// Sends messages between two times, as fast as the group takes them; how many.
     fn flood(&self, words: &mut SplitWhitespace) -> Result<String, Fault> {
         let (bytes, from, until): (usize, u64, u64) = (next(words)?, next(words)?, next(words)?);
         let sends = next::<u8>(words)? == 1;
-        let cell = {
-            let mut cell = lock(&self.cell);
-            (cell.from, cell.until) = (from, until);
-            cell.number
-        };
-        let is_late = now() >= from;
+        let cell = lock(&self.cell).number;
         let mut sent = 0;
+        sleep_until(from);
         while sends && now() < until {
             let _ticket = self.group.submit(message_of(cell, sent, bytes))?;
             sent += 1;
         }
-        sleep_until(until);
-        let in_time = lock(&self.cell).in_time;
-        Ok(format!(
-            "{{\"sent\": {sent}, \"in_time\": {in_time}, \"is_late\": {is_late}}}"
-        ))
+        Ok(format!("{{\"sent\": {sent}}}"))
     }
 
-    /// Waits until so many messages of the cell are delivered.
+    /// Waits until so many messages of the cell are delivered; how many were, a digest of their order, and when the last was.
     fn settle(&self, words: &mut SplitWhitespace) -> Result<String, Fault> {
         let (all, until): (u64, u64) = (next(words)?, next(words)?);
         while lock(&self.cell).delivered < all && now() < until {
             std::thread::sleep(Duration::from_millis(1));
         }
         let cell = lock(&self.cell);
-        let (delivered, order) = (cell.delivered, cell.order);
+        let (delivered, order, last) = (cell.delivered, cell.order, cell.last);
         Ok(format!(
-            "{{\"delivered\": {delivered}, \"order\": \"{order:x}\"}}"
+            "{{\"delivered\": {delivered}, \"order\": \"{order:x}\", \"last\": {last}}}"
         ))
     }
 
