@@ -64,8 +64,10 @@ struct Commands {
 }
 
 impl Commands {
-    fn is_empty(&self) -> bool {
-        self.urgent.is_empty() && self.in_order.is_empty()
+    /// Whether something urgent waits, or a message for which the member has room.
+    fn has_one_for(&self, room: usize) -> bool {
+        let next = self.in_order.front();
+        !self.urgent.is_empty() || next.is_some_and(|next| next.cost() <= room)
     }
 }
 
@@ -178,10 +180,15 @@ impl Shared {
 
     // ---- the thread
 
-    /// Waits until something can be read, a command came, or the time is over; whether something can be read.
-    pub(crate) fn sleep(&self, descriptor: std::os::fd::RawFd, most: std::time::Duration) -> bool {
+    /// Waits until something can be read, a command came for which there is room, or the time is over; whether something can be read.
+    pub(crate) fn sleep(
+        &self,
+        descriptor: std::os::fd::RawFd,
+        most: std::time::Duration,
+        room: usize,
+    ) -> bool {
         self.is_asleep.store(true, Ordering::SeqCst);
-        let has_work = !lock(&self.commands).is_empty()
+        let has_work = lock(&self.commands).has_one_for(room)
             || self.received.load(Ordering::SeqCst) * 4 >= self.most_unreceived;
         let most = if has_work {
             std::time::Duration::ZERO

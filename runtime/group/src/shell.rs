@@ -189,7 +189,9 @@ impl Shell {
         loop {
             let left = self.member.wake().0.saturating_sub(self.now().0);
             let most = Duration::from_micros(left);
-            let can_read = self.shared.sleep(self.udp.descriptor(), most);
+            let can_read = self
+                .shared
+                .sleep(self.udp.descriptor(), most, self.member.free());
             if can_read {
                 if let Err(error) = self.read() {
                     return End::Failed(format!("the socket can't be read: {error}"));
