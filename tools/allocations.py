@@ -1,57 +1,50 @@
-"""Makes each allocation of the program fail in turn: it then tells that there was no memory and writes nothing, or does all as ever.
-And compares how often it asks for memory, and for how many bytes together, with what a list has for some scripts: more is refused, and
-where it is less, that is told.
+"""Makes each allocation of the program fail in turn. The program must then say that there was no memory and write nothing, or do everything as
+usual. It also compares how often the program asks for memory, and for how many bytes together, with a list for some scripts. It refuses
+more, and reports less.
 
 Usage: allocations.py PROGRAM LIST SCRIPT...
 
 A line of the list is a script, how many allocations the program makes for it, and how many bytes these ask for. A script in a folder
-`races` is a race, of one thread; what stands in a folder `audits` is a text to audit, which agrees.
+`races` is a race, of one thread; a file in a folder `audits` is a text to audit, which agrees.
 """
 
 import os
 import subprocess
-import sys
 import tempfile
 from pathlib import Path
 
+from running import run
 from words import end, words
 
 
-def word_for(script):
+def word_for(script: str) -> str:
     """The word that a script is for, by its folder."""
     folders = {"races": "race", "audits": "audit"}
     return next((folders[part] for part in Path(script).parts if part in folders), "play")
 
 
-def run(program, library, script, **more):
+def answered(program: str, library: str, script: str, **more: str) -> tuple[int, bytes, bytes]:
+    """The program's status for a script, what it says on standard error, and what it writes; `more` goes to its environment."""
     word = word_for(script)
-    with open(script, "rb") as source:
-        done = subprocess.run(
-            [program, word],
-            stdin=source,
-            capture_output=True,
-            env={"LD_PRELOAD": library, **more},
-            timeout=60,
-            check=False,
-        )
+    done = run([program, word], Path(script).read_bytes(), env={"LD_PRELOAD": library, **more})
     return done.returncode, done.stderr, done.stdout
 
 
-def asked_by(program, library, script):
+def asked_by(program: str, library: str, script: str) -> tuple[int, int, bytes]:
     """How many allocations there are, how many bytes they ask for together, and the text that the program wrote."""
     text = Path(script).with_suffix(".line" if word_for(script) == "audit" else ".txt").read_bytes()
-    status, told, written = run(program, library, script, COUNT_ALLOCATIONS="1")
+    status, told, written = answered(program, library, script, COUNT_ALLOCATIONS="1")
     assert (status, written) == (0, text), f"{script} doesn't print its text"
     count, size = told.split()
     return int(count), int(size), text
 
 
-def refused_by(program, library, script):
+def refused_by(program: str, library: str, script: str) -> tuple[int, int]:
     """How many allocations there are, and for how many the program told that there was no memory."""
     count, _, text = asked_by(program, library, script)
     refused = 0
     for number in range(1, count + 1):
-        came = run(program, library, script, FAIL_AT=str(number))
+        came = answered(program, library, script, FAIL_AT=str(number))
         if came == (6, b"no memory\n", b""):
             refused += 1
         elif came != (0, b"", text):
@@ -60,7 +53,7 @@ def refused_by(program, library, script):
     return count, refused
 
 
-def is_within(program, library, line):
+def is_within(program: str, library: str, line: str) -> bool:
     """Whether the program asks for no more memory than a line of the list says."""
     script, listed, listed_bytes = line.split()
     count, size, _ = asked_by(program, library, script)
@@ -72,7 +65,8 @@ def is_within(program, library, line):
     return True
 
 
-def main(program, bounds, scripts):
+def main(program: str, bounds: str, scripts: list[str]) -> int:
+    """Compares with the list, and lets each allocation fail."""
     here = Path(__file__).parent
     lines = [line for line in Path(bounds).read_text().splitlines() if line and not line.startswith("#")]
     failed = False

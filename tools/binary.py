@@ -1,4 +1,4 @@
-"""Events of a node as bytes, and answers as text, as docs/EMBEDDING.md, "The binary call", has them: read from the page, and not from the program."""
+"""Events of a node as bytes, and answers as text, written from docs/EMBEDDING.md ("The binary call") and not from the program."""
 
 import dataclasses
 

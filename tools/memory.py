@@ -1,13 +1,14 @@
-"""Lists where the sources make an answer that there was no memory, and compares with the list of them that has the reasons.
+"""Lists where the sources answer that there was no memory, and compares with the list of these places that has the reasons.
 
-No clause can say that memory sufficed, so this list is short, and a reader can check each place: memory was asked for there. With
-each place stand the conditions that lead to it in its function, from the outermost on, so that a condition more is another place.
+    memory.py SOURCES LIST
 
-Usage: memory.py SOURCES LIST
+No clause can say that memory sufficed. So this list is short, and a reader can check each place: memory was asked for there. Each place
+has the conditions that lead to it in its function, from the outermost on. So one condition more makes it another place.
 """
 
 import re
 import sys
+from collections.abc import Iterator
 from pathlib import Path
 
 from words import words
@@ -20,11 +21,12 @@ FUNCTION = re.compile(r'(pub |pub\(crate\) )?(const |extern "C" )?fn\b')
 CLOSING = re.compile(r"[)\]{]|\}(?! else)")
 
 
-def depth(line):
+def depth(line: str) -> int:
+    """How far a line is indented."""
     return len(line) - len(line.lstrip(" "))
 
 
-def opening(lines, at):
+def opening(lines: list[str], at: int) -> tuple[int, str]:
     """The line at which the statement begins whose block is opened at the end of a line, and its text without the brace."""
     begins = at
     while begins > 0 and (not lines[begins].strip() or depth(lines[begins]) > depth(lines[at]) or CLOSING.match(lines[begins].strip())):
@@ -33,9 +35,9 @@ def opening(lines, at):
     return begins, text.removesuffix("{").strip()
 
 
-def conditions(lines, at):
+def conditions(lines: list[str], at: int) -> list[str]:
     """What leads to a line within its function, from the outermost on."""
-    found = []
+    found: list[str] = []
     level = depth(lines[at])
     while at > 0 and level > 0:
         at -= 1
@@ -53,7 +55,7 @@ def conditions(lines, at):
     return found
 
 
-def made_in(text):
+def made_in(text: str) -> Iterator[str]:
     """The lines that make it with their conditions, without tests."""
     lines = text.split("#[cfg(test)]")[0].splitlines()
     for at, line in enumerate(lines):
@@ -67,7 +69,8 @@ def made_in(text):
             yield " > ".join([*conditions(lines, at), code])
 
 
-def places(sources):
+def places(sources: str) -> Iterator[str]:
+    """All places of the sources, each with its file."""
     for path in sorted(Path(sources).glob("*/src/**/*.rt")):
         if path.name == "tests.rt" or path.name.endswith("_tests.rt"):
             continue
@@ -75,7 +78,8 @@ def places(sources):
             yield f"{path.relative_to(sources)}: {code}"
 
 
-def main(sources, wanted):
+def main(sources: str, wanted: str) -> int:
+    """Compares the places with the list."""
     found = list(places(sources))
     listed = [line for line in Path(wanted).read_text().splitlines() if line and not line.startswith("#")]
     for line in found:

@@ -1,12 +1,12 @@
 #!/usr/bin/env python3
 """Tries random races.
 
-    python3 tools/races.py PROGRAM [--other OTHER] [--seed N] [--races N]
+    races.py PROGRAM [--other OTHER] [--seed N] [--races N]
 
-Each race must end with status 0; its first line must be a script whose text `PROGRAM play` writes again as the other lines, and so must
-`OTHER play`, where there is one; its last line must be `lawful`, or `void from` an event behind more stops than nought. The races are
-made from the seed, 1 where none is said, and there are a hundred. It prints each that fails, and last how many events were done, with
-which outcomes. The races are the same on each machine; what is done in them isn't.
+Each race must end with status 0. Its first line must be a script, and `PROGRAM play` of that line must write the other lines, as must
+`OTHER play` if there is one. Its last line must be `lawful`, or `void from` an event after at least one stop. The races are made from the
+seed (1); there are a hundred by default. It prints each race that fails, and last how many events were done, with which outcomes. The races
+are the same on each machine, but their runs differ.
 """
 
 import argparse
@@ -15,6 +15,7 @@ import json
 import random
 import re
 import sys
+from typing import Any
 
 from try_races import Wrong, raced
 
@@ -24,7 +25,7 @@ MOST_RECORDS = 20000
 CALLS = ["send"] * 5 + ["take"] * 4 + ["join", "leave", "reset", "stop"]
 
 
-def call_of(drawn, calm):
+def call_of(drawn: random.Random, calm: bool) -> dict[str, Any]:
     """A call; in a calm race nobody leaves, resets or stops."""
     do = drawn.choice(CALLS[:-3] if calm else CALLS)
     if do == "send":
@@ -36,18 +37,18 @@ def call_of(drawn, calm):
     return {"do": do}
 
 
-def race_of(drawn):
+def race_of(drawn: random.Random) -> dict[str, Any]:
     """A race: mostly few places, and more than one thread at some of them."""
     founders = drawn.sample(range(16), drawn.choice([1, 2, 2, 3, 3, 4, 6, 16]))
     places = founders + drawn.sample(range(16), drawn.randint(0, 2))
     calm = drawn.random() < 0.4
-    threads = [
+    threads: list[dict[str, Any]] = [
         {"node": drawn.choice(places), "calls": [call_of(drawn, calm) for _ in range(drawn.randint(0, 12))]}
         for _ in range(drawn.randint(1, drawn.choice([2, 4, 8, 16])))
     ]
     count = sum(len(thread["calls"]) for thread in threads)
     turns = drawn.choice([1, 5, 50, 200, 1000])
-    race = {"founders": founders, "seed": drawn.getrandbits(64), "turns": max(1, min(turns, MOST_RECORDS // max(count, 1) - 2))}
+    race: dict[str, Any] = {"founders": founders, "seed": drawn.getrandbits(64), "turns": max(1, min(turns, MOST_RECORDS // max(count, 1) - 2))}
     for key, some in [
         ("resilience", drawn.randint(0, 3)), ("window", drawn.choice([1, 2, 8, 64, 1008])), ("pb_up_to", drawn.choice([0, 16, 1024])),
         ("loss", drawn.randint(0, 50)), ("repeat", drawn.randint(0, 40)),
@@ -57,7 +58,7 @@ def race_of(drawn):
     return {"race": {**race, "threads": threads}}
 
 
-def told(text):
+def told(text: str) -> list[str]:
     """The outcomes of a text's events; its mark must be a true one."""
     *lines, mark = text.splitlines()
     events = [line for line in lines if re.match(r"[0-9]+ [a-z]+ ", line)]
@@ -69,14 +70,16 @@ def told(text):
     return [line.split(" : ")[1].split()[0] for line in events] + ["(lawful)" if not broken else "(void)"]
 
 
-def main():
+def main() -> int:
+    """Runs the races."""
     words = argparse.ArgumentParser(description=__doc__, formatter_class=argparse.RawDescriptionHelpFormatter)
     words.add_argument("program", help="the command whose words race and play are run")
     words.add_argument("--other", help="a further command whose word play is run")
     words.add_argument("--seed", type=int, default=1, help="of the races")
     words.add_argument("--races", type=int, default=100, help="how many")
     asked = words.parse_args()
-    drawn, outcomes, failed = random.Random(asked.seed), collections.Counter(), 0
+    drawn, failed = random.Random(asked.seed), 0
+    outcomes: collections.Counter[str] = collections.Counter()
     players = [asked.program, *([asked.other] if asked.other else [])]
     for number in range(1, asked.races + 1):
         race = json.dumps(race_of(drawn))

@@ -1,5 +1,5 @@
-"""Runs the program once for each status and each way to it, and looks at the whole line on standard error, the status and what was written.
-Then it runs it with the memory and the stack that docs/SCRIPTS.md states, on what takes the most.
+"""Runs the program once for each status and each way to it, and checks the whole line on standard error, the status and the output.
+Then it runs the program with the memory and the stack that docs/SCRIPTS.md states, on the input that takes the most.
 
 Usage: statuses.py PROGRAM
 """
@@ -9,19 +9,26 @@ import resource
 import subprocess
 import sys
 import tempfile
+from collections.abc import Callable, Sequence
+from typing import IO, Any
 
 from words import words
+
+# the words of a call; and a status with a line on standard error
+Words = Sequence[str | bytes]
+Line = tuple[int, bytes]
 
 FOUNDERS = b'{"play":{"founders":[0],"events":['
 TICK = b'{"do":"tick","node":0}'
 SMALL = FOUNDERS + b"]}}"
 
 
-def script(*events):
+def script(*events: bytes) -> bytes:
+    """A play of these events."""
     return FOUNDERS + b",".join(events) + b"]}}"
 
 
-def settled(count):
+def settled(count: int) -> bytes:
     """So many ticks, and then the whole settling."""
     return b'{"play":{"founders":[0],"settle":true,"events":[' + b",".join([TICK] * count) + b"]}}"
 
@@ -45,12 +52,13 @@ lawful
 SUMMARY = b"events 50\npackets 18\nentries 2\ntook 5\nsent 0\nheld 0\nlawful\n"
 
 
-def gen(seed, count):
+def gen(seed: str, count: str) -> list[str]:
+    """The words of a generated run."""
     return ["gen", "--seed", seed, "--count", count]
 
 
 # the words, the input, the line on standard error, the status, and what is written
-CASES = [
+CASES: list[tuple[Words, bytes, str, int, bytes]] = [
     (["play"], SMALL, "", 0, TEXT),
     ([], SMALL, USAGE, 1, b""),
     ([""], SMALL, USAGE, 1, b""),
@@ -157,30 +165,32 @@ CASES += [(words.split(" "), b"", "", 0, b"") for words in NODES.splitlines()]
 NODE = NODES.splitlines()[0].split(" ")
 
 
-def run(program, words, **how):
-    done = subprocess.run([program, *words], timeout=110, check=False, **how)
-    return done.returncode
+def status_of(program: str, words: Words, **how: Any) -> int:
+    """The program's status."""
+    return subprocess.call([program, *words], timeout=110, **how)
 
 
-def tell(failed, name, got, wanted):
+def tell(failed: list[str], name: str, got: Any, wanted: Any) -> None:
+    """Notes and prints a try that failed."""
     if got != wanted:
         print(f"refused: {name} gave {got} and not {wanted}")
         failed.append(name)
 
 
-def on_its_input(program, failed):
+def on_its_input(program: str, failed: list[str]) -> None:
+    """Tries all cases."""
     for words, text, line, status, written in CASES:
         with tempfile.TemporaryFile() as source, tempfile.TemporaryFile() as told, tempfile.TemporaryFile() as out:
             source.write(text)
             source.seek(0)
-            got = run(program, words, stdin=source, stdout=out, stderr=told)
+            got = status_of(program, words, stdin=source, stdout=out, stderr=told)
             told.seek(0)
             out.seek(0)
             wanted = (status, (line + "\n").encode() if line else b"", written)
             tell(failed, f"{words} on {text[:60]!r}", (got, told.read(), out.read()), wanted)
 
 
-def where_something_fails(program, failed):
+def where_something_fails(program: str, failed: list[str]) -> None:
     """A directory as input, a full or closed output, a full or closed standard error, little memory, and no threads."""
     folder = os.open("/", os.O_RDONLY)
     full = os.open("/dev/full", os.O_WRONLY)
@@ -188,7 +198,8 @@ def where_something_fails(program, failed):
     empty, _writes = os.pipe()
     os.set_blocking(empty, False)
 
-    def line(words, source, sink, **how):
+    def line(words: Words, source: Any, sink: Any, **how: Any) -> Line:
+        """The status, and the line on standard error."""
         done = subprocess.run([program, *words], stdin=source, stdout=sink, stderr=subprocess.PIPE, timeout=110, check=False, **how)
         return done.returncode, done.stderr
 
@@ -196,7 +207,8 @@ def where_something_fails(program, failed):
         small.write(SMALL)
         large.write(script(*[TICK] * 100000))
 
-        def again(source):
+        def again(source: IO[bytes]) -> IO[bytes]:
+            """An input, from its beginning."""
             source.seek(0)
             return source
 
@@ -218,17 +230,17 @@ def where_something_fails(program, failed):
             text.write(TEXT)
             tell(failed, "a full device for audit", line(["audit"], again(text), full), (5, b"write fault\n"))
         tell(failed, "a full device for gen", line(gen("1", "50"), again(small), full), (5, b"write fault\n"))
-        tell(failed, "usage to a full device", run(program, ["x"], stdin=again(small), stdout=nothing, stderr=full), 1)
-        closed = run(program, ["x"], stdin=again(small), stdout=nothing, preexec_fn=lambda: os.close(2))
+        tell(failed, "usage to a full device", status_of(program, ["x"], stdin=again(small), stdout=nothing, stderr=full), 1)
+        closed = status_of(program, ["x"], stdin=again(small), stdout=nothing, preexec_fn=lambda: os.close(2))
         tell(failed, "usage with standard error closed", closed, 1)
-        closed = run(program, ["play"], stdin=again(small), stdout=nothing, preexec_fn=lambda: os.close(2))
+        closed = status_of(program, ["play"], stdin=again(small), stdout=nothing, preexec_fn=lambda: os.close(2))
         tell(failed, "a script with standard error closed", closed, 0)
         tell(failed, "little memory", with_memory(line, ["play"], again(large)), (6, b"no memory\n"))
         tell(failed, "little memory for gen", with_memory(line, gen("1", "100000"), again(small)), (6, b"no memory\n"))
 
 
-def with_memory(line, words, source, most=24 << 20):
-    """What the program tells where it has so many bytes of memory, 24 megabytes."""
+def with_memory(line: Callable[..., Line], words: Words, source: IO[bytes], most: int = 24 << 20) -> Line:
+    """The program's answer with so many bytes of memory, 24 megabytes."""
     return line(words, source, subprocess.DEVNULL, preexec_fn=lambda: resource.setrlimit(resource.RLIMIT_AS, (most, most)))
 
 
@@ -246,8 +258,8 @@ LARGE = {
 }
 
 
-def within_limits(program, failed):
-    """What is no script is refused within the memory that is stated, and each word does with the stack that is."""
+def within_limits(program: str, failed: list[str]) -> None:
+    """The stated memory suffices to refuse input that is no script, and the stated stack suffices for each word."""
     for name, (frame, part, line) in LARGE.items():
         text = frame % b",".join([part] * ((2 << 20) // (len(part) + 1)))
         most = BESIDES + A_BYTE * len(text)
@@ -258,18 +270,20 @@ def within_limits(program, failed):
         tell(failed, f"{words} with {STACK} bytes of stack", (ran.returncode, ran.stdout), (0, written))
 
 
-def without_threads(line, words, source):
-    """What the program tells where no thread can be made: a thread's stack would have a terabyte, and there is a gigabyte in all."""
+def without_threads(line: Callable[..., Line], words: Words, source: IO[bytes]) -> Line:
+    """The program's answer if no thread can be made: a thread's stack would have a terabyte, and there is a gigabyte in all."""
 
-    def limit():
+    def limit() -> None:
+        """Sets the limits."""
         resource.setrlimit(resource.RLIMIT_STACK, (1 << 40, resource.getrlimit(resource.RLIMIT_STACK)[1]))
         resource.setrlimit(resource.RLIMIT_AS, (1 << 30, 1 << 30))
 
     return line(words, source, subprocess.DEVNULL, preexec_fn=limit)
 
 
-def main(program):
-    failed = []
+def main(program: str) -> int:
+    """Tries all of it."""
+    failed: list[str] = []
     on_its_input(program, failed)
     where_something_fails(program, failed)
     within_limits(program, failed)

@@ -1,25 +1,24 @@
 #!/usr/bin/env python3
 """Runs the program on scripts, and compares what it writes with the texts beside them.
 
-    python3 tools/texts.py PROGRAM FOLDER...
+    texts.py PROGRAM FOLDER...
 
-Each FOLDER has scripts NAME.json, and beside each the text NAME.txt that `PROGRAM play < NAME.json` must write, with status 0
-and nothing on standard error. It prints the first line that differs of each script that fails, and how many passed. Scripts
-with a NAME.cause are refused ones, and left out.
+Each FOLDER has scripts NAME.json, each with the text NAME.txt that `PROGRAM play < NAME.json` must write, with status 0 and nothing on
+standard error. Scripts with a NAME.cause are refused ones, and are left out. It prints the first line that differs of each script that
+fails, and how many passed.
 """
 
 import pathlib
-import subprocess
 import sys
 
+from running import run
 from words import words
 
 
-def difference(program, script):
+def difference(program: str, script: pathlib.Path) -> str | None:
     """What is wrong with the program's answer to a script; None where nothing is."""
     want = script.with_suffix(".txt").read_bytes()
-    with script.open("rb") as words:
-        ran = subprocess.run([program, "play"], stdin=words, capture_output=True, timeout=600)
+    ran = run([program, "play"], script.read_bytes(), 600)
     if ran.returncode != 0 or ran.stderr:
         return f"status {ran.returncode}: {ran.stderr.decode(errors='replace').strip()}"
     if ran.stdout == want:
@@ -30,7 +29,8 @@ def difference(program, script):
     return f"line {at + 1}: {line(got)}\n    wanted: {line(wanted)}"
 
 
-def main():
+def main() -> None:
+    """Compares all texts."""
     program, *folders = words(__doc__, 2)
     passed = failed = 0
     for folder in folders:

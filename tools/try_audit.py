@@ -1,22 +1,21 @@
 """Tries the auditor on texts, as they are and changed.
 
-    python3 tools/try_audit.py [--program PROGRAM] [--count COUNT] [--seed SEED] FOLDER...
+    try_audit.py [--program PROGRAM] [--count COUNT] [--seed SEED] FOLDER...
 
-Each FOLDER has texts NAME.txt. One with a NAME.line beside it must be told that line by tools/audit.py; any other must agree, or end
-in ` void from K`, but for those that are no play's; where there is a NAME.said, tools/explain.py must say that of its bad line. COUNT
-texts are made by changing one of these at one to three places. With a PROGRAM its word `audit` must tell the same of each text, changed
-or not. It prints what fails, and how many texts passed.
+Each FOLDER has texts NAME.txt. If a NAME.line is beside one, tools/audit.py must write that line. Any other text of a play must agree, or end in
+` void from K`. If there is a NAME.said, tools/explain.py must say that of the bad line. COUNT texts are made by changing one of these at one to three
+places. The word `audit` of a PROGRAM must write the same of each text, changed or not. It prints what fails, and how many texts passed.
 """
 
 import argparse
 import pathlib
 import random
-import subprocess
 import sys
 from collections import Counter
 
 import audit
 import explain
+from running import run
 
 # no texts of plays
 OTHER = {"about.txt", "sentences.txt"}
@@ -36,7 +35,7 @@ def told(data: bytes) -> tuple[int, bytes, bytes]:
 
 def answered(program: str, data: bytes) -> tuple[int, bytes, bytes]:
     """The same of a program."""
-    ran = subprocess.run([program, "audit"], input=data, capture_output=True, timeout=60, check=False)
+    ran = run([program, "audit"], data)
     return ran.returncode, ran.stdout, ran.stderr
 
 
@@ -66,6 +65,7 @@ def other_word(line: bytes, draw: random.Random) -> bytes:
 
 
 def other_byte(line: bytes, draw: random.Random) -> bytes:
+    """A line with one byte or two changed, added or left out."""
     place = draw.randrange(len(line) + 1)
     return line[:place] + draw.choice((b"", bytes([draw.randrange(256)]), b"0", b" ", b"/2")) + line[place + draw.randrange(2):]
 
@@ -105,6 +105,7 @@ def is_right(path: pathlib.Path, data: bytes) -> bool:
 
 
 def main() -> int:
+    """Audits all texts."""
     words = argparse.ArgumentParser(description=__doc__, formatter_class=argparse.RawDescriptionHelpFormatter)
     words.add_argument("--program", help="the command whose word audit must tell the same")
     words.add_argument("--count", type=int, default=0, help="how many changed texts")
@@ -112,9 +113,11 @@ def main() -> int:
     words.add_argument("folders", nargs="+", type=pathlib.Path)
     given = words.parse_args()
     passed = failed = 0
-    texts, verdicts = [], Counter()
+    texts: list[bytes] = []
+    verdicts: Counter[str] = Counter()
 
     def count(right: bool, what: object) -> None:
+        """Counts a try, and prints one that failed."""
         nonlocal passed, failed
         passed, failed = passed + right, failed + (not right)
         if not right:

@@ -1,15 +1,14 @@
 #!/usr/bin/env python3
-"""Tries the library for C and Rust: builds it, and the programs of bindings/ over it, and compares what they answer with the word `node`.
+"""Tries the library for C and Rust: builds it, and the programs of bindings/ over it, and compares their answers with those of the word `node`.
 
-    tools/try_c.py PROGRAM [--count N] [--seed N] [--sanitize]
+    try_c.py PROGRAM [--count N] [--seed N] [--sanitize]
 
-PROGRAM is the command whose word `node` is run. N lines (2,000), random and mutated, go to a node in each of nine states: through the
-C driver, through the Rust crate where cargo is there, and to the word `node`, and all must answer the same. So must events as bytes,
-which are read by tools/binary.py, and the lines that ask the same. Besides it tries each refusal, each allocation failing in turn,
-calls on a thread with little stack, three members with a crash in C and in Rust, a shared library from Python, and what is said where
-the library isn't there. With --sanitize the C programs are built with the address and the undefined sanitizer, and 100,000 lines go to
-each state. CC names the compiler (else
-cc, gcc or clang; the toolchain's own clang has no headers). It prints what fails, and how many parts passed.
+PROGRAM is the command whose word `node` is run. N lines (2,000), random and mutated, go to a node in each of nine states: through the C driver,
+through the Rust crate if cargo is there, and to the word `node`, and all must answer the same. Events as bytes, which tools/binary.py reads, must be
+answered as the lines that ask the same. It also tries each refusal, each allocation failing in turn, calls on a thread with little stack, three
+members with a crash in C and in Rust, a shared library from Python, and what is said if the library isn't there. With --sanitize the C programs are
+built with the address and the undefined sanitizer, and 100,000 lines go to each state. CC names the compiler; otherwise it is cc, gcc or clang (the
+toolchain's own clang has no headers). It prints what fails, and how many parts passed.
 """
 
 import argparse
@@ -25,6 +24,7 @@ import tempfile
 
 from binary import answer_of, event_of
 from library import kit
+from running import run
 from try_lines import STATES, mutated
 
 TOP = pathlib.Path(__file__).resolve().parent.parent
@@ -35,7 +35,8 @@ ANYTHING = "send 61", "tick", "take", "hear 1 414703050000000001000019" + "00000
 class Tried:
     """Where the programs are, and what they are run with."""
 
-    def __init__(self, wanted: argparse.Namespace, folder: pathlib.Path):
+    def __init__(self, wanted: argparse.Namespace, folder: pathlib.Path) -> None:
+        """The options of the call, and a folder for the programs."""
         self.folder, self.program, self.seed = folder, shlex.split(wanted.program), wanted.seed
         self.count = 100_000 if wanted.sanitize else wanted.count
         self.sanitize, self.cargo = wanted.sanitize, None if wanted.sanitize else shutil.which("cargo")
@@ -49,14 +50,6 @@ class Tried:
         if self.cargo:
             found["Rust"] = [str(self.folder / "target" / "release" / "examples" / "driver")]
         return found
-
-
-def run(words: list[str], lines: bytes = b"", seconds: int = 300, **more) -> subprocess.CompletedProcess[bytes]:
-    """Runs a command to its end, which comes within so many seconds."""
-    try:
-        return subprocess.run(words, input=lines, capture_output=True, timeout=seconds, check=False, **more)
-    except subprocess.TimeoutExpired as late:
-        return subprocess.CompletedProcess(words, -1, late.stdout or b"", f"not within {seconds} seconds".encode())
 
 
 def told(what: str, ran: subprocess.CompletedProcess[bytes]) -> list[str]:
@@ -197,7 +190,8 @@ def small_stack(tried: Tried) -> list[str]:
     """No call takes more stack than muoswyld.h says, on a thread that has no more."""
     if tried.sanitize:
         return []
-    wrong, most = [], {}
+    wrong: list[str] = []
+    most: dict[bytes, int] = {}
     for state in range(12):
         ran = run([str(tried.folder / "stack")], stack_script(random.Random(f"stack {tried.seed} {state}")).encode("latin-1"))
         wrong += told(f"stack, script {state},", ran)

@@ -1,12 +1,13 @@
 #!/usr/bin/env python3
 """Tries what ./muoswyld answers before anything is built, and what tools and pages say.
 
-    tools/try_command.py TOP
+    try_command.py TOP
 
-It copies the command into a folder without sources, so that whatever would build anything fails with status 70: help, versions and
-words that have no form must be answered there. With small programs in the place of the proved ones it has no room for what it keeps, or
-for what it writes. How it proves and builds is tried by try_building.py. Then it asks each tool for its page, calls it with words that have no form, and lets those for users write to a full
-device. Each piece of code of the pages must stand in the examples' crates, or in the example of the group in native code. It prints what fails, and how many passed.
+It copies the command into a folder without sources, so that everything that would build fails with status 70. Help, versions and words that have no
+form must be answered there. With small programs in place of the proved ones it has no room for what it keeps, or for what it writes. try_building.py
+tries how it proves and builds. Then it asks each tool for its page, calls it with words that have no form, and lets the tools for users write to a full
+device. Each piece of code of the pages must stand in the examples' crates, or in the example of the group in native code. It prints what fails, and how
+many passed.
 """
 
 import os
@@ -17,15 +18,17 @@ import shutil
 import subprocess
 import sys
 import tempfile
+from collections.abc import Iterator
 
 import try_building
+from running import run
 from words import end, words
 
 USAGE = "usage: play | race | gen --seed N --count 1..100000 [--script] | audit | parts | messages | directory | snapshots | node --name PLACE[/LIFE] --founders PLACE,.. [--resilience 0..15] [--window 1..1008] [--pb-up-to 0..1024]\n"
 GEN = ["gen", "--seed", "1", "--count", "50"]
 
 # words that have no form, and what stands in the lines below the usage
-WITHOUT_FORM = [
+WITHOUT_FORM: list[tuple[list[str], str]] = [
     ([], "--help says more"),
     ([""], "--help says more"),
     (["Play"], "--help says more"),
@@ -74,39 +77,38 @@ WITHOUT_FORM = [
 ]
 
 # words that have a form: nothing is there to build, so the call ends with 70, in each way
-WITH_FORM = [["play"], ["race"], ["audit"], ["messages"], ["directory"], ["snapshots"], ["parts"], [*GEN, "--script"], ["gen", "--script", *GEN[1:]], [*GEN[:3], "--script", *GEN[3:]], ["node", "--founders", "0,1", "--name", "1/2"], ["node", "--founders", "0,9,10,15", "--name", "15/16", "--window", "1008", "--resilience", "15", "--pb-up-to", "0"], ["build"], ["build", "--quick"], GEN, ["gen", "--count", "100000", "--seed", "18446744073709551615"], ["gen", "--count", "0009", "--seed", "0"]]
+WITH_FORM: list[list[str]] = [["play"], ["race"], ["audit"], ["messages"], ["directory"], ["snapshots"], ["parts"], [*GEN, "--script"], ["gen", "--script", *GEN[1:]], [*GEN[:3], "--script", *GEN[3:]], ["node", "--founders", "0,1", "--name", "1/2"], ["node", "--founders", "0,9,10,15", "--name", "15/16", "--window", "1008", "--resilience", "15", "--pb-up-to", "0"], ["build"], ["build", "--quick"], GEN, ["gen", "--count", "100000", "--seed", "18446744073709551615"], ["gen", "--count", "0009", "--seed", "0"]]
 
 
-def run(top: pathlib.Path, words: list[str]) -> tuple[int, str, str]:
+def answered(top: pathlib.Path, words: list[str]) -> tuple[int, str, str]:
     """The status of the command, what it wrote, and what it told."""
-    done = subprocess.run(
-        [top / "muoswyld", *words], stdin=subprocess.DEVNULL, capture_output=True, text=True, timeout=60, check=False, env={"PATH": "/usr/bin:/bin"}
-    )
-    return done.returncode, done.stdout, done.stderr
+    done = run([top / "muoswyld", *words], seconds=60, env={"PATH": "/usr/bin:/bin"})
+    return done.returncode, done.stdout.decode(), done.stderr.decode()
 
 
-def faults(top: pathlib.Path):
+def faults(top: pathlib.Path) -> Iterator[str]:
     """What is wrong with the answers."""
     for words in (["--help"], ["-h"], ["help"]):
-        status, said, told = run(top, words)
+        status, said, told = answered(top, words)
         if (status, told) != (0, "") or "play < SCRIPT" not in said:
             yield f"{words}: {status}, {said!r}, {told!r}"
-    status, said, told = run(top, ["--version"])
+    status, said, told = answered(top, ["--version"])
     if (status, told) != (0, "") or not said.startswith("muoswyld "):
         yield f"--version: {status}, {said!r}, {told!r}"
     for words, wanted in WITHOUT_FORM:
-        status, said, told = run(top, words)
+        status, said, told = answered(top, words)
         if (status, said) != (1, "") or not told.startswith(USAGE) or wanted not in told:
             yield f"{words}: {status}, {said!r}, {told!r}"
     for words in WITH_FORM:
-        for way in ([], ["--quick"], ["--proved"]) if len(words) != 2 else ([],):
-            status, said, told = run(top, way + words)
+        ways: list[list[str]] = [[], ["--quick"], ["--proved"]]
+        for way in ways if len(words) != 2 else ways[:1]:
+            status, said, told = answered(top, way + words)
             if (status, said) != (70, "") or USAGE in told:
                 yield f"{way + words}: {status}, {said!r}, {told!r}"
 
 
-def room_faults(top: pathlib.Path):
-    """What is wrong where there is no room for what is kept or written. Small programs stand in the place of the proved ones."""
+def room_faults(top: pathlib.Path) -> Iterator[str]:
+    """What is wrong if there is no room for what is kept or written. Small programs take the place of the proved ones."""
     (top / "kit").mkdir()
     for file, said in (("crates/am_play_only/out/am_play_only", "cat"), ("crates/am_sim/out/am_sim", "echo summary"), ("kit/rt", "false")):
         (top / file).parent.mkdir(exist_ok=True)
@@ -170,7 +172,7 @@ def room_faults(top: pathlib.Path):
 WRITES = {"picture.py": "scripts/reset.txt", "audit.py": "scripts/reset.txt", "message.py": "README.md", "schema.py": "scripts/reset.txt"}
 
 
-def writing_faults(source: pathlib.Path):
+def writing_faults(source: pathlib.Path) -> Iterator[str]:
     """What is wrong with tools that write to a full device, or into a pipe that is closed; and those that can't be called."""
     for name, file in WRITES.items():
         words = [file] if name in ("message.py", "schema.py") else []
@@ -208,7 +210,7 @@ def shown(file: str) -> list[str]:
     return [re.sub(r"^# .*\n", "", piece, flags=re.MULTILINE) for piece in re.findall(r"^```\w*\n(.*?)^```$", doc, re.MULTILINE | re.DOTALL)]
 
 
-def page_faults(source: pathlib.Path):
+def page_faults(source: pathlib.Path) -> Iterator[str]:
     """Which pieces of code of the pages stand in no file of the examples' crates, but for indentation, what a file imports for its tests,
     and contracts that a page leaves out; nor in the example of the group in native code, which is tried with its tests."""
     paths = (path for crate in ("am_examples", "am_tests_runs") for path in sorted((source / "crates" / crate / "src").glob("*.rt")))
@@ -231,7 +233,7 @@ def tools_of(source: pathlib.Path) -> list[pathlib.Path]:
     return [path for path in files if "__main__" in path.read_text()]
 
 
-def tool_faults(tools: list[pathlib.Path]):
+def tool_faults(tools: list[pathlib.Path]) -> Iterator[str]:
     """What is wrong with the pages of tools, and with what they say to words that have no form."""
     for tool in tools:
         for words, is_help in ((["--help"], True), (["--no-such-word"], False), (["no", "such", "words", "at", "all", "7"], False)):

@@ -1,21 +1,21 @@
 """Tries edits: changes of one function's body, each of which that function's contract must refuse.
 
-    tools/try_edits.py [--only NAME..]
+    try_edits.py [--only NAME..]
 
 An edit is a file crates/NAME/edits/WORDS.edit of such lines:
 
     function: module::Type::name
     file: src/module.rt
     old: a part of one line, which stands in the file once
-    new: what is put in its place
+    new: the text in its place
 
-The function is named as a check prints it behind `fn NAME::`. Further pairs of `old:` and `new:`, and further files, apply to what the
-earlier ones made. It stands on what `rt ci` has proved: the crates below, as it or `rt lib` has left them, and the crate itself. All
-edits of a crate that change different functions are tried together, in one check of these functions alone; for what else of the crate
-they call, a hole stands in place of the proof and `unreachable!()` in place of the body, as `rt ci` has proved that. An edit is refused
-where its function isn't proved, for a cause at its own lines or in its own proof; that a proof names what is gone is no such cause. What
-isn't refused is tried again without the others, and last alone. Given --only, the crates that it names are tried. It prints what fails,
-and how many edits were refused.
+The function is named as a check prints it after `fn NAME::`. Further pairs of `old:` and `new:`, and further files, apply to the result of the
+earlier ones. It needs what `rt ci` has proved: the crates below, as it or `rt lib` has left them, and the crate itself. All edits of a crate that
+change different functions are tried together, in one check of these functions alone. For everything else of the crate that they call, a hole
+stands in place of the proof and `unreachable!()` in place of the body, since `rt ci` has proved that. An edit is refused if its function isn't
+proved, for a cause at its own lines or in its own proof. That a proof names something that is gone is no such cause. Edits that aren't refused
+are tried again without the others, and last each alone. With --only it tries the crates that are named. It prints what fails, and how many edits
+were refused.
 """
 
 import concurrent.futures
@@ -29,8 +29,9 @@ import signal
 import subprocess
 import sys
 import tempfile
+from typing import Any
 
-from library import TOP, kit
+from library import TOP, of_toolchain
 from words import words
 
 CRATES = TOP / "crates"
@@ -77,10 +78,9 @@ class Tried:
 
 
 @functools.cache
-def toolchain():
-    """The toolchain's own words."""
-    sys.path.insert(0, str(kit() / "bin"))
-    import rtlib
+def toolchain() -> Any:
+    """The toolchain's own words, of its module rtlib."""
+    rtlib = of_toolchain("rtlib")
 
     rtlib.Crate.stamp = functools.cache(rtlib.Crate.stamp)  # of all sources below; none changes meanwhile
     return rtlib
@@ -189,7 +189,7 @@ def rounds_of(edits: list[Edit], folder: pathlib.Path) -> list[list[Edit]]:
     alone = [[edit] for edit in edits if not is_within(edit, folder)]
     for edit in edits:
         if [edit] not in alone:
-            free = next((it for it in together if all(other.function != edit.function for other in it)), [])
+            free: list[Edit] = next((it for it in together if all(other.function != edit.function for other in it)), [])
             together += [] if free else [free]
             free.append(edit)
     return together + alone
@@ -297,8 +297,8 @@ def is_refused(edit: Edit, said: str, crate: str, folder: pathlib.Path) -> bool:
     return any(at.startswith(proofs) or at == file and first <= line <= last for at, line in causes)
 
 
-def check(crate, folder: pathlib.Path, functions: list[str], kept: pathlib.Path, guard: list[str]) -> tuple[str, int, float]:
-    """What a check of some functions says over the libraries below, its status, and the seconds of processor that it took."""
+def check(crate: Any, folder: pathlib.Path, functions: list[str], kept: pathlib.Path, guard: list[str]) -> tuple[str, int, float]:
+    """The output of a check of some functions over the libraries below, its status, and the seconds of processor that it took."""
     call = [toolchain().RATTLE, "check", *crate.words(["--jobs", "1"], keeps=False), "--incremental", str(kept), "--allow-holes", "--short-goals"]
     call += [word for function in functions for word in ("--only", function)]
     with open(f"{folder}.said", "w+b") as said:
@@ -309,9 +309,8 @@ def check(crate, folder: pathlib.Path, functions: list[str], kept: pathlib.Path,
         return said.read().decode(errors="replace"), started.returncode, usage.ru_utime + usage.ru_stime
 
 
-def try_together(crate, edits: list[Edit], room: pathlib.Path, guard: list[str], keeps_bodies: bool = False) -> Tried:
-    """Tries edits in one check, over what earlier checks in the room proved; what isn't refused is left out of both lists. What can't be
-    read without the other functions' bodies is tried with them."""
+def try_together(crate: Any, edits: list[Edit], room: pathlib.Path, guard: list[str], keeps_bodies: bool = False) -> Tried:
+    """Tries edits in one check, over what earlier checks in the room proved. An edit that isn't refused is left out of both lists. If a source can't be read without the bodies of the other functions, it is tried with them."""
     folder = pathlib.Path(tempfile.mkdtemp(dir=room))
     for part in toolchain().PARTS:
         if os.path.isdir(f"{crate.folder}/{part}"):
@@ -339,7 +338,7 @@ def try_together(crate, edits: list[Edit], room: pathlib.Path, guard: list[str],
     return Tried(refused, [], seconds)
 
 
-def try_round(crate, edits: list[Edit], room: pathlib.Path, guard: list[str]) -> Tried:
+def try_round(crate: Any, edits: list[Edit], room: pathlib.Path, guard: list[str]) -> Tried:
     """Tries a round: together, then those that weren't refused together, and last each alone."""
     tried = try_together(crate, edits, room, guard)
     rest = [edit for edit in edits if edit.name not in tried.refused]
@@ -356,19 +355,19 @@ def try_round(crate, edits: list[Edit], room: pathlib.Path, guard: list[str]) ->
     return tried
 
 
-def is_there(crate) -> bool:
+def is_there(crate: Any) -> bool:
     """Whether a crate below is built of its sources, or `rt ci` has left it, which puts no stamp on it."""
     return crate.is_built() or (os.path.isdir(crate.rlib) and not os.path.exists(f"{crate.folder}/out/rlib/stamp"))
 
 
-def known(name: str):
-    """A crate of crates.txt, with all that it stands on. Two threads mustn't read crates at once: each would make its own."""
+def known(name: str) -> Any:
+    """A crate of crates.txt, with all crates below it. Two threads mustn't read crates at once: each would make its own."""
     crate = toolchain().Crate(str(CRATES / name), str(TOP), KNOWN)
     crate.below()
     return crate
 
 
-def try_crate(crate, whole: pathlib.Path, guard: list[str]) -> Tried:
+def try_crate(crate: Any, whole: pathlib.Path, guard: list[str]) -> Tried:
     """Tries all edits of a crate."""
     name = crate.name
     lacking = [it.name for it in crate.below() if not is_there(it)]

@@ -1,14 +1,14 @@
 #!/usr/bin/env python3
 """Tries the program and tools/explain.py on scripts that are refused.
 
-    tools/try_explain.py PROGRAM FOLDER COMMAND
+    try_explain.py PROGRAM FOLDER COMMAND
 
-FOLDER has scripts NAME.json, and beside each NAME.cause, the line that `PROGRAM WORD < NAME.json` must write on standard error,
-with status 2 and nothing on standard output, where WORD is `race` for names that begin with race_, else `play`; and sentences.txt, a
-line `NAME: SENTENCE` with what tools/explain.py must say of each. Each cause must be there, and of each key every cause that it can
-have. FOLDER/rows.list has more, a line each: WORD NUMBER PLACE TEXT, where TEXT, a JSON string, must be refused by `PROGRAM WORD` for
-the cause of this number at this place. COMMAND, which is ./muoswyld, must write the line, and below it the sentence where standard
-error is a terminal, else how to get it. What explain.py ends with is tried, too. It prints what fails, and how many passed.
+FOLDER has scripts NAME.json. Beside each is NAME.cause, the line that `PROGRAM WORD < NAME.json` must write on standard error, with status 2
+and nothing on standard output. WORD is `race` for names that begin with race_, and otherwise `play`. sentences.txt has a line
+`NAME: SENTENCE` for each, which tools/explain.py must say. Each cause must be there, and for each key every cause that it can have.
+FOLDER/rows.list has more, a line each: WORD NUMBER PLACE TEXT. `PROGRAM WORD` must refuse TEXT, a JSON string, for the cause of this number at
+this place. COMMAND, which is ./muoswyld, must write the line. Below it, it must write the sentence if standard error is a terminal, and
+otherwise how to get it. The statuses of explain.py are tried, too. It prints what fails, and how many passed.
 """
 
 import json
@@ -18,20 +18,22 @@ import pty
 import re
 import subprocess
 import sys
+from collections.abc import Iterator
 
 import explain
+from running import run
 from words import words
 
 # what ./muoswyld says below a refusal where nobody looks
 HINT = r"muoswyld: in words: tools/explain\.py \S+ (play|race) < FILE\n"
 
 
-def word_for(script):
+def word_for(script: pathlib.Path) -> str:
     """The word that a script is for."""
     return "race" if script.name.startswith("race_") else "play"
 
 
-def wanted():
+def wanted() -> Iterator[tuple[str, str, int]]:
     """Each key with each cause that it can have, as its sentence names it."""
     keys = [(word, key, script[key]) for word, script in explain.SCRIPTS.items() for key in script]
     keys += [("thread", key, explain.THREAD[key]) for key in explain.THREAD]
@@ -47,17 +49,17 @@ def wanted():
         yield from (("document", word, cause) for cause in (explain.BAD_VALUE, explain.MISSING))
 
 
-def covered(cause, sentence):
+def covered(cause: int, sentence: str) -> tuple[str, str, int] | None:
     """The key with the cause that a sentence speaks of."""
     where = re.match("the document|play|race|event|thread|call", sentence)
     key = re.search("`([a-z_]+)`", sentence)
     return (where[0].removeprefix("the "), key[1], cause) if where and key else None
 
 
-def faults(program, script, sentences):
+def faults(program: str, script: pathlib.Path, sentences: dict[str, str]) -> Iterator[str]:
     """What is wrong with the answers to a script."""
     data = script.read_bytes()
-    ran = subprocess.run([program, word_for(script)], input=data, capture_output=True)
+    ran = run([program, word_for(script)], data)
     want = script.with_suffix(".cause").read_bytes()
     if (ran.returncode, ran.stdout, ran.stderr) != (2, b"", want):
         yield f"status {ran.returncode}, {ran.stderr!r} and not {want!r}"
@@ -66,15 +68,15 @@ def faults(program, script, sentences):
         yield f"'{said}' and not '{sentences.get(script.stem)}'"
 
 
-def faults_of_row(program, row):
+def faults_of_row(program: str, row: str) -> Iterator[str]:
     """What is wrong with the answer to a row of rows.list."""
     word, number, place, text = row.split(" ", 3)
-    ran = subprocess.run([program, word], input=json.loads(text).encode(), capture_output=True)
+    ran = run([program, word], json.loads(text).encode())
     if (ran.returncode, ran.stdout, ran.stderr) != (2, b"", f"bad script {number} at {place}\n".encode()):
         yield f"status {ran.returncode}, {ran.stderr!r} and not {number} at {place}"
 
 
-def at_a_terminal(command, script):
+def at_a_terminal(command: str, script: pathlib.Path) -> tuple[bytes, int]:
     """What a command writes on standard error where that is a terminal, and its status."""
     ours, theirs = pty.openpty()
     with script.open("rb") as words:
@@ -90,11 +92,10 @@ def at_a_terminal(command, script):
     return said.replace(b"\r\n", b"\n"), ran.returncode
 
 
-def faults_of_command(command, script, sentence):
+def faults_of_command(command: str, script: pathlib.Path, sentence: str) -> Iterator[str]:
     """What is wrong with what ./muoswyld writes of a refusal."""
     line = script.with_suffix(".cause").read_bytes()
-    with script.open("rb") as words:
-        ran = subprocess.run([command, word_for(script)], stdin=words, capture_output=True)
+    ran = run([command, word_for(script)], script.read_bytes())
     hint = ran.stderr.removeprefix(line).decode()
     if (ran.stdout, ran.returncode) != (b"", 2) or not (ran.stderr.startswith(line) and re.fullmatch(HINT, hint)):
         yield f"{command} wrote {ran.stderr!r}, status {ran.returncode}"
@@ -102,7 +103,7 @@ def faults_of_command(command, script, sentence):
         yield f"{command} wrote {at_a_terminal(command, script)} at a terminal"
 
 
-def calls_of_explain(program):
+def calls_of_explain(program: str) -> list[tuple[list[str], bytes, int, str]]:
     """Calls of tools/explain.py: the words, what is read, the status, and what stands in what it writes or tells."""
     taken = b'{"play": {"founders": [0], "events": []}}'
     return [
@@ -116,19 +117,20 @@ def calls_of_explain(program):
     ]
 
 
-def faults_of_explain(program):
+def faults_of_explain(program: str) -> Iterator[str]:
     """What is wrong with the calls of tools/explain.py."""
     tool = pathlib.Path(explain.__file__)
     for words_of_call, data, status, wanted in calls_of_explain(program):
-        ran = subprocess.run([sys.executable, tool, *words_of_call], input=data, capture_output=True)
+        ran = run([sys.executable, tool, *words_of_call], data)
         said = ran.stderr if status == 2 else ran.stdout
         if ran.returncode != status or said.count(b"\n") != 1 or wanted not in said.decode() or re.search(rb"[\0-\x09\x0b-\x1f]", said):
             yield f"explain.py {words_of_call} with {data!r}: {ran.returncode}, {ran.stdout!r}, {ran.stderr!r}"
 
 
-def main():
-    program, folder, command = words(__doc__, 3, 3)
-    folder = pathlib.Path(folder)
+def main() -> None:
+    """Tries all refusals."""
+    program, named, command = words(__doc__, 3, 3)
+    folder = pathlib.Path(named)
     lines = (folder / "sentences.txt").read_text().splitlines()
     sentences = dict(line.split(": ", 1) for line in lines)
     scripts = sorted(folder.glob("*.json"))

@@ -1,12 +1,12 @@
 #!/usr/bin/env python3
 """Tries the library for C under the address sanitizer, and its header in C++.
 
-    tools/try_handles.py [--seed N]
+    try_handles.py [--seed N]
 
-The programs of bindings/c are built with -fsanitize=address, over the library that tools/library.py makes. Where a handle was closed
-nothing is kept of it, and no call reads or writes outside: so it is for three members, for each refusal, and for 2,000 random and mutated
-lines to nodes in each state. The driver's answers to the lines of cases/lines are those that stand there. And a C++ compiler must read the
-header without a warning, where one is there. CC and CXX name the compilers. It prints what fails, and how many parts passed.
+The programs of bindings/c are built with -fsanitize=address, over the library that tools/library.py makes. Nothing may be kept of a closed handle, and
+no call may read or write outside. This is tried with three members, with each refusal, and with 2,000 random and mutated lines to nodes in each state.
+The driver must give the answers of cases/lines. If a C++ compiler is there, it must read the header without a warning. CC and CXX name the
+compilers. It prints what fails, and how many parts passed.
 """
 
 import argparse
@@ -18,7 +18,8 @@ import sys
 import tempfile
 
 from library import kit
-from try_c import TOP, run, told
+from running import run
+from try_c import TOP, told
 from try_lines import STATES, mutated, try_told
 
 BINDINGS = TOP / "bindings" / "c"

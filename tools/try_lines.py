@@ -1,31 +1,31 @@
 #!/usr/bin/env python3
-"""Gives lines to nodes: those of cases/lines must have the answers that stand there; of random and mutated ones, to nodes in each state,
-each that isn't empty must have one answer of a form that an answer can have. Each process ends with status 0 at the end of its input.
+"""Gives lines to nodes, and checks the answers.
 
-    tools/try_lines.py PROGRAM [COUNT [SEED]]
+    try_lines.py PROGRAM [COUNT [SEED]]
 
-PROGRAM is the command whose word `node` is run; COUNT lines, 20,000 where none is said, go to each of nine nodes. It prints what
-fails, and how many lines were answered.
+PROGRAM is the command whose word `node` is run. The lines of cases/lines must have the answers that stand there. COUNT lines (20,000), random and
+mutated, go to each of nine nodes, each in another state. Each line that isn't empty must have one answer, of a form that an answer can have. Each process
+must end with status 0 at the end of its input. It prints what fails, and how many lines were answered.
 
-A file cases/lines/NAME.lines has nodes: a line with the options of one, then each line that it is given, and behind that, four blanks
-further in, the line that it answers. Lines that begin with # and empty ones are comments.
+A file cases/lines/NAME.lines has nodes. First comes a line with the options of a node, then each line that it is given, followed by the line that it
+answers, which is indented by four blanks. Lines that begin with # and empty ones are comments.
 """
 
 import pathlib
 import random
 import re
 import shlex
-import subprocess
 import sys
 from typing import NamedTuple
 
+from running import run
 from words import words
 
 CASES = pathlib.Path(__file__).resolve().parent.parent / "cases" / "lines"
 OTHER = "41470312010000000101000c"  # a HandOver of place 1
 ACCEPT = "414703050000000001000019" + "00000000" * 2 + "0000000101"
 # how a node of place 1 of the founders 0, 1, 2 comes to a state, and the name that it runs under
-STATES = {
+STATES: dict[str, tuple[str, list[str]]] = {
     "member": ("1", []),
     "sequencer": ("0", ["send 61", "take"]),
     "sends under way": ("1", ["send 61", "send 62", "send 63", "send 64"]),
@@ -102,7 +102,7 @@ def try_told(command: list[str]) -> list[str]:
         if len(node.given) != len(node.answers):
             wrong.append(f"{node.where}: {len(node.given)} lines with {len(node.answers)} answers")
         lines = "".join(f"{line}\n" for line in node.given).encode()
-        ran = subprocess.run([*command, *node.options], input=lines, capture_output=True, timeout=60, check=False)
+        ran = run([*command, *node.options], lines)
         wrong += node.wrong(ran.stdout) + ([] if ran.returncode == 0 else [f"{node.where}: status {ran.returncode}, {ran.stderr!r}"])
     return wrong
 
@@ -120,7 +120,7 @@ def main() -> int:
         lines = [line.encode() for line in begins] + [mutated(draw) for _ in range(count)]
         lines = [line for line in lines if line]
         command = [*shlex.split(program), "node", "--name", name, "--founders", "0,1,2"]
-        ran = subprocess.run(command, input=b"\n".join(lines) + b"\n", capture_output=True, timeout=600, check=False)
+        ran = run(command, b"\n".join(lines) + b"\n", 600)
         answers = ran.stdout.split(b"\n")[:-1]
         wrong = next((k for k, answer in enumerate(answers) if not ANSWER.fullmatch(answer.decode(errors="replace"))), None)
         if (ran.returncode, ran.stderr, len(answers)) != (0, b"", len(lines)) or wrong is not None:

@@ -1,17 +1,18 @@
 """Tries tools/picture.py on texts of plays, as they are and changed.
 
-    python3 tools/try_picture.py FOLDER...
+    try_picture.py FOLDER...
 
-Each FOLDER has scripts NAME.json with their texts NAME.txt; scripts without a text are left out. Each picture must be XML, have a mark
-for each event that it draws with the event's line in it, and an arrow for each letter that was heard; a page to step through it has the
-picture and each event; and each View that an application was given must be the one that the picture has at this number. Of the texts
-1,000 are changed at one to three places: each is drawn, or is told to be no text of a play. It prints what fails, and how many passed.
+Each FOLDER has scripts NAME.json with their texts NAME.txt; scripts without a text are left out. Each picture must be XML. It must have a
+mark for each event that it draws, with the event's line in it, and an arrow for each letter that was heard. A page to step through it must
+have the picture and each event. Each View that an application was given must be the one that the picture has at this number. Of the texts
+1,000 are changed at one to three places: each must be drawn, or refused as no text of a play. It prints what fails, and how many passed.
 """
 
 import pathlib
 import random
 import sys
 import xml.etree.ElementTree as xml
+from collections.abc import Iterator
 
 import picture
 import playtext
@@ -22,7 +23,7 @@ from words import words
 SVG = "{http://www.w3.org/2000/svg}"
 
 
-def faults(text):
+def faults(text: bytes) -> Iterator[str]:
     """What is wrong with the picture of a text."""
     events, group, mark = playtext.read(text)
     run = playtext.Run(events, group)
@@ -56,7 +57,7 @@ def faults(text):
         yield "the page to step through it has another title than the picture"
 
 
-def faults_of_changed(text):
+def faults_of_changed(text: bytes) -> Iterator[str]:
     """What is wrong with what comes of a text that was changed."""
     try:
         events, group, mark = playtext.read(text)
@@ -67,12 +68,13 @@ def faults_of_changed(text):
         yield f"{error!r} at {text!r}"
 
 
-def main():
+def main() -> None:
+    """Draws all texts, and changed ones."""
     passed = failed = 0
     scripts = (script for folder in words(__doc__, 1) for script in sorted(pathlib.Path(folder).glob("*.json")))
     paths = [script.with_suffix(".txt") for script in scripts if script.with_suffix(".txt").exists()]
     draw, small = random.Random(1), [text for text in (path.read_bytes() for path in paths) if len(text) <= 4_000]
-    tried = [(path, faults(path.read_bytes())) for path in paths]
+    tried = [(str(path), faults(path.read_bytes())) for path in paths]
     tried += [("a changed text", faults_of_changed(changed(draw.choice(small), draw))) for _ in range(1_000 if small else 0)]
     for what, found in tried:
         wrong = list(found)

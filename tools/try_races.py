@@ -1,21 +1,21 @@
-"""Tries races: what a race writes is the text of what was done in it.
+"""Tries races: a race writes the text of what was done in it.
 
-    python3 tools/try_races.py PROGRAM FOLDER [TIMES]
+    try_races.py PROGRAM FOLDER [TIMES]
 
-Each race of FOLDER is run so many times, three where none are said. `PROGRAM race < NAME.json` must end with status 0 and say nothing
-on standard error; its first line must be a script, and `PROGRAM play` of that line must write exactly the other lines. Where there
-is a NAME.txt, which a race of one thread can have, the whole text must be that. As often runs a race in which one thread takes what
-another one sends at the same place: it must be given all, and rest in between, so that its node hardly ever ticks, at least in one of
-the runs. (No clause says when a caller does what it does, and where the processors are busy, it may tick.) It prints what fails, and
-how many runs passed.
+Each race of FOLDER is run TIMES times (3). `PROGRAM race < NAME.json` must end with status 0 and write nothing on standard error. Its first
+line must be a script, and `PROGRAM play` of that line must write exactly the other lines. If there is a NAME.txt, which only a race of one
+thread can have, the whole text must be that. As often it runs a race in which one thread takes what another one sends at the same place. That
+thread must be given everything, and rest in between, so that its node hardly ever ticks, at least in one of the runs. (No clause says when a
+caller does what it does, and if the processors are busy, it may tick.) It prints what fails, and how many runs passed.
 """
 
+import functools
 import json
 import pathlib
 import re
-import subprocess
 import sys
 
+from running import run
 from words import words
 
 # so many seconds may a race or a play take
@@ -30,18 +30,15 @@ class Wrong(Exception):
     """What a race or a play shouldn't have done."""
 
 
-def written(program, word, data):
+def written(program: str, word: str, data: bytes) -> bytes:
     """What a program writes for a script, where all was done and nothing said."""
-    try:
-        ran = subprocess.run([program, word], input=data, capture_output=True, timeout=MOST_SECONDS, check=False)
-    except subprocess.TimeoutExpired as late:
-        raise Wrong(f"{program} {word} doesn't end in {MOST_SECONDS} seconds") from late
+    ran = run([program, word], data, MOST_SECONDS)
     if (ran.returncode, ran.stderr) != (0, b""):
         raise Wrong(f"{program} {word} ends with status {ran.returncode}, {ran.stderr!r}")
     return ran.stdout
 
 
-def raced(program, data, players):
+def raced(program: str, data: bytes, players: list[str]) -> tuple[bytes, str]:
     """What is written of a race, and the text of its run, which all players must write of its first line."""
     whole = written(program, "race", data)
     line, _, text = whole.partition(b"\n")
@@ -51,7 +48,7 @@ def raced(program, data, players):
     return whole, text.decode()
 
 
-def try_file(program, race):
+def try_file(program: str, race: pathlib.Path) -> None:
     """Tries a race of a file."""
     wanted = race.with_suffix(".txt")
     whole, _ = raced(program, race.read_bytes(), [program])
@@ -59,7 +56,7 @@ def try_file(program, race):
         raise Wrong(f"its text isn't {wanted}")
 
 
-def ticks_waiting(program):
+def ticks_waiting(program: str) -> int:
     """How often the node ticks in a race in which one thread waits for what another one sends."""
     calls = [{"do": "take"}] * (SENDS + 1), [{"do": "send", "body": "61"}] * SENDS
     race = {"founders": [0], "seed": 1, "turns": 100, "threads": [{"node": 0, "calls": some} for some in calls]}
@@ -70,20 +67,21 @@ def ticks_waiting(program):
     return ticks
 
 
-def try_waiting(program, times):
+def try_waiting(program: str, times: int) -> None:
     """Tries that race so many times."""
     least = min(ticks_waiting(program) for _ in range(times))
     if least > MOST_TICKS:
         raise Wrong(f"its node ticks {least} times or more, where {MOST_TICKS} are the most: it doesn't rest")
 
 
-def main(program, folder, times="3"):
+def main(program: str, folder: str, times: str = "3") -> int:
+    """Tries all races of the folder, and one of a thread that waits."""
     passed, failed = 0, 0
     races = sorted(pathlib.Path(folder).glob("*.json"))
-    tries = [(race, try_file, race) for race in races for _ in range(int(times))]
-    for what, attempt, given in [*tries, ("a thread that waits for another", try_waiting, int(times))]:
+    tries = [(str(race), functools.partial(try_file, program, race)) for race in races for _ in range(int(times))]
+    for what, attempt in [*tries, ("a thread that waits for another", functools.partial(try_waiting, program, int(times)))]:
         try:
-            attempt(program, given)
+            attempt()
             passed += 1
         except Wrong as wrong:
             print(f"{what}: {wrong}")

@@ -1,14 +1,13 @@
 #!/usr/bin/env python3
 """Compares what the program writes of messages and directories with tools/services.py.
 
-    python3 tools/try_services.py PROGRAM [--count N] [--seed N] FOLDER..
+    try_services.py PROGRAM [--count N] [--seed N] FOLDER..
 
-It takes the scripts of the folders, as they are and with other bodies in their sends: commands of few keys, parts of messages in
-order and out of it, snapshots that a node of the same run could send, and bytes that are none of these. For each it compares what
-`messages`, `directory` and `snapshots` write with what the other program makes of the text of `play`, and for random messages what
-`parts` writes. It prints what differs, how many scripts were alike, and how many messages, keys, waiting and restored replicas there
-were in them. Then come the longest messages, and keys and values at their limits, with what docs/ says of them. Last it calls
-tools/services.py itself, with a text and with what is none.
+It takes the scripts of the folders, as they are and with other bodies in their sends: commands of few keys, parts of messages in order and out of it,
+snapshots that a node of the same run could send, and bytes that are none of these. For each it compares what `messages`, `directory` and `snapshots`
+write with what the other program makes of the text of `play`; and for random messages it compares `parts`. It prints what differs, how many scripts were
+alike, and how many messages, keys, waiting and restored replicas they had. Then come the longest messages, and keys and values at their limits, with
+what docs/ says of them. Last it calls tools/services.py itself, with a text and with other input.
 """
 
 import argparse
@@ -16,19 +15,19 @@ import collections
 import json
 import pathlib
 import random
-import subprocess
 import sys
 
 import services
+from running import run
 
 WORDS = ("messages", "directory", "snapshots")
 # the longest message, and what a part has of one
 MOST_MESSAGE, SHARE = 65_535, 1_019
 
 
-def run(program: str, word: str, given: bytes) -> tuple[int, list[str]]:
+def lines_of(program: str, word: str, given: bytes) -> tuple[int, list[str]]:
     """The status of a call, and the lines that it wrote."""
-    done = subprocess.run([program, word], input=given, capture_output=True, timeout=120, check=False)
+    done = run([program, word], given)
     return done.returncode, done.stdout.decode().splitlines()
 
 
@@ -46,7 +45,8 @@ def message_parts(draw: random.Random) -> list[bytes]:
     parts = services.parts(bytes([draw.randrange(97, 123)]) * draw.choice((0, 2, 1_019, 1_020, 2_500)))
     if draw.random() < 0.2:
         at = draw.randrange(len(parts))
-        parts[at : at + 1] = draw.choice(([], [parts[at]] * 2, [parts[at][:-1]]))
+        instead: list[list[bytes]] = [[], [parts[at]] * 2, [parts[at][:-1]]]
+        parts[at : at + 1] = draw.choice(instead)
     return parts
 
 
@@ -73,13 +73,13 @@ def with_bodies(script: dict, sent: list[str], draw: random.Random) -> dict:
 
 def faults(program: str, script: bytes, seen: collections.Counter) -> list[str]:
     """What differs for a script, or that it isn't played; counts what is in it."""
-    status, text = run(program, "play", script)
+    status, text = lines_of(program, "play", script)
     if status != 0:
         return [f"play: status {status}"]
     found = []
     for word in WORDS:
         wanted = list({"messages": services.messages, "directory": services.directory, "snapshots": services.snapshots}[word](text))
-        if (ended := run(program, word, script)) != (0, wanted):
+        if (ended := lines_of(program, word, script)) != (0, wanted):
             found.append(f"{word}: status {ended[0]}, {[pair for pair in zip(ended[1], wanted) if pair[0] != pair[1]][:2]}")
         for line in wanted:
             kind = line.split(" ")[0]
@@ -104,12 +104,12 @@ def message_faults(program: str) -> list[str]:
         shares = [message[at : at + SHARE] for at in range(0, size, SHARE)] or [b""]
         parts = [b"S" + k.to_bytes(2, "big") + len(shares).to_bytes(2, "big") + share for k, share in enumerate(shares)]
         fits = size <= MOST_MESSAGE
-        done = subprocess.run([program, "parts"], input=message, capture_output=True, timeout=120, check=False)
+        done = run([program, "parts"], message)
         wanted = (0, "".join(f"{part.hex()}\n" for part in parts).encode(), b"") if fits else (3, b"", b"too long\n")
         if (done.returncode, done.stdout, done.stderr) != wanted:
             found.append(f"parts of {size} bytes: status {done.returncode}, {done.stderr!r}")
         ends = [f"message 0 {len(parts) + 1} 0 {message.hex() or '-'}"] if fits else []
-        if (got := run(program, "messages", alone(parts))) != (0, [*ends, "lawful"]):
+        if (got := lines_of(program, "messages", alone(parts))) != (0, [*ends, "lawful"]):
             found.append(f"the message of {size} bytes: status {got[0]}, {[line[:60] for line in got[1]]}")
     return found
 
@@ -122,7 +122,7 @@ def key_faults(program: str) -> list[str]:
     bodies += [put(b"b", b""), put(b"k" * 32, b"v" * 64), put(b"c", b"v" * 64, 3), put(b"d", b"v"), delete(b"d")]
     front = len(bodies) + 1
     wanted = [f"directory 0 {front} 3", f"name 0 62 - {front - 4}", f"name 0 63 {'76' * 64} {front - 2}", f"name 0 {'6b' * 32} {'76' * 64} {front - 3}", "lawful"]
-    got = run(program, "directory", alone(bodies))
+    got = lines_of(program, "directory", alone(bodies))
     return [] if got == (0, wanted) else [f"directory: status {got[0]}, {got[1]}"]
 
 
@@ -130,7 +130,7 @@ def tool_faults(program: str) -> list[str]:
     """What is wrong with calls of the tool: with the text of a play it does as the program with its script, else it says that it is none."""
     top = pathlib.Path(__file__).resolve().parent.parent
     script = (top / "scripts" / "snapshot.json").read_bytes()
-    text = subprocess.run([program, "play"], input=script, capture_output=True, check=False).stdout
+    text = run([program, "play"], script).stdout
     found = []
     for word, given, wanted in (
         ("directory", text, 0),
@@ -141,8 +141,8 @@ def tool_faults(program: str) -> list[str]:
         ("directory", b"group 1 data 0 1 61\nlawful\n", 1),
         ("messages", text[:-1], 1),
     ):
-        done = subprocess.run([top / "tools" / "services.py", word], input=given, capture_output=True, check=False)
-        same = run(program, word, script) == (0, done.stdout.decode().splitlines())
+        done = run([top / "tools" / "services.py", word], given)
+        same = lines_of(program, word, script) == (0, done.stdout.decode().splitlines())
         told = b"no text of a play" in done.stderr and done.stderr.count(b"\n") == 1 and not done.stdout
         if done.returncode != wanted or not (same if wanted == 0 else told):
             found.append(f"tools/services.py {word} < {given[:40]!r}: {done.returncode}, {done.stdout[:80]!r}, {done.stderr[-200:]!r}")
@@ -181,9 +181,9 @@ def main() -> int:
             for fault in faults(asked.program, given, seen):
                 print(f"script {number}: {fault}\n{given.decode()[:2000]}")
                 failed += 1
-            sent = [line.split(" ")[3] for line in run(asked.program, "snapshots", given)[1] if line.startswith("snapshot ")]
+            sent = [line.split(" ")[3] for line in lines_of(asked.program, "snapshots", given)[1] if line.startswith("snapshot ")]
         message = bytes(draw.randrange(256) for _ in range(draw.choice((0, 1, 1_018, 1_019, 1_020, 5_000, draw.randrange(65_536)))))
-        if run(asked.program, "parts", message) != (0, [part.hex() for part in services.parts(message)]):
+        if lines_of(asked.program, "parts", message) != (0, [part.hex() for part in services.parts(message)]):
             print(f"the parts of a message of {len(message)} bytes differ")
             failed += 1
     for fault in message_faults(asked.program) + key_faults(asked.program) + tool_faults(asked.program):
