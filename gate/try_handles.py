@@ -67,7 +67,7 @@ def header(folder: pathlib.Path, _: int) -> list[str]:
     """C++ reads the header, and its calls can be made."""
     compiler = os.environ.get("CXX") or shutil.which("c++") or shutil.which("g++") or shutil.which("clang++")
     if not compiler:
-        print("tools/try_handles.py: no C++ compiler is here, so none read the header")
+        print("gate/try_handles.py: no C++ compiler is here, so none read the header")
         return []
     (folder / "calls.cc").write_text(CALLS)
     words = [compiler, "-fsyntax-only", "-Wall", "-Wextra", "-Wpedantic", "-Werror", f"-I{BINDINGS}", str(folder / "calls.cc")]
@@ -87,7 +87,7 @@ def main() -> int:
                 print(f"refused: {part.__name__}: {line}")
             if wrong and part is built:
                 break
-    print(f"tools/try_handles.py: {len(parts) - failed} passed, {failed} failed")
+    print(f"gate/try_handles.py: {len(parts) - failed} passed, {failed} failed")
     return 1 if failed else 0
 
 

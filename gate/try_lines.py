@@ -129,7 +129,7 @@ def main() -> int:
                 print(f"    {lines[wrong]!r} was answered {answers[wrong]!r}")
             failed += 1
         answered += len(answers)
-    print(f"tools/try_lines.py: {answered} lines answered; {len(STATES) - failed} passed, {failed} failed; of cases/lines {len(told_nodes())} nodes, {len(wrong_cases)} wrong")
+    print(f"gate/try_lines.py: {answered} lines answered; {len(STATES) - failed} passed, {failed} failed; of cases/lines {len(told_nodes())} nodes, {len(wrong_cases)} wrong")
     return 1 if failed or wrong_cases else 0
 
 

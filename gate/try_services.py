@@ -192,7 +192,7 @@ def main() -> int:
     if asked.count > len(scripts) and not all(seen[kind] for kind in ("message", "directory", "name", "waiting", "snapshot")):
         print(f"nothing to compare of some kind: {dict(seen)}")
         failed += 1
-    print(f"tools/try_services.py: {asked.count} scripts, {failed} differ; {dict(seen)}")
+    print(f"gate/try_services.py: {asked.count} scripts, {failed} differ; {dict(seen)}")
     return 1 if failed else 0
 
 

@@ -4,7 +4,7 @@
     try_c.py PROGRAM [--count N] [--seed N] [--sanitize]
 
 PROGRAM is the command whose word `node` is run. N lines (2,000), random and mutated, go to a node in each of nine states: through the C driver,
-through the Rust crate if cargo is there, and to the word `node`, and all must answer the same. Events as bytes, which tools/binary.py reads, must be
+through the Rust crate if cargo is there, and to the word `node`, and all must answer the same. Events as bytes, which gate/binary.py reads, must be
 answered as the lines that ask the same. It also tries each refusal, each allocation failing in turn, calls on a thread with little stack, three
 members with a crash in C and in Rust, a shared library from Python, and what is said if the library isn't there. With --sanitize the C programs are
 built with the address and the undefined sanitizer, and 100,000 lines go to each state. CC names the compiler; otherwise it is cc, gcc or clang (the
@@ -371,7 +371,7 @@ def main() -> int:
             if wrong and part is built:
                 break
     cargo = "" if tried.cargo or tried.sanitize else "; cargo isn't here, so the Rust crate wasn't tried"
-    print(f"tools/try_c.py: {len(parts) - failed} passed, {failed} failed{cargo}")
+    print(f"gate/try_c.py: {len(parts) - failed} passed, {failed} failed{cargo}")
     return 1 if failed else 0
 
 

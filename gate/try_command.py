@@ -184,7 +184,7 @@ def writing_faults(source: pathlib.Path) -> Iterator[str]:
             os.close(out)
             if (done.returncode, done.stderr) != (1, f"{name}: {cause}\n"):
                 yield f"{name}, {cause}: {done.returncode}, {done.stderr[-200:]!r}"
-    page = (source / "tools" / "README.md").read_text().split("## For the gate")[0]
+    page = (source / "tools" / "README.md").read_text()
     for name in re.findall(r"^\| `(\w+\.py)`", page, re.MULTILINE):
         if not os.access(source / "tools" / name, os.X_OK) or not (source / "tools" / name).read_text().startswith("#!"):
             yield f"tools/{name} can't be called by itself"
@@ -229,7 +229,7 @@ def page_faults(source: pathlib.Path) -> Iterator[str]:
 
 def tools_of(source: pathlib.Path) -> list[pathlib.Path]:
     """The tools, programs of nets and examples that are called by themselves."""
-    files = (path for folder in ("tools", "net", "examples") for path in sorted((source / folder).glob("*.py")))
+    files = (path for folder in ("tools", "gate", "net", "examples") for path in sorted((source / folder).glob("*.py")))
     return [path for path in files if "__main__" in path.read_text()]
 
 
@@ -259,7 +259,7 @@ def main() -> int:
     for line in wrong:
         print(f"refused: {line}")
     tried = 4 + len(WITHOUT_FORM) + 3 * (len(WITH_FORM) + len(tools)) + 7 + 2 * len(WRITES) + 1 + sum(PIECES.values()) + try_building.TRIED
-    print(f"tools/try_command.py: {tried - len(wrong)} passed, {len(wrong)} failed")
+    print(f"gate/try_command.py: {tried - len(wrong)} passed, {len(wrong)} failed")
     return 1 if wrong else 0
 
 
