@@ -1,4 +1,4 @@
-//! How a group in one view comes to rest: the lossless schedule in which applications take, too (docs/REPAIR.md).
+//! Laws of the lossless schedule in which applications take, too (docs/REPAIR.md).
 #![tactic(auto)]
 
 ghost use Rattle.am_resting.specs.Taking.{AnsweredByTaking, RepairedByTaking, TakingRepairs, TakingStaysCalm};
