@@ -1,4 +1,4 @@
-"""Writes the computed runs of am_rows: statements that the definitions give a text for a script, from scripts and their expected texts.
+"""Writes the computed runs of am_computed_cases: statements that the definitions give a text for a script, from scripts and their expected texts.
 
     rows.py CASES OUT
 
@@ -24,9 +24,9 @@ use Rattle.am_base.specs.Lists.{after, fits, fold}
 use Rattle.am_base.specs.Fronts.{greatest}
 use Rattle.am_base.specs.Votes.{best_from}
 use Rattle.am_model.specs.Node.{those}
-use Rattle.am_state.specs.Cores.{accept, pass_over, unions}
-use Rattle.am_state.specs.Reports.{least_of}
-use Rattle.am_state.specs.Refresh.{own_report, tell, go_on, let_go}
+use Rattle.am_node_defs.specs.Cores.{accept, pass_over, unions}
+use Rattle.am_node_defs.specs.Reports.{least_of}
+use Rattle.am_node_defs.specs.Refresh.{own_report, tell, go_on, let_go}
 use Rattle.am_model.specs.Refresh.{lead, refresh, settle, refresh_at_end}
 use Rattle.am_model.specs.Emit.{put_all, finish}
 use Rattle.am_model.specs.Ballots.{best_of, decide, begin, keep_vote, give_up}
@@ -38,12 +38,12 @@ use Rattle.am_model.specs.Joining.{join_ask_row, welcome_row, leave_ask_row, gon
 use Rattle.am_model.specs.Resets.{invite_row, vote_row, fetch_row, piece_row, result_row}
 use Rattle.am_model.specs.Hearing.{hear_row}
 use Rattle.am_model.specs.Step.{row, step, hear, hear_refusal}
-use Rattle.am_play.specs.World.{with_record, with_step, happens, happen}
-use Rattle.am_play.specs.Lawful.{is_complete, is_lawful, greatest_complete, watch, watch_all}
-use Rattle.am_play.specs.Settle.{running, hearings_from, waves, rounds, settle_events}
-use Rattle.am_play.specs.Text.{name_text, stamp_text, names_text, body_text, resilience_text, entry_text, outcome_word, outcome_parts, outcome_text, act_word, act_parts, event_text, kind_word, addressees_text, letter_text, record_line, records_text, group_line, group_text, log_line, empty_log_line, log_text, logs_text, mark_line, play_text}
+use Rattle.am_group_defs.specs.World.{with_record, with_step, happens, happen}
+use Rattle.am_group_defs.specs.Lawful.{is_complete, is_lawful, greatest_complete, watch, watch_all}
+use Rattle.am_group_defs.specs.Settle.{running, hearings_from, waves, rounds, settle_events}
+use Rattle.am_group_defs.specs.Text.{name_text, stamp_text, names_text, body_text, resilience_text, entry_text, outcome_word, outcome_parts, outcome_text, act_word, act_parts, event_text, kind_word, addressees_text, letter_text, record_line, records_text, group_line, group_text, log_line, empty_log_line, log_text, logs_text, mark_line, play_text}
 use Rattle.std.specs.Fmt.{digits}
-use Rattle.am_rows.specs.Scripts.{set_of}
+use Rattle.am_computed_cases.specs.Scripts.{set_of}
 """
 
 
@@ -138,8 +138,8 @@ def titled(case: str) -> str:
 
 SPECS_HEAD = """use Rattle.std.specs.Prelude.{◌≡◌, [], ◌∷◌, ◌++◌, codes}
 use Rattle.am_group.specs.declared.event.Act.TheVariants as act
-use Rattle.am_play.specs.Play.{text_of, settled_text_of}
-use Rattle.am_rows.specs.Scripts.{rules_with, on, lines}
+use Rattle.am_group_defs.specs.Play.{text_of, settled_text_of}
+use Rattle.am_computed_cases.specs.Scripts.{rules_with, on, lines}
 """
 
 
@@ -217,7 +217,7 @@ def write_folder(cases: str, out: str, folder: str) -> None:
     with open(os.path.join(place, "about.txt")) as f:
         about = f.read().strip()
     statements = [statement(titled(case), *read_case(cases, folder, case)) for case in found]
-    source, answers = carrier("am_rows", titled(folder), folder, about, found)
+    source, answers = carrier("am_computed_cases", titled(folder), folder, about, found)
     head_line = "-- Scripts and their texts. Written by tools/rows.py from %s/%s.\n" % (os.path.basename(cases), folder)
     write_module(out, folder, SPECS_HEAD, source, answers, head_line, statements)
 

@@ -8,18 +8,18 @@ use Rattle.std.proofs.lemmas.Bool.Decides.{nat_tests}
 use Rattle.std.proofs.lemmas.Option.{slice_get_within}
 use Rattle.std.proofs.lemmas.Slice.Eq.{bytes_eq-Decides}
 use Rattle.am_group.specs.Journals.{item_at}
-use Rattle.am_spelling.specs.Fields.{same}
-use Rattle.am_verdicts.specs.Lines.{Line}
-use Rattle.am_verdicts.specs.Verdicts.{first_fault, is_text, first_astray, lines_of, count_of, is_line}
-use Rattle.am_verdicts.proofs.Segments.{IsRun, AllIn, lead, log_runs, count_is_length, all_in, log_in_list, number_at, there_at}
-use Rattle.am_audit.specs.Keeping.{IsCount, first_number, is_next}
-use Rattle.am_audit.proofs.Passing.{set_one}
+use Rattle.am_text_defs.specs.Fields.{same}
+use Rattle.am_audit_defs.specs.Lines.{Line}
+use Rattle.am_audit_defs.specs.Verdicts.{first_fault, is_text, first_astray, lines_of, count_of, is_line}
+use Rattle.am_audit_defs.proofs.Segments.{LinesRunFromNumber, AllLinesAreInGroup, first_number_of_lines, faultless_log_runs_from_lead, count_of_name_is_length, faithful_logs_are_in_group, log_of_name_in_group, number_of_line_in_run, line_text_is_in_group}
+use Rattle.am_audit.specs.Keeping.{CountsEachName, first_number, is_next}
+use Rattle.am_audit.proofs.Passing.{get_or_of_set_list}
 
-lead_by : (name : ℕ) (b : Bool) (line : Line) (n : ℕ) (lines : List Line) → n ≡ lead lines → cond b line.number n ≡ lead (cond b (line ∷ lines) lines)
+lead_by : (name : ℕ) (b : Bool) (line : Line) (n : ℕ) (lines : List Line) → n ≡ first_number_of_lines lines → cond b line.number n ≡ first_number_of_lines (cond b (line ∷ lines) lines)
 lead_by name true line n lines is = refl
 lead_by name false line n lines is = is
 
-pub first_is_lead : (name : ℕ) (logs : List Line) → first_number name logs ≡ lead (lines_of name logs)
+first_is_lead : (name : ℕ) (logs : List Line) → first_number name logs ≡ first_number_of_lines (lines_of name logs)
 first_is_lead name [] = refl
 first_is_lead name (line ∷ logs) = lead_by name (line.name == name) line (first_number name logs) (lines_of name logs) (first_is_lead name logs)
 
@@ -56,24 +56,24 @@ none_past [] k is = omega arith
 none_past (line ∷ lines) zero is = cc
 none_past (line ∷ lines) (suc k) is = omega (arith, none_past lines k is)
 
-next_by : (group : List (List ℕ)) (start k : ℕ) (lines : List Line) (taken : Line) (o : Option Line) → IsRun start lines → AllIn group lines
+next_by : (group : List (List ℕ)) (start k : ℕ) (lines : List Line) (taken : Line) (o : Option Line) → LinesRunFromNumber start lines → AllLinesAreInGroup group lines
     → slice_get lines k ≡ o
     → is_line o taken ≡ is_next group start (length lines) k taken
 next_by group start k lines taken (Some line) run all is =
-    next_some group start k (length lines) line taken (number_at start k lines line run is) (there_at group k lines line all is)
+    next_some group start k (length lines) line taken (number_of_line_in_run start k lines line run is) (line_text_is_in_group group k lines line all is)
     (slice_get_within lines k line is)
 next_by group start k lines taken None run all is =
     let past : length lines ≤ k = none_past lines k is in
     sym (ap (λ b. b && ((taken.number == start + k) && is_text (item_at group taken.number) taken.text)) (le-ltb k (length lines) past))
 
 -- a take is what a log has behind so many lines, or isn't, by the log's first number and length
-pub next_is : (group : List (List ℕ)) (logs : List Line) (k : ℕ) (taken : Line) → first_fault [] logs ≡ None → first_astray group logs ≡ None
+next_is : (group : List (List ℕ)) (logs : List Line) (k : ℕ) (taken : Line) → first_fault [] logs ≡ None → first_astray group logs ≡ None
     → is_line (slice_get (lines_of taken.name logs) k) taken ≡ is_next group (first_number taken.name logs) (count_of taken.name logs) k taken
 next_is group logs k taken faultless listed =
     next_by group (first_number taken.name logs) k (lines_of taken.name logs) taken (slice_get (lines_of taken.name logs) k)
-    (subst (λ (n : ℕ). IsRun n (lines_of taken.name logs)) (sym (first_is_lead taken.name logs)) (log_runs logs taken.name faultless))
-    (log_in_list group taken.name logs (all_in group logs listed)) refl
-    ∙ ap (λ (n : ℕ). is_next group (first_number taken.name logs) n k taken) (sym (count_is_length taken.name logs))
+    (subst (λ (n : ℕ). LinesRunFromNumber n (lines_of taken.name logs)) (sym (first_is_lead taken.name logs)) (faultless_log_runs_from_lead logs taken.name faultless))
+    (log_of_name_in_group group taken.name logs (faithful_logs_are_in_group group logs listed)) refl
+    ∙ ap (λ (n : ℕ). is_next group (first_number taken.name logs) n k taken) (sym (count_of_name_is_length taken.name logs))
 
 -- ---- counts with one line more
 
@@ -82,30 +82,30 @@ counted_by true x y z same other = ap (λ (n : ℕ). n + 1) (same refl)
 counted_by false x y z same other = other
 
 -- before any line
-pub none_counted : IsCount (replicate 256 0) []
-none_counted = record { size = length-replicate {A = ℕ} 256 0; counted = λ name low. get_or-replicate 256 name 0 0 low }
+pub nothing_is_counted_at_first : CountsEachName (replicate 256 0) []
+nothing_is_counted_at_first = record { size = length-replicate {A = ℕ} 256 0; counted = λ name low. get_or-replicate 256 name 0 0 low }
 
-count_more_at : (done : List ℕ) (before : List Line) (line : Line) → line.name < 256 → IsCount done before
-    → IsCount (set done line.name (get_or done line.name 0 + 1)) (line ∷ before)
+count_more_at : (done : List ℕ) (before : List Line) (line : Line) → line.name < 256 → CountsEachName done before
+    → CountsEachName (set done line.name (get_or done line.name 0 + 1)) (line ∷ before)
 count_more_at done before line named kept = record {
   size = length-set done line.name (get_or done line.name 0 + 1) ∙ kept.size;
-  counted = λ name low. set_one done line.name name (get_or done line.name 0 + 1) 0 (omega (arith, kept.size))
+  counted = λ name low. get_or_of_set_list done line.name name (get_or done line.name 0 + 1) 0 (omega (arith, kept.size))
       ∙ counted_by (line.name == name) (get_or done line.name 0) (get_or done name 0) (count_of name before)
       (λ is. ap (λ (n : ℕ). get_or done n 0) (eqb-true line.name name is) ∙ kept.counted name low) (kept.counted name low);
 }
 
-pub count_more : (done : List ℕ) (before : List Line) (line : Line) (n : ℕ) → line.name < 256 → n ≡ line.name → IsCount done before
-    → IsCount (set done n (get_or done n 0 + 1)) (line ∷ before)
-count_more done before line n named is kept =
-    subst (λ (k : ℕ). IsCount (set done k (get_or done k 0 + 1)) (line ∷ before)) (sym is) (count_more_at done before line named kept)
+pub count_with_one_line_more : (done : List ℕ) (before : List Line) (line : Line) (n : ℕ) → line.name < 256 → n ≡ line.name → CountsEachName done before
+    → CountsEachName (set done n (get_or done n 0 + 1)) (line ∷ before)
+count_with_one_line_more done before line n named is kept =
+    subst (λ (k : ℕ). CountsEachName (set done k (get_or done k 0 + 1)) (line ∷ before)) (sym is) (count_more_at done before line named kept)
 
 -- whether a take is what its log has next, by what is kept of logs and takes
-pub taken_next : (group : List (List ℕ)) (logs before : List Line) (taken : Line) (firsts lengths done : List ℕ) (n : ℕ) (b : Bool)
+pub taken_line_comes_next : (group : List (List ℕ)) (logs before : List Line) (taken : Line) (firsts lengths done : List ℕ) (n : ℕ) (b : Bool)
     → first_fault [] logs ≡ None → first_astray group logs ≡ None → taken.name < 256 → n ≡ taken.name
-    → ((name : ℕ) → name < 256 → get_or firsts name 0 ≡ first_number name logs) → IsCount lengths logs → IsCount done before
+    → ((name : ℕ) → name < 256 → get_or firsts name 0 ≡ first_number name logs) → CountsEachName lengths logs → CountsEachName done before
     → b ≡ is_next group (get_or firsts n 0) (get_or lengths n 0) (get_or done n 0) taken
     → is_line (slice_get (lines_of taken.name logs) (count_of taken.name before)) taken ≡ b
-taken_next group logs before taken firsts lengths done n b faultless listed named is first_is lengths_are done_are found =
+taken_line_comes_next group logs before taken firsts lengths done n b faultless listed named is first_is lengths_are done_are found =
     next_is group logs (count_of taken.name before) taken faultless listed
     ∙ ap (λ (x : ℕ). is_next group x (count_of taken.name logs) (count_of taken.name before) taken) (sym (first_is taken.name named))
     ∙ ap (λ (x : ℕ). is_next group (get_or firsts taken.name 0) x (count_of taken.name before) taken) (sym (lengths_are.counted taken.name named))

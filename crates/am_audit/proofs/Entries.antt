@@ -3,8 +3,8 @@ use Rattle.std.proofs.Common.{◌≡◌, ℕ, zero, suc, ◌-◌, ◌<◌, List,
 use Rattle.std.specs.Option.{option_map}
 use Rattle.std.proofs.lemmas.Option.{slice_get-map, slice_get-get_or}
 use Rattle.am_group.specs.Journals.{item_at}
-use Rattle.am_spelling.specs.Fields.{same}
-use Rattle.am_verdicts.specs.Verdicts.{is_text}
+use Rattle.am_text_defs.specs.Fields.{same}
+use Rattle.am_audit_defs.specs.Verdicts.{is_text}
 use Rattle.am_audit.specs.declared.line.Piece.{Piece}
 use Rattle.am_audit.specs.Views.{texts_in}
 
@@ -16,7 +16,7 @@ there group before at text d is within =
     ap (λ o. is_text o text) (sym found) ∙ ap (λ (k : ℕ). is_text (slice_get (texts_in group) k) text) is
 
 -- the entry at a number's index is the entry of that number
-pub entry_there : (group : List Piece) (number : ℕ) (text : List ℕ) (d : Piece) → (number ≡ 0 → ⊥) → number - 1 < length group
+pub entry_text_at_number : (group : List Piece) (number : ℕ) (text : List ℕ) (d : Piece) → (number ≡ 0 → ⊥) → number - 1 < length group
     → same (get_or group (number - 1) d).text.now text ≡ is_text (item_at (texts_in group) number) text
-entry_there group zero text d some within = absurd (some refl)
-entry_there group (suc before) text d some within = there group before (suc before - 1) text d (omega arith) within
+entry_text_at_number group zero text d some within = absurd (some refl)
+entry_text_at_number group (suc before) text d some within = there group before (suc before - 1) text d (omega arith) within

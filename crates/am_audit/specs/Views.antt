@@ -1,9 +1,9 @@
 -- What the code keeps of a text, as it was read.
 use Rattle.std.specs.Prelude.{◌≡◌, ℕ, List, map, Result, Ok, Err, IsErr}
-use Rattle.am_spelling.specs.declared.fault.FieldFault.{FieldFault}
-use Rattle.am_verdicts.specs.declared.verdict.Audit.{Audit}
-use Rattle.am_verdicts.specs.Lines.{Line, Reading}
-use Rattle.am_verdicts.specs.Verdicts.{verdict_of}
+use Rattle.am_text_defs.specs.declared.fault.FieldFault.{FieldFault}
+use Rattle.am_audit_defs.specs.declared.verdict.Audit.{Audit}
+use Rattle.am_audit_defs.specs.Lines.{Line, Reading}
+use Rattle.am_audit_defs.specs.Verdicts.{verdict_of}
 use Rattle.am_audit.specs.declared.fault.LineFault.{LineFault}
 use Rattle.am_audit.specs.declared.fault.LineFault.TheVariants as faults
 use Rattle.am_audit.specs.declared.fault.TextRefusal.{TextRefusal}
@@ -13,21 +13,21 @@ use Rattle.am_audit.specs.declared.line.Piece.{Piece}
 use Rattle.am_audit.specs.declared.reading.Lines.{Lines}
 
 -- what a function returned, seen by view, is what is read; or its fault is
-abbrev pub Gives : {X Y : Type 0} → (X → Y) → Result X FieldFault → Result Y FieldFault → Type 0
-Gives view (Ok x) read = read ≡ Ok (view x)
-Gives view (Err fault) read = read ≡ Err fault
+abbrev pub GivesWhatIsRead : {X Y : Type 0} → (X → Y) → Result X FieldFault → Result Y FieldFault → Type 0
+GivesWhatIsRead view (Ok x) read = read ≡ Ok (view x)
+GivesWhatIsRead view (Err fault) read = read ≡ Err fault
 
-abbrev pub line_of : TextLine → Line
-line_of line = record { name = line.name; number = line.number; text = line.text.now }
+abbrev pub line_seen : TextLine → Line
+line_seen line = record { name = line.name; number = line.number; text = line.text.now }
 
 abbrev pub lines_in : List TextLine → List Line
-lines_in lines = map line_of lines
+lines_in lines = map line_seen lines
 
 abbrev pub texts_in : List Piece → List (List ℕ)
 texts_in pieces = map (λ piece. piece.text.now) pieces
 
-abbrev pub told : Lines → Reading
-told s = record {
+abbrev pub reading_told : Lines → Reading
+reading_told s = record {
   stage = s.stage;
   names = s.names;
   events = s.events;
@@ -55,10 +55,10 @@ TakesAt number (Err refusals.NoMemory) new read = Unit {0}
 TakesAt number (Err (refusals.BadLine line)) new read = (line ≡ number) × IsErr read
 
 -- what a text was read as, or its first bad line, unless there was no memory
-abbrev pub Reads : Result Lines TextRefusal → Result Reading ℕ → Type 0
-Reads (Ok s) read = read ≡ Ok (told s)
-Reads (Err refusals.NoMemory) read = Unit {0}
-Reads (Err (refusals.BadLine line)) read = read ≡ Err line
+abbrev pub IsReadingOf : Result Lines TextRefusal → Result Reading ℕ → Type 0
+IsReadingOf (Ok s) read = read ≡ Ok (reading_told s)
+IsReadingOf (Err refusals.NoMemory) read = Unit {0}
+IsReadingOf (Err (refusals.BadLine line)) read = read ≡ Err line
 
 -- an audit tells the verdict of what the text was read as, or its first bad line, unless there was no memory
 abbrev pub Audits : Result Audit TextRefusal → Result Reading ℕ → Type 0

@@ -1,8 +1,8 @@
 ghost use Rattle.std.specs.Prelude.{◌≡◌, ◌<◌, ◌≤◌, length, IfOk, [], None};
 ghost use Rattle.am_base.specs.Lists.{blank};
-ghost use Rattle.am_verdicts.specs.Lines.{Reading, read_text};
-ghost use Rattle.am_verdicts.specs.Verdicts.{wrong_lists, wrong_events, verdict_of, first_fault, first_astray};
-ghost use Rattle.am_audit.specs.Views.{told, lines_in, texts_in, Audits};
+ghost use Rattle.am_audit_defs.specs.Lines.{Reading, read_text};
+ghost use Rattle.am_audit_defs.specs.Verdicts.{wrong_lists, wrong_events, verdict_of, first_fault, first_astray};
+ghost use Rattle.am_audit.specs.Views.{reading_told, lines_in, texts_in, Audits};
 
 use crate::fault::TextRefusal;
 use crate::faults::first_fault;
@@ -12,12 +12,12 @@ use crate::reading::Lines;
 use crate::sends::{first_skipped, first_unsent};
 use crate::takes::{first_unlogged, first_untaken};
 use crate::text::read_text;
+use am_audit_defs::verdict::{Audit, Verdict};
 use am_base::NoMemory;
-use am_verdicts::verdict::{Audit, Verdict};
 use std::alloc::Global;
 
 /// What is wrong with the list and the logs.
-#[tactic(auto, unfolding(am_verdicts::specs::Verdicts::wrong_lists))]
+#[tactic(auto, unfolding(am_audit_defs::specs::Verdicts::wrong_lists))]
 fn wrong_lists(alloc: Global, lines: &Lines) -> Result<Option<Verdict>, NoMemory>
     ensures { IfOk result (λ found. found ≡ wrong_lists (told lines.now)) }
 {
@@ -41,7 +41,7 @@ fn wrong_lists(alloc: Global, lines: &Lines) -> Result<Option<Verdict>, NoMemory
 }
 
 /// What is wrong with the events, where the list and the logs are right.
-#[tactic(auto, unfolding(am_verdicts::specs::Verdicts::wrong_events))]
+#[tactic(auto, unfolding(am_audit_defs::specs::Verdicts::wrong_events))]
 fn wrong_events(alloc: Global, lines: &Lines) -> Result<Option<Verdict>, NoMemory>
     requires faultless { first_fault [] (lines_in lines.now.logs.items) ≡ None }
     requires listed { first_astray (texts_in lines.now.group.items)
@@ -64,7 +64,7 @@ fn wrong_events(alloc: Global, lines: &Lines) -> Result<Option<Verdict>, NoMemor
 }
 
 /// The verdict on what was read.
-#[tactic(auto, unfolding(am_verdicts::specs::Verdicts::verdict_of))]
+#[tactic(auto, unfolding(am_audit_defs::specs::Verdicts::verdict_of))]
 fn verdict_of(alloc: Global, lines: &Lines) -> Result<Verdict, NoMemory>
     ensures { IfOk result (λ verdict. verdict ≡ verdict_of (told lines.now)) }
 {

@@ -1,5 +1,5 @@
 use am_base::NoMemory;
-use am_spelling::fault::FieldFault;
+use am_text_defs::fault::FieldFault;
 use std::alloc::AllocFailed;
 
 /// Why a line isn't taken.

@@ -1,16 +1,16 @@
 ghost use Rattle.std.specs.Prelude.{◌≡◌, ℕ, List, [], ◌∷◌, ◌<◌, length, slice_get, IfOk, Option, None, Some};
-ghost use Rattle.am_verdicts.specs.Lines.{Line};
-ghost use Rattle.am_verdicts.specs.Verdicts.{or_else, gap_at, differs_at, twice_by, fault_at, first_fault};
-ghost use Rattle.am_verdicts.specs.Fields.{data_in};
-ghost use Rattle.am_audit.specs.Views.{line_of, lines_in};
-ghost use Rattle.am_audit.specs.Keeping.{IsFirst, IsSent, IsKept, twice_by_key};
+ghost use Rattle.am_audit_defs.specs.Lines.{Line};
+ghost use Rattle.am_audit_defs.specs.Verdicts.{or_else, gap_at, differs_at, twice_by, fault_at, first_fault};
+ghost use Rattle.am_audit_defs.specs.Fields.{data_in};
+ghost use Rattle.am_audit.specs.Views.{line_seen, lines_in};
+ghost use Rattle.am_audit.specs.Keeping.{IsIndexOfFound, AreFirstNumbers, IsKept, twice_by_key};
 
 use crate::fields::data_in;
 use crate::line::TextLine;
 use crate::maps::{first_at, send_key};
+use am_audit_defs::verdict::Verdict;
 use am_base::NoMemory;
 use am_base::name::Name;
-use am_verdicts::verdict::Verdict;
 use std::alloc::Global;
 use std::collections::BTreeMap;
 

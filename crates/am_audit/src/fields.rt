@@ -1,19 +1,19 @@
 ghost use Rattle.std.specs.Prelude.{◌≡◌, ◌≤◌, ◌<◌, IfOk, codes};
 ghost use Rattle.am_base.specs.Most.{most_number};
-ghost use Rattle.am_spelling.specs.Fields.{same};
-ghost use Rattle.am_verdicts.specs.Fields.{two_of, expect, is_body, data_parts, data_of, resilience_of, view_of, outline_of, data_in};
-ghost use Rattle.am_verdicts.specs.Fields.{told_number, send_of, answer_of, take_of, return_of};
-ghost use Rattle.am_audit.specs.Views.{Gives};
+ghost use Rattle.am_text_defs.specs.Fields.{same};
+ghost use Rattle.am_audit_defs.specs.Fields.{two_of, expect, is_body, data_parts, data_of, resilience_in_text, view_in_text, outline_of, data_in};
+ghost use Rattle.am_audit_defs.specs.Fields.{told_number, send_of, answer_fields_of, take_of, return_of};
+ghost use Rattle.am_audit.specs.Views.{GivesWhatIsRead};
 
+use am_audit_defs::outline::Outline;
 use am_base::entry::GroupView;
 use am_base::limits::MOST_BODY;
 use am_base::name::Name;
-use am_fields::body::is_body;
-use am_fields::cut::cut;
-use am_fields::name::{name, names, place, stamp};
-use am_fields::number::{number, number_up_to, resilience};
-use am_spelling::fault::FieldFault;
-use am_verdicts::outline::Outline;
+use am_text_defs::fault::FieldFault;
+use am_text_reader::body::is_body;
+use am_text_reader::cut::cut;
+use am_text_reader::name::{name, names, place, stamp};
+use am_text_reader::number::{number, number_up_to, resilience};
 
 /// What stands before the first blank, and what behind it.
 pub fn two(text: &[u8]) -> Result<(&[u8], &[u8]), FieldFault>
@@ -37,7 +37,7 @@ pub fn expect(text: &[u8], word: &[u8]) -> Result<(), FieldFault>
 }
 
 /// The sender, the request and the body of what stands behind the word data.
-#[tactic(auto, unfolding(am_verdicts::specs::Fields::data_parts))]
+#[tactic(auto, unfolding(am_audit_defs::specs::Fields::data_parts))]
 fn data_parts(text: &[u8]) -> Result<(Name, u32, &[u8]), FieldFault>
     ensures { Gives (λ x. (x.0, x.1, x.2.now)) result (data_parts text.entry.now) }
 {
@@ -49,7 +49,7 @@ fn data_parts(text: &[u8]) -> Result<(Name, u32, &[u8]), FieldFault>
 }
 
 /// Data, behind that word.
-#[tactic(auto, unfolding(am_verdicts::specs::Fields::data_of))]
+#[tactic(auto, unfolding(am_audit_defs::specs::Fields::data_of))]
 fn data(text: &[u8]) -> Result<Outline, FieldFault>
     ensures { result ≡ data_of text.now }
 {
@@ -63,7 +63,7 @@ fn data(text: &[u8]) -> Result<Outline, FieldFault>
 }
 
 /// A resilience behind its letter, which isn't 0.
-#[tactic(auto, unfolding(am_verdicts::specs::Fields::resilience_of))]
+#[tactic(auto, unfolding(am_audit_defs::specs::Fields::resilience_in_text))]
 fn lettered_resilience(word: &[u8]) -> Result<u8, FieldFault>
     ensures { result ≡ resilience_of word.now }
 {
@@ -78,7 +78,7 @@ fn lettered_resilience(word: &[u8]) -> Result<u8, FieldFault>
 }
 
 /// A view, behind that word.
-#[tactic(auto, unfolding(am_verdicts::specs::Fields::view_of))]
+#[tactic(auto, unfolding(am_audit_defs::specs::Fields::view_in_text))]
 fn view(text: &[u8]) -> Result<Outline, FieldFault>
     ensures { result ≡ view_of text.now }
 {
@@ -98,7 +98,7 @@ fn view(text: &[u8]) -> Result<Outline, FieldFault>
 }
 
 /// An entry, but for its body, which is looked at alone.
-#[tactic(auto, unfolding(am_verdicts::specs::Fields::outline_of))]
+#[tactic(auto, unfolding(am_audit_defs::specs::Fields::outline_of))]
 pub fn outline(text: &[u8]) -> Result<Outline, FieldFault>
     ensures { result ≡ outline_of text.now }
 {
@@ -119,7 +119,7 @@ pub fn outline(text: &[u8]) -> Result<Outline, FieldFault>
 }
 
 /// The sender, the request and the body of an entry that is data.
-#[tactic(auto, unfolding(am_verdicts::specs::Fields::data_in))]
+#[tactic(auto, unfolding(am_audit_defs::specs::Fields::data_in))]
 pub fn data_in(text: &[u8]) -> Result<(Name, u32, &[u8]), FieldFault>
     ensures { Gives (λ x. (x.0, x.1, x.2.now)) result (data_in text.entry.now) }
 {
@@ -129,7 +129,7 @@ pub fn data_in(text: &[u8]) -> Result<(Name, u32, &[u8]), FieldFault>
 }
 
 /// A number of an outcome with this word.
-#[tactic(auto, unfolding(am_verdicts::specs::Fields::told_number))]
+#[tactic(auto, unfolding(am_audit_defs::specs::Fields::told_number))]
 fn told_number(outcome: &[u8], word: &[u8]) -> Result<u32, FieldFault>
     ensures { result ≡ told_number word.now outcome.now }
 {
@@ -139,7 +139,7 @@ fn told_number(outcome: &[u8], word: &[u8]) -> Result<u32, FieldFault>
 }
 
 /// A send: its place, its request and its body.
-#[tactic(auto, unfolding(am_verdicts::specs::Fields::send_of))]
+#[tactic(auto, unfolding(am_audit_defs::specs::Fields::send_of))]
 pub fn send<'a>(rest: &'a [u8], outcome: &[u8]) -> Result<(u8, u32, &'a [u8]), FieldFault>
     ensures value { Gives (λ x. (x.0, x.1, x.2.now)) result (send_of rest.entry.now outcome.now) }
     ensures within { IfOk result (λ x. x.0 ≤ 15) }
@@ -152,7 +152,7 @@ pub fn send<'a>(rest: &'a [u8], outcome: &[u8]) -> Result<(u8, u32, &'a [u8]), F
 }
 
 /// An answer: its place, its request, and the number of the send.
-#[tactic(auto, unfolding(am_verdicts::specs::Fields::answer_of))]
+#[tactic(auto, unfolding(am_audit_defs::specs::Fields::answer_fields_of))]
 pub fn answer(rest: &[u8], outcome: &[u8]) -> Result<(u8, u32, u32), FieldFault>
     ensures value { result ≡ answer_of rest.now outcome.now }
     ensures within { IfOk result (λ x. x.0 ≤ 15) }
@@ -169,7 +169,7 @@ pub fn answer(rest: &[u8], outcome: &[u8]) -> Result<(u8, u32, u32), FieldFault>
 }
 
 /// A take: its place, its number and its entry.
-#[tactic(auto, unfolding(am_verdicts::specs::Fields::take_of))]
+#[tactic(auto, unfolding(am_audit_defs::specs::Fields::take_of))]
 pub fn take<'a>(rest: &[u8], outcome: &'a [u8]) -> Result<(u8, u32, &'a [u8]), FieldFault>
     ensures value { Gives (λ x. (x.0, x.1, x.2.now)) result (take_of rest.now outcome.entry.now) }
     ensures within { IfOk result (λ x. x.0 ≤ 15) }
@@ -184,7 +184,7 @@ pub fn take<'a>(rest: &[u8], outcome: &'a [u8]) -> Result<(u8, u32, &'a [u8]), F
 }
 
 /// A return: its place, and the name that goes on there.
-#[tactic(auto, unfolding(am_verdicts::specs::Fields::return_of))]
+#[tactic(auto, unfolding(am_audit_defs::specs::Fields::return_of))]
 pub fn return_of(rest: &[u8], outcome: &[u8]) -> Result<(u8, Name), FieldFault>
     ensures value { result ≡ return_of rest.now outcome.now }
     ensures within { IfOk result (λ x. x.0 ≤ 15) }

@@ -1,17 +1,17 @@
 ghost use Rattle.std.specs.Prelude.{◌≡◌};
 ghost use Rattle.am_base.specs.Lists.{blank};
-ghost use Rattle.am_verdicts.specs.Verdicts.{bare_entry, founds, first_misfit};
+ghost use Rattle.am_audit_defs.specs.Verdicts.{bare_entry, founds, first_misfit};
 ghost use Rattle.am_audit.specs.Views.{texts_in};
 
 use crate::fields::outline;
 use crate::line::Piece;
+use am_audit_defs::outline::Outline;
+use am_audit_defs::verdict::Verdict;
 use am_base::body::Body;
 use am_base::entry::Entry;
 use am_base::limits::MOST_NUMBER;
-use am_parts::table::Table;
+use am_node_storage::table::Table;
 use am_report::name::are_first;
-use am_verdicts::outline::Outline;
-use am_verdicts::verdict::Verdict;
 
 /// The entry, with nothing as a body.
 fn bare_entry(outline: &Outline) -> Entry

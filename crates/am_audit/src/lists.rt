@@ -2,20 +2,20 @@ ghost use Rattle.std.specs.Prelude.{◌≡◌, ℕ, [], ◌<◌, length, IfOk, O
 ghost use Rattle.std.specs.Ordering.{nat_cmp};
 ghost use Rattle.std.specs.BTreeMap.{get};
 ghost use Rattle.am_group.specs.Journals.{item_at};
-ghost use Rattle.am_verdicts.specs.Fields.{data_in, outline_of};
-ghost use Rattle.am_verdicts.specs.Verdicts.{is_text, first_astray, once_more, stands, is_at, first_lost, may_begin, early_at, first_early};
-ghost use Rattle.am_audit.specs.Keeping.{has_key, stands_by_key};
-ghost use Rattle.am_audit.specs.Views.{line_of, lines_in, texts_in};
+ghost use Rattle.am_audit_defs.specs.Fields.{data_in, outline_of};
+ghost use Rattle.am_audit_defs.specs.Verdicts.{is_text, first_astray, once_more, stands, is_at, first_lost, may_begin, early_at, first_early};
+ghost use Rattle.am_audit.specs.Keeping.{has_send_key, stands_by_key};
+ghost use Rattle.am_audit.specs.Views.{line_seen, lines_in, texts_in};
 
 use crate::fields::{data_in, outline};
 use crate::line::{Piece, TextLine};
 use crate::maps::send_key;
 use crate::walk::{Check, first_found};
+use am_audit_defs::line::AnsweredSend;
+use am_audit_defs::outline::Outline;
+use am_audit_defs::verdict::Verdict;
 use am_base::NoMemory;
 use am_base::name::Name;
-use am_verdicts::line::Answer;
-use am_verdicts::outline::Outline;
-use am_verdicts::verdict::Verdict;
 use std::alloc::Global;
 use std::collections::BTreeMap;
 
@@ -90,7 +90,7 @@ fn is_at(map: &BTreeMap<u64, Option<u64>>, key: u64, number: u32) -> bool
 }
 
 /// Whether an answer's send stands at its number alone.
-fn stands_there(map: &BTreeMap<u64, Option<u64>>, group: &[Piece], answer: &Answer) -> bool
+fn stands_there(map: &BTreeMap<u64, Option<u64>>, group: &[Piece], answer: &AnsweredSend) -> bool
     requires { (key : ℕ) → get nat_cmp map.now key ≡ stands_by_key 1 key (texts_in group.now) }
     ensures { result ≡ is_at answer.now.number
         (stands 1 answer.now.name answer.now.req (texts_in group.now)) }
@@ -102,7 +102,7 @@ fn stands_there(map: &BTreeMap<u64, Option<u64>>, group: &[Piece], answer: &Answ
 pub fn first_lost(
     alloc: Global,
     group: &[Piece],
-    answers: &[Answer],
+    answers: &[AnsweredSend],
 ) -> Result<Option<Verdict>, NoMemory>
     ensures { IfOk result (λ found. found ≡ first_lost (texts_in group.now) answers.now) }
 {

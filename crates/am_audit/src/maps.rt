@@ -1,7 +1,7 @@
 ghost use Rattle.std.specs.Prelude.{◌≡◌, ℕ, ◌==◌, ◌+◌, ◌*◌, OnOk, IfOk, Some, None, if◌then◌else◌};
 ghost use Rattle.std.specs.Ordering.{nat_cmp};
 ghost use Rattle.std.specs.BTreeMap.{get};
-ghost use Rattle.am_verdicts.specs.Verdicts.{or_else};
+ghost use Rattle.am_audit_defs.specs.Verdicts.{or_else};
 ghost use Rattle.am_audit.specs.Keeping.{send_key};
 
 use am_base::NoMemory;

@@ -1,5 +1,5 @@
 ghost use Rattle.std.specs.Prelude.{◌≡◌, ◌<◌, length, drop, option_map};
-ghost use Rattle.am_verdicts.specs.Lines.{begins_mark, mark_cut};
+ghost use Rattle.am_audit_defs.specs.Lines.{begins_mark, mark_cut};
 
 /// Whether a mark between blanks stands at an index.
 fn is_mark(text: &[u8], at: usize, mark: u8) -> bool

@@ -1,30 +1,30 @@
 ghost use Rattle.std.specs.Prelude.{◌≡◌, ◌≤◌, OnOk, length};
-ghost use Rattle.am_verdicts.specs.Fields.{two_of, send_of, answer_of, take_of, return_of};
-ghost use Rattle.am_verdicts.specs.Lines.{nothing_read, may_event, may_list, may_log, is_end, with_send, with_answer, with_take, with_return, counted};
-ghost use Rattle.am_verdicts.specs.Lines.{with_event, add_event, add_entry, logged, add_log, add_end, add_void, add_line, finish};
-ghost use Rattle.am_audit.specs.Views.{told, Takes};
+ghost use Rattle.am_audit_defs.specs.Fields.{two_of, send_of, answer_fields_of, take_of, return_of};
+ghost use Rattle.am_audit_defs.specs.Lines.{nothing_read, may_event, may_list, may_log, is_text_end, with_send, with_sent_answer, with_take, with_return, counted};
+ghost use Rattle.am_audit_defs.specs.Lines.{with_event, add_event, add_entry, logged, add_log, add_end, add_void, add_line, finish_text};
+ghost use Rattle.am_audit.specs.Views.{reading_told, Takes};
 
 use crate::fault::LineFault;
 use crate::fields::{answer, expect, outline, return_of, send, take, two};
 use crate::line::{Piece, TextLine};
 use crate::mark::mark_cut;
+use am_audit_defs::line::{AnsweredSend, TextStage};
 use am_base::NoMemory;
 use am_base::name::Name;
-use am_fields::name::name;
-use am_fields::number::number;
-use am_spelling::fault::FieldFault;
-use am_verdicts::line::{Answer, Stage};
+use am_text_defs::fault::FieldFault;
+use am_text_reader::name::name;
+use am_text_reader::number::number;
 use std::alloc::Global;
 
 /// What was read of a text so far: its list, its logs, and its events that count.
 #[derive(Drop)]
 pub struct Lines<'a> {
-    pub stage: Stage,
+    pub stage: TextStage,
     /// The byte of the name at each place.
     pub names: [u8; 16],
     pub events: u32,
     pub sends: Vec<TextLine<'a>>,
-    pub answers: Vec<Answer>,
+    pub answers: Vec<AnsweredSend>,
     pub takes: Vec<TextLine<'a>>,
     pub group: Vec<Piece<'a>>,
     pub logs: Vec<TextLine<'a>>,
@@ -32,41 +32,41 @@ pub struct Lines<'a> {
 }
 
 /// Whether an event may come.
-fn may_event(stage: Stage) -> bool
+fn may_event(stage: TextStage) -> bool
     ensures { result ≡ may_event stage }
 {
     match stage {
-        Stage::Events => true,
+        TextStage::Events => true,
         _ => false,
     }
 }
 
 /// Whether an entry of the group list may come.
-fn may_list(stage: Stage) -> bool
+fn may_list(stage: TextStage) -> bool
     ensures { result ≡ may_list stage }
 {
     match stage {
-        Stage::Events | Stage::List => true,
+        TextStage::Events | TextStage::List => true,
         _ => false,
     }
 }
 
 /// Whether a line of a log, or the last line, may come.
-fn may_log(stage: Stage) -> bool
+fn may_log(stage: TextStage) -> bool
     ensures { result ≡ may_log stage }
 {
     match stage {
-        Stage::List | Stage::Logs => true,
+        TextStage::List | TextStage::Logs => true,
         _ => false,
     }
 }
 
 /// Whether the last line was read.
-pub fn is_end(stage: Stage) -> bool
+pub fn is_end(stage: TextStage) -> bool
     ensures { result ≡ is_end stage }
 {
     match stage {
-        Stage::End => true,
+        TextStage::End => true,
         _ => false,
     }
 }
@@ -77,7 +77,7 @@ impl<'a> Lines<'a> {
         ensures { told result ≡ nothing_read }
     {
         Lines {
-            stage: Stage::Events,
+            stage: TextStage::Events,
             names: [0, 1, 2, 3, 4, 5, 6, 7, 8, 9, 10, 11, 12, 13, 14, 15],
             events: 0,
             sends: Vec::new(alloc),
@@ -108,7 +108,7 @@ impl<'a> Lines<'a> {
     {
         if let Ok((place, req, number)) = answer(rest, outcome) {
             let name = Name::of_byte(self.names[usize::from(place)]);
-            self.answers.push(Answer { name, req, number })?;
+            self.answers.push(AnsweredSend { name, req, number })?;
         }
         Ok(())
     }
@@ -135,7 +135,7 @@ impl<'a> Lines<'a> {
     }
 
     /// Keeps what counts of an event: its act, and its outcome.
-    #[tactic(auto, unfolding(am_verdicts::specs::Lines::counted))]
+    #[tactic(auto, unfolding(am_audit_defs::specs::Lines::counted))]
     fn count(&mut self, act: &'a [u8], outcome: &'a [u8]) -> Result<(), NoMemory>
         ensures { OnOk result (told self.new
             ≡ counted (told self.old) (two_of act.entry.now) outcome.entry.now) }
@@ -159,7 +159,7 @@ impl<'a> Lines<'a> {
     }
 
     /// Takes an event's line: its number, and what stands behind that.
-    #[tactic(auto, unfolding(am_verdicts::specs::Lines::add_event))]
+    #[tactic(auto, unfolding(am_audit_defs::specs::Lines::add_event))]
     fn add_event(&mut self, number_text: &[u8], rest: &'a [u8]) -> Result<(), LineFault>
         ensures { Takes result (told self.new)
             (add_event (told self.old) number_text.now rest.entry.now) }
@@ -179,7 +179,7 @@ impl<'a> Lines<'a> {
     }
 
     /// Takes a line of the group list, behind its word.
-    #[tactic(auto, unfolding(am_verdicts::specs::Lines::add_entry))]
+    #[tactic(auto, unfolding(am_audit_defs::specs::Lines::add_entry))]
     fn add_entry(&mut self, rest: &'a [u8]) -> Result<(), LineFault>
         ensures { Takes result (told self.new) (add_entry (told self.old) rest.entry.now) }
     {
@@ -190,17 +190,17 @@ impl<'a> Lines<'a> {
         }
         let _ = outline(text)?;
         self.group.push(Piece { text })?;
-        self.stage = Stage::List;
+        self.stage = TextStage::List;
         Ok(())
     }
 
     /// Takes a log's line, behind its name.
-    #[tactic(auto, unfolding(am_verdicts::specs::Lines::logged))]
+    #[tactic(auto, unfolding(am_audit_defs::specs::Lines::logged))]
     fn logged(&mut self, name: Name, rest: &'a [u8]) -> Result<(), LineFault>
         ensures { Takes result (told self.new) (logged (told self.old) name rest.entry.now) }
     {
         if rest == b"empty".as_slice() {
-            self.stage = Stage::Logs;
+            self.stage = TextStage::Logs;
             return Ok(());
         }
         let (first, text) = two(rest)?;
@@ -211,12 +211,12 @@ impl<'a> Lines<'a> {
             number,
             text,
         })?;
-        self.stage = Stage::Logs;
+        self.stage = TextStage::Logs;
         Ok(())
     }
 
     /// Takes a log's line, behind its word.
-    #[tactic(auto, unfolding(am_verdicts::specs::Lines::add_log))]
+    #[tactic(auto, unfolding(am_audit_defs::specs::Lines::add_log))]
     fn add_log(&mut self, rest: &'a [u8]) -> Result<(), LineFault>
         ensures { Takes result (told self.new) (add_log (told self.old) rest.entry.now) }
     {
@@ -235,13 +235,13 @@ impl<'a> Lines<'a> {
         if !may_log(self.stage) {
             return Err(LineFault::Field(FieldFault::Form));
         }
-        self.stage = Stage::End;
+        self.stage = TextStage::End;
         self.void_from = void_from;
         Ok(())
     }
 
     /// Takes the last line of a text that is void, behind its first word.
-    #[tactic(auto, unfolding(am_verdicts::specs::Lines::add_void))]
+    #[tactic(auto, unfolding(am_audit_defs::specs::Lines::add_void))]
     fn add_void(&mut self, rest: &[u8]) -> Result<(), LineFault>
         ensures { Takes result (told self.new) (add_void (told self.old) rest.now) }
     {
@@ -252,7 +252,7 @@ impl<'a> Lines<'a> {
     }
 
     /// Takes one line more.
-    #[tactic(auto, unfolding(am_verdicts::specs::Lines::add_line))]
+    #[tactic(auto, unfolding(am_audit_defs::specs::Lines::add_line))]
     pub fn add_line(&mut self, line: &'a [u8]) -> Result<(), LineFault>
         ensures { Takes result (told self.new) (add_line (told self.old) line.entry.now) }
     {

@@ -1,18 +1,18 @@
 ghost use Rattle.std.specs.Prelude.{◌≡◌, ℕ, [], ◌<◌, length, IfOk, OnOk, Option, None, Some, ◌==◌, ◌&&◌, if◌then◌else◌};
 ghost use Rattle.std.specs.Ordering.{nat_cmp};
 ghost use Rattle.std.specs.BTreeMap.{get};
-ghost use Rattle.am_verdicts.specs.Fields.{data_in};
-ghost use Rattle.am_verdicts.specs.Verdicts.{skipped_at, first_skipped, first_asked, unsent_at, first_unsent};
+ghost use Rattle.am_audit_defs.specs.Fields.{data_in};
+ghost use Rattle.am_audit_defs.specs.Verdicts.{skipped_at, first_skipped, first_asked, unsent_at, first_unsent};
 ghost use Rattle.am_audit.specs.Keeping.{send_key};
-ghost use Rattle.am_audit.specs.Views.{line_of, lines_in, texts_in};
+ghost use Rattle.am_audit.specs.Views.{line_seen, lines_in, texts_in};
 
 use crate::fields::data_in;
 use crate::line::{Piece, TextLine};
 use crate::maps::{put, send_key};
 use crate::walk::{Check, first_found};
+use am_audit_defs::verdict::Verdict;
 use am_base::NoMemory;
 use am_base::name::Name;
-use am_verdicts::verdict::Verdict;
 use std::alloc::Global;
 use std::collections::BTreeMap;
 

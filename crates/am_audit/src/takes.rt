@@ -1,13 +1,13 @@
 ghost use Rattle.std.specs.Prelude.{◌≡◌, ℕ, [], ◌<◌, ◌≤◌, length, None, Some, slice_index, if◌then◌else◌};
-ghost use Rattle.am_verdicts.specs.Verdicts.{count_of, first_fault, first_astray, first_unlogged, first_untaken};
-ghost use Rattle.am_verdicts.specs.declared.verdict.Verdict.TheVariants as verdicts;
-ghost use Rattle.am_audit.specs.Views.{line_of, lines_in, texts_in};
-ghost use Rattle.am_audit.specs.Keeping.{IsCount, first_number, is_next};
+ghost use Rattle.am_audit_defs.specs.Verdicts.{count_of, first_fault, first_astray, first_unlogged, first_untaken};
+ghost use Rattle.am_audit_defs.specs.declared.verdict.Verdict.TheVariants as verdicts;
+ghost use Rattle.am_audit.specs.Views.{line_seen, lines_in, texts_in};
+ghost use Rattle.am_audit.specs.Keeping.{CountsEachName, first_number, is_next};
 
 use crate::line::{Piece, TextLine};
 use crate::lists::is_entry;
+use am_audit_defs::verdict::Verdict;
 use am_base::name::Name;
-use am_verdicts::verdict::Verdict;
 
 /// How many lines each name has.
 fn counts(lines: &[TextLine]) -> [usize; 256]

@@ -1,13 +1,13 @@
-#![tactic(auto, unfolding(am_verdicts::specs::Verdicts::verdict_text, am_verdicts::specs::Verdicts::verdict_line))]
+#![tactic(auto, unfolding(am_audit_defs::specs::Verdicts::verdict_text, am_audit_defs::specs::Verdicts::verdict_line))]
 
 ghost use Rattle.std.specs.Prelude.{◌≡◌, ◌++◌, OnOk, string_bytes};
-ghost use Rattle.am_verdicts.specs.declared.verdict.Verdict.TheVariants as verdicts;
-ghost use Rattle.am_verdicts.specs.Verdicts.{named, verdict_text, void_text, verdict_line};
+ghost use Rattle.am_audit_defs.specs.declared.verdict.Verdict.TheVariants as verdicts;
+ghost use Rattle.am_audit_defs.specs.Verdicts.{named, verdict_text, void_text, verdict_line};
 
+use am_audit_defs::verdict::{Audit, Verdict};
 use am_base::NoMemory;
 use am_base::name::Name;
-use am_texts::text::push_name;
-use am_verdicts::verdict::{Audit, Verdict};
+use am_text_output::text::push_name;
 
 /// Adds a word, a name and a number.
 fn push_named(out: &mut String, word: &str, name: Name, number: u32) -> Result<(), NoMemory>

@@ -1,11 +1,11 @@
 ghost use Rattle.std.specs.Prelude.{◌≡◌, ◌+◌, ◌≤◌, ◌<◌, length, MatchOption, Some, None};
-ghost use Rattle.am_spelling.specs.Fields.{cut_of, parts_of};
-ghost use Rattle.am_verdicts.specs.Lines.{nothing_read, add_line, finish, read_lines, read_text};
-ghost use Rattle.am_audit.specs.Views.{told, Reads, TakesAt};
+ghost use Rattle.am_text_defs.specs.Fields.{cut_of, split_text};
+ghost use Rattle.am_audit_defs.specs.Lines.{nothing_read, add_line, finish_text, read_lines, read_text};
+ghost use Rattle.am_audit.specs.Views.{reading_told, IsReadingOf, TakesAt};
 
 use crate::fault::{LineFault, TextRefusal};
 use crate::reading::{Lines, is_end};
-use am_fields::cut::cut;
+use am_text_reader::cut::cut;
 use std::alloc::Global;
 
 /// Takes a line of this number.

@@ -1,11 +1,11 @@
 ghost use Rattle.std.specs.Prelude.{◌≡◌, ℕ, [], Option};
-ghost use Rattle.am_verdicts.specs.Lines.{Line};
-ghost use Rattle.am_verdicts.specs.declared.verdict.Verdict.{Verdict};
-ghost use Rattle.am_verdicts.specs.Verdicts.{first_found};
-ghost use Rattle.am_audit.specs.Views.{line_of, lines_in};
+ghost use Rattle.am_audit_defs.specs.Lines.{Line};
+ghost use Rattle.am_audit_defs.specs.declared.verdict.Verdict.{Verdict};
+ghost use Rattle.am_audit_defs.specs.Verdicts.{first_found};
+ghost use Rattle.am_audit.specs.Views.{line_seen, lines_in};
 
 use crate::line::TextLine;
-use am_verdicts::verdict::Verdict;
+use am_audit_defs::verdict::Verdict;
 
 /// What is looked for in lines, at each by the number of its name's last one.
 pub(crate) trait Check {

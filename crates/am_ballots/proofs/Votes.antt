@@ -2,12 +2,12 @@
 use Rattle.am_ballots.proofs.Words.{◌≡◌, ℕ, zero, suc, ◌+◌, ◌-◌, ◌*◌, ◌/◌, ◌%◌, ◌<◌, ◌≤◌, List, ◌∷◌, map, replicate, length, refl, sym, ◌∙◌, ap, subst, Bool}
 use Rattle.am_ballots.proofs.Words.{true, false, ◌==◌, ◌&&◌, if◌then◌else◌, Option, Some, slice_index, slice_index_or, ⊎_elim, arith, IfSome, range_with_len}
 use Rattle.am_ballots.proofs.Words.{get_or-replicate, get_or_past, length-replicate, cases_lt, nat_tests, Vote, IsSet, place_of, life_of, name_at, names_of}
-use Rattle.am_ballots.proofs.Words.{has, by_place_all, slice_index-by_place, length-by_place, least_of, least_in, Ballot, name_where, those, taken_by, Shown}
+use Rattle.am_ballots.proofs.Words.{has, sixteen_items_are_by_place, slice_index-by_place, length-by_place, least_of, least_of_names_le_each, Ballot, name_where, those, taken_by, Shown}
 use Rattle.am_ballots.proofs.Words.{better_of, best_from}
 
 -- the same for each name
-pub all_same : {A : Type 0} (n : ℕ) (x : A) → ◌≡◌ {A = ℕ → A} (λ name. slice_index_or (replicate n x) name x) (λ name. x)
-all_same n x = λ i name. (each name) i
+pub lookup_in_equal_votes : {A : Type 0} (n : ℕ) (x : A) → ◌≡◌ {A = ℕ → A} (λ name. slice_index_or (replicate n x) name x) (λ name. x)
+lookup_in_equal_votes n x = λ i name. (each name) i
   where
     each : (name : ℕ) → slice_index_or (replicate n x) name x ≡ x
     each name = ⊎_elim
@@ -16,10 +16,10 @@ all_same n x = λ i name. (each name) i
         (cases_lt name n)
 
 -- the names of a set that pass a test, by each place
-pub those_all : (test : ℕ → Bool) (set xs : List ℕ) → length xs ≡ 16 → ((k : ℕ) → k < 16 → slice_index xs k ≡ name_where test k (slice_index set k))
+pub names_passing_are_those : (test : ℕ → Bool) (set xs : List ℕ) → length xs ≡ 16 → ((k : ℕ) → k < 16 → slice_index xs k ≡ name_where test k (slice_index set k))
     → xs ≡ those test set
 unfolding those
-those_all test set xs long each = by_place_all (λ place. name_where test place (slice_index set place)) xs 0 long each
+names_passing_are_those test set xs long each = sixteen_items_are_by_place (λ place. name_where test place (slice_index set place)) xs 0 long each
 
 -- a life whose name passes one test and then another
 pick : (place life : ℕ) (other : ℕ → Bool) (one : Bool) → (life == 0) ≡ false
@@ -33,22 +33,22 @@ where_both one other place life true none = rw none refl
 where_both one other place life false some = rw some (pick place life other (one (name_at place life)) some)
 
 -- the names of a set that pass one test and then another
-pub those_twice : (one other : ℕ → Bool) (set : List ℕ) → those other (those one set) ≡ those (λ name. one name && other name) set
+pub those_of_those : (one other : ℕ → Bool) (set : List ℕ) → those other (those one set) ≡ those (λ name. one name && other name) set
 unfolding those
-those_twice one other set =
+those_of_those one other set =
     let once = λ (place : ℕ). name_where one place (slice_index set place) in
-    those_all (λ name. one name && other name) set (those other (those one set)) (length-by_place (λ (place : ℕ). name_where other place
+    names_passing_are_those (λ name. one name && other name) set (those other (those one set)) (length-by_place (λ (place : ℕ). name_where other place
     (slice_index (those one set) place)))
     (λ k h. slice_index-by_place (λ (place : ℕ). name_where other place (slice_index (those one set) place)) k h
     ∙ ap (λ (life : ℕ). name_where other k life) (slice_index-by_place once k h) ∙ where_both one other k (slice_index set k) (slice_index set k == 0) refl)
 
 -- the coordinator's own is at least the least of those with it
-pub least_own : (who taken : ℕ) (b : Ballot) (set : List ℕ) (o : Option ℕ) → IsSet set → o ≡ least_of (taken_by who taken b) (names_of set) → has set who ≡ true
+pub least_of_votes_le_own : (who taken : ℕ) (b : Ballot) (set : List ℕ) (o : Option ℕ) → IsSet set → o ≡ least_of (taken_by who taken b) (names_of set) → has set who ≡ true
     → IfSome o (λ least. least ≤ taken)
-least_own who taken b set o is e h =
+least_of_votes_le_own who taken b set o is e h =
     let place : place_of who < 16 = omega arith in
     let there : slice_index set (place_of who) ≡ life_of who = grind (arith, nat_tests) in
-    let found = least_in (taken_by who taken b) set 0 (place_of who) (omega arith) (omega arith) in
+    let found = least_of_names_le_each (taken_by who taken b) set 0 (place_of who) (omega arith) (omega arith) in
     let name : name_at (0 + place_of who) (slice_index set (place_of who)) ≡ who = omega arith in
     let itself : (who == who) ≡ true = grind (arith, nat_tests) in
     let own : taken_by who taken b who ≡ taken = rw itself refl in
@@ -59,23 +59,23 @@ least_own who taken b set o is e h =
     subst P (sym is_it) most
 
 -- the names of so many ranks, from one on
-abbrev pub named : ℕ → ℕ
-named rank = rank / 16 + 16 * (rank % 16)
+abbrev pub name_of_vote_byte : ℕ → ℕ
+name_of_vote_byte rank = rank / 16 + 16 * (rank % 16)
 
-ranks_go : (rank n : ℕ) → n ≡ 256 - rank → rank < 256 → map named (range_with_len rank n)
-    ≡ named rank ∷ map named (range_with_len (rank + 1) (256 - (rank + 1)))
+ranks_go : (rank n : ℕ) → n ≡ 256 - rank → rank < 256 → map name_of_vote_byte (range_with_len rank n)
+    ≡ name_of_vote_byte rank ∷ map name_of_vote_byte (range_with_len (rank + 1) (256 - (rank + 1)))
 ranks_go rank zero is h = absurd (omega arith)
-ranks_go rank (suc n) is h = let e : n ≡ 256 - (rank + 1) = omega arith in ap (λ k. named rank ∷ map named (range_with_len (rank + 1) k)) e
+ranks_go rank (suc n) is h = let e : n ≡ 256 - (rank + 1) = omega arith in ap (λ k. name_of_vote_byte rank ∷ map name_of_vote_byte (range_with_len (rank + 1) k)) e
 
 -- what is best up to a rank, with the rest
-pub best_more : (votes : ℕ → Option Vote) (best : Shown) (rank : ℕ) → rank < 256
-    → best_from votes best (map named (range_with_len rank (256 - rank)))
-    ≡ best_from votes (better_of best (named rank) (votes (named rank))) (map named (range_with_len (rank + 1) (256 - (rank + 1))))
+pub best_from_with_next_rank : (votes : ℕ → Option Vote) (best : Shown) (rank : ℕ) → rank < 256
+    → best_from votes best (map name_of_vote_byte (range_with_len rank (256 - rank)))
+    ≡ best_from votes (better_of best (name_of_vote_byte rank) (votes (name_of_vote_byte rank))) (map name_of_vote_byte (range_with_len (rank + 1) (256 - (rank + 1))))
 unfolding best_from
-best_more votes best rank h = ap (best_from votes best) (ranks_go rank (256 - rank) refl h)
+best_from_with_next_rank votes best rank h = ap (best_from votes best) (ranks_go rank (256 - rank) refl h)
 
-pub best_end : (votes : ℕ → Option Vote) (best : Shown) (rank : ℕ) → 256 ≤ rank → best_from votes best (map named (range_with_len rank (256 - rank))) ≡ best
+pub best_from_past_last_rank : (votes : ℕ → Option Vote) (best : Shown) (rank : ℕ) → 256 ≤ rank → best_from votes best (map name_of_vote_byte (range_with_len rank (256 - rank))) ≡ best
 unfolding best_from
-best_end votes best rank h = let e : 256 - rank ≡ 0 = omega arith in ap (λ k. best_from votes best (map named (range_with_len rank k))) e
+best_from_past_last_rank votes best rank h = let e : 256 - rank ≡ 0 = omega arith in ap (λ k. best_from votes best (map name_of_vote_byte (range_with_len rank k))) e
 
-pub ruleset best_laws = (best_more, best_end)
+pub ruleset best_vote_rules = (best_from_with_next_rank, best_from_past_last_rank)

@@ -5,10 +5,10 @@ pub use Rattle.std.proofs.Common.{◌≡◌, ℕ, zero, suc, ◌+◌, ◌-◌, �
 pub use Rattle.std.proofs.Common.{true, false, ◌==◌, ◌&&◌, if◌then◌else◌, Option, Some, slice_index, slice_index_or, ⊎_elim, arith, drop, not, None}
 pub use Rattle.am_base.specs.{declared.image.Vote.Vote, Names.IsSet, Names.place_of, Names.life_of, Names.name_at, Names.names_of, Names.has}
 pub use Rattle.am_base.specs.{Names.names_from, Votes.Shown, Votes.better_of, Votes.best_vote}
-pub use Rattle.am_base.proofs.Places.{by_place_all, slice_index-by_place, length-by_place}
+pub use Rattle.am_base.proofs.Places.{sixteen_items_are_by_place, slice_index-by_place, length-by_place}
 unfoldable pub use Rattle.am_base.specs.Votes.{best_from}
-pub use Rattle.am_state.specs.Reports.{least_of, lesser}
-pub use Rattle.am_state.proofs.{Leaders.least_in, ReportLaws.least_end}
+pub use Rattle.am_node_defs.specs.Reports.{least_of, lesser}
+pub use Rattle.am_node_defs.proofs.{Leaders.least_of_names_le_each, ReportLaws.least_of_after_last_place}
 pub use Rattle.am_model.specs.{Node.Ballot, Node.name_where, Ballots.taken_by, Ballots.new_ballot, Ballots.has_voted, Ballots.left_in}
 unfoldable pub use Rattle.am_model.specs.Node.{those}
 pub use Rattle.am_ballots.specs.Kept.{votes_of, ballot_of, marks_of}

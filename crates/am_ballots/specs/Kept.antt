@@ -5,7 +5,7 @@ use Rattle.am_base.specs.declared.name.Stamp.{Stamp}
 use Rattle.am_base.specs.declared.outcome.Outcome.{Outcome}
 use Rattle.am_model.specs.Node.{Ballot}
 
-pub record Kept : Type 0 where
+pub record KeptBallot : Type 0 where
   pub stamp : Stamp
   pub least : ℕ
   pub resilience : ℕ
@@ -23,7 +23,7 @@ abbrev pub marks_of : List Bool → ℕ → Bool
 marks_of kept = λ name. slice_index_or kept name false
 
 -- the ballot that is kept
-abbrev pub ballot_of : Kept → Ballot
+abbrev pub ballot_of : KeptBallot → Ballot
 ballot_of b = record {
   stamp = b.stamp;
   least = b.least;

@@ -1,13 +1,13 @@
 ghost use Rattle.std.specs.Prelude.{◌≡◌, ◌<◌, ◌≤◌, ◌+◌, Some, None, IfSome, true, not, nat_lt, if◌then◌else◌};
 ghost use Rattle.am_base.specs.Stamps.{stamp_lt};
 ghost use Rattle.am_base.specs.Votes.{vote_lt};
-ghost use Rattle.am_state.specs.Reports.{lesser};
+ghost use Rattle.am_node_defs.specs.Reports.{lesser};
 
 use am_base::image::Vote;
 use am_base::name::{Name, Stamp};
 use am_base::names::Names;
 use am_base::outcome::Outcome;
-use am_parts::fronts::lesser;
+use am_node_storage::fronts::lesser;
 use std::marker::Model;
 
 /// Whether a vote is below another: by view, then by top.
@@ -96,7 +96,7 @@ pub struct Ballot {
 impl Model for Ballot {
     ghost use Rattle.std.specs.Prelude.{◌≡◌, false};
     ghost use Rattle.am_base.specs.Outcomes.{is_took};
-    ghost use Rattle.am_ballots.specs.Kept.{Kept};
+    ghost use Rattle.am_ballots.specs.Kept.{KeptBallot};
 
     ghost Value = { Kept };
 
@@ -118,7 +118,7 @@ impl Ballot {
     ghost use Rattle.am_base.specs.Names.{has, name_at, names_of, minus};
     ghost use Rattle.am_base.specs.Outcomes.{is_took};
     ghost use Rattle.am_base.specs.Votes.{better_of, best_vote};
-    ghost use Rattle.am_state.specs.Reports.{least_of};
+    ghost use Rattle.am_node_defs.specs.Reports.{least_of};
     ghost use Rattle.am_model.specs.Node.{those, name_where};
     ghost use Rattle.am_model.specs.Ballots.{overtake, has_voted, is_waited_for, left_in, taken_by, with_answer, with_end, new_ballot, with_vote, without_voter};
     ghost use Rattle.am_model.specs.Resets.{is_open, fetches_from};
@@ -270,7 +270,7 @@ impl Ballot {
         }
     }
 
-    #[tactic(auto, using(crate::proofs::Votes::best_laws))]
+    #[tactic(auto, using(crate::proofs::Votes::best_vote_rules))]
     /// The best of the kept votes and the coordinator's own: the greatest, of the coordinator where it is among them, else
     /// of the lowest name.
     pub fn best(&self, coordinator: Name, own: &Vote) -> Best
@@ -382,7 +382,7 @@ impl Ballot {
     }
 
     /// The least that the names of a set have taken, the coordinator this much; None exactly where the set is empty.
-    #[tactic(auto, using(am_state::proofs::ReportLaws::least_laws))]
+    #[tactic(auto, using(am_node_defs::proofs::ReportLaws::least_of_rules))]
     pub fn least_taken(&self, coordinator: Name, taken: u32, names: Names) -> Option<u32>
         ensures value { result ≡ least_of (taken_by coordinator taken (ballot_of self.now))
             (names_of names) }

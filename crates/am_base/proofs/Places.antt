@@ -4,9 +4,9 @@ use Rattle.std.proofs.lemmas.List.FromFn.{fill_by_all, get_or-map-range_with_len
 use Rattle.am_base.specs.Names.{by_place}
 
 -- a list of sixteen items, each as the function gives
-pub by_place_all : {A : Type 0} (f : ℕ → A) (xs : List A) (d : A) → length xs ≡ 16 → ((k : ℕ) → k < 16 → get_or xs k d ≡ f k) → xs ≡ by_place f
+pub sixteen_items_are_by_place : {A : Type 0} (f : ℕ → A) (xs : List A) (d : A) → length xs ≡ 16 → ((k : ℕ) → k < 16 → get_or xs k d ≡ f k) → xs ≡ by_place f
 unfolding by_place
-by_place_all f xs d long each = fill_by_all f xs 16 d long each
+sixteen_items_are_by_place f xs d long each = fill_by_all f xs 16 d long each
 
 pub get_or-by_place : {A : Type 0} (f : ℕ → A) (k : ℕ) (d : A) → k < 16 → get_or (by_place f) k d ≡ f k
 unfolding by_place
@@ -19,4 +19,4 @@ pub length-by_place : {A : Type 0} (f : ℕ → A) → length (by_place f) ≡ 1
 unfolding by_place
 length-by_place f = refl
 
-pub ruleset places = (get_or-by_place, slice_index-by_place, length-by_place)
+pub ruleset by_place_rules = (get_or-by_place, slice_index-by_place, length-by_place)

@@ -98,9 +98,9 @@ lives_of [] = 0
 lives_of (life ∷ lives) = (life - 1) + 16 * lives_of lives
 
 -- the lives of so many places, by a mask and by lives less one
-unfoldable pub places_of : ℕ → ℕ → ℕ → List ℕ
-places_of zero mask lives = []
-places_of (suc places) mask lives = (if mask % 2 == 0 then 0 else lives % 16 + 1) ∷ places_of places (mask / 2) (lives / 16)
+unfoldable pub places_by_mask : ℕ → ℕ → ℕ → List ℕ
+places_by_mask zero mask lives = []
+places_by_mask (suc places) mask lives = (if mask % 2 == 0 then 0 else lives % 16 + 1) ∷ places_by_mask places (mask / 2) (lives / 16)
 
 -- where the mask hasn't a place, its four bits are 0
 unfoldable pub is_masked : ℕ → ℕ → ℕ → Bool
@@ -109,7 +109,7 @@ is_masked (suc places) mask lives = (if mask % 2 == 0 then lives % 16 == 0 else 
 
 -- the set with this mask and these lives, and whether there is one
 abbrev pub of_parts : ℕ → ℕ → List ℕ
-of_parts mask lives = places_of 16 mask lives
+of_parts mask lives = places_by_mask 16 mask lives
 
 abbrev pub are_parts : ℕ → ℕ → Bool
 are_parts mask lives = is_masked 16 mask lives

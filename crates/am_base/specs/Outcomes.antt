@@ -14,6 +14,6 @@ is_sent (said.Sent req number) = true
 is_sent _ = false
 
 -- there was no room
-abbrev pub is_held : Outcome → Bool
-is_held (said.Held base top) = true
-is_held _ = false
+abbrev pub has_no_room : Outcome → Bool
+has_no_room (said.Held base top) = true
+has_no_room _ = false

@@ -26,8 +26,8 @@ image_of list = fold blank 1 list
 unfoldable pub mem : List Entry → ℕ → Bool
 mem list name = has (members_of (image_of list)) name
 
-unfoldable pub view_of : List Entry → Stamp
-view_of list = (image_of list).view
+unfoldable pub stamp_of_list : List Entry → Stamp
+stamp_of_list list = (image_of list).view
 
 unfoldable pub resilience_of : List Entry → ℕ
 resilience_of list = (image_of list).resilience

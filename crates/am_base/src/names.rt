@@ -22,7 +22,7 @@ fn bit_of(life: u8) -> u16
     if life == 0 { 0 } else { 1 }
 }
 
-#[tactic(auto, using(crate::proofs::Masks::filled, crate::proofs::Masks::fills))]
+#[tactic(auto, using(crate::proofs::Masks::places_are_filled_at_sixteen, crate::proofs::Masks::fill_next_place_of_mask))]
 /// The lives that a mask of places and their lives less one give.
 fn lives_in(mask: u16, lives: u64) -> [u8; 16]
     ensures { result ≡ of_parts mask lives }
@@ -38,7 +38,7 @@ fn lives_in(mask: u16, lives: u64) -> [u8; 16]
     set
 }
 
-#[tactic(auto, using(crate::proofs::Masks::unmasked, crate::proofs::Masks::masked, crate::proofs::Masks::all_masked))]
+#[tactic(auto, using(crate::proofs::Masks::life_outside_mask_is_refused, crate::proofs::Masks::is_masked_goes_on, crate::proofs::Masks::is_masked_at_sixteen))]
 /// Whether each place outside the mask has no life.
 fn are_parts(mask: u16, lives: u64) -> bool
     ensures { result ≡ are_parts mask lives }
@@ -94,7 +94,7 @@ impl Names {
         Names { lives: [0; 16] }
     }
 
-    #[tactic(auto, using(crate::proofs::Masks::is_set))]
+    #[tactic(auto, using(crate::proofs::Masks::places_of_is_set))]
     /// Life 1 of each place of a mask, whose bit 0 is place 0's.
     pub fn of_mask(mask: u16) -> Names
         ensures value { result ≡ of_mask mask }
@@ -104,7 +104,7 @@ impl Names {
         }
     }
 
-    #[tactic(auto, using(crate::proofs::Masks::is_set))]
+    #[tactic(auto, using(crate::proofs::Masks::places_of_is_set))]
     /// The set with this mask of places and these lives less one, four bits for each place; None exactly where there is
     /// none, since a place outside the mask has such bits that aren't 0.
     pub fn of_parts(mask: u16, lives: u64) -> Option<Names>

@@ -8,14 +8,14 @@ use am_base::image::Report;
 use am_base::limits::MOST_NUMBER;
 use am_base::name::{Name, Stamp};
 use am_base::names::Names;
-use am_parts::fronts::Fronts;
-use am_parts::history::History;
-use am_parts::log::Log;
+use am_node_storage::fronts::Fronts;
+use am_node_storage::history::History;
+use am_node_storage::log::Log;
 use std::alloc::{AllocError, Global};
 
 /// A node's history, with room for so many entries; the last request in it, and what its members report.
 #[derive(Drop)]
-pub struct Ring {
+pub struct TimedHistory {
     history: History,
     room: u32,
     last: u32,
@@ -59,12 +59,12 @@ fn all_stored() -> Fronts {
     fronts
 }
 
-impl Ring {
+impl TimedHistory {
     /// The history of sixteen founders, full.
-    pub fn new(alloc: Global, window: u16) -> Result<Ring, AllocError>
+    pub fn new(alloc: Global, window: u16) -> Result<TimedHistory, AllocError>
         requires { (1 ≤ window) × (window ≤ most_window) }
     {
-        let mut ring = Ring {
+        let mut ring = TimedHistory {
             history: History::new(alloc, window)?,
             room: u32::from(window) + 15,
             last: 0,

@@ -1,4 +1,4 @@
-use crate::ring::Ring;
+use crate::ring::TimedHistory;
 use am_base::body::PacketBytes;
 use am_base::founding::Founding;
 use am_base::items::Items;
@@ -7,11 +7,11 @@ use am_base::names::Names;
 use am_base::outcome::Outcome;
 use am_group::event::{Act, By, Event, Record};
 use am_journal::journal::Journal;
-use am_letter::letter::letter_of;
-use am_letter::writer::encode;
 use am_packet::letter::Letter;
 use am_packet::packet::Packet;
-use am_reader::reader::decode;
+use am_packet_reader::reader::decode;
+use am_packet_writer::letter::letter_of;
+use am_packet_writer::writer::encode;
 use std::alloc::{AllocError, Global};
 use std::io;
 use std::rt::Clock;
@@ -26,7 +26,7 @@ const REQUEST: &[u8] =
 
 /// What is done again and again.
 #[derive(Clone, Copy)]
-pub enum Kind {
+pub enum TimedWork {
     /// A packet is read, with another last byte each time.
     Decode,
     /// A packet is written.
@@ -48,7 +48,7 @@ pub enum Kind {
 #[derive(Clone, Copy)]
 pub struct Work {
     name: &'static str,
-    kind: Kind,
+    kind: TimedWork,
     bytes: &'static [u8],
     total: usize,
     records: u32,
@@ -56,7 +56,7 @@ pub struct Work {
 }
 
 /// The work on a packet.
-fn packet(name: &'static str, kind: Kind, bytes: &'static [u8], total: usize) -> Work {
+fn packet(name: &'static str, kind: TimedWork, bytes: &'static [u8], total: usize) -> Work {
     Work {
         name,
         kind,
@@ -68,7 +68,7 @@ fn packet(name: &'static str, kind: Kind, bytes: &'static [u8], total: usize) ->
 }
 
 /// The work on a journal or on a history.
-fn list(name: &'static str, kind: Kind, records: u32, window: u16) -> Work {
+fn list(name: &'static str, kind: TimedWork, records: u32, window: u16) -> Work {
     Work {
         name,
         kind,
@@ -82,40 +82,45 @@ fn list(name: &'static str, kind: Kind, records: u32, window: u16) -> Work {
 /// The works on packets and journals.
 pub fn codec() -> [Work; 6] {
     [
-        packet("proved   decode 20-byte Ack", Kind::Decode, ACK, 20),
-        packet("proved   encode 20-byte Ack", Kind::Encode, ACK, 20),
+        packet("proved   decode 20-byte Ack", TimedWork::Decode, ACK, 20),
+        packet("proved   encode 20-byte Ack", TimedWork::Encode, ACK, 20),
         packet(
             "proved   decode 1,024-byte Request",
-            Kind::Decode,
+            TimedWork::Decode,
             REQUEST,
             1048,
         ),
         packet(
             "proved   encode 1,024-byte Request",
-            Kind::Encode,
+            TimedWork::Encode,
             REQUEST,
             1048,
         ),
-        list("Journal::packet among 100", Kind::LookUp, 100, 112),
-        list("Journal::packet among 10000", Kind::LookUp, 10_000, 112),
+        list("Journal::packet among 100", TimedWork::LookUp, 100, 112),
+        list(
+            "Journal::packet among 10000",
+            TimedWork::LookUp,
+            10_000,
+            112,
+        ),
     ]
 }
 
 /// The works on histories.
 pub fn parts() -> [Work; 7] {
     [
-        list("ours 112 push and trim", Kind::Refill, 0, 112),
-        list("ours 112 entry", Kind::Entry, 0, 112),
-        list("ours 112 members_after", Kind::Members, 0, 112),
-        list("ours 112 accept_front", Kind::Front, 0, 112),
-        list("ours 1008 push and trim", Kind::Refill, 0, 1008),
-        list("ours 1008 entry", Kind::Entry, 0, 1008),
-        list("ours 1008 members_after", Kind::Members, 0, 1008),
+        list("ours 112 push and trim", TimedWork::Refill, 0, 112),
+        list("ours 112 entry", TimedWork::Entry, 0, 112),
+        list("ours 112 members_after", TimedWork::Members, 0, 112),
+        list("ours 112 accept_front", TimedWork::Front, 0, 112),
+        list("ours 1008 push and trim", TimedWork::Refill, 0, 1008),
+        list("ours 1008 entry", TimedWork::Entry, 0, 1008),
+        list("ours 1008 members_after", TimedWork::Members, 0, 1008),
     ]
 }
 
 /// A letter for these names.
-#[tactic(auto, unfolding(am_packet::specs::Limits::IsWithin))]
+#[tactic(auto, unfolding(am_packet::specs::Limits::PacketIsWithin))]
 fn letter_to(alloc: Global, to: Names) -> Result<Letter, AllocError> {
     let invite = Packet::Invite {
         sender: Name::of_byte(0),
@@ -163,11 +168,11 @@ fn bytes_of(alloc: Global, first: &[u8], total: usize) -> Result<Vec<u8>, AllocE
 /// What a work is done with.
 #[derive(Drop)]
 struct Ready {
-    kind: Kind,
+    kind: TimedWork,
     bytes: Vec<u8>,
     written: PacketBytes,
     journal: Journal,
-    ring: Ring,
+    ring: TimedHistory,
 }
 
 impl Ready {
@@ -178,7 +183,7 @@ impl Ready {
             bytes: bytes_of(alloc, work.bytes, work.total)?,
             written: PacketBytes::new(alloc)?,
             journal: journal_of(alloc, founding, work.records)?,
-            ring: Ring::new(alloc, work.window.clamp(1, 1008))?,
+            ring: TimedHistory::new(alloc, work.window.clamp(1, 1008))?,
         })
     }
 
@@ -218,19 +223,19 @@ impl Ready {
     /// Does the work once, in this turn; a number that comes of it.
     fn once(&mut self, turn: u32) -> u64 {
         match self.kind {
-            Kind::Decode => self.read((turn % 256) as u8),
-            Kind::Encode => 0,
-            Kind::LookUp => self.look_up(turn),
-            Kind::Refill => self.ring.refill(),
-            Kind::Entry => self.ring.requests(),
-            Kind::Members => self.ring.memberships(),
-            Kind::Front => self.ring.front(),
+            TimedWork::Decode => self.read((turn % 256) as u8),
+            TimedWork::Encode => 0,
+            TimedWork::LookUp => self.look_up(turn),
+            TimedWork::Refill => self.ring.refill(),
+            TimedWork::Entry => self.ring.requests(),
+            TimedWork::Members => self.ring.memberships(),
+            TimedWork::Front => self.ring.front(),
         }
     }
 
     /// Does the work so many times; the sum of what came of it.
     fn again(&mut self, count: u32) -> u64 {
-        if let Kind::Encode = self.kind {
+        if let TimedWork::Encode = self.kind {
             return self.write(count);
         }
         let mut sum = 0u64;
@@ -243,8 +248,8 @@ impl Ready {
     /// How many calls are made at a time.
     fn calls(&self) -> u32 {
         match self.kind {
-            Kind::Refill | Kind::Entry | Kind::Members => self.ring.room(),
-            Kind::Decode | Kind::Encode | Kind::LookUp | Kind::Front => 1,
+            TimedWork::Refill | TimedWork::Entry | TimedWork::Members => self.ring.room(),
+            TimedWork::Decode | TimedWork::Encode | TimedWork::LookUp | TimedWork::Front => 1,
         }
     }
 }

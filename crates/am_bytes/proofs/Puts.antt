@@ -2,11 +2,11 @@
 use Rattle.std.proofs.Common.{◌≡◌, ℕ, List, [], ◌++◌, Result, Ok, Err, OnOk, sym, ap, ◌∙◌, append_assoc, append-nil}
 
 -- nothing was added
-pub nothing : (xs : List ℕ) → xs ≡ xs ++ []
-nothing xs = sym (append-nil xs)
+pub bytes_with_nothing_put : (xs : List ℕ) → xs ≡ xs ++ []
+bytes_with_nothing_put xs = sym (append-nil xs)
 
 -- one piece behind another
-pub then_put : {E : Type 0} (done : Result (Unit {0}) E) (before x y middle after : List ℕ) → middle ≡ before ++ x → OnOk done (after ≡ middle ++ y)
+pub bytes_with_two_pieces_put : {E : Type 0} (done : Result (Unit {0}) E) (before x y middle after : List ℕ) → middle ≡ before ++ x → OnOk done (after ≡ middle ++ y)
     → OnOk done (after ≡ before ++ (x ++ y))
-then_put (Ok ok) before x y middle after first second = second ∙ ap (λ (m : List ℕ). m ++ y) first ∙ append_assoc before x y
-then_put (Err lack) before x y middle after first second = tt
+bytes_with_two_pieces_put (Ok ok) before x y middle after first second = second ∙ ap (λ (m : List ℕ). m ++ y) first ∙ append_assoc before x y
+bytes_with_two_pieces_put (Err lack) before x y middle after first second = tt

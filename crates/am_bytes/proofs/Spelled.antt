@@ -10,11 +10,11 @@ use Rattle.am_base.specs.Most.{most_number, most_body, most_packet}
 use Rattle.am_base.specs.Names.{IsSet}
 use Rattle.am_base.specs.declared.event.NodeEvent.TheVariants as does
 use Rattle.am_packet.specs.Spelling.{flag_byte, set_bytes}
-use Rattle.am_packet.proofs.Fields.{flag_again, set_again}
-use Rattle.am_lines.specs.declared.line.Line.{Line}
-use Rattle.am_lines.specs.declared.line.Line.TheVariants as line
-use Rattle.am_lines.specs.Lines.{most_line}
-use Rattle.am_bytes.specs.Events.{word_at, count_in, name_in, body_in, packet_in, sized, reset_in, hear_in, event_by, event_of, event_bytes}
+use Rattle.am_packet.proofs.Fields.{flag_at_flag_byte, set_at_set_bytes}
+use Rattle.am_node_lines.specs.declared.line.Line.{Line}
+use Rattle.am_node_lines.specs.declared.line.Line.TheVariants as line
+use Rattle.am_node_lines.specs.Lines.{most_line}
+use Rattle.am_bytes.specs.Events.{word_at, count_in, name_in, body_in, packet_bytes_in, sized, reset_in_bytes, hear_in, event_by, event_of, event_bytes}
 use Rattle.am_bytes.specs.Laws.{IsEvent, EventsAreRead}
 
 -- a kind and few fields are an event of that kind
@@ -36,8 +36,8 @@ body_read : (body : List ℕ) → length body ≤ most_body → body_in body ≡
 unfolding body_in
 body_read body few = rw (le-leb (length body) most_body few) refl
 
-packet_read : (bytes : List ℕ) → length bytes ≤ most_packet → packet_in bytes ≡ Ok bytes
-unfolding packet_in
+packet_read : (bytes : List ℕ) → length bytes ≤ most_packet → packet_bytes_in bytes ≡ Ok bytes
+unfolding packet_bytes_in
 packet_read bytes few = rw (le-leb (length bytes) most_packet few) refl
 
 sizes_read : (least resilience : ℕ) → 0 < least → least ≤ 16 → resilience ≤ 15 → sized least resilience ≡ line.Does (does.Reset least resilience)
@@ -47,26 +47,26 @@ hear_by : (fields bytes to : List ℕ) (any : Bool) → slice_index fields 0 ≡
     → 11 ≤ length fields → IsSet to → length bytes ≤ most_packet → hear_in fields ≡ line.Hears any to bytes
 unfolding hear_in
 hear_by fields bytes to any first second third long is few =
-    rw (le-ltb (length fields) 11 long, flag_again fields 0 any first, set_again fields bytes 1 to second is, third, packet_read bytes few) refl
+    rw (le-ltb (length fields) 11 long, flag_at_flag_byte fields 0 any first, set_at_set_bytes fields bytes 1 to second is, third, packet_read bytes few) refl
 
 hear_read : (any : Bool) (to bytes : List ℕ) → IsSet to → length bytes ≤ most_packet
     → hear_in (flag_byte any ∷ [] ++ set_bytes to ++ bytes) ≡ line.Hears any to bytes
 hear_read any to bytes is few = hear_by (flag_byte any ∷ [] ++ set_bytes to ++ bytes) bytes to any refl refl refl (omega arith) is few
 
-pub event_read : EventsAreRead
-unfolding event_of event_by event_bytes word_at name_in reset_in
-event_read (line.Does (does.Send body)) is = event_is 16 body (omega (arith, is)) ∙ rw (body_read body is) refl
-event_read (line.Does (does.Done req)) is = rw (count_read req is.0 is.1) refl
-event_read (line.Does does.Take) is = refl
-event_read (line.Does does.Join) is = refl
-event_read (line.Does does.State) is = refl
-event_read (line.Does does.Leave) is = refl
-event_read (line.Does (does.Reset least resilience)) is = sizes_read least resilience is.0 is.1 is.2
-event_read (line.Does (does.Ask round)) is = rw (count_read round is.0 is.1) refl
-event_read (line.Does (does.GiveUp name)) is = refl
-event_read (line.Does does.Tick) is = refl
-event_read (line.Does (does.Hear bytes)) is = absurd is
-event_read (line.Hears any to bytes) is =
+pub spelled_events_are_read : EventsAreRead
+unfolding event_of event_by event_bytes word_at name_in reset_in_bytes
+spelled_events_are_read (line.Does (does.Send body)) is = event_is 16 body (omega (arith, is)) ∙ rw (body_read body is) refl
+spelled_events_are_read (line.Does (does.Done req)) is = rw (count_read req is.0 is.1) refl
+spelled_events_are_read (line.Does does.Take) is = refl
+spelled_events_are_read (line.Does does.Join) is = refl
+spelled_events_are_read (line.Does does.State) is = refl
+spelled_events_are_read (line.Does does.Leave) is = refl
+spelled_events_are_read (line.Does (does.Reset least resilience)) is = sizes_read least resilience is.0 is.1 is.2
+spelled_events_are_read (line.Does (does.Ask round)) is = rw (count_read round is.0 is.1) refl
+spelled_events_are_read (line.Does (does.GiveUp name)) is = refl
+spelled_events_are_read (line.Does does.Tick) is = refl
+spelled_events_are_read (line.Does (does.Hear bytes)) is = absurd is
+spelled_events_are_read (line.Hears any to bytes) is =
     event_is 21 (flag_byte any ∷ [] ++ set_bytes to ++ bytes) (omega (arith, is.1)) ∙ hear_read any to bytes is.0 is.1
-event_read line.Info is = refl
-event_read (line.Bad cause) is = absurd is
+spelled_events_are_read line.Info is = refl
+spelled_events_are_read (line.Bad cause) is = absurd is

@@ -8,7 +8,7 @@ use Rattle.std.proofs.lemmas.Bool.{le-leb, eq-eqb}
 use Rattle.byteorder.specs.Endian.{big_bytes, big_number}
 use Rattle.byteorder.specs.Numbers.{big_number-reads_back}
 use Rattle.am_base.specs.Names.{IsSet, mask_of, lives_of}
-use Rattle.am_base.proofs.Masks.{back, fit, mask_of-lt, lives_of-lt}
+use Rattle.am_base.proofs.Masks.{places_of_mask_and_lives, mask_and_lives_are_masked, mask_of-lt, lives_of-lt}
 use Rattle.am_base.specs.declared.name.Stamp.{Stamp}
 use Rattle.am_base.specs.declared.entry.Entry.{Entry}
 use Rattle.am_base.specs.declared.entry.Entry.TheVariants as entries
@@ -16,16 +16,16 @@ use Rattle.am_base.specs.declared.outcome.Outcome.{Outcome}
 use Rattle.am_base.specs.declared.outcome.Outcome.TheVariants as said
 use Rattle.am_packet.specs.Boxes.{Letter}
 use Rattle.am_packet.specs.Spelling.{stamp_bytes, set_bytes, flag_byte, spelling}
-use Rattle.am_packet.proofs.Again.{spelling_again, fields_short, length-spelling}
+use Rattle.am_packet.proofs.Again.{reading_of_spelling, fields_of_packet_are_short, length-spelling}
 use Rattle.am_model.specs.declared.info.Role.{Role}
 use Rattle.am_model.specs.declared.info.Role.TheVariants as roles
-use Rattle.am_lines.specs.declared.line.BadLine.{BadLine}
-use Rattle.am_lines.specs.declared.line.BadLine.TheVariants.{NoSuchWord, Form, Limit, TooLong}
-use Rattle.am_lines.specs.Lines.{cause_of}
-use Rattle.am_lines.specs.declared.reply.Reply.{Reply}
-use Rattle.am_lines.specs.declared.reply.Reply.TheVariants as replies
-use Rattle.am_bytes.specs.declared.standing.Standing.{Standing}
-use Rattle.am_bytes.specs.Answers.{role_number, flags_of, role_bytes, view_bytes, fronts_bytes, to_bytes, counted_bytes, outcome_kind, outcome_fields, entry_bytes, letter_bytes, letters_bytes, reply_bytes, standing_bytes, answer_bytes}
+use Rattle.am_node_lines.specs.declared.line.BadLine.{BadLine}
+use Rattle.am_node_lines.specs.declared.line.BadLine.TheVariants.{NoSuchWord, Form, Limit, TooLong}
+use Rattle.am_node_lines.specs.Lines.{bad_line_number}
+use Rattle.am_node_lines.specs.declared.reply.LineReply.{LineReply}
+use Rattle.am_node_lines.specs.declared.reply.LineReply.TheVariants as replies
+use Rattle.am_bytes.specs.declared.standing.NodeStanding.{NodeStanding}
+use Rattle.am_bytes.specs.Answers.{role_number, flags_of, role_bytes, view_bytes, fronts_bytes, to_bytes, counted_bytes, outcome_kind, outcome_fields, entry_answer_bytes, letter_bytes, letters_bytes, reply_bytes, standing_bytes, answer_bytes}
 use Rattle.am_bytes.specs.Reading.{found, byte_from, bytes_from, number_from, stamp_from, set_from, flag_from, entry_from, data_from, view_from, shape_at, made_from, letter_from, letters_from}
 use Rattle.am_bytes.specs.Reading.{cause_at, bad_from, did_from, reply_from, role_at, flag_in, standing_from, answer_from}
 use Rattle.am_bytes.specs.Laws.{IsWord, HasWords, FitsEntry, FitsOutcome, FitsLetter, FitsReply, FitsStanding, AnswersAreRead}
@@ -68,14 +68,14 @@ set_back set rest is =
     rw (
       number_back 2 (mask_of set) (big_bytes 8 (lives_of set) ++ rest) refl mask_fits,
       number_back 8 (lives_of set) rest refl lives_fits,
-      fit set is,
-      back set is,
+      mask_and_lives_are_masked set is,
+      places_of_mask_and_lives set is,
     ) refl
 
 -- ---- entries and outcomes
 
-entry_back : (entry : Entry) (rest : List ℕ) → FitsEntry entry → entry_from (entry_bytes entry ++ rest) ≡ found entry rest
-unfolding entry_from data_from view_from entry_bytes byte_from
+entry_back : (entry : Entry) (rest : List ℕ) → FitsEntry entry → entry_from (entry_answer_bytes entry ++ rest) ≡ found entry rest
+unfolding entry_from data_from view_from entry_answer_bytes byte_from
 entry_back (entries.Data from req body) rest fits =
     rw (
       word_back req (big_bytes 2 (length body) ++ (body ++ rest)) fits.0,
@@ -87,7 +87,7 @@ entry_back (entries.Leave name) rest fits = refl
 entry_back (entries.View v) rest fits =
     rw (stamp_back v.stamp (set_bytes v.members ++ (v.resilience ∷ rest)) fits.0, set_back v.members (v.resilience ∷ rest) fits.1) refl
 
-pub outcome_back : (outcome : Outcome) (rest : List ℕ) → FitsOutcome outcome
+outcome_back : (outcome : Outcome) (rest : List ℕ) → FitsOutcome outcome
     → made_from (shape_at (outcome_kind outcome)) (outcome_fields outcome ++ rest) ≡ found outcome rest
 unfolding made_from outcome_kind outcome_fields byte_from
 outcome_back (said.Queued req) rest fits = rw (word_back req rest fits) refl
@@ -95,7 +95,7 @@ outcome_back (said.Busy queued) rest fits = rw (word_back queued rest fits) refl
 outcome_back (said.Pending req) rest fits = rw (word_back req rest fits) refl
 outcome_back (said.Sent req number) rest fits = rw (word_back req (big_bytes 4 number ++ rest) fits.0, word_back number rest fits.1) refl
 outcome_back said.Unknown rest fits = refl
-outcome_back (said.Took number entry) rest fits = rw (word_back number (entry_bytes entry ++ rest) fits.0, entry_back entry rest fits.1) refl
+outcome_back (said.Took number entry) rest fits = rw (word_back number (entry_answer_bytes entry ++ rest) fits.0, entry_back entry rest fits.1) refl
 outcome_back said.Empty rest fits = refl
 outcome_back said.Asked rest fits = refl
 outcome_back (said.Joined number) rest fits = rw (word_back number rest fits) refl
@@ -152,13 +152,13 @@ letter_back : (letter : Letter) (rest : List ℕ) → FitsLetter letter → lett
 unfolding letter_from letter_bytes to_bytes counted_bytes
 letter_back letter rest fits =
     let spelled = spelling letter.packet in
-    let short : length spelled < 256 ^ 2 = omega (arith, length-spelling letter.packet, fields_short letter.packet fits.1.parts) in
+    let short : length spelled < 256 ^ 2 = omega (arith, length-spelling letter.packet, fields_of_packet_are_short letter.packet fits.1.parts) in
     rw (
       flag_back letter.any (set_bytes letter.to ++ (big_bytes 2 (length spelled) ++ (spelled ++ rest))),
       set_back letter.to (big_bytes 2 (length spelled) ++ (spelled ++ rest)) fits.0,
       number_back 2 (length spelled) (spelled ++ rest) refl short,
       bytes_back spelled rest,
-      spelling_again letter.packet fits.1,
+      reading_of_spelling letter.packet fits.1,
     ) refl
 
 letters_back : (letters : List Letter) (rest : List ℕ) → AllByRecursion FitsLetter letters
@@ -191,13 +191,13 @@ unfolding did_from letters_bytes byte_from
 did_back outcome letters rest fits all =
     rw (outcome_back outcome (length letters ∷ (flat_map letter_bytes letters ++ rest)) fits, letters_back letters rest all) refl
 
-cause_back : (cause : BadLine) → cause_at (cause_of cause) ≡ Some cause
+cause_back : (cause : BadLine) → cause_at (bad_line_number cause) ≡ Some cause
 cause_back NoSuchWord = refl
 cause_back Form = refl
 cause_back Limit = refl
 cause_back TooLong = refl
 
-reply_back : (told : Reply) (rest : List ℕ) → FitsReply told → reply_from (reply_bytes told ++ rest) ≡ found told rest
+reply_back : (told : LineReply) (rest : List ℕ) → FitsReply told → reply_from (reply_bytes told ++ rest) ≡ found told rest
 unfolding reply_from reply_bytes bad_from byte_from
 reply_back (replies.Did outcome letters) rest fits =
     let apart = kind_apart outcome in
@@ -235,7 +235,7 @@ flags_back false true false = record { one = refl; two = refl; four = refl }
 flags_back false false true = record { one = refl; two = refl; four = refl }
 flags_back false false false = record { one = refl; two = refl; four = refl }
 
-standing_back : (s : Standing) (rest : List ℕ) → FitsStanding s → standing_from (standing_bytes s ++ rest) ≡ found s rest
+standing_back : (s : NodeStanding) (rest : List ℕ) → FitsStanding s → standing_from (standing_bytes s ++ rest) ≡ found s rest
 unfolding standing_from standing_bytes role_bytes view_bytes fronts_bytes byte_from
 standing_back s rest fits =
     let flags = flags_back s.has_next s.is_sending s.is_leaving in
@@ -262,9 +262,9 @@ standing_back s rest fits =
       third,
     ) refl
 
-pub answer_read : AnswersAreRead
+pub spelled_answers_are_read : AnswersAreRead
 unfolding answer_from answer_bytes
-answer_read standing told more stands fits =
+spelled_answers_are_read standing told more stands fits =
     rw (
       append_assoc (standing_bytes standing) (reply_bytes told) more,
       standing_back standing (reply_bytes told ++ more) stands,

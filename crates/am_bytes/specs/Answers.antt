@@ -8,24 +8,24 @@ use Rattle.am_base.specs.declared.outcome.Outcome.{Outcome}
 use Rattle.am_base.specs.declared.outcome.Outcome.TheVariants as said
 use Rattle.am_packet.specs.Boxes.{Letter}
 use Rattle.am_packet.specs.Spelling.{stamp_bytes, set_bytes, flag_byte, spelling}
-use Rattle.am_model.specs.Node.{Node, top, view, members, image_of, unsettled_count}
+use Rattle.am_model.specs.Node.{Node, top, view, members, image_of, node_unsettled_count}
 use Rattle.am_model.specs.Info.{role_of, waited_for}
 use Rattle.am_model.specs.declared.info.Role.{Role}
 use Rattle.am_model.specs.declared.info.Role.TheVariants as role
-use Rattle.am_lines.specs.declared.reply.Reply.{Reply}
-use Rattle.am_lines.specs.declared.reply.Reply.TheVariants as replies
-use Rattle.am_lines.specs.Lines.{cause_of}
-use Rattle.am_lines.specs.Answers.{Answer, Replied, reply_to}
-use Rattle.am_bytes.specs.declared.standing.Standing.{Standing}
+use Rattle.am_node_lines.specs.declared.reply.LineReply.{LineReply}
+use Rattle.am_node_lines.specs.declared.reply.LineReply.TheVariants as replies
+use Rattle.am_node_lines.specs.Lines.{bad_line_number}
+use Rattle.am_node_lines.specs.Answers.{Answer, LineReplied, reply_to}
+use Rattle.am_bytes.specs.declared.standing.NodeStanding.{NodeStanding}
 use Rattle.am_bytes.specs.Events.{event_of}
 
 -- ---- how a node stands
 
-abbrev pub standing_of : Node → Standing
-standing_of m = record {
+abbrev pub node_standing : Node → NodeStanding
+node_standing m = record {
   role = role_of m;
   has_next = not (m.core.taken == m.core.acc);
-  is_sending = nat_lt 0 (unsettled_count m);
+  is_sending = nat_lt 0 (node_unsettled_count m);
   is_leaving = m.leaving;
   view = view m;
   view_number = (image_of m).view_number;
@@ -51,19 +51,19 @@ abbrev pub flags_of : Bool → Bool → Bool → ℕ
 flags_of first second third = flag_byte first + 2 * flag_byte second + 4 * flag_byte third
 
 -- where its list stands: base, taken, accepted, top
-unfoldable pub fronts_bytes : Standing → List ℕ
+unfoldable pub fronts_bytes : NodeStanding → List ℕ
 fronts_bytes s = big_bytes 4 s.base ++ big_bytes 4 s.taken ++ big_bytes 4 s.accepted ++ big_bytes 4 s.top
 
 -- its view: the stamp, the number, the members and the resilience
-unfoldable pub view_bytes : Standing → List ℕ
+unfoldable pub view_bytes : NodeStanding → List ℕ
 view_bytes s = stamp_bytes s.view ++ big_bytes 4 s.view_number ++ set_bytes s.members ++ s.resilience ∷ []
 
 -- what it is: its role, and flags
-unfoldable pub role_bytes : Standing → List ℕ
+unfoldable pub role_bytes : NodeStanding → List ℕ
 role_bytes s = role_number s.role ∷ flags_of s.has_next s.is_sending s.is_leaving ∷ []
 
 -- 48 bytes
-unfoldable pub standing_bytes : Standing → List ℕ
+unfoldable pub standing_bytes : NodeStanding → List ℕ
 standing_bytes s = role_bytes s ++ view_bytes s ++ (fronts_bytes s ++ set_bytes s.waits_for)
 
 -- ---- outcomes
@@ -127,11 +127,11 @@ outcome_kind said.NoLife = 54
 outcome_kind (said.Returned life) = 55
 
 -- an entry: its kind, and the kind's fields
-unfoldable pub entry_bytes : Entry → List ℕ
-entry_bytes (entries.Data from req body) = 1 ∷ from ∷ [] ++ big_bytes 4 req ++ big_bytes 2 (length body) ++ body
-entry_bytes (entries.Join name) = 2 ∷ name ∷ []
-entry_bytes (entries.Leave name) = 3 ∷ name ∷ []
-entry_bytes (entries.View v) = 4 ∷ [] ++ stamp_bytes v.stamp ++ set_bytes v.members ++ v.resilience ∷ []
+unfoldable pub entry_answer_bytes : Entry → List ℕ
+entry_answer_bytes (entries.Data from req body) = 1 ∷ from ∷ [] ++ big_bytes 4 req ++ big_bytes 2 (length body) ++ body
+entry_answer_bytes (entries.Join name) = 2 ∷ name ∷ []
+entry_answer_bytes (entries.Leave name) = 3 ∷ name ∷ []
+entry_answer_bytes (entries.View v) = 4 ∷ [] ++ stamp_bytes v.stamp ++ set_bytes v.members ++ v.resilience ∷ []
 
 -- what stands behind an outcome's kind
 unfoldable pub outcome_fields : Outcome → List ℕ
@@ -139,7 +139,7 @@ outcome_fields (said.Queued req) = big_bytes 4 req
 outcome_fields (said.Busy queued) = big_bytes 4 queued
 outcome_fields (said.Pending req) = big_bytes 4 req
 outcome_fields (said.Sent req number) = big_bytes 4 req ++ big_bytes 4 number
-outcome_fields (said.Took number entry) = big_bytes 4 number ++ entry_bytes entry
+outcome_fields (said.Took number entry) = big_bytes 4 number ++ entry_answer_bytes entry
 outcome_fields (said.Joined number) = big_bytes 4 number
 outcome_fields (said.PutOff req base top) = big_bytes 4 req ++ big_bytes 4 base ++ big_bytes 4 top
 outcome_fields (said.Numbered number) = big_bytes 4 number
@@ -189,20 +189,20 @@ letters_bytes letters = length letters ∷ flat_map letter_bytes letters
 -- ---- answers
 
 -- what came of an event
-unfoldable pub reply_bytes : Reply → List ℕ
+unfoldable pub reply_bytes : LineReply → List ℕ
 reply_bytes (replies.Did outcome letters) = outcome_kind outcome ∷ [] ++ outcome_fields outcome ++ letters_bytes letters
 reply_bytes replies.Info = 0 ∷ 0 ∷ []
 reply_bytes (replies.Spent) = 254 ∷ 0 ∷ []
-reply_bytes (replies.Bad cause) = 255 ∷ cause_of cause ∷ 0 ∷ []
+reply_bytes (replies.Bad cause) = 255 ∷ bad_line_number cause ∷ 0 ∷ []
 
 -- how a node stands, and what came of an event
-unfoldable pub answer_bytes : Standing → Reply → List ℕ
+unfoldable pub answer_bytes : NodeStanding → LineReply → List ℕ
 answer_bytes standing told = standing_bytes standing ++ reply_bytes told
 
 -- what came of an event in bytes, and the node after it
-abbrev pub in_bytes : Replied → Answer
-in_bytes r = record { node = r.node; text = answer_bytes (standing_of r.node) r.reply }
+abbrev pub in_bytes : LineReplied → Answer
+in_bytes r = record { node = r.node; text = answer_bytes (node_standing r.node) r.reply }
 
 -- what a node makes of an event's bytes: the node after it, and the bytes of its answer
-unfoldable pub answer_to : Node → List ℕ → Answer
-answer_to m bytes = in_bytes (reply_to m (event_of bytes))
+unfoldable pub event_answer : Node → List ℕ → Answer
+event_answer m bytes = in_bytes (reply_to m (event_of bytes))

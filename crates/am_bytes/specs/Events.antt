@@ -4,15 +4,15 @@ use Rattle.byteorder.specs.Endian.{big_number, big_bytes}
 use Rattle.am_base.specs.Most.{most_number, most_body, most_packet}
 use Rattle.am_base.specs.declared.event.NodeEvent.TheVariants as does
 use Rattle.am_packet.specs.Spelling.{flag_byte, set_bytes}
-use Rattle.am_packet.specs.Reading.{Read, flag_at, set_at}
-use Rattle.am_spelling.specs.declared.fault.FieldFault.{FieldFault}
-use Rattle.am_spelling.specs.declared.fault.FieldFault.TheVariants as faults
-use Rattle.am_lines.specs.declared.line.BadLine.TheVariants.{NoSuchWord, Form, Limit, TooLong}
-use Rattle.am_lines.specs.declared.line.Line.{Line}
-use Rattle.am_lines.specs.declared.line.Line.TheVariants as line
-use Rattle.am_lines.specs.declared.line.Word.{Word}
-use Rattle.am_lines.specs.declared.line.Word.TheVariants as word
-use Rattle.am_lines.specs.Lines.{most_line, line_from, only_word}
+use Rattle.am_packet.specs.Reading.{Read, flag_at, read_set_at}
+use Rattle.am_text_defs.specs.declared.fault.FieldFault.{FieldFault}
+use Rattle.am_text_defs.specs.declared.fault.FieldFault.TheVariants as faults
+use Rattle.am_node_lines.specs.declared.line.BadLine.TheVariants.{NoSuchWord, Form, Limit, TooLong}
+use Rattle.am_node_lines.specs.declared.line.Line.{Line}
+use Rattle.am_node_lines.specs.declared.line.Line.TheVariants as line
+use Rattle.am_node_lines.specs.declared.line.Word.{Word}
+use Rattle.am_node_lines.specs.declared.line.Word.TheVariants as word
+use Rattle.am_node_lines.specs.Lines.{most_line, line_from, only_word}
 
 -- ---- kinds
 
@@ -56,8 +56,8 @@ unfoldable pub body_in : List ℕ → Result (List ℕ) FieldFault
 body_in fields = if nat_le (length fields) most_body then Ok fields else Err faults.Limit
 
 -- a packet's bytes
-unfoldable pub packet_in : List ℕ → Result (List ℕ) FieldFault
-packet_in fields = if nat_le (length fields) most_packet then Ok fields else Err faults.Limit
+unfoldable pub packet_bytes_in : List ℕ → Result (List ℕ) FieldFault
+packet_bytes_in fields = if nat_le (length fields) most_packet then Ok fields else Err faults.Limit
 
 -- a least size of 1 to 16 and a resilience of at most 15
 abbrev pub are_sizes : ℕ → ℕ → Bool
@@ -66,15 +66,15 @@ are_sizes least resilience = nat_lt 0 least && (nat_le least 16 && nat_le resili
 abbrev pub sized : ℕ → ℕ → Line
 sized least resilience = if are_sizes least resilience then line.Does (does.Reset least resilience) else line.Bad Limit
 
-unfoldable pub reset_in : List ℕ → Line
-reset_in fields = if length fields == 2 then sized (slice_index fields 0) (slice_index fields 1) else line.Bad Form
+unfoldable pub reset_in_bytes : List ℕ → Line
+reset_in_bytes fields = if length fields == 2 then sized (slice_index fields 0) (slice_index fields 1) else line.Bad Form
 
 -- a letter for the names of a set, or with the flag for any life of their places
 unfoldable pub hear_in : List ℕ → Line
 hear_in fields =
     if nat_lt (length fields) 11 then line.Bad Form
-    else line_from (field_of (flag_at fields 0)) (λ any. line_from (field_of (set_at fields 1))
-    (λ to. line_from (packet_in (drop 11 fields)) (λ bytes. line.Hears any to bytes)))
+    else line_from (field_of (flag_at fields 0)) (λ any. line_from (field_of (read_set_at fields 1))
+    (λ to. line_from (packet_bytes_in (drop 11 fields)) (λ bytes. line.Hears any to bytes)))
 
 -- ---- events
 
@@ -89,7 +89,7 @@ event_by (Some word.Send) fields = line_from (body_in fields) (λ body. line.Doe
 event_by (Some word.Done) fields = line_from (count_in fields) (λ req. line.Does (does.Done req))
 event_by (Some word.Ask) fields = line_from (count_in fields) (λ round. line.Does (does.Ask round))
 event_by (Some word.GiveUp) fields = line_from (name_in fields) (λ name. line.Does (does.GiveUp name))
-event_by (Some word.Reset) fields = reset_in fields
+event_by (Some word.Reset) fields = reset_in_bytes fields
 event_by (Some word.Hear) fields = hear_in fields
 event_by (Some word.Take) fields = alone word.Take fields
 event_by (Some word.Join) fields = alone word.Join fields

@@ -13,15 +13,15 @@ use Rattle.am_base.specs.declared.outcome.Outcome.TheVariants as said
 use Rattle.am_packet.specs.Boxes.{Letter}
 use Rattle.am_packet.specs.Limits.{IsPacket}
 use Rattle.am_model.specs.Node.{Node}
-use Rattle.am_lines.specs.declared.line.Line.{Line}
-use Rattle.am_lines.specs.declared.line.Line.TheVariants as line
-use Rattle.am_lines.specs.declared.reply.Reply.{Reply}
-use Rattle.am_lines.specs.declared.reply.Reply.TheVariants as replies
-use Rattle.am_lines.specs.Lines.{line_of}
-use Rattle.am_lines.specs.Answers.{Answer, Replied, reply_to, reply_text, answer_of}
-use Rattle.am_bytes.specs.declared.standing.Standing.{Standing}
+use Rattle.am_node_lines.specs.declared.line.Line.{Line}
+use Rattle.am_node_lines.specs.declared.line.Line.TheVariants as line
+use Rattle.am_node_lines.specs.declared.reply.LineReply.{LineReply}
+use Rattle.am_node_lines.specs.declared.reply.LineReply.TheVariants as replies
+use Rattle.am_node_lines.specs.Lines.{node_line_of}
+use Rattle.am_node_lines.specs.Answers.{Answer, LineReplied, reply_to, reply_text, line_answer}
+use Rattle.am_bytes.specs.declared.standing.NodeStanding.{NodeStanding}
 use Rattle.am_bytes.specs.Events.{event_of, event_bytes}
-use Rattle.am_bytes.specs.Answers.{answer_bytes, in_bytes, answer_to}
+use Rattle.am_bytes.specs.Answers.{answer_bytes, in_bytes, event_answer}
 use Rattle.am_bytes.specs.Reading.{found, answer_from}
 
 -- ---- events
@@ -101,12 +101,12 @@ FitsOutcome _ = Unit {0}
 abbrev pub FitsLetter : Letter → Type 0
 FitsLetter letter = IsSet letter.to × IsPacket letter.packet
 
-abbrev pub FitsReply : Reply → Type 0
+abbrev pub FitsReply : LineReply → Type 0
 FitsReply (replies.Did outcome letters) = FitsOutcome outcome × All FitsLetter letters
 FitsReply _ = Unit {0}
 
 -- what the types of its fields keep
-pub record FitsStanding (s : Standing) : Type 0 where
+pub record FitsStanding (s : NodeStanding) : Type 0 where
   pub view : HasWords s.view
   pub view_number : IsWord s.view_number
   pub members : IsSet s.members
@@ -118,16 +118,16 @@ pub record FitsStanding (s : Standing) : Type 0 where
 
 -- what an answer spells is read as that answer, whatever stands behind it
 abbrev pub AnswersAreRead : Type 0
-AnswersAreRead = (standing : Standing) (told : Reply) (more : List ℕ) → FitsStanding standing → FitsReply told
+AnswersAreRead = (standing : NodeStanding) (told : LineReply) (more : List ℕ) → FitsStanding standing → FitsReply told
     → answer_from (answer_bytes standing told ++ more) ≡ found (standing, told) more
 
 -- ---- events and lines
 
 -- what came of it in words, and the node after it
-abbrev pub in_words : Rules → Replied → Answer
+abbrev pub in_words : Rules → LineReplied → Answer
 in_words rules r = record { node = r.node; text = reply_text rules r.node r.reply }
 
 -- where bytes ask what a line says, both are answered by what comes of the same
 abbrev pub EventsAreLines : Type 0
-EventsAreLines = (rules : Rules) (m : Node) (text bytes : List ℕ) → line_of rules text ≡ event_of bytes
-    → (answer_of rules m text ≡ in_words rules (reply_to m (event_of bytes))) × (answer_to m bytes ≡ in_bytes (reply_to m (event_of bytes)))
+EventsAreLines = (rules : Rules) (m : Node) (text bytes : List ℕ) → node_line_of rules text ≡ event_of bytes
+    → (line_answer rules m text ≡ in_words rules (reply_to m (event_of bytes))) × (event_answer m bytes ≡ in_bytes (reply_to m (event_of bytes)))

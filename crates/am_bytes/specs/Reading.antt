@@ -13,82 +13,82 @@ use Rattle.am_packet.specs.declared.refusal.PacketRefusal.{PacketRefusal}
 use Rattle.am_packet.specs.Reading.{reading}
 use Rattle.am_model.specs.declared.info.Role.{Role}
 use Rattle.am_model.specs.declared.info.Role.TheVariants as role
-use Rattle.am_lines.specs.declared.line.BadLine.{BadLine}
-use Rattle.am_lines.specs.declared.line.BadLine.TheVariants.{NoSuchWord, Form, Limit, TooLong}
-use Rattle.am_lines.specs.declared.reply.Reply.{Reply}
-use Rattle.am_lines.specs.declared.reply.Reply.TheVariants as replies
-use Rattle.am_bytes.specs.declared.standing.Standing.{Standing}
+use Rattle.am_node_lines.specs.declared.line.BadLine.{BadLine}
+use Rattle.am_node_lines.specs.declared.line.BadLine.TheVariants.{NoSuchWord, Form, Limit, TooLong}
+use Rattle.am_node_lines.specs.declared.reply.LineReply.{LineReply}
+use Rattle.am_node_lines.specs.declared.reply.LineReply.TheVariants as replies
+use Rattle.am_bytes.specs.declared.standing.NodeStanding.{NodeStanding}
 
 -- something that stands at the front of bytes, and the bytes behind it
-abbrev pub Read : Type 0 → Type 0
-Read A = Option (A × List ℕ)
+abbrev pub ReadFront : Type 0 → Type 0
+ReadFront A = Option (A × List ℕ)
 
 -- what is read behind it
-abbrev pub and_then : {A B : Type 0} → Read A → (A → List ℕ → Read B) → Read B
-and_then None next = None
-and_then (Some read) next = next read.0 read.1
+abbrev pub read_then : {A B : Type 0} → ReadFront A → (A → List ℕ → ReadFront B) → ReadFront B
+read_then None next = None
+read_then (Some read) next = next read.0 read.1
 
-abbrev pub found : {A : Type 0} → A → List ℕ → Read A
+abbrev pub found : {A : Type 0} → A → List ℕ → ReadFront A
 found x rest = Some (x, rest)
 
 -- one that there is
-abbrev pub chosen : {A : Type 0} → Option A → List ℕ → Read A
+abbrev pub chosen : {A : Type 0} → Option A → List ℕ → ReadFront A
 chosen None rest = None
 chosen (Some x) rest = found x rest
 
 -- ---- fields
 
-unfoldable pub byte_from : List ℕ → Read ℕ
+unfoldable pub byte_from : List ℕ → ReadFront ℕ
 byte_from [] = None
 byte_from (byte ∷ rest) = found byte rest
 
 -- so many bytes
-unfoldable pub bytes_from : ℕ → List ℕ → Read (List ℕ)
+unfoldable pub bytes_from : ℕ → List ℕ → ReadFront (List ℕ)
 bytes_from zero bytes = found [] bytes
 bytes_from (suc n) [] = None
-bytes_from (suc n) (byte ∷ rest) = and_then (bytes_from n rest) (λ later behind. found (byte ∷ later) behind)
+bytes_from (suc n) (byte ∷ rest) = read_then (bytes_from n rest) (λ later behind. found (byte ∷ later) behind)
 
 -- a number of so many bytes
-unfoldable pub number_from : ℕ → List ℕ → Read ℕ
-number_from n bytes = and_then (bytes_from n bytes) (λ digits rest. found (big_number n digits) rest)
+unfoldable pub number_from : ℕ → List ℕ → ReadFront ℕ
+number_from n bytes = read_then (bytes_from n bytes) (λ digits rest. found (big_number n digits) rest)
 
-abbrev pub flag_by : ℕ → List ℕ → Read Bool
+abbrev pub flag_by : ℕ → List ℕ → ReadFront Bool
 flag_by byte rest = if byte == 0 then found false rest else if byte == 1 then found true rest else None
 
-unfoldable pub flag_from : List ℕ → Read Bool
-flag_from bytes = and_then (byte_from bytes) flag_by
+unfoldable pub flag_from : List ℕ → ReadFront Bool
+flag_from bytes = read_then (byte_from bytes) flag_by
 
-unfoldable pub stamp_from : List ℕ → Read Stamp
-stamp_from bytes = and_then (number_from 4 bytes) (λ round a. and_then (byte_from a) (λ by rest. found (record { round = round; by = by }) rest))
+unfoldable pub stamp_from : List ℕ → ReadFront Stamp
+stamp_from bytes = read_then (number_from 4 bytes) (λ round a. read_then (byte_from a) (λ by rest. found (record { round = round; by = by }) rest))
 
-abbrev pub set_by : ℕ → ℕ → List ℕ → Read (List ℕ)
+abbrev pub set_by : ℕ → ℕ → List ℕ → ReadFront (List ℕ)
 set_by mask lives rest = if are_parts mask lives then found (of_parts mask lives) rest else None
 
-unfoldable pub set_from : List ℕ → Read (List ℕ)
-set_from bytes = and_then (number_from 2 bytes) (λ mask a. and_then (number_from 8 a) (set_by mask))
+unfoldable pub set_from : List ℕ → ReadFront (List ℕ)
+set_from bytes = read_then (number_from 2 bytes) (λ mask a. read_then (number_from 8 a) (set_by mask))
 
 -- ---- entries
 
-unfoldable pub data_from : List ℕ → Read Entry
+unfoldable pub data_from : List ℕ → ReadFront Entry
 data_from bytes =
-    and_then (byte_from bytes) (λ from a. and_then (number_from 4 a) (λ req b. and_then (number_from 2 b) (λ n c. and_then (bytes_from n c)
+    read_then (byte_from bytes) (λ from a. read_then (number_from 4 a) (λ req b. read_then (number_from 2 b) (λ n c. read_then (bytes_from n c)
     (λ body rest. found (entries.Data from req body) rest))))
 
-unfoldable pub view_from : List ℕ → Read Entry
+unfoldable pub view_from : List ℕ → ReadFront Entry
 view_from bytes =
-    and_then (stamp_from bytes) (λ stamp a. and_then (set_from a) (λ members b. and_then (byte_from b)
+    read_then (stamp_from bytes) (λ stamp a. read_then (set_from a) (λ members b. read_then (byte_from b)
     (λ resilience rest. found (entries.View (record { stamp = stamp; members = members; resilience = resilience })) rest)))
 
-abbrev pub entry_by : ℕ → List ℕ → Read Entry
+abbrev pub entry_by : ℕ → List ℕ → ReadFront Entry
 entry_by kind bytes =
     if kind == 1 then data_from bytes
-    else if kind == 2 then and_then (byte_from bytes) (λ name rest. found (entries.Join name) rest)
-    else if kind == 3 then and_then (byte_from bytes) (λ name rest. found (entries.Leave name) rest)
+    else if kind == 2 then read_then (byte_from bytes) (λ name rest. found (entries.Join name) rest)
+    else if kind == 3 then read_then (byte_from bytes) (λ name rest. found (entries.Leave name) rest)
     else if kind == 4 then view_from bytes
     else None
 
-unfoldable pub entry_from : List ℕ → Read Entry
-entry_from bytes = and_then (byte_from bytes) entry_by
+unfoldable pub entry_from : List ℕ → ReadFront Entry
+entry_from bytes = read_then (byte_from bytes) entry_by
 
 -- ---- outcomes
 
@@ -170,37 +170,37 @@ shapes =
 abbrev pub shape_at : ℕ → Shape
 shape_at kind = get_or shapes kind Missing
 
-unfoldable pub made_from : Shape → List ℕ → Read Outcome
+unfoldable pub made_from : Shape → List ℕ → ReadFront Outcome
 made_from Missing bytes = None
 made_from (Plain made) bytes = found made bytes
-made_from (Number made) bytes = and_then (number_from 4 bytes) (λ n rest. found (made n) rest)
-made_from (Two made) bytes = and_then (number_from 4 bytes) (λ n a. and_then (number_from 4 a) (λ k rest. found (made n k) rest))
+made_from (Number made) bytes = read_then (number_from 4 bytes) (λ n rest. found (made n) rest)
+made_from (Two made) bytes = read_then (number_from 4 bytes) (λ n a. read_then (number_from 4 a) (λ k rest. found (made n k) rest))
 made_from (Three made) bytes =
-    and_then (number_from 4 bytes) (λ n a. and_then (number_from 4 a) (λ k b. and_then (number_from 4 b) (λ j rest. found (made n k j) rest)))
-made_from (WithEntry made) bytes = and_then (number_from 4 bytes) (λ n a. and_then (entry_from a) (λ entry rest. found (made n entry) rest))
-made_from (NameNumber made) bytes = and_then (byte_from bytes) (λ name a. and_then (number_from 4 a) (λ n rest. found (made name n) rest))
-made_from (OfStamp made) bytes = and_then (stamp_from bytes) (λ stamp rest. found (made stamp) rest)
-made_from (OfSet made) bytes = and_then (set_from bytes) (λ set rest. found (made set) rest)
-made_from (NumberSet made) bytes = and_then (number_from 4 bytes) (λ n a. and_then (set_from a) (λ set rest. found (made n set) rest))
-made_from (OfName made) bytes = and_then (byte_from bytes) (λ name rest. found (made name) rest)
+    read_then (number_from 4 bytes) (λ n a. read_then (number_from 4 a) (λ k b. read_then (number_from 4 b) (λ j rest. found (made n k j) rest)))
+made_from (WithEntry made) bytes = read_then (number_from 4 bytes) (λ n a. read_then (entry_from a) (λ entry rest. found (made n entry) rest))
+made_from (NameNumber made) bytes = read_then (byte_from bytes) (λ name a. read_then (number_from 4 a) (λ n rest. found (made name n) rest))
+made_from (OfStamp made) bytes = read_then (stamp_from bytes) (λ stamp rest. found (made stamp) rest)
+made_from (OfSet made) bytes = read_then (set_from bytes) (λ set rest. found (made set) rest)
+made_from (NumberSet made) bytes = read_then (number_from 4 bytes) (λ n a. read_then (set_from a) (λ set rest. found (made n set) rest))
+made_from (OfName made) bytes = read_then (byte_from bytes) (λ name rest. found (made name) rest)
 
 -- ---- letters
 
 -- a letter of bytes that spell a packet
-abbrev pub letter_by : Bool → List ℕ → Result Packet PacketRefusal → List ℕ → Read Letter
+abbrev pub letter_by : Bool → List ℕ → Result Packet PacketRefusal → List ℕ → ReadFront Letter
 letter_by any to (Err refusal) rest = None
 letter_by any to (Ok packet) rest = found (record { to = to; any = any; packet = packet }) rest
 
-unfoldable pub letter_from : List ℕ → Read Letter
+unfoldable pub letter_from : List ℕ → ReadFront Letter
 letter_from bytes =
-    and_then (flag_from bytes) (λ any a. and_then (set_from a) (λ to b. and_then (number_from 2 b) (λ n c. and_then (bytes_from n c)
+    read_then (flag_from bytes) (λ any a. read_then (set_from a) (λ to b. read_then (number_from 2 b) (λ n c. read_then (bytes_from n c)
     (λ spelled rest. letter_by any to (reading spelled) rest))))
 
 -- so many letters
-unfoldable pub letters_from : ℕ → List ℕ → Read (List Letter)
+unfoldable pub letters_from : ℕ → List ℕ → ReadFront (List Letter)
 letters_from zero bytes = found [] bytes
 letters_from (suc more) bytes =
-    and_then (letter_from bytes) (λ letter a. and_then (letters_from more a) (λ letters rest. found (letter ∷ letters) rest))
+    read_then (letter_from bytes) (λ letter a. read_then (letters_from more a) (λ letters rest. found (letter ∷ letters) rest))
 
 -- ---- what came of an event
 
@@ -213,26 +213,26 @@ cause_at number =
     else None
 
 -- no letters stand behind it
-abbrev pub without_letters : Reply → List ℕ → Read Reply
-without_letters told bytes = and_then (byte_from bytes) (λ count rest. if count == 0 then found told rest else None)
+abbrev pub without_letters : LineReply → List ℕ → ReadFront LineReply
+without_letters told bytes = read_then (byte_from bytes) (λ count rest. if count == 0 then found told rest else None)
 
-unfoldable pub bad_from : List ℕ → Read Reply
-bad_from bytes = and_then (byte_from bytes) (λ number a. and_then (chosen (cause_at number) a) (λ cause rest. without_letters (replies.Bad cause) rest))
+unfoldable pub bad_from : List ℕ → ReadFront LineReply
+bad_from bytes = read_then (byte_from bytes) (λ number a. read_then (chosen (cause_at number) a) (λ cause rest. without_letters (replies.Bad cause) rest))
 
-unfoldable pub did_from : Shape → List ℕ → Read Reply
+unfoldable pub did_from : Shape → List ℕ → ReadFront LineReply
 did_from shape bytes =
-    and_then (made_from shape bytes) (λ outcome a. and_then (byte_from a) (λ count b. and_then (letters_from count b)
+    read_then (made_from shape bytes) (λ outcome a. read_then (byte_from a) (λ count b. read_then (letters_from count b)
     (λ letters rest. found (replies.Did outcome letters) rest)))
 
-abbrev pub reply_by : ℕ → List ℕ → Read Reply
-reply_by kind bytes =
+abbrev pub reply_in_bytes : ℕ → List ℕ → ReadFront LineReply
+reply_in_bytes kind bytes =
     if kind == 0 then without_letters replies.Info bytes
     else if kind == 254 then without_letters replies.Spent bytes
     else if kind == 255 then bad_from bytes
     else did_from (shape_at kind) bytes
 
-unfoldable pub reply_from : List ℕ → Read Reply
-reply_from bytes = and_then (byte_from bytes) reply_by
+unfoldable pub reply_from : List ℕ → ReadFront LineReply
+reply_from bytes = read_then (byte_from bytes) reply_in_bytes
 
 -- ---- how a node stands
 
@@ -250,12 +250,12 @@ role_at number =
 abbrev pub flag_in : ℕ → ℕ → Bool
 flag_in flags worth = flags / worth % 2 == 1
 
-unfoldable pub standing_from : List ℕ → Read Standing
+unfoldable pub standing_from : List ℕ → ReadFront NodeStanding
 standing_from bytes =
-    and_then (byte_from bytes) (λ number a. and_then (chosen (role_at number) a) (λ role b. and_then (byte_from b)
-    (λ flags c. and_then (stamp_from c) (λ view d. and_then (number_from 4 d) (λ view_number e. and_then (set_from e)
-    (λ members f. and_then (byte_from f) (λ resilience g. and_then (number_from 4 g) (λ base h. and_then (number_from 4 h)
-    (λ taken i. and_then (number_from 4 i) (λ accepted j. and_then (number_from 4 j) (λ top k. and_then (set_from k)
+    read_then (byte_from bytes) (λ number a. read_then (chosen (role_at number) a) (λ role b. read_then (byte_from b)
+    (λ flags c. read_then (stamp_from c) (λ view d. read_then (number_from 4 d) (λ view_number e. read_then (set_from e)
+    (λ members f. read_then (byte_from f) (λ resilience g. read_then (number_from 4 g) (λ base h. read_then (number_from 4 h)
+    (λ taken i. read_then (number_from 4 i) (λ accepted j. read_then (number_from 4 j) (λ top k. read_then (set_from k)
     (λ waits_for rest. found (record {
       role = role;
       has_next = flag_in flags 1;
@@ -273,5 +273,5 @@ standing_from bytes =
     }) rest))))))))))))
 
 -- how a node stands, and what came of an event
-unfoldable pub answer_from : List ℕ → Read (Standing × Reply)
-answer_from bytes = and_then (standing_from bytes) (λ standing a. and_then (reply_from a) (λ told rest. found (standing, told) rest))
+unfoldable pub answer_from : List ℕ → ReadFront (NodeStanding × LineReply)
+answer_from bytes = read_then (standing_from bytes) (λ standing a. read_then (reply_from a) (λ told rest. found (standing, told) rest))

@@ -1,16 +1,16 @@
 ghost use Rattle.std.specs.Prelude.{◌≡◌, ◌≤◌, ◌++◌, length, OnOk};
-ghost use Rattle.am_lines.specs.Speakers.{speaking, AnswersBy, HasFewLetters};
+ghost use Rattle.am_node_lines.specs.Speakers.{speaking, AnswersBy, HasFewLetters};
 ghost use Rattle.am_base.specs.Most.{most_packet};
-ghost use Rattle.am_bytes.specs.Answers.{to_bytes, counted_bytes, letter_bytes, letters_bytes, reply_bytes, answer_to};
+ghost use Rattle.am_bytes.specs.Answers.{to_bytes, counted_bytes, letter_bytes, letters_bytes, reply_bytes, event_answer};
 
 use crate::event::read_event;
 use crate::field::{put, put_byte, put_flag, put_set, put_short};
 use crate::outcome::{kind_of, put_fields};
-use crate::standing::Standing;
+use crate::standing::NodeStanding;
 use am_base::NoMemory;
 use am_base::names::Names;
-use am_lines::reply::Reply;
-use am_lines::speaker::Speaker;
+use am_node_lines::reply::LineReply;
+use am_node_lines::speaker::Speaker;
 use am_packet::letter::Letter;
 use std::alloc::Global;
 
@@ -64,19 +64,19 @@ fn put_letters(out: &mut Vec<u8>, letters: &[Letter]) -> Result<(), NoMemory>
 
 /// Adds what came of an event. After an error a part of it may have been added.
 #[tactic(auto, unfolding(crate::specs::Answers::reply_bytes))]
-fn put_reply(out: &mut Vec<u8>, reply: &Reply) -> Result<(), NoMemory>
+fn put_reply(out: &mut Vec<u8>, reply: &LineReply) -> Result<(), NoMemory>
     requires { HasFewLetters reply.now }
     ensures { OnOk result (out.new.items ≡ out.old.items ++ reply_bytes reply.now) }
 {
     match reply {
-        Reply::Did { outcome, letters } => {
+        LineReply::Did { outcome, letters } => {
             put_byte(out, kind_of(outcome))?;
             put_fields(out, outcome)?;
             put_letters(out, letters.as_slice())
         }
-        Reply::Info => put(out, &[INFO, 0]),
-        Reply::Spent => put(out, &[SPENT, 0]),
-        Reply::Bad(cause) => put(out, &[BAD, cause.cause(), 0]),
+        LineReply::Info => put(out, &[INFO, 0]),
+        LineReply::Spent => put(out, &[SPENT, 0]),
+        LineReply::Bad(cause) => put(out, &[BAD, cause.cause(), 0]),
     }
 }
 
@@ -94,6 +94,6 @@ pub fn answer(
 {
     let event = read_event(alloc, event)?;
     let reply = speaker.reply(alloc, event)?;
-    Standing::of(speaker.node()).put(out)?;
+    NodeStanding::of(speaker.node()).put(out)?;
     put_reply(out, &reply)
 }

@@ -1,10 +1,10 @@
 ghost use Rattle.std.specs.Prelude.{◌≡◌, ◌≤◌, length, IfOk};
-ghost use Rattle.am_packet.specs.Reading.{flag_at, set_at};
-ghost use Rattle.am_lines.specs.Lines.{only_word};
-ghost use Rattle.am_bytes.specs.Events.{word_at, field_of, count_in, name_in, sized, reset_in, hear_in, alone, event_by, event_of};
+ghost use Rattle.am_packet.specs.Reading.{flag_at, read_set_at};
+ghost use Rattle.am_node_lines.specs.Lines.{only_word};
+ghost use Rattle.am_bytes.specs.Events.{word_at, field_of, count_in, name_in, sized, reset_in_bytes, hear_in, alone, event_by, event_of};
 ghost use Rattle.am_base.specs.declared.event.NodeEvent.TheVariants as does;
-ghost use Rattle.am_lines.specs.declared.line.Line.TheVariants as said;
-ghost use Rattle.am_lines.specs.Lines.{line_from};
+ghost use Rattle.am_node_lines.specs.declared.line.Line.TheVariants as said;
+ghost use Rattle.am_node_lines.specs.Lines.{line_from};
 ghost use Rattle.am_bytes.specs.Events.{body_in};
 
 use am_base::NoMemory;
@@ -14,9 +14,9 @@ use am_base::items::Items;
 use am_base::limits::{MOST_BODY, MOST_NUMBER, MOST_PACKET, MOST_RESILIENCE};
 use am_base::name::Name;
 use am_base::names::Names;
-use am_lines::line::{BadLine, Line, Word};
-use am_lines::reading::MOST_LINE;
-use am_spelling::fault::FieldFault;
+use am_node_lines::line::{BadLine, Line, Word};
+use am_node_lines::reading::MOST_LINE;
+use am_text_defs::fault::FieldFault;
 use byteorder::{BigEndian, ByteOrder};
 use std::alloc::Global;
 
@@ -82,7 +82,7 @@ fn any(fields: &[u8]) -> Result<bool, FieldFault>
 }
 
 /// The names that a letter is for.
-#[tactic(auto, unfolding(am_packet::specs::Reading::set_at))]
+#[tactic(auto, unfolding(am_packet::specs::Reading::read_set_at))]
 fn addressees(fields: &[u8]) -> Result<Names, FieldFault>
     requires { 11 ≤ length fields.now }
     ensures { result ≡ field_of (set_at fields.now 1) }
@@ -136,7 +136,7 @@ fn sized(least: u8, resilience: u8) -> Line
 }
 
 /// What a reset asks for.
-#[tactic(auto, unfolding(crate::specs::Events::reset_in))]
+#[tactic(auto, unfolding(crate::specs::Events::reset_in_bytes))]
 fn reset(fields: &[u8]) -> Line
     ensures { result ≡ reset_in fields.now }
 {
@@ -158,7 +158,7 @@ fn send(alloc: Global, fields: &[u8]) -> Result<Line, NoMemory>
 }
 
 /// A letter that came. It is an error where there is no memory for its bytes.
-#[tactic(auto, unfolding(crate::specs::Events::hear_in, crate::specs::Events::packet_in))]
+#[tactic(auto, unfolding(crate::specs::Events::hear_in, crate::specs::Events::packet_bytes_in))]
 fn hear(alloc: Global, fields: &[u8]) -> Result<Line, NoMemory>
     ensures { IfOk result (λ line. line ≡ hear_in fields.now) }
 {

@@ -1,7 +1,7 @@
 ghost use Rattle.std.specs.Prelude.{◌≡◌, ◌++◌, OnOk};
 ghost use Rattle.byteorder.specs.Endian.{big_bytes};
 ghost use Rattle.am_packet.specs.Spelling.{set_bytes};
-ghost use Rattle.am_bytes.specs.Answers.{outcome_kind, outcome_fields, entry_bytes};
+ghost use Rattle.am_bytes.specs.Answers.{outcome_kind, outcome_fields, entry_answer_bytes};
 
 use crate::field::{put, put_byte, put_name, put_number, put_set, put_short, put_stamp};
 use am_base::NoMemory;
@@ -74,7 +74,7 @@ pub(crate) fn kind_of(outcome: &Outcome) -> u8
 }
 
 /// Adds an entry: its kind, and the kind's fields.
-#[tactic(auto, unfolding(crate::specs::Answers::entry_bytes))]
+#[tactic(auto, unfolding(crate::specs::Answers::entry_answer_bytes))]
 fn put_entry(out: &mut Vec<u8>, entry: &EntryRef<'_>) -> Result<(), NoMemory>
     ensures { OnOk result (out.new.items ≡ out.old.items ++ entry_bytes entry.now) }
 {
@@ -133,7 +133,7 @@ fn put_decided(out: &mut Vec<u8>, number: u32, members: Names) -> Result<(), NoM
 }
 
 /// Adds what stands behind an outcome's kind.
-#[tactic(auto, using(crate::proofs::Puts::nothing), unfolding(crate::specs::Answers::outcome_fields))]
+#[tactic(auto, using(crate::proofs::Puts::bytes_with_nothing_put), unfolding(crate::specs::Answers::outcome_fields))]
 pub(crate) fn put_fields(out: &mut Vec<u8>, outcome: &Outcome) -> Result<(), NoMemory>
     ensures { OnOk result (out.new.items ≡ out.old.items ++ outcome_fields outcome.now) }
 {

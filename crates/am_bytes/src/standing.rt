@@ -1,7 +1,7 @@
 ghost use Rattle.std.specs.Prelude.{◌≡◌, ◌++◌, OnOk};
 ghost use Rattle.am_node.specs.Stands.{state_of};
 ghost use Rattle.am_packet.specs.Spelling.{set_bytes};
-ghost use Rattle.am_bytes.specs.Answers.{standing_of, role_number, flags_of, role_bytes, view_bytes, fronts_bytes, standing_bytes};
+ghost use Rattle.am_bytes.specs.Answers.{node_standing, role_number, flags_of, role_bytes, view_bytes, fronts_bytes, standing_bytes};
 
 use crate::field::{put_byte, put_number, put_set, put_stamp};
 use am_base::NoMemory;
@@ -12,7 +12,7 @@ use am_node::node::Node;
 
 /// How a node stands.
 #[derive(Clone, Copy, Debug)]
-pub struct Standing {
+pub struct NodeStanding {
     /// What it is to its group.
     pub role: Role,
     /// Whether there is an entry to take.
@@ -41,13 +41,13 @@ pub struct Standing {
     pub waits_for: Names,
 }
 
-impl Standing {
+impl NodeStanding {
     /// That of a node.
-    pub fn of(node: &Node) -> Standing
+    pub fn of(node: &Node) -> NodeStanding
         ensures { result ≡ standing_of (state_of node.now) }
     {
         let info = node.info();
-        Standing {
+        NodeStanding {
             role: info.role,
             has_next: node.has_next(),
             is_sending: node.is_sending(),

@@ -3,86 +3,86 @@ use Rattle.std.proofs.Common.{◌≡◌, ℕ, ◌≤◌, List, [], ◌∷◌, �
 use Rattle.am_base.specs.Founding.{Rules}
 use Rattle.am_model.specs.Node.{Node}
 use Rattle.am_model.specs.Ends.{IsEndOf}
-use Rattle.am_play.specs.World.{first_node}
-use Rattle.am_lines.specs.Answers.{Answer, answer_of}
-use Rattle.am_lines.specs.Speaking.{node_after, whole_from}
-use Rattle.am_lines.specs.Speakers.{speaking, AnswersBy}
-use Rattle.am_lines.proofs.Lines.{cut_answer}
-use Rattle.am_lines.proofs.Talks.{begins}
-use Rattle.am_bytes.specs.Answers.{answer_to}
-use Rattle.am_bytes.proofs.Cuts.{cut_event}
+use Rattle.am_group_defs.specs.World.{first_node}
+use Rattle.am_node_lines.specs.Answers.{Answer, line_answer}
+use Rattle.am_node_lines.specs.Speaking.{node_after, whole_from}
+use Rattle.am_node_lines.specs.Speakers.{speaking, AnswersBy}
+use Rattle.am_node_lines.proofs.Lines.{answer_of_cut_line}
+use Rattle.am_node_lines.proofs.Talks.{talk_begins_with_first_node}
+use Rattle.am_bytes.specs.Answers.{event_answer}
+use Rattle.am_bytes.proofs.Cuts.{answer_to_cut_bytes}
 use Rattle.am_c.specs.declared.session.AskForm.{AskForm}
 use Rattle.am_c.specs.declared.session.AskForm.TheVariants.{Line, Event}
 use Rattle.am_c.specs.declared.session.Session.{Session}
-use Rattle.am_c.specs.declared.session.Stage.{Stage}
-use Rattle.am_c.specs.declared.session.Stage.TheVariants.{Ready, Waits, Spent}
-use Rattle.am_c.specs.Sessions.{Asked, kept, answer_in, answer_for, node_behind, answer_behind, made_in, made_of, MadeBy, IsReady, IsWaiting, IsBehind, IsWritten}
+use Rattle.am_c.specs.declared.session.SessionStage.{SessionStage}
+use Rattle.am_c.specs.declared.session.SessionStage.TheVariants.{Ready, Waits, Spent}
+use Rattle.am_c.specs.Sessions.{AskedOfNode, kept, session_answer, answer_for, node_behind, answer_behind, made_in, made_of, MadeBy, SessionIsReady, IsWaiting, IsBehind, IsWritten}
 
 -- ---- what was asked
 
-behind_more : (rules : Rules) (m : Node) (before later : List Asked) → node_behind rules m (before ++ later) ≡ node_behind rules (node_behind rules m before) later
+behind_more : (rules : Rules) (m : Node) (before later : List AskedOfNode) → node_behind rules m (before ++ later) ≡ node_behind rules (node_behind rules m before) later
 unfolding node_behind
 behind_more rules m [] later = refl
 behind_more rules m (first ∷ before) later = behind_more rules (answer_for rules m first).node before later
 
 -- what is too long is answered as its beginning is
-cut : (form : AskForm) (rules : Rules) (m : Node) (bytes : List ℕ) → answer_in form rules m (kept bytes) ≡ answer_in form rules m bytes
-cut Line rules m bytes = cut_answer rules m bytes
-cut Event rules m bytes = cut_event m bytes
+cut : (form : AskForm) (rules : Rules) (m : Node) (bytes : List ℕ) → session_answer form rules m (kept bytes) ≡ session_answer form rules m bytes
+cut Line rules m bytes = answer_of_cut_line rules m bytes
+cut Event rules m bytes = answer_to_cut_bytes m bytes
 
 -- ---- the beginning
 
-pub first_ready : (s : Session) (rules : Rules) (name : ℕ) → s.stage ≡ Ready → (speaking s.speaker).rules ≡ rules → (speaking s.speaker).failed ≡ false
-    → (speaking s.speaker).node ≡ first_node rules name → IsReady s rules name []
+pub first_session_is_ready : (s : Session) (rules : Rules) (name : ℕ) → s.stage ≡ Ready → (speaking s.speaker).rules ≡ rules → (speaking s.speaker).failed ≡ false
+    → (speaking s.speaker).node ≡ first_node rules name → SessionIsReady s rules name []
 unfolding whole_from node_after node_behind
-first_ready s rules name stage founded ready first =
-    record { stage = stage; founded = founded; node = (begins rules name None (speaking s.speaker) [] founded ready first refl).node }
+first_session_is_ready s rules name stage founded ready first =
+    record { stage = stage; founded = founded; node = (talk_begins_with_first_node rules name None (speaking s.speaker) [] founded ready first refl).node }
 
 -- ---- an answer is made
 
 line_made : {E : Type 0} (done : Result (Unit {0}) E) (rules : Rules) (old new : Node) (shown before after bytes : List ℕ) → before ≡ []
-    → OnOk done (AnswersBy (λ m. answer_of rules m shown) old before new after)
-    → OnOk done ((all : Node) → IsEndOf all old → MadeBy (made_in Line after bytes) new (answer_in Line rules all shown))
+    → OnOk done (AnswersBy (λ m. line_answer rules m shown) old before new after)
+    → OnOk done ((all : Node) → IsEndOf all old → MadeBy (made_in Line after bytes) new (session_answer Line rules all shown))
 line_made (Ok done) rules old new shown before after bytes none h = λ all end. record {
-  text = (h all end).0 ∙ ap (λ (b : List ℕ). b ++ (answer_of rules all shown).text) none;
+  text = (h all end).0 ∙ ap (λ (b : List ℕ). b ++ (line_answer rules all shown).text) none;
   end = (h all end).1;
 }
 line_made (Err lack) rules old new shown before after bytes none h = tt
 
 event_made : {E : Type 0} (done : Result (Unit {0}) E) (rules : Rules) (old new : Node) (shown before after text : List ℕ) → before ≡ []
-    → OnOk done (AnswersBy (λ m. answer_to m shown) old before new after)
-    → OnOk done ((all : Node) → IsEndOf all old → MadeBy (made_in Event text after) new (answer_in Event rules all shown))
+    → OnOk done (AnswersBy (λ m. event_answer m shown) old before new after)
+    → OnOk done ((all : Node) → IsEndOf all old → MadeBy (made_in Event text after) new (session_answer Event rules all shown))
 event_made (Ok done) rules old new shown before after text none h = λ all end. record {
-  text = (h all end).0 ∙ ap (λ (b : List ℕ). b ++ (answer_to all shown).text) none;
+  text = (h all end).0 ∙ ap (λ (b : List ℕ). b ++ (event_answer all shown).text) none;
   end = (h all end).1;
 }
 event_made (Err lack) rules old new shown before after text none h = tt
 
-pub made_line : {E : Type 0} (done : Result (Unit {0}) E) (form : AskForm) (rules : Rules) (old new : Node) (shown before after bytes : List ℕ) → form ≡ Line
-    → before ≡ [] → OnOk done (AnswersBy (λ m. answer_of rules m shown) old before new after)
-    → OnOk done ((all : Node) → IsEndOf all old → MadeBy (made_in form after bytes) new (answer_in form rules all shown))
-made_line done form rules old new shown before after bytes formed none h =
-    subst (λ (f : AskForm). OnOk done ((all : Node) → IsEndOf all old → MadeBy (made_in f after bytes) new (answer_in f rules all shown))) (sym formed)
+pub line_asked_made_answer : {E : Type 0} (done : Result (Unit {0}) E) (form : AskForm) (rules : Rules) (old new : Node) (shown before after bytes : List ℕ) → form ≡ Line
+    → before ≡ [] → OnOk done (AnswersBy (λ m. line_answer rules m shown) old before new after)
+    → OnOk done ((all : Node) → IsEndOf all old → MadeBy (made_in form after bytes) new (session_answer form rules all shown))
+line_asked_made_answer done form rules old new shown before after bytes formed none h =
+    subst (λ (f : AskForm). OnOk done ((all : Node) → IsEndOf all old → MadeBy (made_in f after bytes) new (session_answer f rules all shown))) (sym formed)
     (line_made done rules old new shown before after bytes none h)
 
-pub made_event : {E : Type 0} (done : Result (Unit {0}) E) (form : AskForm) (rules : Rules) (old new : Node) (shown before after text : List ℕ) → form ≡ Event
-    → before ≡ [] → OnOk done (AnswersBy (λ m. answer_to m shown) old before new after)
-    → OnOk done ((all : Node) → IsEndOf all old → MadeBy (made_in form text after) new (answer_in form rules all shown))
-made_event done form rules old new shown before after text formed none h =
-    subst (λ (f : AskForm). OnOk done ((all : Node) → IsEndOf all old → MadeBy (made_in f text after) new (answer_in f rules all shown))) (sym formed)
+pub event_asked_made_answer : {E : Type 0} (done : Result (Unit {0}) E) (form : AskForm) (rules : Rules) (old new : Node) (shown before after text : List ℕ) → form ≡ Event
+    → before ≡ [] → OnOk done (AnswersBy (λ m. event_answer m shown) old before new after)
+    → OnOk done ((all : Node) → IsEndOf all old → MadeBy (made_in form text after) new (session_answer form rules all shown))
+event_asked_made_answer done form rules old new shown before after text formed none h =
+    subst (λ (f : AskForm). OnOk done ((all : Node) → IsEndOf all old → MadeBy (made_in f text after) new (session_answer f rules all shown))) (sym formed)
     (event_made done rules old new shown before after text none h)
 
-pub now_waits : (old new : Session) (rules : Rules) (name : ℕ) (before : List Asked) (form : AskForm) (bytes shown : List ℕ)
+pub session_waits_with_answer : (old new : Session) (rules : Rules) (name : ℕ) (before : List AskedOfNode) (form : AskForm) (bytes shown : List ℕ)
     → shown ≡ kept bytes → new.form ≡ form → new.asked.items ≡ shown
     → new.stage ≡ Waits → (speaking new.speaker).rules ≡ (speaking old.speaker).rules
     → ((all : Node) → IsEndOf all (speaking old.speaker).node
-    → MadeBy (made_of new) (speaking new.speaker).node (answer_in form (speaking old.speaker).rules all shown))
-    → IsReady old rules name before → IsWaiting new rules name before (record { form = form; bytes = bytes })
-now_waits old new rules name before form bytes shown is formed holds stage same makes r =
+    → MadeBy (made_of new) (speaking new.speaker).node (session_answer form (speaking old.speaker).rules all shown))
+    → SessionIsReady old rules name before → IsWaiting new rules name before (record { form = form; bytes = bytes })
+session_waits_with_answer old new rules name before form bytes shown is formed holds stage same makes r =
     let all = node_behind rules (first_node rules name) before in
     let made = makes all r.node in
-    let alike : answer_in form (speaking old.speaker).rules all shown ≡ answer_in form rules all bytes =
-    ap (λ (u : Rules). answer_in form u all shown) r.founded ∙ ap (answer_in form rules all) is ∙ cut form rules all bytes in
+    let alike : session_answer form (speaking old.speaker).rules all shown ≡ session_answer form rules all bytes =
+    ap (λ (u : Rules). session_answer form u all shown) r.founded ∙ ap (session_answer form rules all) is ∙ cut form rules all bytes in
     record {
       stage = stage;
       form = formed;
@@ -94,20 +94,20 @@ now_waits old new rules name before form bytes shown is formed holds stage same 
 
 -- ---- the same again
 
-abbrev is_ready : Stage → Type 0
+abbrev is_ready : SessionStage → Type 0
 is_ready Ready = Unit {0}
 is_ready Waits = ⊥
 is_ready Spent = ⊥
 
-pub waits_again : (s : Session) (rules : Rules) (name : ℕ) (before : List Asked) (waiting : Option Asked) (form : AskForm) (bytes : List ℕ)
+pub waiting_session_waits_again : (s : Session) (rules : Rules) (name : ℕ) (before : List AskedOfNode) (waiting : Option AskedOfNode) (form : AskForm) (bytes : List ℕ)
     → s.stage ≡ Waits → s.form ≡ form → s.asked.items ≡ kept bytes → IsBehind s rules name before waiting
     → IsWaiting s rules name before (record { form = form; bytes = bytes })
-waits_again s rules name before None form bytes stage formed same r = absurd (subst is_ready (sym r.stage ∙ stage) tt)
-waits_again s rules name before (Some other) form bytes stage formed same w =
+waiting_session_waits_again s rules name before None form bytes stage formed same r = absurd (subst is_ready (sym r.stage ∙ stage) tt)
+waiting_session_waits_again s rules name before (Some other) form bytes stage formed same w =
     let all = node_behind rules (first_node rules name) before in
-    let alike : answer_in other.form rules all other.bytes ≡ answer_in form rules all bytes =
-    sym (cut other.form rules all other.bytes) ∙ ap (answer_in other.form rules all) (sym w.waits ∙ same)
-    ∙ ap (λ (f : AskForm). answer_in f rules all (kept bytes)) (sym w.form ∙ formed) ∙ cut form rules all bytes in
+    let alike : session_answer other.form rules all other.bytes ≡ session_answer form rules all bytes =
+    sym (cut other.form rules all other.bytes) ∙ ap (session_answer other.form rules all) (sym w.waits ∙ same)
+    ∙ ap (λ (f : AskForm). session_answer f rules all (kept bytes)) (sym w.form ∙ formed) ∙ cut form rules all bytes in
     record {
       stage = stage;
       form = formed;
@@ -117,17 +117,17 @@ waits_again s rules name before (Some other) form bytes stage formed same w =
       node = subst (λ (a : Answer). IsEndOf a.node (speaking s.speaker).node) alike w.node;
     }
 
-pub then_waits : (old new : Session) (rules : Rules) (name : ℕ) (before : List Asked) (waiting : Option Asked) (asked : Asked) → old.stage ≡ Ready
-    → (IsReady old rules name before → IsWaiting new rules name before asked) → IsBehind old rules name before waiting → IsWaiting new rules name before asked
-then_waits old new rules name before None asked stage next r = next r
-then_waits old new rules name before (Some other) asked stage next w = absurd (subst is_ready (sym stage ∙ w.stage) tt)
+pub session_waits_after_call : (old new : Session) (rules : Rules) (name : ℕ) (before : List AskedOfNode) (waiting : Option AskedOfNode) (asked : AskedOfNode) → old.stage ≡ Ready
+    → (SessionIsReady old rules name before → IsWaiting new rules name before asked) → IsBehind old rules name before waiting → IsWaiting new rules name before asked
+session_waits_after_call old new rules name before None asked stage next r = next r
+session_waits_after_call old new rules name before (Some other) asked stage next w = absurd (subst is_ready (sym stage ∙ w.stage) tt)
 
 -- ---- the answer is told
 
-pub now_ready : (old new : Session) (rules : Rules) (name : ℕ) (before : List Asked) (asked : Asked) → new.stage ≡ Ready → new.speaker ≡ old.speaker
-    → IsWaiting old rules name before asked → IsReady new rules name (before ++ asked ∷ [])
+pub session_ready_after_answer : (old new : Session) (rules : Rules) (name : ℕ) (before : List AskedOfNode) (asked : AskedOfNode) → new.stage ≡ Ready → new.speaker ≡ old.speaker
+    → IsWaiting old rules name before asked → SessionIsReady new rules name (before ++ asked ∷ [])
 unfolding node_behind
-now_ready old new rules name before asked stage same w =
+session_ready_after_answer old new rules name before asked stage same w =
     let first = first_node rules name in
     record {
       stage = stage;
@@ -136,9 +136,9 @@ now_ready old new rules name before asked stage same w =
           (subst (λ s. IsEndOf (answer_behind rules name before asked).node (speaking s).node) (sym same) w.node);
     }
 
-pub written : (told text copied room : List ℕ) → copied ≡ told → told ≡ text → length told ≤ length room
+pub told_text_written_to_room : (told text copied room : List ℕ) → copied ≡ told → told ≡ text → length told ≤ length room
     → IsWritten text room (copied ++ drop (length told) room) (length told)
-written told text copied room same is fits = record {
+told_text_written_to_room told text copied room same is fits = record {
   answer = ap (λ (xs : List ℕ). xs ++ drop (length told) room) same ∙ ap (λ (xs : List ℕ). xs ++ drop (length xs) room) is;
   long = ap length is;
   fits = subst (λ (xs : List ℕ). length xs ≤ length room) is fits;

@@ -43,9 +43,9 @@ handle_val p = vstruct (vcons (ptr_val p) vnil)
 
 -- a pointer whose block may be freed may be compared with null
 module _ {M : Type 1} {𝓤 : Ura M} (𝓛 : Logic 𝓤) where
-  pub testable : (b n : ℕ) (x : Session)
+  pub boxed_session_is_testable : (b n : ℕ) (x : Session)
       → ent 𝓤 (sem 𝓛 (box_owns may_free Row (block_ptr b n) x)) (guard 𝓤 (Testable (block_ptr b n)) (sem 𝓛 (box_owns may_free Row (block_ptr b n) x)))
-  testable b n x =
+  boxed_session_is_testable b n x =
       let p = block_ptr b n in let τ = bare (lone Row.mir) in let Owned = sem 𝓛 (box_owns may_free Row p x) in
       let freed = snd∗ 𝓤 (sem 𝓛 (lies_at Row full_share p x)) (sem 𝓛 (may_free τ p)) in
       fact_use 𝓤 (Testable p) (via 𝓤 _ freed (dealloc_token-Testable 𝓛 (record { memory = record { seal = tt } }) τ p))
@@ -53,23 +53,23 @@ module _ {M : Type 1} {𝓤 : Ura M} (𝓛 : Logic 𝓤) where
 
 module _ {M : Type 1} {𝓤 : Ura M} {𝓛 : Logic 𝓤} {K : Type 0} {Γ : List (Item 𝓤)} {G : Goal 𝓤 𝓛.H} where
   -- a handle is its pointer, and what it owns
-  pub handle_out : K → (h : Handle.Denot) (vs : List Val)
+  pub handle_value_is_taken_apart : K → (h : Handle.Denot) (vs : List Val)
       → (vs ≡ handle_val h.at ∷ [] → Seq K 𝓛 (‵ (held h.at h.session) ∷ Γ) G) → Seq K 𝓛 (‵ (Handle.own_val h vs) ∷ Γ) G
-  handle_out t h vs k =
+  handle_value_is_taken_apart t h vs k =
       fsplit t $ fpick t (λ uss. fsplit t $ feq_l t (λ ev. fsplit t $ feq_l t (λ ep. drop t $ k (ev ∙ (λ i. vstruct (of_list (ep i ++ [])) ∷ [])))))
 
-  pub handle_in : K → (h : Handle.Denot) → Step K 𝓛 (‵ (Handle.own_val h (handle_val h.at ∷ [])) ∷ Γ) G (‵ (held h.at h.session) ∷ Γ) G
-  handle_in t h = step (λ s. let w = handle_val h.at in
+  pub handle_value_is_put_together : K → (h : Handle.Denot) → Step K 𝓛 (‵ (Handle.own_val h (handle_val h.at ∷ [])) ∷ Γ) G (‵ (held h.at h.session) ∷ Γ) G
+  handle_value_is_put_together t h = step (λ s. let w = handle_val h.at in
       nothing t $ feq_i t (List Val) (ptr_val h.at ∷ []) (ptr_val h.at ∷ []) refl $ fjoin t $ feq_i t (List Val) (w ∷ []) (w ∷ []) refl $ fjoin t $
       fpack t (Valss (RawPtr ∷ [])) (within (shape handle.the_type) (h.at, tt) (w ∷ [])) (ptr_val h.at ∷ [], tt) $ fjoin t $ s)
 
   -- a handle is null and closed, or it has a block, which may be compared with null
-  pub by_open : K → (p : Ptr) (o : Option Session) → (p ≡ null_ptr → o ≡ None → Seq K 𝓛 Γ G)
+  pub held_session_null_or_box : K → (p : Ptr) (o : Option Session) → (p ≡ null_ptr → o ≡ None → Seq K 𝓛 Γ G)
       → ((b n : ℕ) (x : Session) → p ≡ block_ptr b n → o ≡ Some x → Testable (block_ptr b n) → Seq K 𝓛 (‵ (box_owns may_free Row (block_ptr b n) x) ∷ Γ) G)
       → Seq K 𝓛 (‵ (held p o) ∷ Γ) G
-  by_open t null_ptr None shut opened = drop t $ shut refl refl
-  by_open t (block_ptr b n) None shut opened = use1 𝓛 (given ⊥ (‵ ftrue)) (never_e 𝓤 _) $ learn t (λ z. absurd z)
-  by_open t p (Some x) shut opened =
+  held_session_null_or_box t null_ptr None shut opened = drop t $ shut refl refl
+  held_session_null_or_box t (block_ptr b n) None shut opened = use1 𝓛 (given ⊥ (‵ ftrue)) (never_e 𝓤 _) $ learn t (λ z. absurd z)
+  held_session_null_or_box t p (Some x) shut opened =
       let none_at_null = fst∗ 𝓤 (never 𝓤) (sem 𝓛 (may_free (bare (lone Row.mir)) null_ptr)) in
       in_a_block t p (λ q. box_owns may_free Row q x) none_at_null (λ b n at.
-      use1 𝓛 (given (Testable (block_ptr b n)) (‵ (box_owns may_free Row (block_ptr b n) x))) (testable 𝓛 b n x) $ learn t (λ may. opened b n x at refl may))
+      use1 𝓛 (given (Testable (block_ptr b n)) (‵ (box_owns may_free Row (block_ptr b n) x))) (boxed_session_is_testable 𝓛 b n x) $ learn t (λ may. opened b n x at refl may))

@@ -46,8 +46,8 @@ number_closing None = closed
 number_closing (Some session) = done
 
 -- what a step gives
-abbrev pub number_of : StepEnd → ℤ
-number_of Told = done
-number_of NoMemory = no_memory
-number_of NoRoom = no_room
-number_of Other = other_waits
+abbrev pub step_number : StepEnd → ℤ
+step_number Told = done
+step_number NoMemory = no_memory
+step_number NoRoom = no_room
+step_number Other = other_waits

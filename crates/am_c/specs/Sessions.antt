@@ -3,23 +3,23 @@ use Rattle.std.specs.Prelude.{◌≡◌, ◌≢◌, ◌<◌, ◌≤◌, ℕ, Lis
 use Rattle.am_base.specs.Founding.{Rules}
 use Rattle.am_model.specs.Node.{Node}
 use Rattle.am_model.specs.Ends.{IsEndOf}
-use Rattle.am_play.specs.World.{first_node}
-use Rattle.am_spelling.specs.Fields.{parts_of}
-use Rattle.am_words.specs.declared.form.Form.{Form}
-use Rattle.am_words.specs.declared.form.Form.TheVariants as words
-use Rattle.am_lines.specs.Answers.{Answer, answer_of}
-use Rattle.am_lines.specs.Speakers.{speaking}
-use Rattle.am_bytes.specs.Answers.{answer_to}
+use Rattle.am_group_defs.specs.World.{first_node}
+use Rattle.am_text_defs.specs.Fields.{split_text}
+use Rattle.am_cli_words.specs.declared.form.Form.{Form}
+use Rattle.am_cli_words.specs.declared.form.Form.TheVariants as words
+use Rattle.am_node_lines.specs.Answers.{Answer, line_answer}
+use Rattle.am_node_lines.specs.Speakers.{speaking}
+use Rattle.am_bytes.specs.Answers.{event_answer}
 use Rattle.am_c.specs.declared.session.AskForm.{AskForm}
 use Rattle.am_c.specs.declared.session.AskForm.TheVariants.{Line, Event}
 use Rattle.am_c.specs.declared.session.Session.{Session}
-use Rattle.am_c.specs.declared.session.Stage.TheVariants.{Ready, Waits}
+use Rattle.am_c.specs.declared.session.SessionStage.TheVariants.{Ready, Waits}
 
 -- ---- options
 
 -- the words of the program that has these options, with one blank between them
-abbrev pub words_of : List ℕ → List (List ℕ)
-words_of options = parts_of 32 (codes "node " ++ options)
+abbrev pub option_words : List ℕ → List (List ℕ)
+option_words options = split_text 32 (codes "node " ++ options)
 
 -- a form asks for a node
 abbrev pub IsNode : Option Form → Type 0
@@ -29,26 +29,26 @@ IsNode _ = ⊥
 -- ---- what is asked
 
 -- what a call asks of a node: a line, or an event as bytes
-pub record Asked : Type 0 where
+pub record AskedOfNode : Type 0 where
   pub form : AskForm
   pub bytes : List ℕ
 
-abbrev pub a_line : List ℕ → Asked
+abbrev pub a_line : List ℕ → AskedOfNode
 a_line bytes = record { form = Line; bytes = bytes }
 
-abbrev pub an_event : List ℕ → Asked
+abbrev pub an_event : List ℕ → AskedOfNode
 an_event bytes = record { form = Event; bytes = bytes }
 
 -- the answer in this form to these bytes
-abbrev pub answer_in : AskForm → Rules → Node → List ℕ → Answer
-answer_in Line rules m bytes = answer_of rules m bytes
-answer_in Event rules m bytes = answer_to m bytes
+abbrev pub session_answer : AskForm → Rules → Node → List ℕ → Answer
+session_answer Line rules m bytes = line_answer rules m bytes
+session_answer Event rules m bytes = event_answer m bytes
 
-abbrev pub answer_for : Rules → Node → Asked → Answer
-answer_for rules m asked = answer_in asked.form rules m asked.bytes
+abbrev pub answer_for : Rules → Node → AskedOfNode → Answer
+answer_for rules m asked = session_answer asked.form rules m asked.bytes
 
 -- the node behind what was asked
-unfoldable pub node_behind : Rules → Node → List Asked → Node
+unfoldable pub node_behind : Rules → Node → List AskedOfNode → Node
 node_behind rules m [] = m
 node_behind rules m (first ∷ later) = node_behind rules (answer_for rules m first).node later
 
@@ -59,7 +59,7 @@ abbrev pub kept : List ℕ → List ℕ
 kept bytes = take 4097 bytes
 
 -- the answer to what is asked, of a name's node behind what was asked before it
-abbrev pub answer_behind : Rules → ℕ → List Asked → Asked → Answer
+abbrev pub answer_behind : Rules → ℕ → List AskedOfNode → AskedOfNode → Answer
 answer_behind rules name before asked = answer_for rules (node_behind rules (first_node rules name) before) asked
 
 -- of a text and bytes, those of the form
@@ -77,13 +77,13 @@ pub record MadeBy (made : List ℕ) (node : Node) (answer : Answer) : Type 0 whe
   pub end : IsEndOf answer.node node
 
 -- all that was asked has its answer: the node is a name's behind it
-pub record IsReady (s : Session) (rules : Rules) (name : ℕ) (before : List Asked) : Type 0 where
+pub record SessionIsReady (s : Session) (rules : Rules) (name : ℕ) (before : List AskedOfNode) : Type 0 where
   pub stage : s.stage ≡ Ready
   pub founded : (speaking s.speaker).rules ≡ rules
   pub node : IsEndOf (node_behind rules (first_node rules name) before) (speaking s.speaker).node
 
 -- behind that one thing more was asked, and its answer waits for room
-pub record IsWaiting (s : Session) (rules : Rules) (name : ℕ) (before : List Asked) (asked : Asked) : Type 0 where
+pub record IsWaiting (s : Session) (rules : Rules) (name : ℕ) (before : List AskedOfNode) (asked : AskedOfNode) : Type 0 where
   pub stage : s.stage ≡ Waits
   pub form : s.form ≡ asked.form
   pub waits : s.asked.items ≡ kept asked.bytes
@@ -92,8 +92,8 @@ pub record IsWaiting (s : Session) (rules : Rules) (name : ℕ) (before : List A
   pub node : IsEndOf (answer_behind rules name before asked).node (speaking s.speaker).node
 
 -- a session of a name's node: what has its answers, and that whose answer waits for room
-abbrev pub IsBehind : Session → Rules → ℕ → List Asked → Option Asked → Type 0
-IsBehind s rules name before None = IsReady s rules name before
+abbrev pub IsBehind : Session → Rules → ℕ → List AskedOfNode → Option AskedOfNode → Type 0
+IsBehind s rules name before None = SessionIsReady s rules name before
 IsBehind s rules name before (Some asked) = IsWaiting s rules name before asked
 
 -- ---- a step
@@ -105,15 +105,15 @@ pub record IsWritten (text room room' : List ℕ) (said : ℕ) : Type 0 where
   pub fits : length text ≤ length room
 
 -- what was asked has its answer, and the node is behind it
-abbrev pub Told : Session → Asked → Session → List ℕ → List ℕ → ℕ → Type 0
-Told old asked new room room' said = (rules : Rules) (name : ℕ) (before : List Asked) (waiting : Option Asked) → IsBehind old rules name before waiting
+abbrev pub Told : Session → AskedOfNode → Session → List ℕ → List ℕ → ℕ → Type 0
+Told old asked new room room' said = (rules : Rules) (name : ℕ) (before : List AskedOfNode) (waiting : Option AskedOfNode) → IsBehind old rules name before waiting
     → IsBehind new rules name (before ++ asked ∷ []) None × IsWritten (answer_behind rules name before asked).text room room' said
 
 -- the room was too short: nothing has its answer that had none, and how long the answer is was written
-abbrev pub FoundNoRoom : Session → Asked → Session → List ℕ → ℕ → Type 0
-FoundNoRoom old asked new room said = (rules : Rules) (name : ℕ) (before : List Asked) (waiting : Option Asked) → IsBehind old rules name before waiting
+abbrev pub FoundNoRoom : Session → AskedOfNode → Session → List ℕ → ℕ → Type 0
+FoundNoRoom old asked new room said = (rules : Rules) (name : ℕ) (before : List AskedOfNode) (waiting : Option AskedOfNode) → IsBehind old rules name before waiting
     → IsBehind new rules name before (Some asked) × (said ≡ length (answer_behind rules name before asked).text) × (length room < said)
 
 -- the answer to something else waits for room
-abbrev pub WaitsForOther : Session → Asked → Type 0
+abbrev pub WaitsForOther : Session → AskedOfNode → Type 0
 WaitsForOther s asked = (s.stage ≡ Waits) × (s.form ≡ asked.form → s.asked.items ≢ kept asked.bytes)

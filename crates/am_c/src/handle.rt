@@ -4,7 +4,7 @@ ghost use Rattle.std.specs.Prelude.{◌≡◌, Option, Some, None, option_map};
 ghost use Rattle.am_c.specs.declared.session.Session.{Session as State};
 ghost use Rattle.am_c.specs.Handles.{held};
 
-use crate::parts::Parts;
+use crate::parts::RawBox;
 use crate::session::Session;
 use std::alloc::Global;
 use std::marker::Model;
@@ -38,24 +38,24 @@ impl Handle {
     }
 
     /// One that is open, with the session of these parts.
-    pub(crate) fn of(parts: Parts<Session, Global>) -> Handle
+    pub(crate) fn of(parts: RawBox<Session, Global>) -> Handle
         ensures { result.session ≡ Some parts.value }
     {
-        let Parts { ptr, alloc: _ } = parts;
+        let RawBox { ptr, alloc: _ } = parts;
         Handle {
             at: ptr as *mut Opaque,
         }
     }
 
     /// The parts of its session, where it is open.
-    pub(crate) fn take(self, alloc: Global) -> Option<Parts<Session, Global>>
+    pub(crate) fn take(self, alloc: Global) -> Option<RawBox<Session, Global>>
         ensures { self.session ≡ option_map (λ parts. parts.value) result }
     {
         let Handle { at } = self;
         if at.is_null() {
             return None;
         }
-        Some(Parts {
+        Some(RawBox {
             ptr: at as *mut Session,
             alloc,
         })

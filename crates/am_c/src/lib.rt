@@ -3,16 +3,16 @@
 #![tactic(auto)]
 
 ghost use Rattle.std.specs.Prelude.{◌≡◌, ◌≢◌, ◌↔◌, None, IsSome, IfSome, IsUtf8};
-ghost use Rattle.am_words.specs.Forms.{form_of};
-ghost use Rattle.am_c.specs.declared.session.Stage.TheVariants as stages;
+ghost use Rattle.am_cli_words.specs.Forms.{form_of};
+ghost use Rattle.am_c.specs.declared.session.SessionStage.TheVariants as stages;
 ghost use Rattle.am_c.specs.Numbers.{done, no_memory, no_room, closed, open_now, bad_options, other_waits, number_closing};
-ghost use Rattle.am_c.specs.Sessions.{a_line, an_event, IsNode, words_of, Told, FoundNoRoom, WaitsForOther};
+ghost use Rattle.am_c.specs.Sessions.{a_line, an_event, IsNode, option_words, Told, FoundNoRoom, WaitsForOther};
 ghost use Rattle.am_c.specs.Handles.{Opened, Between};
 
 use handle::Handle;
 use numbers::{CLOSED, DONE, OPEN};
 use options::opened;
-use parts::Parts;
+use parts::RawBox;
 use session::AskForm;
 use std::alloc::Global;
 use std::mem::replace;
@@ -42,7 +42,7 @@ pub extern "C" fn muoswyld_open(alloc: Global, node: &mut Handle, options: &[u8]
     }
     match opened(alloc, options) {
         Ok(session) => {
-            *node = Handle::of(Parts::of(session));
+            *node = Handle::of(RawBox::of(session));
             DONE
         }
         Err(fault) => fault.number(),
@@ -81,7 +81,7 @@ fn ask(
     };
     let mut session = parts.into_box();
     let end = session.step(alloc, form, asked, answer, length);
-    *node = Handle::of(Parts::of(session));
+    *node = Handle::of(RawBox::of(session));
     end.number()
 }
 

@@ -1,15 +1,15 @@
 ghost use Rattle.std.specs.Prelude.{◌≡◌, Some, IfOk, IfErr, IsUtf8, map};
-ghost use Rattle.am_spelling.specs.Fields.{parts_of};
-ghost use Rattle.am_words.specs.declared.form.Form.TheVariants as form;
-ghost use Rattle.am_words.specs.Forms.{form_of};
+ghost use Rattle.am_text_defs.specs.Fields.{split_text};
+ghost use Rattle.am_cli_words.specs.declared.form.Form.TheVariants as form;
+ghost use Rattle.am_cli_words.specs.Forms.{form_of};
 ghost use Rattle.am_c.specs.Handles.{Opened};
 ghost use Rattle.am_c.specs.Numbers.{number_for};
-ghost use Rattle.am_c.specs.Sessions.{IsNode, words_of};
+ghost use Rattle.am_c.specs.Sessions.{IsNode, option_words};
 
 use crate::numbers::{BAD_OPTIONS, NO_MEMORY};
 use crate::session::Session;
-use am_words::form::{Form, form_of};
-use am_words::node::NodeWords;
+use am_cli_words::form::{Form, form_of};
+use am_cli_words::node::NodeWords;
 use std::alloc::{AllocError, Global};
 
 /// Why options name no node.

@@ -7,32 +7,32 @@ use std::alloc::Allocator;
 use std::marker::Model;
 
 /// A box taken apart. It owns what the box owned.
-pub(crate) struct Parts<T, A: Allocator> {
+pub(crate) struct RawBox<T, A: Allocator> {
     pub(crate) ptr: *mut T,
     pub(crate) alloc: A,
     pub(crate) ghost value: { T },
 }
 
-impl<T, A: Allocator> Model for Parts<T, A> {
+impl<T, A: Allocator> Model for RawBox<T, A> {
     ghost also_owns = { λ p. box_owns (A.dealloc_token p.alloc) T.row p.ptr p.value };
 }
 
-impl<T, A: Allocator> Parts<T, A> {
+impl<T, A: Allocator> RawBox<T, A> {
     /// The parts of a box.
-    pub(crate) fn of(b: Box<T, A>) -> Parts<T, A>
+    pub(crate) fn of(b: Box<T, A>) -> RawBox<T, A>
     where
         T: Drop,
         ensures { result.value ≡ b.value }
     {
         let (ptr, alloc) = Box::into_raw_with_allocator(b);
-        Parts { ptr, alloc }
+        RawBox { ptr, alloc }
     }
 
     /// The box again.
     pub(crate) fn into_box(self) -> Box<T, A>
         ensures { result.value ≡ self.value }
     {
-        let Parts { ptr, alloc } = self;
+        let RawBox { ptr, alloc } = self;
         unsafe { Box::from_raw(alloc, ptr) }
     }
 }

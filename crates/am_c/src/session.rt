@@ -2,15 +2,15 @@ ghost use Rattle.std.specs.Prelude.{◌≡◌, ◌≢◌, ◌↔◌, ◌<◌, �
 ghost use Rattle.am_base.specs.Founding.{Rules};
 ghost use Rattle.am_model.specs.Node.{Node};
 ghost use Rattle.am_model.specs.Ends.{IsEndOf};
-ghost use Rattle.am_lines.specs.Speakers.{speaking};
-ghost use Rattle.am_c.specs.declared.session.Stage.TheVariants as stages;
-ghost use Rattle.am_c.specs.Sessions.{Asked, kept, answer_in, answer_behind, made_of, MadeBy, IsReady, IsWaiting, IsBehind, IsWritten, Told, FoundNoRoom, WaitsForOther};
+ghost use Rattle.am_node_lines.specs.Speakers.{speaking};
+ghost use Rattle.am_c.specs.declared.session.SessionStage.TheVariants as stages;
+ghost use Rattle.am_c.specs.Sessions.{AskedOfNode, kept, session_answer, answer_behind, made_of, MadeBy, SessionIsReady, IsWaiting, IsBehind, IsWritten, Told, FoundNoRoom, WaitsForOther};
 
 use crate::numbers::{DONE, NO_MEMORY, NO_ROOM, OTHER};
 use am_base::NoMemory;
 use am_bytes::answer::answer;
-use am_lines::speaker::Speaker;
-use am_words::node::NodeWords;
+use am_cli_words::node::NodeWords;
+use am_node_lines::speaker::Speaker;
 use std::alloc::Global;
 
 /// In what form a node is asked, and answers.
@@ -24,7 +24,7 @@ pub(crate) enum AskForm {
 
 /// How a session stands between two calls.
 #[derive(Clone, Copy, PartialEq, Eq, Debug)]
-pub(crate) enum Stage {
+pub(crate) enum SessionStage {
     /// All that was asked has its answer.
     Ready,
     /// The last answer waits for room.
@@ -48,7 +48,7 @@ pub(crate) enum StepEnd {
 
 impl StepEnd {
     ghost use Rattle.std.specs.Prelude.{◌≡◌};
-    ghost use Rattle.am_c.specs.Numbers.{number_of};
+    ghost use Rattle.am_c.specs.Numbers.{step_number};
 
     /// Its number.
     pub(crate) fn number(self) -> i32
@@ -84,7 +84,7 @@ pub struct Session {
     asked: Vec<u8>,
     text: String,
     bytes: Vec<u8>,
-    stage: Stage,
+    stage: SessionStage,
 }
 
 impl Session {
@@ -98,7 +98,7 @@ impl Session {
             asked: Vec::new(alloc),
             text: String::new(alloc),
             bytes: Vec::new(alloc),
-            stage: Stage::Ready,
+            stage: SessionStage::Ready,
         })
     }
 
@@ -132,12 +132,12 @@ impl Session {
             → IsWaiting self.new rules name before (record { form = form; bytes = asked.now })) }
         ensures spent { OnErr result (self.new.stage ≡ stages.Spent) }
     {
-        self.stage = Stage::Spent;
+        self.stage = SessionStage::Spent;
         let kept = kept(asked);
         self.asked.clear();
         self.asked.extend_from_slice(kept)?;
         self.make(alloc, form, kept)?;
-        self.stage = Stage::Waits;
+        self.stage = SessionStage::Waits;
         Ok(())
     }
 
@@ -166,14 +166,14 @@ impl Session {
         ensures lasts { self.old.stage ≡ stages.Waits → result ≢ Err StepEnd.NoMemory }
     {
         match self.stage {
-            Stage::Spent => Err(StepEnd::NoMemory),
-            Stage::Waits => {
+            SessionStage::Spent => Err(StepEnd::NoMemory),
+            SessionStage::Waits => {
                 if !self.is_same(form, asked) {
                     return Err(StepEnd::Other);
                 }
                 Ok(())
             }
-            Stage::Ready => match self.hold(alloc, form, asked) {
+            SessionStage::Ready => match self.hold(alloc, form, asked) {
                 Ok(()) => Ok(()),
                 Err(_) => Err(StepEnd::NoMemory),
             },
@@ -209,7 +209,7 @@ impl Session {
             return StepEnd::NoRoom;
         }
         room[..n].copy_from_slice(answer);
-        self.stage = Stage::Ready;
+        self.stage = SessionStage::Ready;
         StepEnd::Told
     }
 

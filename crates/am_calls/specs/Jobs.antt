@@ -2,8 +2,8 @@
 use Rattle.std.specs.Prelude.{List, All}
 use Rattle.am_group.specs.declared.event.Record.{Record}
 use Rattle.am_group.specs.declared.plan.RacePlan.{RacePlan}
-use Rattle.am_races.specs.Callings.{Calling}
-use Rattle.am_races.specs.Ran.{IsLeft}
+use Rattle.am_race_laws.specs.Callings.{Calling}
+use Rattle.am_race_laws.specs.Ran.{IsLeft}
 
 -- the journal that the callers of a plan left, of each of which this holds
 pub record IsLeftBy (did : Calling → Type 0) (plan : RacePlan) (journal : List Record) : Type 0 where

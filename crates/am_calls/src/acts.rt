@@ -2,11 +2,11 @@ ghost use Rattle.std.specs.Prelude.{◌≡◌, ℕ, ◌||◌, ◌<◌, ◌≤◌
 ghost use Rattle.std.specs.Option.{option_copied};
 ghost use Rattle.am_base.specs.Most.{most_body};
 ghost use Rattle.am_base.specs.declared.outcome.Outcome.TheVariants as said;
-ghost use Rattle.am_play.specs.Claims.{heard_by};
+ghost use Rattle.am_group_defs.specs.Claims.{heard_by};
 ghost use Rattle.am_group.specs.declared.event.Record.{Record};
-ghost use Rattle.am_sharing.specs.Stops.{is_stop};
-ghost use Rattle.am_races.specs.Boxes.{what_of, IsLeastOf, InBoth};
-ghost use Rattle.am_races.specs.Turns.{lost_by, unless_nought, or_nought};
+ghost use Rattle.am_shared_journal_defs.specs.Stops.{is_stop};
+ghost use Rattle.am_race_laws.specs.Boxes.{what_of, IsLeastOf, InBoth};
+ghost use Rattle.am_race_laws.specs.Turns.{lost_by, unless_nought, or_nought};
 
 use am_base::NoMemory;
 use am_base::body::SentBody;
@@ -18,8 +18,8 @@ use am_base::names::Names;
 use am_base::outcome::Outcome;
 use am_base::taken::EntryRoom;
 use am_group::event::{Act, By, Event, Part, Record};
-use am_letter::out_box::{OutBox, Rooms};
 use am_packet::letter::LetterCopy;
+use am_packet_writer::out_box::{OutBox, Rooms};
 use std::alloc::Global;
 
 /// What an act asks of a node that runs, with the letter that it hears; None where it is no step of one.
@@ -126,7 +126,7 @@ pub fn blank(alloc: Global, name: Name, act: &Act, by: By) -> Result<Record, NoM
 /// What an act takes memory for before it is done, besides its record: what it asks of the node, and room for an entry in the
 /// record and in the answer, and for letters.
 #[derive(Drop)]
-pub struct Room {
+pub struct ActRoom {
     pub what: Option<NodeEvent>,
     pub spare: EntryRoom,
     pub given: EntryRoom,
@@ -139,13 +139,13 @@ pub fn room_for(
     rooms: Rooms,
     act: &Act,
     letter: Option<&LetterCopy>,
-) -> Result<Room, NoMemory>
+) -> Result<ActRoom, NoMemory>
     ensures what { IfOk result (λ r. r.what ≡ what_of act.now (option_copied letter.entry)) }
     ensures spare { IfOk result (λ r. most_body ≤ r.spare) }
     ensures given { IfOk result (λ r. most_body ≤ r.given) }
     ensures out { IfOk result (λ r. r.out ≡ []) }
 {
-    Ok(Room {
+    Ok(ActRoom {
         what: what_of(alloc, act, letter)?,
         spare: EntryRoom::new(alloc, MOST_BODY)?,
         given: EntryRoom::new(alloc, MOST_BODY)?,

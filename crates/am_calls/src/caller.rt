@@ -1,16 +1,16 @@
 ghost use Rattle.std.specs.Prelude.{◌≡◌, ◌<◌, [], ◌∷◌, length, nat_lt};
 ghost use Rattle.am_base.specs.Most.{most_word};
-ghost use Rattle.am_sharing.specs.declared.terms.Key.TheVariants.{Caller as CallerKey};
-ghost use Rattle.am_sharing.specs.Passes.{fresh};
-ghost use Rattle.am_races.specs.Callings.{HasMade, luck_after};
-ghost use Rattle.am_races.specs.Lawful.{terms_of};
+ghost use Rattle.am_shared_journal_defs.specs.declared.terms.SharerKey.TheVariants.{Caller as CallerKey};
+ghost use Rattle.am_shared_journal_defs.specs.Passes.{fresh};
+ghost use Rattle.am_race_laws.specs.Callings.{HasMade, caller_luck_after};
+ghost use Rattle.am_race_laws.specs.Lawful.{terms_of};
 
 use crate::naming::Racing;
-use am_chooser::chooser::Chooser;
 use am_group::plan::RacePlan;
-use am_races::call::Tag;
-use am_races::calls::Calls;
-use am_wire::wire::Share;
+use am_race_laws::call::Tag;
+use am_race_laws::calls::Calls;
+use am_shared_journal::wire::Share;
+use am_turn_chooser::chooser::Chooser;
 use std::marker::{Model, PhantomData};
 
 /// What a caller acts with: its share, and its chooser, which stands behind the words that its turns drew.
@@ -45,7 +45,7 @@ pub struct Caller<N: Racing> {
 }
 
 impl<N: Racing> Model for Caller<N> {
-    ghost use Rattle.am_races.specs.Callings.{Calling, IsHand, HasMade};
+    ghost use Rattle.am_race_laws.specs.Callings.{Calling, IsHand, HasMade};
     ghost use Rattle.std.specs.Prelude.{◌≡◌, length};
 
     ghost Value = { Calling };

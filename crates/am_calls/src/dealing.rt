@@ -1,9 +1,9 @@
 ghost use Rattle.std.specs.Prelude.{◌≡◌, ◌<◌, ◌≤◌, [], ◌∷◌, IfOk, vec_len, map, length, All};
-ghost use Rattle.am_sharing.specs.declared.terms.Key.TheVariants.{Place};
-ghost use Rattle.am_sharing.specs.Keys.{place_keys, caller_keys};
-ghost use Rattle.am_sharing.specs.Passes.{fresh};
-ghost use Rattle.am_races.specs.Lawful.{terms_of};
-ghost use Rattle.am_races.specs.Ran.{fresh_callers, HasPlaces, IsIn};
+ghost use Rattle.am_shared_journal_defs.specs.declared.terms.SharerKey.TheVariants.{Place};
+ghost use Rattle.am_shared_journal_defs.specs.Keys.{place_keys, caller_keys};
+ghost use Rattle.am_shared_journal_defs.specs.Passes.{fresh};
+ghost use Rattle.am_race_laws.specs.Lawful.{terms_of};
+ghost use Rattle.am_race_laws.specs.Ran.{fresh_callers, HasPlaces, IsIn};
 
 use crate::caller::Caller;
 use crate::naming::{RaceLaw, Racing};
@@ -13,7 +13,7 @@ use am_base::founding::Founding;
 use am_base::name::Name;
 use am_group::plan::RacePlan;
 use am_node::node::Node;
-use am_wire::wire::{Pass, Share, Wire};
+use am_shared_journal::wire::{Pass, Share, Wire};
 use std::alloc::Global;
 use std::sync::{Mutex, Wait};
 

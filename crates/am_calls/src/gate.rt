@@ -5,15 +5,15 @@ use std::sync::atomic::{AtomicBool, Ordering};
 /// What is done under a node's lock, between a look and the act that it finds, with the node that acts and whose act it is. A
 /// test waits there until another thread is there too. No clause says when it is done or with what: a test counts that it is
 /// done once for each record, with that record's node and caller.
-pub trait Gate {
+pub trait TestHook {
     /// Does what it will: no clause says what, or what it is given.
     fn between(&self, node: Name, by: &By);
 }
 
 /// Does nothing.
-pub struct NoGate;
+pub struct NoHook;
 
-impl Gate for NoGate {
+impl TestHook for NoHook {
     fn between(&self, _node: Name, _by: &By) {}
 }
 
@@ -43,7 +43,7 @@ impl Meeting {
     }
 }
 
-impl Gate for Meeting {
+impl TestHook for Meeting {
     fn between(&self, node: Name, _by: &By) {
         let mine = usize::from(node.place() % 2);
         self.here[mine].store(true, Ordering::SeqCst);

@@ -1,10 +1,10 @@
 ghost use Rattle.std.specs.Prelude.{◌≡◌, ◌≤◌, IfOk, All, length};
-ghost use Rattle.am_races.specs.Ran.{fresh_caller, fresh_callers, numbers_of};
+ghost use Rattle.am_race_laws.specs.Ran.{fresh_caller, fresh_callers, caller_numbers};
 ghost use Rattle.am_calls.specs.Jobs.{IsLeftBy};
 
 use crate::caller::Caller;
 use crate::crowd::gather;
-use crate::gate::Gate;
+use crate::gate::TestHook;
 use crate::kernels::Kernels;
 use crate::naming::Racing;
 use crate::outset::Outset;
@@ -20,14 +20,14 @@ use std::thread::Threads;
 /// What callers do, each in a thread of its own.
 pub trait Job {
     ghost use Rattle.std.specs.Prelude.{◌≡◌};
-    ghost use Rattle.am_races.specs.Callings.{Calling};
-    ghost use Rattle.am_races.specs.Ran.{fresh_caller};
+    ghost use Rattle.am_race_laws.specs.Callings.{Calling};
+    ghost use Rattle.am_race_laws.specs.Ran.{fresh_caller};
 
     // What holds of a caller that has done it.
     ghost did: { Self → Calling → Type 0 };
 
     /// What a caller does, which has made no call yet: any calls, one after the other.
-    fn run<R: Wait, N: Racing, G: Gate>(
+    fn run<R: Wait, N: Racing, G: TestHook>(
         &self,
         rt: &R,
         kernels: &Kernels<N, G>,
@@ -39,7 +39,7 @@ pub trait Job {
 }
 
 /// Each caller does a job, in a thread of its own, once the others have begun too.
-fn all_do<R: Threads + Wait + Sync, N: Racing + Send + Sync, G: Gate + Sync, J: Job + Sync>(
+fn all_do<R: Threads + Wait + Sync, N: Racing + Send + Sync, G: TestHook + Sync, J: Job + Sync>(
     rt: &R,
     kernels: &Kernels<N, G>,
     job: &J,
@@ -68,7 +68,7 @@ fn all_do<R: Threads + Wait + Sync, N: Racing + Send + Sync, G: Gate + Sync, J: 
 }
 
 /// The callers of a plan do a job, over a fresh wire of it.
-fn does_over<R: Threads + Wait + Sync, N: Racing + Send + Sync, G: Gate + Sync, J: Job + Sync>(
+fn does_over<R: Threads + Wait + Sync, N: Racing + Send + Sync, G: TestHook + Sync, J: Job + Sync>(
     rt: &R,
     alloc: Global,
     gate: &G,
@@ -89,7 +89,7 @@ fn does_over<R: Threads + Wait + Sync, N: Racing + Send + Sync, G: Gate + Sync, 
 /// calls they will, and the plan's lists of calls are not looked at. The journal that they leave is legal with the calls that
 /// they made, and each caller has done the job. There is none where the race itself had no memory, or where the threads can't be
 /// made.
-pub fn let_do<R: Threads + Wait + Sync, G: Gate + Sync, J: Job + Sync>(
+pub fn let_do<R: Threads + Wait + Sync, G: TestHook + Sync, J: Job + Sync>(
     rt: &R,
     alloc: Global,
     plan: &RacePlan,

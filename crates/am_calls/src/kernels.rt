@@ -4,25 +4,25 @@ ghost use Rattle.am_base.specs.Most.{most_events, most_word};
 ghost use Rattle.am_base.specs.Names.{place_of};
 ghost use Rattle.am_group.specs.declared.event.Act.TheVariants as acts;
 ghost use Rattle.am_model.specs.Info.{info_of};
-ghost use Rattle.am_sharing.specs.declared.terms.Key.TheVariants.{Caller as CallerKey};
-ghost use Rattle.am_sharing.specs.Passes.{Sees};
-ghost use Rattle.am_sharing.specs.Sights.{GoesOn};
-ghost use Rattle.am_sharing.specs.declared.terms.WireRefusal.TheVariants as refusals;
-ghost use Rattle.am_races.specs.Boxes.{node_by};
-ghost use Rattle.am_races.specs.Callings.{Called, IsHand};
-ghost use Rattle.am_races.specs.Going.{HasBegun, Began, HasLooked, WasRefused, Made};
-ghost use Rattle.am_races.specs.Answers.{is_take};
-ghost use Rattle.am_races.specs.Tags.{of_call};
-ghost use Rattle.am_races.specs.Lawful.{terms_of};
-ghost use Rattle.am_races.specs.Legal.{IsLegalWithTags};
-ghost use Rattle.am_races.specs.Plans.{is_call};
-ghost use Rattle.am_races.specs.Ran.{calls_by, fresh_callers, numbers_of, EndsFor};
-ghost use Rattle.am_calls.specs.Looks.{MayLook};
+ghost use Rattle.am_shared_journal_defs.specs.declared.terms.SharerKey.TheVariants.{Caller as CallerKey};
+ghost use Rattle.am_shared_journal_defs.specs.Passes.{Sees};
+ghost use Rattle.am_shared_journal_defs.specs.Sights.{GoesOn};
+ghost use Rattle.am_shared_journal_defs.specs.declared.terms.WireRefusal.TheVariants as refusals;
+ghost use Rattle.am_race_laws.specs.Boxes.{node_by};
+ghost use Rattle.am_race_laws.specs.Callings.{Called, IsHand};
+ghost use Rattle.am_race_laws.specs.Going.{CallHasBegun, Began, HasLooked, WasRefused, Made};
+ghost use Rattle.am_race_laws.specs.Answers.{is_take};
+ghost use Rattle.am_race_laws.specs.Tags.{of_call};
+ghost use Rattle.am_race_laws.specs.Lawful.{terms_of};
+ghost use Rattle.am_race_laws.specs.Legal.{IsLegalWithTags};
+ghost use Rattle.am_race_laws.specs.Plans.{is_call};
+ghost use Rattle.am_race_laws.specs.Ran.{calls_by, fresh_callers, caller_numbers, EndsFor};
+ghost use Rattle.am_calls.specs.Looks.{CallerMayLook};
 
 use crate::caller::{Caller, Hand};
 use crate::crowd::Crowd;
 use crate::dealing::{all_places, boxes_of, callers_of, with_callers};
-use crate::gate::Gate;
+use crate::gate::TestHook;
 use crate::naming::{RaceLaw, Racing};
 use crate::node_box::{NodeBox, Visit};
 use crate::outcomes::{answer_at_end, is_take, late_after, own_answer, request_in_call};
@@ -36,10 +36,10 @@ use am_group::event::Act;
 use am_journal::journal::Journal;
 use am_model::info::Info;
 use am_node::node::Node;
-use am_races::answer::Answer;
-use am_races::call::{Came, Looked, Tag};
-use am_sharing::terms::WireRefusal;
-use am_wire::wire::Wire;
+use am_race_laws::answer::CallAnswer;
+use am_race_laws::call::{Came, Looked, Tag};
+use am_shared_journal::wire::Wire;
+use am_shared_journal_defs::terms::WireRefusal;
 use std::alloc::Global;
 use std::sync::{Mutex, Wait};
 
@@ -56,7 +56,7 @@ struct Call<'a> {
 
 /// The nodes of a race, each in its box under a lock, over one journal; its callers make blocking calls at them.
 #[derive(Drop)]
-pub struct Kernels<'g, N: Racing, G: Gate> {
+pub struct Kernels<'g, N: Racing, G: TestHook> {
     alloc: Global,
     wire: Wire<RaceLaw>,
     boxes: Vec<Mutex<NodeBox<N>>>,
@@ -69,7 +69,7 @@ pub struct Kernels<'g, N: Racing, G: Gate> {
     ghost sixteen: { vec_len boxes ≡ 16 },
 }
 
-impl<'g, N: Racing, G: Gate> Kernels<'g, N, G> {
+impl<'g, N: Racing, G: TestHook> Kernels<'g, N, G> {
     /// The nodes of a plan's founding, to which nothing has happened, and a caller for each of its threads.
     pub fn start(
         alloc: Global,
@@ -116,7 +116,7 @@ impl<'g, N: Racing, G: Gate> Kernels<'g, N, G> {
     }
 
     /// The first look of a call that is no receive: its own act.
-    fn begin<R: Wait>(&self, rt: &R, hand: &mut Hand, call: &Call) -> Result<Came, Answer>
+    fn begin<R: Wait>(&self, rt: &R, hand: &mut Hand, call: &Call) -> Result<Came, CallAnswer>
         requires hand { IsHand N.wire N.plan call.now.tag.caller hand.old.share hand.old.chooser }
         requires call { is_call call.now.act.now ≡ true }
         requires no_receive { is_take call.now.act.now ≡ false }
@@ -146,7 +146,7 @@ impl<'g, N: Racing, G: Gate> Kernels<'g, N, G> {
         call: &Call,
         came: &Option<Came>,
         has_turn: bool,
-    ) -> Result<Looked, Answer>
+    ) -> Result<Looked, CallAnswer>
         requires hand { IsHand N.wire N.plan call.now.tag.caller hand.old.share hand.old.chooser }
         requires may { MayLook N.plan call.now.tag call.now.act.now came.now has_turn hand.old.share.seen }
         ensures hand { IsHand N.wire N.plan call.now.tag.caller hand.new.share hand.new.chooser }
@@ -180,7 +180,13 @@ impl<'g, N: Racing, G: Gate> Kernels<'g, N, G> {
     }
 
     /// Looks at the node until the call has its answer.
-    fn go_on<R: Wait>(&self, rt: &R, hand: &mut Hand, call: &Call, came: &Option<Came>) -> Answer
+    fn go_on<R: Wait>(
+        &self,
+        rt: &R,
+        hand: &mut Hand,
+        call: &Call,
+        came: &Option<Came>,
+    ) -> CallAnswer
         requires hand { IsHand N.wire N.plan call.now.tag.caller hand.old.share hand.old.chooser }
         requires begun { HasBegun call.now.act.now came.now
             (of_call call.now.tag.caller call.now.tag.call hand.old.share.seen) }
@@ -190,7 +196,7 @@ impl<'g, N: Racing, G: Gate> Kernels<'g, N, G> {
             hand.new.share.seen result }
     {
         let request = request_in_call(call.act, came);
-        let mut late = Answer::Late { turns: self.turns };
+        let mut late = CallAnswer::Late { turns: self.turns };
         for spent in 0..self.turns {
             match self.look(rt, hand, call, came, true) {
                 Err(answer) => return answer,
@@ -208,7 +214,7 @@ impl<'g, N: Racing, G: Gate> Kernels<'g, N, G> {
     }
 
     /// Makes a call of which nothing is done yet.
-    fn do_call<R: Wait>(&self, rt: &R, hand: &mut Hand, call: &Call) -> Answer
+    fn do_call<R: Wait>(&self, rt: &R, hand: &mut Hand, call: &Call) -> CallAnswer
         requires hand { IsHand N.wire N.plan call.now.tag.caller hand.old.share hand.old.chooser }
         requires call { is_call call.now.act.now ≡ true }
         requires fresh { of_call call.now.tag.caller call.now.tag.call hand.old.share.seen ≡ [] }
@@ -230,7 +236,7 @@ impl<'g, N: Racing, G: Gate> Kernels<'g, N, G> {
 
     /// Makes a call, and answers by its records (docs/PROTOCOL.md, "Races"). It ends after its own act, at most as many turns
     /// as the race says, and its check. `Caller::may_call` tells whether the caller may make it.
-    pub fn make<R: Wait>(&self, rt: &R, caller: &mut Caller<N>, node: Name, act: &Act) -> Answer
+    pub fn make<R: Wait>(&self, rt: &R, caller: &mut Caller<N>, node: Name, act: &Act) -> CallAnswer
         requires room { length caller.old.calls < most_word }
         requires call { is_call act.now ≡ true }
         ensures { Called N.plan node act.now caller.old caller.new result }
@@ -243,7 +249,13 @@ impl<'g, N: Racing, G: Gate> Kernels<'g, N, G> {
     }
 
     /// Sends a body to the group. Sent with its number in the list; Late or PutOff where its turns were used before.
-    pub fn send<R: Wait>(&self, rt: &R, caller: &mut Caller<N>, node: Name, body: Body) -> Answer
+    pub fn send<R: Wait>(
+        &self,
+        rt: &R,
+        caller: &mut Caller<N>,
+        node: Name,
+        body: Body,
+    ) -> CallAnswer
         requires { length caller.old.calls < most_word }
         ensures { Called N.plan node (acts.Send body) caller.old caller.new result }
     {
@@ -252,13 +264,13 @@ impl<'g, N: Racing, G: Gate> Kernels<'g, N, G> {
             Err(_) => {
                 caller.count += 1;
                 caller.calls.push_send(&body);
-                Answer::NoMemory
+                CallAnswer::NoMemory
             }
         }
     }
 
     /// Takes the next accepted entry. Took with it; Late where its turns were used before there was one.
-    pub fn receive<R: Wait>(&self, rt: &R, caller: &mut Caller<N>, node: Name) -> Answer
+    pub fn receive<R: Wait>(&self, rt: &R, caller: &mut Caller<N>, node: Name) -> CallAnswer
         requires { length caller.old.calls < most_word }
         ensures { Called N.plan node acts.Take caller.old caller.new result }
     {
@@ -266,7 +278,7 @@ impl<'g, N: Racing, G: Gate> Kernels<'g, N, G> {
     }
 
     /// Joins the group. Joined with the number of its Join; Late where its turns were used before.
-    pub fn join<R: Wait>(&self, rt: &R, caller: &mut Caller<N>, node: Name) -> Answer
+    pub fn join<R: Wait>(&self, rt: &R, caller: &mut Caller<N>, node: Name) -> CallAnswer
         requires { length caller.old.calls < most_word }
         ensures { Called N.plan node acts.Join caller.old caller.new result }
     {
@@ -274,7 +286,7 @@ impl<'g, N: Racing, G: Gate> Kernels<'g, N, G> {
     }
 
     /// Leaves the group. Left, or Late where its turns were used before.
-    pub fn leave<R: Wait>(&self, rt: &R, caller: &mut Caller<N>, node: Name) -> Answer
+    pub fn leave<R: Wait>(&self, rt: &R, caller: &mut Caller<N>, node: Name) -> CallAnswer
         requires { length caller.old.calls < most_word }
         ensures { Called N.plan node acts.Leave caller.old caller.new result }
     {
@@ -289,7 +301,7 @@ impl<'g, N: Racing, G: Gate> Kernels<'g, N, G> {
         node: Name,
         least: u8,
         resilience: u8,
-    ) -> Answer
+    ) -> CallAnswer
         requires { length caller.old.calls < most_word }
         ensures { Called N.plan node (acts.Reset least resilience) caller.old caller.new result }
     {
@@ -297,7 +309,7 @@ impl<'g, N: Racing, G: Gate> Kernels<'g, N, G> {
     }
 
     /// Stops the node for good.
-    pub fn stop<R: Wait>(&self, rt: &R, caller: &mut Caller<N>, node: Name) -> Answer
+    pub fn stop<R: Wait>(&self, rt: &R, caller: &mut Caller<N>, node: Name) -> CallAnswer
         requires { length caller.old.calls < most_word }
         ensures { Called N.plan node acts.Stop caller.old caller.new result }
     {

@@ -1,7 +1,7 @@
 ghost use Rattle.std.specs.Prelude.{[]};
-ghost use Rattle.am_races.specs.Lawful.{IsLawful};
+ghost use Rattle.am_race_laws.specs.Lawful.{IsLawfulRecord};
 
-use am_wire::Law;
+use am_shared_journal::Law;
 use std::marker::Brand;
 
 /// Which race it is: its wire, and its plan. Each race picks it.
@@ -27,7 +27,7 @@ impl Racing for Brand {
 pub struct RaceLaw;
 
 impl Law for RaceLaw {
-    ghost use Rattle.am_races.specs.Lawful.{IsLawful};
+    ghost use Rattle.am_race_laws.specs.Lawful.{IsLawfulRecord};
 
     ghost next = { IsLawful };
 }

@@ -1,33 +1,33 @@
 ghost use Rattle.std.specs.Prelude.{◌≡◌, ◌<◌, ◌≤◌, [], ◌∷◌, None, Some, length, IfOk, IfErr, OnOk, OnErr, Option, true, false};
 ghost use Rattle.std.specs.Option.{option_copied};
 ghost use Rattle.am_base.specs.Most.{most_events};
-ghost use Rattle.am_play.specs.World.{first_node};
+ghost use Rattle.am_group_defs.specs.World.{first_node};
 ghost use Rattle.am_model.specs.Info.{info_of};
 ghost use Rattle.am_node.specs.Stands.{state_of};
 ghost use Rattle.am_group.specs.declared.event.Record.{Record};
-ghost use Rattle.am_sharing.specs.declared.terms.Key.TheVariants.{Place, Caller as CallerKey};
-ghost use Rattle.am_sharing.specs.declared.terms.WireRefusal.TheVariants as refusals;
-ghost use Rattle.am_sharing.specs.Sights.{GoesOn};
-ghost use Rattle.am_sharing.specs.Passes.{Sees, fresh};
-ghost use Rattle.am_sharing.specs.Stops.{has_stopped};
-ghost use Rattle.am_races.specs.Boxes.{what_of, MayAct, IsShareOf, IsTimely, Acted, IsRefused, Looks, refusal_answer, node_by};
-ghost use Rattle.am_races.specs.Callings.{IsHand};
-ghost use Rattle.am_races.specs.Going.{end_act, end_part, is_asked, ToldBy, Asked, IsCame, EndTells, Began, HasSpent, HasEnded, HasLooked, WasRefused, Meets};
-ghost use Rattle.am_races.specs.Plans.{is_call};
-ghost use Rattle.am_races.specs.Ready.{is_ready};
-ghost use Rattle.am_races.specs.Tags.{of_call, own_of, is_turn_part};
-ghost use Rattle.am_races.specs.Lawful.{terms_of};
-ghost use Rattle.am_races.specs.Answers.{is_end_of, is_take};
-ghost use Rattle.am_races.specs.Turns.{is_due};
-ghost use Rattle.am_calls.specs.Looks.{MayLook};
+ghost use Rattle.am_shared_journal_defs.specs.declared.terms.SharerKey.TheVariants.{Place, Caller as CallerKey};
+ghost use Rattle.am_shared_journal_defs.specs.declared.terms.WireRefusal.TheVariants as refusals;
+ghost use Rattle.am_shared_journal_defs.specs.Sights.{GoesOn};
+ghost use Rattle.am_shared_journal_defs.specs.Passes.{Sees, fresh};
+ghost use Rattle.am_shared_journal_defs.specs.Stops.{has_stopped};
+ghost use Rattle.am_race_laws.specs.Boxes.{what_of, MayAct, IsShareOf, IsTimely, Acted, IsRefused, BoxLooks, refusal_answer, node_by};
+ghost use Rattle.am_race_laws.specs.Callings.{IsHand};
+ghost use Rattle.am_race_laws.specs.Going.{end_act, end_part, is_asked, ToldBy, OwnActIsDone, IsCame, EndTells, Began, HasSpent, HasEnded, HasLooked, WasRefused, Meets};
+ghost use Rattle.am_race_laws.specs.Plans.{is_call};
+ghost use Rattle.am_race_laws.specs.Ready.{is_ready};
+ghost use Rattle.am_race_laws.specs.Tags.{of_call, own_of, is_turn_part};
+ghost use Rattle.am_race_laws.specs.Lawful.{terms_of};
+ghost use Rattle.am_race_laws.specs.Answers.{is_end_of, is_take};
+ghost use Rattle.am_race_laws.specs.Turns.{is_due};
+ghost use Rattle.am_calls.specs.Looks.{CallerMayLook};
 
 mod finding;
 
 use crate::acts::{
-    Room, blank, copy_into, cursor_after, heard_by, last_after, lost_by, room_for, stops_by,
+    ActRoom, blank, copy_into, cursor_after, heard_by, last_after, lost_by, room_for, stops_by,
 };
 use crate::caller::Hand;
-use crate::gate::Gate;
+use crate::gate::TestHook;
 use crate::naming::{RaceLaw, Racing};
 use crate::outcomes::{is_take, request_in};
 use crate::ready::{is_ready_after, may_take, round_in};
@@ -35,15 +35,15 @@ use crate::steps::step;
 use am_base::NoMemory;
 use am_base::name::Name;
 use am_group::event::{Act, By, Part, Record};
-use am_letter::out_box::Rooms;
 use am_model::info::Info;
 use am_node::node::Node;
 use am_packet::letter::LetterCopy;
-use am_races::answer::Answer;
-use am_races::call::{Came, Looked, Tag};
-use am_sharing::terms::WireRefusal;
-use am_wire::wire::{Pass, Share, Wire};
-use finding::Turn;
+use am_packet_writer::out_box::Rooms;
+use am_race_laws::answer::CallAnswer;
+use am_race_laws::call::{Came, Looked, Tag};
+use am_shared_journal::wire::{Pass, Share, Wire};
+use am_shared_journal_defs::terms::WireRefusal;
+use finding::FoundTurn;
 use std::alloc::Global;
 use std::marker::{Model, PhantomData};
 use std::mem;
@@ -67,7 +67,7 @@ pub struct NodeBox<N: Racing> {
 
 impl<N: Racing> Model for NodeBox<N> {
     ghost use Rattle.am_node.specs.Stands.{state_of};
-    ghost use Rattle.am_races.specs.Boxes.{Boxed, IsBox};
+    ghost use Rattle.am_race_laws.specs.Boxes.{Boxed, IsBox};
 
     ghost Value = { Boxed };
 
@@ -88,12 +88,12 @@ pub struct Visit<'a, R, G> {
     pub act: &'a Act,
 }
 
-fn answer_of(refusal: WireRefusal) -> Answer
+fn answer_of(refusal: WireRefusal) -> CallAnswer
     ensures { result ≡ refusal_answer refusal }
 {
     match refusal {
-        WireRefusal::NoMemory => Answer::NoMemory,
-        WireRefusal::Spent => Answer::Spent,
+        WireRefusal::NoMemory => CallAnswer::NoMemory,
+        WireRefusal::Spent => CallAnswer::Spent,
     }
 }
 
@@ -160,7 +160,7 @@ impl<N: Racing> NodeBox<N> {
     }
 
     /// The box and a caller see what either has seen. It is an error where the box does nothing more.
-    fn meet(&mut self, wire: &Wire<RaceLaw>, share: &mut Share) -> Result<(), Answer>
+    fn meet(&mut self, wire: &Wire<RaceLaw>, share: &mut Share) -> Result<(), CallAnswer>
         requires own { (wire.now.id ≡ N.wire) × (share.old.wire ≡ N.wire) }
         requires terms { share.old.terms ≡ terms_of N.plan }
         requires one { length share.old.keys ≡ 1 }
@@ -177,7 +177,7 @@ impl<N: Racing> NodeBox<N> {
             return Err(answer_of(refusal));
         }
         if self.is_stopped {
-            return Err(Answer::Stopped);
+            return Err(CallAnswer::Stopped);
         }
         Ok(())
     }
@@ -207,7 +207,7 @@ impl<N: Racing> NodeBox<N> {
     /// Its node does an act of a caller, which both have then seen in the journal. Behind what both have seen it may do it, a turn
     /// is one of its call, and a call may end there that it ends. After a refusal of the journal the box is closed; where there was no memory for the record, all is
     /// as it was.
-    pub fn act<R: Wait, G: Gate>(
+    pub fn act<R: Wait, G: TestHook>(
         &mut self,
         visit: &Visit<R, G>,
         share: &mut Share,
@@ -242,7 +242,7 @@ impl<N: Racing> NodeBox<N> {
         let Ok(room) = room_for(visit.alloc, rooms, &act, letter) else {
             return Err(WireRefusal::NoMemory);
         };
-        let Room {
+        let ActRoom {
             what,
             spare,
             given,
@@ -284,7 +284,12 @@ impl<N: Racing> NodeBox<N> {
     }
 
     /// The box and a caller see what either has seen. It is an error where the box does nothing more.
-    fn meet_caller(&mut self, wire: &Wire<RaceLaw>, hand: &mut Hand, tag: Tag) -> Result<(), Answer>
+    fn meet_caller(
+        &mut self,
+        wire: &Wire<RaceLaw>,
+        hand: &mut Hand,
+        tag: Tag,
+    ) -> Result<(), CallAnswer>
         requires own { wire.now.id ≡ N.wire }
         requires hand { IsHand N.wire N.plan tag.caller hand.old.share hand.old.chooser }
         ensures hand { IsHand N.wire N.plan tag.caller hand.new.share hand.new.chooser }
@@ -299,11 +304,11 @@ impl<N: Racing> NodeBox<N> {
     }
 
     /// A turn of a caller's call, which isn't ready.
-    fn spend<R: Wait, G: Gate>(
+    fn spend<R: Wait, G: TestHook>(
         &mut self,
         visit: &Visit<R, G>,
         hand: &mut Hand,
-    ) -> Result<Looked, Answer>
+    ) -> Result<Looked, CallAnswer>
         requires own { visit.now.wire.now.id ≡ N.wire }
         requires met { Meets N.wire N.plan visit.now.tag.caller self.old hand.old.share
             hand.old.chooser }
@@ -316,12 +321,12 @@ impl<N: Racing> NodeBox<N> {
             hand.old.share.seen hand.new.share.seen) }
     {
         let Ok(mut chooser) = hand.chooser.try_copy() else {
-            return Err(Answer::NoMemory);
+            return Err(CallAnswer::NoMemory);
         };
         let turn = self.turn(visit, &mut hand.share, &mut chooser);
         let by = visit.tag.with(Part::Turn(turn.lost));
         visit.gate.between(self.name, &by);
-        let Turn { act, letter, .. } = turn;
+        let FoundTurn { act, letter, .. } = turn;
         let share = &mut hand.share;
         match self.act(visit, share, act, letter.as_ref(), by) {
             Ok(came) => {
@@ -333,13 +338,13 @@ impl<N: Racing> NodeBox<N> {
     }
 
     /// A call's own act, or its check.
-    fn ask<R: Wait, G: Gate>(
+    fn ask<R: Wait, G: TestHook>(
         &mut self,
         visit: &Visit<R, G>,
         hand: &mut Hand,
         act: Act,
         by: By,
-    ) -> Result<Came, Answer>
+    ) -> Result<Came, CallAnswer>
         requires own { visit.now.wire.now.id ≡ N.wire }
         requires met { Meets N.wire N.plan by.caller self.old hand.old.share hand.old.chooser }
         requires asks { is_asked act ≡ true }
@@ -362,12 +367,12 @@ impl<N: Racing> NodeBox<N> {
     }
 
     /// The end of a call, which is ready or has used its turns: its check, or the act of a receive.
-    fn end<R: Wait, G: Gate>(
+    fn end<R: Wait, G: TestHook>(
         &mut self,
         visit: &Visit<R, G>,
         hand: &mut Hand,
         came: &Option<Came>,
-    ) -> Result<Looked, Answer>
+    ) -> Result<Looked, CallAnswer>
         requires own { visit.now.wire.now.id ≡ N.wire }
         requires met { Meets N.wire N.plan visit.now.tag.caller self.old hand.old.share
             hand.old.chooser }
@@ -388,11 +393,11 @@ impl<N: Racing> NodeBox<N> {
     }
 
     /// The first look of a call that is no receive: its own act.
-    pub fn begin<R: Wait, G: Gate>(
+    pub fn begin<R: Wait, G: TestHook>(
         &mut self,
         visit: &Visit<R, G>,
         hand: &mut Hand,
-    ) -> Result<Came, Answer>
+    ) -> Result<Came, CallAnswer>
         requires own { visit.now.wire.now.id ≡ N.wire }
         requires hand { IsHand N.wire N.plan visit.now.tag.caller hand.old.share hand.old.chooser }
         requires call { is_call visit.now.act.now ≡ true }
@@ -405,20 +410,20 @@ impl<N: Racing> NodeBox<N> {
     {
         self.meet_caller(visit.wire, hand, visit.tag)?;
         let Ok(own) = visit.act.try_copy() else {
-            return Err(Answer::NoMemory);
+            return Err(CallAnswer::NoMemory);
         };
         self.ask(visit, hand, own, visit.tag.with(Part::Call))
     }
 
     /// A further look of a call: a turn, where it has one left and isn't ready, and else its end. One that has no turn left has
     /// used them.
-    pub fn look<R: Wait, G: Gate>(
+    pub fn look<R: Wait, G: TestHook>(
         &mut self,
         visit: &Visit<R, G>,
         hand: &mut Hand,
         came: &Option<Came>,
         has_turn: bool,
-    ) -> Result<Looked, Answer>
+    ) -> Result<Looked, CallAnswer>
         requires own { visit.now.wire.now.id ≡ N.wire }
         requires hand { IsHand N.wire N.plan visit.now.tag.caller hand.old.share hand.old.chooser }
         requires may { MayLook N.plan visit.now.tag visit.now.act.now came.now has_turn

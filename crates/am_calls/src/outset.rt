@@ -1,13 +1,13 @@
 ghost use Rattle.std.specs.Prelude.{◌≡◌, ◌≤◌, IfOk, map, length};
-ghost use Rattle.am_sharing.specs.Keys.{place_keys, caller_keys};
-ghost use Rattle.am_sharing.specs.Passes.{fresh};
-ghost use Rattle.am_races.specs.Lawful.{terms_of};
+ghost use Rattle.am_shared_journal_defs.specs.Keys.{place_keys, caller_keys};
+ghost use Rattle.am_shared_journal_defs.specs.Passes.{fresh};
+ghost use Rattle.am_race_laws.specs.Lawful.{terms_of};
 
 use crate::naming::RaceLaw;
 use am_base::NoMemory;
 use am_group::plan::RacePlan;
-use am_sharing::terms::Terms;
-use am_wire::wire::{Pass, Share, Wire};
+use am_shared_journal::wire::{Pass, Share, Wire};
+use am_shared_journal_defs::terms::Terms;
 use std::alloc::Global;
 
 /// What a race of a plan begins with: a fresh wire, with a pass for each of the sixteen places and a share for each thread.

@@ -1,7 +1,7 @@
 ghost use Rattle.std.specs.Prelude.{◌≡◌, ◌↔◌, ◌≤◌, true, length, min, sum_by, map};
 ghost use Rattle.std.specs.List.{list_all};
 ghost use Rattle.am_base.specs.Most.{most_events};
-ghost use Rattle.am_races.specs.Plans.{is_call, MayRace};
+ghost use Rattle.am_race_laws.specs.Plans.{is_call, MayRace};
 
 use am_base::limits::MOST_EVENTS;
 use am_group::event::Act;

@@ -1,21 +1,21 @@
 ghost use Rattle.std.specs.List.{list_all};
 ghost use Rattle.std.specs.Prelude.{◌≡◌, ◌≤◌, true, IfOk, Some, map, length, slice_get, All};
 ghost use Rattle.am_base.specs.Most.{most_events};
-ghost use Rattle.am_races.specs.Legal.{IsLegalWithTags};
-ghost use Rattle.am_races.specs.Plans.{calls_of, is_call, MayRace, ArePlayed};
-ghost use Rattle.am_races.specs.Ran.{fresh_caller, fresh_callers, numbers_of, HasRun, ends_thread, first_refusal};
+ghost use Rattle.am_race_laws.specs.Legal.{IsLegalWithTags};
+ghost use Rattle.am_race_laws.specs.Plans.{calls_of, is_call, MayRace, ArePlayed};
+ghost use Rattle.am_race_laws.specs.Ran.{fresh_caller, fresh_callers, caller_numbers, HasRun, ends_thread, first_refusal};
 
 use crate::caller::Caller;
 use crate::crowd::gather;
-use crate::gate::Gate;
+use crate::gate::TestHook;
 use crate::kernels::Kernels;
 use crate::naming::Racing;
 use crate::outset::Outset;
 use am_base::NoMemory;
 use am_group::plan::{RacePlan, ThreadPlan};
 use am_journal::journal::Journal;
-use am_races::answer::Answer;
-use am_sharing::terms::WireRefusal;
+use am_race_laws::answer::CallAnswer;
+use am_shared_journal_defs::terms::WireRefusal;
 use std::alloc::Global;
 use std::marker::Brand;
 use std::sync::Wait;
@@ -24,32 +24,32 @@ use std::thread::Threads;
 
 /// A caller whose thread has ended, with the refusal that ended it, if one did.
 #[derive(Drop)]
-struct Ran<N: Racing> {
+struct EndedCaller<N: Racing> {
     caller: Caller<N>,
     refusal: Option<WireRefusal>,
 }
 
 /// Whether a thread ends with this answer.
-fn is_last(answer: &Answer) -> bool
+fn is_last(answer: &CallAnswer) -> bool
     ensures { result ≡ ends_thread answer.now }
 {
     matches!(
         answer,
-        Answer::Late { .. }
-            | Answer::PutOff { .. }
-            | Answer::Stopped
-            | Answer::Spent
-            | Answer::NoMemory
+        CallAnswer::Late { .. }
+            | CallAnswer::PutOff { .. }
+            | CallAnswer::Stopped
+            | CallAnswer::Spent
+            | CallAnswer::NoMemory
     )
 }
 
 /// A thread makes its calls, as far as they go on.
-fn play<R: Wait, N: Racing, G: Gate>(
+fn play<R: Wait, N: Racing, G: TestHook>(
     rt: &R,
     kernels: &Kernels<N, G>,
     thread: &ThreadPlan,
     mut caller: Caller<N>,
-) -> Ran<N>
+) -> EndedCaller<N>
     requires fresh { caller ≡ fresh_caller caller.number }
     requires its { slice_get N.plan.threads caller.number ≡ Some thread.now }
     requires calls { list_all is_call thread.now.calls ≡ true }
@@ -61,22 +61,22 @@ fn play<R: Wait, N: Racing, G: Gate>(
         let answer = kernels.make(rt, &mut caller, thread.node, act);
         if is_last(&answer) {
             let refusal = answer.as_refusal();
-            return Ran { caller, refusal };
+            return EndedCaller { caller, refusal };
         }
     }
-    Ran {
+    EndedCaller {
         caller,
         refusal: None,
     }
 }
 
 /// A caller makes the calls of its thread.
-fn make_calls<R: Wait, N: Racing, G: Gate>(
+fn make_calls<R: Wait, N: Racing, G: TestHook>(
     rt: &R,
     kernels: &Kernels<N, G>,
     threads: &[ThreadPlan],
     caller: Caller<N>,
-) -> Ran<N>
+) -> EndedCaller<N>
     requires plan { MayRace N.plan }
     requires threads { threads.now ≡ N.plan.threads }
     requires fresh { caller ≡ fresh_caller caller.number }
@@ -85,7 +85,7 @@ fn make_calls<R: Wait, N: Racing, G: Gate>(
 {
     match threads.get(caller.number() as usize) {
         Some(thread) => play(rt, kernels, thread, caller),
-        None => Ran {
+        None => EndedCaller {
             caller,
             refusal: None,
         },
@@ -93,12 +93,12 @@ fn make_calls<R: Wait, N: Racing, G: Gate>(
 }
 
 /// Each caller makes the calls of its thread, in a thread of its own, once the others have begun too.
-fn all_run<R: Threads + Wait + Sync, N: Racing + Send + Sync, G: Gate + Sync>(
+fn all_run<R: Threads + Wait + Sync, N: Racing + Send + Sync, G: TestHook + Sync>(
     rt: &R,
     kernels: &Kernels<N, G>,
     threads: &[ThreadPlan],
     callers: Vec<Caller<N>>,
-) -> Result<Vec<Ran<N>>, NoMemory>
+) -> Result<Vec<EndedCaller<N>>, NoMemory>
     requires plan { MayRace N.plan }
     requires threads { threads.now ≡ N.plan.threads }
     requires fresh { callers.items ≡ fresh_callers (length N.plan.threads) }
@@ -110,7 +110,7 @@ fn all_run<R: Threads + Wait + Sync, N: Racing + Send + Sync, G: Gate + Sync>(
     let ran = thread::map_vec(
         rt,
         callers,
-        &|caller: Caller<N>| -> Ran<N>
+        &|caller: Caller<N>| -> EndedCaller<N>
             requires plan { MayRace N.plan }
             requires threads { threads.now ≡ N.plan.threads }
             requires fresh { caller ≡ fresh_caller caller.number }
@@ -129,7 +129,7 @@ fn all_run<R: Threads + Wait + Sync, N: Racing + Send + Sync, G: Gate + Sync>(
 /// The callers, and a refusal that ended one, if one did.
 fn apart<N: Racing>(
     alloc: Global,
-    ran: Vec<Ran<N>>,
+    ran: Vec<EndedCaller<N>>,
 ) -> Result<(Vec<Caller<N>>, Option<WireRefusal>), NoMemory>
     ensures callers { IfOk result (λ r. r.0.items ≡ map (λ one. one.caller) ran.items) }
     ensures refusal { IfOk result (λ r. r.1 ≡ first_refusal (map (λ one. one.refusal) ran.items)) }
@@ -144,7 +144,7 @@ fn apart<N: Racing>(
 }
 
 /// The race of a plan, over a fresh wire of it. The journal is never full, since all calls together have room in it.
-fn race_over<R: Threads + Wait + Sync, N: Racing + Send + Sync, G: Gate + Sync>(
+fn race_over<R: Threads + Wait + Sync, N: Racing + Send + Sync, G: TestHook + Sync>(
     rt: &R,
     alloc: Global,
     gate: &G,
@@ -173,7 +173,7 @@ fn race_over<R: Threads + Wait + Sync, N: Racing + Send + Sync, G: Gate + Sync>(
 /// Does a race (docs/PROTOCOL.md, "Races"): a thread for each thread plan makes its calls, and the journal that they leave is
 /// legal with their tags. Each thread's calls are done as far as they go on. There is no journal where a call, or the race
 /// itself, had no memory, or where the threads can't be made.
-pub fn race<R: Threads + Wait + Sync, G: Gate + Sync>(
+pub fn race<R: Threads + Wait + Sync, G: TestHook + Sync>(
     rt: &R,
     alloc: Global,
     plan: &RacePlan,

@@ -1,7 +1,7 @@
 ghost use Rattle.std.specs.Prelude.{◌≡◌};
 ghost use Rattle.am_model.specs.Node.{has_log, has_departed};
 ghost use Rattle.am_node.specs.Stands.{state_of};
-ghost use Rattle.am_races.specs.Ready.{invite_round, round_in, is_ended, is_sent, is_ready_after, may_take};
+ghost use Rattle.am_race_laws.specs.Ready.{invite_round, round_in, is_ended, send_is_settled, is_ready_after, may_take};
 
 use crate::outcomes::ballot_answer;
 use am_base::outcome::Outcome;
@@ -11,8 +11,8 @@ use am_model::status::Status;
 use am_node::node::Node;
 use am_packet::letter::Letter;
 use am_packet::packet::Packet;
-use am_races::call::Came;
-use am_reader::reader::packet_of;
+use am_packet_reader::reader::packet_of;
+use am_race_laws::call::Came;
 
 /// The round of a packet that is an Invite.
 fn invite_round(packet: &Packet) -> Option<u32>

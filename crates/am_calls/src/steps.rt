@@ -2,13 +2,13 @@ ghost use Rattle.std.specs.Prelude.{◌≡◌, ◌≤◌, [], length};
 ghost use Rattle.am_base.specs.Most.{most_body};
 ghost use Rattle.am_model.specs.Nodes.{HasNumbersLeft};
 ghost use Rattle.am_node.specs.Stands.{state_of};
-ghost use Rattle.am_races.specs.Boxes.{Steps};
+ghost use Rattle.am_race_laws.specs.Boxes.{Steps};
 
 use am_base::event::NodeEvent;
 use am_base::outcome::Outcome;
 use am_base::taken::EntryRoom;
-use am_letter::out_box::OutBox;
 use am_node::node::Node;
+use am_packet_writer::out_box::OutBox;
 
 /// A node does what was asked, and its letters are put together.
 pub fn step(

@@ -3,16 +3,16 @@ use Rattle.std.proofs.Common.{◌≡◌, List, sym, ◌∙◌}
 use Rattle.am_base.specs.declared.event.NodeEvent.{NodeEvent}
 use Rattle.am_base.specs.declared.outcome.Outcome.{Outcome}
 use Rattle.am_packet.specs.Boxes.{Letter}
-use Rattle.am_state.specs.Cores.{IsInOrder}
+use Rattle.am_node_defs.specs.Cores.{IsInOrder}
 use Rattle.am_model.specs.Node.{Node}
 use Rattle.am_model.specs.Step.{row, step}
 use Rattle.am_model.specs.Ends.{Does}
 use Rattle.am_model.proofs.Hearing.{ends_step_alike}
 use Rattle.am_examples.specs.Members.{StepsBy}
 
-pub steps_by : (event : NodeEvent) (old new : Node) (outcome : Outcome) (out letters : List Letter) → IsInOrder old.core → Does (λ m. row m event) old outcome out new
+pub step_of_equal_outcome : (event : NodeEvent) (old new : Node) (outcome : Outcome) (out letters : List Letter) → IsInOrder old.core → Does (λ m. row m event) old outcome out new
     → letters ≡ out → StepsBy event old outcome letters new
 unfolding step
-steps_by event old new outcome out letters order does same = λ all end.
+step_of_equal_outcome event old new outcome out letters order does same = λ all end.
     let alike = ends_step_alike all old event end order in
     (does.answer ∙ sym alike.answer, same ∙ does.sent ∙ sym alike.sent, alike.node new does.node)

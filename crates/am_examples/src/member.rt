@@ -3,7 +3,7 @@
 ghost use Rattle.std.specs.Prelude.{◌≡◌, ◌≢◌, ◌++◌, [], List, IfOk, IfErr, OnErr, OnOk, IsTrue, ◌↔◌, Ok, true};
 ghost use Rattle.am_base.specs.declared.event.NodeEvent.TheVariants as does;
 ghost use Rattle.am_model.specs.Nodes.{HasNumbersLeft};
-ghost use Rattle.am_play.specs.World.{first_node};
+ghost use Rattle.am_group_defs.specs.World.{first_node};
 ghost use Rattle.am_examples.specs.Members.{kept_by, StepsBy, is_read};
 
 use am_base::NoMemory;
@@ -12,10 +12,10 @@ use am_base::founding::Founding;
 use am_base::items::Items;
 use am_base::name::Name;
 use am_base::outcome::Outcome;
-use am_letter::out_box::{OutBox, Rooms};
 use am_node::node::Node;
 use am_packet::letter::Letter;
-use am_reader::reader::decode;
+use am_packet_reader::reader::decode;
+use am_packet_writer::out_box::{OutBox, Rooms};
 use std::alloc::Global;
 use std::mem;
 

@@ -3,7 +3,7 @@ use am_base::body::Body;
 use am_base::founding::Founding;
 use am_base::items::Items;
 use am_base::name::Name;
-use am_calls::gate::NoGate;
+use am_calls::gate::NoHook;
 use am_calls::plans::may_race;
 use am_calls::race::race;
 use am_group::event::Act;
@@ -43,5 +43,5 @@ pub fn send_and_take<R: Threads + Wait + Sync>(
     if !may_race(&plan) {
         return Ok(0);
     }
-    Ok(race(rt, alloc, &plan, &NoGate)?.records().len())
+    Ok(race(rt, alloc, &plan, &NoHook)?.records().len())
 }

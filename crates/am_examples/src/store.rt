@@ -1,7 +1,7 @@
 use am_base::NoMemory;
 use am_base::name::Name;
-use am_dir::command::Command;
-use am_dir::replica::Replica;
+use am_directory::command::Command;
+use am_directory::replica::Replica;
 use am_group::event::{Act, Event};
 use am_world::world::{World, WorldRefusal};
 use std::alloc::Global;

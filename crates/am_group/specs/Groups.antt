@@ -24,13 +24,13 @@ numbered_entry number None = None
 numbered_entry number (Some entry) = Some (number, entry)
 
 -- the entry above a front, with its number
-abbrev pub above : List Entry → Option ℕ → Option (ℕ × Entry)
-above entries None = None
-above entries (Some front) = numbered_entry (front + 1) (slice_get entries front)
+abbrev pub entry_above_front : List Entry → Option ℕ → Option (ℕ × Entry)
+entry_above_front entries None = None
+entry_above_front entries (Some front) = numbered_entry (front + 1) (slice_get entries front)
 
 -- what a name takes next
 abbrev pub next_of : Standing → ℕ → Option (ℕ × Entry)
-next_of g name = above g.entries (front_of g name)
+next_of g name = entry_above_front g.entries (front_of g name)
 
 -- the list with one entry more
 abbrev pub list_with : List Entry → Entry → List Entry

@@ -6,9 +6,9 @@ use Rattle.std.proofs.lemmas.List.FromFn.{length-map-range_with_len, map-range_w
 use Rattle.am_base.specs.Most.{most_events}
 use Rattle.am_group.specs.declared.event.Record.{Record}
 use Rattle.am_group.specs.Journals.{letters_of}
-use Rattle.am_group.proofs.Places.{get_before, get_behind, letters_more}
+use Rattle.am_group.proofs.Places.{slice_get_of_append_front, slice_get_of_append_back, letters_of_pushed_record}
 use Rattle.am_journal.specs.declared.journal.Place.{Place}
-use Rattle.am_journal.specs.Places.{letter_of, ArePlaces, places_of}
+use Rattle.am_journal.specs.Places.{letter_of, ArePlaces, letter_places}
 
 -- the place of a record's letter
 place_get : (number n k : ℕ) (f : ℕ → Place) (a : ℕ) (p : Place) → slice_get (map f (range_with_len a n)) k ≡ Some p → (f (a + k) ≡ p) × (k < n)
@@ -27,32 +27,32 @@ get_last (y ∷ ys) x = get_last ys x
 below_or : (k n : ℕ) → (k < n) ⊎ (n + (k - n) ≡ k)
 below_or k n = grind arith
 
-pub places_more : (records : List Record) (places : List Place) (r : Record) → ArePlaces records places → length r.packets ≤ 24 → length records < most_events
-    → ArePlaces (records ++ r ∷ []) (places ++ places_of (length records) (length r.packets))
-places_more records places r ok few more_records =
+pub places_with_pushed_record : (records : List Record) (places : List Place) (r : Record) → ArePlaces records places → length r.packets ≤ 24 → length records < most_events
+    → ArePlaces (records ++ r ∷ []) (places ++ letter_places (length records) (length r.packets))
+places_with_pushed_record records places r ok few more_records =
     let number = length records in
     let many = length r.packets in
     let f : ℕ → Place = λ index. record { number = number; index = index } in
-    let more : length (places_of number many) ≡ many = length-map-range_with_len f 0 many in
+    let more : length (letter_places number many) ≡ many = length-map-range_with_len f 0 many in
     let old = ok.count in
     let least = ok.few in
     let one = length-append records (r ∷ []) in
-    let both = length-append places (places_of number many) in
+    let both = length-append places (letter_places number many) in
     record {
-      count = both ∙ (let sum : length places + length (places_of number many) ≡ length (letters_of records) + many = omega arith in sum)
-          ∙ sym (length-append (letters_of records) r.packets) ∙ ap length (sym (letters_more records r));
+      count = both ∙ (let sum : length places + length (letter_places number many) ≡ length (letters_of records) + many = omega arith in sum)
+          ∙ sym (length-append (letters_of records) r.packets) ∙ ap length (sym (letters_of_pushed_record records r));
       each = λ k p h. ⊎_elim
           (λ (below : k < length places).
-          let stood = ok.each k p (sym (get_before places (places_of number many) k below) ∙ h) in
+          let stood = ok.each k p (sym (slice_get_of_append_front places (letter_places number many) k below) ∙ h) in
           let l = stood.0 in
           let short : k < length (letters_of records) = omega arith in (
             omega arith,
-            ap (λ o. letter_of o p.index) (get_before records (r ∷ []) p.number l) ∙ stood.1
-                ∙ sym (get_before (letters_of records) r.packets k short) ∙ ap (λ ls. slice_get ls k) (sym (letters_more records r)),
+            ap (λ o. letter_of o p.index) (slice_get_of_append_front records (r ∷ []) p.number l) ∙ stood.1
+                ∙ sym (slice_get_of_append_front (letters_of records) r.packets k short) ∙ ap (λ ls. slice_get ls k) (sym (letters_of_pushed_record records r)),
           ))
           (λ (behind : length places + (k - length places) ≡ k).
           let j = k - length places in
-          let here = place_get number many j f 0 p (sym (get_behind places (places_of number many) j) ∙ ap (slice_get (places ++ places_of number many)) behind
+          let here = place_get number many j f 0 p (sym (slice_get_of_append_back places (letter_places number many) j) ∙ ap (slice_get (places ++ letter_places number many)) behind
           ∙ h) in
           let z : 0 + j ≡ j = omega arith in
           let at : f j ≡ p = ap f (sym z) ∙ here.0 in
@@ -60,8 +60,8 @@ places_more records places r ok few more_records =
           subst (λ (q : Place). (q.number < length (records ++ r ∷ []))
           × (letter_of (slice_get (records ++ r ∷ []) q.number) q.index ≡ slice_get (letters_of (records ++ r ∷ [])) k)) at (
             omega arith,
-            ap (λ o. letter_of o j) (get_last records r) ∙ sym (get_behind (letters_of records) r.packets j)
-                ∙ ap (slice_get (letters_of records ++ r.packets)) same ∙ ap (λ ls. slice_get ls k) (sym (letters_more records r)),
+            ap (λ o. letter_of o j) (get_last records r) ∙ sym (slice_get_of_append_back (letters_of records) r.packets j)
+                ∙ ap (slice_get (letters_of records ++ r.packets)) same ∙ ap (λ ls. slice_get ls k) (sym (letters_of_pushed_record records r)),
           ))
           (below_or k (length places));
       few = omega arith;
@@ -69,5 +69,5 @@ places_more records places r ok few more_records =
     }
 
 -- one place more
-pub places_next : (number index : ℕ) → places_of number (index + 1) ≡ places_of number index ++ record { number = number; index = index } ∷ []
-places_next number index = map-range_with_len_more (λ i. record { number = number; index = i }) 0 index index (omega arith)
+pub places_of_next_letter : (number index : ℕ) → letter_places number (index + 1) ≡ letter_places number index ++ record { number = number; index = index } ∷ []
+places_of_next_letter number index = map-range_with_len_more (λ i. record { number = number; index = i }) 0 index index (omega arith)

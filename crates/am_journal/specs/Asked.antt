@@ -32,11 +32,11 @@ hears keep name stopped None = Err said.NoPacket
 hears keep name stopped (Some letter) = if is_for letter name then if_running stopped
     (does.Hear (first_bytes keep (spelling letter.packet))) else Err said.NotAddressed
 
-abbrev pub gives_up : Bool → Bool → ℕ → Result NodeEvent Outcome
-gives_up stopped other_stopped other = if stopped then Err said.IsStopped else if other_stopped then Ok (does.GiveUp other) else Err said.NotStopped
+abbrev pub give_up_or_answer : Bool → Bool → ℕ → Result NodeEvent Outcome
+give_up_or_answer stopped other_stopped other = if stopped then Err said.IsStopped else if other_stopped then Ok (does.GiveUp other) else Err said.NotStopped
 
-abbrev pub stops : Bool → Outcome
-stops stopped = if stopped then said.IsStopped else said.Stopped
+abbrev pub stops_node : Bool → Outcome
+stops_node stopped = if stopped then said.IsStopped else said.Stopped
 
 -- a place returns where its name has gone or stopped, sixteen lives at most
 abbrev pub returns : Bool → ℕ → Outcome
@@ -52,8 +52,8 @@ event_or_answer letters flags departed name act.State = if_running (flag_of flag
 event_or_answer letters flags departed name act.Leave = if_running (flag_of flags name) does.Leave
 event_or_answer letters flags departed name (act.Reset least resilience) = if_running (flag_of flags name) (does.Reset least resilience)
 event_or_answer letters flags departed name (act.Ask round) = if_running (flag_of flags name) (does.Ask round)
-event_or_answer letters flags departed name (act.GiveUp other) = gives_up (flag_of flags name) (flag_of flags other) other
-event_or_answer letters flags departed name act.Stop = Err (stops (flag_of flags name))
+event_or_answer letters flags departed name (act.GiveUp other) = give_up_or_answer (flag_of flags name) (flag_of flags other) other
+event_or_answer letters flags departed name act.Stop = Err (stops_node (flag_of flags name))
 event_or_answer letters flags departed name act.Tick = if_running (flag_of flags name) does.Tick
 event_or_answer letters flags departed name (act.Hear number) = hears None name (flag_of flags name) (letter_at letters number)
 event_or_answer letters flags departed name (act.Cut number keep) = hears (Some keep) name (flag_of flags name) (letter_at letters number)

@@ -22,8 +22,8 @@ pub record ArePlaces (records : List Record) (places : List Place) : Type 0 wher
   pub short : length records ≤ most_events
 
 -- the places of a record's letters
-abbrev pub places_of : ℕ → ℕ → List Place
-places_of number many = map (λ index. record { number = number; index = index }) (range_with_len 0 many)
+abbrev pub letter_places : ℕ → ℕ → List Place
+letter_places number many = map (λ index. record { number = number; index = index }) (range_with_len 0 many)
 
 -- what happened since a founding, and whether there is room for one record more
 pub record History : Type 0 where

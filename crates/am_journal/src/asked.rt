@@ -91,7 +91,7 @@ fn sends(
 }
 
 fn gives_up(stopped: &[bool; 256], name: Name, other: Name) -> Result<NodeEvent, Outcome>
-    ensures { result ≡ asks.gives_up (flag_of stopped.now name) (flag_of stopped.now other) other }
+    ensures { result ≡ asks.give_up_or_answer (flag_of stopped.now name) (flag_of stopped.now other) other }
 {
     if is_stopped(stopped, name) {
         return Err(Outcome::IsStopped);
@@ -103,7 +103,7 @@ fn gives_up(stopped: &[bool; 256], name: Name, other: Name) -> Result<NodeEvent,
 }
 
 fn stops(stopped: bool) -> Outcome
-    ensures { result ≡ asks.stops stopped }
+    ensures { result ≡ asks.stops_node stopped }
 {
     if stopped {
         return Outcome::IsStopped;

@@ -2,7 +2,7 @@ ghost use Rattle.std.specs.Prelude.{◌≡◌, ◌+◌, ◌*◌, ◌<◌, ◌≤
 ghost use Rattle.std.specs.Option.{option_copied};
 ghost use Rattle.am_base.specs.Most.{most_events};
 ghost use Rattle.am_group.specs.Journals.{letters_of, letter_at, item_at, the_record};
-ghost use Rattle.am_journal.specs.Places.{letter_of, places_of};
+ghost use Rattle.am_journal.specs.Places.{letter_of, letter_places};
 
 use am_base::NoMemory;
 use am_base::founding::Founding;
@@ -202,7 +202,7 @@ fn letter_in(records: &[Record], place: Place) -> Option<&Letter>
 }
 
 /// Adds the places of so many letters of one record.
-#[tactic(auto, using(crate::proofs::Places::places_next))]
+#[tactic(auto, using(crate::proofs::Places::places_of_next_letter))]
 fn push_places(places: &mut Vec<Place>, number: u32, many: u32)
     requires { vec_len places.old + many ≤ vec_capacity places.old }
     ensures { places.new.items ≡ places.old.items ++ places_of number many }

@@ -6,14 +6,14 @@ use Rattle.am_model.proofs.EndWords.{only_name, invite_of, result_of, Verdict, w
 use Rattle.am_model.proofs.EndWords.{restart_reports, decide_view, trim_for, decide, with_result, with_fetch, verdict_plan, next_stamp, new_ballot, begin}
 use Rattle.am_model.proofs.EndWords.{with_vote, newly_needed, keep_vote, without_voter, give_up, reset_row, give_up_of, give_up_row, decide_anew, with_log}
 use Rattle.am_base.specs.declared.outcome.Outcome.TheVariants as said
-use Rattle.am_model.proofs.Plans.{Says, Alike, same_others, says_fetch, alike, alike_if, alike_case, alike_quiet}
-use Rattle.am_model.proofs.Nodes.{Keeps, Whole, reads, keeps_pushed, keeps_trimmed}
+use Rattle.am_model.proofs.Plans.{SayTheSame, PlansAreAlike, others_on_whole_log, fetch_says_the_same, plan_alike_rules, same_test_branches_are_alike, both_branches_are_alike, quiet_is_alike}
+use Rattle.am_model.proofs.Nodes.{KeepsEndOfLog, IsNodeWithWholeLog, reading_on_whole_log, keeps_log_by_push, keeps_log_by_trim}
 
 -- ---- verdicts
 
 -- the first comes to the node of the second with all of a list, and both have one answer
-pub record Agrees (v w : Verdict) : Type 0 where
-  pub whole : Whole v.node w.node
+record Agrees (v w : Verdict) : Type 0 where
+  pub whole : IsNodeWithWholeLog v.node w.node
   pub open whole use *
   pub outcome : v.outcome ≡ w.outcome
 
@@ -27,7 +27,7 @@ agrees_if false false u v w x e f g = g
 abbrev answers : Bool → Node → Ballot → Outcome → Verdict
 answers over m b o = record { node = record m { ballot = Some (record b { answer = o; is_over = over }) }; outcome = o }
 
-agrees_answer : (over : Bool) (all : Log) (m : Node) (b : Ballot) (o w : Outcome) → Keeps all m → o ≡ w
+agrees_answer : (over : Bool) (all : Log) (m : Node) (b : Ballot) (o w : Outcome) → KeepsEndOfLog all m → o ≡ w
     → Agrees (answers over (with_log m all) b o) (answers over m b w)
 agrees_answer over all m b o w h e = record {
   whole = record {
@@ -40,17 +40,17 @@ agrees_answer over all m b o w h e = record {
 
 -- ---- what a ballot comes to
 
-same_best : (all : Log) (m : Node) (b : Ballot) → Keeps all m → best_of (with_log m all) b ≡ best_of m b
+same_best : (all : Log) (m : Node) (b : Ballot) → KeepsEndOfLog all m → best_of (with_log m all) b ≡ best_of m b
 unfolding best_of
-same_best all m b h = reads all m (λ i t. best_vote b.votes m.core.who (record { view = i.view; top = t; taken = m.core.taken; members = members_of i })) h
+same_best all m b h = reading_on_whole_log all m (λ i t. best_vote b.votes m.core.who (record { view = i.view; top = t; taken = m.core.taken; members = members_of i })) h
 
 -- the view is pushed on both sides
-agrees_pushed : (all : Log) (m : Node) (b : Ballot) (d e : Entry) (o w : Outcome) → Keeps all m → d ≡ e → o ≡ w
+agrees_pushed : (all : Log) (m : Node) (b : Ballot) (d e : Entry) (o w : Outcome) → KeepsEndOfLog all m → d ≡ e → o ≡ w
     → Agrees (ends (restart_reports (push_entry (with_log m all) d)) b o) (ends (restart_reports (push_entry m e)) b w)
 agrees_pushed all m b d e o w h same f =
-    let k = keeps_pushed all m e h in
+    let k = keeps_log_by_push all m e h in
     let n = restart_reports (push_entry m e) in
-    let kn : Keeps (with_entry all e) n = record { kept = k.kept; order = k.order } in
+    let kn : KeepsEndOfLog (with_entry all e) n = record { kept = k.kept; order = k.order } in
     let a = agrees_answer true (with_entry all e) n b o w kn f in
     record {
       whole = record {
@@ -61,25 +61,25 @@ agrees_pushed all m b d e o w h same f =
       outcome = f;
     }
 
-agrees_view : (all : Log) (m : Node) (b : Ballot) (names : List ℕ) → Keeps all m → Agrees (decide_view (with_log m all) b names) (decide_view m b names)
+agrees_view : (all : Log) (m : Node) (b : Ballot) (names : List ℕ) → KeepsEndOfLog all m → Agrees (decide_view (with_log m all) b names) (decide_view m b names)
 agrees_view all m b names h =
-    let full = reads all m (λ i t. nat_lt (m.core.rules.window + 16 - size names) (t + 1 - m.core.base)) h in
-    let crowded = reads all m (λ i t. said.Crowded m.core.base t) h in
-    let view = reads all m (λ i t. View (record { stamp = b.stamp; members = names; resilience = max b.resilience i.resilience })) h in
-    let decided = reads all m (λ i t. said.Decided (t + 1) names) h in
+    let full = reading_on_whole_log all m (λ i t. nat_lt (m.core.rules.window + 16 - size names) (t + 1 - m.core.base)) h in
+    let crowded = reading_on_whole_log all m (λ i t. said.Crowded m.core.base t) h in
+    let view = reading_on_whole_log all m (λ i t. View (record { stamp = b.stamp; members = names; resilience = max b.resilience i.resilience })) h in
+    let decided = reading_on_whole_log all m (λ i t. said.Decided (t + 1) names) h in
     agrees_if _ _ _ _ _ _ full (agrees_answer true all m b _ _ h crowded) (agrees_pushed all m b _ _ _ _ h view decided)
 
 -- what is asked of the best vote alone
-best_reads : {X : Type 0} (all : Log) (m : Node) (b : Ballot) (f : Shown → ℕ → X) → Keeps all m
+best_reads : {X : Type 0} (all : Log) (m : Node) (b : Ballot) (f : Shown → ℕ → X) → KeepsEndOfLog all m
     → f (best_of (with_log m all) b) (top (with_log m all)) ≡ f (best_of m b) (top m)
-best_reads all m b f h = ap (λ s. f s (top (with_log m all))) (same_best all m b h) ∙ reads all m (λ i t. f (best_of m b) t) h
+best_reads all m b f h = ap (λ s. f s (top (with_log m all))) (same_best all m b h) ∙ reading_on_whole_log all m (λ i t. f (best_of m b) t) h
 
 -- the names of the best vote's members that are left
-agrees_left : (all : Log) (m : Node) (b : Ballot) (names some : List ℕ) → Keeps all m → names ≡ some
+agrees_left : (all : Log) (m : Node) (b : Ballot) (names some : List ℕ) → KeepsEndOfLog all m → names ≡ some
     → Agrees (decide_view (trim_for (with_log m all) b names) b names) (decide_view (trim_for m b some) b some)
 agrees_left all m b names some h e =
     let to = unwrap_or (least_of (taken_by m.core.who m.core.taken b) (names_of some)) 0 in
-    let k = keeps_trimmed all m to h in
+    let k = keeps_log_by_trim all m to h in
     let a = agrees_view all (trim_for m b some) b some k in
     let v = ap (λ set. decide_view (trim_for (with_log m all) b set) b set) e in
     record {
@@ -87,7 +87,7 @@ agrees_left all m b names some h e =
       outcome = ap (λ (x : Verdict). x.outcome) v ∙ a.outcome;
     }
 
-agrees_decide : (all : Log) (m : Node) (b : Ballot) → Keeps all m → Agrees (decide (with_log m all) b) (decide m b)
+agrees_decide : (all : Log) (m : Node) (b : Ballot) → KeepsEndOfLog all m → Agrees (decide (with_log m all) b) (decide m b)
 unfolding decide
 agrees_decide all m b h =
     let not_in = best_reads all m b (λ s t. said.NotIn s.vote.view) h in
@@ -103,17 +103,17 @@ agrees_decide all m b h =
 
 -- ---- what a verdict sends
 
-with_result_same : (all : Log) (n : Node) (o : Outcome) (ls ks : List Letter) → Keeps all n → ls ≡ ks → with_result o (with_log n all) ls ≡ with_result o n ks
+with_result_same : (all : Log) (n : Node) (o : Outcome) (ls ks : List Letter) → KeepsEndOfLog all n → ls ≡ ks → with_result o (with_log n all) ls ≡ with_result o n ks
 with_result_same all n (said.Decided number names) ls ks h e =
-    reads all n (λ i t. with_letter (without_name names n.core.who) (result_of n number names i.resilience) ls) h ∙ ap
+    reading_on_whole_log all n (λ i t. with_letter (without_name names n.core.who) (result_of n number names i.resilience) ls) h ∙ ap
     (with_letter (without_name names n.core.who) (result_of n number names (image_of n).resilience)) e
 with_result_same all n _ ls ks h e = e
 
-with_fetch_same : (all : Log) (n : Node) (o : Outcome) (ls ks : List Letter) → Keeps all n → ls ≡ ks → with_fetch o (with_log n all) ls ≡ with_fetch o n ks
-with_fetch_same all n (said.Fetching from want) ls ks h e = λ i. with_letter (only_name from) (says_fetch all n h i) (e i)
+with_fetch_same : (all : Log) (n : Node) (o : Outcome) (ls ks : List Letter) → KeepsEndOfLog all n → ls ≡ ks → with_fetch o (with_log n all) ls ≡ with_fetch o n ks
+with_fetch_same all n (said.Fetching from want) ls ks h e = λ i. with_letter (only_name from) (fetch_says_the_same all n h i) (e i)
 with_fetch_same all n _ ls ks h e = e
 
-pub alike_answered : (v w : Verdict) (f g : Node → List Letter) → Agrees v w → Says f g → Alike (verdict_plan v f) (verdict_plan w g)
+alike_answered : (v w : Verdict) (f g : Node → List Letter) → Agrees v w → SayTheSame f g → PlansAreAlike (verdict_plan v f) (verdict_plan w g)
 alike_answered v w f g a says = record {
   whole = a.whole;
   outcome = λ all n k. a.outcome;
@@ -126,22 +126,22 @@ alike_answered v w f g a says = record {
 
 -- ---- the rows of ballots
 
-pub keeps_promised : (all : Log) (m : Node) (v : Stamp) → Keeps all m → Keeps all (with_promise m v)
-keeps_promised all m v h =
+pub keeps_log_by_promise : (all : Log) (m : Node) (v : Stamp) → KeepsEndOfLog all m → KeepsEndOfLog all (with_promise m v)
+keeps_log_by_promise all m v h =
     let o = h.order in
     record { kept = h.kept; order = record { base = o.base; taken = o.taken; given = o.given; accepted = o.accepted } }
 
-pub alike_begin : (all : Log) (m : Node) (least resilience : ℕ) → Keeps all m → Alike (begin (with_log m all) least resilience) (begin m least resilience)
+alike_begin : (all : Log) (m : Node) (least resilience : ℕ) → KeepsEndOfLog all m → PlansAreAlike (begin (with_log m all) least resilience) (begin m least resilience)
 unfolding begin
 alike_begin all m least resilience h =
     let stamp = next_stamp m in
-    alike_answered _ _ _ _ (agrees_decide all (with_promise m stamp) (new_ballot stamp least (min resilience 15)) (keeps_promised all m stamp h))
-    (λ a n k. ap (λ to. with_letter to (invite_of n) []) (same_others all m h))
+    alike_answered _ _ _ _ (agrees_decide all (with_promise m stamp) (new_ballot stamp least (min resilience 15)) (keeps_log_by_promise all m stamp h))
+    (λ a n k. ap (λ to. with_letter to (invite_of n) []) (others_on_whole_log all m h))
 
-pub alike_keep_vote : (all : Log) (m : Node) (b : Ballot) (name : ℕ) (vote : Vote) → Keeps all m
-    → Alike (keep_vote (with_log m all) b name vote) (keep_vote m b name vote)
+pub keep_vote_is_alike : (all : Log) (m : Node) (b : Ballot) (name : ℕ) (vote : Vote) → KeepsEndOfLog all m
+    → PlansAreAlike (keep_vote (with_log m all) b name vote) (keep_vote m b name vote)
 unfolding keep_vote
-alike_keep_vote all m b name vote h =
+keep_vote_is_alike all m b name vote h =
     let new = with_vote b name vote in
     let a = agrees_decide all m new h in
     let needed : newly_needed (with_log m all) b new ≡ newly_needed m b new = λ i. those (λ other. not (has_voted m.core.who new other))
@@ -150,28 +150,28 @@ alike_keep_vote all m b name vote h =
     (λ o. with_fetch o (with_log n l) (with_letter (newly_needed (with_log m all) b new) (invite_of n) [])) a.outcome ∙ with_fetch_same l n
     (decide m new).outcome _ _ k (ap (λ to. with_letter to (invite_of n) []) needed))
 
-pub alike_give_up : (all : Log) (m : Node) (b : Ballot) (name : ℕ) → Keeps all m → Alike (give_up (with_log m all) b name) (give_up m b name)
+alike_give_up : (all : Log) (m : Node) (b : Ballot) (name : ℕ) → KeepsEndOfLog all m → PlansAreAlike (give_up (with_log m all) b name) (give_up m b name)
 unfolding give_up
 alike_give_up all m b name h =
     let a = agrees_decide all m (without_voter b name) h in
     alike_answered _ _ _ _ a (λ l n k. ap (λ o. with_fetch o (with_log n l) []) a.outcome ∙ with_fetch_same l n
     (decide m (without_voter b name)).outcome [] [] k refl)
 
-pub alike_fetched_for : (all : Log) (m : Node) (b : Ballot) → Keeps all m → Alike (decide_anew b (with_log m all)) (decide_anew b m)
-alike_fetched_for all m b h = alike_answered _ _ _ _ (agrees_decide all m b h) (λ l n k. refl)
+pub decide_anew_is_alike : (all : Log) (m : Node) (b : Ballot) → KeepsEndOfLog all m → PlansAreAlike (decide_anew b (with_log m all)) (decide_anew b m)
+decide_anew_is_alike all m b h = alike_answered _ _ _ _ (agrees_decide all m b h) (λ l n k. refl)
 
-pub alike_reset : (all : Log) (m : Node) (least resilience : ℕ) → Keeps all m
-    → Alike (reset_row (with_log m all) least resilience) (reset_row m least resilience)
+pub reset_is_alike : (all : Log) (m : Node) (least resilience : ℕ) → KeepsEndOfLog all m
+    → PlansAreAlike (reset_row (with_log m all) least resilience) (reset_row m least resilience)
 unfolding reset_row
-alike_reset all m least resilience h =
-    alike_if _ _ _ _ _ _ (reads all m (λ i t. not (is_member m.status && has (members_of i) m.core.who)) h) (λ t. alike_quiet all m _ _ h refl)
-    (λ f. alike_case m.leaving _ _ _ _ (λ t. alike_quiet all m _ _ h refl)
+reset_is_alike all m least resilience h =
+    same_test_branches_are_alike _ _ _ _ _ _ (reading_on_whole_log all m (λ i t. not (is_member m.status && has (members_of i) m.core.who)) h) (λ t. quiet_is_alike all m _ _ h refl)
+    (λ f. both_branches_are_alike m.leaving _ _ _ _ (λ t. quiet_is_alike all m _ _ h refl)
     (λ g. alike_begin all m least resilience h))
 
-pub alike_give_up_of : (all : Log) (m : Node) (name : ℕ) (b : Option Ballot) → Keeps all m → Alike (give_up_of (with_log m all) name b) (give_up_of m name b)
-alike_give_up_of all m name None h = alike_quiet all m _ _ h refl
-alike_give_up_of all m name (Some b) h = search (alike, alike_give_up)
+alike_give_up_of : (all : Log) (m : Node) (name : ℕ) (b : Option Ballot) → KeepsEndOfLog all m → PlansAreAlike (give_up_of (with_log m all) name b) (give_up_of m name b)
+alike_give_up_of all m name None h = quiet_is_alike all m _ _ h refl
+alike_give_up_of all m name (Some b) h = search (plan_alike_rules, alike_give_up)
 
-pub alike_give_up_row : (all : Log) (m : Node) (name : ℕ) → Keeps all m → Alike (give_up_row (with_log m all) name) (give_up_row m name)
+pub give_up_row_is_alike : (all : Log) (m : Node) (name : ℕ) → KeepsEndOfLog all m → PlansAreAlike (give_up_row (with_log m all) name) (give_up_row m name)
 unfolding give_up_row
-alike_give_up_row all m name h = alike_give_up_of all m name m.ballot h
+give_up_row_is_alike all m name h = alike_give_up_of all m name m.ballot h

@@ -11,21 +11,21 @@ pub use Rattle.am_base.specs.declared.entry.Entry.TheVariants.{View, Data, Leave
 pub use Rattle.am_base.specs.Lists.{Log, members_of, with_entry, row_of, entry_at, fits, told_by, image_at, at_place}
 pub use Rattle.am_packet.specs.{Boxes.Letter, Boxes.with_letter, declared.packet.Packet.Packet}
 pub use Rattle.am_packet.specs.Reading.{Read, reading}
-pub use Rattle.am_state.proofs.{Folds.split, Ends.end-self, Ends.end-top, Ends.end-told, Ends.end-image, Ends.end-entry, Ends.end-push, CoreLaws.since_whole}
-pub use Rattle.am_state.specs.{Kept.IsEnd, Cores.IsInOrder, Cores.CoreState, Cores.whole, Cores.since_accepted}
-unfoldable pub use Rattle.am_state.specs.Cores.{accept, pass_over}
-pub use Rattle.am_state.specs.{Reports.least_of, Reports.least_taken, Refresh.Led, Refresh.base_after, Refresh.go_up, Refresh.whole_led}
-unfoldable pub use Rattle.am_state.specs.Refresh.{own_report, tell, go_on, let_go}
-pub use Rattle.am_state.proofs.Refreshes.{go_up_whole}
-pub use Rattle.am_state.specs.Bodies.{is_of, keep_body}
-pub use Rattle.am_state.specs.declared.sender.OwnSend.{OwnSend}
+pub use Rattle.am_node_defs.proofs.{Folds.split_on_bool_of_log, Ends.log_is_own_end, Ends.top_of_end_is_top, Ends.told_by_end_is_told, Ends.image_at_end_is_image, Ends.entry_at_end_is_entry, Ends.end_stays_by_push, CoreLaws.since_accepted_reads_kept_end}
+pub use Rattle.am_node_defs.specs.{Kept.IsEnd, Cores.IsInOrder, Cores.CoreState, Cores.whole_core, Cores.since_accepted}
+unfoldable pub use Rattle.am_node_defs.specs.Cores.{accept, pass_over}
+pub use Rattle.am_node_defs.specs.{Reports.least_of, Reports.least_taken, Refresh.Led, Refresh.base_after, Refresh.go_up, Refresh.whole_led}
+unfoldable pub use Rattle.am_node_defs.specs.Refresh.{own_report, tell, go_on, let_go}
+pub use Rattle.am_node_defs.proofs.Refreshes.{go_up_on_whole_log}
+pub use Rattle.am_node_defs.specs.Bodies.{is_body_of, keep_body}
+pub use Rattle.am_node_defs.specs.declared.sender.OwnSend.{OwnSend}
 pub use Rattle.am_model.specs.{Ends.with_log, Ends.StepsAlike, Ends.EndsStepAlike, Ends.IsEndOf, Ends.ComesTo, Ends.Does, declared.status.Status.Status}
 pub use Rattle.am_model.specs.{Hearing.hears_member, Hearing.hears_in_view, Hearing.hears_as_sequencer, Hearing.hears_sequencer, Hearing.where_heard, Hearing.passes}
 pub use Rattle.am_model.specs.{Hearing.heard_row}
-pub use Rattle.am_model.specs.{Step.read_row, Refresh.advance, Refresh.led_of, Refresh.is_data_of, Refresh.accepted_at, Refresh.settle_at}
+pub use Rattle.am_model.specs.{Step.read_row, Refresh.advance_node, Refresh.led_of, Refresh.is_data_of, Refresh.accepted_at, Refresh.settle_at}
 pub use Rattle.am_model.specs.{Refresh.settle_waiting, declared.status.Status.TheVariants.Departed}
 pub use Rattle.am_model.specs.Node.{Node, Ballot, top, image_of, those, is_member, push_entry, only_name, view, others, lowest_or_first, acts, is_sequencer}
-pub use Rattle.am_model.specs.Node.{has_room, waiting, unsettled_count, has_own_leave, is_within_bound, trim_up_to, entries_above, report_fits, with_report}
+pub use Rattle.am_model.specs.Node.{has_room, waiting, node_unsettled_count, has_own_leave, is_within_bound, trim_up_to, entries_above, report_fits, node_with_report}
 pub use Rattle.am_model.specs.Emit.{invite_of, result_of, Plan, bcast_of, join_ask_of, leave_ask_of, fetch_of, ack_of, nack_of, piece_of}
 pub use Rattle.am_model.specs.Emit.{Step, quiet, telling, polling, and_telling, and_where, numbering, request_of, spread_of, hold_of, welcome_of}
 pub use Rattle.am_model.specs.Emit.{with_accept, order_of, gone_of, entries_to_serve}
@@ -38,8 +38,8 @@ pub use Rattle.am_model.specs.Resets.{hears_result}
 pub use Rattle.am_model.specs.Ticks.{tick_ballot, tick_promised, tick_member, put_off, behind_view, viewed_by, and_result, tick_sequencer, tick_acting}
 pub use Rattle.am_model.specs.Ticks.{tick_with, tick_by}
 pub use Rattle.am_model.specs.Sequencing.{if_risen, row_at, is_unknown, take_report, number_data, answer_request, serve, serve_again}
-pub use Rattle.am_model.specs.Receiving.{body_of, bodies_after, is_view, with_noted, acknowledges, store_fitting, store, receive_entry, data_of, answer_hold}
-pub use Rattle.am_model.specs.Joining.{with_admitted, number_join, asks_to_join, begin_list, ask_next, all_stored, may_go, and_gone, asks_to_leave}
+pub use Rattle.am_model.specs.Receiving.{body_of, bodies_after, is_view, with_noted, acknowledges, store_fitting, store, receive_entry, data_entry_of, answer_hold}
+pub use Rattle.am_model.specs.Joining.{node_with_admitted, number_join, asks_to_join, begin_list, ask_next, all_stored, may_go, and_gone, asks_to_leave}
 unfoldable pub use Rattle.am_model.specs.{Emit.put_all, Emit.finish, Ballots.best_of, Ballots.decide, Ballots.begin, Ballots.keep_vote, Ballots.give_up, Resets.invite_row}
 unfoldable pub use Rattle.am_model.specs.{Resets.vote_row, Resets.fetch_row, Resets.piece_row, Resets.result_row, Ticks.tick_row}
 unfoldable pub use Rattle.am_model.specs.{Sequencing.request_row, Sequencing.ack_row, Sequencing.nack_row, Receiving.spread_row, Receiving.bcast_row}

@@ -15,12 +15,12 @@ first_is p (zero ∷ lives) some =
     (suc h.0, omega arith, h.2, h.3 ∙ ap (λ n. Some (name_at n (get_or lives h.0 0))) z)
 first_is p (suc before ∷ lives) some = let z : p ≡ p + 0 = omega arith in (0, omega arith, omega arith, ap (λ n. Some (name_at n (suc before))) z)
 
-pub record FirstFounder (rules : Rules) : Type 0 where
+pub record LowestFounderFounds (rules : Rules) : Type 0 where
   pub few : lowest_or_first rules.founders < 16
   pub founds : has rules.founders (lowest_or_first rules.founders) ≡ true
 
-pub first_founder : (rules : Rules) → MayFound rules → FirstFounder rules
-first_founder rules may =
+pub lowest_founder_founds : (rules : Rules) → MayFound rules → LowestFounderFounds rules
+lowest_founder_founds rules may =
     let h = first_is 0 rules.founders may.somebody in
     let within = h.1 in
     let above = h.2 in

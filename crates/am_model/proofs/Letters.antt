@@ -9,153 +9,153 @@ use Rattle.am_model.proofs.EndWords.{put_off, behind_view, viewed_by, and_result
 use Rattle.am_model.proofs.EndWords.{ask_of, give_up_of}
 use Rattle.am_base.specs.declared.outcome.Outcome.TheVariants as said
 use Rattle.am_model.specs.declared.status.Status.TheVariants as status
-use Rattle.am_base.proofs.Greatest.{split}
+use Rattle.am_base.proofs.Greatest.{split_on_bool}
 
 -- one more at most
-pub one_more : (to : List ℕ) (p : Packet) (letters : List Letter) → length (with_letter to p letters) ≤ length letters + 1
-one_more to p letters = split (size to == 0)
+pub with_letter_adds_one : (to : List ℕ) (p : Packet) (letters : List Letter) → length (with_letter to p letters) ≤ length letters + 1
+with_letter_adds_one to p letters = split_on_bool (size to == 0)
     (λ t. rw t (omega arith))
     (λ f. rw f (let e = length-insert letters (place_for (kind_of p) letters) (letter_to to p) (simp length-take (omega arith)) in omega arith))
 
-pub all_more : (f : ℕ → Entry → Packet) (to : List ℕ) (number : ℕ) (es : List Entry) (letters : List Letter)
+pub put_all_adds_entries : (f : ℕ → Entry → Packet) (to : List ℕ) (number : ℕ) (es : List Entry) (letters : List Letter)
     → length (put_all f to number es letters) ≤ length letters + length es
 unfolding put_all
-all_more f to number [] letters = omega arith
-all_more f to number (e ∷ es) letters =
-    let h = all_more f to (number + 1) es (with_letter to (f number e) letters) in
-    let k = one_more to (f number e) letters in omega arith
+put_all_adds_entries f to number [] letters = omega arith
+put_all_adds_entries f to number (e ∷ es) letters =
+    let h = put_all_adds_entries f to (number + 1) es (with_letter to (f number e) letters) in
+    let k = with_letter_adds_one to (f number e) letters in omega arith
 
 -- a plan with at most so many letters before the Accept
-pub record Few (most : ℕ) (p : Plan) : Type 0 where
+pub record SendsAtMost (most : ℕ) (p : Plan) : Type 0 where
   pub each : (n : Node) → length (p.letters n) ≤ most
 
-pub few_if : (most : ℕ) (b : Bool) (p q : Plan) → Few most p → Few most q → Few most (if b then p else q)
-few_if most true p q f g = f
-few_if most false p q f g = g
+pub sends_at_most_in_branches : (most : ℕ) (b : Bool) (p q : Plan) → SendsAtMost most p → SendsAtMost most q → SendsAtMost most (if b then p else q)
+sends_at_most_in_branches most true p q f g = f
+sends_at_most_in_branches most false p q f g = g
 
-pub few_quiet : (most : ℕ) (m : Node) (o : Outcome) → Few most (quiet m o)
-few_quiet most m o = record { each = λ n. omega arith }
+pub quiet_sends_at_most : (most : ℕ) (m : Node) (o : Outcome) → SendsAtMost most (quiet m o)
+quiet_sends_at_most most m o = record { each = λ n. omega arith }
 
-pub few_telling : (most : ℕ) (m : Node) (o : Outcome) (to : List ℕ) (f : Node → Packet) → 1 ≤ most → Few most (telling m o to f)
-few_telling most m o to f l = record { each = λ n. (let h = one_more to (f n) [] in omega arith) }
+pub telling_sends_at_most : (most : ℕ) (m : Node) (o : Outcome) (to : List ℕ) (f : Node → Packet) → 1 ≤ most → SendsAtMost most (telling m o to f)
+telling_sends_at_most most m o to f l = record { each = λ n. (let h = with_letter_adds_one to (f n) [] in omega arith) }
 
-pub few_numbering : (most : ℕ) (m : Node) (e : Entry) (o : Outcome) (f : Node → Packet) → 1 ≤ most → Few most (numbering m e o f)
-few_numbering most m e o f l = record { each = λ n. (let h = one_more (others m) (f n) [] in omega arith) }
+pub numbering_sends_at_most : (most : ℕ) (m : Node) (e : Entry) (o : Outcome) (f : Node → Packet) → 1 ≤ most → SendsAtMost most (numbering m e o f)
+numbering_sends_at_most most m e o f l = record { each = λ n. (let h = with_letter_adds_one (others m) (f n) [] in omega arith) }
 
-pub few_polling : (most : ℕ) (m : Node) (o : Outcome) → Few most (polling m o)
-few_polling most m o = record { each = λ n. omega arith }
+pub polling_sends_at_most : (most : ℕ) (m : Node) (o : Outcome) → SendsAtMost most (polling m o)
+polling_sends_at_most most m o = record { each = λ n. omega arith }
 
-pub few_and : (most less : ℕ) (p : Plan) (to : List ℕ) (f : Node → Packet) → less < most → Few less p → Few most (and_telling p to f)
-few_and most less p to f low h = record { each = λ n. (let k = one_more to (f n) (p.letters n) in let l = h.each n in omega arith) }
+pub and_telling_sends_one_more : (most less : ℕ) (p : Plan) (to : List ℕ) (f : Node → Packet) → less < most → SendsAtMost less p → SendsAtMost most (and_telling p to f)
+and_telling_sends_one_more most less p to f low h = record { each = λ n. (let k = with_letter_adds_one to (f n) (p.letters n) in let l = h.each n in omega arith) }
 
-pub few_where : (most less : ℕ) (test : Node → Bool) (p : Plan) (to : List ℕ) (f : Node → Packet) → less < most → Few less p → Few most (and_where test p to f)
-few_where most less test p to f low h = record {
-  each = λ n. (let k = one_more to (f n) (p.letters n) in let l = h.each n in
-      split (test n) (λ t. rw t (omega arith)) (λ u. rw u (omega arith)));
+pub and_where_sends_one_more : (most less : ℕ) (test : Node → Bool) (p : Plan) (to : List ℕ) (f : Node → Packet) → less < most → SendsAtMost less p → SendsAtMost most (and_where test p to f)
+and_where_sends_one_more most less test p to f low h = record {
+  each = λ n. (let k = with_letter_adds_one to (f n) (p.letters n) in let l = h.each n in
+      split_on_bool (test n) (λ t. rw t (omega arith)) (λ u. rw u (omega arith)));
 }
 
-pub ruleset few = (few_if, few_quiet, few_telling, few_numbering, few_polling, arith)
+pub ruleset plan_letter_rules = (sends_at_most_in_branches, quiet_sends_at_most, telling_sends_at_most, numbering_sends_at_most, polling_sends_at_most, arith)
 
 -- ---- the calls
 
-pub few_emit : (most : ℕ) (m : Node) (w : Option OwnSend) (o : Outcome) → 1 ≤ most → Few most (emit m w o)
-few_emit most m None o l = few_quiet most m o
-few_emit most m (Some s) o l = search few
+pub emit_sends_at_most : (most : ℕ) (m : Node) (w : Option OwnSend) (o : Outcome) → 1 ≤ most → SendsAtMost most (emit m w o)
+emit_sends_at_most most m None o l = quiet_sends_at_most most m o
+emit_sends_at_most most m (Some s) o l = search plan_letter_rules
 
-pub few_given : (m : Node) (e : Option Entry) → Few 8 (give_out m e)
-few_given m None = search few
-few_given m (Some e) = search few
+pub give_out_sends_few : (m : Node) (e : Option Entry) → SendsAtMost 8 (give_out m e)
+give_out_sends_few m None = search plan_letter_rules
+give_out_sends_few m (Some e) = search plan_letter_rules
 
 -- leaving adds one letter
-pub few_same : (most less : ℕ) (p q : Plan) → less ≤ most → p.letters ≡ q.letters → Few less p → Few most q
+few_same : (most less : ℕ) (p q : Plan) → less ≤ most → p.letters ≡ q.letters → SendsAtMost less p → SendsAtMost most q
 few_same most less p q low e h = record { each = λ n. (let l = h.each n in let k = ap (λ (f : Node → List Letter). length (f n)) e in omega arith) }
 
-pub few_go : (most less : ℕ) (p : Plan) → less < most → Few less p → Few most (go p)
+few_go : (most less : ℕ) (p : Plan) → less < most → SendsAtMost less p → SendsAtMost most (go p)
 few_go most less p low h =
-    split (not (is_sequencer p.node)) (λ t. rw t (few_and most less p (others p.node) leave_ask_of low h))
-    (λ f. rw f (split (nat_lt 0 (size (others p.node))) (λ t. rw t (few_and most less p (only_name (lowest_or_first (others p.node))) hand_over_of low h))
-    (λ g. rw g (split (has_room p.node) (λ t. rw t (few_same most less p _ (omega arith) refl h)) (λ k. rw k (few_same most less p _ (omega arith) refl h))))))
+    split_on_bool (not (is_sequencer p.node)) (λ t. rw t (and_telling_sends_one_more most less p (others p.node) leave_ask_of low h))
+    (λ f. rw f (split_on_bool (nat_lt 0 (size (others p.node))) (λ t. rw t (and_telling_sends_one_more most less p (only_name (lowest_or_first (others p.node))) hand_over_of low h))
+    (λ g. rw g (split_on_bool (has_room p.node) (λ t. rw t (few_same most less p _ (omega arith) refl h)) (λ k. rw k (few_same most less p _ (omega arith) refl h))))))
 
-pub few_leave_now : (m : Node) → Few 8 (leave_now m)
+few_leave_now : (m : Node) → SendsAtMost 8 (leave_now m)
 few_leave_now m =
-    let h = few_go 8 7 (quiet (record m { leaving = true }) said.Asked) (omega arith) (few_quiet 7 (record m { leaving = true }) said.Asked) in
-    search (few, h)
+    let h = few_go 8 7 (quiet (record m { leaving = true }) said.Asked) (omega arith) (quiet_sends_at_most 7 (record m { leaving = true }) said.Asked) in
+    search (plan_letter_rules, h)
 
-pub few_leave_by : (m : Node) (s : Status) → Few 8 (leave_by m s)
-few_leave_by m status.Member = few_leave_now m
-few_leave_by m _ = search few
+pub leave_by_sends_at_most : (m : Node) (s : Status) → SendsAtMost 8 (leave_by m s)
+leave_by_sends_at_most m status.Member = few_leave_now m
+leave_by_sends_at_most m _ = search plan_letter_rules
 
 -- ---- ballots
 
 with_result_more : (o : Outcome) (n : Node) (letters : List Letter) → length (with_result o n letters) ≤ length letters + 1
-with_result_more (said.Decided number names) n letters = one_more (without_name names n.core.who) (result_of n number names (image_of n).resilience) letters
+with_result_more (said.Decided number names) n letters = with_letter_adds_one (without_name names n.core.who) (result_of n number names (image_of n).resilience) letters
 with_result_more _ n letters = omega arith
 
 with_fetch_more : (o : Outcome) (n : Node) (letters : List Letter) → length (with_fetch o n letters) ≤ length letters + 1
-with_fetch_more (said.Fetching from want) n letters = one_more (only_name from) (fetch_of n) letters
+with_fetch_more (said.Fetching from want) n letters = with_letter_adds_one (only_name from) (fetch_of n) letters
 with_fetch_more _ n letters = omega arith
 
-pub few_answered : (most less : ℕ) (v : Verdict) (letters : Node → List Letter) → less < most → ((n : Node) → length (letters n) ≤ less)
-    → Few most (verdict_plan v letters)
-few_answered most less v letters low h = record { each = λ n. (let k = h n in let l = with_result_more v.outcome n (letters n) in omega arith) }
+pub verdict_plan_sends_one_more : (most less : ℕ) (v : Verdict) (letters : Node → List Letter) → less < most → ((n : Node) → length (letters n) ≤ less)
+    → SendsAtMost most (verdict_plan v letters)
+verdict_plan_sends_one_more most less v letters low h = record { each = λ n. (let k = h n in let l = with_result_more v.outcome n (letters n) in omega arith) }
 
-pub few_begin : (m : Node) (least resilience : ℕ) → Few 8 (begin m least resilience)
+pub begin_sends_at_most : (m : Node) (least resilience : ℕ) → SendsAtMost 8 (begin m least resilience)
 unfolding begin
-few_begin m least resilience = few_answered 8 1 (decide (with_promise m (next_stamp m)) (new_ballot (next_stamp m) least (min resilience 15)))
-    (λ n. with_letter (others m) (invite_of n) []) (omega arith) (λ n. one_more (others m) (invite_of n) [])
+begin_sends_at_most m least resilience = verdict_plan_sends_one_more 8 1 (decide (with_promise m (next_stamp m)) (new_ballot (next_stamp m) least (min resilience 15)))
+    (λ n. with_letter (others m) (invite_of n) []) (omega arith) (λ n. with_letter_adds_one (others m) (invite_of n) [])
 
-pub few_keep_vote : (m : Node) (b : Ballot) (name : ℕ) (vote : Vote) → Few 8 (keep_vote m b name vote)
+pub keep_vote_sends_at_most : (m : Node) (b : Ballot) (name : ℕ) (vote : Vote) → SendsAtMost 8 (keep_vote m b name vote)
 unfolding keep_vote
-few_keep_vote m b name vote =
+keep_vote_sends_at_most m b name vote =
     let new = with_vote b name vote in
     let verdict = decide m new in
-    few_answered 8 2 verdict (λ n. with_fetch verdict.outcome n (with_letter (newly_needed m b new) (invite_of n) [])) (omega arith)
-    (λ n. (let k = one_more (newly_needed m b new) (invite_of n) [] in
+    verdict_plan_sends_one_more 8 2 verdict (λ n. with_fetch verdict.outcome n (with_letter (newly_needed m b new) (invite_of n) [])) (omega arith)
+    (λ n. (let k = with_letter_adds_one (newly_needed m b new) (invite_of n) [] in
     let l = with_fetch_more verdict.outcome n (with_letter (newly_needed m b new) (invite_of n) []) in omega arith))
 
-pub few_give_up : (m : Node) (b : Ballot) (name : ℕ) → Few 8 (give_up m b name)
+few_give_up : (m : Node) (b : Ballot) (name : ℕ) → SendsAtMost 8 (give_up m b name)
 unfolding give_up
 few_give_up m b name =
     let verdict = decide m (without_voter b name) in
-    few_answered 8 1 verdict (λ n. with_fetch verdict.outcome n []) (omega arith) (λ n. with_fetch_more verdict.outcome n [])
+    verdict_plan_sends_one_more 8 1 verdict (λ n. with_fetch verdict.outcome n []) (omega arith) (λ n. with_fetch_more verdict.outcome n [])
 
-pub few_ask_of : (m : Node) (round : ℕ) (b : Option Ballot) → Few 8 (ask_of m round b)
-few_ask_of m round None = search few
-few_ask_of m round (Some b) = search few
+pub ask_of_sends_at_most : (m : Node) (round : ℕ) (b : Option Ballot) → SendsAtMost 8 (ask_of m round b)
+ask_of_sends_at_most m round None = search plan_letter_rules
+ask_of_sends_at_most m round (Some b) = search plan_letter_rules
 
-pub few_give_up_of : (m : Node) (name : ℕ) (b : Option Ballot) → Few 8 (give_up_of m name b)
-few_give_up_of m name None = search few
-few_give_up_of m name (Some b) = search (few, few_give_up)
+pub give_up_of_sends_few : (m : Node) (name : ℕ) (b : Option Ballot) → SendsAtMost 8 (give_up_of m name b)
+give_up_of_sends_few m name None = search plan_letter_rules
+give_up_of_sends_few m name (Some b) = search (plan_letter_rules, few_give_up)
 
 -- ---- the tick
 
-pub few_tick_ballot : (m : Node) (o : Outcome) → Few 8 (tick_ballot m o)
-few_tick_ballot m (said.Waiting names) = search few
-few_tick_ballot m (said.Fetching from want) = search few
-few_tick_ballot m _ = search few
+few_tick_ballot : (m : Node) (o : Outcome) → SendsAtMost 8 (tick_ballot m o)
+few_tick_ballot m (said.Waiting names) = search plan_letter_rules
+few_tick_ballot m (said.Fetching from want) = search plan_letter_rules
+few_tick_ballot m _ = search plan_letter_rules
 
-pub few_tick_member : (m : Node) → Few 8 (tick_member m)
-few_tick_member m = let h = few_go 8 7 (quiet m said.Ticked) (omega arith) (few_quiet 7 m said.Ticked) in search (few, few_emit, h)
+few_tick_member : (m : Node) → SendsAtMost 8 (tick_member m)
+few_tick_member m = let h = few_go 8 7 (quiet m said.Ticked) (omega arith) (quiet_sends_at_most 7 m said.Ticked) in search (plan_letter_rules, emit_sends_at_most, h)
 
-pub few_result : (most less : ℕ) (p : Plan) → less < most → Few less p → Few most (and_result p)
+few_result : (most less : ℕ) (p : Plan) → less < most → SendsAtMost less p → SendsAtMost most (and_result p)
 few_result most less p low h = record {
   each = λ n. (let k = h.each n in
-      let l = one_more (behind_view n) (result_of n (image_of n).view_number (viewed_by (entry_at n.core.log (image_of n).view_number)) (image_of n).resilience)
+      let l = with_letter_adds_one (behind_view n) (result_of n (image_of n).view_number (viewed_by (entry_at n.core.log (image_of n).view_number)) (image_of n).resilience)
       (p.letters n) in omega arith);
 }
 
-pub few_tick_sequencer : (m : Node) → Few 8 (tick_sequencer m)
+few_tick_sequencer : (m : Node) → SendsAtMost 8 (tick_sequencer m)
 few_tick_sequencer m =
     let p = record (emit m (waiting m) (put_off m (waiting m))) { polls = true } in
     let h = few_result 7 6 p (omega arith) (few_same 6 6 (emit m (waiting m) (put_off m (waiting m))) p (omega arith) refl
-    (few_emit 6 m (waiting m) (put_off m (waiting m)) (omega arith))) in
-    few_if 8 m.leaving (go (and_result p)) (and_result p) (few_go 8 7 (and_result p) (omega arith) h)
+    (emit_sends_at_most 6 m (waiting m) (put_off m (waiting m)) (omega arith))) in
+    sends_at_most_in_branches 8 m.leaving (go (and_result p)) (and_result p) (few_go 8 7 (and_result p) (omega arith) h)
     (few_same 8 7 (and_result p) (and_result p) (omega arith) refl h)
 
-pub few_tick_with : (m : Node) (b : Option Ballot) → Few 8 (tick_with m b)
-few_tick_with m None = search (few, few_tick_sequencer, few_tick_member)
-few_tick_with m (Some b) = search (few, few_tick_sequencer, few_tick_member, few_tick_ballot)
+few_tick_with : (m : Node) (b : Option Ballot) → SendsAtMost 8 (tick_with m b)
+few_tick_with m None = search (plan_letter_rules, few_tick_sequencer, few_tick_member)
+few_tick_with m (Some b) = search (plan_letter_rules, few_tick_sequencer, few_tick_member, few_tick_ballot)
 
-pub few_tick_by : (m : Node) (s : Status) → Few 8 (tick_by m s)
-few_tick_by m status.Member = few_tick_with m m.ballot
-few_tick_by m _ = search few
+pub tick_by_sends_at_most : (m : Node) (s : Status) → SendsAtMost 8 (tick_by m s)
+tick_by_sends_at_most m status.Member = few_tick_with m m.ballot
+tick_by_sends_at_most m _ = search plan_letter_rules

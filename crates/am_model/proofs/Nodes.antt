@@ -1,31 +1,31 @@
 -- A node and the same node with all of a list: what they tell, and what the refresh makes of them.
 use Rattle.am_model.proofs.EndWords.{[], ◌≡◌, ℕ, ◌+◌, ◌-◌, ◌<◌, ◌≤◌, List, ◌∷◌, length-append, drop, take, position, refl, sym, ◌∙◌, ap, arith, Option, Some, None}
 use Rattle.am_model.proofs.EndWords.{true, false, ◌&&◌, ◌==◌, drop-drop, Entry, Image, Log, told_by, image_at, entry_at, with_entry, stamp_eq, IsEnd, IsInOrder}
-use Rattle.am_model.proofs.EndWords.{CoreState, whole, accept, pass_over, since_accepted, split, end-top, end-told, end-image, end-entry, end-push, since_whole}
-use Rattle.am_model.proofs.EndWords.{least_taken, Led, own_report, tell, go_on, let_go, base_after, go_up, whole_led, go_up_whole, OwnSend, Node, is_member}
-use Rattle.am_model.proofs.EndWords.{top, image_of, is_sequencer, waiting, entries_above, push_entry, trim_up_to, advance, lead, refresh, led_of, is_data_of}
+use Rattle.am_model.proofs.EndWords.{CoreState, whole_core, accept, pass_over, since_accepted, split_on_bool_of_log, top_of_end_is_top, told_by_end_is_told, image_at_end_is_image, entry_at_end_is_entry, end_stays_by_push, since_accepted_reads_kept_end}
+use Rattle.am_model.proofs.EndWords.{least_taken, Led, own_report, tell, go_on, let_go, base_after, go_up, whole_led, go_up_on_whole_log, OwnSend, Node, is_member}
+use Rattle.am_model.proofs.EndWords.{top, image_of, is_sequencer, waiting, entries_above, push_entry, trim_up_to, advance_node, lead, refresh, led_of, is_data_of}
 use Rattle.am_model.proofs.EndWords.{accepted_at, settle_at, settle_waiting, settle, refresh_at_end, with_log, IsEndOf, IsOrdered}
 
 -- the node keeps an end of this list, and its numbers stand in their order
-pub record Keeps (all : Log) (m : Node) : Type 0 where
+pub record KeepsEndOfLog (all : Log) (m : Node) : Type 0 where
   pub kept : IsEnd all m.core.log
   pub order : IsOrdered m.core
 
 -- the first node is the second with all of a list
-pub record Whole (m n : Node) : Type 0 where
+pub record IsNodeWithWholeLog (m n : Node) : Type 0 where
   pub log : Log
-  pub keeps : Keeps log n
+  pub keeps : KeepsEndOfLog log n
   pub node : m ≡ with_log n log
 
-low_acc : (all : Log) (m : Node) → Keeps all m → m.core.log.start ≤ m.core.acc
+low_acc : (all : Log) (m : Node) → KeepsEndOfLog all m → m.core.log.start ≤ m.core.acc
 low_acc all m h = let o = h.order in omega arith
 
 -- ---- what both tell
 
 -- what goes by the image and the top alone
-pub reads : {X : Type 0} (all : Log) (m : Node) (f : Image → ℕ → X) → Keeps all m → f (image_of (with_log m all)) (top (with_log m all))
+pub reading_on_whole_log : {X : Type 0} (all : Log) (m : Node) (f : Image → ℕ → X) → KeepsEndOfLog all m → f (image_of (with_log m all)) (top (with_log m all))
     ≡ f (image_of m) (top m)
-reads all m f h = ap (f (told_by all)) (sym (end-top all m.core.log h.kept)) ∙ ap (λ i. f i (top m)) (sym (end-told all m.core.log h.kept))
+reading_on_whole_log all m f h = ap (f (told_by all)) (sym (top_of_end_is_top all m.core.log h.kept)) ∙ ap (λ i. f i (top m)) (sym (told_by_end_is_told all m.core.log h.kept))
 
 entries_end : (all kept : Log) (number : ℕ) → IsEnd all kept → kept.start ≤ number
     → drop (number - all.start) all.entries ≡ drop (number - kept.start) kept.entries
@@ -35,51 +35,51 @@ entries_end all kept number is low =
     (drop (number - kept.start)) (sym is.entries)
 
 -- the end of an end
-pub end_trans : (all some kept : Log) → IsEnd all some → IsEnd some kept → IsEnd all kept
-end_trans all some kept a b =
-    let t = end-top all some a in
+pub end_of_end_is_end : (all some kept : Log) → IsEnd all some → IsEnd some kept → IsEnd all kept
+end_of_end_is_end all some kept a b =
+    let t = top_of_end_is_top all some a in
     record {
       low = omega arith;
       high = omega arith;
-      image = b.image ∙ end-image all some kept.start a b.low;
+      image = b.image ∙ image_at_end_is_image all some kept.start a b.low;
       entries = b.entries ∙ sym (entries_end all some kept.start a b.low);
     }
 
-pub same_entries : (all : Log) (m : Node) (number : ℕ) → Keeps all m → m.core.base ≤ number → entries_above (with_log m all) number ≡ entries_above m number
-same_entries all m number h low = let o = h.order in entries_end all m.core.log number h.kept (omega arith)
+pub entries_above_on_whole_log : (all : Log) (m : Node) (number : ℕ) → KeepsEndOfLog all m → m.core.base ≤ number → entries_above (with_log m all) number ≡ entries_above m number
+entries_above_on_whole_log all m number h low = let o = h.order in entries_end all m.core.log number h.kept (omega arith)
 
-pub same_entry : (all : Log) (m : Node) (number : ℕ) → Keeps all m → m.core.log.start < number → entry_at all number ≡ entry_at m.core.log number
-same_entry all m number h low = sym (end-entry all m.core.log number h.kept low)
+pub entry_at_on_whole_log : (all : Log) (m : Node) (number : ℕ) → KeepsEndOfLog all m → m.core.log.start < number → entry_at all number ≡ entry_at m.core.log number
+entry_at_on_whole_log all m number h low = sym (entry_at_end_is_entry all m.core.log number h.kept low)
 
-pub same_base : (all : Log) (m : Node) → Keeps all m → image_at all m.core.base ≡ image_at m.core.log m.core.base
-same_base all m h = sym (end-image all m.core.log m.core.base h.kept h.order.base)
+pub base_image_on_whole_log : (all : Log) (m : Node) → KeepsEndOfLog all m → image_at all m.core.base ≡ image_at m.core.log m.core.base
+base_image_on_whole_log all m h = sym (image_at_end_is_image all m.core.log m.core.base h.kept h.order.base)
 
-pub same_since : (all : Log) (m : Node) → Keeps all m → since_accepted (whole all m.core) ≡ since_accepted m.core
-same_since all m h =
+pub since_accepted_on_whole_log : (all : Log) (m : Node) → KeepsEndOfLog all m → since_accepted (whole_core all m.core) ≡ since_accepted m.core
+since_accepted_on_whole_log all m h =
     let c : CoreState = record (m.core) { base = m.core.log.start } in
-    sym (since_whole c (low_acc all m h) all (record { base = refl; kept = h.kept }))
+    sym (since_accepted_reads_kept_end c (low_acc all m h) all (record { base = refl; kept = h.kept }))
 
 -- ---- changes
 
-pub keeps_pushed : (all : Log) (m : Node) (e : Entry) → Keeps all m → Keeps (with_entry all e) (push_entry m e)
-keeps_pushed all m e h =
+pub keeps_log_by_push : (all : Log) (m : Node) (e : Entry) → KeepsEndOfLog all m → KeepsEndOfLog (with_entry all e) (push_entry m e)
+keeps_log_by_push all m e h =
     let o = h.order in
     let l = length-append m.core.log.entries (e ∷ []) in
-    record { kept = end-push all m.core.log e h.kept; order = record { base = o.base; taken = o.taken; given = o.given; accepted = omega arith } }
+    record { kept = end_stays_by_push all m.core.log e h.kept; order = record { base = o.base; taken = o.taken; given = o.given; accepted = omega arith } }
 
-pub keeps_trimmed : (all : Log) (m : Node) (base : ℕ) → Keeps all m → Keeps all (trim_up_to m base)
-keeps_trimmed all m base h = record {
+pub keeps_log_by_trim : (all : Log) (m : Node) (base : ℕ) → KeepsEndOfLog all m → KeepsEndOfLog all (trim_up_to m base)
+keeps_log_by_trim all m base h = record {
   kept = h.kept;
   order = let o = h.order in record { base = omega arith; taken = o.taken; given = o.given; accepted = o.accepted };
 }
 
 -- ---- the refresh
 
-advance_end : (all : Log) (m : Node) → Keeps all m → advance (with_log m all) ≡ with_log (advance m) all
+advance_end : (all : Log) (m : Node) → KeepsEndOfLog all m → advance_node (with_log m all) ≡ with_log (advance_node m) all
 unfolding accept pass_over
-advance_end all m h = let e = end-top all m.core.log h.kept in rw e refl
+advance_end all m h = let e = top_of_end_is_top all m.core.log h.kept in rw e refl
 
-keeps_advance : (all : Log) (m : Node) → Keeps all m → Keeps all (advance m)
+keeps_advance : (all : Log) (m : Node) → KeepsEndOfLog all m → KeepsEndOfLog all (advance_node m)
 unfolding accept pass_over
 keeps_advance all m h =
     let o = h.order in
@@ -89,7 +89,7 @@ grows_base : (o : Option ℕ) (start base : ℕ) → start ≤ base → start �
 grows_base None start base h = h
 grows_base (Some to) start base h = omega arith
 
-keeps_led : (all : Log) (m : Node) → Keeps all m → Keeps all (lead m)
+keeps_led : (all : Log) (m : Node) → KeepsEndOfLog all m → KeepsEndOfLog all (lead m)
 unfolding lead own_report tell go_on let_go accept pass_over
 keeps_led all m h =
     let o = h.order in
@@ -104,84 +104,84 @@ keeps_led all m h =
     }
 
 -- a sequencer's refresh, on all of the list as on its end
-go_up_end : (all : Log) (m : Node) → Keeps all m → go_up (led_of (with_log m all)) ≡ whole_led all (go_up (led_of m))
+go_up_end : (all : Log) (m : Node) → KeepsEndOfLog all m → go_up (led_of (with_log m all)) ≡ whole_led all (go_up (led_of m))
 unfolding own_report tell go_on accept pass_over
 go_up_end all m h =
     let s : Led = record { core = record (m.core) { base = m.core.log.start }; reports = m.reports } in
-    ap (λ (l : Led). record l { core = record (l.core) { base = m.core.base } }) (go_up_whole all s (record { base = refl; kept = h.kept }) (low_acc all m h))
+    ap (λ (l : Led). record l { core = record (l.core) { base = m.core.base } }) (go_up_on_whole_log all s (record { base = refl; kept = h.kept }) (low_acc all m h))
 
 -- what stands of the led node before the base goes on
 risen : Node → Node
 risen m = record m { core = (go_up (led_of m)).core; reports = (go_up (led_of m)).reports }
 
-keeps_risen : (all : Log) (m : Node) → Keeps all m → Keeps all (risen m)
+keeps_risen : (all : Log) (m : Node) → KeepsEndOfLog all m → KeepsEndOfLog all (risen m)
 unfolding risen own_report tell go_on accept pass_over
 keeps_risen all m h =
     let o = h.order in
     record { kept = h.kept; order = record { base = o.base; taken = grind arith; given = grind arith; accepted = omega arith } }
 
-let_go_end : (all : Log) (s : Led) → since_accepted (whole all s.core) ≡ since_accepted s.core → let_go (whole_led all s) ≡ whole_led all (let_go s)
+let_go_end : (all : Log) (s : Led) → since_accepted (whole_core all s.core) ≡ since_accepted s.core → let_go (whole_led all s) ≡ whole_led all (let_go s)
 unfolding let_go
 let_go_end all s e = ap (λ since. let l : Led = record {
   core = record
-      (whole all s.core) { base = base_after (least_taken s.reports since) s.core.base };
+      (whole_core all s.core) { base = base_after (least_taken s.reports since) s.core.base };
   reports = s.reports;
 } in l) e
 
-lead_end : (all : Log) (m : Node) → Keeps all m → lead (with_log m all) ≡ with_log (lead m) all
+lead_end : (all : Log) (m : Node) → KeepsEndOfLog all m → lead (with_log m all) ≡ with_log (lead m) all
 unfolding lead risen
 lead_end all m h = ap (λ (l : Led). let n : Node = record m { core = l.core; reports = l.reports } in n)
-    (ap let_go (go_up_end all m h) ∙ let_go_end all (go_up (led_of m)) (same_since all (risen m) (keeps_risen all m h)))
+    (ap let_go (go_up_end all m h) ∙ let_go_end all (go_up (led_of m)) (since_accepted_on_whole_log all (risen m) (keeps_risen all m h)))
 
-pub same_sequencer : (all : Log) (m : Node) → Keeps all m → is_sequencer (with_log m all) ≡ is_sequencer m
-same_sequencer all m h = reads all m (λ i t. is_member m.status && stamp_eq m.core.promise i.view && (i.view.by == m.core.who)) h
+pub is_sequencer_on_whole_log : (all : Log) (m : Node) → KeepsEndOfLog all m → is_sequencer (with_log m all) ≡ is_sequencer m
+is_sequencer_on_whole_log all m h = reading_on_whole_log all m (λ i t. is_member m.status && stamp_eq m.core.promise i.view && (i.view.by == m.core.who)) h
 
-pub refresh_end : (all : Log) (m : Node) → Keeps all m → refresh (with_log m all) ≡ with_log (refresh m) all
+pub refresh_on_whole_log : (all : Log) (m : Node) → KeepsEndOfLog all m → refresh (with_log m all) ≡ with_log (refresh m) all
 unfolding refresh
-refresh_end all m h =
-    let e = same_sequencer all m h in
-    split (is_sequencer m)
+refresh_on_whole_log all m h =
+    let e = is_sequencer_on_whole_log all m h in
+    split_on_bool_of_log (is_sequencer m)
     (λ t. let u : is_sequencer (with_log m all) ≡ true = e ∙ t in rw (t, u) (lead_end all m h))
     (λ t. let u : is_sequencer (with_log m all) ≡ false = e ∙ t in rw (t, u) (advance_end all m h))
 
-pub keeps_refresh : (all : Log) (m : Node) → Keeps all m → Keeps all (refresh m)
+pub keeps_log_by_refresh : (all : Log) (m : Node) → KeepsEndOfLog all m → KeepsEndOfLog all (refresh m)
 unfolding refresh
-keeps_refresh all m h = split (is_sequencer m) (λ t. rw t (keeps_led all m h)) (λ t. rw t (keeps_advance all m h))
+keeps_log_by_refresh all m h = split_on_bool_of_log (is_sequencer m) (λ t. rw t (keeps_led all m h)) (λ t. rw t (keeps_advance all m h))
 
 -- ---- the end of a step
 
-accepted_end : (all : Log) (m : Node) (req : ℕ) → Keeps all m → accepted_at (with_log m all) req ≡ accepted_at m req
+accepted_end : (all : Log) (m : Node) (req : ℕ) → KeepsEndOfLog all m → accepted_at (with_log m all) req ≡ accepted_at m req
 accepted_end all m req h = ap (λ (es : List Entry). position (is_data_of m.core.who req) (take (m.core.acc - m.core.base) es))
-    (same_entries all m m.core.base h (omega arith))
+    (entries_above_on_whole_log all m m.core.base h (omega arith))
 
 settled_at_end : (all : Log) (m : Node) (req : ℕ) (at : Option ℕ) → settle_at (with_log m all) req at ≡ with_log (settle_at m req at) all
 settled_at_end all m req None = refl
 settled_at_end all m req (Some k) = refl
 
-settled_end : (all : Log) (m : Node) (w : Option OwnSend) → Keeps all m → settle_waiting (with_log m all) w ≡ with_log (settle_waiting m w) all
+settled_end : (all : Log) (m : Node) (w : Option OwnSend) → KeepsEndOfLog all m → settle_waiting (with_log m all) w ≡ with_log (settle_waiting m w) all
 settled_end all m None h = refl
 settled_end all m (Some s) h = ap (settle_at (with_log m all) s.req) (accepted_end all m s.req h) ∙ settled_at_end all m s.req (accepted_at m s.req)
 
-keeps_settled_at : (all : Log) (m : Node) (req : ℕ) (at : Option ℕ) → Keeps all m → Keeps all (settle_at m req at)
+keeps_settled_at : (all : Log) (m : Node) (req : ℕ) (at : Option ℕ) → KeepsEndOfLog all m → KeepsEndOfLog all (settle_at m req at)
 keeps_settled_at all m req None h = h
 keeps_settled_at all m req (Some k) h = record { kept = h.kept; order = h.order }
 
-keeps_settled : (all : Log) (m : Node) (w : Option OwnSend) → Keeps all m → Keeps all (settle_waiting m w)
+keeps_settled : (all : Log) (m : Node) (w : Option OwnSend) → KeepsEndOfLog all m → KeepsEndOfLog all (settle_waiting m w)
 keeps_settled all m None h = h
 keeps_settled all m (Some s) h = keeps_settled_at all m s.req (accepted_at m s.req) h
 
-pub at_end : (all : Log) (m : Node) → Keeps all m → refresh_at_end (with_log m all) ≡ with_log (refresh_at_end m) all
+pub end_refresh_on_whole_log : (all : Log) (m : Node) → KeepsEndOfLog all m → refresh_at_end (with_log m all) ≡ with_log (refresh_at_end m) all
 unfolding refresh_at_end settle
-at_end all m h =
-    ap (λ n. settle_waiting n (waiting n)) (refresh_end all m h) ∙ settled_end all (refresh m) (waiting (refresh m)) (keeps_refresh all m h)
+end_refresh_on_whole_log all m h =
+    ap (λ n. settle_waiting n (waiting n)) (refresh_on_whole_log all m h) ∙ settled_end all (refresh m) (waiting (refresh m)) (keeps_log_by_refresh all m h)
 
-pub keeps_at_end : (all : Log) (m : Node) → Keeps all m → Keeps all (refresh_at_end m)
+pub keeps_log_by_end_refresh : (all : Log) (m : Node) → KeepsEndOfLog all m → KeepsEndOfLog all (refresh_at_end m)
 unfolding refresh_at_end settle
-keeps_at_end all m h = keeps_settled all (refresh m) (waiting (refresh m)) (keeps_refresh all m h)
+keeps_log_by_end_refresh all m h = keeps_settled all (refresh m) (waiting (refresh m)) (keeps_log_by_refresh all m h)
 
 -- a node and the end of it
-pub keeps_end : (all m : Node) → IsEndOf all m → IsInOrder m.core → Keeps all.core.log m
-keeps_end all m end order =
+pub end_of_node_keeps_log : (all m : Node) → IsEndOf all m → IsInOrder m.core → KeepsEndOfLog all.core.log m
+end_of_node_keeps_log all m end order =
     let base = end.stands.base in
     let given = order.given in
     record { kept = end.stands.kept; order = record { base = omega arith; taken = omega arith; given = given; accepted = order.accepted } }

@@ -5,75 +5,75 @@ use Rattle.am_model.proofs.EndWords.{others, refresh_at_end, Step, Plan, quiet, 
 use Rattle.am_model.proofs.EndWords.{ack_of, nack_of, hold_of, welcome_of, leave_ask_of, fetch_of, with_accept, finish, vote_of, with_log, IsEndOf, ComesTo}
 use Rattle.am_model.proofs.EndWords.{StepsAlike, IsOrdered}
 use Rattle.am_packet.specs.declared.packet.Packet.TheVariants as packet
-use Rattle.am_model.proofs.Nodes.{Keeps, Whole, reads, end_trans, same_base, keeps_pushed, same_sequencer, at_end, keeps_at_end}
+use Rattle.am_model.proofs.Nodes.{KeepsEndOfLog, IsNodeWithWholeLog, reading_on_whole_log, end_of_end_is_end, base_image_on_whole_log, keeps_log_by_push, is_sequencer_on_whole_log, end_refresh_on_whole_log, keeps_log_by_end_refresh}
 
 -- the first says of a node with all of a list what the second says of the node
-abbrev pub Says : {X : Type 0} → (Node → X) → (Node → X) → Type 0
-Says f g = (all : Log) (n : Node) → Keeps all n → f (with_log n all) ≡ g n
+abbrev pub SayTheSame : {X : Type 0} → (Node → X) → (Node → X) → Type 0
+SayTheSame f g = (all : Log) (n : Node) → KeepsEndOfLog all n → f (with_log n all) ≡ g n
 
-pub record Alike (p q : Plan) : Type 0 where
-  pub whole : Whole p.node q.node
+pub record PlansAreAlike (p q : Plan) : Type 0 where
+  pub whole : IsNodeWithWholeLog p.node q.node
   pub open whole use *
-  pub outcome : Says p.outcome q.outcome
-  pub letters : Says p.letters q.letters
+  pub outcome : SayTheSame p.outcome q.outcome
+  pub letters : SayTheSame p.letters q.letters
   pub polls : p.polls ≡ q.polls
   pub numbers : p.numbers ≡ q.numbers
   pub departs : p.departs ≡ q.departs
 
 -- ---- packets
 
-pub same_others : (all : Log) (m : Node) → Keeps all m → others (with_log m all) ≡ others m
-same_others all m h = reads all m (λ i t. without_name (members_of i) m.core.who) h
+pub others_on_whole_log : (all : Log) (m : Node) → KeepsEndOfLog all m → others (with_log m all) ≡ others m
+others_on_whole_log all m h = reading_on_whole_log all m (λ i t. without_name (members_of i) m.core.who) h
 
-pub says_request : (req : ℕ) (body : List ℕ) → Says (λ n. request_of n req body) (λ n. request_of n req body)
-says_request req body all n h = reads all n (λ i t. packet.Request n.core.who n.core.promise (record { stored = t; taken = n.core.taken }) req body) h
+pub request_says_the_same : (req : ℕ) (body : List ℕ) → SayTheSame (λ n. request_of n req body) (λ n. request_of n req body)
+request_says_the_same req body all n h = reading_on_whole_log all n (λ i t. packet.Request n.core.who n.core.promise (record { stored = t; taken = n.core.taken }) req body) h
 
-pub says_spread : (req : ℕ) (body : List ℕ) → Says (λ n. spread_of n req body) (λ n. spread_of n req body)
-says_spread req body all n h = reads all n (λ i t. packet.Spread n.core.who n.core.promise (record { stored = t; taken = n.core.taken }) req body) h
+pub spread_says_the_same : (req : ℕ) (body : List ℕ) → SayTheSame (λ n. spread_of n req body) (λ n. spread_of n req body)
+spread_says_the_same req body all n h = reading_on_whole_log all n (λ i t. packet.Spread n.core.who n.core.promise (record { stored = t; taken = n.core.taken }) req body) h
 
-pub says_ack : Says ack_of ack_of
-says_ack all n h = reads all n (λ i t. packet.Ack n.core.who n.core.promise (record { stored = t; taken = n.core.taken })) h
+pub ack_says_the_same : SayTheSame ack_of ack_of
+ack_says_the_same all n h = reading_on_whole_log all n (λ i t. packet.Ack n.core.who n.core.promise (record { stored = t; taken = n.core.taken })) h
 
-pub says_nack : Says nack_of nack_of
-says_nack all n h = reads all n (λ i t. packet.Nack n.core.who n.core.promise (record { stored = t; taken = n.core.taken })) h
+pub nack_says_the_same : SayTheSame nack_of nack_of
+nack_says_the_same all n h = reading_on_whole_log all n (λ i t. packet.Nack n.core.who n.core.promise (record { stored = t; taken = n.core.taken })) h
 
-pub says_leave_ask : Says leave_ask_of leave_ask_of
-says_leave_ask all n h = reads all n (λ i t. packet.LeaveAsk n.core.who n.core.promise (record { stored = t; taken = n.core.taken })) h
+pub leave_ask_says_the_same : SayTheSame leave_ask_of leave_ask_of
+leave_ask_says_the_same all n h = reading_on_whole_log all n (λ i t. packet.LeaveAsk n.core.who n.core.promise (record { stored = t; taken = n.core.taken })) h
 
-pub says_fetch : Says fetch_of fetch_of
-says_fetch all n h = reads all n (λ i t. packet.Fetch n.core.who n.core.promise t) h
+pub fetch_says_the_same : SayTheSame fetch_of fetch_of
+fetch_says_the_same all n h = reading_on_whole_log all n (λ i t. packet.Fetch n.core.who n.core.promise t) h
 
-pub says_hold : (req : ℕ) → Says (λ n. hold_of n req) (λ n. hold_of n req)
-says_hold req all n h = reads all n (λ i t. packet.Hold n.core.who n.core.promise n.core.base t req) h
+pub hold_says_the_same : (req : ℕ) → SayTheSame (λ n. hold_of n req) (λ n. hold_of n req)
+hold_says_the_same req all n h = reading_on_whole_log all n (λ i t. packet.Hold n.core.who n.core.promise n.core.base t req) h
 
-pub says_welcome : (name : ℕ) → Says (λ n. welcome_of n name) (λ n. welcome_of n name)
-says_welcome name all n h =
-    reads all n (λ i t. packet.Welcome n.core.who n.core.promise n.core.base (row_of i name).joined (image_at all n.core.base)) h
-    ∙ ap (packet.Welcome n.core.who n.core.promise n.core.base (row_of (image_of n) name).joined) (same_base all n h)
+pub welcome_says_the_same : (name : ℕ) → SayTheSame (λ n. welcome_of n name) (λ n. welcome_of n name)
+welcome_says_the_same name all n h =
+    reading_on_whole_log all n (λ i t. packet.Welcome n.core.who n.core.promise n.core.base (row_of i name).joined (image_at all n.core.base)) h
+    ∙ ap (packet.Welcome n.core.who n.core.promise n.core.base (row_of (image_of n) name).joined) (base_image_on_whole_log all n h)
 
-pub says_vote : Says vote_of vote_of
-says_vote all n h = reads all n
+pub vote_says_the_same : SayTheSame vote_of vote_of
+vote_says_the_same all n h = reading_on_whole_log all n
     (λ i t. packet.Vote n.core.who n.core.promise (record { view = i.view; top = t; taken = n.core.taken; members = members_of i })) h
 
 -- ---- plans
 
 -- by tests that say the same
-pub alike_if : (b c : Bool) (p q r s : Plan) → b ≡ c → (c ≡ true → Alike p q) → (c ≡ false → Alike r s) → Alike (if b then p else r) (if c then q else s)
-alike_if true true p q r s e f g = f refl
-alike_if true false p q r s e f g = absurd (cc)
-alike_if false true p q r s e f g = absurd (cc)
-alike_if false false p q r s e f g = g refl
+pub same_test_branches_are_alike : (b c : Bool) (p q r s : Plan) → b ≡ c → (c ≡ true → PlansAreAlike p q) → (c ≡ false → PlansAreAlike r s) → PlansAreAlike (if b then p else r) (if c then q else s)
+same_test_branches_are_alike true true p q r s e f g = f refl
+same_test_branches_are_alike true false p q r s e f g = absurd (cc)
+same_test_branches_are_alike false true p q r s e f g = absurd (cc)
+same_test_branches_are_alike false false p q r s e f g = g refl
 
 -- by one test
-pub alike_case : (b : Bool) (p q r s : Plan) → (b ≡ true → Alike p q) → (b ≡ false → Alike r s) → Alike (if b then p else r) (if b then q else s)
-alike_case b p q r s f g = alike_if b b p q r s refl f g
+pub both_branches_are_alike : (b : Bool) (p q r s : Plan) → (b ≡ true → PlansAreAlike p q) → (b ≡ false → PlansAreAlike r s) → PlansAreAlike (if b then p else r) (if b then q else s)
+both_branches_are_alike b p q r s f g = same_test_branches_are_alike b b p q r s refl f g
 
 -- a plan that numbers nothing, of a node that stays
 abbrev plan_of : Node → Bool → (Node → Outcome) → (Node → List Letter) → Plan
 plan_of n polls answer letters = record { node = n; outcome = answer; letters = letters; polls = polls; numbers = false; departs = false }
 
-alike_plan : (all : Log) (m : Node) (polls : Bool) (f g : Node → Outcome) (ls ks : Node → List Letter) → Keeps all m → Says f g → Says ls ks
-    → Alike (plan_of (with_log m all) polls f ls) (plan_of m polls g ks)
+alike_plan : (all : Log) (m : Node) (polls : Bool) (f g : Node → Outcome) (ls ks : Node → List Letter) → KeepsEndOfLog all m → SayTheSame f g → SayTheSame ls ks
+    → PlansAreAlike (plan_of (with_log m all) polls f ls) (plan_of m polls g ks)
 alike_plan all m polls f g ls ks h says sends = record {
   whole = record { log = all; keeps = h; node = refl };
   outcome = says;
@@ -83,36 +83,36 @@ alike_plan all m polls f g ls ks h says sends = record {
   departs = refl;
 }
 
-pub alike_quiet : (all : Log) (m : Node) (o w : Outcome) → Keeps all m → o ≡ w → Alike (quiet (with_log m all) o) (quiet m w)
-alike_quiet all m o w h e = alike_plan all m false (λ n. o) (λ n. w) (λ n. []) (λ n. []) h (λ a n k. e) (λ a n k. refl)
+pub quiet_is_alike : (all : Log) (m : Node) (o w : Outcome) → KeepsEndOfLog all m → o ≡ w → PlansAreAlike (quiet (with_log m all) o) (quiet m w)
+quiet_is_alike all m o w h e = alike_plan all m false (λ n. o) (λ n. w) (λ n. []) (λ n. []) h (λ a n k. e) (λ a n k. refl)
 
-pub alike_polling : (all : Log) (m : Node) (o w : Outcome) → Keeps all m → o ≡ w → Alike (polling (with_log m all) o) (polling m w)
-alike_polling all m o w h e = alike_plan all m true (λ n. o) (λ n. w) (λ n. []) (λ n. []) h (λ a n k. e) (λ a n k. refl)
+pub polling_is_alike : (all : Log) (m : Node) (o w : Outcome) → KeepsEndOfLog all m → o ≡ w → PlansAreAlike (polling (with_log m all) o) (polling m w)
+polling_is_alike all m o w h e = alike_plan all m true (λ n. o) (λ n. w) (λ n. []) (λ n. []) h (λ a n k. e) (λ a n k. refl)
 
-pub ruleset alike = (alike_if, alike_case, alike_quiet, alike_polling)
+pub ruleset plan_alike_rules = (same_test_branches_are_alike, both_branches_are_alike, quiet_is_alike, polling_is_alike)
 
 -- with an answer that the step tells
-pub alike_saying : (all : Log) (m : Node) (o w : Outcome) (f g : Node → Outcome) → Keeps all m → Says f g
-    → Alike (record (quiet (with_log m all) o) { outcome = f }) (record (quiet m w) { outcome = g })
-alike_saying all m o w f g h says = alike_plan all m false f g (λ n. []) (λ n. []) h says (λ a n k. refl)
+pub same_outcomes_are_alike : (all : Log) (m : Node) (o w : Outcome) (f g : Node → Outcome) → KeepsEndOfLog all m → SayTheSame f g
+    → PlansAreAlike (record (quiet (with_log m all) o) { outcome = f }) (record (quiet m w) { outcome = g })
+same_outcomes_are_alike all m o w f g h says = alike_plan all m false f g (λ n. []) (λ n. []) h says (λ a n k. refl)
 
 -- with letters of its own
-pub alike_sending : (all : Log) (m : Node) (o w : Outcome) (f g : Node → List Letter) → Keeps all m → o ≡ w → Says f g
-    → Alike (record (quiet (with_log m all) o) { letters = f }) (record (quiet m w) { letters = g })
-alike_sending all m o w f g h e says = alike_plan all m false (λ n. o) (λ n. w) f g h (λ a n k. e) says
+pub same_letters_are_alike : (all : Log) (m : Node) (o w : Outcome) (f g : Node → List Letter) → KeepsEndOfLog all m → o ≡ w → SayTheSame f g
+    → PlansAreAlike (record (quiet (with_log m all) o) { letters = f }) (record (quiet m w) { letters = g })
+same_letters_are_alike all m o w f g h e says = alike_plan all m false (λ n. o) (λ n. w) f g h (λ a n k. e) says
 
 -- one letter more
 more : (to at : List ℕ) (p q : Packet) (ls ks : List Letter) → to ≡ at → p ≡ q → ls ≡ ks → with_letter to p ls ≡ with_letter at q ks
 more to at p q ls ks e f g = λ i. with_letter (e i) (f i) (g i)
 
-pub alike_telling : (all : Log) (m : Node) (o w : Outcome) (to at : List ℕ) (p q : Node → Packet) → Keeps all m → o ≡ w → to ≡ at → Says p q
-    → Alike (telling (with_log m all) o to p) (telling m w at q)
-alike_telling all m o w to at p q h e f says = search (alike_plan, more)
+pub telling_is_alike : (all : Log) (m : Node) (o w : Outcome) (to at : List ℕ) (p q : Node → Packet) → KeepsEndOfLog all m → o ≡ w → to ≡ at → SayTheSame p q
+    → PlansAreAlike (telling (with_log m all) o to p) (telling m w at q)
+telling_is_alike all m o w to at p q h e f says = search (alike_plan, more)
 
 -- a plan with other letters, and the members are polled or not
-pub alike_with : (p q : Plan) (ls ks : Node → List Letter) (b c : Bool) → Alike p q → Says ls ks → b ≡ c
-    → Alike (record p { letters = ls; polls = b }) (record q { letters = ks; polls = c })
-alike_with p q ls ks b c h says same = record {
+pub replaced_letters_are_alike : (p q : Plan) (ls ks : Node → List Letter) (b c : Bool) → PlansAreAlike p q → SayTheSame ls ks → b ≡ c
+    → PlansAreAlike (record p { letters = ls; polls = b }) (record q { letters = ks; polls = c })
+replaced_letters_are_alike p q ls ks b c h says same = record {
   whole = h.whole;
   outcome = h.outcome;
   letters = says;
@@ -121,21 +121,21 @@ alike_with p q ls ks b c h says same = record {
   departs = h.departs;
 }
 
-pub alike_and : (p q : Plan) (to at : List ℕ) (f g : Node → Packet) → Alike p q → to ≡ at → Says f g → Alike (and_telling p to f) (and_telling q at g)
-alike_and p q to at f g h e says = alike_with p q (and_telling p to f).letters (and_telling q at g).letters p.polls q.polls h
+pub and_telling_is_alike : (p q : Plan) (to at : List ℕ) (f g : Node → Packet) → PlansAreAlike p q → to ≡ at → SayTheSame f g → PlansAreAlike (and_telling p to f) (and_telling q at g)
+and_telling_is_alike p q to at f g h e says = replaced_letters_are_alike p q (and_telling p to f).letters (and_telling q at g).letters p.polls q.polls h
     (λ a n k. more to at (f (with_log n a)) (g n) (p.letters (with_log n a)) (q.letters n) e (says a n k) (h.letters a n k)) h.polls
 
-pub alike_where : (t u : Node → Bool) (p q : Plan) (to at : List ℕ) (f g : Node → Packet) → Says t u → Alike p q → to ≡ at → Says f g
-    → Alike (and_where t p to f) (and_where u q at g)
-alike_where t u p q to at f g tests h e says = alike_with p q (and_where t p to f).letters (and_where u q at g).letters p.polls q.polls h
+pub and_where_is_alike : (t u : Node → Bool) (p q : Plan) (to at : List ℕ) (f g : Node → Packet) → SayTheSame t u → PlansAreAlike p q → to ≡ at → SayTheSame f g
+    → PlansAreAlike (and_where t p to f) (and_where u q at g)
+and_where_is_alike t u p q to at f g tests h e says = replaced_letters_are_alike p q (and_where t p to f).letters (and_where u q at g).letters p.polls q.polls h
     (λ a n k i. if tests a n k i then with_letter (e i) (says a n k i) (h.letters a n k i) else h.letters a n k i) h.polls
 
-pub alike_numbering : (all : Log) (m : Node) (e : Entry) (o w : Outcome) (p q : Node → Packet) → Keeps all m → o ≡ w → Says p q
-    → Alike (numbering (with_log m all) e o p) (numbering m e w q)
-alike_numbering all m e o w p q h same says = record {
-  whole = record { log = with_entry all e; keeps = keeps_pushed all m e h; node = refl };
+pub numbering_is_alike : (all : Log) (m : Node) (e : Entry) (o w : Outcome) (p q : Node → Packet) → KeepsEndOfLog all m → o ≡ w → SayTheSame p q
+    → PlansAreAlike (numbering (with_log m all) e o p) (numbering m e w q)
+numbering_is_alike all m e o w p q h same says = record {
+  whole = record { log = with_entry all e; keeps = keeps_log_by_push all m e h; node = refl };
   outcome = λ a n k. same;
-  letters = λ a n k. more (others (with_log m all)) (others m) (p (with_log n a)) (q n) [] [] (same_others all m h) (says a n k) refl;
+  letters = λ a n k. more (others (with_log m all)) (others m) (p (with_log n a)) (q n) [] [] (others_on_whole_log all m h) (says a n k) refl;
   polls = refl;
   numbers = refl;
   departs = refl;
@@ -145,7 +145,7 @@ alike_numbering all m e o w p q h same says = record {
 
 end_of : (all : Log) (n x : Node) → IsEnd all n.core.log → IsEndOf n x → IsEndOf (with_log n all) x
 end_of all n x is h = record {
-  stands = record { base = h.stands.base; kept = end_trans all n.core.log x.core.log is h.stands.kept };
+  stands = record { base = h.stands.base; kept = end_of_end_is_end all n.core.log x.core.log is h.stands.kept };
   same = ap (λ y. with_log y all) h.same;
 }
 
@@ -162,11 +162,11 @@ unfolding departed
 departed_log true all n h = h
 departed_log false all n h = h
 
-accept_alike : (all : Log) (m : Node) (p q : Plan) (a : Log) (n : Node) (ls ks : List Letter) → Alike p q → Keeps a n → ls ≡ ks
+accept_alike : (all : Log) (m : Node) (p q : Plan) (a : Log) (n : Node) (ls ks : List Letter) → PlansAreAlike p q → KeepsEndOfLog a n → ls ≡ ks
     → with_accept (with_log m all) p (with_log n a) ls ≡ with_accept m q n ks
 accept_alike all m p q a n ls ks h k e = λ i.
-    if same_sequencer a n k i && (h.polls i || (nat_lt m.core.acc n.core.acc && not (h.numbers i)))
-    then with_letter (same_others a n k i) (reads a n (λ j t. packet.Accept n.core.who n.core.promise n.core.base n.core.acc t (h.polls i)) k i) (e i)
+    if is_sequencer_on_whole_log a n k i && (h.polls i || (nat_lt m.core.acc n.core.acc && not (h.numbers i)))
+    then with_letter (others_on_whole_log a n k i) (reading_on_whole_log a n (λ j t. packet.Accept n.core.who n.core.promise n.core.base n.core.acc t (h.polls i)) k i) (e i)
     else e i
 
 departed_order : (d : Bool) (n : Node) → IsOrdered n.core → IsOrdered (departed d n).core
@@ -174,16 +174,16 @@ unfolding departed
 departed_order true n h = h
 departed_order false n h = h
 
-pub finish_ordered : (m : Node) (p q : Plan) → Alike p q → IsOrdered (finish m q).node.core
+pub finish_of_plan_is_ordered : (m : Node) (p q : Plan) → PlansAreAlike p q → IsOrdered (finish m q).node.core
 unfolding finish departed
-finish_ordered m p q h = departed_order q.departs (refresh_at_end q.node) (keeps_at_end h.log q.node h.keeps).order
+finish_of_plan_is_ordered m p q h = departed_order q.departs (refresh_at_end q.node) (keeps_log_by_end_refresh h.log q.node h.keeps).order
 
-pub finish_alike : (all : Log) (m : Node) (p q : Plan) → Alike p q → StepsAlike (finish (with_log m all) p) (finish m q)
+pub finish_of_alike_plans : (all : Log) (m : Node) (p q : Plan) → PlansAreAlike p q → StepsAlike (finish (with_log m all) p) (finish m q)
 unfolding finish departed
-finish_alike all m p q h =
+finish_of_alike_plans all m p q h =
     let n = refresh_at_end q.node in
-    let k = keeps_at_end h.log q.node h.keeps in
-    let e : refresh_at_end p.node ≡ with_log n h.log = ap refresh_at_end h.node ∙ at_end h.log q.node h.keeps in
+    let k = keeps_log_by_end_refresh h.log q.node h.keeps in
+    let e : refresh_at_end p.node ≡ with_log n h.log = ap refresh_at_end h.node ∙ end_refresh_on_whole_log h.log q.node h.keeps in
     let same : departed p.departs (refresh_at_end p.node) ≡ with_log (departed q.departs n) h.log = (λ i. departed (h.departs i) (e i))
     ∙ departed_end q.departs h.log n in
     record {
@@ -194,8 +194,8 @@ finish_alike all m p q h =
     }
 
 -- what comes to the step of the end comes to that of the whole node
-pub comes_whole : (s t : Step) (o : Outcome) (letters : List Letter) (n : Node) → StepsAlike s t → ComesTo t o letters n → ComesTo s o letters n
-comes_whole s t o letters n same comes = record {
+pub step_comes_to_whole_node : (s t : Step) (o : Outcome) (letters : List Letter) (n : Node) → StepsAlike s t → ComesTo t o letters n → ComesTo s o letters n
+step_comes_to_whole_node s t o letters n same comes = record {
   node = same.node n comes.node;
   answer = comes.answer ∙ sym same.answer;
   sent = comes.sent ∙ sym same.sent;

@@ -3,27 +3,27 @@ use Rattle.std.proofs.Common.{◌≡◌, ℕ, zero, suc, ◌+◌, ◌<◌, List,
 use Rattle.std.proofs.lemmas.Bool.Decides.{nat_tests}
 use Rattle.am_base.specs.Names.{place_of, life_of, name_at, has, size, by_place}
 use Rattle.am_base.proofs.Places.{slice_index-by_place}
-use Rattle.am_state.proofs.ReportLaws.{count_cons}
+use Rattle.am_node_defs.proofs.ReportLaws.{count_by_of_cons}
 use Rattle.am_model.specs.Node.{name_where, those}
 
 pub size_cons : (life : ℕ) (lives : List ℕ) → size (life ∷ lives) ≡ (if nat_lt 0 life then 1 else 0) + size lives
-size_cons life lives = count_cons (λ x. nat_lt 0 x) life lives
+size_cons life lives = count_by_of_cons (λ x. nat_lt 0 x) life lives
 
 -- a set with a life in it isn't empty
-pub some_size : (set : List ℕ) (place : ℕ) → 0 < slice_index set place → 0 < size set
-some_size [] place is = absurd (omega arith)
-some_size (life ∷ lives) zero is =
+pub occupied_place_counts_in_size : (set : List ℕ) (place : ℕ) → 0 < slice_index set place → 0 < size set
+occupied_place_counts_in_size [] place is = absurd (omega arith)
+occupied_place_counts_in_size (life ∷ lives) zero is =
     let t : nat_lt 0 life ≡ true = grind (arith, nat_tests) in
     let e : size (life ∷ lives) ≡ 1 + size lives = size_cons life lives ∙ ap (λ (b : Bool). (if b then 1 else 0) + size lives) t in
     omega arith
-some_size (life ∷ lives) (suc place) is =
-    let h = some_size lives place is in
+occupied_place_counts_in_size (life ∷ lives) (suc place) is =
+    let h = occupied_place_counts_in_size lives place is in
     let e = size_cons life lives in
     omega arith
 
 -- nor one with a name in it
-pub has_size : (set : List ℕ) (who : ℕ) → has set who ≡ true → 0 < size set
-has_size set who h = let is : slice_index set (place_of who) ≡ life_of who = grind (arith, nat_tests) in some_size set (place_of who) (omega arith)
+pub set_with_name_has_size : (set : List ℕ) (who : ℕ) → has set who ≡ true → 0 < size set
+set_with_name_has_size set who h = let is : slice_index set (place_of who) ≡ life_of who = grind (arith, nat_tests) in occupied_place_counts_in_size set (place_of who) (omega arith)
 
 -- the place of a name that passes has its life
 life_there : (test : ℕ → Bool) (who : ℕ) → test who ≡ true → name_where test (place_of who) (life_of who) ≡ life_of who
@@ -34,9 +34,9 @@ life_there test who t =
     rw (some, passes) refl
 
 -- a name of the set that passes is among those
-pub has_those : (test : ℕ → Bool) (set : List ℕ) (who : ℕ) → has set who ≡ true → test who ≡ true → has (those test set) who ≡ true
+pub passing_name_is_in_those : (test : ℕ → Bool) (set : List ℕ) (who : ℕ) → has set who ≡ true → test who ≡ true → has (those test set) who ≡ true
 unfolding those
-has_those test set who there passes =
+passing_name_is_in_those test set who there passes =
     let f : ℕ → ℕ = λ place. name_where test place (slice_index set place) in
     let place : place_of who < 16 = omega arith in
     let is : slice_index set (place_of who) ≡ life_of who = grind (arith, nat_tests) in

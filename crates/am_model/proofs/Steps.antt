@@ -1,19 +1,19 @@
 -- What the kept end of a node tells of the node, and what its steps are.
-use Rattle.am_model.proofs.EndWords.{◌≡◌, List, refl, sym, ◌∙◌, Outcome, NodeEvent, Letter, IsInOrder, end-self, end-top, top, step, row, IsEndOf, ComesTo, Does}
+use Rattle.am_model.proofs.EndWords.{◌≡◌, List, refl, sym, ◌∙◌, Outcome, NodeEvent, Letter, IsInOrder, log_is_own_end, top_of_end_is_top, top, step, row, IsEndOf, ComesTo, Does}
 use Rattle.am_model.specs.Node as protocol
 use Rattle.am_model.proofs.Hearing.{ends_step_alike}
 
 -- a node of which nothing is trimmed is its own end
-pub own_end : (m : protocol.Node) → m.core.base ≡ m.core.log.start → IsEndOf m m
-own_end m h = record { stands = record { base = h; kept = end-self m.core.log }; same = refl }
+pub untrimmed_node_is_own_end : (m : protocol.Node) → m.core.base ≡ m.core.log.start → IsEndOf m m
+untrimmed_node_is_own_end m h = record { stands = record { base = h; kept = log_is_own_end m.core.log }; same = refl }
 
-pub end_high : (all m : protocol.Node) → IsEndOf all m → top m ≡ top all
-end_high all m is = end-top all.core.log m.core.log is.stands.kept
+pub node_end_has_same_top : (all m : protocol.Node) → IsEndOf all m → top m ≡ top all
+node_end_has_same_top all m is = top_of_end_is_top all.core.log m.core.log is.stands.kept
 
 -- what the end does, all of it does
-pub step_end : (all m n : protocol.Node) (what : NodeEvent) (outcome : Outcome) (letters : List Letter) → IsEndOf all m → IsInOrder m.core
+pub whole_step_comes_to_end : (all m n : protocol.Node) (what : NodeEvent) (outcome : Outcome) (letters : List Letter) → IsEndOf all m → IsInOrder m.core
     → Does (λ k. row k what) m outcome letters n → ComesTo (step all what) outcome letters n
 unfolding step
-step_end all m n what outcome letters is order does =
+whole_step_comes_to_end all m n what outcome letters is order does =
     let s = ends_step_alike all m what is order in
     record { node = s.node n does.node; answer = does.answer ∙ sym s.answer; sent = does.sent ∙ sym s.sent }

@@ -13,8 +13,8 @@ use Rattle.am_base.specs.Votes.{Shown, best_vote}
 use Rattle.am_packet.specs.declared.packet.Packet.{Packet}
 use Rattle.am_packet.specs.declared.packet.Packet.TheVariants as packet
 use Rattle.am_packet.specs.Boxes.{Letter, with_letter}
-use Rattle.am_state.specs.Reports as reports
-use Rattle.am_state.specs.Reports.{least_of}
+use Rattle.am_node_defs.specs.Reports as reports
+use Rattle.am_node_defs.specs.Reports.{least_of}
 use Rattle.am_model.specs.Node.{Node, Ballot, top, image_of, members, view, others, only_name, those, set_at, push_entry, trim_up_to}
 use Rattle.am_model.specs.Emit.{Plan, quiet, invite_of, fetch_of, result_of}
 

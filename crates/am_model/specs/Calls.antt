@@ -7,12 +7,12 @@ use Rattle.am_base.specs.declared.outcome.Outcome.{Outcome}
 use Rattle.am_base.specs.declared.outcome.Outcome.TheVariants as said
 use Rattle.am_base.specs.Names.{place_of, by_place, has, size}
 use Rattle.am_base.specs.Lists.{entry_at}
-use Rattle.am_state.specs.declared.sender.OwnSend.{OwnSend}
-use Rattle.am_state.specs.Sends as own
+use Rattle.am_node_defs.specs.declared.sender.OwnSend.{OwnSend}
+use Rattle.am_node_defs.specs.Sends as own
 use Rattle.am_model.specs.declared.status.Status.{Status}
 use Rattle.am_model.specs.declared.status.Status.TheVariants as status
 use Rattle.am_model.specs.Node.{Node, Ballot, top, view, members, own_row, others, only_name, lowest_or_first, acts, is_sequencer, is_member, has_room, waiting}
-use Rattle.am_model.specs.Node.{unsettled_count, push_entry}
+use Rattle.am_model.specs.Node.{node_unsettled_count, push_entry}
 use Rattle.am_model.specs.Emit.{Plan, quiet, telling, and_telling, numbering, request_of, spread_of, bcast_of, join_ask_of, leave_ask_of, hand_over_of}
 use Rattle.am_model.specs.Ballots.{begin, give_up}
 
@@ -118,7 +118,7 @@ is_unfinished (Some b) = not b.is_over
 abbrev pub leave_now : Node → Plan
 leave_now m =
     if m.leaving then quiet m said.Leaving
-    else if nat_lt 0 (unsettled_count m) || is_unfinished m.ballot then quiet m (said.Busy (unsettled_count m))
+    else if nat_lt 0 (node_unsettled_count m) || is_unfinished m.ballot then quiet m (said.Busy (node_unsettled_count m))
     else go (quiet (record m { leaving = true }) said.Asked)
 
 abbrev pub leave_by : Node → Status → Plan

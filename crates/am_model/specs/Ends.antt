@@ -4,18 +4,18 @@ use Rattle.am_base.specs.declared.outcome.Outcome.{Outcome}
 use Rattle.am_base.specs.Lists.{Log}
 use Rattle.am_base.specs.declared.event.NodeEvent.{NodeEvent}
 use Rattle.am_packet.specs.Boxes.{Letter}
-use Rattle.am_state.specs.Cores.{Stands, IsInOrder, whole}
+use Rattle.am_node_defs.specs.Cores.{CoreStands, IsInOrder, whole_core}
 use Rattle.am_model.specs.Node.{Node}
 use Rattle.am_model.specs.Emit.{Plan, Step, finish}
 use Rattle.am_model.specs.Step.{step}
 
 -- the same node with this list
 abbrev pub with_log : Node → Log → Node
-with_log m all = record m { core = whole all m.core }
+with_log m all = record m { core = whole_core all m.core }
 
 -- a node keeps the end of another's list from the base on, and all else is the same
 pub record IsEndOf (all m : Node) : Type 0 where
-  pub stands : Stands all.core.log m.core
+  pub stands : CoreStands all.core.log m.core
   pub same : with_log m all.core.log ≡ all
 
 -- this is what every node tells or sends of which this one is the end
@@ -23,8 +23,8 @@ abbrev pub Tells : {A : Type 0} → (Node → A) → Node → A → Type 0
 Tells f m told = (all : Node) → IsEndOf all m → told ≡ f all
 
 -- it changes as every node of which it is the end
-abbrev pub Changes : (Node → Node) → Node → Node → Type 0
-Changes f old new = (all : Node) → IsEndOf all old → IsEndOf (f all) new
+abbrev pub ChangesAllAlike : (Node → Node) → Node → Node → Type 0
+ChangesAllAlike f old new = (all : Node) → IsEndOf all old → IsEndOf (f all) new
 
 -- a step comes to a node of which this is the end, with this answer and these letters
 pub record ComesTo (s : Step) (outcome : Outcome) (letters : List Letter) (new : Node) : Type 0 where

@@ -4,8 +4,8 @@ use Rattle.am_base.specs.declared.image.Report.{Report}
 use Rattle.am_base.specs.declared.name.Stamp.{Stamp}
 use Rattle.am_base.specs.declared.outcome.Outcome.TheVariants as said
 use Rattle.am_base.specs.Stamps.{stamp_eq}
-use Rattle.am_packet.specs.declared.kind.Gate.{Gate}
-use Rattle.am_packet.specs.declared.kind.Gate.TheVariants as gates
+use Rattle.am_packet.specs.declared.kind.PacketGate.{PacketGate}
+use Rattle.am_packet.specs.declared.kind.PacketGate.TheVariants as gates
 use Rattle.am_packet.specs.declared.packet.Packet.{Packet}
 use Rattle.am_packet.specs.declared.packet.Packet.TheVariants.{Request, Spread, Bcast, Order, Accept, Ack, Nack, Hold, JoinAsk, Welcome, LeaveAsk, Gone, Invite}
 use Rattle.am_packet.specs.declared.packet.Packet.TheVariants.{Vote, Fetch, Piece, Result, HandOver}
@@ -40,7 +40,7 @@ abbrev pub hears_sequencer : Node → ℕ → Stamp → Bool
 hears_sequencer m s v = hears_in_view m s v && (v.by == s)
 
 -- who passes the gate of a packet's kind
-abbrev pub passes : Gate → Node → ℕ → Stamp → Bool
+abbrev pub passes : PacketGate → Node → ℕ → Stamp → Bool
 passes gates.Member m s v = hears_member m s
 passes gates.Leading m s v = hears_member m s && is_sequencer m
 passes gates.OfBeginner m s v = hears_member m s && (v.by == s)

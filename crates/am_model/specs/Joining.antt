@@ -10,24 +10,24 @@ use Rattle.am_base.specs.declared.outcome.Outcome.TheVariants as said
 use Rattle.am_base.specs.Names.{place_of, life_of, name_at, without_name}
 use Rattle.am_base.specs.Stamps.{stamp_lt, stamp_eq}
 use Rattle.am_base.specs.Lists.{fits, at_place, row_of}
-use Rattle.am_state.specs.Cores.{CoreState}
-use Rattle.am_state.specs.Reports as reports
+use Rattle.am_node_defs.specs.Cores.{CoreState}
+use Rattle.am_node_defs.specs.Reports as reports
 use Rattle.am_model.specs.declared.status.Status.TheVariants as status
 use Rattle.am_model.specs.Node.{Node, top, image_of, view, only_name, has_room, is_member, is_within_bound, report_fits}
-use Rattle.am_model.specs.Refresh.{concerned_names, least_stored}
+use Rattle.am_model.specs.Refresh.{concerned_names, node_least_stored}
 use Rattle.am_model.specs.Emit.{Plan, quiet, telling, polling, and_where, numbering, bcast_of, nack_of, welcome_of, gone_of, fetch_of}
 use Rattle.am_model.specs.Sequencing.{row_at, is_unknown, take_report}
 
 -- ---- joining
 
 -- the joiner's reports begin at the base
-abbrev pub with_admitted : Node → ℕ → Node
-with_admitted m s = record m { reports = reports.with_admitted m.reports s m.core.base }
+abbrev pub node_with_admitted : Node → ℕ → Node
+node_with_admitted m s = record m { reports = reports.with_admitted m.reports s m.core.base }
 
 -- the Join is numbered, and the joiner welcomed once that is accepted
 abbrev pub number_join : Node → ℕ → Plan
 number_join m s =
-    and_where (λ n. nat_le (top m + 1) n.core.acc) (numbering (with_admitted m s) (Join s) (said.Numbered (top m + 1)) (λ n. bcast_of n (top m + 1) (Join s)))
+    and_where (λ n. nat_le (top m + 1) n.core.acc) (numbering (node_with_admitted m s) (Join s) (said.Numbered (top m + 1)) (λ n. bcast_of n (top m + 1) (Join s)))
     (only_name s) (λ n. welcome_of n s)
 
 -- a request to join, where the row of its place is q
@@ -78,14 +78,14 @@ welcome_row m s v base join image =
 
 -- everybody else who is concerned has stored this number
 abbrev pub all_stored : Node → List ℕ → ℕ → Bool
-all_stored n set number = elim (least_stored n set) [ None ↦ true | Some least ↦ nat_le number least ]
+all_stored n set number = elim (node_least_stored n set) [ None ↦ true | Some least ↦ nat_le number least ]
 
 -- a leaver may go: its Leave is accepted, and everybody else who is concerned has stored it
 abbrev pub may_go : Node → ℕ → Bool
 may_go n s = nat_lt 0 (row_at n s).left && (nat_le (row_at n s).left n.core.acc && all_stored n (without_name (concerned_names n) s) (row_at n s).left)
 
-abbrev pub let_go : Node → ℕ → Node → Outcome
-let_go m s n = if may_go n s then said.LetGo (row_at m s).left else said.Again
+abbrev pub let_leaver_go : Node → ℕ → Node → Outcome
+let_leaver_go m s n = if may_go n s then said.LetGo (row_at m s).left else said.Again
 
 abbrev pub and_gone : Plan → ℕ → Plan
 and_gone p s = and_where (λ n. may_go n s) p (only_name s) (λ n. gone_of n (row_at n s).left)
@@ -95,7 +95,7 @@ abbrev pub asks_to_leave : Node → ℕ → Plan
 asks_to_leave m s =
     if ((row_at m s).left == 0) && not (has_room m) then polling m (said.Held m.core.base (top m))
     else if (row_at m s).left == 0 then and_gone (numbering m (Leave s) (said.Numbered (top m + 1)) (λ n. bcast_of n (top m + 1) (Leave s))) s
-    else and_gone (record (quiet m said.Again) { outcome = let_go m s }) s
+    else and_gone (record (quiet m said.Again) { outcome = let_leaver_go m s }) s
 
 -- the report is one of this view, and could be made of this list
 abbrev pub counts_report : Node → Stamp → Report → Bool

@@ -14,11 +14,11 @@ use Rattle.am_base.specs.Names.{nobody, by_place, name_at, has, with_name, witho
 use Rattle.am_base.specs.Stamps.{stamp_eq, no_stamp}
 use Rattle.am_base.specs.Founding.{Rules}
 use Rattle.am_base.specs.Lists.{blank, top_of, told_by, members_of, row_of}
-use Rattle.am_state.specs.Cores.{CoreState}
-use Rattle.am_state.specs.Reports.{no_report, no_reports, after_report}
-use Rattle.am_state.specs.declared.sender.OwnSend.{OwnSend}
-use Rattle.am_state.specs.Sends as own
-use Rattle.am_state.specs.declared.bodies.KeptBody.{KeptBody}
+use Rattle.am_node_defs.specs.Cores.{CoreState}
+use Rattle.am_node_defs.specs.Reports.{no_report, no_reports, after_report}
+use Rattle.am_node_defs.specs.declared.sender.OwnSend.{OwnSend}
+use Rattle.am_node_defs.specs.Sends as own
+use Rattle.am_node_defs.specs.declared.bodies.KeptBody.{KeptBody}
 use Rattle.am_model.specs.declared.status.Status.{Status}
 use Rattle.am_model.specs.declared.status.Status.TheVariants.{Stranger, Asking, Member, Departed}
 
@@ -137,11 +137,11 @@ report_fits m report = nat_le report.taken report.stored && nat_le report.stored
 
 -- the waiting send: the first that isn't settled
 abbrev pub waiting : Node → Option OwnSend
-waiting m = own.waiting m.sends
+waiting m = own.first_unsettled_send m.sends
 
 -- how many aren't settled
-abbrev pub unsettled_count : Node → ℕ
-unsettled_count m = own.unsettled_count m.sends
+abbrev pub node_unsettled_count : Node → ℕ
+node_unsettled_count m = own.unsettled_count m.sends
 
 -- ---- changes
 
@@ -156,8 +156,8 @@ push_entry m e = record m { core = record (m.core) { log = record (m.core.log) {
 abbrev pub trim_up_to : Node → ℕ → Node
 trim_up_to m base = record m { core = record (m.core) { base = max m.core.base base } }
 
-abbrev pub with_report : Node → ℕ → Report → Node
-with_report m name report = record m { reports = after_report m.reports name report }
+abbrev pub node_with_report : Node → ℕ → Report → Node
+node_with_report m name report = record m { reports = after_report m.reports name report }
 
 -- ---- the first states
 
@@ -173,15 +173,15 @@ abbrev pub founding_view : Rules → GroupView
 founding_view rules = record { stamp = founding_stamp rules; members = rules.founders; resilience = rules.resilience }
 
 -- the first entry of the list
-abbrev pub founders_view : Rules → Entry
-founders_view rules = View (founding_view rules)
+abbrev pub founders_entry : Rules → Entry
+founders_entry rules = View (founding_view rules)
 
 abbrev pub founder : Rules → ℕ → Node
 founder rules who = record {
   core = record {
     who = who;
     rules = rules;
-    log = record { start = 0; image = blank; entries = founders_view rules ∷ [] };
+    log = record { start = 0; image = blank; entries = founders_entry rules ∷ [] };
     base = 0;
     promise = founding_stamp rules;
     told = 1;

@@ -2,7 +2,7 @@
 use Rattle.std.specs.Prelude.{◌≤◌}
 use Rattle.am_base.specs.declared.event.NodeEvent.{NodeEvent}
 use Rattle.am_base.specs.Lists.{top_of}
-use Rattle.am_state.specs.Cores.{CoreState}
+use Rattle.am_node_defs.specs.Cores.{CoreState}
 use Rattle.am_model.specs.Node.{Node}
 use Rattle.am_model.specs.Step.{step}
 

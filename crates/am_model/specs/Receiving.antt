@@ -7,9 +7,9 @@ use Rattle.am_base.specs.declared.outcome.Outcome.{Outcome}
 use Rattle.am_base.specs.declared.outcome.Outcome.TheVariants as said
 use Rattle.am_base.specs.Names.{without_name, names_of}
 use Rattle.am_base.specs.Lists.{fits}
-use Rattle.am_state.specs.declared.sender.OwnSend.{OwnSend}
-use Rattle.am_state.specs.declared.bodies.KeptBody.{KeptBody}
-use Rattle.am_state.specs.Bodies.{is_of, find_body, keep_body, drop_bodies}
+use Rattle.am_node_defs.specs.declared.sender.OwnSend.{OwnSend}
+use Rattle.am_node_defs.specs.declared.bodies.KeptBody.{KeptBody}
+use Rattle.am_node_defs.specs.Bodies.{is_body_of, find_body, keep_body, drop_bodies}
 use Rattle.am_model.specs.Node.{Node, top, image_of, members, only_name, has_own_leave, is_within_bound, waiting, push_entry, trim_up_to}
 use Rattle.am_model.specs.Emit.{Plan, quiet, telling, and_where, ack_of, nack_of}
 use Rattle.am_model.specs.Sequencing.{row_at, if_risen}
@@ -19,7 +19,7 @@ use Rattle.am_model.specs.Sequencing.{row_at, if_risen}
 -- a Spread at a member that isn't the sequencer
 unfoldable pub spread_row : Node → ℕ → ℕ → List ℕ → Plan
 spread_row m s req body =
-    if nat_le req (row_at m s).last || list_any (is_of s req) m.bodies then quiet m said.Known
+    if nat_le req (row_at m s).last || list_any (is_body_of s req) m.bodies then quiet m said.Known
     else quiet (record m { bodies = keep_body s req body m.bodies }) said.Kept
 
 -- the bodies that a stored Data leaves
@@ -81,12 +81,12 @@ receive_entry m s base number e missing =
 unfoldable pub bcast_row : Node → ℕ → ℕ → ℕ → ℕ → Entry → Plan
 bcast_row m s base acc number e = receive_entry (with_noted m base acc) s base number (Some e) said.Known
 
-abbrev pub data_of : ℕ → ℕ → Option (List ℕ) → Option Entry
-data_of from req None = None
-data_of from req (Some body) = Some (Data from req body)
+abbrev pub data_entry_of : ℕ → ℕ → Option (List ℕ) → Option Entry
+data_entry_of from req None = None
+data_entry_of from req (Some body) = Some (Data from req body)
 
 unfoldable pub order_row : Node → ℕ → ℕ → ℕ → ℕ → ℕ → ℕ → Plan
-order_row m s base acc number from req = receive_entry (with_noted m base acc) s base number (data_of from req (body_of m from req)) (said.NoBody from req)
+order_row m s base acc number from req = receive_entry (with_noted m base acc) s base number (data_entry_of from req (body_of m from req)) (said.NoBody from req)
 
 -- how far the list is accepted, and with a poll a report
 abbrev pub answer_accept : Node → Node → ℕ → Bool → Plan

@@ -2,13 +2,13 @@
 use Rattle.std.specs.Prelude.{ℕ, ◌+◌, ◌-◌, List, take, Option, Some, None, Bool, false, ◌&&◌, ◌==◌, if◌then◌else◌, position}
 use Rattle.am_base.specs.declared.entry.Entry.{Entry}
 use Rattle.am_base.specs.declared.entry.Entry.TheVariants.{Data, Join, Leave, View}
-use Rattle.am_state.specs.Cores as cores
-use Rattle.am_state.specs.Cores.{since_accepted}
-use Rattle.am_state.specs.Reports as reports
-use Rattle.am_state.specs.Refresh as fronts
-use Rattle.am_state.specs.Refresh.{Led}
-use Rattle.am_state.specs.declared.sender.OwnSend.{OwnSend}
-use Rattle.am_state.specs.Sends as own
+use Rattle.am_node_defs.specs.Cores as cores
+use Rattle.am_node_defs.specs.Cores.{since_accepted}
+use Rattle.am_node_defs.specs.Reports as reports
+use Rattle.am_node_defs.specs.Refresh as fronts
+use Rattle.am_node_defs.specs.Refresh.{Led}
+use Rattle.am_node_defs.specs.declared.sender.OwnSend.{OwnSend}
+use Rattle.am_node_defs.specs.Sends as own
 use Rattle.am_model.specs.Node.{Node, is_sequencer, entries_above, waiting}
 
 -- whose reports hold back the base: whoever is a member after some number from what is accepted up to the top
@@ -16,12 +16,12 @@ abbrev pub concerned_names : Node → List ℕ
 concerned_names m = since_accepted m.core
 
 -- the least that some names have stored, where there is one
-abbrev pub least_stored : Node → List ℕ → Option ℕ
-least_stored m set = reports.least_stored m.reports set
+abbrev pub node_least_stored : Node → List ℕ → Option ℕ
+node_least_stored m set = reports.least_stored m.reports set
 
 -- what any member does: what is accepted goes on, and a joiner passes over the entries below its Join
-abbrev pub advance : Node → Node
-advance m = record m { core = cores.advance m.core }
+abbrev pub advance_node : Node → Node
+advance_node m = record m { core = cores.advance m.core }
 
 -- what the sequencer does: its own report, how far the list is accepted, what any member does, its report again, and a
 -- trim to what everybody concerned has taken
@@ -32,11 +32,11 @@ abbrev pub with_led : Node → Led → Node
 with_led m s = record m { core = s.core; reports = s.reports }
 
 unfoldable pub lead : Node → Node
-lead m = with_led m (fronts.refresh (led_of m))
+lead m = with_led m (fronts.refresh_led (led_of m))
 
 -- what a node does with what it knows
 unfoldable pub refresh : Node → Node
-refresh m = if is_sequencer m then lead m else advance m
+refresh m = if is_sequencer m then lead m else advance_node m
 
 -- ---- the end of a step
 
@@ -52,7 +52,7 @@ accepted_at m req = position (is_data_of m.core.who req) (take (m.core.acc - m.c
 
 abbrev pub settle_at : Node → ℕ → Option ℕ → Node
 settle_at m req None = m
-settle_at m req (Some k) = record m { sends = own.settle req (m.core.base + 1 + k) m.sends }
+settle_at m req (Some k) = record m { sends = own.settle_request req (m.core.base + 1 + k) m.sends }
 
 -- the waiting send is settled where it is accepted
 abbrev pub settle_waiting : Node → Option OwnSend → Node

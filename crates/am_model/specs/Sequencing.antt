@@ -6,7 +6,7 @@ use Rattle.am_base.specs.declared.entry.Entry.TheVariants.{Data}
 use Rattle.am_base.specs.declared.outcome.Outcome.{Outcome}
 use Rattle.am_base.specs.declared.outcome.Outcome.TheVariants as said
 use Rattle.am_base.specs.Lists.{row_of}
-use Rattle.am_model.specs.Node.{Node, top, image_of, only_name, has_room, report_fits, with_report}
+use Rattle.am_model.specs.Node.{Node, top, image_of, only_name, has_room, report_fits, node_with_report}
 use Rattle.am_model.specs.Refresh.{refresh}
 use Rattle.am_model.specs.Emit.{Plan, quiet, polling, and_telling, numbering, bcast_of, order_of, hold_of, entries_to_serve, put_all}
 
@@ -19,7 +19,7 @@ is_unknown m s = (row_at m s).joined == 0
 
 -- its report is taken, and what follows from it
 abbrev pub take_report : Node → ℕ → Report → Node
-take_report m s report = refresh (with_report m s report)
+take_report m s report = refresh (node_with_report m s report)
 
 -- a send gets the next number, which a body that everybody has needs alone
 abbrev pub number_data : Node → ℕ → ℕ → List ℕ → Bool → Plan
@@ -50,7 +50,7 @@ unfoldable pub ack_row : Node → ℕ → Report → Plan
 ack_row m s report =
     if is_unknown m s then quiet m said.Stranger
     else if not (report_fits m report) then quiet m said.Unfit
-    else record (quiet (with_report m s report) said.Noted) { outcome = if_risen m said.Noted (λ n. said.Accepted n.core.acc) }
+    else record (quiet (node_with_report m s report) said.Noted) { outcome = if_risen m said.Noted (λ n. said.Accepted n.core.acc) }
 
 -- the entries above what is stored, one packet each
 abbrev pub serve : Node → ℕ → ℕ → Plan

@@ -5,7 +5,7 @@ use Rattle.am_base.specs.declared.outcome.Outcome.TheVariants as said
 use Rattle.am_base.specs.declared.event.NodeEvent.{NodeEvent}
 use Rattle.am_base.specs.declared.event.NodeEvent.TheVariants.{Send, Done, Take, Join, State, Leave, Reset, Ask, GiveUp, Tick, Hear}
 use Rattle.am_packet.specs.declared.packet.Packet.{Packet}
-use Rattle.am_packet.specs.Reading.{Read, reading, cause_of}
+use Rattle.am_packet.specs.Reading.{Read, reading, refusal_number}
 use Rattle.am_model.specs.Node.{Node}
 use Rattle.am_model.specs.Emit.{Plan, Step, quiet, finish}
 use Rattle.am_model.specs.Calls.{send_row, done_row, take_row, join_row, state_row, leave_row, reset_row, ask_row, give_up_row}
@@ -19,7 +19,7 @@ refuse m cause = quiet m (said.Refused cause)
 -- the row of bytes, by what was read of them
 abbrev pub read_row : Node → Read Packet → Plan
 read_row m (Ok packet) = hear_row m packet
-read_row m (Err refusal) = refuse m (cause_of refusal)
+read_row m (Err refusal) = refuse m (refusal_number refusal)
 
 -- the row of an event
 unfoldable pub row : Node → NodeEvent → Plan

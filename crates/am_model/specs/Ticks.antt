@@ -9,7 +9,7 @@ use Rattle.am_base.specs.Lists.{entry_at}
 use Rattle.am_packet.specs.Boxes.{with_letter}
 use Rattle.am_model.specs.declared.status.Status.{Status}
 use Rattle.am_model.specs.declared.status.Status.TheVariants as status
-use Rattle.am_state.specs.declared.sender.OwnSend.{OwnSend}
+use Rattle.am_node_defs.specs.declared.sender.OwnSend.{OwnSend}
 use Rattle.am_model.specs.Node.{Node, Ballot, top, image_of, view, others, only_name, those, acts, is_sequencer, has_room, waiting}
 use Rattle.am_model.specs.Emit.{Plan, quiet, telling, ack_of, invite_of, fetch_of, result_of}
 use Rattle.am_model.specs.Calls.{would_emit, emit, ask_to_join, go}

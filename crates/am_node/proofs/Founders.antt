@@ -10,78 +10,78 @@ use Rattle.am_base.specs.declared.image.Row.{Row}
 use Rattle.am_base.specs.Founding.{Rules, MayFound}
 use Rattle.am_base.specs.Names.{place_of, has, by_place}
 use Rattle.am_base.specs.Lists.{top_of, told_by, blank, blank_row, member_life, row_after_view, fold, after, fits}
-use Rattle.am_base.proofs.Places.{by_place_all, get_or-by_place, length-by_place}
-use Rattle.am_state.specs.Cores.{CoreState}
-use Rattle.am_state.proofs.Folds.{split}
-use Rattle.am_state.specs.Reports.{no_report, no_reports, after_report}
-use Rattle.am_model.specs.Node.{Node, members, stranger, founder, founders_view}
-use Rattle.am_model.proofs.Founders.{first_founder}
-use Rattle.am_handlers.specs.Keeps.{NodeKeeps}
-use Rattle.am_handlers.proofs.Due.{due_first}
-use Rattle.am_handlers.proofs.Keeping.{keeps_steady}
+use Rattle.am_base.proofs.Places.{sixteen_items_are_by_place, get_or-by_place, length-by_place}
+use Rattle.am_node_defs.specs.Cores.{CoreState}
+use Rattle.am_node_defs.proofs.Folds.{split_on_bool_of_log}
+use Rattle.am_node_defs.specs.Reports.{no_report, no_reports, after_report}
+use Rattle.am_model.specs.Node.{Node, members, stranger, founder, founders_entry}
+use Rattle.am_model.proofs.Founders.{lowest_founder_founds}
+use Rattle.am_node_parts.specs.Keeps.{NodeKeeps}
+use Rattle.am_node_parts.proofs.Due.{first_request_is_due}
+use Rattle.am_node_parts.proofs.Keeping.{steady_node_keeps_order}
 
 -- a node that nothing has happened to
-pub stranger_keeps : (rules : Rules) (who : ℕ) → NodeKeeps (stranger rules who)
+pub stranger_keeps_node_order : (rules : Rules) (who : ℕ) → NodeKeeps (stranger rules who)
 unfolding fold
-stranger_keeps rules who = record {
+stranger_keeps_node_order rules who = record {
   own = omega arith;
   leads = λ is. absurd (cc);
   promised = refl;
   blank = λ none. refl;
   ballot = λ b is. absurd (cc);
   settled = λ leaves. absurd (cc);
-  due = due_first _ _ 1 (omega arith);
+  due = first_request_is_due _ _ 1 (omega arith);
   unsent = λ none. omega arith;
 }
 
 -- ---- founders
 
 -- the founders' View fits where nothing stands
-pub founders_fit : (rules : Rules) → MayFound rules → fits blank (founders_view rules) ≡ true
+pub founders_view_fits_blank : (rules : Rules) → MayFound rules → fits blank (founders_entry rules) ≡ true
 unfolding fits
-founders_fit rules may =
-    let there = (first_founder rules may).founds in
+founders_view_fits_blank rules may =
+    let there = (lowest_founder_founds rules may).founds in
     let low : nat_le 0 rules.resilience ≡ true = grind (arith, nat_tests) in
     rw (there, low) refl
 
 blank_at : (place : ℕ) → slice_index_or (replicate 16 blank_row) place blank_row ≡ blank_row
-blank_at place = split (nat_lt place 16)
+blank_at place = split_on_bool_of_log (nat_lt place 16)
     (λ t. get_or-replicate 16 place blank_row blank_row (grind (arith, nat_tests)))
     (λ f. get_or_past (replicate 16 blank_row) place blank_row (grind (arith, nat_tests)))
 
 life_back : (life : ℕ) → member_life (row_after_view true 1 life blank_row) ≡ life
-life_back life = split (life == 0) (λ t. rw t (grind (arith, nat_tests))) (λ f. rw f refl)
+life_back life = split_on_bool_of_log (life == 0) (λ t. rw t (grind (arith, nat_tests))) (λ f. rw f refl)
 
 -- the founders are the members
-pub founders_members : (rules : Rules) (who : ℕ) → MayFound rules → members (founder rules who) ≡ rules.founders
+founders_members : (rules : Rules) (who : ℕ) → MayFound rules → members (founder rules who) ≡ rules.founders
 unfolding fold after
 founders_members rules who may =
     let g : ℕ → Row = λ place. row_after_view true 1 (slice_index rules.founders place) blank_row in
     let rows : members (founder rules who) ≡ map member_life (by_place g) =
     λ i. map member_life (by_place (λ place. row_after_view true 1 (slice_index rules.founders place) (blank_at place i))) in
     rows
-    ∙ by_place_all (slice_index rules.founders) (map member_life (by_place g)) 0 (length-map (by_place g) member_life ∙ length-by_place g)
+    ∙ sixteen_items_are_by_place (slice_index rules.founders) (map member_life (by_place g)) 0 (length-map (by_place g) member_life ∙ length-by_place g)
     (λ k low. get_or-map member_life (by_place g) k blank_row ∙ ap member_life (get_or-by_place g k blank_row low) ∙ life_back (slice_index rules.founders k))
-    ∙ sym (by_place_all (slice_index rules.founders) rules.founders 0 may.names.places (λ k low. refl))
+    ∙ sym (sixteen_items_are_by_place (slice_index rules.founders) rules.founders 0 may.names.places (λ k low. refl))
 
-pub founder_keeps : (rules : Rules) (who : ℕ) → MayFound rules → has rules.founders who ≡ true → NodeKeeps (founder rules who)
+pub founder_keeps_node_order : (rules : Rules) (who : ℕ) → MayFound rules → has rules.founders who ≡ true → NodeKeeps (founder rules who)
 unfolding fold after
-founder_keeps rules who may there = record {
+founder_keeps_node_order rules who may there = record {
   own = rw there (omega arith);
   leads = λ is. ap (λ set. has set who) (founders_members rules who may) ∙ there;
   promised = grind (arith, nat_tests);
   blank = λ none. absurd (cc);
   ballot = λ b is. absurd (cc);
   settled = λ leaves. absurd (cc);
-  due = due_first _ _ 1 (omega arith);
+  due = first_request_is_due _ _ 1 (omega arith);
   unsent = λ none. omega arith;
 }
 
 -- parts with the core, the reports, the status, the sends and the ballot of a node
-pub keeps_as : (m n : Node) → n.core ≡ m.core → (n.reports n.core.who).taken ≤ n.core.taken → n.status ≡ m.status → n.ballot ≡ m.ballot → n.leaving ≡ m.leaving
+pub node_keeps_as_equal_node : (m n : Node) → n.core ≡ m.core → (n.reports n.core.who).taken ≤ n.core.taken → n.status ≡ m.status → n.ballot ≡ m.ballot → n.leaving ≡ m.leaving
     → n.sends ≡ m.sends → NodeKeeps m → NodeKeeps n
-keeps_as m n core own status ballot leaving sends keeps =
-    keeps_steady m n (record {
+node_keeps_as_equal_node m n core own status ballot leaving sends keeps =
+    steady_node_keeps_order m n (record {
       who = ap (λ (c : CoreState). c.who) core;
       promise = ap (λ (c : CoreState). c.promise) core;
       told = ap (λ (c : CoreState). told_by c.log) core;
@@ -94,51 +94,51 @@ keeps_as m n core own status ballot leaving sends keeps =
 
 -- ---- what each founder has reported
 
-abbrev pub FirstReports : List ℕ → (ℕ → Report) → ℕ → Type 0
-FirstReports founders reports high = (name : ℕ) → reports name ≡ (if nat_lt name high && has founders name then record { stored = 1; taken = 0 } else no_report)
+abbrev pub FoundersReportedUpTo : List ℕ → (ℕ → Report) → ℕ → Type 0
+FoundersReportedUpTo founders reports high = (name : ℕ) → reports name ≡ (if nat_lt name high && has founders name then record { stored = 1; taken = 0 } else no_report)
 
-pub first_none : (founders : List ℕ) (reports : ℕ → Report) → reports ≡ no_reports → FirstReports founders reports 0
-first_none founders reports is = λ name.
+pub no_founder_reported_at_first : (founders : List ℕ) (reports : ℕ → Report) → reports ≡ no_reports → FoundersReportedUpTo founders reports 0
+no_founder_reported_at_first founders reports is = λ name.
     let low : nat_lt name 0 ≡ false = grind (arith, nat_tests) in
     ap (λ (r : ℕ → Report). r name) is ∙ rw low refl
 
-pub first_more : (founders : List ℕ) (reports new : ℕ → Report) (high : ℕ) → FirstReports founders reports high
-    → new ≡ (if has founders high then after_report reports high (record { stored = 1; taken = 0 }) else reports) → FirstReports founders new (high + 1)
-first_more founders reports new high before is = λ name.
+pub founders_reported_with_next : (founders : List ℕ) (reports new : ℕ → Report) (high : ℕ) → FoundersReportedUpTo founders reports high
+    → new ≡ (if has founders high then after_report reports high (record { stored = 1; taken = 0 }) else reports) → FoundersReportedUpTo founders new (high + 1)
+founders_reported_with_next founders reports new high before is = λ name.
     let past : nat_lt high high ≡ false = grind (arith, nat_tests) in
     let zero : reports high ≡ no_report = before high ∙ rw past refl in
     let next : nat_lt high (high + 1) ≡ true = grind (arith, nat_tests) in
-    ap (λ (r : ℕ → Report). r name) is ∙ split (name == high)
+    ap (λ (r : ℕ → Report). r name) is ∙ split_on_bool_of_log (name == high)
     (λ e.
     let same : name ≡ high = grind (arith, nat_tests) in
     subst (λ n. (if has founders high then after_report reports high (record { stored = 1; taken = 0 }) else reports) n
     ≡ (if nat_lt n (high + 1) && has founders n then record { stored = 1; taken = 0 } else no_report)) (sym same)
-    (split (has founders high)
+    (split_on_bool_of_log (has founders high)
     (λ t. let own : (high == high) ≡ true = grind (arith, nat_tests) in rw (t, next, own, zero) refl)
     (λ f. rw (f, next) zero)))
     (λ f.
-    let same : nat_lt name high ≡ nat_lt name (high + 1) = split (nat_lt name high) (λ t. let u : nat_lt name (high + 1) ≡ true = grind (arith, nat_tests) in
+    let same : nat_lt name high ≡ nat_lt name (high + 1) = split_on_bool_of_log (nat_lt name high) (λ t. let u : nat_lt name (high + 1) ≡ true = grind (arith, nat_tests) in
     rw (t, u) refl) (λ n. let u : nat_lt name (high + 1) ≡ false = grind (arith, nat_tests) in rw (n, u) refl) in
-    split (has founders high)
+    split_on_bool_of_log (has founders high)
     (λ t. rw (t, f) (before name ∙ ap (λ b. if b && has founders name then record { stored = 1; taken = 0 } else no_report) same))
     (λ n. rw n (before name ∙ ap (λ b. if b && has founders name then record { stored = 1; taken = 0 } else no_report) same)))
 
 none_above : (founders : List ℕ) (name : ℕ) → EachIndex founders (λ place. slice_index founders place ≤ 1) → 256 ≤ name → has founders name ≡ false
-none_above founders name lives high = split (nat_lt (place_of name) (length founders))
+none_above founders name lives high = split_on_bool_of_log (nat_lt (place_of name) (length founders))
     (λ t. let low : slice_index founders (place_of name) ≤ 1 = lives (place_of name) (grind (arith, nat_tests)) in grind (arith, nat_tests))
     (λ f. let past : slice_index founders (place_of name) ≡ 0 = get_or_past founders (place_of name) 0 (grind (arith, nat_tests)) in grind (arith, nat_tests))
 
-pub first_all : (founders : List ℕ) (reports : ℕ → Report) (high : ℕ) → high ≡ 256 → EachIndex founders (λ place. slice_index founders place ≤ 1)
-    → FirstReports founders reports high → reports ≡ (λ name. if has founders name then record { stored = 1; taken = 0 } else no_report)
-first_all founders reports high all lives each =
+pub all_founders_have_reported : (founders : List ℕ) (reports : ℕ → Report) (high : ℕ) → high ≡ 256 → EachIndex founders (λ place. slice_index founders place ≤ 1)
+    → FoundersReportedUpTo founders reports high → reports ≡ (λ name. if has founders name then record { stored = 1; taken = 0 } else no_report)
+all_founders_have_reported founders reports high all lives each =
     let at : (name : ℕ) → reports name ≡ (if has founders name then record { stored = 1; taken = 0 } else no_report) = λ name.
-    split (nat_lt name high)
+    split_on_bool_of_log (nat_lt name high)
     (λ t. each name ∙ rw t refl)
     (λ f. let no = none_above founders name lives (grind (arith, nat_tests)) in each name ∙ rw (f, no) refl) in
     λ k name. at name k
 
-pub own_first : (founders : List ℕ) (reports : ℕ → Report) (who taken : ℕ)
+pub own_first_report_le_taken : (founders : List ℕ) (reports : ℕ → Report) (who taken : ℕ)
     → reports ≡ (λ name. if has founders name then record { stored = 1; taken = 0 } else no_report) → (reports who).taken ≤ taken
-own_first founders reports who taken is =
-    let zero : (reports who).taken ≡ 0 = ap (λ (r : ℕ → Report). (r who).taken) is ∙ split (has founders who) (λ t. rw t refl) (λ f. rw f refl) in
+own_first_report_le_taken founders reports who taken is =
+    let zero : (reports who).taken ≡ 0 = ap (λ (r : ℕ → Report). (r who).taken) is ∙ split_on_bool_of_log (has founders who) (λ t. rw t refl) (λ f. rw f refl) in
     omega arith

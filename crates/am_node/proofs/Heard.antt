@@ -6,10 +6,10 @@ use Rattle.am_model.specs.Node.{Node}
 use Rattle.am_model.specs.Emit.{quiet}
 use Rattle.am_model.specs.Hearing.{is_heard, heard_row, hear_row}
 
-pub hears : (m : Node) (packet : Packet) → is_heard m packet ≡ true → hear_row m packet ≡ heard_row m packet
+pub hear_row_of_heard_packet : (m : Node) (packet : Packet) → is_heard m packet ≡ true → hear_row m packet ≡ heard_row m packet
 unfolding hear_row
-hears m packet is = rw is refl
+hear_row_of_heard_packet m packet is = rw is refl
 
-pub hears_not : (m : Node) (packet : Packet) → is_heard m packet ≡ false → hear_row m packet ≡ quiet m said.Elsewhere
+pub hear_row_of_packet_elsewhere : (m : Node) (packet : Packet) → is_heard m packet ≡ false → hear_row m packet ≡ quiet m said.Elsewhere
 unfolding hear_row
-hears_not m packet is = rw is refl
+hear_row_of_packet_elsewhere m packet is = rw is refl

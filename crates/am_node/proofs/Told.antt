@@ -5,7 +5,7 @@ use Rattle.am_base.specs.Lists.{members_of}
 use Rattle.am_base.specs.Stamps.{stamp_eq}
 use Rattle.am_model.specs.Node.{Node, top, image_of, is_member}
 use Rattle.am_model.specs.Ends.{IsEndOf}
-use Rattle.am_handlers.proofs.Ends.{told_end, top_end}
+use Rattle.am_node_parts.proofs.Ends.{image_of_node_end, top_of_node_end}
 use Rattle.am_model.specs.declared.info.Info.{Info}
 use Rattle.am_model.specs.declared.info.Role.TheVariants as role
 use Rattle.am_model.specs.Info.{info_of, coordinates, role_by}
@@ -26,8 +26,8 @@ info_with m image last = record {
   promise = m.core.promise;
 }
 
-pub info_at_end : (x m : Node) → IsEndOf x m → info_of m ≡ info_of x
-info_at_end x m end =
-    ap (λ image. info_with m image (top m)) (told_end x m end)
-    ∙ ap (λ last. info_with m (image_of x) last) (top_end x m end)
+pub info_of_end_is_info : (x m : Node) → IsEndOf x m → info_of m ≡ info_of x
+info_of_end_is_info x m end =
+    ap (λ image. info_with m image (top m)) (image_of_node_end x m end)
+    ∙ ap (λ last. info_with m (image_of x) last) (top_of_node_end x m end)
     ∙ ap info_of end.same

@@ -9,41 +9,41 @@ use Rattle.am_base.specs.declared.image.Vote.{Vote}
 use Rattle.am_base.specs.declared.name.Stamp.{Stamp}
 use Rattle.am_base.specs.Limits.{IsNumber, IsEntry, IsImage}
 use Rattle.am_packet.specs.declared.packet.Packet.TheVariants as packets
-use Rattle.am_packet.specs.Limits.{IsWithin}
+use Rattle.am_packet.specs.Limits.{PacketIsWithin}
 
-pub request_req : (s : ℕ) (v : Stamp) (report : Report) (req : ℕ) (body : List ℕ) → IsWithin (packets.Request s v report req body) → IsNumber req
-unfolding IsWithin
-request_req s v report req body is = is.1.1
+pub request_number_of_packet : (s : ℕ) (v : Stamp) (report : Report) (req : ℕ) (body : List ℕ) → PacketIsWithin (packets.Request s v report req body) → IsNumber req
+unfolding PacketIsWithin
+request_number_of_packet s v report req body is = is.1.1
 
-pub spread_req : (s : ℕ) (v : Stamp) (report : Report) (req : ℕ) (body : List ℕ) → IsWithin (packets.Spread s v report req body) → IsNumber req
-unfolding IsWithin
-spread_req s v report req body is = is.1.1
+pub spread_number_of_packet : (s : ℕ) (v : Stamp) (report : Report) (req : ℕ) (body : List ℕ) → PacketIsWithin (packets.Spread s v report req body) → IsNumber req
+unfolding PacketIsWithin
+spread_number_of_packet s v report req body is = is.1.1
 
-pub bcast_number : (s : ℕ) (v : Stamp) (base acc number : ℕ) (e : Entry) → IsWithin (packets.Bcast s v base acc number e) → IsNumber number × IsEntry e
-unfolding IsWithin
-bcast_number s v base acc number e is = (is.1.2, is.1.3)
+pub bcast_number_of_packet : (s : ℕ) (v : Stamp) (base acc number : ℕ) (e : Entry) → PacketIsWithin (packets.Bcast s v base acc number e) → IsNumber number × IsEntry e
+unfolding PacketIsWithin
+bcast_number_of_packet s v base acc number e is = (is.1.2, is.1.3)
 
-pub order_number : (s : ℕ) (v : Stamp) (base acc number from req : ℕ) → IsWithin (packets.Order s v base acc number from req) → IsNumber number × IsNumber req
-unfolding IsWithin
-order_number s v base acc number from req is = (is.1.2, is.1.3)
+pub order_number_of_packet : (s : ℕ) (v : Stamp) (base acc number from req : ℕ) → PacketIsWithin (packets.Order s v base acc number from req) → IsNumber number × IsNumber req
+unfolding PacketIsWithin
+order_number_of_packet s v base acc number from req is = (is.1.2, is.1.3)
 
-pub welcome_numbers : (s : ℕ) (v : Stamp) (base join : ℕ) (image : Image) → IsWithin (packets.Welcome s v base join image) → IsNumber v.round × IsNumber base
+pub welcome_numbers_of_packet : (s : ℕ) (v : Stamp) (base join : ℕ) (image : Image) → PacketIsWithin (packets.Welcome s v base join image) → IsNumber v.round × IsNumber base
     × IsImage image
-unfolding IsWithin
-welcome_numbers s v base join image is = (is.0, is.1.0, is.1.2)
+unfolding PacketIsWithin
+welcome_numbers_of_packet s v base join image is = (is.0, is.1.0, is.1.2)
 
-pub invite_round : (s : ℕ) (v : Stamp) → IsWithin (packets.Invite s v) → IsNumber v.round
-unfolding IsWithin
-invite_round s v is = is.0
+pub invite_round_of_packet : (s : ℕ) (v : Stamp) → PacketIsWithin (packets.Invite s v) → IsNumber v.round
+unfolding PacketIsWithin
+invite_round_of_packet s v is = is.0
 
-pub vote_round : (s : ℕ) (v : Stamp) (vote : Vote) → IsWithin (packets.Vote s v vote) → IsNumber v.round
-unfolding IsWithin
-vote_round s v vote is = is.0
+pub vote_round_of_packet : (s : ℕ) (v : Stamp) (vote : Vote) → PacketIsWithin (packets.Vote s v vote) → IsNumber v.round
+unfolding PacketIsWithin
+vote_round_of_packet s v vote is = is.0
 
-pub piece_entry : (s : ℕ) (v : Stamp) (base number : ℕ) (e : Entry) → IsWithin (packets.Piece s v base number e) → IsEntry e
-unfolding IsWithin
-piece_entry s v base number e is = is.1.2
+pub piece_entry_of_packet : (s : ℕ) (v : Stamp) (base number : ℕ) (e : Entry) → PacketIsWithin (packets.Piece s v base number e) → IsEntry e
+unfolding PacketIsWithin
+piece_entry_of_packet s v base number e is = is.1.2
 
-pub result_view : (s base number : ℕ) (v : GroupView) → IsWithin (packets.Result s base number v) → IsEntry (View v)
-unfolding IsWithin
-result_view s base number v is = (is.0, is.1.2)
+pub result_view_of_packet : (s base number : ℕ) (v : GroupView) → PacketIsWithin (packets.Result s base number v) → IsEntry (View v)
+unfolding PacketIsWithin
+result_view_of_packet s base number v is = (is.0, is.1.2)

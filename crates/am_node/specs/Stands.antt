@@ -1,5 +1,5 @@
 -- Which node of the protocol a node of the code is: one that keeps the end of its list.
-use Rattle.am_handlers.specs.Parts.{node_of}
+use Rattle.am_node_parts.specs.Parts.{node_of}
 use Rattle.am_model.specs.Node as model
 use Rattle.am_node.specs.declared.node.Node.{Node}
 

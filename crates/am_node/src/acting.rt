@@ -1,20 +1,20 @@
 ghost use Rattle.std.specs.Prelude.{◌≢◌};
 ghost use Rattle.am_base.specs.declared.event.NodeEvent.TheVariants as does;
-ghost use Rattle.am_handlers.specs.Prelude.{node_of};
-ghost use Rattle.am_handlers.specs.Replies.{Replies};
+ghost use Rattle.am_node_parts.specs.Prelude.{node_of};
+ghost use Rattle.am_node_parts.specs.Replies.{Replies};
 ghost use Rattle.am_model.specs.Step.{row};
 ghost use Rattle.am_model.specs.Nodes.{HasNumbersLeft, HasPlace};
 
 use crate::hearing::hear_bytes;
-use am_acting::joining::{on_join, on_state};
-use am_acting::leaving::on_leave;
-use am_acting::sending::{on_done, on_send};
-use am_acting::taking::on_take;
-use am_acting::ticking::on_tick;
 use am_base::event::NodeEvent;
 use am_base::taken::EntryRoom;
-use am_handlers::parts::Parts;
-use am_handlers::reply::Reply;
+use am_node_calls::joining::{on_join, on_state};
+use am_node_calls::leaving::on_leave;
+use am_node_calls::sending::{on_done, on_send};
+use am_node_calls::taking::on_take;
+use am_node_calls::ticking::on_tick;
+use am_node_parts::parts::Parts;
+use am_node_parts::reply::Reply;
 use am_resetting::voting::{on_ask, on_give_up, on_reset};
 
 /// What a node replies where it takes nothing.

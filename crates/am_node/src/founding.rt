@@ -1,23 +1,23 @@
 ghost use Rattle.std.specs.Prelude.{◌≡◌, ◌+◌, ◌≤◌, [], EachIndex, slice_index, true, IfOk, if◌then◌else◌};
 ghost use Rattle.am_base.specs.Lists.{blank};
-ghost use Rattle.am_handlers.specs.Prelude.{has, node_of};
+ghost use Rattle.am_node_parts.specs.Prelude.{has, node_of};
 ghost use Rattle.am_base.specs.Founding.{MayFound};
-ghost use Rattle.am_state.specs.Reports.{reports_of, after_report, no_report};
-ghost use Rattle.am_model.specs.Node.{founder, stranger, founders_view, founding_stamp};
+ghost use Rattle.am_node_defs.specs.Reports.{reports_of, after_report, no_report};
+ghost use Rattle.am_model.specs.Node.{founder, stranger, founders_entry, founding_stamp};
 
 use am_base::entry::{Entry, GroupView};
 use am_base::founding::Founding;
 use am_base::image::Report;
 use am_base::name::{Name, Stamp};
 use am_base::names::Names;
-use am_handlers::parts::Parts;
 use am_model::status::Status;
-use am_parts::bodies::Pool;
-use am_parts::fronts::Fronts;
-use am_parts::history::History;
-use am_parts::log::Log;
-use am_parts::sender::Sender;
-use am_parts::state::Core;
+use am_node_parts::parts::Parts;
+use am_node_storage::bodies::Pool;
+use am_node_storage::fronts::Fronts;
+use am_node_storage::history::History;
+use am_node_storage::log::Log;
+use am_node_storage::sender::Sender;
+use am_node_storage::state::Core;
 use std::alloc::{AllocError, Global};
 use std::marker::Model;
 

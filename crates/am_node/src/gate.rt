@@ -1,13 +1,13 @@
 ghost use Rattle.std.specs.Prelude.{◌≡◌};
-ghost use Rattle.am_handlers.specs.Prelude.{node_of};
+ghost use Rattle.am_node_parts.specs.Prelude.{node_of};
 ghost use Rattle.am_model.specs.Hearing.{hears_member, hears_asking, hears_in_view, hears_as_sequencer, hears_sequencer, is_heard};
 
 use am_base::name::{Name, Stamp};
-use am_handlers::parts::Parts;
 use am_model::status::Status;
-use am_packet::kind::Gate;
+use am_node_parts::parts::Parts;
+use am_node_storage::log::Log;
+use am_packet::kind::PacketGate;
 use am_packet::packet::Packet;
-use am_parts::log::Log;
 
 /// Whether a member hears another name's packet.
 fn hears_member(parts: &Parts, from: Name) -> bool
@@ -51,12 +51,12 @@ pub fn is_heard(parts: &Parts, packet: &Packet) -> bool
 {
     let (sender, stamp) = packet.signature();
     match packet.kind().gate() {
-        Gate::Member => hears_member(parts, sender),
-        Gate::Leading => hears_member(parts, sender) && parts.is_sequencer(),
-        Gate::OfBeginner => hears_member(parts, sender) && stamp.by == sender,
-        Gate::Early => hears_asking(parts, sender) && stamp.by == sender,
-        Gate::InView => hears_in_view(parts, sender, stamp),
-        Gate::AsSequencer => hears_as_sequencer(parts, sender, stamp),
-        Gate::OfSequencer => hears_sequencer(parts, sender, stamp),
+        PacketGate::Member => hears_member(parts, sender),
+        PacketGate::Leading => hears_member(parts, sender) && parts.is_sequencer(),
+        PacketGate::OfBeginner => hears_member(parts, sender) && stamp.by == sender,
+        PacketGate::Early => hears_asking(parts, sender) && stamp.by == sender,
+        PacketGate::InView => hears_in_view(parts, sender, stamp),
+        PacketGate::AsSequencer => hears_as_sequencer(parts, sender, stamp),
+        PacketGate::OfSequencer => hears_sequencer(parts, sender, stamp),
     }
 }

@@ -1,15 +1,15 @@
 ghost use Rattle.std.specs.Prelude.{◌≡◌, option_map};
-ghost use Rattle.am_handlers.specs.Prelude.{node_of};
+ghost use Rattle.am_node_parts.specs.Prelude.{node_of};
 ghost use Rattle.am_ballots.specs.Kept.{ballot_of};
 ghost use Rattle.am_model.specs.Info.{role_by, role_of, info_of, waited_in, waited_for, end_of, ballot_end};
 
 use am_ballots::ballot::Ballot;
 use am_base::names::Names;
 use am_base::outcome::Outcome;
-use am_handlers::parts::Parts;
 use am_model::info::{BallotEnd, Info, Role};
 use am_model::status::Status;
-use am_parts::log::Log;
+use am_node_parts::parts::Parts;
+use am_node_storage::log::Log;
 
 /// The role that a status gives to who leads nothing.
 fn role_by(status: Status) -> Role

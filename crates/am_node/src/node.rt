@@ -1,5 +1,5 @@
 ghost use Rattle.am_base.specs.Most.{most_body};
-ghost use Rattle.am_handlers.specs.Prelude.{most_number};
+ghost use Rattle.am_node_parts.specs.Prelude.{most_number};
 
 use crate::acting::reply_to;
 use crate::founding::Room;
@@ -12,12 +12,12 @@ use am_base::name::{Name, Stamp};
 use am_base::names::Names;
 use am_base::outcome::Outcome;
 use am_base::taken::EntryRoom;
-use am_ending::ending::finish;
-use am_handlers::parts::Parts;
-use am_letter::out_box::OutBox;
 use am_model::info::{BallotEnd, Info};
 use am_model::status::Status;
-use am_parts::log::Log;
+use am_node_parts::parts::Parts;
+use am_node_storage::log::Log;
+use am_packet_writer::out_box::OutBox;
+use am_step_end::ending::finish;
 use std::alloc::{AllocError, Global};
 
 /// One node of a group. Its state is that of the protocol's node, but that it keeps only the end of its list, from the
@@ -30,10 +30,10 @@ pub struct Node {
 impl Node {
     ghost use Rattle.std.specs.Prelude.{◌≡◌, ◌==◌, ◌≤◌, ◌↔◌, [], length, nat_lt, not, true, IfOk, IsTrue};
     ghost use Rattle.std.specs.Option.{option_copied};
-    ghost use Rattle.am_handlers.specs.Prelude.{entry_at, has, IsInOrder, members, image_of, top, view, Does, Tells};
-    ghost use Rattle.am_model.specs.Node.{founder, stranger, unsettled_count};
+    ghost use Rattle.am_node_parts.specs.Prelude.{entry_at, has, IsInOrder, members, image_of, top, view, Does, Tells};
+    ghost use Rattle.am_model.specs.Node.{founder, stranger, node_unsettled_count};
     ghost use Rattle.am_model.specs.Step.{row};
-    ghost use Rattle.am_state.specs.Sends.{is_settled};
+    ghost use Rattle.am_node_defs.specs.Sends.{is_settled};
     ghost use Rattle.am_model.specs.Info.{info_of, ballot_end, waited_for};
     ghost use Rattle.am_model.specs.Nodes.{HasNumbersLeft, HasPlace, next_len};
     ghost use Rattle.am_node.specs.Stands.{state_of};

@@ -4,9 +4,9 @@ use Rattle.am_ordering.proofs.JoiningWords.{stamp_lt, stamp_eq, fold, row_of, Is
 use Rattle.am_ordering.proofs.JoiningWords.{is_within_bound, quiet, telling, nack_of, fetch_of, begin_list, ask_next, welcome_row, NodeKeeps, is_unfit}
 use Rattle.am_base.specs.declared.outcome.Outcome.TheVariants as said
 
-pub asking_log : (s : Status) → is_asking s ≡ true → has_log s ≡ false
-asking_log Asking h = refl
-asking_log _ h = absurd (cc)
+pub asker_status_has_no_log : (s : Status) → is_asking s ≡ true → has_log s ≡ false
+asker_status_has_no_log Asking h = refl
+asker_status_has_no_log _ h = absurd (cc)
 
 by_same : (a b : Stamp) (who : ℕ) → (stamp_eq a b && (b.by == who)) ≡ true → a.by ≡ who
 by_same a b who h = grind (arith, nat_tests)
@@ -17,11 +17,11 @@ third false true c d h = absurd (cc)
 third false false true d h = absurd (cc)
 third false false false d h = refl
 
-pub begun_keeps : (m : Node) (v : Stamp) (base join : ℕ) (image : Image) → is_asking m.status ≡ true → v.by ≢ m.core.who → is_unfit m v base join image ≡ false
+pub begun_list_keeps_node : (m : Node) (v : Stamp) (base join : ℕ) (image : Image) → is_asking m.status ≡ true → v.by ≢ m.core.who → is_unfit m v base join image ≡ false
     → IsInOrder m.core → NodeKeeps m → NodeKeeps (begin_list m v base join image)
 unfolding fold
-begun_keeps m v base join image asking other fit order keeps =
-    let none = asking_log m.status asking in
+begun_list_keeps_node m v base join image asking other fit order keeps =
+    let none = asker_status_has_no_log m.status asking in
     record {
       own =
           let own = keeps.own in
@@ -53,34 +53,34 @@ begun_keeps m v base join image asking other fit order keeps =
 
 -- ---- the row
 
-pub welcome_known : (m : Node) (from : ℕ) (v : Stamp) (base join : ℕ) (image : Image) → is_member m.status ≡ true
+pub welcome_row_of_member : (m : Node) (from : ℕ) (v : Stamp) (base join : ℕ) (image : Image) → is_member m.status ≡ true
     → welcome_row m from v base join image ≡ quiet m said.Known
 unfolding welcome_row
-welcome_known m from v base join image member = rw member refl
+welcome_row_of_member m from v base join image member = rw member refl
 
-pub welcome_elsewhere : (m : Node) (from : ℕ) (v : Stamp) (base join : ℕ) (image : Image) → is_member m.status ≡ false → stamp_lt v m.core.promise ≡ true
+pub welcome_row_is_elsewhere : (m : Node) (from : ℕ) (v : Stamp) (base join : ℕ) (image : Image) → is_member m.status ≡ false → stamp_lt v m.core.promise ≡ true
     → welcome_row m from v base join image ≡ quiet m said.Elsewhere
 unfolding welcome_row
-welcome_elsewhere m from v base join image none below = rw (none, below) refl
+welcome_row_is_elsewhere m from v base join image none below = rw (none, below) refl
 
-pub welcome_unfit : (m : Node) (from : ℕ) (v : Stamp) (base join : ℕ) (image : Image) → is_member m.status ≡ false → stamp_lt v m.core.promise ≡ false
+pub welcome_row_of_unfit_image : (m : Node) (from : ℕ) (v : Stamp) (base join : ℕ) (image : Image) → is_member m.status ≡ false → stamp_lt v m.core.promise ≡ false
     → is_unfit m v base join image ≡ true → welcome_row m from v base join image ≡ quiet m said.Unfit
 unfolding welcome_row
-welcome_unfit m from v base join image none there unfit = rw (none, there, unfit) refl
+welcome_row_of_unfit_image m from v base join image none there unfit = rw (none, there, unfit) refl
 
-pub welcome_begins : (m : Node) (from : ℕ) (v : Stamp) (base join : ℕ) (image : Image) → is_member m.status ≡ false → stamp_lt v m.core.promise ≡ false
+pub welcome_row_begins_list : (m : Node) (from : ℕ) (v : Stamp) (base join : ℕ) (image : Image) → is_member m.status ≡ false → stamp_lt v m.core.promise ≡ false
     → is_unfit m v base join image ≡ false → welcome_row m from v base join image ≡ ask_next (begin_list m v base join image) from v join
 unfolding welcome_row
-welcome_begins m from v base join image none there fit = rw (none, there, fit) refl
+welcome_row_begins_list m from v base join image none there fit = rw (none, there, fit) refl
 
-pub asks_nack : (m : Node) (from : ℕ) (v : Stamp) (join : ℕ) → stamp_eq (view m) v ≡ true
+pub ask_next_in_same_view : (m : Node) (from : ℕ) (v : Stamp) (join : ℕ) → stamp_eq (view m) v ≡ true
     → ask_next m from v join ≡ telling m (said.Welcomed join) (only_name from) nack_of
-asks_nack m from v join same = rw same refl
+ask_next_in_same_view m from v join same = rw same refl
 
-pub asks_fetch : (m : Node) (from : ℕ) (v : Stamp) (join : ℕ) → stamp_eq (view m) v ≡ false
+pub ask_next_in_promised_view : (m : Node) (from : ℕ) (v : Stamp) (join : ℕ) → stamp_eq (view m) v ≡ false
     → ask_next m from v join ≡ telling m (said.Welcomed join) (only_name from) fetch_of
-asks_fetch m from v join other = rw other refl
+ask_next_in_promised_view m from v join other = rw other refl
 
-pub member_or_asks : (s : Status) → (is_member s || is_asking s) ≡ true → is_member s ≡ false → is_asking s ≡ true
-member_or_asks Asking h none = refl
-member_or_asks _ h none = absurd (cc)
+pub status_not_member_asks : (s : Status) → (is_member s || is_asking s) ≡ true → is_member s ≡ false → is_asking s ≡ true
+status_not_member_asks Asking h none = refl
+status_not_member_asks _ h none = absurd (cc)

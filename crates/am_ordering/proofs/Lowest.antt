@@ -1,10 +1,10 @@
 -- Whether a name is among so many lowest of a set.
 use Rattle.am_ordering.proofs.ReceivingWords.{◌≡◌, ℕ, zero, suc, ◌+◌, ◌<◌, ◌≤◌, List, [], ◌∷◌, length, take, slice_index, refl, sym, ◌∙◌, ap, Bool, true, false, ◌&&◌}
-use Rattle.am_ordering.proofs.ReceivingWords.{◌==◌, if◌then◌else◌, nat_lt, count_by, arith, list_any, nat_tests, count_cons, IsSet, has, place_of, life_of, name_at}
+use Rattle.am_ordering.proofs.ReceivingWords.{◌==◌, if◌then◌else◌, nat_lt, count_by, arith, list_any, nat_tests, count_by_of_cons, IsSet, has, place_of, life_of, name_at}
 use Rattle.am_ordering.proofs.ReceivingWords.{names_from, names_of}
 
 -- how many places there are a life of
-abbrev pub lives_in : List ℕ → ℕ
+abbrev lives_in : List ℕ → ℕ
 lives_in lives = count_by (λ life. nat_lt 0 life) lives
 
 other_place : (who p b : ℕ) → p < 16 → (place_of who ≡ p → ⊥) → (name_at p (suc b) == who) ≡ false
@@ -18,7 +18,7 @@ same_place who p b at = grind (arith, nat_tests)
 life_more : (b : ℕ) (lives : List ℕ) → lives_in (suc b ∷ lives) ≡ 1 + lives_in lives
 life_more b lives =
     let some : nat_lt 0 (suc b) ≡ true = grind (arith, nat_tests) in
-    count_cons (λ life. nat_lt 0 life) (suc b) lives ∙ ap (λ (t : Bool). (if t then 1 else 0) + lives_in lives) some
+    count_by_of_cons (λ life. nat_lt 0 life) (suc b) lives ∙ ap (λ (t : Bool). (if t then 1 else 0) + lives_in lives) some
 
 one_more : (n r : ℕ) → nat_lt n r ≡ nat_lt (1 + n) (suc r)
 one_more n r = grind (arith, nat_tests)
@@ -52,6 +52,6 @@ among (suc b ∷ lives) who p (suc j) (suc r) h at =
     rw (here, rest) (ap (λ t. (slice_index lives j == life_of who) && t) (one_more (lives_in (take j lives)) r
     ∙ ap (λ k. nat_lt k (suc r)) (sym (life_more b (take j lives)))))
 
-pub among_lowest : (set : List ℕ) (who count : ℕ) → IsSet set
+pub name_among_lowest_of_set : (set : List ℕ) (who count : ℕ) → IsSet set
     → list_any (λ name. name == who) (take count (names_of set)) ≡ (has set who && nat_lt (lives_in (take (place_of who) set)) count)
-among_lowest set who count is = let l = is.places in among set who 0 (place_of who) count (omega arith) (omega arith)
+name_among_lowest_of_set set who count is = let l = is.places in among set who 0 (place_of who) count (omega arith) (omega arith)

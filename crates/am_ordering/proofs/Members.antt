@@ -1,10 +1,10 @@
 -- Who is a member stays one where another name joins or leaves.
 use Rattle.am_ordering.proofs.JoiningWords.{◌≡◌, ◌≢◌, ℕ, List, true, false, ◌==◌, ◌||◌, ◌&&◌, nat_lt, sym, ap, ◌∙◌, arith, slice_index, slice_index_or, nat_tests}
 use Rattle.am_ordering.proofs.JoiningWords.{get_or-map, get_or-set_other, Row, Image, Join, Leave, place_of, life_of, has, at_place, row_of, blank_row, member_life}
-use Rattle.am_ordering.proofs.JoiningWords.{members_of, with_row, after, fits, split}
+use Rattle.am_ordering.proofs.JoiningWords.{members_of, with_row, after, fits, split_on_bool_of_log}
 
 -- the life of a place that is a member
-pub member_at : (image : Image) (place : ℕ) → slice_index (members_of image) place ≡ member_life (slice_index_or image.rows place blank_row)
+member_at : (image : Image) (place : ℕ) → slice_index (members_of image) place ≡ member_life (slice_index_or image.rows place blank_row)
 member_at image place = get_or-map member_life image.rows place blank_row
 
 -- a row is set at another place
@@ -18,17 +18,17 @@ other_place image name place r other =
 free_life : (r : Row) (life : ℕ) → ((r.joined == 0) || (nat_lt 0 r.left && nat_lt r.life life)) ≡ true → member_life r ≡ 0
 free_life r life fit = grind (arith, nat_tests)
 
-pub joins_elsewhere : (image : Image) (from who : ℕ) → fits image (Join from) ≡ true → has (members_of image) who ≡ true → place_of who ≢ place_of from
+joins_elsewhere : (image : Image) (from who : ℕ) → fits image (Join from) ≡ true → has (members_of image) who ≡ true → place_of who ≢ place_of from
 unfolding fits
 joins_elsewhere image from who fit member = λ same.
     let none = member_at image (place_of from) ∙ free_life (at_place image from) (life_of from) fit in
     let there = ap (slice_index (members_of image)) same ∙ none in
     grind (arith, nat_tests)
 
-pub stays_by_join : (image : Image) (number from who : ℕ) → fits image (Join from) ≡ true → has (members_of image) who ≡ true
+pub member_stays_by_join : (image : Image) (number from who : ℕ) → fits image (Join from) ≡ true → has (members_of image) who ≡ true
     → has (members_of (after image number (Join from))) who ≡ true
 unfolding after
-stays_by_join image number from who fit member =
+member_stays_by_join image number from who fit member =
     ap (λ k. k == life_of who) (other_place image from (place_of who) (record { life = life_of from; joined = number; left = 0; last = 0 })
     (joins_elsewhere image from who fit member)) ∙ member
 
@@ -38,8 +38,8 @@ member_life_of : (r : Row) (life : ℕ) → (r.life == life) ≡ true → nat_lt
 member_life_of r life same joined stays = grind (arith, nat_tests)
 
 -- a name that has joined and not left is a member
-pub member_by_row : (image : Image) (from : ℕ) → ((row_of image from).joined == 0) ≡ false → (row_of image from).left ≡ 0 → has (members_of image) from ≡ true
-member_by_row image from = split ((at_place image from).life == life_of from)
+pub joined_row_is_member : (image : Image) (from : ℕ) → ((row_of image from).joined == 0) ≡ false → (row_of image from).left ≡ 0 → has (members_of image) from ≡ true
+joined_row_is_member image from = split_on_bool_of_log ((at_place image from).life == life_of from)
     (λ t. rw t (λ known stays.
     let joined : nat_lt 0 (at_place image from).joined ≡ true = grind (arith, nat_tests) in
     let there = member_at image (place_of from) ∙ member_life_of (at_place image from) (life_of from) t joined stays in
@@ -53,14 +53,14 @@ leaves_elsewhere set from who other leaver member = λ same.
     let b : slice_index set (place_of who) ≡ life_of who = grind (arith, nat_tests) in
     other (omega arith)
 
-pub stays_by_leave : (image : Image) (number from who : ℕ) → from ≢ who → has (members_of image) from ≡ true → has (members_of image) who ≡ true
+pub member_stays_by_leave : (image : Image) (number from who : ℕ) → from ≢ who → has (members_of image) from ≡ true → has (members_of image) who ≡ true
     → has (members_of (after image number (Leave from))) who ≡ true
 unfolding after
-stays_by_leave image number from who other leaver member = split ((at_place image from).life == life_of from)
+member_stays_by_leave image number from who other leaver member = split_on_bool_of_log ((at_place image from).life == life_of from)
     (λ t. rw t (ap (λ k. k == life_of who) (other_place image from (place_of who) (record (at_place image from) { left = number })
     (leaves_elsewhere (members_of image) from who other leaver member)) ∙ member))
     (λ f. rw f member)
 
-pub fits_leave : (image : Image) (from : ℕ) → has (members_of image) from ≡ true → fits image (Leave from) ≡ true
+pub leave_fits_of_member : (image : Image) (from : ℕ) → has (members_of image) from ≡ true → fits image (Leave from) ≡ true
 unfolding fits
-fits_leave image from member = member
+leave_fits_of_member image from member = member

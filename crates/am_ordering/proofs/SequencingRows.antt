@@ -1,17 +1,17 @@
 -- The rows of the sequencer, by what their tests say.
 use Rattle.am_ordering.proofs.SequencingWords.{◌≡◌, ℕ, ◌+◌, ◌<◌, ◌≤◌, List, Bool, true, false, not, nat_lt, nat_le, if◌then◌else◌, Option, Some, None, refl, ◌∙◌}
-use Rattle.am_ordering.proofs.SequencingWords.{sym, ap, subst, arith, nat_tests, Report, Outcome, Data, Node, top, others, only_name, has_room, report_fits, with_report}
-use Rattle.am_ordering.proofs.SequencingWords.{push_entry, Plan, quiet, polling, and_telling, hold_of, IsInOrder, alike_requested, IsEndOf, row_at, is_unknown}
-use Rattle.am_ordering.proofs.SequencingWords.{take_report, ack_row, serve_again, serve, nack_row, answer_request, number_data, request_row, end_self}
-use Rattle.am_ordering.proofs.SequencingWords.{unless, report_refusal, request_refusal, data_note, Reply, Replies, Ends, saying_of, replying, letters_of}
-use Rattle.am_ordering.proofs.SequencingWords.{replies_as, replies_whole, says, ends_as}
+use Rattle.am_ordering.proofs.SequencingWords.{sym, ap, subst, arith, nat_tests, Report, Outcome, Data, Node, top, others, only_name, has_room, report_fits, node_with_report}
+use Rattle.am_ordering.proofs.SequencingWords.{push_entry, Plan, quiet, polling, and_telling, hold_of, IsInOrder, answer_request_is_alike, IsEndOf, row_at, is_unknown}
+use Rattle.am_ordering.proofs.SequencingWords.{take_report, ack_row, serve_again, serve, nack_row, answer_request, number_data, request_row, untrimmed_node_ends_itself}
+use Rattle.am_ordering.proofs.SequencingWords.{unless, report_refusal, request_refusal, data_note, Reply, Replies, Ends, saying_of, replying, reply_letters}
+use Rattle.am_ordering.proofs.SequencingWords.{equal_reply_of_equal_plan, reply_on_whole_log, reply_without_departure, node_ends_as_itself}
 use Rattle.am_base.specs.Limits.{IsNumber}
 use Rattle.am_base.specs.declared.outcome.Outcome.TheVariants as said
 use Rattle.am_model.specs.Refresh.{refresh_at_end}
-use Rattle.am_handlers.specs.Replies.{IsNoteWithin}
-use Rattle.am_handlers.specs.declared.reply.Answer.TheVariants as answer
-use Rattle.am_handlers.specs.declared.reply.Note.TheVariants as note
-use Rattle.am_handlers.specs.declared.reply.Telling.TheVariants as tell
+use Rattle.am_node_parts.specs.Replies.{IsNoteWithin}
+use Rattle.am_node_parts.specs.declared.reply.StepAnswer.TheVariants as answer
+use Rattle.am_node_parts.specs.declared.reply.Note.TheVariants as note
+use Rattle.am_node_parts.specs.declared.reply.Telling.TheVariants as tell
 
 -- ---- a report
 
@@ -27,26 +27,26 @@ by_refusal : (m : Node) (from : ℕ) (report : Report) (refusal : Option Outcome
 by_refusal m from report refusal plan is =
     by_tests (is_unknown m from) (report_fits m report) m plan ∙ ap (λ (o : Option Outcome). unless o m plan) (sym is)
 
-pub nack_by : (m : Node) (from : ℕ) (report : Report) (refusal : Option Outcome) → refusal ≡ report_refusal m from report
+pub nack_row_by_refusal : (m : Node) (from : ℕ) (report : Report) (refusal : Option Outcome) → refusal ≡ report_refusal m from report
     → nack_row m from report ≡ unless refusal m (serve_again (take_report m from report) from report.stored)
 unfolding nack_row
-nack_by m from report refusal is = by_refusal m from report refusal (serve_again (take_report m from report) from report.stored) is
+nack_row_by_refusal m from report refusal is = by_refusal m from report refusal (serve_again (take_report m from report) from report.stored) is
 
-pub request_by : (m : Node) (from : ℕ) (report : Report) (req : ℕ) (body : List ℕ) (by_order : Bool) (refusal : Option Outcome)
+pub request_row_by_refusal : (m : Node) (from : ℕ) (report : Report) (req : ℕ) (body : List ℕ) (by_order : Bool) (refusal : Option Outcome)
     → refusal ≡ report_refusal m from report
     → request_row m from report req body by_order ≡ unless refusal m (answer_request (take_report m from report) from req body by_order)
 unfolding request_row
-request_by m from report req body by_order refusal is =
+request_row_by_refusal m from report req body by_order refusal is =
     by_refusal m from report refusal (answer_request (take_report m from report) from req body by_order) is
 
 -- ---- an Ack
 
 -- the end of a step whose report is taken, and before which so much was accepted
-abbrev pub following : ℕ → Node → Plan
+abbrev following : ℕ → Node → Plan
 following since m = record (quiet m said.Noted) { outcome = λ n. if nat_lt since n.core.acc then said.Accepted n.core.acc else said.Noted }
 
-pub follows_reply : (since : ℕ) (m n : Node) → Ends m n → Replies (following since m) (replying (answer.Accepted since) tell.Nothing) n
-follows_reply since m n end = says (following since m) _ n refl end refl (record {
+pub following_replies_accepted : (since : ℕ) (m n : Node) → Ends m n → Replies (following since m) (replying (answer.Accepted since) tell.Nothing) n
+following_replies_accepted since m n end = reply_without_departure (following since m) _ n refl end refl (record {
   answer = refl;
   letters = refl;
   polls = refl;
@@ -54,38 +54,38 @@ follows_reply since m n end = says (following since m) _ n refl end refl (record
   may = record { there = tt; first = λ x. tt; second = λ x. tt };
 })
 
-pub ack_by : (m : Node) (from : ℕ) (report : Report) (refusal : Option Outcome) → refusal ≡ report_refusal m from report
-    → ack_row m from report ≡ unless refusal m (following m.core.acc (with_report m from report))
+pub ack_row_by_refusal : (m : Node) (from : ℕ) (report : Report) (refusal : Option Outcome) → refusal ≡ report_refusal m from report
+    → ack_row m from report ≡ unless refusal m (following m.core.acc (node_with_report m from report))
 unfolding ack_row
-ack_by m from report refusal is = by_refusal m from report refusal (following m.core.acc (with_report m from report)) is
+ack_row_by_refusal m from report refusal is = by_refusal m from report refusal (following m.core.acc (node_with_report m from report)) is
 
 -- ---- a Nack
 
-pub again_behind : (m : Node) (to stored : ℕ) → stored < m.core.base → serve_again m to stored ≡ quiet m said.Behind
-again_behind m to stored low =
+pub serve_again_below_base : (m : Node) (to stored : ℕ) → stored < m.core.base → serve_again m to stored ≡ quiet m said.Behind
+serve_again_below_base m to stored low =
     let test : nat_lt stored m.core.base ≡ true = grind (arith, nat_tests) in
     rw test refl
 
-pub again_served : (m : Node) (to stored : ℕ) → m.core.base ≤ stored → serve_again m to stored ≡ serve m to stored
-again_served m to stored low =
+pub serve_again_from_base : (m : Node) (to stored : ℕ) → m.core.base ≤ stored → serve_again m to stored ≡ serve m to stored
+serve_again_from_base m to stored low =
     let test : nat_lt stored m.core.base ≡ false = grind (arith, nat_tests) in
     rw test refl
 
 -- ---- a send
 
 -- once the report is taken, what is replied is what the row asks for
-pub after_report : (old mid new : Node) (from : ℕ) (report : Report) (req : ℕ) (body : List ℕ) (by_order : Bool) (r : Reply)
+pub request_row_after_report : (old mid new : Node) (from : ℕ) (report : Report) (req : ℕ) (body : List ℕ) (by_order : Bool) (r : Reply)
     → None ≡ report_refusal old from report → IsEndOf (take_report old from report) mid → IsInOrder mid.core
     → Replies (answer_request mid from req body by_order) r new → Replies (request_row old from report req body by_order) r new
-after_report old mid new from report req body by_order r none end order replies =
-    replies_as (request_by old from report req body by_order None none) refl
-    (replies_whole (λ m. answer_request m from req body by_order) (take_report old from report) mid new r end order
-    (λ all keeps. alike_requested all mid from req body by_order keeps) replies)
+request_row_after_report old mid new from report req body by_order r none end order replies =
+    equal_reply_of_equal_plan (request_row_by_refusal old from report req body by_order None none) refl
+    (reply_on_whole_log (λ m. answer_request m from req body by_order) (take_report old from report) mid new r end order
+    (λ all keeps. answer_request_is_alike all mid from req body by_order keeps) replies)
 
-pub held_reply : (m : Node) (to req : ℕ) → IsNumber req
+pub held_request_replies_hold : (m : Node) (to req : ℕ) → IsNumber req
     → Replies (and_telling (polling m (said.Held m.core.base (top m))) (only_name to) (λ n. hold_of n req))
     (record (saying_of (said.Held m.core.base (top m)) (tell.Note (only_name to) (note.Hold req))) { polls = true }) m
-held_reply m to req within = says _ _ m refl (end_self m) refl (record {
+held_request_replies_hold m to req within = reply_without_departure _ _ m refl (untrimmed_node_ends_itself m) refl (record {
   answer = refl;
   letters = refl;
   polls = refl;
@@ -116,31 +116,31 @@ request_next m from req body by_order refusal is =
     let plan = next_send m from req body by_order in
     by_row (nat_lt 0 r.left) (nat_le req r.last) (nat_lt (r.last + 1) req) m r.last plan ∙ ap (λ (o : Option Outcome). unless o m plan) (sym is)
 
-pub request_refused : (m : Node) (from req : ℕ) (body : List ℕ) (by_order : Bool) (answer : Outcome) → Some answer ≡ request_refusal (row_at m from) req
+pub answer_request_that_is_refused : (m : Node) (from req : ℕ) (body : List ℕ) (by_order : Bool) (answer : Outcome) → Some answer ≡ request_refusal (row_at m from) req
     → answer_request m from req body by_order ≡ quiet m answer
-request_refused m from req body by_order answer is = request_next m from req body by_order (Some answer) is
+answer_request_that_is_refused m from req body by_order answer is = request_next m from req body by_order (Some answer) is
 
-pub request_held : (m : Node) (from req : ℕ) (body : List ℕ) (by_order : Bool) → None ≡ request_refusal (row_at m from) req → has_room m ≡ false
+pub answer_request_without_room : (m : Node) (from req : ℕ) (body : List ℕ) (by_order : Bool) → None ≡ request_refusal (row_at m from) req → has_room m ≡ false
     → answer_request m from req body by_order ≡ and_telling (polling m (said.Held m.core.base (top m))) (only_name from) (λ n. hold_of n req)
 unfolding next_send
-request_held m from req body by_order is full = request_next m from req body by_order None is ∙ rw full refl
+answer_request_without_room m from req body by_order is full = request_next m from req body by_order None is ∙ rw full refl
 
-pub request_numbered : (m : Node) (from req : ℕ) (body : List ℕ) (by_order : Bool) → None ≡ request_refusal (row_at m from) req → has_room m ≡ true
+pub answer_request_is_numbered : (m : Node) (from req : ℕ) (body : List ℕ) (by_order : Bool) → None ≡ request_refusal (row_at m from) req → has_room m ≡ true
     → answer_request m from req body by_order ≡ number_data m from req body by_order
 unfolding next_send
-request_numbered m from req body by_order is room = request_next m from req body by_order None is ∙ rw room refl
+answer_request_is_numbered m from req body by_order is room = request_next m from req body by_order None is ∙ rw room refl
 
 -- a send that is numbered, by its note
-pub number_reply : (m mid : Node) (from req number : ℕ) (body : List ℕ) (by_order : Bool) → mid ≡ push_entry m (Data from req body) → number ≡ top m + 1
+pub numbered_data_replies_note : (m mid : Node) (from req number : ℕ) (body : List ℕ) (by_order : Bool) → mid ≡ push_entry m (Data from req body) → number ≡ top m + 1
     → IsNumber number → IsNumber req
     → Replies (number_data m from req body by_order) (record (saying_of (said.Numbered number) (tell.Note (others m) (data_note number from req body by_order)))
     { numbers = true }) mid
-number_reply m mid from req number body by_order node is number_within req_within =
+numbered_data_replies_note m mid from req number body by_order node is number_within req_within =
     let at = top m + 1 in
     let low : IsNumber at = subst IsNumber is number_within in
     let sends : Bool → Reply = λ b. record (saying_of (said.Numbered at) (tell.Note (others m) (data_note at from req body b))) { numbers = true } in
-    replies_as refl (ap (λ k. record (saying_of (said.Numbered k) (tell.Note (others m) (data_note k from req body by_order))) { numbers = true }) is)
-    (says (number_data m from req body by_order) (sends by_order) mid refl (ends_as (push_entry m (Data from req body)) mid node) refl (record {
+    equal_reply_of_equal_plan refl (ap (λ k. record (saying_of (said.Numbered k) (tell.Note (others m) (data_note k from req body by_order))) { numbers = true }) is)
+    (reply_without_departure (number_data m from req body by_order) (sends by_order) mid refl (node_ends_as_itself (push_entry m (Data from req body)) mid node) refl (record {
       answer = refl;
       letters = letters by_order (refresh_at_end (push_entry m (Data from req body)));
       polls = refl;
@@ -149,7 +149,7 @@ number_reply m mid from req number body by_order node is number_within req_withi
     }))
   where
     letters : (b : Bool) (n : Node) → (number_data m from req body b).letters n
-        ≡ letters_of (record (saying_of (said.Numbered (top m + 1)) (tell.Note (others m) (data_note (top m + 1) from req body b))) { numbers = true }) mid n
+        ≡ reply_letters (record (saying_of (said.Numbered (top m + 1)) (tell.Note (others m) (data_note (top m + 1) from req body b))) { numbers = true }) mid n
     letters true n = refl
     letters false n = refl
 

@@ -11,7 +11,7 @@ use Rattle.am_base.specs.Lists.{row_of}
 use Rattle.am_base.specs.declared.entry.Entry.TheVariants.{Leave}
 use Rattle.am_model.specs.Node.{Node, top, only_name, is_within_bound}
 use Rattle.am_model.specs.Emit.{Plan, quiet, telling, numbering, bcast_of, welcome_of}
-use Rattle.am_model.specs.Joining.{let_go, and_gone}
+use Rattle.am_model.specs.Joining.{let_leaver_go, and_gone}
 
 -- why a name may not join, where the row of its place is this and so much is accepted
 abbrev pub refusal_of : ℕ → ℕ → Row → Option Outcome
@@ -37,7 +37,7 @@ abbrev pub number_leave : Node → ℕ → Plan
 number_leave m name = and_gone (numbering m (Leave name) (said.Numbered (top m + 1)) (λ n. bcast_of n (top m + 1) (Leave name))) name
 
 abbrev pub leave_again : Node → ℕ → Plan
-leave_again m name = and_gone (record (quiet m said.Again) { outcome = let_go m name }) name
+leave_again m name = and_gone (record (quiet m said.Again) { outcome = let_leaver_go m name }) name
 
 -- a Welcome that can't be this node's
 abbrev pub is_unfit : Node → Stamp → ℕ → ℕ → Image → Bool

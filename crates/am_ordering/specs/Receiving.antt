@@ -1,10 +1,10 @@
 -- Pieces of a member's rows.
 use Rattle.std.specs.Prelude.{◌≡◌, ℕ, Bool, true, false, max, nat_le, if◌then◌else◌}
-use Rattle.am_state.specs.Cores.{CoreState}
+use Rattle.am_node_defs.specs.Cores.{CoreState}
 use Rattle.am_model.specs.Node.{Node, only_name, is_member, is_sequencer}
-use Rattle.am_handlers.specs.declared.reply.Note.TheVariants as notes
-use Rattle.am_handlers.specs.declared.reply.Telling.{Telling}
-use Rattle.am_handlers.specs.declared.reply.Telling.TheVariants as tell
+use Rattle.am_node_parts.specs.declared.reply.Note.TheVariants as notes
+use Rattle.am_node_parts.specs.declared.reply.Telling.{Telling}
+use Rattle.am_node_parts.specs.declared.reply.Telling.TheVariants as tell
 
 -- what the sequencer's packet tells of its fronts, noted by a core
 abbrev pub note : ℕ → ℕ → CoreState → CoreState

@@ -7,8 +7,8 @@ use Rattle.am_base.specs.declared.outcome.Outcome.{Outcome}
 use Rattle.am_base.specs.declared.outcome.Outcome.TheVariants as said
 use Rattle.am_model.specs.Node.{Node, report_fits}
 use Rattle.am_model.specs.Sequencing.{is_unknown}
-use Rattle.am_handlers.specs.declared.reply.Note.{Note}
-use Rattle.am_handlers.specs.declared.reply.Note.TheVariants as note
+use Rattle.am_node_parts.specs.declared.reply.Note.{Note}
+use Rattle.am_node_parts.specs.declared.reply.Note.TheVariants as note
 
 -- what is told of a report that isn't taken
 abbrev pub report_refusal : Node → ℕ → Report → Option Outcome

@@ -1,18 +1,18 @@
 ghost use Rattle.std.specs.Prelude.{◌≡◌, ◌≢◌, ◌<◌, ◌+◌, length, true};
-ghost use Rattle.am_handlers.specs.Prelude.{IsRow, at_place, fits, is_sequencer, image_of, node_of, HasRoomLeft, MayServe};
+ghost use Rattle.am_node_parts.specs.Prelude.{IsRow, at_place, fits, is_sequencer, image_of, node_of, HasRoomLeft, MayServe};
 ghost use Rattle.am_base.specs.declared.entry.Entry.TheVariants.{Join};
-ghost use Rattle.am_model.specs.Joining.{with_admitted, number_join, join_ask_row};
-ghost use Rattle.am_handlers.specs.Replies.{Replies};
+ghost use Rattle.am_model.specs.Joining.{node_with_admitted, number_join, join_ask_row};
+ghost use Rattle.am_node_parts.specs.Replies.{Replies};
 ghost use Rattle.am_ordering.specs.Joining.{refusal_of, needs_none, welcome_again};
 
 use am_base::entry::EntryRef;
 use am_base::image::Row;
 use am_base::name::Name;
 use am_base::outcome::Outcome;
-use am_handlers::asking::{has_room, held_answer, next_number, others};
-use am_handlers::parts::Parts;
-use am_handlers::reply::{Note, Reply, Telling, note_to, numbered, polling, quiet, saying};
-use am_parts::log::Log;
+use am_node_parts::asking::{has_room, held_answer, next_number, others};
+use am_node_parts::parts::Parts;
+use am_node_parts::reply::{Note, Reply, Telling, note_to, numbered, polling, quiet, saying};
+use am_node_storage::log::Log;
 
 /// The row of a name's place.
 fn at_place(parts: &Parts, name: Name) -> Row

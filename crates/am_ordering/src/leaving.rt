@@ -1,20 +1,20 @@
 ghost use Rattle.std.specs.Prelude.{◌≡◌, ◌≢◌, true, false};
-ghost use Rattle.am_handlers.specs.Prelude.{members_of, has, is_sequencer, image_of, node_of, HasRoomLeft, MayServe};
+ghost use Rattle.am_node_parts.specs.Prelude.{members_of, has, is_sequencer, image_of, node_of, HasRoomLeft, MayServe};
 ghost use Rattle.am_model.specs.Sequencing.{is_unknown};
 ghost use Rattle.am_model.specs.Joining.{counts_report, asks_to_leave, leave_ask_row};
-ghost use Rattle.am_handlers.specs.Replies.{Replies};
+ghost use Rattle.am_node_parts.specs.Replies.{Replies};
 ghost use Rattle.am_ordering.specs.Joining.{number_leave, leave_again};
 
 use am_base::entry::EntryRef;
 use am_base::image::Report;
 use am_base::name::{Name, Stamp};
 use am_base::outcome::Outcome;
-use am_handlers::asking::{
+use am_node_parts::asking::{
     has_room, held_answer, is_unknown, next_number, others, report_fits, row,
 };
-use am_handlers::parts::Parts;
-use am_handlers::reply::{Answer, Reply, Telling, answering, numbered, polling, quiet};
-use am_parts::log::Log;
+use am_node_parts::parts::Parts;
+use am_node_parts::reply::{Reply, StepAnswer, Telling, answering, numbered, polling, quiet};
+use am_node_storage::log::Log;
 
 /// Whether a report is one of this view, and its sender could have made it of the list.
 fn counts_report(parts: &Parts, stamp: Stamp, report: Report) -> bool
@@ -44,7 +44,7 @@ fn leave_again<'a>(parts: &Parts, from: Name) -> Reply<'a>
 {
     let number = row(parts, from).left;
     answering(
-        Answer::LetGo { to: from, number },
+        StepAnswer::LetGo { to: from, number },
         Telling::Gone { to: from },
     )
 }

@@ -1,9 +1,9 @@
 ghost use Rattle.std.specs.Prelude.{◌≡◌, ◌+◌, IfNone};
-ghost use Rattle.am_handlers.specs.Prelude.{IsNumber, only_name, top, node_of};
+ghost use Rattle.am_node_parts.specs.Prelude.{IsNumber, only_name, top, node_of};
 ghost use Rattle.am_base.specs.declared.entry.Entry.TheVariants.{Data};
 ghost use Rattle.am_model.specs.Emit.{polling, and_telling, hold_of};
 ghost use Rattle.am_base.specs.declared.outcome.Outcome.TheVariants as said;
-ghost use Rattle.am_handlers.specs.Replies.{Replies};
+ghost use Rattle.am_node_parts.specs.Replies.{Replies};
 ghost use Rattle.am_ordering.specs.Sequencing.{data_note, request_refusal};
 
 use crate::sequencer::Request;
@@ -11,9 +11,9 @@ use am_base::entry::{EntryParts, EntryRef};
 use am_base::image::Row;
 use am_base::name::Name;
 use am_base::outcome::Outcome;
-use am_handlers::asking::held_answer;
-use am_handlers::parts::Parts;
-use am_handlers::reply::{Note, Reply, note_to, saying};
+use am_node_parts::asking::held_answer;
+use am_node_parts::parts::Parts;
+use am_node_parts::reply::{Note, Reply, note_to, saying};
 
 /// What is told of a send that isn't its sender's next one, or whose sender has left; None where it may be numbered.
 pub fn request_refusal(row: Row, req: u32) -> Option<Outcome>

@@ -1,9 +1,9 @@
 ghost use Rattle.std.specs.Prelude.{◌≡◌, ◌+◌, ◌≤◌, ◌<◌, Some, false, nat_lt, ◌&&◌, not, IfSome};
 ghost use Rattle.std.specs.Option.{option_copied};
-ghost use Rattle.am_handlers.specs.Prelude.{IsNumber, IsEntry, IsInOrder, has_own_leave, is_sequencer, top, waiting, IsEndOf, IsSteady, node_of};
-ghost use Rattle.am_state.specs.Cores.{Keeps};
-ghost use Rattle.am_model.specs.Receiving.{with_noted, accept_row, bcast_row, order_row, receive_entry, own_body, body_of, data_of};
-ghost use Rattle.am_handlers.specs.Replies.{Replies};
+ghost use Rattle.am_node_parts.specs.Prelude.{IsNumber, IsEntry, IsInOrder, has_own_leave, is_sequencer, top, waiting, IsEndOf, IsSteady, node_of};
+ghost use Rattle.am_node_defs.specs.Cores.{Keeps};
+ghost use Rattle.am_model.specs.Receiving.{with_noted, accept_row, bcast_row, order_row, receive_entry, own_body, body_of, data_entry_of};
+ghost use Rattle.am_node_parts.specs.Replies.{Replies};
 ghost use Rattle.am_ordering.specs.Receiving.{note, ack_where, Follows};
 
 use crate::storing::store;
@@ -11,10 +11,10 @@ use am_base::body::Body;
 use am_base::entry::{Entry, EntryRef};
 use am_base::name::Name;
 use am_base::outcome::Outcome;
-use am_handlers::parts::Parts;
-use am_handlers::reply::{Answer, Note, Reply, Telling, answering, note_to, quiet, saying};
-use am_parts::log::Log;
-use am_parts::state::Core;
+use am_node_parts::parts::Parts;
+use am_node_parts::reply::{Note, Reply, StepAnswer, Telling, answering, note_to, quiet, saying};
+use am_node_storage::log::Log;
+use am_node_storage::state::Core;
 
 /// What a packet of the sequencer tells of its list.
 #[derive(Clone, Copy)]
@@ -101,7 +101,7 @@ pub fn on_accept<'a>(parts: &mut Parts, told: Told, poll: bool) -> Reply<'a>
         let nack = note_to(told.sender, Note::Nack);
         return saying(Outcome::Gap { want: stored + 1 }, nack);
     }
-    answering(Answer::Advanced { since }, ack_where(poll, told.sender))
+    answering(StepAnswer::Advanced { since }, ack_where(poll, told.sender))
 }
 
 /// Does what a numbered entry asks for, once its fronts are noted.

@@ -1,7 +1,7 @@
 ghost use Rattle.std.specs.Prelude.{◌≡◌, ◌≢◌, ◌<◌, ◌≤◌, true, false, IfNone};
-ghost use Rattle.am_handlers.specs.Prelude.{most_number, IsNumber, is_sequencer, top, node_of, MayServe};
+ghost use Rattle.am_node_parts.specs.Prelude.{most_number, IsNumber, is_sequencer, top, node_of, MayServe};
 ghost use Rattle.am_model.specs.Sequencing.{is_unknown, ack_row, nack_row, request_row, answer_request};
-ghost use Rattle.am_handlers.specs.Replies.{Replies};
+ghost use Rattle.am_node_parts.specs.Replies.{Replies};
 ghost use Rattle.am_ordering.specs.Sequencing.{report_refusal};
 
 use crate::numbering::{data_note, data_of, put_off, request_refusal};
@@ -10,9 +10,9 @@ use am_base::body::BodyRef;
 use am_base::image::Report;
 use am_base::name::Name;
 use am_base::outcome::Outcome;
-use am_handlers::asking::{has_room, is_unknown, next_number, others, report_fits, row};
-use am_handlers::parts::Parts;
-use am_handlers::reply::{Answer, Reply, Telling, answering, quiet, saying};
+use am_node_parts::asking::{has_room, is_unknown, next_number, others, report_fits, row};
+use am_node_parts::parts::Parts;
+use am_node_parts::reply::{Reply, StepAnswer, Telling, answering, quiet, saying};
 
 /// A send of another name, as its packet tells it.
 #[derive(Drop)]
@@ -56,7 +56,7 @@ pub fn on_ack<'a>(parts: &mut Parts, from: Name, report: Report) -> Reply<'a>
         return quiet(answer);
     }
     parts.report(from, report);
-    answering(Answer::Accepted { since }, Telling::Nothing)
+    answering(StepAnswer::Accepted { since }, Telling::Nothing)
 }
 
 /// Takes a report of another name that asks for what comes next. Stranger: no Join of its sender stands in the list.

@@ -1,14 +1,14 @@
 ghost use Rattle.std.specs.Prelude.{◌≡◌, ◌≤◌};
-ghost use Rattle.am_handlers.specs.Prelude.{top, node_of};
+ghost use Rattle.am_node_parts.specs.Prelude.{top, node_of};
 ghost use Rattle.am_model.specs.Sequencing.{serve_again};
-ghost use Rattle.am_handlers.specs.Replies.{Replies};
+ghost use Rattle.am_node_parts.specs.Replies.{Replies};
 
 use am_base::name::Name;
 use am_base::outcome::Outcome;
-use am_handlers::parts::Parts;
-use am_handlers::reply::{Reply, Telling, quiet, saying};
-use am_handlers::serving::count_above;
-use am_parts::log::Log;
+use am_node_parts::parts::Parts;
+use am_node_parts::reply::{Reply, Telling, quiet, saying};
+use am_node_parts::serving::count_above;
+use am_node_storage::log::Log;
 
 /// Answers who stored the list up to a number, and sends it what comes next. Behind where that is trimmed, else Served.
 pub fn serve_again<'a>(parts: &Parts, to: Name, stored: u32) -> Reply<'a>

@@ -1,9 +1,9 @@
 ghost use Rattle.std.specs.Prelude.{◌≡◌, ◌+◌, ◌-◌, ◌<◌, ◌==◌, Some, true, false, nat_lt, take, count_by, ◌||◌, not};
 ghost use Rattle.std.specs.List.{list_any};
-ghost use Rattle.am_handlers.specs.Prelude.{IsNumber, IsEntry, fits, IsSet, names_of, is_within_bound, image_of, top, node_of};
+ghost use Rattle.am_node_parts.specs.Prelude.{IsNumber, IsEntry, fits, IsSet, names_of, is_within_bound, image_of, top, node_of};
 ghost use Rattle.am_base.specs.declared.outcome.Outcome.{Outcome};
 ghost use Rattle.am_model.specs.Receiving.{is_view, bodies_after, acknowledges, store};
-ghost use Rattle.am_handlers.specs.Replies.{Replies};
+ghost use Rattle.am_node_parts.specs.Replies.{Replies};
 ghost use Rattle.am_ordering.specs.Receiving.{Follows};
 
 use crate::receiver::{Told, ack_where};
@@ -11,10 +11,10 @@ use am_base::entry::{EntryParts, EntryRef};
 use am_base::name::Name;
 use am_base::names::Names;
 use am_base::outcome::Outcome;
-use am_handlers::parts::Parts;
-use am_handlers::reply::{Reply, quiet, saying};
-use am_parts::bodies::Pool;
-use am_parts::log::Log;
+use am_node_parts::parts::Parts;
+use am_node_parts::reply::{Reply, quiet, saying};
+use am_node_storage::bodies::Pool;
+use am_node_storage::log::Log;
 
 /// Whether an entry is a View.
 fn is_view(entry: &EntryRef) -> bool
@@ -82,7 +82,7 @@ fn is_among_lowest(set: Names, count: u8, name: Name) -> bool
 }
 
 /// Whether the node is among so many lowest members other than the sequencer.
-#[tactic(auto, using(am_state::proofs::Ends::top_laws))]
+#[tactic(auto, using(am_node_defs::proofs::Ends::image_top_rules))]
 fn acknowledges(parts: &Parts, sequencer: Name) -> bool
     ensures { result ≡ acknowledges (node_of parts.now) sequencer (node_of parts.now) }
 {

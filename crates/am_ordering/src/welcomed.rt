@@ -1,19 +1,19 @@
 ghost use Rattle.std.specs.Prelude.{◌≡◌, ◌≢◌, ◌||◌, true, false, nat_lt};
-ghost use Rattle.am_handlers.specs.Prelude.{IsNumber, IsStamp, IsImage, row_of, top_of, stamp_eq, stamp_lt, is_member, view, node_of};
+ghost use Rattle.am_node_parts.specs.Prelude.{IsNumber, IsStamp, IsImage, row_of, top_of, stamp_eq, stamp_lt, is_member, view, node_of};
 ghost use Rattle.am_model.specs.Node.{is_asking};
 ghost use Rattle.am_model.specs.Joining.{begin_list, begun_core, ask_next, welcome_row};
-ghost use Rattle.am_handlers.specs.Replies.{Replies};
+ghost use Rattle.am_node_parts.specs.Replies.{Replies};
 ghost use Rattle.am_ordering.specs.Joining.{is_unfit};
 
 use am_base::image::Image;
 use am_base::name::{Name, Stamp};
 use am_base::outcome::Outcome;
-use am_handlers::parts::Parts;
-use am_handlers::reply::{Note, Reply, note_to, quiet, saying};
 use am_model::status::Status;
+use am_node_parts::parts::Parts;
+use am_node_parts::reply::{Note, Reply, note_to, quiet, saying};
+use am_node_storage::log::Log;
+use am_node_storage::state::Core;
 use am_packet::image_ref::ImageRef;
-use am_parts::log::Log;
-use am_parts::state::Core;
 
 /// What a Welcome tells, but for its image.
 #[derive(Clone, Copy)]

@@ -8,24 +8,24 @@ use Rattle.am_base.specs.declared.entry.Entry.{Entry}
 use Rattle.am_base.specs.declared.entry.Entry.TheVariants.{Data, Join, Leave, View}
 use Rattle.am_packet.specs.declared.packet.Packet.{Packet}
 use Rattle.am_packet.specs.declared.packet.Packet.TheVariants as packets
-use Rattle.am_packet.specs.declared.kind.Kind.{Kind}
-use Rattle.am_packet.specs.declared.kind.Kind.TheVariants as kinds
-use Rattle.am_packet.specs.Kinds.{head_of, number_of, kind_at, is_total, most_request, most_counted, most_entry}
+use Rattle.am_packet.specs.declared.kind.PacketKind.{PacketKind}
+use Rattle.am_packet.specs.declared.kind.PacketKind.TheVariants as kinds
+use Rattle.am_packet.specs.Kinds.{head_of, packet_kind_number, kind_at, is_total, most_request, most_counted, most_entry}
 use Rattle.am_base.specs.Limits.{IsNumber}
-use Rattle.am_packet.specs.Limits.{IsWithin, HasParts, HasEntryParts, IsPacket}
+use Rattle.am_packet.specs.Limits.{PacketIsWithin, HasParts, HasEntryParts, IsPacket}
 use Rattle.am_packet.specs.Spelling.{spelling, fields_of, sender_of, stamp_of, entry_bytes}
 use Rattle.am_packet.specs.Reading.{number_at, packet_at, fields_at, of_kind_at, reading, total_in}
 use Rattle.am_packet.proofs.Lengths.{length-rows_bytes}
-use Rattle.am_packet.proofs.Fields.{later, peek, number_again, report_again, stamp_again, set_again, resilience_again, flag_again}
-use Rattle.am_packet.proofs.Parts.{image_again, vote_again, entry_again}
+use Rattle.am_packet.proofs.Fields.{bytes_dropped_are_fields_dropped, byte_is_field_byte, number_at_big_bytes, report_at_report_bytes, stamp_at_stamp_bytes, set_at_set_bytes, resilience_at_byte, flag_at_flag_byte}
+use Rattle.am_packet.proofs.Parts.{image_at_image_bytes, vote_at_vote_bytes, entry_at_entry_bytes}
 
-pub kind_back : (kind : Kind) → kind_at (number_of kind) ≡ Some kind
+pub kind_at_number_of_kind : (kind : PacketKind) → kind_at (packet_kind_number kind) ≡ Some kind
 unfolding kind_at
-kind_back kinds.Request = refl
-kind_back _ = refl
+kind_at_number_of_kind kinds.Request = refl
+kind_at_number_of_kind _ = refl
 
-round_within : (packet : Packet) → IsWithin packet → IsNumber (stamp_of packet).round
-unfolding IsWithin
+round_within : (packet : Packet) → PacketIsWithin packet → IsNumber (stamp_of packet).round
+unfolding PacketIsWithin
 round_within packet within = within.0
 
 -- ---- how long fields are
@@ -64,14 +64,14 @@ total_fits (packets.Piece sender stamp base number entry) parts =
     (omega (arith, entry_short entry parts))
 total_fits _ parts = refl
 
-pub fields_short : (packet : Packet) → HasParts packet → length (fields_of packet) ≤ 1100
+pub fields_of_packet_are_short : (packet : Packet) → HasParts packet → length (fields_of packet) ≤ 1100
 unfolding HasParts fields_of
-fields_short (packets.Request sender stamp report req body) parts = omega (arith, parts)
-fields_short (packets.Spread sender stamp report req body) parts = omega (arith, parts)
-fields_short (packets.Bcast sender stamp base acc number entry) parts = omega (arith, entry_short entry parts)
-fields_short (packets.Welcome sender stamp base join image) parts = omega (arith, length-rows_bytes image.rows, parts)
-fields_short (packets.Piece sender stamp base number entry) parts = omega (arith, entry_short entry parts)
-fields_short _ parts = omega arith
+fields_of_packet_are_short (packets.Request sender stamp report req body) parts = omega (arith, parts)
+fields_of_packet_are_short (packets.Spread sender stamp report req body) parts = omega (arith, parts)
+fields_of_packet_are_short (packets.Bcast sender stamp base acc number entry) parts = omega (arith, entry_short entry parts)
+fields_of_packet_are_short (packets.Welcome sender stamp base join image) parts = omega (arith, length-rows_bytes image.rows, parts)
+fields_of_packet_are_short (packets.Piece sender stamp base number entry) parts = omega (arith, entry_short entry parts)
+fields_of_packet_are_short _ parts = omega arith
 
 -- ---- the fields of each kind
 
@@ -84,61 +84,61 @@ record Three (bytes : List ℕ) (a b c : ℕ) : Type 0 where
 three_again : (bytes rest : List ℕ) (a b c : ℕ) → drop 12 bytes ≡ big_bytes 4 a ++ big_bytes 4 b ++ big_bytes 4 c ++ rest → IsNumber a → IsNumber b
     → IsNumber c → Three bytes a b c
 three_again bytes rest a b c h is-a is-b is-c = record {
-  first = number_again bytes _ 12 a h is-a;
-  second = number_again bytes _ 16 b (later bytes _ 12 4 h) is-b;
-  third = number_again bytes _ 20 c (later bytes _ 12 8 h) is-c;
+  first = number_at_big_bytes bytes _ 12 a h is-a;
+  second = number_at_big_bytes bytes _ 16 b (bytes_dropped_are_fields_dropped bytes _ 12 4 h) is-b;
+  third = number_at_big_bytes bytes _ 20 c (bytes_dropped_are_fields_dropped bytes _ 12 8 h) is-c;
 }
 
-packet_again : (packet : Packet) (bytes : List ℕ) → drop 12 bytes ≡ fields_of packet → length bytes ≡ 12 + length (fields_of packet) → IsWithin packet
+packet_again : (packet : Packet) (bytes : List ℕ) → drop 12 bytes ≡ fields_of packet → length bytes ≡ 12 + length (fields_of packet) → PacketIsWithin packet
     → HasParts packet
     → packet_at (head_of packet).kind (sender_of packet) (stamp_of packet) bytes ≡ Ok packet
-unfolding packet_at fields_of IsWithin HasParts
+unfolding packet_at fields_of PacketIsWithin HasParts
 packet_again (packets.Request sender stamp report req body) bytes h long within parts =
-    rw (report_again bytes _ 12 report h within.1.0, number_again bytes _ 20 req (later bytes _ 12 8 h) within.1.1, later bytes _ 12 12 h) refl
+    rw (report_at_report_bytes bytes _ 12 report h within.1.0, number_at_big_bytes bytes _ 20 req (bytes_dropped_are_fields_dropped bytes _ 12 8 h) within.1.1, bytes_dropped_are_fields_dropped bytes _ 12 12 h) refl
 packet_again (packets.Spread sender stamp report req body) bytes h long within parts =
-    rw (report_again bytes _ 12 report h within.1.0, number_again bytes _ 20 req (later bytes _ 12 8 h) within.1.1, later bytes _ 12 12 h) refl
+    rw (report_at_report_bytes bytes _ 12 report h within.1.0, number_at_big_bytes bytes _ 20 req (bytes_dropped_are_fields_dropped bytes _ 12 8 h) within.1.1, bytes_dropped_are_fields_dropped bytes _ 12 12 h) refl
 packet_again (packets.Bcast sender stamp base acc number entry) bytes h long within parts =
     let n = three_again bytes _ base acc number h within.1.0 within.1.1 within.1.2 in
-    rw (n.first, n.second, n.third, entry_again bytes 24 entry (later bytes _ 12 12 h) (omega (arith, long)) within.1.3 parts) refl
+    rw (n.first, n.second, n.third, entry_at_entry_bytes bytes 24 entry (bytes_dropped_are_fields_dropped bytes _ 12 12 h) (omega (arith, long)) within.1.3 parts) refl
 packet_again (packets.Order sender stamp base acc number from req) bytes h long within parts =
     let n = three_again bytes _ base acc number h within.1.0 within.1.1 within.1.2 in
-    rw (n.first, n.second, n.third, number_again bytes _ 25 req (later bytes _ 12 13 h) within.1.3, peek bytes _ 12 12 h) refl
+    rw (n.first, n.second, n.third, number_at_big_bytes bytes _ 25 req (bytes_dropped_are_fields_dropped bytes _ 12 13 h) within.1.3, byte_is_field_byte bytes _ 12 12 h) refl
 packet_again (packets.Accept sender stamp base acc top poll) bytes h long within parts =
     let n = three_again bytes _ base acc top h within.1.0 within.1.1 within.1.2 in
-    rw (n.first, n.second, n.third, flag_again bytes 24 poll (peek bytes _ 12 12 h)) refl
+    rw (n.first, n.second, n.third, flag_at_flag_byte bytes 24 poll (byte_is_field_byte bytes _ 12 12 h)) refl
 packet_again (packets.Ack sender stamp report) bytes h long within parts =
-    rw (report_again bytes _ 12 report h within.1) refl
+    rw (report_at_report_bytes bytes _ 12 report h within.1) refl
 packet_again (packets.Nack sender stamp report) bytes h long within parts =
-    rw (report_again bytes _ 12 report h within.1) refl
+    rw (report_at_report_bytes bytes _ 12 report h within.1) refl
 packet_again (packets.Hold sender stamp base top req) bytes h long within parts =
     let n = three_again bytes [] base top req h within.1.0 within.1.1 within.1.2 in
     rw (n.first, n.second, n.third) refl
 packet_again (packets.Welcome sender stamp base join image) bytes h long within parts =
     rw (
-      number_again bytes _ 12 base h within.1.0,
-      number_again bytes _ 16 join (later bytes _ 12 4 h) within.1.1,
-      image_again bytes 20 image (later bytes _ 12 8 h) within.1.2,
+      number_at_big_bytes bytes _ 12 base h within.1.0,
+      number_at_big_bytes bytes _ 16 join (bytes_dropped_are_fields_dropped bytes _ 12 4 h) within.1.1,
+      image_at_image_bytes bytes 20 image (bytes_dropped_are_fields_dropped bytes _ 12 8 h) within.1.2,
     ) refl
 packet_again (packets.LeaveAsk sender stamp report) bytes h long within parts =
-    rw (report_again bytes _ 12 report h within.1) refl
+    rw (report_at_report_bytes bytes _ 12 report h within.1) refl
 packet_again (packets.Gone sender stamp number) bytes h long within parts =
-    rw (number_again bytes _ 12 number h within.1) refl
+    rw (number_at_big_bytes bytes _ 12 number h within.1) refl
 packet_again (packets.Vote sender stamp vote) bytes h long within parts =
-    rw (vote_again bytes 12 vote h within.1 parts) refl
+    rw (vote_at_vote_bytes bytes 12 vote h within.1 parts) refl
 packet_again (packets.Fetch sender stamp stored) bytes h long within parts =
-    rw (number_again bytes _ 12 stored h within.1) refl
+    rw (number_at_big_bytes bytes _ 12 stored h within.1) refl
 packet_again (packets.Piece sender stamp base number entry) bytes h long within parts =
     rw (
-      number_again bytes _ 12 base h within.1.0,
-      number_again bytes _ 16 number (later bytes _ 12 4 h) within.1.1,
-      entry_again bytes 20 entry (later bytes _ 12 8 h) (omega (arith, long)) within.1.2,
+      number_at_big_bytes bytes _ 12 base h within.1.0,
+      number_at_big_bytes bytes _ 16 number (bytes_dropped_are_fields_dropped bytes _ 12 4 h) within.1.1,
+      entry_at_entry_bytes bytes 20 entry (bytes_dropped_are_fields_dropped bytes _ 12 8 h) (omega (arith, long)) within.1.2,
     ) refl
 packet_again (packets.Result sender base number v) bytes h long within parts =
     rw (
-      number_again bytes _ 12 base h within.1.0,
-      number_again bytes _ 16 number (later bytes _ 12 4 h) within.1.1,
-      set_again bytes _ 20 v.members (later bytes _ 12 8 h) parts,
-      resilience_again bytes 30 v.resilience (peek bytes _ 12 18 h) within.1.2,
+      number_at_big_bytes bytes _ 12 base h within.1.0,
+      number_at_big_bytes bytes _ 16 number (bytes_dropped_are_fields_dropped bytes _ 12 4 h) within.1.1,
+      set_at_set_bytes bytes _ 20 v.members (bytes_dropped_are_fields_dropped bytes _ 12 8 h) parts,
+      resilience_at_byte bytes 30 v.resilience (byte_is_field_byte bytes _ 12 18 h) within.1.2,
     ) refl
 packet_again _ bytes h long within parts = refl
 
@@ -148,21 +148,21 @@ pub length-spelling : (packet : Packet) → length (spelling packet) ≡ 12 + le
 unfolding spelling
 length-spelling packet = omega arith
 
-pub total-spelling : (packet : Packet) → HasParts packet → total_in (spelling packet) ≡ 12 + length (fields_of packet)
+total-spelling : (packet : Packet) → HasParts packet → total_in (spelling packet) ≡ 12 + length (fields_of packet)
 unfolding spelling
-total-spelling packet parts = big_number-reads_back 2 (12 + length (fields_of packet)) (fields_of packet) (omega (arith, fields_short packet parts))
+total-spelling packet parts = big_number-reads_back 2 (12 + length (fields_of packet)) (fields_of packet) (omega (arith, fields_of_packet_are_short packet parts))
 
-pub spelling_again : (packet : Packet) → IsPacket packet → reading (spelling packet) ≡ Ok packet
+pub reading_of_spelling : (packet : Packet) → IsPacket packet → reading (spelling packet) ≡ Ok packet
 unfolding reading of_kind_at fields_at spelling
-spelling_again packet is =
+reading_of_spelling packet is =
     let bytes = spelling packet in
     let long : length bytes ≡ 12 + length (fields_of packet) = length-spelling packet in
     let same : total_in bytes ≡ length bytes = total-spelling packet is.parts ∙ sym long in
     rw (
       le-ltb (length bytes) 12 (omega arith),
-      kind_back (head_of packet).kind,
+      kind_at_number_of_kind (head_of packet).kind,
       eq-eqb (total_in bytes) (length bytes) same,
-      stamp_again bytes _ 5 (stamp_of packet) refl (round_within packet is.within),
+      stamp_at_stamp_bytes bytes _ 5 (stamp_of packet) refl (round_within packet is.within),
       long,
       total_fits packet is.parts,
     )

@@ -10,8 +10,8 @@ use Rattle.byteorder.specs.Endian.{big_bytes, big_number}
 use Rattle.byteorder.specs.Numbers.{big_from-cons, big_from-lt, big_from-take, big_number-reads_back, length-bytes_high_first}
 use Rattle.am_packet.specs.Laws.{IsBytes}
 
-pub IsBytes-drop : (n : ℕ) (bytes : List ℕ) → IsBytes bytes → IsBytes (drop n bytes)
-IsBytes-drop n bytes fits i = rw get_or-drop (fits (n + i))
+pub dropped_bytes_are_bytes : (n : ℕ) (bytes : List ℕ) → IsBytes bytes → IsBytes (drop n bytes)
+dropped_bytes_are_bytes n bytes fits i = rw get_or-drop (fits (n + i))
 
 IsBytes-take : (n : ℕ) (bytes : List ℕ) → IsBytes bytes → IsBytes (take n bytes)
 IsBytes-take n bytes fits i =
@@ -40,19 +40,19 @@ same_rest : (a b w r s : ℕ) → r < w → s < w → a * w + r ≡ b * w + s �
 same_rest a b w r s hr hs e = sym (mod-mul-add a w r hr) ∙ ap (λ n. n % w) e ∙ mod-mul-add b w s hs
 
 -- equal numbers have equal bytes
-pub same_bytes : (n : ℕ) (xs ys : List ℕ) → length xs ≡ n → length ys ≡ n → IsBytes xs → IsBytes ys → big_number n xs ≡ big_number n ys → xs ≡ ys
-same_bytes zero [] [] lx ly fx fy e = refl
-same_bytes zero [] (y ∷ ys) lx ly fx fy e = absurd (omega (arith, ly))
-same_bytes zero (x ∷ xs) ys lx ly fx fy e = absurd (omega (arith, lx))
-same_bytes (suc n) [] ys lx ly fx fy e = absurd (omega (arith, lx))
-same_bytes (suc n) (x ∷ xs) [] lx ly fx fy e = absurd (omega (arith, ly))
-same_bytes (suc n) (x ∷ xs) (y ∷ ys) lx ly fx fy e =
+pub same_big_number_same_bytes : (n : ℕ) (xs ys : List ℕ) → length xs ≡ n → length ys ≡ n → IsBytes xs → IsBytes ys → big_number n xs ≡ big_number n ys → xs ≡ ys
+same_big_number_same_bytes zero [] [] lx ly fx fy e = refl
+same_big_number_same_bytes zero [] (y ∷ ys) lx ly fx fy e = absurd (omega (arith, ly))
+same_big_number_same_bytes zero (x ∷ xs) ys lx ly fx fy e = absurd (omega (arith, lx))
+same_big_number_same_bytes (suc n) [] ys lx ly fx fy e = absurd (omega (arith, lx))
+same_big_number_same_bytes (suc n) (x ∷ xs) [] lx ly fx fy e = absurd (omega (arith, ly))
+same_big_number_same_bytes (suc n) (x ∷ xs) (y ∷ ys) lx ly fx fy e =
     let moved : x * 256 ^ n + big_number n xs ≡ y * 256 ^ n + big_number n ys = ap (λ r. x * 256 ^ n + r) (sym (big_from-cons 0 n x xs)) ∙ e
     ∙ ap (λ r. y * 256 ^ n + r) (big_from-cons 0 n y ys) in
     let fits-x = big_from-lt 0 n xs (IsBytes-rest x xs fx) in
     let fits-y = big_from-lt 0 n ys (IsBytes-rest y ys fy) in
     let head : x ≡ y = same_digit x y (256 ^ n) _ _ fits-x fits-y moved in
-    let tail : xs ≡ ys = same_bytes n xs ys (omega (arith, lx)) (omega (arith, ly)) (IsBytes-rest x xs fx) (IsBytes-rest y ys fy)
+    let tail : xs ≡ ys = same_big_number_same_bytes n xs ys (omega (arith, lx)) (omega (arith, ly)) (IsBytes-rest x xs fx) (IsBytes-rest y ys fy)
     (same_rest x y (256 ^ n) _ _ fits-x fits-y moved) in
     cc
 
@@ -64,19 +64,19 @@ back : (n : ℕ) (xs : List ℕ) → length xs ≡ n → IsBytes xs → big_byte
 back n xs long fits =
     let again : big_number n (big_bytes n (big_number n xs)) ≡ big_number n xs = ap (λ ys. big_number n ys) (sym (append-nil (big_bytes n (big_number n xs))))
     ∙ big_number-reads_back n (big_number n xs) [] (big_number-lt n xs fits) in
-    same_bytes n (big_bytes n (big_number n xs)) xs (length-bytes_high_first n (big_number n xs)) long (IsBytes-big_bytes n (big_number n xs)) fits again
+    same_big_number_same_bytes n (big_bytes n (big_number n xs)) xs (length-bytes_high_first n (big_number n xs)) long (IsBytes-big_bytes n (big_number n xs)) fits again
 
 -- the number at the front of a list, and the rest
-pub front : (n : ℕ) (xs : List ℕ) → n ≤ length xs → IsBytes xs → xs ≡ big_bytes n (big_number n xs) ++ drop n xs
-front n xs long fits =
+pub bytes_front_is_big_bytes : (n : ℕ) (xs : List ℕ) → n ≤ length xs → IsBytes xs → xs ≡ big_bytes n (big_number n xs) ++ drop n xs
+bytes_front_is_big_bytes n xs long fits =
     let same : big_number n (take n xs) ≡ big_number n xs = big_from-take 0 n n xs (omega arith) in
     let bytes : big_bytes n (big_number n xs) ≡ take n xs = ap (λ v. big_bytes n v) (sym same)
     ∙ back n (take n xs) (length-take-le n xs long) (IsBytes-take n xs fits) in
     sym (take-append-drop n xs) ∙ ap (λ ys. ys ++ drop n xs) (sym bytes)
 
 -- the same from a place on
-pub number_front : (n at : ℕ) (bytes : List ℕ) → at + n ≤ length bytes → IsBytes bytes
+pub dropped_bytes_are_big_bytes : (n at : ℕ) (bytes : List ℕ) → at + n ≤ length bytes → IsBytes bytes
     → drop at bytes ≡ big_bytes n (big_number n (drop at bytes)) ++ drop (at + n) bytes
-number_front n at bytes long fits =
-    front n (drop at bytes) (omega (arith, length-drop at bytes)) (IsBytes-drop at bytes fits)
+dropped_bytes_are_big_bytes n at bytes long fits =
+    bytes_front_is_big_bytes n (drop at bytes) (omega (arith, length-drop at bytes)) (dropped_bytes_are_bytes at bytes fits)
     ∙ ap (λ ys. big_bytes n (big_number n (drop at bytes)) ++ ys) (drop-drop n at bytes)

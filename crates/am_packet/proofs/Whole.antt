@@ -7,27 +7,27 @@ use Rattle.std.proofs.lemmas.List.{append-nil, length-drop, length-take-le, drop
 use Rattle.byteorder.specs.Endian.{big_bytes, big_number}
 use Rattle.byteorder.specs.Numbers.{big_from-take, big_from-append}
 use Rattle.am_base.specs.declared.name.Stamp.{Stamp}
-use Rattle.am_base.proofs.Found.{find_test}
+use Rattle.am_base.proofs.Found.{found_passes_test}
 use Rattle.am_packet.specs.declared.packet.Packet.{Packet}
 use Rattle.am_packet.specs.declared.refusal.PacketRefusal.TheVariants.{Short, BadLength, BadField}
-use Rattle.am_packet.specs.declared.kind.Kind.{Kind}
-use Rattle.am_packet.specs.Kinds.{Head, kind_of, number_of, all_kinds, kind_at, is_total, least_total, most_total}
+use Rattle.am_packet.specs.declared.kind.PacketKind.{PacketKind}
+use Rattle.am_packet.specs.Kinds.{Head, kind_of, packet_kind_number, all_kinds, kind_at, is_total, least_total, most_total}
 use Rattle.am_base.specs.Limits.{IsNumber}
-use Rattle.am_packet.specs.Limits.{IsWithin, IsPacket}
+use Rattle.am_packet.specs.Limits.{PacketIsWithin, IsPacket}
 use Rattle.am_packet.specs.Spelling.{spelling, fields_of, sender_of, stamp_of, stamp_bytes}
 use Rattle.am_packet.specs.Reading.{Read, version_in, kind_in, total_in, found_in, stamp_at, packet_at, fields_at, reading}
 use Rattle.am_packet.specs.Causes.{HasKind, HasTotal}
 use Rattle.am_packet.specs.Laws.{IsBytes}
-use Rattle.am_packet.proofs.Numbers.{number_front}
-use Rattle.am_packet.proofs.Fields.{bind_ok, passed, ok_is, and_then, byte_takes, stamp_takes}
-use Rattle.am_packet.proofs.Found.{packet_found}
-use Rattle.am_packet.proofs.Again.{fields_short, length-spelling, spelling_again}
-use Rattle.am_packet.proofs.Causes.{Tells, tells, headed, some_kind, is_short, is_long}
+use Rattle.am_packet.proofs.Numbers.{dropped_bytes_are_big_bytes}
+use Rattle.am_packet.proofs.Fields.{bound_read_is_ok, passed_test_of_read, done_read_is_injective, pieces_taken_follow, byte_is_taken_by_read, stamp_is_taken_by_read}
+use Rattle.am_packet.proofs.Found.{packet_read_is_spelled}
+use Rattle.am_packet.proofs.Again.{fields_of_packet_are_short, length-spelling, reading_of_spelling}
+use Rattle.am_packet.proofs.Causes.{ReadingTellsFirstCause, reading_tells_first_cause, reading_after_header, kind_not_none_is_some, reading_of_short_bytes, reading_of_other_length}
 
 -- the kind that is found for a number has it
-kind_number : (n : ℕ) (kind : Kind) → kind_at n ≡ Some kind → n ≡ number_of kind
+kind_number : (n : ℕ) (kind : PacketKind) → kind_at n ≡ Some kind → n ≡ packet_kind_number kind
 unfolding kind_at
-kind_number n kind found = eqb-true n (number_of kind) (find_test (λ k. n == number_of k) all_kinds kind found)
+kind_number n kind found = eqb-true n (packet_kind_number kind) (found_passes_test (λ k. n == packet_kind_number k) all_kinds kind found)
 
 -- ---- what is read is spelled so
 
@@ -44,33 +44,33 @@ unfolding spelling
 put_together packet bytes rest a b version kind sender total stamp whole mark version-is kind-is sender-is stamp-is total-is rest-is =
     whole ∙ rw (mark.0, mark.1, version-is, kind-is, sender-is, stamp-is, total-is, rest-is) refl
 
-pub spelled : (bytes : List ℕ) (packet : Packet) → IsBytes bytes → reading bytes ≡ Ok packet → IsPacket packet × (bytes ≡ spelling packet)
-unfolding fields_at IsWithin
-spelled bytes packet fits read =
-    let has : HasTotal bytes = subst (λ r. Tells r bytes) read (tells bytes) in
-    let kind = some_kind (kind_at (kind_in bytes)) has.0.1 in
-    let fields : fields_at kind.0 bytes ≡ Ok packet = sym (headed bytes kind.0 has kind.1) ∙ read in
-    let stamp = bind_ok (stamp_at bytes 5) (λ stamp. cond (is_total kind.0 (length bytes)) (packet_at kind.0 (slice_index bytes 4) stamp bytes)
+pub packet_read_from_its_spelling : (bytes : List ℕ) (packet : Packet) → IsBytes bytes → reading bytes ≡ Ok packet → IsPacket packet × (bytes ≡ spelling packet)
+unfolding fields_at PacketIsWithin
+packet_read_from_its_spelling bytes packet fits read =
+    let has : HasTotal bytes = subst (λ r. ReadingTellsFirstCause r bytes) read (reading_tells_first_cause bytes) in
+    let kind = kind_not_none_is_some (kind_at (kind_in bytes)) has.0.1 in
+    let fields : fields_at kind.0 bytes ≡ Ok packet = sym (reading_after_header bytes kind.0 has kind.1) ∙ read in
+    let stamp = bound_read_is_ok (stamp_at bytes 5) (λ stamp. cond (is_total kind.0 (length bytes)) (packet_at kind.0 (slice_index bytes 4) stamp bytes)
     (Err (BadField 10))) packet fields in
-    let total = passed (is_total kind.0 (length bytes)) (packet_at kind.0 (slice_index bytes 4) stamp.0 bytes) (BadField 10) packet stamp.2 in
+    let total = passed_test_of_read (is_total kind.0 (length bytes)) (packet_at kind.0 (slice_index bytes 4) stamp.0 bytes) (BadField 10) packet stamp.2 in
     let limits = and_parts (nat_le (least_total kind.0) (length bytes)) (nat_le (length bytes) (most_total kind.0)) total.0 in
-    let found = packet_found kind.0 (slice_index bytes 4) stamp.0 bytes packet fits (leb-true _ _ limits.0) (leb-true _ _ limits.1) total.1 in
+    let found = packet_read_is_spelled kind.0 (slice_index bytes 4) stamp.0 bytes packet fits (leb-true _ _ limits.0) (leb-true _ _ limits.1) total.1 in
     let long : 12 ≤ length bytes = has.0.0.0.0 in
     let mark = mark_is (slice_index bytes 0) (slice_index bytes 1) has.0.0.0.1 in
-    let t5 = stamp_takes bytes 5 10 stamp.0 refl fits (omega arith) stamp.1 in
-    let t10 : drop 10 bytes ≡ big_bytes 2 (total_in bytes) ++ drop 12 bytes = number_front 2 10 bytes long fits in
-    let t01 = and_then bytes 0 1 2 (slice_index bytes 0 ∷ []) (slice_index bytes 1 ∷ []) (byte_takes bytes 0 1 refl (omega arith))
-    (byte_takes bytes 1 2 refl (omega arith)) in
-    let t03 = and_then bytes 0 2 3 (slice_index bytes 0 ∷ slice_index bytes 1 ∷ []) (version_in bytes ∷ []) t01 (byte_takes bytes 2 3 refl (omega arith)) in
-    let t04 = and_then bytes 0 3 4 (slice_index bytes 0 ∷ slice_index bytes 1 ∷ version_in bytes ∷ []) (kind_in bytes ∷ []) t03
-    (byte_takes bytes 3 4 refl (omega arith)) in
-    let t05 = and_then bytes 0 4 5 (slice_index bytes 0 ∷ slice_index bytes 1 ∷ version_in bytes ∷ kind_in bytes ∷ []) (slice_index bytes 4 ∷ []) t04
-    (byte_takes bytes 4 5 refl (omega arith)) in
-    let t06 = and_then bytes 0 5 10 (slice_index bytes 0 ∷ slice_index bytes 1 ∷ version_in bytes ∷ kind_in bytes ∷ slice_index bytes 4 ∷ [])
+    let t5 = stamp_is_taken_by_read bytes 5 10 stamp.0 refl fits (omega arith) stamp.1 in
+    let t10 : drop 10 bytes ≡ big_bytes 2 (total_in bytes) ++ drop 12 bytes = dropped_bytes_are_big_bytes 2 10 bytes long fits in
+    let t01 = pieces_taken_follow bytes 0 1 2 (slice_index bytes 0 ∷ []) (slice_index bytes 1 ∷ []) (byte_is_taken_by_read bytes 0 1 refl (omega arith))
+    (byte_is_taken_by_read bytes 1 2 refl (omega arith)) in
+    let t03 = pieces_taken_follow bytes 0 2 3 (slice_index bytes 0 ∷ slice_index bytes 1 ∷ []) (version_in bytes ∷ []) t01 (byte_is_taken_by_read bytes 2 3 refl (omega arith)) in
+    let t04 = pieces_taken_follow bytes 0 3 4 (slice_index bytes 0 ∷ slice_index bytes 1 ∷ version_in bytes ∷ []) (kind_in bytes ∷ []) t03
+    (byte_is_taken_by_read bytes 3 4 refl (omega arith)) in
+    let t05 = pieces_taken_follow bytes 0 4 5 (slice_index bytes 0 ∷ slice_index bytes 1 ∷ version_in bytes ∷ kind_in bytes ∷ []) (slice_index bytes 4 ∷ []) t04
+    (byte_is_taken_by_read bytes 4 5 refl (omega arith)) in
+    let t06 = pieces_taken_follow bytes 0 5 10 (slice_index bytes 0 ∷ slice_index bytes 1 ∷ version_in bytes ∷ kind_in bytes ∷ slice_index bytes 4 ∷ [])
     (stamp_bytes stamp.0) t05 t5.0 in
-    let t07 = and_then bytes 0 10 12 (slice_index bytes 0 ∷ slice_index bytes 1 ∷ version_in bytes ∷ kind_in bytes ∷ slice_index bytes 4 ∷ []
+    let t07 = pieces_taken_follow bytes 0 10 12 (slice_index bytes 0 ∷ slice_index bytes 1 ∷ version_in bytes ∷ kind_in bytes ∷ slice_index bytes 4 ∷ []
     ++ stamp_bytes stamp.0) (big_bytes 2 (total_in bytes)) t06 (record { here = t10 }) in
-    let kind-is : kind_in bytes ≡ kind_of packet = kind_number (kind_in bytes) kind.0 kind.1 ∙ ap (λ h. number_of h.kind) (sym found.head_is) in
+    let kind-is : kind_in bytes ≡ kind_of packet = kind_number (kind_in bytes) kind.0 kind.1 ∙ ap (λ h. packet_kind_number h.kind) (sym found.head_is) in
     let count : length (fields_of packet) ≡ length bytes - 12 = ap length (sym found.fields_are) ∙ length-drop 12 bytes in
     let total-is : total_in bytes ≡ 12 + length (fields_of packet) = has.1 ∙ (let sum : length bytes ≡ 12 + length (fields_of packet) = omega arith in sum) in (
       record { within = (subst (λ (h : Head). IsNumber h.stamp.round) (sym found.head_is) t5.1, found.within); parts = found.parts },
@@ -83,7 +83,7 @@ spelled bytes packet fits read =
 
 -- a spelling's header is right
 header_has : (packet : Packet) → IsPacket packet → HasTotal (spelling packet)
-header_has packet is = subst (λ r. Tells r (spelling packet)) (spelling_again packet is) (tells (spelling packet))
+header_has packet is = subst (λ r. ReadingTellsFirstCause r (spelling packet)) (reading_of_spelling packet is) (reading_tells_first_cause (spelling packet))
 
 total_append : (bytes more : List ℕ) → 12 ≤ length bytes → total_in (bytes ++ more) ≡ total_in bytes
 total_append bytes more long =
@@ -112,26 +112,26 @@ kind_part bytes found long has count =
       rw (same 3 (omega arith)) has.1,
     )
 
-pub part_refused : (packet : Packet) (found : ℕ) → IsPacket packet → found < length (spelling packet)
+pub part_of_spelling_is_refused : (packet : Packet) (found : ℕ) → IsPacket packet → found < length (spelling packet)
     → reading (take found (spelling packet)) ≡ (if nat_lt found 12 then Err Short else Err (BadLength (length (spelling packet)) found))
-part_refused packet found is lt =
+part_of_spelling_is_refused packet found is lt =
     let bytes = spelling packet in
     let count : length (take found bytes) ≡ found = length-take-le found bytes (omega (arith, lt)) in
     elim (cases_lt found 12) [
-      | inl short ↦ rw (lt-ltb found 12 short) (is_short (take found bytes) (rw count short))
+      | inl short ↦ rw (lt-ltb found 12 short) (reading_of_short_bytes (take found bytes) (rw count short))
       | inr long ↦
           let has = header_has packet is in
           let total : total_in (take found bytes) ≡ length bytes = first_total bytes found long ∙ has.1 in
-          let few : length bytes ≤ 4294967295 = omega (arith, length-spelling packet, fields_short packet is.parts) in
+          let few : length bytes ≤ 4294967295 = omega (arith, length-spelling packet, fields_of_packet_are_short packet is.parts) in
           let found-is : found_in (take found bytes) ≡ found = rw count (omega (arith, few, lt)) in
           let other : length bytes ≢ length (take found bytes) = rw count (omega (arith, lt)) in
-          rw (le-ltb found 12 long) (is_long (take found bytes) (length bytes) found (kind_part bytes found long has.0 count) total found-is other)
+          rw (le-ltb found 12 long) (reading_of_other_length (take found bytes) (length bytes) found (kind_part bytes found long has.0 count) total found-is other)
     ]
 
 -- a spelling that begins another is that other
-pub no_other : (packet other : Packet) (more : List ℕ) → IsPacket packet → IsPacket other → spelling packet ++ more ≡ spelling other → (packet ≡ other)
+pub no_spelling_begins_other : (packet other : Packet) (more : List ℕ) → IsPacket packet → IsPacket other → spelling packet ++ more ≡ spelling other → (packet ≡ other)
     × (more ≡ [])
-no_other packet other more is is-other e =
+no_spelling_begins_other packet other more is is-other e =
     let has = header_has packet is in
     let has-other = header_has other is-other in
     let long = has.0.0.0.0 in
@@ -140,9 +140,9 @@ no_other packet other more is is-other e =
     let none : more ≡ [] = nil_from_length more (let whole : length (spelling packet) + length more ≡ length (spelling other) =
     sym (length-append (spelling packet) more) ∙ ap length e in omega (arith, whole, lengths)) in
     let spellings : spelling packet ≡ spelling other = sym (append-nil (spelling packet)) ∙ ap (λ xs. spelling packet ++ xs) (sym none) ∙ e in
-    let answers : Ok packet ≡ Ok other = sym (spelling_again packet is) ∙ ap (λ bytes. reading bytes) spellings ∙ spelling_again other is-other in
-    (ok_is packet other answers, none)
+    let answers : Ok packet ≡ Ok other = sym (reading_of_spelling packet is) ∙ ap (λ bytes. reading bytes) spellings ∙ reading_of_spelling other is-other in
+    (done_read_is_injective packet other answers, none)
 
-pub found_in_grammar : (r : Read Packet) (bytes : List ℕ) → IsBytes bytes → r ≡ reading bytes → IfOk r (λ packet. IsPacket packet × (bytes ≡ spelling packet))
-found_in_grammar (Ok packet) bytes fits read = spelled bytes packet fits (sym read)
-found_in_grammar (Err e) bytes fits read = tt
+pub packet_read_is_in_grammar : (r : Read Packet) (bytes : List ℕ) → IsBytes bytes → r ≡ reading bytes → IfOk r (λ packet. IsPacket packet × (bytes ≡ spelling packet))
+packet_read_is_in_grammar (Ok packet) bytes fits read = packet_read_from_its_spelling bytes packet fits (sym read)
+packet_read_is_in_grammar (Err e) bytes fits read = tt

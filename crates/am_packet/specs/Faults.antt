@@ -4,8 +4,8 @@ use Rattle.std.specs.Prelude.{None, slice_index}
 use Rattle.am_base.specs.Most.{most_number}
 use Rattle.byteorder.specs.Endian.{big_number}
 use Rattle.am_base.specs.Names.{are_parts}
-use Rattle.am_packet.specs.declared.kind.Kind.{Kind}
-use Rattle.am_packet.specs.declared.kind.Kind.TheVariants as kinds
+use Rattle.am_packet.specs.declared.kind.PacketKind.{PacketKind}
+use Rattle.am_packet.specs.declared.kind.PacketKind.TheVariants as kinds
 use Rattle.am_packet.specs.Kinds.{is_total, most_entry}
 
 -- a field's offset, and whether its value may stand there
@@ -68,7 +68,7 @@ entry_fields bytes at =
     else field at false ∷ []
 
 -- the fields of each kind
-unfoldable pub kind_fields : Kind → List ℕ → List Field
+unfoldable pub kind_fields : PacketKind → List ℕ → List Field
 kind_fields kinds.Request bytes = report_fields bytes 12 ++ number_field bytes 20 ∷ []
 kind_fields kinds.Spread bytes = report_fields bytes 12 ++ number_field bytes 20 ∷ []
 kind_fields kinds.Bcast bytes = number_field bytes 12 ∷ number_field bytes 16 ∷ number_field bytes 20 ∷ entry_fields bytes 24
@@ -87,10 +87,10 @@ kind_fields kinds.Result bytes = number_field bytes 12 ∷ number_field bytes 16
 kind_fields _ bytes = []
 
 -- the stamp's round, then the total, then the kind's fields
-abbrev pub packet_fields : Kind → List ℕ → List Field
+abbrev pub packet_fields : PacketKind → List ℕ → List Field
 packet_fields kind bytes = number_field bytes 5 ∷ field 10 (is_total kind (length bytes)) ∷ kind_fields kind bytes
 
 -- the offset of the first wrong field of a packet of this kind
-abbrev pub wrong_in : Option Kind → List ℕ → Option ℕ
+abbrev pub wrong_in : Option PacketKind → List ℕ → Option ℕ
 wrong_in None bytes = None
 wrong_in (Some kind) bytes = first_wrong (packet_fields kind bytes)

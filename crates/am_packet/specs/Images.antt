@@ -6,15 +6,15 @@ use Rattle.am_base.specs.declared.image.Image.{Image}
 use Rattle.am_packet.specs.declared.image_ref.ImagePlace.{ImagePlace}
 use Rattle.am_packet.specs.declared.image_ref.ImagePlace.TheVariants.{Apart, Among}
 
-abbrev pub number_in : List ℕ → ℕ → ℕ
-number_in bytes at = big_number 4 (drop at bytes)
+abbrev pub number_in_bytes : List ℕ → ℕ → ℕ
+number_in_bytes bytes at = big_number 4 (drop at bytes)
 
 abbrev pub row_in : List ℕ → ℕ → Row
 row_in bytes at = record {
   life = slice_index bytes at;
-  joined = number_in bytes (at + 1);
-  left = number_in bytes (at + 5);
-  last = number_in bytes (at + 9);
+  joined = number_in_bytes bytes (at + 1);
+  left = number_in_bytes bytes (at + 5);
+  last = number_in_bytes bytes (at + 9);
 }
 
 -- so many rows, one behind the other
@@ -24,15 +24,15 @@ rows_in (suc more) bytes at = row_in bytes at ∷ rows_in more bytes (at + 13)
 
 abbrev pub image_in : List ℕ → ℕ → Image
 image_in bytes at = record {
-  view = record { round = number_in bytes at; by = slice_index bytes (at + 4) };
-  view_number = number_in bytes (at + 5);
+  view = record { round = number_in_bytes bytes at; by = slice_index bytes (at + 4) };
+  view_number = number_in_bytes bytes (at + 5);
   resilience = slice_index bytes (at + 9);
   rows = rows_in 16 bytes (at + 10);
 }
 
-abbrev pub image_of : ImagePlace → Image
-image_of (Apart image) = image.now
-image_of (Among bytes at) = image_in bytes.now at
+abbrev pub image_of_place : ImagePlace → Image
+image_of_place (Apart image) = image.now
+image_of_place (Among bytes at) = image_in bytes.now at
 
 -- how many bytes sixteen rows have
 abbrev pub rows_length : ℕ

@@ -1,10 +1,10 @@
 -- The kinds of packets, in one table; and the kind, the sender and the stamp of a packet.
 use Rattle.std.specs.Prelude.{ℕ, List, [], ◌∷◌, codes, find, Option, Bool, ◌==◌, ◌&&◌, nat_le}
 use Rattle.am_base.specs.declared.name.Stamp.{Stamp}
-use Rattle.am_packet.specs.declared.kind.Gate.{Gate}
-use Rattle.am_packet.specs.declared.kind.Gate.TheVariants as gates
-use Rattle.am_packet.specs.declared.kind.Kind.{Kind}
-use Rattle.am_packet.specs.declared.kind.Kind.TheVariants as kinds
+use Rattle.am_packet.specs.declared.kind.PacketGate.{PacketGate}
+use Rattle.am_packet.specs.declared.kind.PacketGate.TheVariants as gates
+use Rattle.am_packet.specs.declared.kind.PacketKind.{PacketKind}
+use Rattle.am_packet.specs.declared.kind.PacketKind.TheVariants as kinds
 use Rattle.am_packet.specs.declared.packet.Packet.{Packet}
 use Rattle.am_packet.specs.declared.packet.Packet.TheVariants as packets
 
@@ -25,12 +25,12 @@ pub record KindRow : Type 0 where
   pub word : List ℕ
   pub least : ℕ
   pub most : ℕ
-  pub gate : Gate
+  pub gate : PacketGate
 
-abbrev pub kind_row : ℕ → List ℕ → ℕ → ℕ → Gate → KindRow
+abbrev pub kind_row : ℕ → List ℕ → ℕ → ℕ → PacketGate → KindRow
 kind_row number word least most gate = record { number = number; word = word; least = least; most = most; gate = gate }
 
-abbrev pub table : Kind → KindRow
+abbrev pub table : PacketKind → KindRow
 table kinds.Request = kind_row 1 (codes "Request") 24 most_request gates.AsSequencer
 table kinds.Spread = kind_row 2 (codes "Spread") 24 most_request gates.InView
 table kinds.Bcast = kind_row 3 (codes "Bcast") 25 most_counted gates.OfSequencer
@@ -52,35 +52,35 @@ table kinds.Piece = kind_row 16 (codes "Piece") 21 most_counted gates.Member
 table kinds.Result = kind_row 17 (codes "Result") 31 31 gates.OfBeginner
 table kinds.HandOver = kind_row 18 (codes "HandOver") 12 12 gates.OfSequencer
 
-abbrev pub all_kinds : List Kind
+abbrev pub all_kinds : List PacketKind
 all_kinds = kinds.Request ∷ kinds.Spread ∷ kinds.Bcast ∷ kinds.Order ∷ kinds.Accept ∷ kinds.Ack ∷ kinds.Nack ∷ kinds.Hold ∷ kinds.JoinAsk ∷ kinds.Welcome
     ∷ kinds.LeaveAsk ∷ kinds.Gone ∷ kinds.Invite ∷ kinds.Vote ∷ kinds.Fetch ∷ kinds.Piece ∷ kinds.Result ∷ kinds.HandOver ∷ []
 
-abbrev pub number_of : Kind → ℕ
-number_of kind = (table kind).number
+abbrev pub packet_kind_number : PacketKind → ℕ
+packet_kind_number kind = (table kind).number
 
-abbrev pub least_total : Kind → ℕ
+abbrev pub least_total : PacketKind → ℕ
 least_total kind = (table kind).least
 
-abbrev pub most_total : Kind → ℕ
+abbrev pub most_total : PacketKind → ℕ
 most_total kind = (table kind).most
 
-abbrev pub is_total : Kind → ℕ → Bool
+abbrev pub is_total : PacketKind → ℕ → Bool
 is_total kind total = nat_le (least_total kind) total && nat_le total (most_total kind)
 
 -- the kind of a number
-unfoldable pub kind_at : ℕ → Option Kind
-kind_at n = find (λ kind. n == number_of kind) all_kinds
+unfoldable pub kind_at : ℕ → Option PacketKind
+kind_at n = find (λ kind. n == packet_kind_number kind) all_kinds
 
 -- ---- packets
 
 -- what a packet of any kind has
 pub record Head : Type 0 where
-  pub kind : Kind
+  pub kind : PacketKind
   pub sender : ℕ
   pub stamp : Stamp
 
-abbrev pub head : Kind → ℕ → Stamp → Head
+abbrev pub head : PacketKind → ℕ → Stamp → Head
 head kind sender stamp = record { kind = kind; sender = sender; stamp = stamp }
 
 abbrev pub head_of : Packet → Head
@@ -105,7 +105,7 @@ head_of (packets.HandOver sender stamp) = head kinds.HandOver sender stamp
 
 -- the number of its kind
 abbrev pub kind_of : Packet → ℕ
-kind_of packet = number_of (head_of packet).kind
+kind_of packet = packet_kind_number (head_of packet).kind
 
 -- a request to join goes to any life of its places
 abbrev pub goes_to_any : Packet → Bool

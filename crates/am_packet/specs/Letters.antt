@@ -21,6 +21,6 @@ pub record IsSpelled (bytes : List ℕ) : Type 0 where
   pub spelled : bytes ≡ spelling (packet_in bytes)
 
 -- the bytes within a letter, or those apart from it
-abbrev pub bytes_in : List ℕ → Option (List ℕ) → List ℕ
-bytes_in within None = within
-bytes_in within (Some apart) = apart
+abbrev pub bytes_in_letter : List ℕ → Option (List ℕ) → List ℕ
+bytes_in_letter within None = within
+bytes_in_letter within (Some apart) = apart

@@ -29,8 +29,8 @@ FieldsWithin (packets.Result sender base number v) = IsNumber base × IsNumber n
 FieldsWithin _ = Unit {0}
 
 -- and so is the round of its stamp
-unfoldable pub IsWithin : Packet → Type 0
-IsWithin packet = IsNumber (stamp_of packet).round × FieldsWithin packet
+unfoldable pub PacketIsWithin : Packet → Type 0
+PacketIsWithin packet = IsNumber (stamp_of packet).round × FieldsWithin packet
 
 -- what the parts' types keep: a body has at most 1,024 bytes, a set has a life or 0 for each of sixteen places, and an
 -- image sixteen rows
@@ -52,5 +52,5 @@ HasParts _ = Unit {0}
 
 -- a packet that has a spelling
 pub record IsPacket (packet : Packet) : Type 0 where
-  pub within : IsWithin packet
+  pub within : PacketIsWithin packet
   pub parts : HasParts packet

@@ -16,8 +16,8 @@ use Rattle.am_packet.specs.declared.packet.Packet.{Packet}
 use Rattle.am_packet.specs.declared.packet.Packet.TheVariants as packets
 use Rattle.am_packet.specs.declared.refusal.PacketRefusal.{PacketRefusal}
 use Rattle.am_packet.specs.declared.refusal.PacketRefusal.TheVariants.{Short, BadMark, BadVersion, BadKind, BadLength, BadField}
-use Rattle.am_packet.specs.declared.kind.Kind.{Kind}
-use Rattle.am_packet.specs.declared.kind.Kind.TheVariants as kinds
+use Rattle.am_packet.specs.declared.kind.PacketKind.{PacketKind}
+use Rattle.am_packet.specs.declared.kind.PacketKind.TheVariants as kinds
 use Rattle.am_packet.specs.Kinds.{kind_at, is_total, most_entry}
 
 abbrev pub Read : Type 0 → Type 0
@@ -44,8 +44,8 @@ stamp_at bytes at = do
   Ok (record { round = round; by = slice_index bytes (at + 4) })
 
 -- a set of names: a mask, and lives that are 0 outside it
-unfoldable pub set_at : List ℕ → ℕ → Read (List ℕ)
-set_at bytes at =
+unfoldable pub read_set_at : List ℕ → ℕ → Read (List ℕ)
+read_set_at bytes at =
     if are_parts (big_number 2 (drop at bytes)) (big_number 8 (drop (at + 2) bytes))
     then Ok (of_parts (big_number 2 (drop at bytes)) (big_number 8 (drop (at + 2) bytes)))
     else Err (BadField (at + 2))
@@ -64,8 +64,8 @@ life_at bytes at joined =
     (if joined == 0 then Err (BadField at) else Ok (slice_index bytes at)))
     else Err (BadField at)
 
-unfoldable pub row_at : List ℕ → ℕ → Read Row
-row_at bytes at = do
+unfoldable pub read_row_at : List ℕ → ℕ → Read Row
+read_row_at bytes at = do
   joined ← number_at bytes (at + 1)
   life ← life_at bytes at joined
   left ← number_at bytes (at + 5)
@@ -75,12 +75,12 @@ row_at bytes at = do
 unfoldable pub rows_at : ℕ → List ℕ → ℕ → Read (List Row)
 rows_at zero bytes at = Ok []
 rows_at (suc more) bytes at = do
-  row ← row_at bytes at
+  row ← read_row_at bytes at
   rows ← rows_at more bytes (at + 13)
   Ok (row ∷ rows)
 
-unfoldable pub image_at : List ℕ → ℕ → Read Image
-image_at bytes at = do
+unfoldable pub read_image_at : List ℕ → ℕ → Read Image
+read_image_at bytes at = do
   view ← stamp_at bytes at
   view_number ← number_at bytes (at + 5)
   resilience ← resilience_at bytes (at + 9)
@@ -92,7 +92,7 @@ vote_at bytes at = do
   view ← stamp_at bytes at
   top ← number_at bytes (at + 5)
   taken ← number_at bytes (at + 9)
-  members ← set_at bytes (at + 13)
+  members ← read_set_at bytes (at + 13)
   Ok (record { view = view; top = top; taken = taken; members = members })
 
 -- the entries of each tag; a total that the tag can't have comes before its fields
@@ -115,15 +115,15 @@ viewed stamp members resilience = record { stamp = stamp; members = members; res
 unfoldable pub view_fields_at : List ℕ → ℕ → Read Entry
 view_fields_at bytes at = do
   stamp ← stamp_at bytes (at + 1)
-  members ← set_at bytes (at + 6)
+  members ← read_set_at bytes (at + 6)
   resilience ← resilience_at bytes (at + 16)
   Ok (View (viewed stamp members resilience))
 
 unfoldable pub view_at : List ℕ → ℕ → Read Entry
 view_at bytes at = if length bytes == at + 17 then view_fields_at bytes at else Err (BadField 10)
 
-unfoldable pub entry_at : List ℕ → ℕ → Read Entry
-entry_at bytes at =
+unfoldable pub read_entry_at : List ℕ → ℕ → Read Entry
+read_entry_at bytes at =
     if slice_index bytes at == 1 then data_at bytes at
     else if slice_index bytes at == 2 then join_at bytes at
     else if slice_index bytes at == 3 then leave_at bytes at
@@ -139,13 +139,13 @@ abbrev pub three_at : List ℕ → (ℕ → ℕ → ℕ → Read Packet) → Rea
 three_at bytes make = two_at bytes (λ first second. number_at bytes 20 >>= λ third. make first second third)
 
 -- the packet of a kind, a sender and a stamp, by its fields after the header
-unfoldable pub packet_at : Kind → ℕ → Stamp → List ℕ → Read Packet
+unfoldable pub packet_at : PacketKind → ℕ → Stamp → List ℕ → Read Packet
 packet_at kinds.Request sender stamp bytes =
     report_at bytes 12 >>= λ report. number_at bytes 20 >>= λ req. Ok (packets.Request sender stamp report req (drop 24 bytes))
 packet_at kinds.Spread sender stamp bytes =
     report_at bytes 12 >>= λ report. number_at bytes 20 >>= λ req. Ok (packets.Spread sender stamp report req (drop 24 bytes))
 packet_at kinds.Bcast sender stamp bytes =
-    three_at bytes (λ base acc number. entry_at bytes 24 >>= λ entry. Ok (packets.Bcast sender stamp base acc number entry))
+    three_at bytes (λ base acc number. read_entry_at bytes 24 >>= λ entry. Ok (packets.Bcast sender stamp base acc number entry))
 packet_at kinds.Order sender stamp bytes =
     three_at bytes (λ base acc number. number_at bytes 25 >>= λ req. Ok (packets.Order sender stamp base acc number (slice_index bytes 24) req))
 packet_at kinds.Accept sender stamp bytes =
@@ -155,16 +155,16 @@ packet_at kinds.Nack sender stamp bytes = report_at bytes 12 >>= λ report. Ok (
 packet_at kinds.Hold sender stamp bytes = three_at bytes (λ base top req. Ok (packets.Hold sender stamp base top req))
 packet_at kinds.JoinAsk sender stamp bytes = Ok (packets.JoinAsk sender stamp)
 packet_at kinds.Welcome sender stamp bytes =
-    two_at bytes (λ base join. image_at bytes 20 >>= λ image. Ok (packets.Welcome sender stamp base join image))
+    two_at bytes (λ base join. read_image_at bytes 20 >>= λ image. Ok (packets.Welcome sender stamp base join image))
 packet_at kinds.LeaveAsk sender stamp bytes = report_at bytes 12 >>= λ report. Ok (packets.LeaveAsk sender stamp report)
 packet_at kinds.Gone sender stamp bytes = number_at bytes 12 >>= λ number. Ok (packets.Gone sender stamp number)
 packet_at kinds.Invite sender stamp bytes = Ok (packets.Invite sender stamp)
 packet_at kinds.Vote sender stamp bytes = vote_at bytes 12 >>= λ vote. Ok (packets.Vote sender stamp vote)
 packet_at kinds.Fetch sender stamp bytes = number_at bytes 12 >>= λ stored. Ok (packets.Fetch sender stamp stored)
 packet_at kinds.Piece sender stamp bytes =
-    two_at bytes (λ base number. entry_at bytes 20 >>= λ entry. Ok (packets.Piece sender stamp base number entry))
+    two_at bytes (λ base number. read_entry_at bytes 20 >>= λ entry. Ok (packets.Piece sender stamp base number entry))
 packet_at kinds.Result sender stamp bytes =
-    two_at bytes (λ base number. set_at bytes 20 >>= λ members. resilience_at bytes 30 >>= λ resilience. Ok
+    two_at bytes (λ base number. read_set_at bytes 20 >>= λ members. resilience_at bytes 30 >>= λ resilience. Ok
     (packets.Result sender base number (viewed stamp members resilience)))
 packet_at kinds.HandOver sender stamp bytes = Ok (packets.HandOver sender stamp)
 
@@ -186,12 +186,12 @@ abbrev pub found_in : List ℕ → ℕ
 found_in bytes = min (length bytes) most_word
 
 -- the stamp's round, then the total of the kind, then the fields
-unfoldable pub fields_at : Kind → List ℕ → Read Packet
+unfoldable pub fields_at : PacketKind → List ℕ → Read Packet
 fields_at kind bytes = do
   stamp ← stamp_at bytes 5
   if is_total kind (length bytes) then packet_at kind (slice_index bytes 4) stamp bytes else Err (BadField 10)
 
-unfoldable pub of_kind_at : Option Kind → List ℕ → Read Packet
+unfoldable pub of_kind_at : Option PacketKind → List ℕ → Read Packet
 of_kind_at None bytes = Err (BadKind (kind_in bytes))
 of_kind_at (Some kind) bytes = if total_in bytes == length bytes then fields_at kind bytes else Err (BadLength (total_in bytes) (found_in bytes))
 
@@ -204,10 +204,10 @@ reading bytes =
     else of_kind_at (kind_at (kind_in bytes)) bytes
 
 -- the number of a cause
-abbrev pub cause_of : PacketRefusal → ℕ
-cause_of Short = 1
-cause_of BadMark = 2
-cause_of (BadVersion version) = 3
-cause_of (BadKind kind) = 4
-cause_of (BadLength said found) = 5
-cause_of (BadField at) = 6
+abbrev pub refusal_number : PacketRefusal → ℕ
+refusal_number Short = 1
+refusal_number BadMark = 2
+refusal_number (BadVersion version) = 3
+refusal_number (BadKind kind) = 4
+refusal_number (BadLength said found) = 5
+refusal_number (BadField at) = 6

@@ -1,5 +1,5 @@
 ghost use Rattle.std.specs.Prelude.{◌≡◌, ◌+◌, ◌≤◌, length};
-ghost use Rattle.am_packet.specs.Images.{number_in, row_in, rows_in, image_in, rows_length, image_length};
+ghost use Rattle.am_packet.specs.Images.{number_in_bytes, row_in, rows_in, image_in, rows_length, image_length};
 
 use am_base::image::{Image, Row};
 use am_base::name::{Name, Stamp};
@@ -24,7 +24,7 @@ pub struct ImageRef<'a> {
 
 impl<'a> Model for ImageRef<'a> {
     ghost use Rattle.am_base.specs.declared.image.Image.{Image};
-    ghost use Rattle.am_packet.specs.Images.{image_of, IsPlace};
+    ghost use Rattle.am_packet.specs.Images.{image_of_place, IsPlace};
 
     ghost Value = { Image };
 

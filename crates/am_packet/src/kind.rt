@@ -1,5 +1,5 @@
 ghost use Rattle.std.specs.Prelude.{◌≡◌};
-ghost use Rattle.am_packet.specs.Kinds.{table, number_of, kind_at, is_total};
+ghost use Rattle.am_packet.specs.Kinds.{table, packet_kind_number, kind_at, is_total};
 
 /// The most bytes of a Request and of a Spread: 24 before a body's.
 const MOST_REQUEST: usize = 1_048;
@@ -9,7 +9,7 @@ const MOST_COUNTED: usize = 65_535;
 
 /// Who hears a packet. Nobody hears one of its own name.
 #[derive(Clone, Copy)]
-pub enum Gate {
+pub enum PacketGate {
     /// A member.
     Member,
     /// The sequencer, whatever view the packet tells.
@@ -28,7 +28,7 @@ pub enum Gate {
 
 /// The kinds of packets.
 #[derive(Clone, Copy)]
-pub enum Kind {
+pub enum PacketKind {
     Request,
     Spread,
     Bcast,
@@ -51,24 +51,24 @@ pub enum Kind {
 
 /// What the table of kinds has of one.
 #[derive(Drop)]
-struct Row {
+struct KindRow {
     number: u8,
     word: &'static str,
     least: usize,
     most: usize,
-    gate: Gate,
+    gate: PacketGate,
 }
 
 /// A row of the table.
 #[inline(always)]
-fn row_with(number: u8, word: &'static str, least: usize, most: usize, gate: Gate) -> Row
+fn row_with(number: u8, word: &'static str, least: usize, most: usize, gate: PacketGate) -> KindRow
     ensures number { result.number ≡ number }
     ensures word { result.word.now ≡ word.now }
     ensures least { result.least ≡ least }
     ensures most { result.most ≡ most }
     ensures gate { result.gate ≡ gate }
 {
-    Row {
+    KindRow {
         number,
         word,
         least,
@@ -77,38 +77,38 @@ fn row_with(number: u8, word: &'static str, least: usize, most: usize, gate: Gat
     }
 }
 
-impl Kind {
+impl PacketKind {
     /// The kind of a number, 1 to 18.
     #[tactic(auto, unfolding(crate::specs::Kinds::kind_at))]
-    pub fn of_byte(byte: u8) -> Option<Kind>
+    pub fn of_byte(byte: u8) -> Option<PacketKind>
         ensures { result ≡ kind_at byte }
     {
         match byte {
-            1 => Some(Kind::Request),
-            2 => Some(Kind::Spread),
-            3 => Some(Kind::Bcast),
-            4 => Some(Kind::Order),
-            5 => Some(Kind::Accept),
-            6 => Some(Kind::Ack),
-            7 => Some(Kind::Nack),
-            8 => Some(Kind::Hold),
-            9 => Some(Kind::JoinAsk),
-            10 => Some(Kind::Welcome),
-            11 => Some(Kind::LeaveAsk),
-            12 => Some(Kind::Gone),
-            13 => Some(Kind::Invite),
-            14 => Some(Kind::Vote),
-            15 => Some(Kind::Fetch),
-            16 => Some(Kind::Piece),
-            17 => Some(Kind::Result),
-            18 => Some(Kind::HandOver),
+            1 => Some(PacketKind::Request),
+            2 => Some(PacketKind::Spread),
+            3 => Some(PacketKind::Bcast),
+            4 => Some(PacketKind::Order),
+            5 => Some(PacketKind::Accept),
+            6 => Some(PacketKind::Ack),
+            7 => Some(PacketKind::Nack),
+            8 => Some(PacketKind::Hold),
+            9 => Some(PacketKind::JoinAsk),
+            10 => Some(PacketKind::Welcome),
+            11 => Some(PacketKind::LeaveAsk),
+            12 => Some(PacketKind::Gone),
+            13 => Some(PacketKind::Invite),
+            14 => Some(PacketKind::Vote),
+            15 => Some(PacketKind::Fetch),
+            16 => Some(PacketKind::Piece),
+            17 => Some(PacketKind::Result),
+            18 => Some(PacketKind::HandOver),
             _ => None,
         }
     }
 
     /// Its row in the table of kinds.
     #[inline(always)]
-    fn row(self) -> Row
+    fn row(self) -> KindRow
         ensures number { result.number ≡ (table self).number }
         ensures word { result.word.now ≡ (table self).word }
         ensures least { result.least ≡ (table self).least }
@@ -116,24 +116,30 @@ impl Kind {
         ensures gate { result.gate ≡ (table self).gate }
     {
         match self {
-            Kind::Request => row_with(1, "Request", 24, MOST_REQUEST, Gate::AsSequencer),
-            Kind::Spread => row_with(2, "Spread", 24, MOST_REQUEST, Gate::InView),
-            Kind::Bcast => row_with(3, "Bcast", 25, MOST_COUNTED, Gate::OfSequencer),
-            Kind::Order => row_with(4, "Order", 29, 29, Gate::OfSequencer),
-            Kind::Accept => row_with(5, "Accept", 25, 25, Gate::OfSequencer),
-            Kind::Ack => row_with(6, "Ack", 20, 20, Gate::AsSequencer),
-            Kind::Nack => row_with(7, "Nack", 20, 20, Gate::AsSequencer),
-            Kind::Hold => row_with(8, "Hold", 24, 24, Gate::OfSequencer),
-            Kind::JoinAsk => row_with(9, "JoinAsk", 12, 12, Gate::Leading),
-            Kind::Welcome => row_with(10, "Welcome", 238, 238, Gate::Early),
-            Kind::LeaveAsk => row_with(11, "LeaveAsk", 20, 20, Gate::Leading),
-            Kind::Gone => row_with(12, "Gone", 16, 16, Gate::Member),
-            Kind::Invite => row_with(13, "Invite", 12, 12, Gate::Early),
-            Kind::Vote => row_with(14, "Vote", 35, 35, Gate::Member),
-            Kind::Fetch => row_with(15, "Fetch", 16, 16, Gate::Member),
-            Kind::Piece => row_with(16, "Piece", 21, MOST_COUNTED, Gate::Member),
-            Kind::Result => row_with(17, "Result", 31, 31, Gate::OfBeginner),
-            Kind::HandOver => row_with(18, "HandOver", 12, 12, Gate::OfSequencer),
+            PacketKind::Request => row_with(
+                1,
+                "Request",
+                24,
+                MOST_REQUEST,
+                PacketGate::AsSequencer,
+            ),
+            PacketKind::Spread => row_with(2, "Spread", 24, MOST_REQUEST, PacketGate::InView),
+            PacketKind::Bcast => row_with(3, "Bcast", 25, MOST_COUNTED, PacketGate::OfSequencer),
+            PacketKind::Order => row_with(4, "Order", 29, 29, PacketGate::OfSequencer),
+            PacketKind::Accept => row_with(5, "Accept", 25, 25, PacketGate::OfSequencer),
+            PacketKind::Ack => row_with(6, "Ack", 20, 20, PacketGate::AsSequencer),
+            PacketKind::Nack => row_with(7, "Nack", 20, 20, PacketGate::AsSequencer),
+            PacketKind::Hold => row_with(8, "Hold", 24, 24, PacketGate::OfSequencer),
+            PacketKind::JoinAsk => row_with(9, "JoinAsk", 12, 12, PacketGate::Leading),
+            PacketKind::Welcome => row_with(10, "Welcome", 238, 238, PacketGate::Early),
+            PacketKind::LeaveAsk => row_with(11, "LeaveAsk", 20, 20, PacketGate::Leading),
+            PacketKind::Gone => row_with(12, "Gone", 16, 16, PacketGate::Member),
+            PacketKind::Invite => row_with(13, "Invite", 12, 12, PacketGate::Early),
+            PacketKind::Vote => row_with(14, "Vote", 35, 35, PacketGate::Member),
+            PacketKind::Fetch => row_with(15, "Fetch", 16, 16, PacketGate::Member),
+            PacketKind::Piece => row_with(16, "Piece", 21, MOST_COUNTED, PacketGate::Member),
+            PacketKind::Result => row_with(17, "Result", 31, 31, PacketGate::OfBeginner),
+            PacketKind::HandOver => row_with(18, "HandOver", 12, 12, PacketGate::OfSequencer),
         }
     }
 
@@ -152,7 +158,7 @@ impl Kind {
     }
 
     /// Who hears its packets.
-    pub fn gate(self) -> Gate
+    pub fn gate(self) -> PacketGate
         ensures { result ≡ (table self).gate }
     {
         self.row().gate

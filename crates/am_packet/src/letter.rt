@@ -4,7 +4,7 @@ ghost use Rattle.am_packet.specs.Boxes.{letter_to};
 ghost use Rattle.am_packet.specs.Kinds.{kind_of};
 ghost use Rattle.am_packet.specs.Limits.{IsPacket};
 ghost use Rattle.am_packet.specs.Spelling.{spelling};
-ghost use Rattle.am_packet.specs.Letters.{packet_in, bytes_in, IsSpelled};
+ghost use Rattle.am_packet.specs.Letters.{packet_in, bytes_in_letter, IsSpelled};
 
 use am_base::body::PacketBytes;
 use am_base::limits::MOST_PACKET;
@@ -35,7 +35,7 @@ pub struct Letter {
 impl Model for Letter {
     ghost use Rattle.am_packet.specs.Boxes as boxes;
     ghost use Rattle.std.specs.Prelude.{option_map};
-    ghost use Rattle.am_packet.specs.Letters.{packet_in, bytes_in, IsSpelled};
+    ghost use Rattle.am_packet.specs.Letters.{packet_in, bytes_in_letter, IsSpelled};
 
     ghost Value = { boxes.Letter };
 
@@ -58,7 +58,7 @@ impl Letter {
     /// The packet that these bytes spell, for the names of a set, or, where it is a request to join, for every life of their places.
     /// Where the bytes are many, as much memory is taken as they need, and where there is none the room in which they stand. In all
     /// other cases that room goes to the rooms.
-    #[tactic(auto, using(crate::proofs::Read::header))]
+    #[tactic(auto, using(crate::proofs::Read::header_read_rules))]
     pub fn with_bytes(
         alloc: Global,
         to: Names,
@@ -119,7 +119,7 @@ impl Letter {
     }
 
     /// Its packet's bytes, 1,152 at most.
-    #[tactic(auto, using(crate::proofs::Read::short))]
+    #[tactic(auto, using(crate::proofs::Read::spelled_bytes_are_short))]
     pub fn bytes(&self) -> &[u8]
         ensures value { result.now ≡ spelling self.now.packet }
         ensures packet { IsPacket self.now.packet }
@@ -129,7 +129,7 @@ impl Letter {
     }
 
     /// The number of its packet's kind, 1 to 18.
-    #[tactic(auto, using(crate::proofs::Read::header))]
+    #[tactic(auto, using(crate::proofs::Read::header_read_rules))]
     pub fn kind(&self) -> u8
         ensures { result ≡ kind_of self.now.packet }
     {

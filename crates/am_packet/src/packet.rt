@@ -2,7 +2,7 @@ ghost use Rattle.std.specs.Prelude.{◌≡◌};
 ghost use Rattle.am_packet.specs.Kinds.{head_of};
 
 use crate::image_ref::ImageRef;
-use crate::kind::Kind;
+use crate::kind::PacketKind;
 use am_base::body::BodyRef;
 use am_base::entry::{EntryRef, GroupView};
 use am_base::image::{Report, Vote};
@@ -142,28 +142,28 @@ pub enum Packet<'a> {
 
 impl<'a> Packet<'a> {
     /// Its kind.
-    pub fn kind(&self) -> Kind
+    pub fn kind(&self) -> PacketKind
         ensures value { result ≡ (head_of self.now).kind }
     {
         match self {
-            Packet::Request { .. } => Kind::Request,
-            Packet::Spread { .. } => Kind::Spread,
-            Packet::Bcast { .. } => Kind::Bcast,
-            Packet::Order { .. } => Kind::Order,
-            Packet::Accept { .. } => Kind::Accept,
-            Packet::Ack { .. } => Kind::Ack,
-            Packet::Nack { .. } => Kind::Nack,
-            Packet::Hold { .. } => Kind::Hold,
-            Packet::JoinAsk { .. } => Kind::JoinAsk,
-            Packet::Welcome { .. } => Kind::Welcome,
-            Packet::LeaveAsk { .. } => Kind::LeaveAsk,
-            Packet::Gone { .. } => Kind::Gone,
-            Packet::Invite { .. } => Kind::Invite,
-            Packet::Vote { .. } => Kind::Vote,
-            Packet::Fetch { .. } => Kind::Fetch,
-            Packet::Piece { .. } => Kind::Piece,
-            Packet::Result { .. } => Kind::Result,
-            Packet::HandOver { .. } => Kind::HandOver,
+            Packet::Request { .. } => PacketKind::Request,
+            Packet::Spread { .. } => PacketKind::Spread,
+            Packet::Bcast { .. } => PacketKind::Bcast,
+            Packet::Order { .. } => PacketKind::Order,
+            Packet::Accept { .. } => PacketKind::Accept,
+            Packet::Ack { .. } => PacketKind::Ack,
+            Packet::Nack { .. } => PacketKind::Nack,
+            Packet::Hold { .. } => PacketKind::Hold,
+            Packet::JoinAsk { .. } => PacketKind::JoinAsk,
+            Packet::Welcome { .. } => PacketKind::Welcome,
+            Packet::LeaveAsk { .. } => PacketKind::LeaveAsk,
+            Packet::Gone { .. } => PacketKind::Gone,
+            Packet::Invite { .. } => PacketKind::Invite,
+            Packet::Vote { .. } => PacketKind::Vote,
+            Packet::Fetch { .. } => PacketKind::Fetch,
+            Packet::Piece { .. } => PacketKind::Piece,
+            Packet::Result { .. } => PacketKind::Result,
+            Packet::HandOver { .. } => PacketKind::HandOver,
         }
     }
 

@@ -27,7 +27,7 @@ impl fmt::Debug for PacketRefusal {
 }
 
 impl PacketRefusal {
-    ghost use Rattle.am_packet.specs.Reading.{cause_of};
+    ghost use Rattle.am_packet.specs.Reading.{refusal_number};
 
     /// The number of the cause, 1 to 6.
     pub fn cause(self) -> u8

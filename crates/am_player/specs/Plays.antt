@@ -5,15 +5,15 @@ use Rattle.am_base.specs.Founding.{Rules}
 use Rattle.am_base.specs.Names.{has}
 use Rattle.am_group.specs.declared.event.Event.{Event}
 use Rattle.am_model.specs.Node.{top, members}
-use Rattle.am_play.specs.World.{current, run}
-use Rattle.am_play.specs.Claims.{Headline, FitsView, Sent, NoBallot, HoldsUnballoted}
-use Rattle.am_play.specs.Lawful.{Watch, lawful_front}
-use Rattle.am_headline.specs.Claim.{MayRepair, HasCaughtUp}
-use Rattle.am_headline.specs.Answers.{AnswersUpTo}
+use Rattle.am_group_defs.specs.World.{current, run}
+use Rattle.am_group_defs.specs.Claims.{Headline, FitsView, Sent, NoBallot, HoldsUnballoted}
+use Rattle.am_group_defs.specs.Lawful.{Watch, lawful_front}
+use Rattle.am_repair.specs.Claim.{MayRepair, HasCaughtUp}
+use Rattle.am_repair.specs.Answers.{AnswersUpTo}
 use Rattle.am_io.specs.Outside.{ReadToEnd}
-use Rattle.am_schedules.specs.declared.script.Script.{Script}
-use Rattle.am_schedules.specs.Limits.{IsWithin}
-use Rattle.am_schedules.specs.Scripts.{script_of, reading}
+use Rattle.am_script_defs.specs.declared.script.Script.{Script}
+use Rattle.am_script_defs.specs.Limits.{ScriptIsWithin}
+use Rattle.am_script_defs.specs.Scripts.{script_of, script_reading}
 use Rattle.am_world.specs.declared.world.WorldRefusal.{WorldRefusal}
 use Rattle.am_world.specs.declared.world.WorldRefusal.TheVariants as refusals
 use Rattle.am_player.specs.declared.play.Unplayed.{Unplayed}
@@ -37,8 +37,8 @@ Repaired rules events = (place : ℕ) → place < 16 → lawful_front rules even
     → HasCaughtUp ((run rules (done_of rules events true)).nodes name) (top ((run rules events).nodes (current (run rules events) place)))
 
 -- And of each of them no own send is pending that stands in its list up to there, from where it joined.
-abbrev pub Answered : Rules → List Event → Type 0
-Answered rules events = (place : ℕ) → place < 16 → lawful_front rules events ≡ events → MayRepair (run rules events) place
+abbrev pub SendsAreAnswered : Rules → List Event → Type 0
+SendsAreAnswered rules events = (place : ℕ) → place < 16 → lawful_front rules events ≡ events → MayRepair (run rules events) place
     → (name : ℕ) → has (members ((run rules events).nodes (current (run rules events) place))) name ≡ true
     → AnswersUpTo ((run rules (done_of rules events true)).nodes name) (top ((run rules events).nodes (current (run rules events) place)))
 
@@ -48,13 +48,13 @@ pub record PlayedBy (what : Rules → Watch → List ℕ) (bytes text : List ℕ
   pub founding : Rules
   pub events : List Event
   pub settles : Bool
-  pub script : reading bytes ≡ Ok (script_of founding events settles)
-  pub within : IsWithin founding events
+  pub script : script_reading bytes ≡ Ok (script_of founding events settles)
+  pub within : ScriptIsWithin founding events
   pub written : text ≡ what founding (run_watch founding events settles)
   pub few : length (done_of founding events settles) ≤ most_events
   pub keeps : KeepsRun founding (done_of founding events settles)
   pub repaired : settles ≡ true → Repaired founding events
-  pub answered : settles ≡ true → Answered founding events
+  pub answered : settles ≡ true → SendsAreAnswered founding events
 
 -- a text is shown of the script that was read to the end of what was left
 abbrev pub IsPlayedBy : (Rules → Watch → List ℕ) → Option (List ℕ) → Option (List ℕ) → List ℕ → Type 0
@@ -62,7 +62,7 @@ IsPlayedBy what before after text = (bytes : List ℕ) × ReadToEnd before after
 
 -- the bytes are a script of which this holds
 abbrev pub IsScript : List ℕ → (Rules → List Event → Bool → Type 0) → Type 0
-IsScript bytes claim = (founding : Rules) × (events : List Event) × (settle : Bool) × (reading bytes ≡ Ok (script_of founding events settle))
+IsScript bytes claim = (founding : Rules) × (events : List Event) × (settle : Bool) × (script_reading bytes ≡ Ok (script_of founding events settle))
     × claim founding events settle
 
 -- a script whose run would have more events than a run may have
@@ -81,7 +81,7 @@ IsUnrun script unplayed.NoMemory = Unit {0}
 
 -- why bytes have no text
 abbrev pub IsUnplayed : List ℕ → Unplayed → Type 0
-IsUnplayed bytes (unplayed.BadScript cause) = reading bytes ≡ Err cause
+IsUnplayed bytes (unplayed.BadScript cause) = script_reading bytes ≡ Err cause
 IsUnplayed bytes unplayed.Spent = IsSpent bytes
 IsUnplayed bytes unplayed.NoMemory = Unit {0}
 

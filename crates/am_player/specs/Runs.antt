@@ -5,10 +5,10 @@ use Rattle.am_base.specs.Founding.{Rules}
 use Rattle.am_base.specs.Votes.{all_names}
 use Rattle.am_group.specs.declared.event.Event.{Event}
 use Rattle.am_model.specs.Node.{has_log}
-use Rattle.am_play.specs.World.{World, run}
-use Rattle.am_play.specs.Settle.{settle_events}
-use Rattle.am_play.specs.Lawful.{Watch, watch_run}
-use Rattle.am_play.specs.Play.{settle_run}
+use Rattle.am_group_defs.specs.World.{World, run}
+use Rattle.am_group_defs.specs.Settle.{settle_events}
+use Rattle.am_group_defs.specs.Lawful.{Watch, watch_run}
+use Rattle.am_group_defs.specs.Play.{settle_run}
 
 -- a script's events, and those that settle their run where that is asked for
 abbrev pub done_of : Rules → List Event → Bool → List Event

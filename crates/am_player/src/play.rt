@@ -1,20 +1,20 @@
 ghost use Rattle.std.specs.Prelude.{◌≡◌, ◌≢◌, ℕ, List, Err, if◌then◌else◌, OnOk, OnErr, IfOk, IfErr};
 ghost use Rattle.am_io.specs.Buffers.{Goes};
 ghost use Rattle.am_io.specs.Outside.{ReadToEnd, next};
-ghost use Rattle.am_schedules.specs.Scripts.{reading};
+ghost use Rattle.am_script_defs.specs.Scripts.{script_reading};
 ghost use Rattle.am_player.specs.Plays.{PlayedBy, IsPlayedBy, IsSpent, IsText, IsUnrun, IsUnplayed, unplayed_for};
 ghost use Rattle.am_player.specs.Statuses.{most_input, IfBadScript, IsOfAudit, IsOfRead, Took, Wrote, WroteUpTo};
 
 use crate::read_input;
 use crate::run::{play_out, show_run};
 use crate::shows::Shows;
-use crate::status::Status;
+use crate::status::ExitStatus;
 use am_io::buffered::Buffered;
 use am_io::outside::{Sink, Source};
 use am_io::whole::{ReadRefusal, read_all};
-use am_schedules::refusal::ScriptRefusal;
-use am_schedules::script::Script;
 use am_script::read::read_script;
+use am_script_defs::refusal::ScriptRefusal;
+use am_script_defs::script::Script;
 use am_world::world::WorldRefusal;
 use std::alloc::Global;
 
@@ -24,9 +24,9 @@ macro_rules! read_input {
     ($alloc:expr, $source:expr, $most:expr) => {
         match read_all($alloc, $source, $most) {
             Ok(bytes) => bytes,
-            Err(ReadRefusal::Fault) => return Status::ReadFault,
-            Err(ReadRefusal::TooLong) => return Status::TooLong,
-            Err(ReadRefusal::NoMemory) => return Status::NoMemory,
+            Err(ReadRefusal::Fault) => return ExitStatus::ReadFault,
+            Err(ReadRefusal::TooLong) => return ExitStatus::TooLong,
+            Err(ReadRefusal::NoMemory) => return ExitStatus::NoMemory,
         }
     };
 }
@@ -36,20 +36,20 @@ pub const INPUT_MOST: u32 = 16_777_216;
 
 /// Reads a script of at most 16,777,216 bytes to its end, runs it, and writes what is shown of its run, piece by piece as it is made. On
 /// every status but Done and WriteFault nothing is written.
-#[tactic(auto, using(crate::proofs::Given::gave_whole))]
+#[tactic(auto, using(crate::proofs::Given::source_gave_whole_within_limit))]
 pub fn play<T: Shows, S: Source, K: Sink>(
     alloc: Global,
     shows: &T,
     source: &mut S,
     sink: &mut K,
-) -> Status
-    ensures not_usage { result ≢ Status.Usage }
+) -> ExitStatus
+    ensures not_usage { result ≢ ExitStatus.Usage }
     ensures not_of_audit { IsOfAudit result → ⊥ }
     ensures took { Took S.left S.count most_input result source.old source.new }
     ensures bad_script { IfBadScript result (λ cause. (bytes : List ℕ)
         × ReadToEnd (S.left source.old) (S.left source.new) bytes
         × (reading bytes ≡ Err cause)) }
-    ensures spent { result ≡ Status.Spent → (bytes : List ℕ)
+    ensures spent { result ≡ ExitStatus.Spent → (bytes : List ℕ)
         × ReadToEnd (S.left source.old) (S.left source.new) bytes × IsSpent bytes }
     ensures wrote { Wrote K.contents K.count (IsPlayedBy (T.text shows.now)
         (S.left source.old) (S.left source.new)) result sink.old sink.new }
@@ -59,21 +59,21 @@ pub fn play<T: Shows, S: Source, K: Sink>(
 }
 
 /// Runs a script's bytes, and writes what is shown of its run.
-fn play_bytes<T: Shows, K: Sink>(alloc: Global, shows: &T, bytes: &[u8], sink: &mut K) -> Status
-    ensures not_usage { result ≢ Status.Usage }
+fn play_bytes<T: Shows, K: Sink>(alloc: Global, shows: &T, bytes: &[u8], sink: &mut K) -> ExitStatus
+    ensures not_usage { result ≢ ExitStatus.Usage }
     ensures not_of_audit { IsOfAudit result → ⊥ }
     ensures not_of_read { IsOfRead result → ⊥ }
     ensures bad_script { IfBadScript result (λ cause. reading bytes.now ≡ Err cause) }
-    ensures spent { result ≡ Status.Spent → IsSpent bytes.now }
+    ensures spent { result ≡ ExitStatus.Spent → IsSpent bytes.now }
     ensures wrote { Wrote K.contents K.count (PlayedBy (T.text shows.now) bytes.now)
         result sink.old sink.new }
 {
     match write_run(alloc, shows, bytes, sink) {
-        Ok(true) => Status::Done,
-        Ok(false) => Status::WriteFault,
-        Err(Unplayed::BadScript(cause)) => Status::BadScript(cause),
-        Err(Unplayed::Spent) => Status::Spent,
-        Err(Unplayed::NoMemory) => Status::NoMemory,
+        Ok(true) => ExitStatus::Done,
+        Ok(false) => ExitStatus::WriteFault,
+        Err(Unplayed::BadScript(cause)) => ExitStatus::BadScript(cause),
+        Err(Unplayed::Spent) => ExitStatus::Spent,
+        Err(Unplayed::NoMemory) => ExitStatus::NoMemory,
     }
 }
 
@@ -140,7 +140,7 @@ fn show_script<T: Shows, K: Sink>(
 }
 
 /// Writes what is shown of the run of a script's bytes. After an error nothing was written.
-#[tactic(auto, using(crate::proofs::Played::played_by))]
+#[tactic(auto, using(crate::proofs::Played::text_of_script_is_played))]
 fn answer<T: Shows, K: Sink>(
     alloc: Global,
     shows: &T,

@@ -1,12 +1,12 @@
 ghost use Rattle.std.specs.Prelude.{◌≡◌, ◌<◌, ◌≤◌, ◌+◌, ◌++◌, [], ◌∷◌, length, if◌then◌else◌, OnOk, OnErr, IfOk, IfErr};
 ghost use Rattle.am_base.specs.Most.{most_events};
 ghost use Rattle.am_io.specs.Buffers.{Goes};
-ghost use Rattle.am_play.specs.Lawful.{watch_run};
+ghost use Rattle.am_group_defs.specs.Lawful.{watch_run};
 ghost use Rattle.am_world.specs.declared.world.WorldRefusal.TheVariants as refusals;
 ghost use Rattle.am_world.specs.Runs.{replay};
 ghost use Rattle.am_player.specs.Runs.{done_of, logged_in};
 
-use crate::shows::{Ran, Shows};
+use crate::shows::{PlayedWorld, Shows};
 use am_base::NoMemory;
 use am_base::founding::Founding;
 use am_base::name::Name;
@@ -54,7 +54,7 @@ fn do_events(world: &mut World, events: &[Event]) -> Result<(), WorldRefusal>
 
 /// The world after a script's events, and those that settle it where that is asked for. It is Spent where these are more than
 /// 100,000.
-#[tactic(auto, using(am_play::proofs::Runs::one_record_each))]
+#[tactic(auto, using(am_group_defs::proofs::Runs::one_record_each))]
 pub fn play_out(
     alloc: Global,
     founding: &Founding,
@@ -89,7 +89,7 @@ pub fn show_run<T: Shows, K: Sink>(
     ensures err { OnErr result (out.new ≡ out.old) }
 {
     let names = logged_names(alloc, world)?;
-    let ran = Ran {
+    let ran = PlayedWorld {
         world,
         names: names.as_slice(),
     };

@@ -2,7 +2,7 @@ ghost use Rattle.std.specs.Prelude.{◌≡◌, ℕ, List, OnOk, OnErr};
 ghost use Rattle.std.specs.Fmt.{WritesInCalls};
 ghost use Rattle.am_base.specs.Founding.{Rules};
 ghost use Rattle.am_io.specs.Buffers.{Goes};
-ghost use Rattle.am_play.specs.{Lawful.Watch, Lawful.watch_run, Play.watched_text};
+ghost use Rattle.am_group_defs.specs.{Lawful.Watch, Lawful.watch_run, Play.watched_text};
 ghost use Rattle.am_world.specs.Runs.{replay};
 ghost use Rattle.am_player.specs.Runs.{logged_in};
 
@@ -16,7 +16,7 @@ use am_world::world::World;
 
 /// What a world did, and the names that have or had a list, in their places' order.
 #[derive(Clone, Copy)]
-pub struct Ran<'a> {
+pub struct PlayedWorld<'a> {
     /// The world.
     pub world: &'a World,
     /// These names.
@@ -29,7 +29,11 @@ pub trait Shows {
     ghost text: { Self → Rules → Watch → List ℕ };
 
     /// Writes what is shown of what a world did. After an error nothing of it was written.
-    fn show<K: Sink>(&self, ran: &Ran<'_>, out: &mut Buffered<'_, K>) -> Result<(), NoMemory>
+    fn show<K: Sink>(
+        &self,
+        ran: &PlayedWorld<'_>,
+        out: &mut Buffered<'_, K>,
+    ) -> Result<(), NoMemory>
         requires { ran.now.names.now ≡ logged_in (replay ran.now.world.now) }
         ensures ok { OnOk result (Goes K.contents K.count out.old (text self.now
             ran.now.world.now.rules (watch_run ran.now.world.now.rules ran.now.world.now.events))
@@ -60,7 +64,11 @@ pub struct PlayText;
 impl Shows for PlayText {
     ghost text = { λ _. watched_text };
 
-    fn show<K: Sink>(&self, ran: &Ran<'_>, out: &mut Buffered<'_, K>) -> Result<(), NoMemory> {
+    fn show<K: Sink>(
+        &self,
+        ran: &PlayedWorld<'_>,
+        out: &mut Buffered<'_, K>,
+    ) -> Result<(), NoMemory> {
         push_run(out, ran.world, ran.names);
         Ok(())
     }

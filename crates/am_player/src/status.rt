@@ -1,8 +1,8 @@
-use am_schedules::refusal::ScriptRefusal;
+use am_script_defs::refusal::ScriptRefusal;
 
 /// What came of a call of the program.
 #[derive(Clone, Copy)]
-pub enum Status {
+pub enum ExitStatus {
     /// All was read, done and written.
     Done,
     /// The words have no form of the program.
@@ -25,25 +25,25 @@ pub enum Status {
     Disagrees,
 }
 
-impl Status {
+impl ExitStatus {
     ghost use Rattle.std.specs.Prelude.{◌≡◌};
-    ghost use Rattle.am_player.specs.Statuses.{number_of};
+    ghost use Rattle.am_player.specs.Statuses.{status_number};
 
     /// Its number, which a process ends with: 0 to 9.
     pub fn number(self) -> u8
         ensures { result ≡ number_of self }
     {
         match self {
-            Status::Done => 0,
-            Status::Usage => 1,
-            Status::BadScript(_) => 2,
-            Status::TooLong => 3,
-            Status::ReadFault => 4,
-            Status::WriteFault => 5,
-            Status::NoMemory => 6,
-            Status::Spent => 7,
-            Status::BadText { .. } => 8,
-            Status::Disagrees => 9,
+            ExitStatus::Done => 0,
+            ExitStatus::Usage => 1,
+            ExitStatus::BadScript(_) => 2,
+            ExitStatus::TooLong => 3,
+            ExitStatus::ReadFault => 4,
+            ExitStatus::WriteFault => 5,
+            ExitStatus::NoMemory => 6,
+            ExitStatus::Spent => 7,
+            ExitStatus::BadText { .. } => 8,
+            ExitStatus::Disagrees => 9,
         }
     }
 }

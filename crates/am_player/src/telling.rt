@@ -1,18 +1,18 @@
 ghost use Rattle.std.specs.Prelude.{◌≡◌, ◌≤◌, ◌++◌, codes, decimal, length};
-ghost use Rattle.am_schedules.specs.Refusals as refusals;
-ghost use Rattle.am_player.specs.Telling.{line_of, bad_script_line, bad_text_line};
+ghost use Rattle.am_script_defs.specs.Refusals as refusals;
+ghost use Rattle.am_player.specs.Telling.{status_line, bad_script_line, bad_text_line};
 
-use crate::status::Status;
-use am_schedules::refusal::ScriptRefusal;
+use crate::status::ExitStatus;
+use am_script_defs::refusal::ScriptRefusal;
 use arrayvec::ArrayString;
 use itoa::Buffer;
 use std::io;
 
 /// A line that tells of a status.
-pub type Line = ArrayString<256>;
+pub type StatusLine = ArrayString<256>;
 
 /// Some words as a line.
-fn line(words: &str) -> Line
+fn line(words: &str) -> StatusLine
     requires { length words.now ≤ 256 }
     ensures { result.bytes ≡ words.now }
 {
@@ -22,7 +22,7 @@ fn line(words: &str) -> Line
 }
 
 /// The line for an input that is no script, by its cause.
-fn bad_script_line(cause: ScriptRefusal) -> Line
+fn bad_script_line(cause: ScriptRefusal) -> StatusLine
     ensures { result.bytes ≡ bad_script_line cause }
 {
     let mut digits = Buffer::new();
@@ -34,7 +34,7 @@ fn bad_script_line(cause: ScriptRefusal) -> Line
 }
 
 /// The line for an input that is no text.
-fn bad_text_line(number: u32) -> Line
+fn bad_text_line(number: u32) -> StatusLine
     ensures { result.bytes ≡ bad_text_line number }
 {
     let mut digits = Buffer::new();
@@ -45,27 +45,27 @@ fn bad_text_line(number: u32) -> Line
 
 /// The line that tells of a status on standard error, without its end; empty for Done and Disagrees, of which nothing is told. It takes no
 /// memory (docs/PROTOCOL.md, "Statuses").
-pub fn line_of(status: Status) -> Line
+pub fn line_of(status: ExitStatus) -> StatusLine
     ensures { result.bytes ≡ line_of status }
 {
     match status {
-        Status::Done => ArrayString::new(),
-        Status::Usage => line(
+        ExitStatus::Done => ArrayString::new(),
+        ExitStatus::Usage => line(
             "usage: play | race | gen --seed N --count 1..100000 [--script] | audit | parts | messages | directory | snapshots | node --name PLACE[/LIFE] --founders PLACE,.. [--resilience 0..15] [--window 1..1008] [--pb-up-to 0..1024]",
         ),
-        Status::BadScript(cause) => bad_script_line(cause),
-        Status::TooLong => line("too long"),
-        Status::ReadFault => line("read fault"),
-        Status::WriteFault => line("write fault"),
-        Status::NoMemory => line("no memory"),
-        Status::Spent => line("spent"),
-        Status::BadText { line } => bad_text_line(line),
-        Status::Disagrees => ArrayString::new(),
+        ExitStatus::BadScript(cause) => bad_script_line(cause),
+        ExitStatus::TooLong => line("too long"),
+        ExitStatus::ReadFault => line("read fault"),
+        ExitStatus::WriteFault => line("write fault"),
+        ExitStatus::NoMemory => line("no memory"),
+        ExitStatus::Spent => line("spent"),
+        ExitStatus::BadText { line } => bad_text_line(line),
+        ExitStatus::Disagrees => ArrayString::new(),
     }
 }
 
 /// Tells of a status on standard error, but of Done and Disagrees, whose lines are empty.
-pub fn tell(rt: &impl Eprint, status: Status) -> io::Result<()> {
+pub fn tell(rt: &impl Eprint, status: ExitStatus) -> io::Result<()> {
     let line = line_of(status);
     if line.is_empty() {
         return Ok(());

@@ -1,8 +1,8 @@
 ghost use Rattle.std.specs.Prelude.{◌≡◌, ◌≤◌, ◌<◌, ◌+◌, ◌*◌, ◌^◌, length, IfOk};
 ghost use Rattle.am_script.specs.Seen.{seen, items_seen};
-ghost use Rattle.am_schedules.specs.Refusals.{Answers};
-ghost use Rattle.am_schedules.specs.Values.{each_from};
-ghost use Rattle.am_schedules.specs.Races.{most_turns, call_from, calls_from, parts_of_thread, thread_from, each_thread, threads_from, calls_of, of_right_size, parts_of_race, race_from};
+ghost use Rattle.am_script_defs.specs.Refusals.{Answers};
+ghost use Rattle.am_script_defs.specs.Values.{each_from};
+ghost use Rattle.am_script_defs.specs.Races.{most_turns, call_from, calls_from, parts_of_thread, thread_from, each_thread, threads_from, calls_in_all, of_right_size, parts_of_race, race_from};
 
 use crate::call::call;
 use am_base::items::Items;
@@ -10,28 +10,28 @@ use am_base::limits::MOST_EVENTS;
 use am_base::name::Name;
 use am_group::event::Act;
 use am_group::plan::{RacePlan, ThreadPlan};
-use am_schedules::key::Key;
-use am_schedules::refusal::{Read, ScriptRefusal};
 use am_script::fields::{known, number_in, number_or, object, value_in};
 use am_script::founding::founding;
 use am_script::tree::items;
+use am_script_defs::key::ScriptKey;
+use am_script_defs::refusal::{Read, ScriptRefusal};
 use json::Value;
 use std::alloc::Global;
 
 /// The keys of a thread.
-const THREAD_KEYS: [Key; 2] = [Key::Node, Key::Calls];
+const THREAD_KEYS: [ScriptKey; 2] = [ScriptKey::Node, ScriptKey::Calls];
 
 /// The keys of a race.
-const RACE_KEYS: [Key; 9] = [
-    Key::Founders,
-    Key::Resilience,
-    Key::Window,
-    Key::PbUpTo,
-    Key::Seed,
-    Key::Loss,
-    Key::Repeat,
-    Key::Turns,
-    Key::Threads,
+const RACE_KEYS: [ScriptKey; 9] = [
+    ScriptKey::Founders,
+    ScriptKey::Resilience,
+    ScriptKey::Window,
+    ScriptKey::PbUpTo,
+    ScriptKey::Seed,
+    ScriptKey::Loss,
+    ScriptKey::Repeat,
+    ScriptKey::Turns,
+    ScriptKey::Threads,
 ];
 
 /// The most letters of a hundred that are lost.
@@ -60,27 +60,27 @@ fn each_call(alloc: Global, list: &[Value], first: u64, founding: u8) -> Read<It
 }
 
 /// The calls of a thread.
-#[tactic(auto, unfolding(am_schedules::specs::Races::calls_from))]
+#[tactic(auto, unfolding(am_script_defs::specs::Races::calls_from))]
 fn calls(alloc: Global, value: &Value, first: u64, founding: u8) -> Read<Items<Act>>
     requires founding { founding ≤ 15 }
     requires first { first ≤ 2 ^ 63 }
     ensures { Answers (calls_from founding first (seen value.now)) result }
 {
     let Some(list) = items(value) else {
-        return Err(ScriptRefusal::bad_value(Key::Calls, 0));
+        return Err(ScriptRefusal::bad_value(ScriptKey::Calls, 0));
     };
     each_call(alloc, list, first, founding)
 }
 
 /// A thread's parts.
-#[tactic(auto, unfolding(am_schedules::specs::Races::parts_of_thread))]
+#[tactic(auto, unfolding(am_script_defs::specs::Races::parts_of_thread))]
 fn parts_of_thread(alloc: Global, value: &Value, first: u64, founding: u8) -> Read<ThreadPlan>
     requires founding { founding ≤ 15 }
     requires first { first ≤ 2 ^ 63 }
     ensures { Answers (parts_of_thread founding first (seen value.now)) result }
 {
-    let node = number_in(value, Key::Node, 0, 0, 15)?;
-    let list = value_in(value, Key::Calls, 0)?;
+    let node = number_in(value, ScriptKey::Node, 0, 0, 15)?;
+    let list = value_in(value, ScriptKey::Calls, 0)?;
     let calls = calls(alloc, list, first, founding)?;
     Ok(ThreadPlan {
         node: Name::of_byte(node as u8),
@@ -89,13 +89,13 @@ fn parts_of_thread(alloc: Global, value: &Value, first: u64, founding: u8) -> Re
 }
 
 /// A thread, whose first call has this number.
-#[tactic(auto, unfolding(am_schedules::specs::Races::thread_from))]
+#[tactic(auto, unfolding(am_script_defs::specs::Races::thread_from))]
 fn thread(alloc: Global, value: &Value, first: u64, founding: u8) -> Read<ThreadPlan>
     requires founding { founding ≤ 15 }
     requires first { first ≤ 2 ^ 63 }
     ensures { Answers (thread_from founding first (seen value.now)) result }
 {
-    object(value, Key::Threads, 0)?;
+    object(value, ScriptKey::Threads, 0)?;
     known(&THREAD_KEYS, value, 0)?;
     parts_of_thread(alloc, value, first, founding)
 }
@@ -117,16 +117,16 @@ fn each_thread(alloc: Global, list: &[Value], founding: u8) -> Read<Items<Thread
 }
 
 /// The threads of a race: 1 to 16.
-#[tactic(auto, using(am_script::proofs::Json::items_len_seen), unfolding(am_schedules::specs::Races::threads_from))]
+#[tactic(auto, using(am_script::proofs::Json::items_len_of_items_seen), unfolding(am_script_defs::specs::Races::threads_from))]
 fn threads(alloc: Global, value: &Value, founding: u8) -> Read<Items<ThreadPlan>>
     requires { founding ≤ 15 }
     ensures { Answers (threads_from founding (seen value.now)) result }
 {
     let Some(list) = items(value) else {
-        return Err(ScriptRefusal::bad_value(Key::Threads, 0));
+        return Err(ScriptRefusal::bad_value(ScriptKey::Threads, 0));
     };
     if list.is_empty() || 16 < list.len() {
-        return Err(ScriptRefusal::out_of_range(Key::Threads, 0, list.len() as u64, 1, 16));
+        return Err(ScriptRefusal::out_of_range(ScriptKey::Threads, 0, list.len() as u64, 1, 16));
     }
     each_thread(alloc, list, founding)
 }
@@ -144,7 +144,7 @@ fn calls_of(threads: &[ThreadPlan]) -> u64
 }
 
 /// The race, where it has no more calls than there may be, and no more records.
-#[tactic(auto, unfolding(am_schedules::specs::Races::of_right_size))]
+#[tactic(auto, unfolding(am_script_defs::specs::Races::of_right_size))]
 fn of_right_size(plan: RacePlan) -> Read<RacePlan>
     requires threads { length plan.threads ≤ 16 }
     requires turns { plan.turns ≤ most_turns }
@@ -152,27 +152,27 @@ fn of_right_size(plan: RacePlan) -> Read<RacePlan>
 {
     let calls = calls_of(plan.threads.as_slice());
     if MOST_CALLS < calls {
-        return Err(ScriptRefusal::out_of_range(Key::Threads, 0, calls, 0, MOST_CALLS));
+        return Err(ScriptRefusal::out_of_range(ScriptKey::Threads, 0, calls, 0, MOST_CALLS));
     }
     let records = calls * (u64::from(plan.turns) + 2);
     let most = MOST_EVENTS as u64;
     if most < records {
-        return Err(ScriptRefusal::out_of_range(Key::Threads, 0, records, 0, most));
+        return Err(ScriptRefusal::out_of_range(ScriptKey::Threads, 0, records, 0, most));
     }
     Ok(plan)
 }
 
 /// A race's parts.
-#[tactic(auto, using(am_schedules::proofs::RaceLimits::few_threads), unfolding(am_schedules::specs::Races::parts_of_race))]
+#[tactic(auto, using(am_script_defs::proofs::RaceLimits::threads_read_le_sixteen), unfolding(am_script_defs::specs::Races::parts_of_race))]
 fn parts(alloc: Global, value: &Value) -> Read<RacePlan>
     ensures { Answers (parts_of_race (seen value.now)) result }
 {
     let founding = founding(value)?;
-    let seed_number = number_in(value, Key::Seed, 0, 0, u64::MAX)?;
-    let loss = number_or(0, value, Key::Loss, 0, 0, MOST_LOST)?;
-    let repeat = number_or(0, value, Key::Repeat, 0, 0, MOST_REPEATED)?;
-    let turns = number_or(200, value, Key::Turns, 0, 1, MOST_TURNS)?;
-    let list = value_in(value, Key::Threads, 0)?;
+    let seed_number = number_in(value, ScriptKey::Seed, 0, 0, u64::MAX)?;
+    let loss = number_or(0, value, ScriptKey::Loss, 0, 0, MOST_LOST)?;
+    let repeat = number_or(0, value, ScriptKey::Repeat, 0, 0, MOST_REPEATED)?;
+    let turns = number_or(200, value, ScriptKey::Turns, 0, 1, MOST_TURNS)?;
+    let list = value_in(value, ScriptKey::Threads, 0)?;
     let threads = threads(alloc, list, founding.resilience())?;
     of_right_size(RacePlan {
         founding,
@@ -186,11 +186,11 @@ fn parts(alloc: Global, value: &Value) -> Read<RacePlan>
 
 /// A race: how its group begins, by which numbers its chooser chooses, and its threads with their calls. A refusal but
 /// NoMemory is the first cause that the value tells none.
-#[tactic(auto, unfolding(am_schedules::specs::Races::race_from))]
+#[tactic(auto, unfolding(am_script_defs::specs::Races::race_from))]
 pub fn race(alloc: Global, value: &Value) -> Read<RacePlan>
     ensures { Answers (race_from (seen value.now)) result }
 {
-    object(value, Key::Race, 0)?;
+    object(value, ScriptKey::Race, 0)?;
     known(&RACE_KEYS, value, 0)?;
     parts(alloc, value)
 }

@@ -5,7 +5,7 @@ use Rattle.am_base.specs.declared.entry.Entry.{Entry}
 use Rattle.am_base.specs.Founding.{Rules}
 use Rattle.am_group.specs.declared.event.Record.{Record}
 use Rattle.am_group.specs.Deliveries.{deliveries}
-use Rattle.am_play.specs.Text.{log_line}
+use Rattle.am_group_defs.specs.Text.{log_line}
 
 -- what each of these names was given
 abbrev pub logs_for : List Record → List ℕ → List (ℕ × List (ℕ × Entry))

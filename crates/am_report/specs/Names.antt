@@ -2,7 +2,7 @@
 use Rattle.std.specs.Prelude.{ℕ, zero, suc, Bool, true, false, List, [], ◌++◌, codes}
 use Rattle.std.specs.List.{flat_map}
 use Rattle.am_base.specs.Names.{name_at}
-use Rattle.am_play.specs.Text.{name_text, list_text}
+use Rattle.am_group_defs.specs.Text.{name_text, list_text}
 
 -- what is still to be printed for names: with a dash for nobody where none was printed, else with a comma before each
 abbrev pub rest_text : Bool → List ℕ → List ℕ
@@ -21,6 +21,6 @@ place_text true place (suc before) = name_text (name_at place (suc before))
 place_text false place (suc before) = codes "," ++ name_text (name_at place (suc before))
 
 -- whether the next is the first behind that
-abbrev pub first_behind : Bool → ℕ → Bool
-first_behind first zero = first
-first_behind first (suc before) = false
+abbrev pub is_first_behind : Bool → ℕ → Bool
+is_first_behind first zero = first
+is_first_behind first (suc before) = false

@@ -1,7 +1,7 @@
 ghost use Rattle.std.specs.Prelude.{◌≤◌, length};
 ghost use Rattle.std.specs.Fmt.{WritesInCalls};
 ghost use Rattle.std.specs.List.{flat_map};
-ghost use Rattle.am_play.specs.Text.{hex_byte, body_text, resilience_text, entry_text};
+ghost use Rattle.am_group_defs.specs.Text.{hex_byte, body_text, resilience_text, entry_text};
 
 use crate::name::{push_name, push_names, push_stamp};
 use crate::number::push_behind;
@@ -41,7 +41,7 @@ pub fn push_bytes<O: Writer>(out: &mut O, bytes: &[u8])
 }
 
 /// Adds a body: its bytes, or a dash where there are none.
-#[tactic(auto, unfolding(am_play::specs::Text::body_text))]
+#[tactic(auto, unfolding(am_group_defs::specs::Text::body_text))]
 pub fn push_body<O: Writer>(out: &mut O, bytes: &[u8])
     ensures { WritesInCalls O.writes out.old (body_text bytes.now) out.new }
 {
@@ -53,7 +53,7 @@ pub fn push_body<O: Writer>(out: &mut O, bytes: &[u8])
 }
 
 /// Adds a resilience, where it isn't the founding's.
-#[tactic(auto, unfolding(am_play::specs::Text::resilience_text))]
+#[tactic(auto, unfolding(am_group_defs::specs::Text::resilience_text))]
 pub fn push_resilience<O: Writer>(out: &mut O, founding: &Founding, resilience: u8)
     ensures { WritesInCalls O.writes out.old (resilience_text founding.now resilience) out.new }
 {
@@ -64,7 +64,7 @@ pub fn push_resilience<O: Writer>(out: &mut O, founding: &Founding, resilience: 
 }
 
 /// Adds an entry.
-#[tactic(auto, using(am_io::proofs::Writers::wrote_two, am_io::proofs::Writers::wrote_five), unfolding(am_play::specs::Text::entry_text))]
+#[tactic(auto, using(am_io::proofs::Writers::two_words_written_in_calls, am_io::proofs::Writers::five_words_written_in_calls), unfolding(am_group_defs::specs::Text::entry_text))]
 pub fn push_entry<O: Writer>(out: &mut O, founding: &Founding, entry: &EntryRef<'_>)
     ensures { WritesInCalls O.writes out.old (entry_text founding.now entry.now) out.new }
 {

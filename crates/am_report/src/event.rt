@@ -1,6 +1,6 @@
 ghost use Rattle.std.specs.Prelude.{◌≡◌, ◌++◌};
 ghost use Rattle.std.specs.Fmt.{WritesInCalls};
-ghost use Rattle.am_play.specs.Text.{act_word, act_parts, event_text};
+ghost use Rattle.am_group_defs.specs.Text.{act_word, act_parts, event_text};
 
 use crate::entry::{push_body, push_resilience};
 use crate::name::push_name;
@@ -10,7 +10,7 @@ use am_group::event::{Act, Event};
 use am_io::writer::Writer;
 
 /// An act's word.
-#[tactic(auto, unfolding(am_play::specs::Text::act_word))]
+#[tactic(auto, unfolding(am_group_defs::specs::Text::act_word))]
 pub fn act_word(act: &Act) -> &'static str
     ensures { result.now ≡ act_word act.now }
 {
@@ -33,7 +33,7 @@ pub fn act_word(act: &Act) -> &'static str
 }
 
 // Adds what stands behind an act's node, with a blank before each part.
-#[tactic(auto, using(am_io::proofs::Writers::wrote_two), unfolding(am_play::specs::Text::act_parts))]
+#[tactic(auto, using(am_io::proofs::Writers::two_words_written_in_calls), unfolding(am_group_defs::specs::Text::act_parts))]
 fn push_parts<O: Writer>(out: &mut O, founding: &Founding, act: &Act)
     ensures { WritesInCalls O.writes out.old (act_parts founding.now act.now) out.new }
 {

@@ -1,26 +1,26 @@
 ghost use Rattle.std.specs.Prelude.{◌≡◌, ◌+◌, ◌<◌, ◌++◌};
 ghost use Rattle.std.specs.Fmt.{WritesInCalls};
-ghost use Rattle.am_play.specs.Text.{kind_word, addressees_text, letter_text, letters_text};
+ghost use Rattle.am_group_defs.specs.Text.{kind_word, addressees_text, letter_text, letters_text};
 
 use crate::name::{is_everybody_else, push_names};
 use crate::number::push_behind;
 use am_io::writer::Writer;
-use am_packet::kind::Kind;
+use am_packet::kind::PacketKind;
 use am_packet::letter::Letter;
 
 /// The name of a letter's kind. The packet isn't read for it.
-#[tactic(auto, using(am_packet::proofs::Again::kind_back), unfolding(am_play::specs::Text::kind_word))]
+#[tactic(auto, using(am_packet::proofs::Again::kind_at_number_of_kind), unfolding(am_group_defs::specs::Text::kind_word))]
 pub fn kind_word(letter: &Letter) -> &'static str
     ensures { result.now ≡ kind_word letter.now.packet }
 {
-    match Kind::of_byte(letter.kind()) {
+    match PacketKind::of_byte(letter.kind()) {
         Some(kind) => kind.word(),
         None => unreachable!(),
     }
 }
 
 // Adds for whom a letter of a node at this place is.
-#[tactic(auto, unfolding(am_play::specs::Text::addressees_text))]
+#[tactic(auto, unfolding(am_group_defs::specs::Text::addressees_text))]
 fn push_addressees<O: Writer>(out: &mut O, place: u8, letter: &Letter)
     requires { place < 16 }
     ensures { WritesInCalls O.writes out.old (addressees_text place letter.now) out.new }

@@ -1,6 +1,6 @@
 ghost use Rattle.std.specs.Prelude.{◌≡◌, ◌++◌, codes};
 ghost use Rattle.std.specs.Fmt.{WritesInCalls};
-ghost use Rattle.am_play.specs.Text.{entry_text, newline, record_line, group_line, log_line, empty_log_line, mark_line};
+ghost use Rattle.am_group_defs.specs.Text.{entry_text, newline, record_line, group_line, log_line, empty_log_line, mark_line};
 
 use crate::entry::push_entry;
 use crate::event::push_event;
@@ -68,7 +68,7 @@ pub fn push_log_line<O: Writer>(
 }
 
 /// Adds the line of a name whose application was given nothing.
-#[tactic(auto, using(am_io::proofs::Writers::wrote_three), unfolding(am_play::specs::Text::empty_log_line))]
+#[tactic(auto, using(am_io::proofs::Writers::three_words_written_in_calls), unfolding(am_group_defs::specs::Text::empty_log_line))]
 pub fn push_empty_log<O: Writer>(out: &mut O, name: Name)
     ensures { WritesInCalls O.writes out.old (empty_log_line name) out.new }
 {
@@ -78,7 +78,7 @@ pub fn push_empty_log<O: Writer>(out: &mut O, name: Name)
 }
 
 /// Adds the last line: `lawful`, or which event broke the run.
-#[tactic(auto, using(am_io::proofs::Writers::wrote_two), unfolding(am_play::specs::Text::mark_line))]
+#[tactic(auto, using(am_io::proofs::Writers::two_words_written_in_calls), unfolding(am_group_defs::specs::Text::mark_line))]
 pub fn push_mark<O: Writer>(out: &mut O, broken: Option<u32>)
     ensures { WritesInCalls O.writes out.old (mark_line broken) out.new }
 {

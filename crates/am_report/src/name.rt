@@ -1,8 +1,8 @@
 ghost use Rattle.std.specs.Prelude.{◌≡◌, ◌<◌, IfOk, slice_index, nat_le};
 ghost use Rattle.std.specs.Fmt.{WritesInCalls};
 ghost use Rattle.std.specs.List.{list_all};
-ghost use Rattle.am_play.specs.Text.{name_text, stamp_text, names_text, is_everybody_else};
-ghost use Rattle.am_report.specs.Names.{listed_text, place_text, first_behind};
+ghost use Rattle.am_group_defs.specs.Text.{name_text, stamp_text, names_text, is_everybody_else};
+ghost use Rattle.am_report.specs.Names.{listed_text, place_text, is_first_behind};
 
 use crate::number::{push_behind, push_number};
 use am_base::name::{Name, Stamp};
@@ -10,7 +10,7 @@ use am_base::names::Names;
 use am_io::writer::Writer;
 
 /// Adds a name: its place, and a life other than the first behind a slash.
-#[tactic(auto, using(am_io::proofs::Writers::wrote_two), unfolding(am_play::specs::Text::name_text))]
+#[tactic(auto, using(am_io::proofs::Writers::two_words_written_in_calls), unfolding(am_group_defs::specs::Text::name_text))]
 pub fn push_name<O: Writer>(out: &mut O, name: Name)
     ensures { WritesInCalls O.writes out.old (name_text name) out.new }
 {

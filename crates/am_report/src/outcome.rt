@@ -1,7 +1,7 @@
 ghost use Rattle.std.specs.Prelude.{◌≡◌, ◌++◌};
 ghost use Rattle.std.specs.Fmt.{WritesInCalls};
-ghost use Rattle.am_play.specs.Text.{outcome_word, numbers_text, outcome_numbers, outcome_parts, outcome_text};
-ghost use Rattle.am_report.specs.Outcomes.{numbers_in};
+ghost use Rattle.am_group_defs.specs.Text.{outcome_word, numbers_text, outcome_numbers, outcome_parts, outcome_text};
+ghost use Rattle.am_report.specs.Outcomes.{outcome_numbers_in};
 
 use crate::entry::push_entry;
 use crate::name::{push_name, push_names, push_stamp};
@@ -11,7 +11,7 @@ use am_base::outcome::Outcome;
 use am_io::writer::Writer;
 
 /// An outcome's word.
-#[tactic(auto, unfolding(am_play::specs::Text::outcome_word))]
+#[tactic(auto, unfolding(am_group_defs::specs::Text::outcome_word))]
 pub fn outcome_word(outcome: &Outcome) -> &'static str
     ensures { result.now ≡ outcome_word outcome.now }
 {
@@ -75,7 +75,7 @@ pub fn outcome_word(outcome: &Outcome) -> &'static str
 }
 
 /// The numbers of an outcome, in order.
-enum Numbers {
+enum OutcomeNumbers {
     Nothing,
     One(u32),
     Two(u32, u32),
@@ -83,8 +83,8 @@ enum Numbers {
 }
 
 // The numbers of an outcome that has nothing but numbers.
-#[tactic(auto, unfolding(crate::specs::Outcomes::numbers_in))]
-fn numbers_of(outcome: &Outcome) -> Numbers
+#[tactic(auto, unfolding(crate::specs::Outcomes::outcome_numbers_in))]
+fn numbers_of(outcome: &Outcome) -> OutcomeNumbers
     ensures { numbers_in result ≡ outcome_numbers outcome.now }
 {
     match outcome {
@@ -100,11 +100,11 @@ fn numbers_of(outcome: &Outcome) -> Numbers
         | Outcome::Served { count: number }
         | Outcome::Welcomed { number }
         | Outcome::LetGo { number }
-        | Outcome::Catching { want: number } => Numbers::One(*number),
+        | Outcome::Catching { want: number } => OutcomeNumbers::One(*number),
         Outcome::Busy { queued: number }
         | Outcome::Refused { cause: number }
         | Outcome::Running { life: number }
-        | Outcome::Returned { life: number } => Numbers::One(u32::from(*number)),
+        | Outcome::Returned { life: number } => OutcomeNumbers::One(u32::from(*number)),
         Outcome::Sent {
             req: first,
             number: second,
@@ -120,25 +120,25 @@ fn numbers_of(outcome: &Outcome) -> Numbers
         | Outcome::Crowded {
             base: first,
             top: second,
-        } => Numbers::Two(*first, *second),
-        Outcome::PutOff { req, base, top } => Numbers::Three(*req, *base, *top),
-        _ => Numbers::Nothing,
+        } => OutcomeNumbers::Two(*first, *second),
+        Outcome::PutOff { req, base, top } => OutcomeNumbers::Three(*req, *base, *top),
+        _ => OutcomeNumbers::Nothing,
     }
 }
 
 // Adds the numbers of an outcome that has nothing but numbers, with a blank before each.
-#[tactic(auto, unfolding(crate::specs::Outcomes::numbers_in))]
+#[tactic(auto, unfolding(crate::specs::Outcomes::outcome_numbers_in))]
 fn push_numbers<O: Writer>(out: &mut O, outcome: &Outcome)
     ensures { WritesInCalls O.writes out.old (numbers_text (outcome_numbers outcome.now)) out.new }
 {
     match numbers_of(outcome) {
-        Numbers::Nothing => {}
-        Numbers::One(first) => push_behind(out, " ", u64::from(first)),
-        Numbers::Two(first, second) => {
+        OutcomeNumbers::Nothing => {}
+        OutcomeNumbers::One(first) => push_behind(out, " ", u64::from(first)),
+        OutcomeNumbers::Two(first, second) => {
             push_behind(out, " ", u64::from(first));
             push_behind(out, " ", u64::from(second));
         }
-        Numbers::Three(first, second, third) => {
+        OutcomeNumbers::Three(first, second, third) => {
             push_behind(out, " ", u64::from(first));
             push_behind(out, " ", u64::from(second));
             push_behind(out, " ", u64::from(third));
@@ -147,7 +147,7 @@ fn push_numbers<O: Writer>(out: &mut O, outcome: &Outcome)
 }
 
 // Adds what stands behind an outcome's word, with a blank before each part.
-#[tactic(auto, using(am_io::proofs::Writers::wrote_two, am_io::proofs::Writers::wrote_three), unfolding(am_play::specs::Text::outcome_parts))]
+#[tactic(auto, using(am_io::proofs::Writers::two_words_written_in_calls, am_io::proofs::Writers::three_words_written_in_calls), unfolding(am_group_defs::specs::Text::outcome_parts))]
 fn push_parts<O: Writer>(out: &mut O, founding: &Founding, outcome: &Outcome)
     ensures { WritesInCalls O.writes out.old (outcome_parts founding.now outcome.now) out.new }
 {

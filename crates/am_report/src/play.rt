@@ -3,7 +3,7 @@ ghost use Rattle.std.specs.Fmt.{WritesInCalls};
 ghost use Rattle.am_base.specs.Most.{most_events};
 ghost use Rattle.am_group.specs.Deliveries.{given_to, deliveries};
 ghost use Rattle.am_group.specs.Journals.{letters_of};
-ghost use Rattle.am_play.specs.Text.{records_text, group_text, log_text, logs_text, play_text};
+ghost use Rattle.am_group_defs.specs.Text.{records_text, group_text, log_text, logs_text, play_text};
 ghost use Rattle.am_report.specs.Logs.{logs_for, given_lines};
 
 use crate::lines::{push_empty_log, push_group_line, push_log_line, push_mark, push_record};
@@ -16,7 +16,7 @@ use am_journal::delivered::given_to;
 use am_journal::journal::Journal;
 
 // Adds the lines of a run's events.
-#[tactic(auto, unfolding(am_play::specs::Text::records_text))]
+#[tactic(auto, unfolding(am_group_defs::specs::Text::records_text))]
 fn push_records<O: Writer>(out: &mut O, founding: &Founding, records: &[Record])
     requires events { length records.now ≤ most_events }
     requires letters { length (letters_of records.now) ≤ 2400000 }
@@ -31,7 +31,7 @@ fn push_records<O: Writer>(out: &mut O, founding: &Founding, records: &[Record])
 }
 
 // Adds the lines of a group's list.
-#[tactic(auto, unfolding(am_play::specs::Text::group_text))]
+#[tactic(auto, unfolding(am_group_defs::specs::Text::group_text))]
 fn push_group<O: Writer>(out: &mut O, founding: &Founding, group: &[Entry])
     ensures { WritesInCalls O.writes out.old (group_text founding.now group.now) out.new }
 {

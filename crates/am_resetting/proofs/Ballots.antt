@@ -1,13 +1,13 @@
 -- A ballot that was taken out, with a vote more or a name given up, and one that begins.
 use Rattle.am_resetting.proofs.VotingWords.{◌≡◌, ◌≢◌, ℕ, ◌+◌, ◌<◌, min, nat_lt, List, Bool, true, false, not, ◌==◌, Option, None, refl, ap, ◌∙◌, arith, most_number}
-use Rattle.am_resetting.proofs.VotingWords.{minus, stamp_lt, Shown, best_vote, split, Node, Ballot, those, top, view, has_log, with_vote, without_voter, next_stamp}
+use Rattle.am_resetting.proofs.VotingWords.{minus, stamp_lt, Shown, best_vote, split_on_bool_of_log, Node, Ballot, those, top, view, has_log, with_vote, without_voter, next_stamp}
 use Rattle.am_resetting.proofs.VotingWords.{new_ballot, keep_vote, give_up, decide, best_of, own_vote, has_voted, newly_needed, IsInOrder, Vote, IsTakenOut, nat_tests}
-use Rattle.am_resetting.proofs.VotingWords.{NodeKeeps, lt_next}
+use Rattle.am_resetting.proofs.VotingWords.{NodeKeeps, stamp_lt_next_round}
 
 -- ---- a ballot that was taken out, with a vote more or a name given up
 
 other_place : (name who : ℕ) → name ≢ who → (who == name) ≡ false
-other_place name who h = split (who == name) (λ t. absurd (h (grind (arith, nat_tests)))) (λ f. f)
+other_place name who h = split_on_bool_of_log (who == name) (λ t. absurd (h (grind (arith, nat_tests)))) (λ f. f)
 
 -- with other votes and other names given up, but not at the node itself
 taken_with : (m : Node) (b : Ballot) (votes : ℕ → Option Vote) (given_up : ℕ → Bool) → votes m.core.who ≡ b.votes m.core.who
@@ -30,37 +30,37 @@ taken_with m b votes given_up same_vote same_given is =
       number = is.number;
     }
 
-pub taken_voted : (m : Node) (b : Ballot) (name : ℕ) (vote : Vote) → name ≢ m.core.who → IsTakenOut m b → IsTakenOut m (with_vote b name vote)
-taken_voted m b name vote other is =
+pub taken_out_ballot_with_vote : (m : Node) (b : Ballot) (name : ℕ) (vote : Vote) → name ≢ m.core.who → IsTakenOut m b → IsTakenOut m (with_vote b name vote)
+taken_out_ballot_with_vote m b name vote other is =
     let apart = other_place name m.core.who other in
     taken_with m b (with_vote b name vote).votes b.given_up (rw apart refl) refl is
 
-pub taken_given : (m : Node) (b : Ballot) (name : ℕ) → name ≢ m.core.who → IsTakenOut m b → IsTakenOut m (without_voter b name)
-taken_given m b name other is =
+pub taken_out_ballot_without_voter : (m : Node) (b : Ballot) (name : ℕ) → name ≢ m.core.who → IsTakenOut m b → IsTakenOut m (without_voter b name)
+taken_out_ballot_without_voter m b name other is =
     let apart = other_place name m.core.who other in
     taken_with m b (without_voter b name).votes (without_voter b name).given_up (rw apart refl) (rw apart refl) is
 
 -- ---- a ballot that begins
 
-pub next_higher : (m : Node) → stamp_lt (next_stamp m) m.core.promise ≡ false
-next_higher m =
+pub next_stamp_above_promise : (m : Node) → stamp_lt (next_stamp m) m.core.promise ≡ false
+next_stamp_above_promise m =
     let t : nat_lt (m.core.promise.round + 1) m.core.promise.round ≡ false = grind (arith, nat_tests) in
     let e : (m.core.promise.round + 1 == m.core.promise.round) ≡ false = grind (arith, nat_tests) in
     rw (t, e) refl
 
 -- with the promise of the next round and without a ballot
-abbrev pub next_node : Node → Node
-next_node m = record m { core = record (m.core) { promise = next_stamp m }; ballot = None }
+abbrev pub node_with_next_stamp : Node → Node
+node_with_next_stamp m = record m { core = record (m.core) { promise = next_stamp m }; ballot = None }
 
-pub begins : (m : Node) (least resilience : ℕ) → IsInOrder m.core → NodeKeeps m → has_log m.status ≡ true → top m < most_number
-    → IsTakenOut (next_node m) (new_ballot (next_stamp m) least (min resilience 15))
-begins m least resilience order keeps logged number = record {
+pub new_ballot_is_taken_out : (m : Node) (least resilience : ℕ) → IsInOrder m.core → NodeKeeps m → has_log m.status ≡ true → top m < most_number
+    → IsTakenOut (node_with_next_stamp m) (new_ballot (next_stamp m) least (min resilience 15))
+new_ballot_is_taken_out m least resilience order keeps logged number = record {
   order = record { kept = order.kept; let_go = order.let_go; given = order.given; accepted = order.accepted };
   out = refl;
   own = record {
     stamp = λ open_. refl;
     by = λ open_. refl;
-    ahead = λ open_. lt_next m.core.promise (view m) m.core.who keeps.promised;
+    ahead = λ open_. stamp_lt_next_round m.core.promise (view m) m.core.who keeps.promised;
     logged = λ open_. logged;
     itself = λ open_. refl;
     unvoted = λ open_. refl;
@@ -72,20 +72,20 @@ begins m least resilience order keeps logged number = record {
 
 -- ---- the ballot of the node itself isn't looked at
 
-pub keep_with : (m : Node) (o : Option Ballot) (b : Ballot) (name : ℕ) (vote : Vote) → keep_vote (record m { ballot = o }) b name vote ≡ keep_vote m b name vote
+pub keep_vote_without_own_ballot : (m : Node) (o : Option Ballot) (b : Ballot) (name : ℕ) (vote : Vote) → keep_vote (record m { ballot = o }) b name vote ≡ keep_vote m b name vote
 unfolding keep_vote decide best_of
-keep_with m o b name vote = refl
+keep_vote_without_own_ballot m o b name vote = refl
 
-pub give_with : (m : Node) (o : Option Ballot) (b : Ballot) (name : ℕ) → give_up (record m { ballot = o }) b name ≡ give_up m b name
+pub give_up_without_own_ballot : (m : Node) (o : Option Ballot) (b : Ballot) (name : ℕ) → give_up (record m { ballot = o }) b name ≡ give_up m b name
 unfolding give_up decide best_of
-give_with m o b name = refl
+give_up_without_own_ballot m o b name = refl
 
 -- who is newly needed, by the two best votes
-pub newly_is : (m : Node) (old new kept : Ballot) (who : ℕ) (own : Vote) (before needed : Shown) (set less more : List ℕ) → kept ≡ new
+pub minus_is_newly_needed : (m : Node) (old new kept : Ballot) (who : ℕ) (own : Vote) (before needed : Shown) (set less more : List ℕ) → kept ≡ new
     → who ≡ m.core.who → own ≡ own_vote m → before ≡ best_vote old.votes who own → needed ≡ best_vote kept.votes who own → less ≡ before.vote.members
     → more ≡ needed.vote.members → set ≡ those (λ name. not (has_voted who kept name)) (minus more less) → set ≡ newly_needed m old new
 unfolding best_of
-newly_is m old new kept who own before needed set less more k w o b n l r is =
+minus_is_newly_needed m old new kept who own before needed set less more k w o b n l r is =
     let bo : before ≡ best_vote old.votes m.core.who (own_vote m) = b ∙ (λ i. best_vote old.votes (w i) (o i)) in
     let bn : needed ≡ best_vote new.votes m.core.who (own_vote m) = n ∙ (λ i. best_vote (k i).votes (w i) (o i)) in
     is ∙ (λ i. those (λ name. not (has_voted (w i) (k i) name))

@@ -12,20 +12,20 @@ pub use Rattle.am_base.specs.Names.{has, size, rank_of, name_at, is_within, by_p
 pub use Rattle.am_base.specs.declared.entry.Entry.TheVariants.{Data, Join, Leave, View}
 pub use Rattle.am_base.specs.Lists.{Log, top_of, with_entry, members_of, blank_row, is_blank, at_place, member_life, row_after_view}
 unfoldable pub use Rattle.am_base.specs.{Votes.best_from, Lists.after, Lists.fits}
-pub use Rattle.am_base.proofs.{Places.slice_index-by_place, Places.get_or-by_place, Places.length-by_place, Greatest.and_both}
-pub use Rattle.am_state.specs.{Cores.CoreState, Cores.Keeps, Cores.trim_to, Cores.Stands, Kept.IsKept}
-pub use Rattle.am_state.proofs.{Ends.end-top, Ends.end-told, Ends.told-push, CoreLaws.stands_self, Folds.split, Lives.row_at, Lives.member_at}
-pub use Rattle.am_parts.proofs.Rows.{within_all, within_none}
-pub use Rattle.am_state.specs.Reports.{least_of, reports_from}
-pub use Rattle.am_state.specs.Sends.{next_request}
+pub use Rattle.am_base.proofs.{Places.slice_index-by_place, Places.get_or-by_place, Places.length-by_place, Greatest.both_of_and}
+pub use Rattle.am_node_defs.specs.{Cores.CoreState, Cores.Keeps, Cores.trim_to, Cores.CoreStands, Kept.IsKept}
+pub use Rattle.am_node_defs.proofs.{Ends.top_of_end_is_top, Ends.told_by_end_is_told, Ends.told_by_pushed_entry, CoreLaws.untrimmed_core_keeps_own_log, Folds.split_on_bool_of_log, Lives.row_at_place_of_image, Lives.members_of_at_row_place}
+pub use Rattle.am_node_storage.proofs.Rows.{set_within_by_each_place, set_not_within_by_place}
+pub use Rattle.am_node_defs.specs.Reports.{least_of, reports_from}
+pub use Rattle.am_node_defs.specs.Sends.{next_request}
 pub use Rattle.am_model.specs.Node.{Node, Ballot, has_log, top, image_of, view, members, acts, is_member, is_sequencer, push_entry, name_where, trim_up_to}
 pub use Rattle.am_model.specs.Ballots.{own_vote, is_waited_for, left_in, overtake, with_promise, Verdict, taken_by, with_answer, with_end, goes_on, ends}
 pub use Rattle.am_model.specs.Ballots.{decided_view, decide_view, trim_for}
 pub use Rattle.am_model.specs.Ends.{IsEndOf, with_log}
 unfoldable pub use Rattle.am_model.specs.{Node.those, Ballots.best_of, Ballots.decide}
-pub use Rattle.am_model.proofs.Sets.{has_those, has_size}
-pub use Rattle.am_ballots.specs.Kept.{Kept, ballot_of}
-pub use Rattle.am_handlers.specs.{Keeps.NodeKeeps, Keeps.IsSteady, Keeps.IsOwnBallot, Verdicts.ComesTo, Parts.node_of}
-pub use Rattle.am_handlers.proofs.{Keeping.due_pushed, Keeping.keeps_steady, Keeping.over_own, Keeping.own_for, Keeping.own_steady, Ends.told_same}
-pub use Rattle.am_handlers.proofs.{Ends.top_same, Shown.own_vote_same}
-pub use Rattle.am_resetting.specs.Deciding.{Answered, IsTakenOut, IsUpTo, MayStore, MayBeView, put_back}
+pub use Rattle.am_model.proofs.Sets.{passing_name_is_in_those, set_with_name_has_size}
+pub use Rattle.am_ballots.specs.Kept.{KeptBallot, ballot_of}
+pub use Rattle.am_node_parts.specs.{Keeps.NodeKeeps, Keeps.IsSteady, Keeps.IsOwnBallot, Verdicts.VerdictComesTo, Parts.node_of}
+pub use Rattle.am_node_parts.proofs.{Keeping.due_request_after_push, Keeping.steady_node_keeps_order, Keeping.ended_ballot_counts_as_own, Keeping.own_ballot_of_same_promise, Keeping.own_ballot_of_steady_node, Ends.told_by_standing_log}
+pub use Rattle.am_node_parts.proofs.{Ends.top_of_standing_log, Shown.own_vote_on_whole_log}
+pub use Rattle.am_resetting.specs.Deciding.{BallotIsAnswered, IsTakenOut, IsUpTo, CatcherMayStore, MayBeView, put_back}

@@ -1,15 +1,15 @@
 -- Stamps in order.
 use Rattle.am_resetting.proofs.DecidingWords.{◌≡◌, ◌⊎◌, ⊎_elim, inl, inr, ℕ, ◌+◌, ◌<◌, ◌≤◌, Bool, true, false, ◌==◌, ◌&&◌, ◌||◌, nat_lt, refl, ap, arith, nat_tests}
-use Rattle.am_resetting.proofs.DecidingWords.{Stamp, rank_of, stamp_lt, stamp_eq, split}
+use Rattle.am_resetting.proofs.DecidingWords.{Stamp, rank_of, stamp_lt, stamp_eq, split_on_bool_of_log}
 
 -- pairs of numbers in order
 abbrev lex : ℕ → ℕ → ℕ → ℕ → Bool
 lex r a s b = nat_lt r s || ((r == s) && nat_lt a b)
 
 lex_not : (r a s b : ℕ) → lex r a s b ≡ false → (s < r) ⊎ ((r ≡ s) × (b ≤ a))
-lex_not r a s b h = split (nat_lt r s)
+lex_not r a s b h = split_on_bool_of_log (nat_lt r s)
     (λ t. absurd (let g = rw t at h in cc))
-    (λ f. split (r == s)
+    (λ f. split_on_bool_of_log (r == s)
     (λ e. inr (grind (arith, nat_tests), let g = rw (f, e) at h in grind (arith, nat_tests)))
     (λ e. inl (grind (arith, nat_tests))))
 
@@ -17,15 +17,15 @@ lex_low : (r a s b : ℕ) → (s < r) ⊎ ((r ≡ s) × (b ≤ a)) → lex r a s
 lex_low r a s b = λ h. ⊎_elim
     (λ (l : s < r). let f : nat_lt r s ≡ false = grind (arith, nat_tests) in let e : (r == s) ≡ false = grind (arith, nat_tests) in rw (f, e) refl)
     (λ (l : (r ≡ s) × (b ≤ a)). let x = l.0 in let y = l.1 in let f : nat_lt r s ≡ false = grind (arith, nat_tests) in
-    let g : nat_lt a b ≡ false = grind (arith, nat_tests) in split (r == s) (λ e. rw (f, e, g) refl) (λ e. rw (f, e) refl))
+    let g : nat_lt a b ≡ false = grind (arith, nat_tests) in split_on_bool_of_log (r == s) (λ e. rw (f, e, g) refl) (λ e. rw (f, e) refl))
     h
 
-pub lt_self : (a : Stamp) → stamp_lt a a ≡ false
-lt_self a = lex_low a.round (rank_of a.by) a.round (rank_of a.by) (inr (refl, omega arith))
+pub stamp_not_lt_itself : (a : Stamp) → stamp_lt a a ≡ false
+stamp_not_lt_itself a = lex_low a.round (rank_of a.by) a.round (rank_of a.by) (inr (refl, omega arith))
 
 -- not below one that isn't below a third
-pub lt_none : (a b c : Stamp) → stamp_lt a b ≡ false → stamp_lt b c ≡ false → stamp_lt a c ≡ false
-lt_none a b c h k =
+pub stamp_not_lt_transitive : (a b c : Stamp) → stamp_lt a b ≡ false → stamp_lt b c ≡ false → stamp_lt a c ≡ false
+stamp_not_lt_transitive a b c h k =
     let x = lex_not a.round (rank_of a.by) b.round (rank_of b.by) h in
     let y = lex_not b.round (rank_of b.by) c.round (rank_of c.by) k in
     lex_low a.round (rank_of a.by) c.round (rank_of c.by) (⊎_elim
@@ -39,21 +39,21 @@ lt_none a b c h k =
     x)
 
 -- two equal stamps are one
-pub same_stamp : (a b : Stamp) → stamp_eq a b ≡ true → a ≡ b
-same_stamp a b h =
+pub equal_stamps_are_same : (a b : Stamp) → stamp_eq a b ≡ true → a ≡ b
+equal_stamps_are_same a b h =
     let r : a.round ≡ b.round = grind (arith, nat_tests) in
     let n : a.by ≡ b.by = grind (arith, nat_tests) in
     λ i. record { round = r i; by = n i }
 
 -- what is above is another
-pub lt_apart : (p v view : Stamp) → stamp_lt p v ≡ true → stamp_lt p view ≡ false → stamp_eq v view ≡ false
-lt_apart p v view h k = split (stamp_eq v view)
-    (λ t. absurd (let e = ap (stamp_lt p) (same_stamp v view t) in cc))
+pub stamp_of_view_not_promised : (p v view : Stamp) → stamp_lt p v ≡ true → stamp_lt p view ≡ false → stamp_eq v view ≡ false
+stamp_of_view_not_promised p v view h k = split_on_bool_of_log (stamp_eq v view)
+    (λ t. absurd (let e = ap (stamp_lt p) (equal_stamps_are_same v view t) in cc))
     (λ f. f)
 
 -- of two names that are bytes one is above, where they aren't one
-pub lt_or : (v p : Stamp) → v.by < 256 → p.by < 256 → stamp_lt v p ≡ false → stamp_eq v p ≡ false → stamp_lt p v ≡ true
-lt_or v p l k h apart = split (stamp_lt p v) (λ t. t) (λ f.
+pub stamp_lt_if_neither : (v p : Stamp) → v.by < 256 → p.by < 256 → stamp_lt v p ≡ false → stamp_eq v p ≡ false → stamp_lt p v ≡ true
+stamp_lt_if_neither v p l k h apart = split_on_bool_of_log (stamp_lt p v) (λ t. t) (λ f.
     let x = lex_not v.round (rank_of v.by) p.round (rank_of p.by) h in
     let y = lex_not p.round (rank_of p.by) v.round (rank_of v.by) f in
     let both : (v.round ≡ p.round) × (rank_of v.by ≡ rank_of p.by) = ⊎_elim
@@ -71,8 +71,8 @@ lt_or v p l k h apart = split (stamp_lt p v) (λ t. t) (λ f.
     absurd (let e = rw (tr, tn) at apart in cc))
 
 -- the next round is above
-pub lt_next : (p view : Stamp) (who : ℕ) → stamp_lt p view ≡ false → stamp_lt view (record { round = p.round + 1; by = who }) ≡ true
-lt_next p view who h =
+pub stamp_lt_next_round : (p view : Stamp) (who : ℕ) → stamp_lt p view ≡ false → stamp_lt view (record { round = p.round + 1; by = who }) ≡ true
+stamp_lt_next_round p view who h =
     let x = lex_not p.round (rank_of p.by) view.round (rank_of view.by) h in
     let low : view.round < p.round + 1 = ⊎_elim (λ (a : view.round < p.round). omega arith) (λ (a : (p.round ≡ view.round)
     × (rank_of view.by ≤ rank_of p.by)). let e = a.0 in omega arith) x in
@@ -80,7 +80,7 @@ lt_next p view who h =
     rw t refl
 
 -- a stamp above another isn't it
-pub lt_not_eq : (view v : Stamp) → stamp_lt view v ≡ true → stamp_eq v view ≡ false
-lt_not_eq view v h = split (stamp_eq v view)
-    (λ t. absurd (let e = ap (stamp_lt view) (same_stamp v view t) in let s = lt_self view in cc))
+pub stamp_lt_not_equal : (view v : Stamp) → stamp_lt view v ≡ true → stamp_eq v view ≡ false
+stamp_lt_not_equal view v h = split_on_bool_of_log (stamp_eq v view)
+    (λ t. absurd (let e = ap (stamp_lt view) (equal_stamps_are_same v view t) in let s = stamp_not_lt_itself view in cc))
     (λ f. f)

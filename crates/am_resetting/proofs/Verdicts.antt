@@ -1,25 +1,25 @@
 -- What a look at a ballot comes to, from the end of a list as from all of it.
 use Rattle.am_resetting.proofs.DecidingWords.{◌≡◌, ℕ, ◌+◌, ◌-◌, ◌<◌, ◌≤◌, max, List, [], ◌∷◌, true, false, not, ◌==◌, nat_lt, if◌then◌else◌, Option, Some, None}
 use Rattle.am_resetting.proofs.DecidingWords.{unwrap_or, refl, sym, ap, subst, ◌∙◌, arith, IfSome, Image, Vote, Entry, View, Outcome, has, size, names_of}
-use Rattle.am_resetting.proofs.DecidingWords.{Shown, better_of, best_from, best_vote, all_names, vote_lt, Log, top_of, Stands, split, least_of, Node, Ballot}
+use Rattle.am_resetting.proofs.DecidingWords.{Shown, better_of, best_from, best_vote, all_names, vote_lt, Log, top_of, CoreStands, split_on_bool_of_log, least_of, Node, Ballot}
 use Rattle.am_resetting.proofs.DecidingWords.{top, those, push_entry, trim_up_to, Verdict, own_vote, best_of, is_waited_for, left_in, taken_by, with_answer}
-use Rattle.am_resetting.proofs.DecidingWords.{with_end, goes_on, ends, decided_view, decide_view, trim_for, decide, IsEndOf, with_log, told_same, top_same}
-use Rattle.am_resetting.proofs.DecidingWords.{own_vote_same, ComesTo, Answered, IsOwnBallot, over_own}
+use Rattle.am_resetting.proofs.DecidingWords.{with_end, goes_on, ends, decided_view, decide_view, trim_for, decide, IsEndOf, with_log, told_by_standing_log, top_of_standing_log}
+use Rattle.am_resetting.proofs.DecidingWords.{own_vote_on_whole_log, VerdictComesTo, BallotIsAnswered, IsOwnBallot, ended_ballot_counts_as_own}
 use Rattle.am_base.specs.declared.outcome.Outcome.TheVariants as said
-use Rattle.am_state.specs.Reports as reports
-use Rattle.am_resetting.proofs.Looked.{Looked, Waited, Idle, Counted, some_waited, few, enough}
+use Rattle.am_node_defs.specs.Reports as reports
+use Rattle.am_resetting.proofs.Looked.{BallotIsLookedAt, BallotWaitsForNames, BallotWaitsForNobody, VotersOfBallotAreCounted, waited_names_are_some, voters_fewer_than_least, voters_enough_for_least}
 
 -- it is enough to look at the same node with another list
-pub comes : (f : Node → Verdict) (m n : Node) (o : Outcome) → ((all : Log) → Stands all m.core → ComesTo (f (with_log m all)) o n) → (all : Node)
-    → IsEndOf all m → ComesTo (f all) o n
-comes f m n o from = λ all e. subst (λ (x : Node). ComesTo (f x) o n) e.same (from all.core.log e.stands)
+comes : (f : Node → Verdict) (m n : Node) (o : Outcome) → ((all : Log) → CoreStands all m.core → VerdictComesTo (f (with_log m all)) o n) → (all : Node)
+    → IsEndOf all m → VerdictComesTo (f all) o n
+comes f m n o from = λ all e. subst (λ (x : Node). VerdictComesTo (f x) o n) e.same (from all.core.log e.stands)
 
 -- with the same ballot and the same reports they stay ends
-pub end_with : (all m n : Node) (b : Option Ballot) → IsEndOf all m → n ≡ record m { ballot = b } → IsEndOf (record all { ballot = b }) n
+end_with : (all m n : Node) (b : Option Ballot) → IsEndOf all m → n ≡ record m { ballot = b } → IsEndOf (record all { ballot = b }) n
 end_with all m n b e is = subst (λ (x : Node). IsEndOf (record all { ballot = b }) x) (sym is)
     (record { stands = e.stands; same = ap (λ (x : Node). record x { ballot = b }) e.same })
 
-pub end_reports : (all m n : Node) (base : ℕ) (b : Option Ballot) → IsEndOf all m → all.core.base ≡ base
+end_reports : (all m n : Node) (base : ℕ) (b : Option Ballot) → IsEndOf all m → all.core.base ≡ base
     → n ≡ record m { reports = reports.reports_from base; ballot = b } → IsEndOf (record all { reports = reports.reports_from all.core.base; ballot = b }) n
 end_reports all m n base b e at is =
     subst (λ (x : Node). IsEndOf (record all { reports = reports.reports_from all.core.base; ballot = b }) x)
@@ -27,49 +27,49 @@ end_reports all m n base b e at is =
     (record { stands = e.stands; same = ap (λ (x : Node). record x { reports = reports.reports_from all.core.base; ballot = b }) e.same })
 
 -- an answer that ends the ballot, or lets it go on
-pub ends_comes : (all m n : Node) (b : Ballot) (o p : Outcome) → IsEndOf all m → o ≡ p → n ≡ record m { ballot = Some (with_end b o) }
-    → ComesTo (ends all b p) o n
+ends_comes : (all m n : Node) (b : Ballot) (o p : Outcome) → IsEndOf all m → o ≡ p → n ≡ record m { ballot = Some (with_end b o) }
+    → VerdictComesTo (ends all b p) o n
 ends_comes all m n b o p e same is = record {
   node = end_with all m n (Some (with_end b p)) e (is ∙ ap (λ (x : Outcome). record m { ballot = Some (with_end b x) }) same);
   answer = sym same;
 }
 
-pub goes_comes : (all m n : Node) (b : Ballot) (o p : Outcome) → IsEndOf all m → o ≡ p → n ≡ record m { ballot = Some (with_answer b o) }
-    → ComesTo (goes_on all b p) o n
+goes_comes : (all m n : Node) (b : Ballot) (o p : Outcome) → IsEndOf all m → o ≡ p → n ≡ record m { ballot = Some (with_answer b o) }
+    → VerdictComesTo (goes_on all b p) o n
 goes_comes all m n b o p e same is = record {
   node = end_with all m n (Some (with_answer b p)) e (is ∙ ap (λ (x : Outcome). record m { ballot = Some (with_answer b x) }) same);
   answer = sym same;
 }
 
-end_here : (m : Node) (all : Log) → Stands all m.core → IsEndOf (with_log m all) m
+end_here : (m : Node) (all : Log) → CoreStands all m.core → IsEndOf (with_log m all) m
 end_here m all s = record { stands = s; same = refl }
 
 -- ---- the view
 
-pub crowded_comes : (m n : Node) (b : Ballot) (names : List ℕ) (o : Outcome) → nat_lt (m.core.rules.window + 16 - size names) (top m + 1 - m.core.base) ≡ true
+pub decide_without_room_comes : (m n : Node) (b : Ballot) (names : List ℕ) (o : Outcome) → nat_lt (m.core.rules.window + 16 - size names) (top m + 1 - m.core.base) ≡ true
     → o ≡ said.Crowded m.core.base (top m) → n ≡ record m { ballot = Some (with_end b o) } → (all : Node) → IsEndOf all m
-    → ComesTo (decide_view all b names) o n
-crowded_comes m n b names o test answer is = comes (λ x. decide_view x b names) m n o (λ all s.
-    let t = top_same m all s in
+    → VerdictComesTo (decide_view all b names) o n
+decide_without_room_comes m n b names o test answer is = comes (λ x. decide_view x b names) m n o (λ all s.
+    let t = top_of_standing_log m all s in
     let there : nat_lt (m.core.rules.window + 16 - size names) (top_of all + 1 - m.core.base) ≡ true =
     ap (λ k. nat_lt (m.core.rules.window + 16 - size names) (k + 1 - m.core.base)) t ∙ test in
     rw there (ends_comes (with_log m all) m n b o (said.Crowded m.core.base (top_of all)) (end_here m all s) (answer
     ∙ ap (said.Crowded m.core.base) (sym t)) is))
 
-pub decided_comes : (m mid n : Node) (b : Ballot) (names : List ℕ) (o : Outcome)
+pub decide_with_room_comes : (m mid n : Node) (b : Ballot) (names : List ℕ) (o : Outcome)
     → nat_lt (m.core.rules.window + 16 - size names) (top m + 1 - m.core.base) ≡ false
     → ((all : Node) → IsEndOf all m → IsEndOf (push_entry all (View (decided_view m b names))) mid)
     → o ≡ said.Decided (top m + 1) names → n ≡ record mid { reports = reports.reports_from m.core.base; ballot = Some (with_end b o) }
-    → (all : Node) → IsEndOf all m → ComesTo (decide_view all b names) o n
-decided_comes m mid n b names o test pushes answer is = comes (λ x. decide_view x b names) m n o (λ all s.
-    let t = top_same m all s in
+    → (all : Node) → IsEndOf all m → VerdictComesTo (decide_view all b names) o n
+decide_with_room_comes m mid n b names o test pushes answer is = comes (λ x. decide_view x b names) m n o (λ all s.
+    let t = top_of_standing_log m all s in
     let w = with_log m all in
     let there : nat_lt (m.core.rules.window + 16 - size names) (top_of all + 1 - m.core.base) ≡ false =
     ap (λ k. nat_lt (m.core.rules.window + 16 - size names) (k + 1 - m.core.base)) t ∙ test in
     let same : o ≡ said.Decided (top_of all + 1) names = answer ∙ ap (λ k. said.Decided (k + 1) names) (sym t) in
     let e : Entry = View (decided_view w b names) in
     let e_is : View (decided_view m b names) ≡ e =
-    ap (λ (i : Image). View (record { stamp = b.stamp; members = names; resilience = max b.resilience i.resilience })) (sym (told_same m all s)) in
+    ap (λ (i : Image). View (record { stamp = b.stamp; members = names; resilience = max b.resilience i.resilience })) (sym (told_by_standing_log m all s)) in
     let p : IsEndOf (push_entry w e) mid = subst (λ (x : Entry). IsEndOf (push_entry w x) mid) e_is (pushes w (end_here m all s)) in
     rw there (record {
       node = end_reports (push_entry w e) mid n m.core.base (Some (with_end b (said.Decided (top_of all + 1) names))) p refl (is
@@ -93,33 +93,33 @@ decide_by : (m : Node) (b : Ballot) → decide m b ≡ by_best m b (best_of m b)
 unfolding decide
 decide_by m b = refl
 
-decide_best : (m : Node) (b : Ballot) (best : Shown) (all : Log) → Stands all m.core → best ≡ best_vote b.votes m.core.who (own_vote m)
+decide_best : (m : Node) (b : Ballot) (best : Shown) (all : Log) → CoreStands all m.core → best ≡ best_vote b.votes m.core.who (own_vote m)
     → decide (with_log m all) b ≡ by_best (with_log m all) b best
 unfolding best_of
 decide_best m b best all s is = decide_by (with_log m all) b
-    ∙ ap (by_best (with_log m all) b) (ap (best_vote b.votes m.core.who) (own_vote_same m all s) ∙ sym is)
+    ∙ ap (by_best (with_log m all) b) (ap (best_vote b.votes m.core.who) (own_vote_on_whole_log m all s) ∙ sym is)
 
 -- a verdict by this best vote is the ballot's
-pub comes_best : (m n : Node) (b : Ballot) (best : Shown) (o : Outcome) → best ≡ best_vote b.votes m.core.who (own_vote m)
-    → ((all : Log) → Stands all m.core → ComesTo (by_best (with_log m all) b best) o n) → (all : Node) → IsEndOf all m → ComesTo (decide all b) o n
-comes_best m n b best o is by = comes (λ x. decide x b) m n o (λ all s. subst (λ (v : Verdict). ComesTo v o n) (sym (decide_best m b best all s is)) (by all s))
+comes_best : (m n : Node) (b : Ballot) (best : Shown) (o : Outcome) → best ≡ best_vote b.votes m.core.who (own_vote m)
+    → ((all : Log) → CoreStands all m.core → VerdictComesTo (by_best (with_log m all) b best) o n) → (all : Node) → IsEndOf all m → VerdictComesTo (decide all b) o n
+comes_best m n b best o is by = comes (λ x. decide x b) m n o (λ all s. subst (λ (v : Verdict). VerdictComesTo v o n) (sym (decide_best m b best all s is)) (by all s))
 
 -- an answer is the one that the ballot was given
-pub ended : (m n : Node) (b : Ballot) {o p : Outcome} → o ≡ p → n ≡ record m { ballot = Some (with_end b p) } → n ≡ record m { ballot = Some (with_end b o) }
-ended m n b answer is = is ∙ ap (λ (x : Outcome). record m { ballot = Some (with_end b x) }) (sym answer)
+pub node_with_equal_ballot_end : (m n : Node) (b : Ballot) {o p : Outcome} → o ≡ p → n ≡ record m { ballot = Some (with_end b p) } → n ≡ record m { ballot = Some (with_end b o) }
+node_with_equal_ballot_end m n b answer is = is ∙ ap (λ (x : Outcome). record m { ballot = Some (with_end b x) }) (sym answer)
 
-pub kept_on : (m n : Node) (b : Ballot) {o p : Outcome} → o ≡ p → n ≡ record m { ballot = Some (with_answer b p) }
+pub node_with_equal_ballot_answer : (m n : Node) (b : Ballot) {o p : Outcome} → o ≡ p → n ≡ record m { ballot = Some (with_answer b p) }
     → n ≡ record m { ballot = Some (with_answer b o) }
-kept_on m n b answer is = is ∙ ap (λ (x : Outcome). record m { ballot = Some (with_answer b x) }) (sym answer)
+node_with_equal_ballot_answer m n b answer is = is ∙ ap (λ (x : Outcome). record m { ballot = Some (with_answer b x) }) (sym answer)
 
 -- the ballot that was given an answer is the node's own, as it was
-pub own_ended : (m : Node) (b : Ballot) {new : Ballot} {given result : Outcome} → Answered (with_end b given) given result new → b.resilience ≤ 15
+pub ended_ballot_is_own : (m : Node) (b : Ballot) {new : Ballot} {given result : Outcome} → BallotIsAnswered (with_end b given) given result new → b.resilience ≤ 15
     → IsOwnBallot m new
-own_ended m b {new} {given} is few = subst (λ (x : Ballot). IsOwnBallot m x) (sym is.ballot) (over_own m (with_end b given) refl few)
+ended_ballot_is_own m b {new} {given} is few = subst (λ (x : Ballot). IsOwnBallot m x) (sym is.ballot) (ended_ballot_counts_as_own m (with_end b given) refl few)
 
-pub own_kept_on : (m : Node) (b : Ballot) {new : Ballot} {given result : Outcome} → Answered (with_answer b given) given result new → IsOwnBallot m b
+pub answered_ballot_is_own : (m : Node) (b : Ballot) {new : Ballot} {given result : Outcome} → BallotIsAnswered (with_answer b given) given result new → IsOwnBallot m b
     → b.is_over ≡ false → IsOwnBallot m new
-own_kept_on m b {new} {given} is own is_open = subst (λ (x : Ballot). IsOwnBallot m x) (sym is.ballot) (record {
+answered_ballot_is_own m b {new} {given} is own is_open = subst (λ (x : Ballot). IsOwnBallot m x) (sym is.ballot) (record {
   stamp = λ open_. own.stamp is_open;
   by = λ open_. own.by is_open;
   ahead = λ open_. own.ahead is_open;
@@ -129,50 +129,50 @@ own_kept_on m b {new} {given} is own is_open = subst (λ (x : Ballot). IsOwnBall
   resilience = own.resilience;
 })
 
-pub not_in_comes : {m : Node} {b : Ballot} {best : Shown} {who : ℕ} {needed : List ℕ} (n : Node) (o : Outcome) → Looked m b best who needed
+pub decide_without_own_name_comes : {m : Node} {b : Ballot} {best : Shown} {who : ℕ} {needed : List ℕ} (n : Node) (o : Outcome) → BallotIsLookedAt m b best who needed
     → has best.vote.members m.core.who ≡ false → o ≡ said.NotIn best.vote.view → n ≡ record m { ballot = Some (with_end b o) } → (all : Node) → IsEndOf all m
-    → ComesTo (decide all b) o n
-not_in_comes {m} {b} {best} n o seen out answer is = comes_best m n b best o seen.best_is
+    → VerdictComesTo (decide all b) o n
+decide_without_own_name_comes {m} {b} {best} n o seen out answer is = comes_best m n b best o seen.best_is
     (λ all s. rw out (ends_comes (with_log m all) m n b o (said.NotIn best.vote.view) (end_here m all s) answer is))
 
-pub waiting_comes : {m : Node} {b : Ballot} {best : Shown} {who count : ℕ} {needed waited : List ℕ} (n : Node) (o : Outcome)
-    → Waited m b best who needed waited count → 0 < count → o ≡ said.Waiting waited → n ≡ record m { ballot = Some (with_answer b o) } → (all : Node)
-    → IsEndOf all m → ComesTo (decide all b) o n
-waiting_comes {m} {b} {best} n o waits some answer is = comes_best m n b best o waits.looked.best_is
-    (λ all s. rw (waits.inside, some_waited waits some)
+pub decide_waiting_comes : {m : Node} {b : Ballot} {best : Shown} {who count : ℕ} {needed waited : List ℕ} (n : Node) (o : Outcome)
+    → BallotWaitsForNames m b best who needed waited count → 0 < count → o ≡ said.Waiting waited → n ≡ record m { ballot = Some (with_answer b o) } → (all : Node)
+    → IsEndOf all m → VerdictComesTo (decide all b) o n
+decide_waiting_comes {m} {b} {best} n o waits some answer is = comes_best m n b best o waits.looked.best_is
+    (λ all s. rw (waits.inside, waited_names_are_some waits some)
     (goes_comes (with_log m all) m n b o (said.Waiting (those (is_waited_for m.core.who b) best.vote.members)) (end_here m all s)
     (answer ∙ ap said.Waiting waits.waited_is) is))
 
-pub fetching_comes : {m : Node} {b : Ballot} {best : Shown} {who : ℕ} {needed : List ℕ} (n : Node) (o : Outcome) → Idle m b best who needed
+pub decide_fetching_comes : {m : Node} {b : Ballot} {best : Shown} {who : ℕ} {needed : List ℕ} (n : Node) (o : Outcome) → BallotWaitsForNobody m b best who needed
     → (best.by == m.core.who) ≡ false → o ≡ said.Fetching best.by (top m + 1) → n ≡ record m { ballot = Some (with_answer b o) } → (all : Node)
-    → IsEndOf all m → ComesTo (decide all b) o n
-fetching_comes {m} {b} {best} n o idle other answer is =
+    → IsEndOf all m → VerdictComesTo (decide all b) o n
+decide_fetching_comes {m} {b} {best} n o idle other answer is =
     comes_best m n b best o idle.looked.best_is (λ all s. rw (
       idle.inside,
       idle.none,
       other,
     ) (goes_comes (with_log m all) m n b o (said.Fetching best.by (top_of all + 1)) (end_here m all s) (answer
-    ∙ ap (λ k. said.Fetching best.by (k + 1)) (sym (top_same m all s))) is))
+    ∙ ap (λ k. said.Fetching best.by (k + 1)) (sym (top_of_standing_log m all s))) is))
 
-pub too_few_comes : {m : Node} {b : Ballot} {best : Shown} {who got least : ℕ} {needed left : List ℕ} (n : Node) (o : Outcome) → Idle m b best who needed
-    → (best.by == m.core.who) ≡ true → Counted b best left got least → got < least → o ≡ said.TooFew got least
-    → n ≡ record m { ballot = Some (with_end b o) } → (all : Node) → IsEndOf all m → ComesTo (decide all b) o n
-too_few_comes {m} {b} {best} n o idle own count below answer is =
+pub decide_with_too_few_comes : {m : Node} {b : Ballot} {best : Shown} {who got least : ℕ} {needed left : List ℕ} (n : Node) (o : Outcome) → BallotWaitsForNobody m b best who needed
+    → (best.by == m.core.who) ≡ true → VotersOfBallotAreCounted b best left got least → got < least → o ≡ said.TooFew got least
+    → n ≡ record m { ballot = Some (with_end b o) } → (all : Node) → IsEndOf all m → VerdictComesTo (decide all b) o n
+decide_with_too_few_comes {m} {b} {best} n o idle own count below answer is =
     comes_best m n b best o idle.looked.best_is (λ all s. rw (
       idle.inside,
       idle.none,
       own,
-      few count below,
+      voters_fewer_than_least count below,
     ) (ends_comes (with_log m all) m n b o (said.TooFew (size (left_in b best.vote.members)) b.least) (end_here m all s)
     (answer ∙ (λ k. said.TooFew (count.got_is k) (count.least_is k))) is))
 
-pub view_comes : {m : Node} {b : Ballot} {best : Shown} {who got least : ℕ} {needed left : List ℕ} (n : Node) (o : Outcome) → Idle m b best who needed
-    → (best.by == m.core.who) ≡ true → Counted b best left got least → least ≤ got
-    → ((all : Node) → IsEndOf all m → ComesTo (decide_view (trim_for all b left) b left) o n)
-    → (all : Node) → IsEndOf all m → ComesTo (decide all b) o n
-view_comes {m} {b} {best} n o idle own count above then_ = comes_best m n b best o idle.looked.best_is
-    (λ all s. rw (idle.inside, idle.none, own, enough count above)
-    (subst (λ (names : List ℕ). ComesTo (decide_view (trim_for (with_log m all) b names) b names) o n) count.left_is
+pub decide_with_enough_comes : {m : Node} {b : Ballot} {best : Shown} {who got least : ℕ} {needed left : List ℕ} (n : Node) (o : Outcome) → BallotWaitsForNobody m b best who needed
+    → (best.by == m.core.who) ≡ true → VotersOfBallotAreCounted b best left got least → least ≤ got
+    → ((all : Node) → IsEndOf all m → VerdictComesTo (decide_view (trim_for all b left) b left) o n)
+    → (all : Node) → IsEndOf all m → VerdictComesTo (decide all b) o n
+decide_with_enough_comes {m} {b} {best} n o idle own count above then_ = comes_best m n b best o idle.looked.best_is
+    (λ all s. rw (idle.inside, idle.none, own, voters_enough_for_least count above)
+    (subst (λ (names : List ℕ). VerdictComesTo (decide_view (trim_for (with_log m all) b names) b names) o n) count.left_is
     (then_ (with_log m all) (end_here m all s))))
 
 -- ---- the coordinator's own vote
@@ -180,7 +180,7 @@ view_comes {m} {b} {best} n o idle own count above then_ = comes_best m n b best
 better_own : (who : ℕ) (own : Vote) (best : Shown) (name : ℕ) (o : Option Vote) → (name ≡ who → o ≡ None) → (best.by ≡ who → best.vote ≡ own)
     → (better_of best name o).by ≡ who → (better_of best name o).vote ≡ own
 better_own who own best name None none is = is
-better_own who own best name (Some vote) none is = split (vote_lt best.vote vote)
+better_own who own best name (Some vote) none is = split_on_bool_of_log (vote_lt best.vote vote)
     (λ t. rw t (λ h. absurd (let x = none h in cc)))
     (λ f. rw f is)
 
@@ -192,22 +192,22 @@ best_own_from votes who own best (name ∷ names) none is =
     best_own_from votes who own (better_of best name (votes name)) names none (better_own who own best name (votes name) (λ e. ap votes e ∙ none) is)
 
 -- who holds the best vote and kept none of its own shows its list as it is
-pub best_own : (votes : ℕ → Option Vote) (who : ℕ) (own : Vote) (best : Shown) → votes who ≡ None → best ≡ best_vote votes who own → best.by ≡ who
+pub own_best_vote_is_own : (votes : ℕ → Option Vote) (who : ℕ) (own : Vote) (best : Shown) → votes who ≡ None → best ≡ best_vote votes who own → best.by ≡ who
     → best.vote ≡ own
-best_own votes who own best none is by =
+own_best_vote_is_own votes who own best none is by =
     ap (λ (x : Shown). x.vote) is ∙ best_own_from votes who own (record { by = who; vote = own }) all_names none (λ h. refl) (ap (λ (x : Shown). x.by) (sym is)
     ∙ by)
 
 -- ---- the trim
 
-pub least_within : (o : Option ℕ) (taken : ℕ) → IfSome o (λ least. least ≤ taken) → unwrap_or o 0 ≤ taken
-least_within None taken h = omega arith
-least_within (Some x) taken h = h
+pub least_or_zero_le_taken : (o : Option ℕ) (taken : ℕ) → IfSome o (λ least. least ≤ taken) → unwrap_or o 0 ≤ taken
+least_or_zero_le_taken None taken h = omega arith
+least_or_zero_le_taken (Some x) taken h = h
 
-pub trimmed_comes : (m mid n : Node) (b : Ballot) (names : List ℕ) (o : Outcome) (least : ℕ)
+pub decide_after_trim_comes : (m mid n : Node) (b : Ballot) (names : List ℕ) (o : Outcome) (least : ℕ)
     → least ≡ unwrap_or (least_of (taken_by m.core.who m.core.taken b) (names_of names)) 0
-    → ((all : Node) → IsEndOf all m → IsEndOf (trim_up_to all least) mid) → ((all : Node) → IsEndOf all mid → ComesTo (decide_view all b names) o n)
-    → (all : Node) → IsEndOf all m → ComesTo (decide_view (trim_for all b names) b names) o n
-trimmed_comes m mid n b names o least is trims then_ = comes (λ x. decide_view (trim_for x b names) b names) m n o (λ all s.
+    → ((all : Node) → IsEndOf all m → IsEndOf (trim_up_to all least) mid) → ((all : Node) → IsEndOf all mid → VerdictComesTo (decide_view all b names) o n)
+    → (all : Node) → IsEndOf all m → VerdictComesTo (decide_view (trim_for all b names) b names) o n
+decide_after_trim_comes m mid n b names o least is trims then_ = comes (λ x. decide_view (trim_for x b names) b names) m n o (λ all s.
     let w = with_log m all in
-    subst (λ (k : ℕ). ComesTo (decide_view (trim_up_to w k) b names) o n) is (then_ (trim_up_to w least) (trims w (end_here m all s))))
+    subst (λ (k : ℕ). VerdictComesTo (decide_view (trim_up_to w k) b names) o n) is (then_ (trim_up_to w least) (trims w (end_here m all s))))

@@ -10,9 +10,9 @@ use Rattle.am_base.specs.Lists.{fits}
 use Rattle.am_model.specs.Node.{Node, Ballot, top, view, image_of, is_within_bound}
 use Rattle.am_model.specs.Emit.{Plan, quiet}
 use Rattle.am_model.specs.Resets.{is_view_past}
-use Rattle.am_handlers.specs.declared.reply.Telling.{Telling}
-use Rattle.am_handlers.specs.declared.reply.Telling.TheVariants as tell
-use Rattle.am_handlers.specs.Replies.{and_told, IsNoteWithin}
+use Rattle.am_node_parts.specs.declared.reply.Telling.{Telling}
+use Rattle.am_node_parts.specs.declared.reply.Telling.TheVariants as tell
+use Rattle.am_node_parts.specs.Replies.{and_told, IsNoteWithin}
 use Rattle.am_resetting.specs.declared.catching.Denial.{Denial}
 
 -- the node with this ballot
@@ -27,7 +27,7 @@ IsBelow v (Leave name) = Unit {0}
 IsBelow v (View w) = stamp_lt w.stamp v ≡ true
 
 -- an entry that comes next and isn't refused above this base
-pub record ComesNext (m : Node) (v : Stamp) (base number : ℕ) (e : Entry) (in_ballot : Bool) : Type 0 where
+pub record CatchesNext (m : Node) (v : Stamp) (base number : ℕ) (e : Entry) (in_ballot : Bool) : Type 0 where
   pub next : number ≡ top m + 1
   pub taken : base ≤ m.core.taken
   pub fits : fits (image_of m) e ≡ true

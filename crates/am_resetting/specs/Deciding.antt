@@ -9,9 +9,9 @@ use Rattle.am_base.specs.Limits.{IsEntry}
 use Rattle.am_base.specs.Lists.{fits}
 use Rattle.am_base.specs.Names.{has, is_within}
 use Rattle.am_base.specs.Stamps.{stamp_lt}
-use Rattle.am_state.specs.Cores.{IsInOrder}
+use Rattle.am_node_defs.specs.Cores.{IsInOrder}
 use Rattle.am_model.specs.Node.{has_log, Node, Ballot, top, image_of, members, acts}
-use Rattle.am_handlers.specs.Keeps.{IsOwnBallot}
+use Rattle.am_node_parts.specs.Keeps.{IsOwnBallot}
 
 -- an unfinished ballot that is the node's own, and was taken out of it
 pub record IsTakenOut (m : Node) (b : Ballot) : Type 0 where
@@ -34,7 +34,7 @@ IsUpTo promise (Leave name) = Unit {0}
 IsUpTo promise (View v) = stamp_lt promise v.stamp ≡ false
 
 -- a node that doesn't act may store this entry above a base
-pub record MayStore (m : Node) (base : ℕ) (e : Entry) : Type 0 where
+pub record CatcherMayStore (m : Node) (base : ℕ) (e : Entry) : Type 0 where
   pub order : IsInOrder m.core
   pub idle : acts m ≡ false
   pub logged : has_log m.status ≡ true
@@ -51,6 +51,6 @@ abbrev pub put_back : Node → Ballot → Node
 put_back m b = record m { ballot = Some b }
 
 -- the answer is given, and the ballot is this
-pub record Answered (b : Ballot) (given result : Outcome) (new : Ballot) : Type 0 where
+pub record BallotIsAnswered (b : Ballot) (given result : Outcome) (new : Ballot) : Type 0 where
   pub ballot : new ≡ b
   pub answer : result ≡ given

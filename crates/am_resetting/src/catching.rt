@@ -1,13 +1,13 @@
 ghost use Rattle.std.specs.Prelude.{◌≡◌, ◌≢◌, ◌<◌, ◌≤◌, ◌+◌, ◌==◌, ◌||◌, ◌&&◌, max, not, Option, Some, None, IfNone, IfSome, true, false, []};
-ghost use Rattle.am_handlers.specs.Prelude.{most_number, IsEntry, fits, top_of, stamp_eq, stamp_lt, IsInOrder, has_log, Node, only_name, push_entry, image_of, trim_up_to, view, is_within_bound, IsOwnBallot, node_of};
+ghost use Rattle.am_node_parts.specs.Prelude.{most_number, IsEntry, fits, top_of, stamp_eq, stamp_lt, IsInOrder, has_log, Node, only_name, push_entry, image_of, trim_up_to, view, is_within_bound, IsOwnBallot, node_of};
 ghost use Rattle.am_base.specs.declared.entry.Entry.TheVariants.{View};
 ghost use Rattle.am_ballots.specs.Kept.{ballot_of};
 ghost use Rattle.am_model.specs.Node as node;
 ghost use Rattle.am_model.specs.Emit.{Plan, telling, ack_of};
 ghost use Rattle.am_model.specs.Resets.{piece_row, result_row, hears_result, push_fetched, is_view_past, decide_anew, piece_promised, piece_for};
-ghost use Rattle.am_resetting.specs.Catching.{unless_denied, IsPlain, with_ballot, ComesNext, FollowsAsView, IsBelow};
+ghost use Rattle.am_resetting.specs.Catching.{unless_denied, IsPlain, with_ballot, CatchesNext, FollowsAsView, IsBelow};
 ghost use Rattle.am_resetting.specs.Deciding.{IsTakenOut};
-ghost use Rattle.am_handlers.specs.Replies.{Replies, unless};
+ghost use Rattle.am_node_parts.specs.Replies.{Replies, unless};
 
 use crate::deciding::{decide, store};
 use crate::promising::{put_back, raise_promise, take_ballot};
@@ -19,9 +19,9 @@ use am_base::entry::{EntryParts, EntryRef, GroupView};
 use am_base::name::{Name, Stamp};
 use am_base::names::Names;
 use am_base::outcome::Outcome;
-use am_handlers::parts::Parts;
-use am_handlers::reply::{Note, Reply, Telling, asking, note_to, quiet, saying};
-use am_parts::log::Log;
+use am_node_parts::parts::Parts;
+use am_node_parts::reply::{Note, Reply, Telling, asking, note_to, quiet, saying};
+use am_node_storage::log::Log;
 
 /// What a packet tells of an entry of a view's list beside the entry.
 #[derive(Clone, Copy)]

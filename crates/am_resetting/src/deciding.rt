@@ -1,12 +1,12 @@
 ghost use Rattle.std.specs.Prelude.{◌≡◌, ◌<◌, ◌≤◌, ◌+◌, ◌-◌, max, nat_lt, Some, true, false, length, unwrap_or};
-ghost use Rattle.am_handlers.specs.Prelude.{most_number, IsEntry, fits, told_by, top_of, has, names_of, size, IsInOrder, Node, push_entry, trim_up_to, Changes, IsEndOf, IsOwnBallot, IsSteady, NodeKeeps, node_of};
+ghost use Rattle.am_node_parts.specs.Prelude.{most_number, IsEntry, fits, told_by, top_of, has, names_of, size, IsInOrder, Node, push_entry, trim_up_to, ChangesAllAlike, IsEndOf, IsOwnBallot, IsSteady, NodeKeeps, node_of};
 ghost use Rattle.am_base.specs.Outcomes.{is_took};
 ghost use Rattle.am_base.specs.declared.entry.Entry.TheVariants.{View};
 ghost use Rattle.am_model.specs.Ballots.{with_end, with_answer, decide, decided_view, decide_view, trim_for, taken_by};
-ghost use Rattle.am_state.specs.Reports.{reports_from, least_of};
+ghost use Rattle.am_node_defs.specs.Reports.{reports_from, least_of};
 ghost use Rattle.am_ballots.specs.Kept.{ballot_of};
-ghost use Rattle.am_resetting.specs.Deciding.{Answered, IsTakenOut, MayBeView, MayStore, put_back};
-ghost use Rattle.am_handlers.specs.Verdicts.{ComesTo, IsTold};
+ghost use Rattle.am_resetting.specs.Deciding.{BallotIsAnswered, IsTakenOut, MayBeView, CatcherMayStore, put_back};
+ghost use Rattle.am_node_parts.specs.Verdicts.{VerdictComesTo, IsTold};
 
 use crate::promising::put_back;
 use crate::reading::{base_of, name_of};
@@ -14,9 +14,9 @@ use am_ballots::ballot::Ballot;
 use am_base::entry::{EntryParts, EntryRef, GroupView};
 use am_base::names::Names;
 use am_base::outcome::Outcome;
-use am_handlers::parts::Parts;
-use am_handlers::votes::own_vote;
-use am_parts::log::Log;
+use am_node_parts::parts::Parts;
+use am_node_parts::votes::own_vote;
+use am_node_storage::log::Log;
 
 /// Trims the list up to a base, where that is greater.
 pub fn trim(parts: &mut Parts, base: u32)

@@ -1,14 +1,14 @@
 ghost use Rattle.std.specs.Prelude.{◌≡◌, Some, None, IfSome, false, option_map};
-ghost use Rattle.am_handlers.specs.Prelude.{IsStamp, stamp_lt, IsOwnBallot, node_of};
+ghost use Rattle.am_node_parts.specs.Prelude.{IsStamp, stamp_lt, IsOwnBallot, node_of};
 ghost use Rattle.am_ballots.specs.Kept.{ballot_of};
 ghost use Rattle.am_model.specs.Ballots.{with_promise, overtake};
 
 use crate::reading::{is_same, promise_of};
 use am_ballots::ballot::Ballot;
 use am_base::name::Stamp;
-use am_handlers::parts::Parts;
-use am_parts::history::History;
-use am_parts::state::Core;
+use am_node_parts::parts::Parts;
+use am_node_storage::history::History;
+use am_node_storage::state::Core;
 
 /// An unfinished ballot of a lower stamp is overtaken.
 fn overtake(ballot: &mut Option<Ballot>, by: &Stamp)

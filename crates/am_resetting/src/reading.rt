@@ -1,9 +1,9 @@
 ghost use Rattle.std.specs.Prelude.{◌≡◌, ◌<◌, ◌≤◌, max, not};
-ghost use Rattle.am_handlers.specs.Prelude.{most_number, top_of, stamp_eq, IsInOrder, has_own_leave, is_within_bound, view, node_of};
+ghost use Rattle.am_node_parts.specs.Prelude.{most_number, top_of, stamp_eq, IsInOrder, has_own_leave, is_within_bound, view, node_of};
 
 use am_base::name::{Name, Stamp};
-use am_handlers::parts::Parts;
-use am_parts::log::Log;
+use am_node_parts::parts::Parts;
+use am_node_storage::log::Log;
 
 /// Whether two stamps are one.
 pub fn is_same(a: &Stamp, b: &Stamp) -> bool

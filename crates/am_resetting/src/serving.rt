@@ -1,15 +1,15 @@
 ghost use Rattle.std.specs.Prelude.{◌≡◌, ◌||◌, ◌&&◌, ◌==◌, nat_lt};
-ghost use Rattle.am_handlers.specs.Prelude.{top_of, node_of};
+ghost use Rattle.am_node_parts.specs.Prelude.{top_of, node_of};
 ghost use Rattle.am_model.specs.Resets.{fetch_row, may_fetch};
-ghost use Rattle.am_handlers.specs.Replies.{Replies};
+ghost use Rattle.am_node_parts.specs.Replies.{Replies};
 
 use crate::reading::{is_same, is_view, name_of, promise_of};
 use am_base::name::{Name, Stamp};
 use am_base::outcome::Outcome;
-use am_handlers::parts::Parts;
-use am_handlers::reply::{Reply, Telling, quiet, saying};
-use am_handlers::serving::count_above;
-use am_parts::log::Log;
+use am_node_parts::parts::Parts;
+use am_node_parts::reply::{Reply, Telling, quiet, saying};
+use am_node_parts::serving::count_above;
+use am_node_storage::log::Log;
 
 /// Whether a name may fetch: the promised one, or in a view of the node's own anybody.
 fn may_fetch(parts: &Parts, from: Name, stamp: &Stamp) -> bool

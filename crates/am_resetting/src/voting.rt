@@ -1,12 +1,12 @@
 ghost use Rattle.std.specs.Prelude.{◌≡◌, ◌≢◌, ◌<◌, ◌+◌, Some, None, true, false, not, ◌&&◌, ◌||◌};
-ghost use Rattle.am_handlers.specs.Prelude.{image_of, most_number, IsStamp, top_of, has, stamp_lt, IsInOrder, has_log, is_member, members, others, Node, IsOwnBallot, node_of};
+ghost use Rattle.am_node_parts.specs.Prelude.{image_of, most_number, IsStamp, top_of, has, stamp_lt, IsInOrder, has_log, is_member, members, others, Node, IsOwnBallot, node_of};
 ghost use Rattle.am_ballots.specs.Kept.{ballot_of};
 ghost use Rattle.am_model.specs.Emit as emit;
 ghost use Rattle.am_model.specs.Ballots.{keep_vote, give_up, begin, next_stamp};
 ghost use Rattle.am_model.specs.Resets.{invite_row, vote_row, take_vote, is_open};
 ghost use Rattle.am_model.specs.Calls.{reset_row, ask_row, ask_of, give_up_row, give_up_of};
 ghost use Rattle.am_resetting.specs.Deciding.{IsTakenOut};
-ghost use Rattle.am_handlers.specs.Replies.{Replies};
+ghost use Rattle.am_node_parts.specs.Replies.{Replies};
 
 use crate::deciding::decide;
 use crate::promising::{put_back, raise_promise, take_ballot};
@@ -17,11 +17,11 @@ use am_base::limits::MOST_RESILIENCE;
 use am_base::name::{Name, Stamp};
 use am_base::names::Names;
 use am_base::outcome::Outcome;
-use am_handlers::parts::Parts;
-use am_handlers::reply::{Note, Reply, asking, note_to, quiet, saying};
-use am_handlers::votes::own_vote;
 use am_model::status::Status;
-use am_parts::log::Log;
+use am_node_parts::parts::Parts;
+use am_node_parts::reply::{Note, Reply, asking, note_to, quiet, saying};
+use am_node_parts::votes::own_vote;
+use am_node_storage::log::Log;
 
 /// The members without the node itself.
 fn others_of(parts: &Parts) -> Names

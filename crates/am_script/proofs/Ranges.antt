@@ -39,24 +39,24 @@ of_member true b d f ms is = is
 of_member false b d f ms is = refl
 
 mutual
-  pub read_of : (j : json.Json) → reads.of_json j ≡ where_all (json_tokens j) (data_of j)
-  read_of json.null = refl
-  read_of (json.boolean b) = refl
-  read_of (json.number s) = of_number (number_of s)
-  read_of (json.string s) = refl
-  read_of (json.array js) = ap (option_map array) (items_read js) ∙ of_array (list_all is_in_range (items_tokens js)) (items_of js)
-  read_of (json.object ms) = ap (option_map object) (members_read ms no_members) ∙ of_object (list_all is_in_range (members_tokens ms)) (members_of ms no_members)
+  pub read_of_json_in_range : (j : json.Json) → reads.of_json j ≡ where_all (json_tokens j) (data_of j)
+  read_of_json_in_range json.null = refl
+  read_of_json_in_range (json.boolean b) = refl
+  read_of_json_in_range (json.number s) = of_number (number_of s)
+  read_of_json_in_range (json.string s) = refl
+  read_of_json_in_range (json.array js) = ap (option_map array) (items_read js) ∙ of_array (list_all is_in_range (items_tokens js)) (items_of js)
+  read_of_json_in_range (json.object ms) = ap (option_map object) (members_read ms no_members) ∙ of_object (list_all is_in_range (members_tokens ms)) (members_of ms no_members)
 
   items_read : (js : json.Items) → reads.of_items js ≡ where_all (items_tokens js) (items_of js)
   items_read json.no_items = refl
   items_read (json.item j js) =
-      rw (read_of j, items_read js, list_all-append is_in_range (json_tokens j) (items_tokens js))
+      rw (read_of_json_in_range j, items_read js, list_all-append is_in_range (json_tokens j) (items_tokens js))
       (of_item (list_all is_in_range (json_tokens j)) (list_all is_in_range (items_tokens js)) (data_of j) (items_of js))
 
   members_read : (ms : json.Members) (found : Members) → reads.of_members ms found ≡ where_all (members_tokens ms) (members_of ms found)
   members_read json.no_members found = refl
   members_read (json.member k j ms) found =
-      rw (read_of j, list_all-append is_in_range (json_tokens j) (members_tokens ms))
+      rw (read_of_json_in_range j, list_all-append is_in_range (json_tokens j) (members_tokens ms))
       (of_member (list_all is_in_range (json_tokens j)) (list_all is_in_range (members_tokens ms)) (data_of j) (λ d. reads.of_members ms (put k d found))
       (members_of ms (put k (data_of j) found)) (members_read ms (put k (data_of j) found)))
 
@@ -67,11 +67,11 @@ of_found found = option_and_then reads.of_json (option_and_then (λ p. json.if_l
 text_read : (text : List ℕ) (j : json.Json) → value most_depth (tokens text) ≡ Some (j, []) → read text ≡ where_all (tokens text) (data_of j)
 text_read text j is =
     let spelled : tokens text ≡ json_tokens j = value-json_tokens_back most_depth (tokens text) [] j is ∙ append-nil (json_tokens j) in
-    ap of_found is ∙ read_of j ∙ ap (λ ts. where_all ts (data_of j)) (sym spelled)
+    ap of_found is ∙ read_of_json_in_range j ∙ ap (λ ts. where_all ts (data_of j)) (sym spelled)
 
-pub read_in_range : (text : List ℕ) (j : json.Json) → value most_depth (tokens text) ≡ Some (j, []) → list_all is_in_range (tokens text) ≡ true
+pub read_of_text_in_range : (text : List ℕ) (j : json.Json) → value most_depth (tokens text) ≡ Some (j, []) → list_all is_in_range (tokens text) ≡ true
     → read text ≡ Some (data_of j)
-read_in_range text j is fits = text_read text j is ∙ ap (λ b. cond b (Some (data_of j)) None) fits
+read_of_text_in_range text j is fits = text_read text j is ∙ ap (λ b. cond b (Some (data_of j)) None) fits
 
 none_at : (text : List ℕ) (found : Option (json.Json × List Token)) → value most_depth (tokens text) ≡ found → list_all is_in_range (tokens text) ≡ false
     → read text ≡ None
@@ -80,5 +80,5 @@ none_at text (Some (j, [])) is out = text_read text j is ∙ ap (λ b. cond b (S
 none_at text (Some (j, t ∷ r)) is out = ap of_found is
 
 -- a text with a number out of range is no JSON
-pub none_out_of_range : (text : List ℕ) → list_all is_in_range (tokens text) ≡ false → read text ≡ None
-none_out_of_range text out = none_at text (value most_depth (tokens text)) refl out
+pub read_out_of_range : (text : List ℕ) → list_all is_in_range (tokens text) ≡ false → read text ≡ None
+read_out_of_range text out = none_at text (value most_depth (tokens text)) refl out

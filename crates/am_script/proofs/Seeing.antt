@@ -17,8 +17,8 @@ use Rattle.serde_json.specs.Find.{get, get_member, as_str, as_bool, as_number, a
 use Rattle.serde_json.specs.Read.{number_of}
 use Rattle.serde_json.proofs.Views.{get_member-put, get_member-put_other}
 use Rattle.json.proofs.Trees.{view-Object}
-use Rattle.am_schedules.specs.declared.key.Key.{Key}
-use Rattle.am_schedules.specs.Keys.{words_of, is_among, has_only}
+use Rattle.am_script_defs.specs.declared.key.ScriptKey.{ScriptKey}
+use Rattle.am_script_defs.specs.Keys.{words_of, is_among, has_only}
 use Rattle.am_script.specs.Seen.{data_of, items_of, members_of, whole_of, seen}
 
 number_seen : {A : Type 0} (f : Data → A) (end : A) (found : Option Num) → (found ≡ None → f null ≡ end) → ((n : Num) → found ≡ Some n → f (number n) ≡ end)
@@ -38,21 +38,21 @@ seen_of f g none flag no_number fits text list object (json.string s) = text s
 seen_of f g none flag no_number fits text list object (json.array js) = list js
 seen_of f g none flag no_number fits text list object (json.object ms) = object ms
 
-pub text_seen : (j : json.Json) → as_str (data_of j) ≡ finds.as_str j
-text_seen = seen_of as_str finds.as_str refl (λ b. refl) (λ s is. refl) (λ s n is. refl) (λ s. refl) (λ js. refl) (λ ms. refl)
+pub as_str_of_json_data : (j : json.Json) → as_str (data_of j) ≡ finds.as_str j
+as_str_of_json_data = seen_of as_str finds.as_str refl (λ b. refl) (λ s is. refl) (λ s n is. refl) (λ s. refl) (λ js. refl) (λ ms. refl)
 
-pub flag_seen : (j : json.Json) → as_bool (data_of j) ≡ finds.as_bool j
-flag_seen = seen_of as_bool finds.as_bool refl (λ b. refl) (λ s is. refl) (λ s n is. refl) (λ s. refl) (λ js. refl) (λ ms. refl)
+pub as_bool_of_json_data : (j : json.Json) → as_bool (data_of j) ≡ finds.as_bool j
+as_bool_of_json_data = seen_of as_bool finds.as_bool refl (λ b. refl) (λ s is. refl) (λ s n is. refl) (λ s. refl) (λ js. refl) (λ ms. refl)
 
-pub whole_seen : (j : json.Json) → option_and_then as_u64 (as_number (data_of j)) ≡ option_and_then whole_of (finds.as_number j)
-whole_seen = seen_of (λ d. option_and_then as_u64 (as_number d)) (λ j. option_and_then whole_of (finds.as_number j)) refl (λ b. refl)
+pub as_whole_of_json_data : (j : json.Json) → option_and_then as_u64 (as_number (data_of j)) ≡ option_and_then whole_of (finds.as_number j)
+as_whole_of_json_data = seen_of (λ d. option_and_then as_u64 (as_number d)) (λ j. option_and_then whole_of (finds.as_number j)) refl (λ b. refl)
     (λ s is. ap (option_and_then as_u64) (sym is)) (λ s n is. ap (option_and_then as_u64) (sym is)) (λ s. refl) (λ js. refl) (λ ms. refl)
 
-pub array_seen : (j : json.Json) → as_array (data_of j) ≡ option_map items_of (finds.as_array j)
-array_seen = seen_of as_array (λ j. option_map items_of (finds.as_array j)) refl (λ b. refl) (λ s is. refl) (λ s n is. refl) (λ s. refl) (λ js. refl) (λ ms. refl)
+pub as_array_of_json_data : (j : json.Json) → as_array (data_of j) ≡ option_map items_of (finds.as_array j)
+as_array_of_json_data = seen_of as_array (λ j. option_map items_of (finds.as_array j)) refl (λ b. refl) (λ s is. refl) (λ s n is. refl) (λ s. refl) (λ js. refl) (λ ms. refl)
 
-pub object_seen : (j : json.Json) → as_object (data_of j) ≡ option_map (λ ms. members_of ms no_members) (finds.as_object j)
-object_seen = seen_of as_object (λ j. option_map (λ ms. members_of ms no_members) (finds.as_object j)) refl (λ b. refl) (λ s is. refl) (λ s n is. refl)
+pub as_object_of_json_data : (j : json.Json) → as_object (data_of j) ≡ option_map (λ ms. members_of ms no_members) (finds.as_object j)
+as_object_of_json_data = seen_of as_object (λ j. option_map (λ ms. members_of ms no_members) (finds.as_object j)) refl (λ b. refl) (λ s is. refl) (λ s n is. refl)
     (λ s. refl) (λ js. refl) (λ ms. refl)
 
 -- ---- members
@@ -79,7 +79,7 @@ members_get : (k : List ℕ) (ms : json.Members) (found : Members)
 members_get k json.no_members found = refl
 members_get k (json.member l j ms) found = members_get k ms (put l (data_of j) found) ∙ put_found (finds.get_member k ms) (bytes_eq l k) k l j found refl
 
-pub member_seen : (k : List ℕ) (j : json.Json) → get k (data_of j) ≡ option_map data_of (finds.get k j)
+member_seen : (k : List ℕ) (j : json.Json) → get k (data_of j) ≡ option_map data_of (finds.get k j)
 member_seen k = seen_of (get k) (λ j. option_map data_of (finds.get k j)) refl (λ b. refl) (λ s is. refl) (λ s n is. refl) (λ s. refl) (λ js. refl)
     (λ ms. members_get k ms no_members ∙ or_none (option_map data_of (finds.get_member k ms)))
 
@@ -132,7 +132,7 @@ view_keys p [] = refl
 view_keys p (m ∷ ms) = ap (λ b. p m.0.now && b) (view_keys p ms)
 
 -- the words of an object are those of its members
-pub words_seen : {A : Type 0} (p : List ℕ → Bool) (ms : List (Bor (List ℕ) × Value A))
+words_seen : {A : Type 0} (p : List ℕ → Bool) (ms : List (Bor (List ℕ) × Value A))
     → list_all p (words_of (members_of (members_view ms) no_members)) ≡ list_all (λ m. p m.0.now) ms
 words_seen p ms = members_words p (members_view ms) no_members ∙ and_true (all_keys p (members_view ms)) ∙ view_keys p ms
 
@@ -142,11 +142,11 @@ map_twice : {V : Type 0} (found : Option V) (f : V → json.Json) → option_map
 map_twice None f = refl
 map_twice (Some v) f = refl
 
-pub at_seen : {V : Type 0} (found : Option V) (f : V → json.Json) (word named : List ℕ) (j : json.Json) → word ≡ named → option_map f found ≡ finds.get word j
+pub get_of_json_data : {V : Type 0} (found : Option V) (f : V → json.Json) (word named : List ℕ) (j : json.Json) → word ≡ named → option_map f found ≡ finds.get word j
     → option_map (λ v. data_of (f v)) found ≡ get named (data_of j)
-at_seen found f word named j same is =
+get_of_json_data found f word named j same is =
     map_twice found f ∙ ap (option_map data_of) is ∙ sym (member_seen word j) ∙ ap (λ w. get w (data_of j)) same
 
-pub only_seen : {A : Type 0} (keys : List Key) (v : Vec (Bor (List ℕ) × Value A) A) → list_all (λ m. is_among keys m.0.now) v.items ≡ has_only keys (seen (Object v))
-only_seen keys v =
+pub has_only_of_json_data : {A : Type 0} (keys : List ScriptKey) (v : Vec (Bor (List ℕ) × Value A) A) → list_all (λ m. is_among keys m.0.now) v.items ≡ has_only keys (seen (Object v))
+has_only_of_json_data keys v =
     sym (words_seen (is_among keys) v.items) ∙ ap (λ j. has_only keys (data_of j)) (sym (view-Object v))

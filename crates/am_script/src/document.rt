@@ -4,10 +4,10 @@ ghost use Rattle.std.specs.Prelude.{◌≡◌, ◌≢◌, ◌<◌, [], length, S
 ghost use Rattle.std.specs.List.{list_all};
 ghost use Rattle.serde_json.specs.Read.{number_of, number_from, read};
 ghost use Rattle.json.specs.{Json.value, Lex.tokens, Reads.token_of, Value.value_view};
-ghost use Rattle.am_schedules.specs.Scripts.{document_in};
+ghost use Rattle.am_script_defs.specs.Scripts.{document_in};
 ghost use Rattle.am_script.specs.Seen.{is_whole, whole_of, is_in_range, most_depth, seen};
 
-use am_schedules::refusal::{Read, ScriptRefusal};
+use am_script_defs::refusal::{Read, ScriptRefusal};
 use fast_float::Numeral;
 use json::{Error, Reader, Scratch, Token, Value};
 use std::alloc::{AllocError, Global};
@@ -96,7 +96,7 @@ fn text_is_in_range(text: &str, scratch: &mut Scratch) -> Result<bool, AllocErro
 }
 
 /// The document that a text is JSON of.
-#[tactic(auto, using(crate::proofs::Ranges::read_in_range, crate::proofs::Ranges::none_out_of_range))]
+#[tactic(auto, using(crate::proofs::Ranges::read_of_text_in_range, crate::proofs::Ranges::read_out_of_range))]
 fn document_of<'a>(alloc: Global, text: &'a str, scratch: &'a mut Scratch) -> Read<Value<'a>>
     ensures ok { IfOk result (λ v. read text.now ≡ Some (seen v)) }
     ensures refused { IfErr result (λ e. e ≢ ScriptRefusal.NoMemory → (e ≡ ScriptRefusal.NotJson)

@@ -1,30 +1,30 @@
 ghost use Rattle.std.specs.Prelude.{◌≡◌, ◌≢◌, ◌<◌, length, Ok, Err, IfOk, IfErr};
-ghost use Rattle.am_schedules.specs.Refusals.{Answers};
-ghost use Rattle.am_schedules.specs.Limits.{ScriptWithin};
+ghost use Rattle.am_script_defs.specs.Refusals.{Answers};
+ghost use Rattle.am_script_defs.specs.Limits.{ScriptWithin};
 ghost use Rattle.am_script.specs.Seen.{seen};
-ghost use Rattle.am_schedules.specs.Scripts.{document_from, reading};
+ghost use Rattle.am_script_defs.specs.Scripts.{document_from, script_reading};
 
 use crate::document::document;
 use crate::fields::behind;
 use crate::play::play;
-use am_schedules::key::Key;
-use am_schedules::refusal::{Read, ScriptRefusal};
-use am_schedules::script::Script;
+use am_script_defs::key::ScriptKey;
+use am_script_defs::refusal::{Read, ScriptRefusal};
+use am_script_defs::script::Script;
 use json::{Scratch, Value};
 use std::alloc::Global;
 
 /// The script of a document.
-#[tactic(auto, unfolding(am_schedules::specs::Scripts::document_from))]
+#[tactic(auto, unfolding(am_script_defs::specs::Scripts::document_from))]
 fn script_in(alloc: Global, value: &Value) -> Read<Script>
     ensures { Answers (document_from (seen value.now)) result }
 {
-    let inner = behind(Key::Play, value)?;
+    let inner = behind(ScriptKey::Play, value)?;
     play(alloc, inner)
 }
 
 /// Reads a script (docs/PROTOCOL.md, "Scripts"). A refusal but NoMemory is the first cause that the bytes are none. It may have any
 /// number of events.
-#[tactic(auto, using(am_schedules::proofs::Answered::answer_within), unfolding(am_schedules::specs::Scripts::reading))]
+#[tactic(auto, using(am_script_defs::proofs::Answered::answered_script_is_within), unfolding(am_script_defs::specs::Scripts::script_reading))]
 pub fn read_script(alloc: Global, bytes: &[u8]) -> Result<Script, ScriptRefusal>
     ensures ok { IfOk result (λ script. reading bytes.now ≡ Ok script) }
     ensures within { IfOk result ScriptWithin }

@@ -7,20 +7,20 @@ use Rattle.am_base.specs.declared.entry.Entry.{Entry}
 use Rattle.am_group.specs.declared.event.Record.{Record}
 use Rattle.am_group.specs.Deliveries.{deliveries, given_to}
 use Rattle.am_report.specs.Logs.{logs_for}
-use Rattle.am_report.proofs.Logs.{given_more, given_end}
+use Rattle.am_report.proofs.Logs.{deliveries_with_next_record, deliveries_past_last_record}
 use Rattle.am_services.specs.Telling.{told}
 
 -- ---- what comes of it
 
-pub folded_more : {B : Type 0} (next : B → ℕ × Entry → B) (b : B) (records : List Record) (name i : ℕ) (d : Record) → i < length records
+pub fold_deliveries_with_next : {B : Type 0} (next : B → ℕ × Entry → B) (b : B) (records : List Record) (name i : ℕ) (d : Record) → i < length records
     → fold next b (deliveries (drop i records) name)
     ≡ fold next (fold next b (given_to name (slice_index_or records i d))) (deliveries (drop (i + 1) records) name)
-folded_more next b records name i d within = ap (fold next b) (given_more records name i d within)
+fold_deliveries_with_next next b records name i d within = ap (fold next b) (deliveries_with_next_record records name i d within)
     ∙ fold-append next b (given_to name (slice_index_or records i d)) (deliveries (drop (i + 1) records) name)
 
-pub folded_end : {B : Type 0} (next : B → ℕ × Entry → B) (b : B) (records : List Record) (name i : ℕ) → length records ≤ i
+pub fold_deliveries_past_last : {B : Type 0} (next : B → ℕ × Entry → B) (b : B) (records : List Record) (name i : ℕ) → length records ≤ i
     → fold next b (deliveries (drop i records) name) ≡ b
-folded_end next b records name i over = ap (fold next b) (given_end records name i over)
+fold_deliveries_past_last next b records name i over = ap (fold next b) (deliveries_past_last_record records name i over)
 
 -- ---- lines
 
@@ -30,38 +30,38 @@ told_append next line s [] ys = refl
 told_append next line s (x ∷ xs) ys = ap (λ rest. line x (next s x) ++ rest) (told_append next line (next s x) xs ys)
     ∙ sym (append_assoc (line x (next s x)) (told next line (next s x) xs) (told next line (fold next (next s x) xs) ys))
 
-pub told_more : {S : Type 0} (next : S → ℕ × Entry → S) (line : ℕ × Entry → S → List ℕ) (s : S) (records : List Record) (name i : ℕ) (d : Record)
+pub told_deliveries_with_next : {S : Type 0} (next : S → ℕ × Entry → S) (line : ℕ × Entry → S → List ℕ) (s : S) (records : List Record) (name i : ℕ) (d : Record)
     → i < length records → told next line s (deliveries (drop i records) name) ≡ told next line s (given_to name (slice_index_or records i d))
     ++ told next line (fold next s (given_to name (slice_index_or records i d))) (deliveries (drop (i + 1) records) name)
-told_more next line s records name i d within = ap (told next line s) (given_more records name i d within)
+told_deliveries_with_next next line s records name i d within = ap (told next line s) (deliveries_with_next_record records name i d within)
     ∙ told_append next line s (given_to name (slice_index_or records i d)) (deliveries (drop (i + 1) records) name)
 
-pub told_end : {S : Type 0} (next : S → ℕ × Entry → S) (line : ℕ × Entry → S → List ℕ) (s : S) (records : List Record) (name i : ℕ)
+pub told_deliveries_past_last : {S : Type 0} (next : S → ℕ × Entry → S) (line : ℕ × Entry → S → List ℕ) (s : S) (records : List Record) (name i : ℕ)
     → length records ≤ i → told next line s (deliveries (drop i records) name) ≡ []
-told_end next line s records name i over = ap (told next line s) (given_end records name i over)
+told_deliveries_past_last next line s records name i over = ap (told next line s) (deliveries_past_last_record records name i over)
 
 -- ---- name by name
 
-pub logs_more : (text : ℕ × List (ℕ × Entry) → List ℕ) (records : List Record) (names : List ℕ) (i name : ℕ) → i < length names
+pub logs_text_with_next_log : (text : ℕ × List (ℕ × Entry) → List ℕ) (records : List Record) (names : List ℕ) (i name : ℕ) → i < length names
     → name ≡ slice_index_or names i name → flat_map text (logs_for records (drop i names))
     ≡ text (name, deliveries records name) ++ flat_map text (logs_for records (drop (i + 1) names))
-logs_more text records names i name within is = ap (λ ns. flat_map text (logs_for records ns)) (drop_more names i name within)
+logs_text_with_next_log text records names i name within is = ap (λ ns. flat_map text (logs_for records ns)) (drop_more names i name within)
     ∙ ap (λ n. text (n, deliveries records n) ++ flat_map text (logs_for records (drop (i + 1) names))) (sym is)
 
-pub logs_end : (text : ℕ × List (ℕ × Entry) → List ℕ) (records : List Record) (names : List ℕ) (i : ℕ) → length names ≤ i
+pub logs_text_past_last_log : (text : ℕ × List (ℕ × Entry) → List ℕ) (records : List Record) (names : List ℕ) (i : ℕ) → length names ≤ i
     → flat_map text (logs_for records (drop i names)) ≡ []
-logs_end text records names i over = ap (λ ns. flat_map text (logs_for records ns)) (drop_all i names over)
+logs_text_past_last_log text records names i over = ap (λ ns. flat_map text (logs_for records ns)) (drop_all i names over)
 
 -- a text that has what was told so far, and what comes next
-pub goes_on : (out next start this rest whole : List ℕ) → next ≡ out ++ this → out ++ (this ++ rest) ≡ start ++ whole → next ++ rest ≡ start ++ whole
-goes_on out next start this rest whole more so_far = ap (λ t. t ++ rest) more ∙ append_assoc out this rest ∙ so_far
+pub text_written_with_next_part : (out next start this rest whole : List ℕ) → next ≡ out ++ this → out ++ (this ++ rest) ≡ start ++ whole → next ++ rest ≡ start ++ whole
+text_written_with_next_part out next start this rest whole more so_far = ap (λ t. t ++ rest) more ∙ append_assoc out this rest ∙ so_far
 
 -- and where nothing is left, all of it
-pub ends : (out start rest whole : List ℕ) → rest ≡ [] → out ++ rest ≡ start ++ whole → out ≡ start ++ whole
-ends out start rest whole none so_far = sym (append-nil out) ∙ ap (λ t. out ++ t) (sym none) ∙ so_far
+pub text_written_without_rest : (out start rest whole : List ℕ) → rest ≡ [] → out ++ rest ≡ start ++ whole → out ≡ start ++ whole
+text_written_without_rest out start rest whole none so_far = sym (append-nil out) ∙ ap (λ t. out ++ t) (sym none) ∙ so_far
 
-pub ruleset given = (told_more, told_end, goes_on, ends)
+pub ruleset given_entries_rules = (told_deliveries_with_next, told_deliveries_past_last, text_written_with_next_part, text_written_without_rest)
 
-pub ruleset folded = (folded_more, folded_end)
+pub ruleset folded_entries_rules = (fold_deliveries_with_next, fold_deliveries_past_last)
 
-pub ruleset logs = (logs_more, logs_end, goes_on, ends)
+pub ruleset logs_of_names_rules = (logs_text_with_next_log, logs_text_past_last_log, text_written_with_next_part, text_written_without_rest)

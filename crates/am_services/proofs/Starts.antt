@@ -5,32 +5,32 @@ use Rattle.am_base.specs.Founding.{Rules}
 use Rattle.am_base.specs.Names.{has}
 use Rattle.am_group.specs.declared.event.Record.{Record}
 use Rattle.am_group.specs.Deliveries.{deliveries, given_to}
-use Rattle.am_report.proofs.Logs.{given_more, given_end}
+use Rattle.am_report.proofs.Logs.{deliveries_with_next_record, deliveries_past_last_record}
 use Rattle.am_services.specs.Texts.{start_of}
 
 -- by the first record that gave something
-pub starts_at : (rules : Rules) (records : List Record) (name i : ℕ) (d : Record) (number : ℕ) (entry : Entry) → i < length records
+pub start_of_log_at_first : (rules : Rules) (records : List Record) (name i : ℕ) (d : Record) (number : ℕ) (entry : Entry) → i < length records
     → deliveries (drop i records) name ≡ deliveries records name → (number, entry) ∷ [] ≡ given_to name (slice_index_or records i d)
     → number ≡ start_of rules (name, deliveries records name)
 unfolding start_of
-starts_at rules records name i d number entry within same given =
-    let first : deliveries records name ≡ (number, entry) ∷ deliveries (drop (i + 1) records) name = sym same ∙ given_more records name i d within
+start_of_log_at_first rules records name i d number entry within same given =
+    let first : deliveries records name ≡ (number, entry) ∷ deliveries (drop (i + 1) records) name = sym same ∙ deliveries_with_next_record records name i d within
     ∙ ap (λ g. g ++ deliveries (drop (i + 1) records) name) (sym given) in
     rw first refl
 
-pub nothing_given : (records : List Record) (name i : ℕ) (d : Record) → i < length records → [] ≡ given_to name (slice_index_or records i d)
+pub deliveries_past_record_without_given : (records : List Record) (name i : ℕ) (d : Record) → i < length records → [] ≡ given_to name (slice_index_or records i d)
     → deliveries (drop i records) name ≡ deliveries records name → deliveries (drop (i + 1) records) name ≡ deliveries records name
-nothing_given records name i d within none same =
-    ap (λ g. g ++ deliveries (drop (i + 1) records) name) none ∙ sym (given_more records name i d within) ∙ same
+deliveries_past_record_without_given records name i d within none same =
+    ap (λ g. g ++ deliveries (drop (i + 1) records) name) none ∙ sym (deliveries_with_next_record records name i d within) ∙ same
 
 -- where none gave anything
-pub starts_new : (rules : Rules) (records : List Record) (name i : ℕ) (founder : Bool) → length records ≤ i
+pub start_of_log_by_founder : (rules : Rules) (records : List Record) (name i : ℕ) (founder : Bool) → length records ≤ i
     → deliveries (drop i records) name ≡ deliveries records name → has rules.founders name ≡ founder
     → cond founder 1 2 ≡ start_of rules (name, deliveries records name)
 unfolding start_of
-starts_new rules records name i founder over same is =
-    let none : deliveries records name ≡ [] = sym same ∙ given_end records name i over in
+start_of_log_by_founder rules records name i founder over same is =
+    let none : deliveries records name ≡ [] = sym same ∙ deliveries_past_last_record records name i over in
     let new : cond (has rules.founders name) 1 2 ≡ start_of rules (name, deliveries records name) = rw none refl in
     ap (λ b. cond b 1 2) (sym is) ∙ new
 
-pub ruleset starts = (starts_at, nothing_given)
+pub ruleset start_of_log_rules = (start_of_log_at_first, deliveries_past_record_without_given)

@@ -5,14 +5,14 @@ use Rattle.std.proofs.lemmas.List.Sums.{fold-append}
 use Rattle.am_base.specs.declared.entry.Entry.{Entry}
 use Rattle.std.proofs.lemmas.List.Folds.{fold-map}
 use Rattle.am_base.specs.Founding.{Rules}
-use Rattle.am_replicas.specs.Messages.{entries_of}
-use Rattle.am_replicas.specs.Assembling.{no_parts, after_entry}
-use Rattle.am_replicas.proofs.Fold.{messages_assemble}
-use Rattle.am_replicas.specs.Replicas.{fresh}
-use Rattle.am_replicas.proofs.ReplicaLaws.{replicas_show}
-use Rattle.am_services.specs.Texts.{ended_line, lines_behind, message_upto, messages_of, start_of, snapshot_at, snapshot_upto, snapshots_of, front_of, directory_lines, directory_of}
+use Rattle.am_service_defs.specs.Messages.{entries_of}
+use Rattle.am_service_defs.specs.Assembling.{no_parts, after_entry}
+use Rattle.am_service_defs.proofs.Fold.{messages_assemble}
+use Rattle.am_service_defs.specs.Replicas.{fresh_replica}
+use Rattle.am_service_defs.proofs.ReplicaLaws.{replicas_show}
+use Rattle.am_services.specs.Texts.{ended_line, lines_behind, message_upto, messages_of, start_of, snapshot_at, snapshot_upto, snapshots_of, last_given_number, directory_lines, directory_of}
 use Rattle.am_services.specs.Telling.{told, assembled_then, message_told, messages_told, replayed_then, replayed_with, snapshot_told, snapshots_told}
-use Rattle.am_replicas.specs.Replicas.{ReplicaState, shown}
+use Rattle.am_service_defs.specs.Replicas.{ReplicaState, shown}
 
 told_behind : {S : Type 0} (next : S → ℕ × Entry → S) (line : ℕ × Entry → S → List ℕ) (s : S) (upto : List (ℕ × Entry) → ℕ × Entry → List ℕ)
     → ((before : List (ℕ × Entry)) (pair : ℕ × Entry) → line pair (fold next s (before ++ pair ∷ [])) ≡ upto (before ++ pair ∷ []) pair)
@@ -34,27 +34,27 @@ ends_upto name before pair =
     ap (λ a. ended_line name pair.0 a.ended) (sym (fold-map after_entry (λ (p : ℕ × Entry). p.1) no_parts upto))
     ∙ ap (ended_line name pair.0) (messages_assemble (entries_of upto)).ended
 
-pub messages_are : (name : ℕ) (given : List (ℕ × Entry)) → messages_told name no_parts given ≡ messages_of (name, given)
+pub messages_told_are_messages_of : (name : ℕ) (given : List (ℕ × Entry)) → messages_told name no_parts given ≡ messages_of (name, given)
 unfolding messages_of
-messages_are name given = told_behind assembled_then (message_told name) no_parts (message_upto name) (ends_upto name) [] given
+messages_told_are_messages_of name given = told_behind assembled_then (message_told name) no_parts (message_upto name) (ends_upto name) [] given
 
 -- ---- directories and snapshots
 
 asks_upto : (name start : ℕ) (before : List (ℕ × Entry)) (pair : ℕ × Entry)
-    → snapshot_told name pair (fold replayed_then (fresh start) (before ++ pair ∷ [])) ≡ snapshot_upto name start (before ++ pair ∷ []) pair
+    → snapshot_told name pair (fold replayed_then (fresh_replica start) (before ++ pair ∷ [])) ≡ snapshot_upto name start (before ++ pair ∷ []) pair
 asks_upto name start before pair = ap (snapshot_at name pair.0 pair.1) (replicas_show start (before ++ pair ∷ []))
 
-pub snapshots_are : (rules : Rules) (name : ℕ) (given : List (ℕ × Entry))
-    → snapshots_told name (fresh (start_of rules (name, given))) given ≡ snapshots_of rules (name, given)
+pub snapshots_told_are_snapshots_of : (rules : Rules) (name : ℕ) (given : List (ℕ × Entry))
+    → snapshots_told name (fresh_replica (start_of rules (name, given))) given ≡ snapshots_of rules (name, given)
 unfolding snapshots_of
-snapshots_are rules name given =
+snapshots_told_are_snapshots_of rules name given =
     let start = start_of rules (name, given) in
-    told_behind replayed_then (snapshot_told name) (fresh start) (snapshot_upto name start) (asks_upto name start) [] given
+    told_behind replayed_then (snapshot_told name) (fresh_replica start) (snapshot_upto name start) (asks_upto name start) [] given
 
-pub directory_is : (rules : Rules) (name : ℕ) (given : List (ℕ × Entry)) (s : ReplicaState) (front : ℕ)
-    → s ≡ replayed_with (fresh (start_of rules (name, given))) given → front ≡ front_of given
+pub directory_told_is_directory_of : (rules : Rules) (name : ℕ) (given : List (ℕ × Entry)) (s : ReplicaState) (front : ℕ)
+    → s ≡ replayed_with (fresh_replica (start_of rules (name, given))) given → front ≡ last_given_number given
     → directory_lines name front (shown s) ≡ directory_of rules (name, given)
 unfolding directory_of
-directory_is rules name given s front replayed last =
+directory_told_is_directory_of rules name given s front replayed last =
     (λ k. directory_lines name (last k) (shown (replayed k)))
-    ∙ ap (directory_lines name (front_of given)) (replicas_show (start_of rules (name, given)) given)
+    ∙ ap (directory_lines name (last_given_number given)) (replicas_show (start_of rules (name, given)) given)

@@ -2,8 +2,8 @@
 use Rattle.std.specs.Prelude.{ℕ, List, [], ◌∷◌, ◌++◌}
 use Rattle.std.specs.List.{fold}
 use Rattle.am_base.specs.declared.entry.Entry.{Entry}
-use Rattle.am_replicas.specs.Assembling.{Assembly, after_entry}
-use Rattle.am_replicas.specs.Replicas.{ReplicaState, fed, shown}
+use Rattle.am_service_defs.specs.Assembling.{Assembly, after_entry}
+use Rattle.am_service_defs.specs.Replicas.{ReplicaState, fed, shown}
 use Rattle.am_services.specs.Texts.{ended_line, snapshot_at}
 
 -- the lines of entries, each by what came of it

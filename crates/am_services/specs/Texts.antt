@@ -5,13 +5,13 @@ use Rattle.am_base.specs.Founding.{Rules}
 use Rattle.am_base.specs.Names.{has}
 use Rattle.am_base.specs.declared.entry.Entry.{Entry}
 use Rattle.am_base.specs.declared.entry.Entry.TheVariants as entries
-use Rattle.am_play.specs.Text.{newline, name_text, body_text, mark_line}
-use Rattle.am_replicas.specs.Parts.{parts_of}
-use Rattle.am_replicas.specs.Messages.{entries_of, message_at}
-use Rattle.am_replicas.specs.declared.setting.Setting.{Setting}
-use Rattle.am_replicas.specs.Contents.{Contents}
-use Rattle.am_replicas.specs.Snapshots.{snapshot_of}
-use Rattle.am_replicas.specs.Replicas.{replica_contents}
+use Rattle.am_group_defs.specs.Text.{newline, name_text, body_text, mark_line}
+use Rattle.am_service_defs.specs.Parts.{parts_of}
+use Rattle.am_service_defs.specs.Messages.{entries_of, message_at}
+use Rattle.am_service_defs.specs.declared.setting.Setting.{Setting}
+use Rattle.am_service_defs.specs.Contents.{Contents}
+use Rattle.am_service_defs.specs.Snapshots.{snapshot_of}
+use Rattle.am_service_defs.specs.Replicas.{replica_contents}
 
 -- ---- parts
 
@@ -56,8 +56,8 @@ start_of rules (name, []) = if has rules.founders name then 1 else 2
 start_of rules (name, first ∷ rest) = first.0
 
 -- the number of the last entry that was given, or 0
-abbrev pub front_of : List (ℕ × Entry) → ℕ
-front_of given = fold (λ front pair. pair.0) 0 given
+abbrev pub last_given_number : List (ℕ × Entry) → ℕ
+last_given_number given = fold (λ front pair. pair.0) 0 given
 
 -- the line of a node's directory, with the number of the last entry that the node was given, and how many keys there are
 unfoldable pub directory_line : ℕ → ℕ → List ℕ → List ℕ
@@ -76,7 +76,7 @@ directory_lines name front (Some contents) = directory_line name front (decimal 
 
 -- of a name and what it was given
 unfoldable pub directory_of : Rules → ℕ × List (ℕ × Entry) → List ℕ
-directory_of rules log = directory_lines log.0 (front_of log.1) (replica_contents (start_of rules log) log.1)
+directory_of rules log = directory_lines log.0 (last_given_number log.1) (replica_contents (start_of rules log) log.1)
 
 -- each node's directory, and the closing mark
 unfoldable pub directories_text : Rules → List (ℕ × List (ℕ × Entry)) → Option ℕ → List ℕ

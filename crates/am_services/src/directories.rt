@@ -2,23 +2,23 @@ ghost use Rattle.std.specs.Prelude.{◌≡◌, ◌++◌, length, decimal, OnOk, 
 ghost use Rattle.std.specs.List.{fold};
 ghost use Rattle.am_group.specs.Deliveries.{given_to, deliveries};
 ghost use Rattle.am_report.specs.Logs.{logs_for};
-ghost use Rattle.am_replicas.specs.Replicas.{shown};
-ghost use Rattle.am_services.specs.Texts.{start_of, front_of, directory_line, setting_line, directory_lines, directory_of, directories_text};
+ghost use Rattle.am_service_defs.specs.Replicas.{shown};
+ghost use Rattle.am_services.specs.Texts.{start_of, last_given_number, directory_line, setting_line, directory_lines, directory_of, directories_text};
 ghost use Rattle.am_services.specs.Telling.{replayed_with};
 
 use am_base::NoMemory;
 use am_base::founding::Founding;
 use am_base::name::Name;
-use am_dir::replica::Replica;
+use am_directory::replica::Replica;
 use am_group::event::Record;
 use am_journal::delivered::given_to;
 use am_journal::journal::Journal;
-use am_replicas::setting::Setting;
-use am_texts::text::{push_body, push_mark, push_name};
+use am_service_defs::setting::Setting;
+use am_text_output::text::{push_body, push_mark, push_name};
 use std::alloc::Global;
 
 /// The number from which a name's list begins, by what it was given.
-#[tactic(auto, using(crate::proofs::Starts::starts))]
+#[tactic(auto, using(crate::proofs::Starts::start_of_log_rules))]
 pub(crate) fn start_of(founding: &Founding, records: &[Record], name: Name) -> u32
     ensures { result ≡ start_of founding.now (name, deliveries records.now name) }
 {
@@ -99,7 +99,7 @@ fn feed_given(replica: &mut Replica, front: u32, name: Name, item: &Record) -> R
 }
 
 /// Adds the directory of a name.
-#[tactic(auto, using(crate::proofs::Given::folded, crate::proofs::Told::directory_is))]
+#[tactic(auto, using(crate::proofs::Given::folded_entries_rules, crate::proofs::Told::directory_told_is_directory_of))]
 fn push_directory(
     out: &mut String,
     founding: &Founding,
@@ -118,7 +118,7 @@ fn push_directory(
 }
 
 /// The directory of each of these names, and the closing mark (docs/DIRECTORY.md, "Printed").
-#[tactic(auto, using(crate::proofs::Given::logs), unfolding(crate::specs::Texts::directories_text))]
+#[tactic(auto, using(crate::proofs::Given::logs_of_names_rules), unfolding(crate::specs::Texts::directories_text))]
 pub fn directories_text(
     alloc: Global,
     journal: &Journal,

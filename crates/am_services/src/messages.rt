@@ -1,19 +1,19 @@
 ghost use Rattle.std.specs.Prelude.{◌≡◌, ◌≤◌, ◌<◌, ◌++◌, ℕ, length, OnOk, IfOk, string_bytes};
 ghost use Rattle.am_group.specs.Deliveries.{deliveries};
 ghost use Rattle.am_report.specs.Logs.{logs_for};
-ghost use Rattle.am_replicas.specs.Parts.{most_message, part_count, part_of};
+ghost use Rattle.am_service_defs.specs.Parts.{most_message, part_count, part_of};
 ghost use Rattle.am_services.specs.Texts.{parts_text, message_line, messages_of, messages_text};
 ghost use Rattle.am_services.specs.Telling.{assembled_then, message_told};
 
-use crate::telling::{Telling, push_told};
+use crate::telling::{TellsEntries, push_told};
 use am_base::NoMemory;
 use am_base::entry::Entry;
 use am_base::name::Name;
 use am_group::event::Record;
-use am_replicas::fed::Fed;
-use am_seg::assembler::Assembler;
-use am_seg::parts::{part_count, part_of};
-use am_texts::text::{push_body, push_mark, push_name};
+use am_long_messages::assembler::Assembler;
+use am_long_messages::parts::{part_count, part_of};
+use am_service_defs::fed::Fed;
+use am_text_output::text::{push_body, push_mark, push_name};
 use std::alloc::Global;
 
 /// The parts of a message, a line of hexadecimal digits each.
@@ -51,7 +51,7 @@ fn push_message(
     out.push_str("\n")
 }
 
-impl Telling for Assembler {
+impl TellsEntries for Assembler {
     ghost next = { assembled_then };
 
     ghost lines = { message_told };
@@ -69,7 +69,7 @@ impl Telling for Assembler {
 }
 
 /// Adds the messages that ended in what a name was given.
-#[tactic(auto, using(crate::proofs::Told::messages_are))]
+#[tactic(auto, using(crate::proofs::Told::messages_told_are_messages_of))]
 fn push_messages(out: &mut String, records: &[Record], name: Name) -> Result<(), NoMemory>
     ensures { OnOk result (string_bytes out.new
         ≡ string_bytes out.old ++ messages_of (name, deliveries records.now name)) }
@@ -79,7 +79,7 @@ fn push_messages(out: &mut String, records: &[Record], name: Name) -> Result<(),
 }
 
 /// The messages that ended in what each of these names was given, and the closing mark (docs/MESSAGES.md, "Printed").
-#[tactic(auto, using(crate::proofs::Given::logs), unfolding(crate::specs::Texts::messages_text))]
+#[tactic(auto, using(crate::proofs::Given::logs_of_names_rules), unfolding(crate::specs::Texts::messages_text))]
 pub fn messages_text(
     alloc: Global,
     records: &[Record],

@@ -2,20 +2,20 @@ ghost use Rattle.std.specs.Prelude.{◌≡◌, ◌≤◌, ◌++◌, length, OnOk
 ghost use Rattle.std.specs.List.{flat_map};
 ghost use Rattle.am_group.specs.Deliveries.{deliveries};
 ghost use Rattle.am_report.specs.Logs.{logs_for};
-ghost use Rattle.am_replicas.specs.Replicas.{shown};
-ghost use Rattle.am_replicas.specs.Parts.{most_message, parts_of};
+ghost use Rattle.am_service_defs.specs.Replicas.{shown};
+ghost use Rattle.am_service_defs.specs.Parts.{most_message, parts_of};
 ghost use Rattle.am_services.specs.Texts.{snapshot_line, snapshot_at, snapshots_of, snapshots_text};
 ghost use Rattle.am_services.specs.Telling.{replayed_then, snapshot_told};
 
 use crate::directories::start_of;
-use crate::telling::{Telling, push_told};
+use crate::telling::{TellsEntries, push_told};
 use am_base::NoMemory;
 use am_base::entry::Entry;
 use am_base::name::Name;
-use am_dir::replica::Replica;
+use am_directory::replica::Replica;
 use am_journal::journal::Journal;
-use am_seg::parts::{part_count, part_of};
-use am_texts::text::{push_body, push_mark, push_name};
+use am_long_messages::parts::{part_count, part_of};
+use am_text_output::text::{push_body, push_mark, push_name};
 use std::alloc::Global;
 
 /// Adds the line of a part of a node's snapshot for the Join of this number.
@@ -66,7 +66,7 @@ fn push_asked(
     push_parts(out, name, number, snapshot.as_slice())
 }
 
-impl Telling for Replica {
+impl TellsEntries for Replica {
     ghost next = { replayed_then };
 
     ghost lines = { snapshot_told };
@@ -78,7 +78,7 @@ impl Telling for Replica {
 }
 
 /// Adds the snapshots that a name could send.
-#[tactic(auto, using(crate::proofs::Told::snapshots_are))]
+#[tactic(auto, using(crate::proofs::Told::snapshots_told_are_snapshots_of))]
 fn push_snapshots(out: &mut String, journal: &Journal, name: Name) -> Result<(), NoMemory>
     ensures { OnOk result (string_bytes out.new ≡ string_bytes out.old
         ++ snapshots_of journal.now.founding (name, deliveries journal.now.records name)) }
@@ -89,7 +89,7 @@ fn push_snapshots(out: &mut String, journal: &Journal, name: Name) -> Result<(),
 }
 
 /// The snapshots that each of these names could send, and the closing mark (docs/DIRECTORY.md, "Printed").
-#[tactic(auto, using(crate::proofs::Given::logs), unfolding(crate::specs::Texts::snapshots_text))]
+#[tactic(auto, using(crate::proofs::Given::logs_of_names_rules), unfolding(crate::specs::Texts::snapshots_text))]
 pub fn snapshots_text(
     alloc: Global,
     journal: &Journal,

@@ -11,7 +11,7 @@ use am_group::event::Record;
 use am_journal::delivered::given_to;
 
 /// What goes through the entries that a name was given, and tells lines of each.
-pub(crate) trait Telling {
+pub(crate) trait TellsEntries {
     // What it is after an entry more.
     ghost next: { Self → ℕ × Entry → Self };
 
@@ -26,7 +26,7 @@ pub(crate) trait Telling {
 }
 
 /// Adds the lines that are told of what a record gave to a name, where it gave something.
-fn push_given<T: Telling>(
+fn push_given<T: TellsEntries>(
     out: &mut String,
     teller: &mut T,
     name: Name,
@@ -43,8 +43,8 @@ fn push_given<T: Telling>(
 }
 
 /// Adds the lines that are told of all that a name was given.
-#[tactic(auto, using(crate::proofs::Given::given))]
-pub(crate) fn push_told<T: Telling>(
+#[tactic(auto, using(crate::proofs::Given::given_entries_rules))]
+pub(crate) fn push_told<T: TellsEntries>(
     out: &mut String,
     teller: &mut T,
     records: &[Record],

@@ -12,23 +12,23 @@ use Rattle.am_group.specs.declared.event.Event.{Event}
 use Rattle.am_group.specs.declared.event.Record.{Record}
 use Rattle.am_group.specs.declared.plan.RacePlan.{RacePlan}
 use Rattle.am_group.specs.declared.plan.ThreadPlan.{ThreadPlan}
-use Rattle.am_play.specs.World.{World, run}
-use Rattle.am_play.specs.Settle.{Settling, and_then, event_at, ticks, hearings_of, hearings_from, hearings, waves, round, rounds, round_count, settle_events}
-use Rattle.am_play.specs.Play.{text_of}
-use Rattle.am_laws.specs.Bytes.{BodyWithin, IsShort}
-use Rattle.am_schedules.specs.Schedules.{script_text, IsOfBytes, AreOfBytes}
-use Rattle.am_schedules.specs.Scripts.{script_of, reading}
-use Rattle.am_schedules.specs.Races.{race_reading}
-use Rattle.am_schedules.specs.Limits.{ActWithin, EventWithin, IsWithin}
-use Rattle.am_schedules.specs.RaceLimits.{CallWithin, ThreadWithin, RaceWithin}
-use Rattle.am_written.specs.Bodies.{ThreadOfBytes}
-use Rattle.am_written.proofs.Bodies.{plays_are_of_bytes, races_are_of_bytes}
-use Rattle.am_written.specs.RacedBodies.{HasBody, ThreadHasBodies}
-use Rattle.am_written.proofs.RacedBodies.{races_have_planned_bodies}
-use Rattle.am_written.proofs.RacedScripts.{races_have_scripts}
-use Rattle.am_written.specs.Claims.{ReadsAs, AgreesAs, IsOfOneList}
-use Rattle.am_written.proofs.Agree.{runs_have_their_texts, lawful_texts_agree}
-use Rattle.am_written.proofs.Scripts.{scripts_are_passed_over}
+use Rattle.am_group_defs.specs.World.{World, run}
+use Rattle.am_group_defs.specs.Settle.{Settling, settle_then, event_at, ticks, hearings_of, hearings_from, hearings, waves, round, rounds, round_count, settle_events}
+use Rattle.am_group_defs.specs.Play.{text_of}
+use Rattle.am_step_laws.specs.Bytes.{BodyWithin, IsShort}
+use Rattle.am_script_defs.specs.Schedules.{script_text, IsOfBytes, AreOfBytes}
+use Rattle.am_script_defs.specs.Scripts.{script_of, script_reading}
+use Rattle.am_script_defs.specs.Races.{race_reading}
+use Rattle.am_script_defs.specs.Limits.{ActWithin, EventWithin, ScriptIsWithin}
+use Rattle.am_script_defs.specs.RaceLimits.{CallWithin, ThreadWithin, RaceWithin}
+use Rattle.am_trace_laws.specs.Bodies.{ThreadOfBytes}
+use Rattle.am_trace_laws.proofs.Bodies.{script_plays_are_of_bytes, race_plays_are_of_bytes}
+use Rattle.am_trace_laws.specs.RacedBodies.{HasBody, ThreadHasBodies}
+use Rattle.am_trace_laws.proofs.RacedBodies.{race_sends_have_planned_bodies}
+use Rattle.am_trace_laws.proofs.RacedScripts.{races_have_scripts}
+use Rattle.am_trace_laws.specs.Claims.{ReadsAs, AgreesAs, IsOfOneList}
+use Rattle.am_trace_laws.proofs.Agree.{runs_have_their_texts, lawful_texts_agree}
+use Rattle.am_trace_laws.proofs.Scripts.{scripts_are_passed_over}
 use Rattle.am_player.specs.Runs.{done_of}
 use Rattle.am_sim.specs.Racing.{events_of, race_text, IsRaced, IsReadAgain}
 
@@ -66,11 +66,11 @@ waves_have : (left after : ℕ) (s : Settling) → All Has s.events → All Has 
 unfolding waves
 waves_have zero after s has = has
 waves_have (suc left) after s has =
-    waves_have left (length s.world.letters) (and_then s (hearings s.world after))
+    waves_have left (length s.world.letters) (settle_then s (hearings s.world after))
     (All-append Has s.events (hearings s.world after) has (heard_have s.world (after + 1) _))
 
 round_has : (s : Settling) → All Has s.events → All Has (round s).events
-round_has s has = waves_have 5 (length s.world.letters) (and_then s (ticks s.world))
+round_has s has = waves_have 5 (length s.world.letters) (settle_then s (ticks s.world))
     (All-append Has s.events (ticks s.world) has (at_places act.Tick _ (bare act.Tick tt tt)))
 
 rounds_have : (left : ℕ) (s : Settling) → All Has s.events → All Has (rounds left s).events
@@ -98,23 +98,23 @@ short rules events founds has few = record {
 of_bytes : (events : List Event) → All Has events → AreOfBytes events
 of_bytes events has = All-weaker Has (λ (e : Event). IsOfBytes e.act) (λ e h. h.bytes) events has
 
-play_has : (bytes : List ℕ) (founding : Rules) (events : List Event) (settles : Bool) → reading bytes ≡ Ok (script_of founding events settles)
-    → IsWithin founding events → All Has (done_of founding events settles)
+play_has : (bytes : List ℕ) (founding : Rules) (events : List Event) (settles : Bool) → script_reading bytes ≡ Ok (script_of founding events settles)
+    → ScriptIsWithin founding events → All Has (done_of founding events settles)
 play_has bytes founding events settles is within =
-    done_have founding events settles (events_have events within.each (plays_are_of_bytes bytes founding events settles is))
+    done_have founding events settles (events_have events within.each (script_plays_are_of_bytes bytes founding events settles is))
 
-pub play_reads : (bytes : List ℕ) (founding : Rules) (events : List Event) (settles : Bool) → reading bytes ≡ Ok (script_of founding events settles)
-    → IsWithin founding events → length (done_of founding events settles) ≤ most_events
+pub text_of_play_is_read : (bytes : List ℕ) (founding : Rules) (events : List Event) (settles : Bool) → script_reading bytes ≡ Ok (script_of founding events settles)
+    → ScriptIsWithin founding events → length (done_of founding events settles) ≤ most_events
     → ReadsAs founding (done_of founding events settles) (text_of founding (done_of founding events settles))
-play_reads bytes founding events settles is within few =
+text_of_play_is_read bytes founding events settles is within few =
     let done = done_of founding events settles in
     let has = play_has bytes founding events settles is within in
     runs_have_their_texts founding done (short founding done within.may_found has few) (of_bytes done has)
 
-pub play_agrees : (bytes : List ℕ) (founding : Rules) (events : List Event) (settles : Bool) → reading bytes ≡ Ok (script_of founding events settles)
-    → IsWithin founding events → length (done_of founding events settles) ≤ most_events → IsOfOneList founding (done_of founding events settles)
+pub text_of_play_agrees : (bytes : List ℕ) (founding : Rules) (events : List Event) (settles : Bool) → script_reading bytes ≡ Ok (script_of founding events settles)
+    → ScriptIsWithin founding events → length (done_of founding events settles) ≤ most_events → IsOfOneList founding (done_of founding events settles)
     → AgreesAs founding (done_of founding events settles) (text_of founding (done_of founding events settles))
-play_agrees bytes founding events settles is within few one =
+text_of_play_agrees bytes founding events settles is within few one =
     let done = done_of founding events settles in
     let has = play_has bytes founding events settles is within in
     lawful_texts_agree founding done (short founding done within.may_found has few) (of_bytes done has) one
@@ -137,35 +137,35 @@ threads_have (t ∷ threads) within bytes = All-cons ThreadHasBodies t threads
     (threads_have threads (All-tail ThreadWithin t threads within) (All-tail ThreadOfBytes t threads bytes))
 
 race_threads : (bytes : List ℕ) (plan : RacePlan) → race_reading bytes ≡ Ok plan → RaceWithin plan → All ThreadHasBodies plan.threads
-race_threads bytes plan is within = threads_have plan.threads within.each (races_are_of_bytes bytes plan is)
+race_threads bytes plan is within = threads_have plan.threads within.each (race_plays_are_of_bytes bytes plan is)
 
 race_has : (bytes : List ℕ) (plan : RacePlan) (journal : List Record) → race_reading bytes ≡ Ok plan → RaceWithin plan → IsRaced plan journal
     → All Has (events_of journal)
 race_has bytes plan journal is within raced =
-    All-map Has (λ (r : Record). r.event) journal (races_have_planned_bodies plan journal (race_threads bytes plan is within) raced.legal)
+    All-map Has (λ (r : Record). r.event) journal (race_sends_have_planned_bodies plan journal (race_threads bytes plan is within) raced.legal)
 
 -- what was done is read as a script
-pub race_again : (bytes : List ℕ) (plan : RacePlan) (journal : List Record) → race_reading bytes ≡ Ok plan → RaceWithin plan → IsRaced plan journal
+pub race_script_is_read_again : (bytes : List ℕ) (plan : RacePlan) (journal : List Record) → race_reading bytes ≡ Ok plan → RaceWithin plan → IsRaced plan journal
     → IsReadAgain plan.founding (events_of journal)
-    → reading (script_text plan.founding (events_of journal)) ≡ Ok (script_of plan.founding (events_of journal) false)
-race_again bytes plan journal is within raced again =
+    → script_reading (script_text plan.founding (events_of journal)) ≡ Ok (script_of plan.founding (events_of journal) false)
+race_script_is_read_again bytes plan journal is within raced again =
     again (races_have_scripts plan journal within (race_threads bytes plan is within) raced.few raced.legal)
     (of_bytes (events_of journal) (race_has bytes plan journal is within raced))
 
 race_few : (plan : RacePlan) (journal : List Record) → IsRaced plan journal → length (events_of journal) ≤ most_events
 race_few plan journal raced = let few = raced.few in omega (arith, length-map journal (λ (r : Record). r.event), few)
 
-pub race_reads : (bytes : List ℕ) (plan : RacePlan) (journal : List Record) → race_reading bytes ≡ Ok plan → RaceWithin plan → IsRaced plan journal
+pub text_of_race_is_read : (bytes : List ℕ) (plan : RacePlan) (journal : List Record) → race_reading bytes ≡ Ok plan → RaceWithin plan → IsRaced plan journal
     → ReadsAs plan.founding (events_of journal) (race_text plan.founding (events_of journal))
-race_reads bytes plan journal is within raced =
+text_of_race_is_read bytes plan journal is within raced =
     let done = events_of journal in
     let has = race_has bytes plan journal is within raced in
     scripts_are_passed_over plan.founding done (of_bytes done has)
     (runs_have_their_texts plan.founding done (short plan.founding done within.may_found has (race_few plan journal raced)) (of_bytes done has))
 
-pub race_agrees : (bytes : List ℕ) (plan : RacePlan) (journal : List Record) → race_reading bytes ≡ Ok plan → RaceWithin plan → IsRaced plan journal
+pub text_of_race_agrees : (bytes : List ℕ) (plan : RacePlan) (journal : List Record) → race_reading bytes ≡ Ok plan → RaceWithin plan → IsRaced plan journal
     → IsOfOneList plan.founding (events_of journal) → AgreesAs plan.founding (events_of journal) (race_text plan.founding (events_of journal))
-race_agrees bytes plan journal is within raced one =
+text_of_race_agrees bytes plan journal is within raced one =
     let done = events_of journal in
     let has = race_has bytes plan journal is within raced in
     let h = lawful_texts_agree plan.founding done (short plan.founding done within.may_found has (race_few plan journal raced)) (of_bytes done has) one in

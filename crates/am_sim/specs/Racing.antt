@@ -5,13 +5,13 @@ use Rattle.am_base.specs.Founding.{Rules}
 use Rattle.am_group.specs.declared.event.Event.{Event}
 use Rattle.am_group.specs.declared.event.Record.{Record}
 use Rattle.am_group.specs.declared.plan.RacePlan.{RacePlan}
-use Rattle.am_play.specs.Text.{newline}
-use Rattle.am_play.specs.Play.{text_of}
-use Rattle.am_schedules.specs.Limits.{IsWithin}
-use Rattle.am_schedules.specs.Scripts.{script_of, reading}
-use Rattle.am_schedules.specs.Schedules.{script_text, AreOfBytes}
-use Rattle.am_races.specs.Legal.{IsLegalWithTags}
-use Rattle.am_races.specs.Plans.{calls_of, ArePlayed}
+use Rattle.am_group_defs.specs.Text.{newline}
+use Rattle.am_group_defs.specs.Play.{text_of}
+use Rattle.am_script_defs.specs.Limits.{ScriptIsWithin}
+use Rattle.am_script_defs.specs.Scripts.{script_of, script_reading}
+use Rattle.am_script_defs.specs.Schedules.{script_text, AreOfBytes}
+use Rattle.am_race_laws.specs.Legal.{IsLegalWithTags}
+use Rattle.am_race_laws.specs.Plans.{calls_of, ArePlayed}
 
 -- what was done
 abbrev pub events_of : List Record → List Event
@@ -29,7 +29,7 @@ pub record IsRaced (plan : RacePlan) (journal : List Record) : Type 0 where
 
 -- events within the limits of scripts are read again as their script
 abbrev pub IsReadAgain : Rules → List Event → Type 0
-IsReadAgain rules events = IsWithin rules events → AreOfBytes events → reading (script_text rules events) ≡ Ok (script_of rules events false)
+IsReadAgain rules events = ScriptIsWithin rules events → AreOfBytes events → script_reading (script_text rules events) ≡ Ok (script_of rules events false)
 
 -- a text is that of a journal of a race, whose script is read again
 abbrev pub IsRaceText : RacePlan → List ℕ → Type 0

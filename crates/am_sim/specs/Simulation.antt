@@ -8,44 +8,44 @@ use Rattle.am_group.specs.declared.event.Record.{Record}
 use Rattle.am_group.specs.declared.plan.RacePlan.{RacePlan}
 use Rattle.am_group.specs.Deliveries.{deliveries}
 use Rattle.am_model.specs.Node.{has_log}
-use Rattle.am_play.specs.Play.{summary_text_of}
-use Rattle.am_play.specs.Text.{newline}
-use Rattle.am_schedules.specs.Scripts.{script_of, reading}
-use Rattle.am_schedules.specs.declared.refusal.ScriptRefusal.{ScriptRefusal}
-use Rattle.am_schedules.specs.Races.{race_reading}
+use Rattle.am_group_defs.specs.Play.{summary_text_of}
+use Rattle.am_group_defs.specs.Text.{newline}
+use Rattle.am_script_defs.specs.Scripts.{script_of, script_reading}
+use Rattle.am_script_defs.specs.declared.refusal.ScriptRefusal.{ScriptRefusal}
+use Rattle.am_script_defs.specs.Races.{race_reading}
 use Rattle.am_player.specs.Runs.{done_of, run_watch}
-use Rattle.am_player.specs.Plays.{KeepsRun, Repaired, Answered}
+use Rattle.am_player.specs.Plays.{KeepsRun, Repaired, SendsAreAnswered}
 use Rattle.am_player.specs.Statuses.{most_input}
 use Rattle.am_sim.specs.Playing.{shown_text}
 use Rattle.am_sim.specs.Racing.{events_of, race_text, IsRaced}
 use Rattle.am_io.specs.Outside.{ReadToEnd}
-use Rattle.am_pump.specs.Generating.{generated_rules, events_of_seed}
+use Rattle.am_generator.specs.Generating.{generated_rules, events_of_seed}
 use Rattle.am_audit.specs.declared.fault.TextRefusal.{TextRefusal}
 use Rattle.am_audit.specs.declared.fault.TextRefusal.TheVariants as texts
-use Rattle.am_verdicts.specs.declared.verdict.Verdict.TheVariants as verdicts
-use Rattle.am_verdicts.specs.Agreement.{Lists, Agreed}
-use Rattle.am_verdicts.specs.Lines.{Reading, read_text}
-use Rattle.am_verdicts.specs.Verdicts.{verdict_of, verdict_line, is_right}
-use Rattle.am_replicated.specs.AssembledClaims.{front_of, Delivered}
-use Rattle.am_replicated.specs.Claims.{ReplicaHolds}
-use Rattle.am_written.specs.Claims.{ReadsAs, AgreesAs, IsOfOneList}
-use Rattle.am_lines.specs.Speaking.{spoken}
-use Rattle.am_words.specs.Forms.{form_of}
-use Rattle.am_words.specs.declared.form.Form.{Form}
-use Rattle.am_words.specs.declared.form.Form.TheVariants as form
-use Rattle.am_words.specs.declared.form.Numbers.{Numbers}
-use Rattle.am_words.specs.declared.form.Shown.{Shown}
-use Rattle.am_words.specs.declared.form.Shown.TheVariants as shown
-use Rattle.am_replicas.specs.Parts.{most_message}
+use Rattle.am_audit_defs.specs.declared.verdict.Verdict.TheVariants as verdicts
+use Rattle.am_audit_defs.specs.Agreement.{Lists, Agreed}
+use Rattle.am_audit_defs.specs.Lines.{Reading, read_text}
+use Rattle.am_audit_defs.specs.Verdicts.{verdict_of, verdict_line, is_right}
+use Rattle.am_service_laws.specs.AssembledClaims.{world_at_front, Delivered}
+use Rattle.am_service_laws.specs.Claims.{ReplicaHolds}
+use Rattle.am_trace_laws.specs.Claims.{ReadsAs, AgreesAs, IsOfOneList}
+use Rattle.am_node_lines.specs.Speaking.{spoken}
+use Rattle.am_cli_words.specs.Forms.{form_of}
+use Rattle.am_cli_words.specs.declared.form.Form.{Form}
+use Rattle.am_cli_words.specs.declared.form.Form.TheVariants as form
+use Rattle.am_cli_words.specs.declared.form.SeedAndCount.{SeedAndCount}
+use Rattle.am_cli_words.specs.declared.form.RunText.{RunText}
+use Rattle.am_cli_words.specs.declared.form.RunText.TheVariants as shown
+use Rattle.am_service_defs.specs.Parts.{most_message}
 use Rattle.am_services.specs.Texts.{parts_text}
-use Rattle.am_schedules.specs.Schedules.{script_text}
-use Rattle.am_player.specs.declared.status.Status.{Status}
-use Rattle.am_player.specs.declared.status.Status.TheVariants.{Done, WriteFault, NoMemory, BadText, Disagrees}
+use Rattle.am_script_defs.specs.Schedules.{script_text}
+use Rattle.am_player.specs.declared.status.ExitStatus.{ExitStatus}
+use Rattle.am_player.specs.declared.status.ExitStatus.TheVariants.{Done, WriteFault, NoMemory, BadText, Disagrees}
 
 -- the most that is read for a form
-abbrev pub most_of : Option Form → ℕ
-most_of (Some form.Parts) = most_message
-most_of _ = most_input
+abbrev pub most_bytes_of : Option Form → ℕ
+most_bytes_of (Some form.Parts) = most_message
+most_bytes_of _ = most_input
 
 -- the form of words
 abbrev pub form_of_words : List (Bor (List ℕ)) → Option Form
@@ -54,43 +54,43 @@ form_of_words words = form_of (map (λ word. word.now) words)
 -- What is claimed of every run: what is claimed of the run of each script that is played; and, up to its lawful front, that a message that ends in what
 -- a name was given ends in the group's list, and that each name's replica of a directory has the contents of that list, or waits for a snapshot, or got a
 -- wrong one.
-pub record Keeps (rules : Rules) (events : List Event) : Type 0 where
+pub record SimulatedRunKeeps (rules : Rules) (events : List Event) : Type 0 where
   pub run : KeepsRun rules events
-  pub messages : (name : ℕ) → deliveries (front_of rules events).records name ≢ [] → (start : ℕ) × Delivered rules (front_of rules events) name start
-  pub replicas : (name : ℕ) → has_log ((front_of rules events).nodes name).status ≡ true → ReplicaHolds rules (front_of rules events) name
+  pub messages : (name : ℕ) → deliveries (world_at_front rules events).records name ≢ [] → (start : ℕ) × Delivered rules (world_at_front rules events) name start
+  pub replicas : (name : ℕ) → has_log ((world_at_front rules events).nodes name).status ≡ true → ReplicaHolds rules (world_at_front rules events) name
 
 -- what was read is a script, what was written is shown of its run, which has at most 100,000 events, and that run keeps what is claimed; where it is
 -- settled, it is repaired, and what stands is answered. Where the run's text was written, an audit reads it as that run; and where the run is lawful, or
 -- nobody began a ballot, its verdict agrees
-pub record Played (what : Shown) (bytes text : List ℕ) : Type 0 where
+pub record Played (what : RunText) (bytes text : List ℕ) : Type 0 where
   pub founding : Rules
   pub events : List Event
   pub settles : Bool
-  pub script : reading bytes ≡ Ok (script_of founding events settles)
+  pub script : script_reading bytes ≡ Ok (script_of founding events settles)
   pub written : text ≡ shown_text what founding (run_watch founding events settles)
   pub few : length (done_of founding events settles) ≤ most_events
-  pub keeps : Keeps founding (done_of founding events settles)
+  pub keeps : SimulatedRunKeeps founding (done_of founding events settles)
   pub repaired : settles ≡ true → Repaired founding events
-  pub answered : settles ≡ true → Answered founding events
+  pub answered : settles ≡ true → SendsAreAnswered founding events
   pub reads : what ≡ shown.Text → ReadsAs founding (done_of founding events settles) text
   pub agrees : what ≡ shown.Text → IsOfOneList founding (done_of founding events settles) → AgreesAs founding (done_of founding events settles) text
 
 -- what was written is this of the run of two numbers, and that run keeps what is claimed
-pub record GeneratedAs (what : Rules → List Event → List ℕ) (numbers : Numbers) (text : List ℕ) : Type 0 where
+pub record GeneratedAs (what : Rules → List Event → List ℕ) (numbers : SeedAndCount) (text : List ℕ) : Type 0 where
   pub written : text ≡ what generated_rules (events_of_seed numbers.seed numbers.count)
   pub count : length (events_of_seed numbers.seed numbers.count) ≡ numbers.count
-  pub keeps : Keeps generated_rules (events_of_seed numbers.seed numbers.count)
+  pub keeps : SimulatedRunKeeps generated_rules (events_of_seed numbers.seed numbers.count)
 
 -- the summary of that run
-abbrev pub Generated : Numbers → List ℕ → Type 0
+abbrev pub Generated : SeedAndCount → List ℕ → Type 0
 Generated numbers text = GeneratedAs summary_text_of numbers text
 
 -- the script of that run, in one line
-abbrev pub GeneratedScript : Numbers → List ℕ → Type 0
+abbrev pub GeneratedScript : SeedAndCount → List ℕ → Type 0
 GeneratedScript numbers text = GeneratedAs (λ rules events. script_text rules events ++ newline) numbers text
 
 -- a text is shown of the script that was read to the end of what was left
-abbrev pub IsPlayed : Shown → Option (List ℕ) → Option (List ℕ) → List ℕ → Type 0
+abbrev pub IsPlayed : RunText → Option (List ℕ) → Option (List ℕ) → List ℕ → Type 0
 IsPlayed what before after text = (bytes : List ℕ) × ReadToEnd before after bytes × Played what bytes text
 
 -- a text is the summary that words of gen ask for, or the script
@@ -133,7 +133,7 @@ IsUnaudited bytes texts.NoMemory = Unit {0}
 IsUnaudited bytes (texts.BadLine line) = read_text bytes ≡ Err line
 
 -- at Done the verdict agrees, and at Disagrees it doesn't
-abbrev pub Judges : Status → Option (List ℕ) → Option (List ℕ) → Type 0
+abbrev pub Judges : ExitStatus → Option (List ℕ) → Option (List ℕ) → Type 0
 Judges Done before after = GaveVerdict before after true
 Judges Disagrees before after = GaveVerdict before after false
 Judges _ before after = Unit {0}
@@ -150,13 +150,13 @@ IsAnswerAlone (Some form.Parts) before after text = IsParted before after text
 IsAnswerAlone other before after text = IsSummary other text
 
 -- the forms that read
-abbrev pub Reads : Option Form → Type 0
-Reads (Some (form.Play what)) = Unit {0}
-Reads (Some form.Race) = Unit {0}
-Reads (Some form.Audit) = Unit {0}
-Reads (Some form.Parts) = Unit {0}
-Reads (Some (form.Node node)) = Unit {0}
-Reads _ = ⊥
+abbrev pub FormReads : Option Form → Type 0
+FormReads (Some (form.Play what)) = Unit {0}
+FormReads (Some form.Race) = Unit {0}
+FormReads (Some form.Audit) = Unit {0}
+FormReads (Some form.Parts) = Unit {0}
+FormReads (Some (form.Node node)) = Unit {0}
+FormReads _ = ⊥
 
 -- the forms that may wait
 abbrev pub Waits : Option Form → Type 0
@@ -176,20 +176,20 @@ ReadsScript (Some form.Race) = Unit {0}
 ReadsScript _ = ⊥
 
 -- by this first cause the bytes are no play, or no race, where the form reads one; the other forms refuse no script
-abbrev pub IsRefused : Option Form → List ℕ → ScriptRefusal → Type 0
-IsRefused (Some (form.Play what)) bytes cause = reading bytes ≡ Err cause
-IsRefused (Some form.Race) bytes cause = race_reading bytes ≡ Err cause
-IsRefused _ bytes cause = ⊥
+abbrev pub InputIsRefused : Option Form → List ℕ → ScriptRefusal → Type 0
+InputIsRefused (Some (form.Play what)) bytes cause = script_reading bytes ≡ Err cause
+InputIsRefused (Some form.Race) bytes cause = race_reading bytes ≡ Err cause
+InputIsRefused _ bytes cause = ⊥
 
 -- how gen ends
-abbrev pub EndsGen : Status → Type 0
+abbrev pub EndsGen : ExitStatus → Type 0
 EndsGen Done = Unit {0}
 EndsGen WriteFault = Unit {0}
 EndsGen NoMemory = Unit {0}
 EndsGen _ = ⊥
 
 -- what holds of the first bad line where the input is no text
-abbrev pub IfBadText : Status → (ℕ → Type 0) → Type 0
+abbrev pub IfBadText : ExitStatus → (ℕ → Type 0) → Type 0
 IfBadText (BadText line) claim = claim line
 IfBadText _ claim = Unit {0}
 
@@ -201,8 +201,8 @@ pub record Raced (bytes text : List ℕ) : Type 0 where
   pub journal : List Record
   pub raced : IsRaced plan journal
   pub written : text ≡ race_text plan.founding (events_of journal)
-  pub again : reading (script_text plan.founding (events_of journal)) ≡ Ok (script_of plan.founding (events_of journal) false)
-  pub keeps : Keeps plan.founding (events_of journal)
+  pub again : script_reading (script_text plan.founding (events_of journal)) ≡ Ok (script_of plan.founding (events_of journal) false)
+  pub keeps : SimulatedRunKeeps plan.founding (events_of journal)
   pub reads : ReadsAs plan.founding (events_of journal) text
   pub agrees : IsOfOneList plan.founding (events_of journal) → AgreesAs plan.founding (events_of journal) text
 
@@ -211,10 +211,10 @@ abbrev pub IsRacedText : Option (List ℕ) → Option (List ℕ) → List ℕ �
 IsRacedText before after text = (bytes : List ℕ) × ReadToEnd before after bytes × Raced bytes text
 
 -- a text is what words of a form ask for
-abbrev pub IsAnswer : Option Form → Option (List ℕ) → Option (List ℕ) → List ℕ → Type 0
-IsAnswer (Some (form.Play what)) before after text = IsPlayed what before after text
-IsAnswer (Some form.Race) before after text = IsRacedText before after text
-IsAnswer (Some form.Audit) before after text = IsAudited before after text
-IsAnswer (Some form.Parts) before after text = IsParted before after text
-IsAnswer (Some (form.Node node)) before after text = (bytes : List ℕ) × ReadToEnd before after bytes × (text ≡ spoken node.founding node.name bytes)
-IsAnswer other before after text = IsSummary other text
+abbrev pub IsTextOfForm : Option Form → Option (List ℕ) → Option (List ℕ) → List ℕ → Type 0
+IsTextOfForm (Some (form.Play what)) before after text = IsPlayed what before after text
+IsTextOfForm (Some form.Race) before after text = IsRacedText before after text
+IsTextOfForm (Some form.Audit) before after text = IsAudited before after text
+IsTextOfForm (Some form.Parts) before after text = IsParted before after text
+IsTextOfForm (Some (form.Node node)) before after text = (bytes : List ℕ) × ReadToEnd before after bytes × (text ≡ spoken node.founding node.name bytes)
+IsTextOfForm other before after text = IsSummary other text

@@ -1,6 +1,6 @@
 ghost use Rattle.std.specs.Prelude.{◌≡◌, ◌≢◌, ◌≤◌, length, List, ℕ, IfOk, IfErr, Err, string_bytes};
 ghost use Rattle.am_io.specs.Outside.{ReadToEnd};
-ghost use Rattle.am_verdicts.specs.Lines.{read_text};
+ghost use Rattle.am_audit_defs.specs.Lines.{read_text};
 ghost use Rattle.am_player.specs.Statuses.{most_input, IfBadScript, Took, Wrote};
 ghost use Rattle.am_sim.specs.Simulation.{IsAudited, Audited, HasVerdict, Judges, IfBadText, IsUnaudited};
 
@@ -11,7 +11,7 @@ use am_io::outside::{Sink, Source};
 use am_io::whole::{ReadRefusal, read_all, write_all};
 use am_player::play::INPUT_MOST;
 use am_player::read_input;
-use am_player::status::Status;
+use am_player::status::ExitStatus;
 use std::alloc::Global;
 
 /// The line of the verdict on a text, and whether that agrees.
@@ -30,10 +30,10 @@ fn verdict_line(alloc: Global, bytes: &[u8]) -> Result<(String, bool), TextRefus
 }
 
 /// Reads a text to its end, and writes the line of its verdict.
-#[tactic(auto, using(am_player::proofs::Given::gave_whole))]
-pub fn audit_text<S: Source, K: Sink>(alloc: Global, source: &mut S, sink: &mut K) -> Status
-    ensures not_usage { result ≢ Status.Usage }
-    ensures not_spent { result ≢ Status.Spent }
+#[tactic(auto, using(am_player::proofs::Given::source_gave_whole_within_limit))]
+pub fn audit_text<S: Source, K: Sink>(alloc: Global, source: &mut S, sink: &mut K) -> ExitStatus
+    ensures not_usage { result ≢ ExitStatus.Usage }
+    ensures not_spent { result ≢ ExitStatus.Spent }
     ensures took { Took S.left S.count most_input result source.old source.new }
     ensures no_script { IfBadScript result (λ cause. ⊥) }
     ensures bad_text { IfBadText result (λ line. (bytes : List ℕ)
@@ -45,17 +45,17 @@ pub fn audit_text<S: Source, K: Sink>(alloc: Global, source: &mut S, sink: &mut 
     let bytes = read_input!(alloc, source, INPUT_MOST);
     let (line, right) = match verdict_line(alloc, bytes.as_slice()) {
         Ok(found) => found,
-        Err(TextRefusal::NoMemory) => return Status::NoMemory,
-        Err(TextRefusal::BadLine { line }) => return Status::BadText { line },
+        Err(TextRefusal::NoMemory) => return ExitStatus::NoMemory,
+        Err(TextRefusal::BadLine { line }) => return ExitStatus::BadText { line },
     };
     match write_all(sink, line.as_bytes()) {
         Ok(()) => {
             if right {
-                Status::Done
+                ExitStatus::Done
             } else {
-                Status::Disagrees
+                ExitStatus::Disagrees
             }
         }
-        Err(_) => Status::WriteFault,
+        Err(_) => ExitStatus::WriteFault,
     }
 }

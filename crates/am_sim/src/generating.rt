@@ -1,22 +1,22 @@
 ghost use Rattle.std.specs.Prelude.{◌≡◌, ◌<◌, ◌≤◌, Ok, IfOk, IfErr, string_bytes};
 ghost use Rattle.am_base.specs.Most.{most_events};
-ghost use Rattle.am_play.specs.Play.{summary_text_of};
-ghost use Rattle.am_texts.specs.Summaries.{summary_for};
-ghost use Rattle.am_pump.specs.Courses.{IsCourse};
+ghost use Rattle.am_group_defs.specs.Play.{summary_text_of};
+ghost use Rattle.am_text_output.specs.Summaries.{summary_for};
+ghost use Rattle.am_generator.specs.Courses.{IsCourse};
 ghost use Rattle.am_world.specs.Runs.{Play};
 ghost use Rattle.am_world.specs.declared.world.WorldRefusal.TheVariants as refusals;
 ghost use Rattle.am_player.specs.Statuses.{Wrote};
 ghost use Rattle.am_sim.specs.Simulation.{Generated, GeneratedScript, EndsGen};
 
 use am_base::NoMemory;
+use am_cli_words::form::SeedAndCount;
+use am_generator::course::Course;
+use am_generator::generate::{founding, generate, generate_events};
 use am_io::outside::Sink;
 use am_io::whole::write_all;
-use am_player::status::Status;
-use am_pump::course::Course;
-use am_pump::generate::{founding, generate, generate_events};
-use am_texts::script::script_text;
-use am_texts::summary::{Summary, summary_text};
-use am_words::form::Numbers;
+use am_player::status::ExitStatus;
+use am_text_output::script::script_text;
+use am_text_output::summary::{Summary, summary_text};
 use am_world::world::WorldRefusal;
 use std::alloc::Global;
 
@@ -50,7 +50,7 @@ fn summary_of(course: &Course) -> Summary
 }
 
 /// The summary of their run.
-pub fn summary_of_run(alloc: Global, numbers: Numbers) -> Result<String, NoMemory>
+pub fn summary_of_run(alloc: Global, numbers: SeedAndCount) -> Result<String, NoMemory>
     requires { numbers.count ≤ most_events }
     ensures { IfOk result (λ text. Generated numbers (string_bytes text)) }
 {
@@ -62,7 +62,7 @@ pub fn summary_of_run(alloc: Global, numbers: Numbers) -> Result<String, NoMemor
 }
 
 /// The script of their run, in one line.
-pub fn script_of_run(alloc: Global, numbers: Numbers) -> Result<String, NoMemory>
+pub fn script_of_run(alloc: Global, numbers: SeedAndCount) -> Result<String, NoMemory>
     requires { numbers.count ≤ most_events }
     ensures { IfOk result (λ text. GeneratedScript numbers (string_bytes text)) }
 {
@@ -75,16 +75,16 @@ pub fn script_of_run(alloc: Global, numbers: Numbers) -> Result<String, NoMemory
 }
 
 /// Makes the run of two numbers, and writes its script.
-pub fn generate_script<K: Sink>(alloc: Global, numbers: Numbers, sink: &mut K) -> Status
+pub fn generate_script<K: Sink>(alloc: Global, numbers: SeedAndCount, sink: &mut K) -> ExitStatus
     requires { numbers.count ≤ most_events }
     ensures generates { EndsGen result }
     ensures wrote { Wrote K.contents K.count (GeneratedScript numbers) result sink.old sink.new }
 {
     let Ok(text) = script_of_run(alloc, numbers) else {
-        return Status::NoMemory;
+        return ExitStatus::NoMemory;
     };
     if write_all(sink, text.as_bytes()).is_err() {
-        return Status::WriteFault;
+        return ExitStatus::WriteFault;
     }
-    Status::Done
+    ExitStatus::Done
 }

@@ -11,9 +11,9 @@ mod racing;
 pub mod simulate;
 mod speaking;
 
-use am_calls::gate::NoGate;
+use am_calls::gate::NoHook;
 use am_io::standard::{StdSink, StdSource};
-use am_player::status::Status;
+use am_player::status::ExitStatus;
 use am_player::telling::tell;
 use simulate::simulate;
 use std::alloc::Global;
@@ -24,15 +24,15 @@ use std::thread::Threads;
 use std::{env, io};
 
 /// The process's words; else how the call ends: where one isn't UTF-8 they have no form, and there may be no memory for them.
-fn words_of(rt: &HostRuntime) -> Result<Vec<String>, Status> {
+fn words_of(rt: &HostRuntime) -> Result<Vec<String>, ExitStatus> {
     match env::args(rt) {
         Ok(args) => match args.collect(rt.alloc()) {
             Ok(words) => Ok(words),
-            Err(_) => Err(Status::NoMemory),
+            Err(_) => Err(ExitStatus::NoMemory),
         },
         Err(error) => match error.kind() {
-            ErrorKind::InvalidData => Err(Status::Usage),
-            _ => Err(Status::NoMemory),
+            ErrorKind::InvalidData => Err(ExitStatus::Usage),
+            _ => Err(ExitStatus::NoMemory),
         },
     }
 }
@@ -44,16 +44,16 @@ fn answer<R: Threads + Wait + Sync>(
     input: io::Stdin,
     output: io::Stdout,
     owned: &[String],
-) -> Status {
+) -> ExitStatus {
     let mut words = Vec::new(alloc);
     for word in owned.iter().skip(1) {
         if words.push(word.as_str()).is_err() {
-            return Status::NoMemory;
+            return ExitStatus::NoMemory;
         }
     }
     let mut source = StdSource::new(input);
     let mut sink = StdSink::new(output);
-    simulate(rt, alloc, &NoGate, words.as_slice(), &mut source, &mut sink)
+    simulate(rt, alloc, &NoHook, words.as_slice(), &mut source, &mut sink)
 }
 
 /// Does what the process's words ask for, from standard input to standard output.

@@ -1,7 +1,7 @@
 use crate::simulate::simulate;
 use am_calls::gate::Meeting;
-use am_player::status::Status;
-use am_texts::memory::{MemSink, MemSource};
+use am_player::status::ExitStatus;
+use am_text_output::memory::{MemSink, MemSource};
 use std::alloc::Global;
 use std::sync::Wait;
 use std::test::*;
@@ -20,7 +20,7 @@ fn meets<R: Threads + Wait + Sync>(rt: &R, alloc: Global) -> Result<Option<bool>
     let mut source = MemSource::new(RACE, &[], 4096);
     let mut sink = MemSink::new(alloc, &[], 4096, 65_536)?;
     match simulate(rt, alloc, &gate, &["race"], &mut source, &mut sink) {
-        Status::Done => Ok(Some(gate.has_met())),
+        ExitStatus::Done => Ok(Some(gate.has_met())),
         _ => Ok(None),
     }
 }

@@ -1,40 +1,40 @@
 ghost use Rattle.std.specs.Prelude.{◌≡◌, ◌≢◌, IfOk, string_bytes};
-ghost use Rattle.am_play.specs.Lawful.{watch_run};
+ghost use Rattle.am_group_defs.specs.Lawful.{watch_run};
 ghost use Rattle.am_world.specs.Runs.{replay};
 ghost use Rattle.am_player.specs.Runs.{logged_in};
 ghost use Rattle.am_sim.specs.Playing.{shown_text};
 
 use am_base::NoMemory;
 use am_base::name::Name;
+use am_cli_words::form::RunText;
 use am_io::buffered::Buffered;
 use am_io::outside::Sink;
-use am_player::shows::{PlayText, Ran, Shows};
+use am_player::shows::{PlayText, PlayedWorld, Shows};
 use am_services::directories::directories_text;
 use am_services::messages::messages_text;
 use am_services::snapshots::snapshots_text;
-use am_words::form::Shown;
 use am_world::world::World;
 use std::alloc::Global;
 
 /// What is shown of what a world did, but for its text, made whole. The names are those that have or had a list.
 fn text_of_world(
     alloc: Global,
-    shown: Shown,
+    shown: RunText,
     world: &World,
     names: &[Name],
 ) -> Result<String, NoMemory>
     requires named { names.now ≡ logged_in (replay world.now) }
-    requires other { shown ≢ Shown.Text }
+    requires other { shown ≢ RunText.Text }
     ensures { IfOk result (λ text. string_bytes text
         ≡ shown_text shown world.now.rules (watch_run world.now.rules world.now.events)) }
 {
     let broken = world.broken_at();
     let journal = world.journal();
     match shown {
-        Shown::Text => unreachable!(),
-        Shown::Messages => messages_text(alloc, journal.records(), names, broken),
-        Shown::Directories => directories_text(alloc, journal, names, broken),
-        Shown::Snapshots => snapshots_text(alloc, journal, names, broken),
+        RunText::Text => unreachable!(),
+        RunText::Messages => messages_text(alloc, journal.records(), names, broken),
+        RunText::Directories => directories_text(alloc, journal, names, broken),
+        RunText::Snapshots => snapshots_text(alloc, journal, names, broken),
     }
 }
 
@@ -44,15 +44,19 @@ pub struct ShownRun {
     /// Where texts are made.
     pub alloc: Global,
     /// What that is.
-    pub shown: Shown,
+    pub shown: RunText,
 }
 
 impl Shows for ShownRun {
     ghost text = { λ it. shown_text it.shown };
 
-    fn show<K: Sink>(&self, ran: &Ran<'_>, out: &mut Buffered<'_, K>) -> Result<(), NoMemory> {
+    fn show<K: Sink>(
+        &self,
+        ran: &PlayedWorld<'_>,
+        out: &mut Buffered<'_, K>,
+    ) -> Result<(), NoMemory> {
         match self.shown {
-            Shown::Text => PlayText.show(ran, out),
+            RunText::Text => PlayText.show(ran, out),
             shown => {
                 let text = text_of_world(self.alloc, shown, ran.world, ran.names)?;
                 out.write(text.as_bytes());

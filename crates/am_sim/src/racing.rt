@@ -3,10 +3,10 @@ ghost use Rattle.std.specs.Fmt.{WritesInCalls};
 ghost use Rattle.am_base.specs.Most.{most_events};
 ghost use Rattle.am_group.specs.declared.event.Record.{Record};
 ghost use Rattle.am_io.specs.Buffers.{Goes};
-ghost use Rattle.am_play.specs.Play.{text_of};
-ghost use Rattle.am_play.specs.Text.{newline};
+ghost use Rattle.am_group_defs.specs.Play.{text_of};
+ghost use Rattle.am_group_defs.specs.Text.{newline};
 ghost use Rattle.am_player.specs.Runs.{logged_in};
-ghost use Rattle.am_schedules.specs.RaceLimits.{RaceWithin};
+ghost use Rattle.am_script_defs.specs.RaceLimits.{RaceWithin};
 ghost use Rattle.am_world.specs.Runs.{replay};
 ghost use Rattle.am_sim.specs.Racing.{events_of, race_text, IsRaced, IsReadAgain, IsRaceText};
 
@@ -14,7 +14,7 @@ use am_base::NoMemory;
 use am_base::founding::Founding;
 use am_base::items::Items;
 use am_base::name::Name;
-use am_calls::gate::Gate;
+use am_calls::gate::TestHook;
 use am_calls::race::race;
 use am_group::event::{Event, Record};
 use am_group::plan::RacePlan;
@@ -23,7 +23,7 @@ use am_io::outside::Sink;
 use am_io::writer::Writer;
 use am_player::run::{logged_names, play_out};
 use am_player::shows::push_run;
-use am_texts::script::script_text;
+use am_text_output::script::script_text;
 use am_world::world::{World, WorldRefusal};
 use std::alloc::Global;
 use std::sync::Wait;
@@ -41,7 +41,7 @@ pub(crate) fn events_of(alloc: Global, records: &[Record]) -> Result<Items<Event
 }
 
 /// What was done in a race. The journal that it left is let go, since the run of these events keeps one of its own.
-fn events_of_race<R: Threads + Wait + Sync, G: Gate + Sync>(
+fn events_of_race<R: Threads + Wait + Sync, G: TestHook + Sync>(
     rt: &R,
     alloc: Global,
     gate: &G,
@@ -103,7 +103,7 @@ fn write_events<K: Sink>(
 
 /// Writes the text of a race: what was done as a script, in one line, and the text of the run of that. After an error nothing was
 /// written.
-pub fn write_race<R: Threads + Wait + Sync, G: Gate + Sync, K: Sink>(
+pub fn write_race<R: Threads + Wait + Sync, G: TestHook + Sync, K: Sink>(
     rt: &R,
     alloc: Global,
     gate: &G,

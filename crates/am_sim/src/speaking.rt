@@ -1,14 +1,14 @@
 ghost use Rattle.std.specs.Prelude.{◌≡◌};
-ghost use Rattle.am_player.specs.Statuses.{reads_after, writes_after};
+ghost use Rattle.am_player.specs.Statuses.{source_reads_after, sink_writes_after};
 ghost use Rattle.am_sim.specs.Simulation.{form_of_words};
 ghost use Rattle.am_sim.specs.Speaking.{node_in, status_of, Spoken};
 
+use am_cli_words::form::{Form, form_of};
+use am_cli_words::node::NodeWords;
 use am_io::outside::{Sink, Source};
-use am_lines::ending::SpokenEnd;
-use am_lines::speaking::speak;
-use am_player::status::Status;
-use am_words::form::{Form, form_of};
-use am_words::node::NodeWords;
+use am_node_lines::ending::SpokenEnd;
+use am_node_lines::speaking::speak;
+use am_player::status::ExitStatus;
 use std::alloc::Global;
 use std::sync::Wait;
 
@@ -29,14 +29,14 @@ pub fn node_in(words: &[&str]) -> Option<NodeWords>
 }
 
 /// The status of how a node's speaking ended.
-fn status_of(end: SpokenEnd) -> Status
+fn status_of(end: SpokenEnd) -> ExitStatus
     ensures { result ≡ status_of end }
 {
     match end {
-        SpokenEnd::Done => Status::Done,
-        SpokenEnd::ReadFault => Status::ReadFault,
-        SpokenEnd::WriteFault => Status::WriteFault,
-        SpokenEnd::NoMemory => Status::NoMemory,
+        SpokenEnd::Done => ExitStatus::Done,
+        SpokenEnd::ReadFault => ExitStatus::ReadFault,
+        SpokenEnd::WriteFault => ExitStatus::WriteFault,
+        SpokenEnd::NoMemory => ExitStatus::NoMemory,
     }
 }
 
@@ -48,7 +48,7 @@ pub fn speak_node<R: Wait, S: Source, K: Sink>(
     node: &NodeWords,
     source: &mut S,
     sink: &mut K,
-) -> Status
+) -> ExitStatus
     ensures spoken { Spoken node.now result (S.left source.old) (S.left source.new)
         (K.contents sink.old) (K.contents sink.new) }
     ensures reads { S.count source.new ≡ reads_after result (S.count source.old) }

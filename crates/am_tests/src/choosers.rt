@@ -1,5 +1,5 @@
-use am_chooser::chooser::Chooser;
-use am_sharing::choice::Choice;
+use am_shared_journal_defs::choice::Choice;
+use am_turn_chooser::chooser::Chooser;
 use std::test::*;
 
 /// The letter ahead, or 0, the last one that was heard, or 0, and what is chosen.

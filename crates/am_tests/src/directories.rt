@@ -1,5 +1,5 @@
-use am_dir::directory::Directory;
-use am_replicas::applied::Applied;
+use am_directory::directory::Directory;
+use am_service_defs::applied::Applied;
 use std::test::*;
 
 #[test]

@@ -2,7 +2,7 @@ use am_base::entry::{Entry, EntryParts};
 use am_base::founding::Founding;
 use am_base::name::Name;
 use am_base::names::Names;
-use am_list::group::Group;
+use am_group_list::group::Group;
 use std::alloc::Global;
 use std::test::*;
 

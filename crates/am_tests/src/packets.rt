@@ -2,7 +2,6 @@ use crate::wrong_fields::FAULTS;
 use am_base::entry::{EntryParts, EntryRef};
 use am_base::image::Report;
 use am_base::names::Names;
-use am_letter::letter::letter_of;
 use am_packet::PacketRefusal;
 use am_packet::packet::Packet;
 use am_packet::vectors::{
@@ -10,7 +9,8 @@ use am_packet::vectors::{
     INVITE, JOIN_ASK, LEAVE_ASK, NACK, ORDER, PIECE_DATA, PIECE_JOIN, PIECE_LEAVE, PIECE_VIEW,
     REQUEST, RESULT, SPREAD, VOTE, WELCOME,
 };
-use am_reader::reader::decode;
+use am_packet_reader::reader::decode;
+use am_packet_writer::letter::letter_of;
 use std::alloc::Global;
 use std::test::*;
 

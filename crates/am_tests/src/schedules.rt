@@ -2,7 +2,7 @@ use am_base::founding::Founding;
 use am_base::name::Name;
 use am_base::names::Names;
 use am_group::event::{Act, Event};
-use am_texts::script::script_text;
+use am_text_output::script::script_text;
 use std::test::*;
 
 /// The script of one event each.

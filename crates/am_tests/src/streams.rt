@@ -1,7 +1,7 @@
 use am_io::buffered::Buffered;
 use am_io::outside::{Sink, Source};
 use am_io::whole::{ReadRefusal, read_all, write_all};
-use am_texts::memory::{MemSink, MemSource};
+use am_text_output::memory::{MemSink, MemSource};
 use std::alloc::Global;
 use std::test::*;
 

@@ -3,7 +3,7 @@ use am_base::founding::Founding;
 use am_base::items::Items;
 use am_base::name::Name;
 use am_base::names::Names;
-use am_calls::gate::Gate;
+use am_calls::gate::TestHook;
 use am_calls::plans::may_race;
 use am_calls::race::race;
 use am_group::event::{Act, By};
@@ -53,7 +53,7 @@ fn receives(alloc: Global, many: u32) -> Result<Items<Act>, NoMemory> {
 }
 
 /// How many records a race leaves; none where there was no memory, or it is none.
-fn records_of<R: Threads + Wait + Sync, G: Gate + Sync>(
+fn records_of<R: Threads + Wait + Sync, G: TestHook + Sync>(
     rt: &R,
     alloc: Global,
     plan: &RacePlan,
@@ -95,7 +95,7 @@ impl Counting {
     }
 }
 
-impl Gate for Counting {
+impl TestHook for Counting {
     fn between(&self, node: Name, by: &By) {
         self.nodes[usize::from(node.place() % 2)].fetch_add(1, Ordering::SeqCst);
         self.callers[(by.caller % 2) as usize].fetch_add(1, Ordering::SeqCst);

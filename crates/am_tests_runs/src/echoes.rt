@@ -6,19 +6,19 @@ use am_base::body::Body;
 use am_base::entry::Entry;
 use am_base::name::Name;
 use am_calls::caller::Caller;
-use am_calls::gate::{Gate, NoGate};
+use am_calls::gate::{NoHook, TestHook};
 use am_calls::job::{Job, let_do};
 use am_calls::kernels::Kernels;
 use am_calls::naming::Racing;
 use am_group::plan::RacePlan;
-use am_races::answer::Answer;
+use am_race_laws::answer::CallAnswer;
 use std::alloc::Global;
 use std::sync::Wait;
 use std::test::*;
 use std::thread::Threads;
 
 /// Receives, and sends what it received; whether it did both.
-fn echo_once<R: Wait, N: Racing, G: Gate>(
+fn echo_once<R: Wait, N: Racing, G: TestHook>(
     rt: &R,
     kernels: &Kernels<N, G>,
     caller: &mut Caller<N>,
@@ -30,14 +30,18 @@ fn echo_once<R: Wait, N: Racing, G: Gate>(
         return false;
     }
     let answer = kernels.receive(rt, caller, node);
-    let Answer::Took {
+    let CallAnswer::Took {
         entry: Entry::Data { body, .. },
         ..
     } = answer
     else {
         return false;
     };
-    caller.may_call() && matches!(kernels.send(rt, caller, node, body), Answer::Sent { .. })
+    caller.may_call()
+        && matches!(
+            kernels.send(rt, caller, node, body),
+            CallAnswer::Sent { .. }
+        )
 }
 
 /// Sends a body, receives the founders' View, and twice receives and sends what it received.
@@ -46,7 +50,7 @@ struct Echo;
 impl Job for Echo {
     ghost did = { λ _ _. Unit {0} };
 
-    fn run<R: Wait, N: Racing, G: Gate>(
+    fn run<R: Wait, N: Racing, G: TestHook>(
         &self,
         rt: &R,
         kernels: &Kernels<N, G>,
@@ -74,7 +78,7 @@ pub fn echo_twice<R: Threads + Wait + Sync>(
     if plan.threads.as_slice().len() > 16 {
         return Ok(0);
     }
-    Ok(let_do(rt, alloc, plan, &NoGate, &Echo)?.records().len())
+    Ok(let_do(rt, alloc, plan, &NoHook, &Echo)?.records().len())
 }
 
 // A send leaves its act and its check, and a receive its Take.

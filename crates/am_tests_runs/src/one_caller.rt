@@ -2,11 +2,11 @@ use crate::calls::plan_of;
 use am_base::body::Body;
 use am_base::name::Name;
 use am_calls::caller::Caller;
-use am_calls::gate::{Gate, NoGate};
+use am_calls::gate::{NoHook, TestHook};
 use am_calls::job::{Job, let_do};
 use am_calls::kernels::Kernels;
 use am_calls::naming::Racing;
-use am_races::answer::Answer;
+use am_race_laws::answer::CallAnswer;
 use std::sync::atomic::{AtomicU64, Ordering};
 use std::sync::{Mutex, Wait};
 use std::test::*;
@@ -16,12 +16,12 @@ use std::test::*;
 #[derive(Drop)]
 struct EachCall {
     top: AtomicU64,
-    answers: Mutex<Vec<Answer>>,
+    answers: Mutex<Vec<CallAnswer>>,
 }
 
 impl EachCall {
     /// Notes an answer.
-    fn note<R: Wait>(&self, rt: &R, answer: Answer) {
+    fn note<R: Wait>(&self, rt: &R, answer: CallAnswer) {
         let _noted = self.answers.lock(rt).push(answer);
     }
 }
@@ -29,7 +29,7 @@ impl EachCall {
 impl Job for EachCall {
     ghost did = { λ _ _. Unit {0} };
 
-    fn run<R: Wait, N: Racing, G: Gate>(
+    fn run<R: Wait, N: Racing, G: TestHook>(
         &self,
         rt: &R,
         kernels: &Kernels<N, G>,
@@ -53,23 +53,23 @@ impl Job for EachCall {
 }
 
 /// Whether these are the answers to the calls of one that founds alone and has three turns a call.
-fn are_right(answers: &[Answer]) -> bool {
+fn are_right(answers: &[CallAnswer]) -> bool {
     let [sent, view, data, late, joined, decided, left, stopped] = answers else {
         return false;
     };
-    let takes = matches!(view, Answer::Took { number: 1, .. })
-        && matches!(data, Answer::Took { number: 2, .. })
-        && matches!(late, Answer::Late { turns: 3 });
+    let takes = matches!(view, CallAnswer::Took { number: 1, .. })
+        && matches!(data, CallAnswer::Took { number: 2, .. })
+        && matches!(late, CallAnswer::Late { turns: 3 });
     let is_alone = match decided {
-        Answer::Decided { number: 3, members } => members.mask() == 1,
+        CallAnswer::Decided { number: 3, members } => members.mask() == 1,
         _ => false,
     };
-    matches!(sent, Answer::Sent { req: 1, number: 2 })
+    matches!(sent, CallAnswer::Sent { req: 1, number: 2 })
         && takes
-        && matches!(joined, Answer::Joined { number: 1 })
+        && matches!(joined, CallAnswer::Joined { number: 1 })
         && is_alone
-        && matches!(left, Answer::Left)
-        && matches!(stopped, Answer::StopDone)
+        && matches!(left, CallAnswer::Left)
+        && matches!(stopped, CallAnswer::StopDone)
 }
 
 #[test]
@@ -80,7 +80,7 @@ fn each_call_is_answered(rt: HostRuntime) -> Result<(), Fail> {
         answers: Mutex::new(Vec::new(rt.alloc())),
     };
     assert!(rt; plan.threads.as_slice().len() == 1);
-    let _journal = let_do(&rt, rt.alloc(), &plan, &NoGate, &calls)?;
+    let _journal = let_do(&rt, rt.alloc(), &plan, &NoHook, &calls)?;
     assert!(rt; calls.top.load(Ordering::SeqCst) == 1);
     assert!(rt; are_right(calls.answers.lock(&rt).as_slice()));
     Ok(())

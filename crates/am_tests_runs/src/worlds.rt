@@ -4,7 +4,7 @@ use am_base::founding::Founding;
 use am_base::name::Name;
 use am_base::names::Names;
 use am_group::event::{Act, Event};
-use am_list::delivered::deliveries;
+use am_group_list::delivered::deliveries;
 use am_world::records::broken_at;
 use am_world::settle::settle;
 use am_world::world::World;

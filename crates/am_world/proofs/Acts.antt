@@ -1,28 +1,28 @@
 -- A name's node does a step.
 use Rattle.am_world.proofs.Words.{◌≡◌, ℕ, ◌+◌, ◌-◌, ◌<◌, ◌≤◌, ◌==◌, max, Bool, true, false, if◌then◌else◌, List, [], ◌∷◌, ◌++◌, length, take, drop, Ok, Some}
 use Rattle.am_world.proofs.Words.{slice_get, slice_set, refl, sym, ap, ◌∙◌, subst, arith, length-append, length-drop, length-take, length-set, drop-drop}
-use Rattle.am_world.proofs.Words.{nat_tests, most_events, Entry, Image, Stamp, Outcome, NodeEvent, Rules, place_of, Letter, CoreState, IsInOrder, end-told}
+use Rattle.am_world.proofs.Words.{nat_tests, most_events, Entry, Image, Stamp, Outcome, NodeEvent, Rules, place_of, Letter, CoreState, IsInOrder, told_by_end_is_told}
 use Rattle.am_world.proofs.Words.{Event, Record, view, step, happens, current, with_step, group_with, group_after, record_of, IsEndOf, Node, state_of}
-use Rattle.am_world.proofs.Words.{HasNumbersLeft, Play, replay, after, AreNodes, AreLives, AreFlags, IsRun, play_of, Answers, comes, IsReadyAt, StepsAt}
-use Rattle.am_world.proofs.Words.{end_high, step_end, NodeNumbers, get_some}
+use Rattle.am_world.proofs.Words.{HasNumbersLeft, Play, replay, play_after, AreNodes, AreLives, AreFlags, IsRun, play_of, EventIsAnswered, comes, IsReadyAt, StepsAt}
+use Rattle.am_world.proofs.Words.{node_end_has_same_top, whole_step_comes_to_end, NodeNumbers, slice_get_some_below_length}
 use Rattle.am_model.specs.Node as protocol
-use Rattle.am_play.specs.World as model
-use Rattle.am_laws.proofs.Fresh.{place_now}
-use Rattle.am_world.proofs.{Numbers.low, Numbers.trimmed_low, Spots.get_set_here, Spots.get_set_other, Begins.Keeps, Goes.IsRecorded}
-use Rattle.am_world.proofs.{Goes.Follows, Goes.goes_on, Goes.shows_at, Goes.replay_after}
+use Rattle.am_group_defs.specs.World as model
+use Rattle.am_step_laws.proofs.Watching.Fresh.{place_of_name_at}
+use Rattle.am_world.proofs.{Numbers.node_numbers_le_run_length, Numbers.base_le_group_length, Spots.slice_get_where_set, Spots.slice_get_beside_set, Begins.NodeKeepsEndInOrder, Goes.EventIsRecorded}
+use Rattle.am_world.proofs.{Goes.WorldFollowsEvent, Goes.world_that_follows_carries_on, Goes.play_shows_its_replay, Goes.replay_with_next_event}
 
 -- ---- the end of a node
 
-pub end_view : (all m : protocol.Node) → IsEndOf all m → view m ≡ view all
-end_view all m is = ap (λ (i : Image). i.view) (end-told all.core.log m.core.log is.stands.kept)
+end_view : (all m : protocol.Node) → IsEndOf all m → view m ≡ view all
+end_view all m is = ap (λ (i : Image). i.view) (told_by_end_is_told all.core.log m.core.log is.stands.kept)
 
-pub end_who : (all m : protocol.Node) → IsEndOf all m → m.core.who ≡ all.core.who
+end_who : (all m : protocol.Node) → IsEndOf all m → m.core.who ≡ all.core.who
 end_who all m is = ap (λ (n : protocol.Node). n.core.who) is.same
 
-pub end_base : (all m : protocol.Node) → IsEndOf all m → m.core.base ≡ all.core.base
-end_base all m is = ap (λ (n : protocol.Node). n.core.base) is.same
+pub base_of_node_end : (all m : protocol.Node) → IsEndOf all m → m.core.base ≡ all.core.base
+base_of_node_end all m is = ap (λ (n : protocol.Node). n.core.base) is.same
 
-pub end_accepted : (all m : protocol.Node) → IsEndOf all m → m.core.acc ≡ all.core.acc
+end_accepted : (all m : protocol.Node) → IsEndOf all m → m.core.acc ≡ all.core.acc
 end_accepted all m is = ap (λ (n : protocol.Node). n.core.acc) is.same
 
 -- the group list grows the same by a node and by its end, where that isn't trimmed beyond the group list
@@ -39,7 +39,7 @@ grown_end group all m is base_low =
 if_same : {A : Type 0} (b : Bool) (x y z : A) → x ≡ y → (if b then x else z) ≡ (if b then y else z)
 if_same b x y z e = ap (λ v. if b then v else z) e
 
-pub group_end : (group : List Entry) (all m : protocol.Node) → IsEndOf all m → m.core.base ≤ length group → group_after group m ≡ group_after group all
+group_end : (group : List Entry) (all m : protocol.Node) → IsEndOf all m → m.core.base ≤ length group → group_after group m ≡ group_after group all
 group_end group all m is base_low =
     if_same ((view m).by == m.core.who) (group_with group m.core) (group_with group all.core) group (grown_end group all m is base_low)
     ∙ ap (λ k. if k == m.core.who then group_with group all.core else group) (ap (λ (s : Stamp). s.by) (end_view all m is))
@@ -48,7 +48,7 @@ group_end group all m is base_low =
 grown_short : (group : List Entry) (core : CoreState) (most : ℕ) → length group ≤ most → core.acc ≤ most → length (group_with group core) ≤ most
 grown_short group core most g a = simp (length-append, length-take, length-drop) (omega arith)
 
-pub group_short : (group : List Entry) (m : protocol.Node) (most : ℕ) → length group ≤ most → m.core.acc ≤ most → length (group_after group m) ≤ most
+group_short : (group : List Entry) (m : protocol.Node) (most : ℕ) → length group ≤ most → m.core.acc ≤ most → length (group_after group m) ≤ most
 group_short group m most g a = go ((view m).by == m.core.who)
   where
     go : (b : Bool) → length (if b then group_with group m.core else group) ≤ most
@@ -58,55 +58,55 @@ group_short group m most g a = go ((view m).by == m.core.who)
 -- ---- before the step
 
 -- the world after it
-abbrev pub next_world : model.World → Event → NodeEvent → model.World
-next_world w e what = comes w e (Ok what)
+abbrev pub world_after_node_event : model.World → Event → NodeEvent → model.World
+world_after_node_event w e what = comes w e (Ok what)
 
 next_node : (w : model.World) (e : Event) (what : NodeEvent)
-    → (next_world w e what).nodes (current w (place_of e.node)) ≡ (step (w.nodes (current w (place_of e.node))) what).node
+    → (world_after_node_event w e what).nodes (current w (place_of e.node)) ≡ (step (w.nodes (current w (place_of e.node))) what).node
 unfolding with_step
 next_node w e what = let same : (current w (place_of e.node) == current w (place_of e.node)) ≡ true = grind (arith, nat_tests) in rw same refl
 
 numbers_left : (events accepted : ℕ) (all m : protocol.Node) → events < most_events → NodeNumbers events accepted all → IsEndOf all m → HasNumbersLeft m
 numbers_left events accepted all m few lows is =
-    let high = end_high all m is in
+    let high = node_end_has_same_top all m is in
     let round = ap (λ (n : protocol.Node). n.core.promise.round) is.same in
     let last = ap (λ (n : protocol.Node). n.sends.last) is.same in
     record { entries = omega arith; rounds = omega arith; requests = omega arith }
 
 -- what a step comes to is low, and isn't trimmed beyond the group list
-pub next_low : (p : Play) (e : Event) (what : NodeEvent) (n : protocol.Node) → happens (replay p) e ≡ next_world (replay p) e what
+next_low : (p : Play) (e : Event) (what : NodeEvent) (n : protocol.Node) → happens (replay p) e ≡ world_after_node_event (replay p) e what
     → IsEndOf (step ((replay p).nodes (current (replay p) (place_of e.node))) what).node n → IsInOrder n.core → (n.core.base ≤ length (replay p).group)
     × (n.core.acc ≤ length p.events + 2)
 next_low p e what n is end order =
     let w = replay p in
     let name = current w (place_of e.node) in
     let s = (step (w.nodes name) what).node in
-    let now : (replay (after p e)).nodes name ≡ s = ap (λ (v : model.World). v.nodes name) (replay_after p e ∙ is) ∙ next_node w e what in
-    let base = end_base s n end in
+    let now : (replay (play_after p e)).nodes name ≡ s = ap (λ (v : model.World). v.nodes name) (replay_with_next_event p e ∙ is) ∙ next_node w e what in
+    let base = base_of_node_end s n end in
     let here : (happens w e).nodes name ≡ s = ap (λ (v : model.World). v.nodes name) is ∙ next_node w e what in
-    let trimmed : s.core.base ≤ length w.group = subst (λ (m : protocol.Node). m.core.base ≤ length w.group) here (trimmed_low p.rules p.events e) in
+    let trimmed : s.core.base ≤ length w.group = subst (λ (m : protocol.Node). m.core.base ≤ length w.group) here (base_le_group_length p.rules p.events e) in
     let l = length-append p.events (e ∷ []) in
-    let high = end_high s n end in
-    let stored = (subst (NodeNumbers (length (p.events ++ e ∷ [])) (length (replay (after p e)).group)) now (low p.rules (p.events ++ e ∷ []) name)).entries in
+    let high = node_end_has_same_top s n end in
+    let stored = (subst (NodeNumbers (length (p.events ++ e ∷ [])) (length (replay (play_after p e)).group)) now (node_numbers_le_run_length p.rules (p.events ++ e ∷ []) name)).entries in
     (omega arith, omega arith)
 
-pub ready_at : (p : Play) (first : Rules) (nodes : List Node) (lives : List ℕ) (flags : List Bool) (records : List Record) (group : List Entry) (e : Event)
+pub node_is_ready_at_place : (p : Play) (first : Rules) (nodes : List Node) (lives : List ℕ) (flags : List Bool) (records : List Record) (group : List Entry) (e : Event)
     (what : NodeEvent) (name stored room : ℕ)
     → play_of first records ≡ p → IsRun (play_of first records) nodes lives flags records group → length p.events < most_events
-    → name ≡ current (replay p) (place_of e.node) → happens (replay p) e ≡ next_world (replay p) e what
+    → name ≡ current (replay p) (place_of e.node) → happens (replay p) e ≡ world_after_node_event (replay p) e what
     → stored ≡ length group → max (length p.events + 2) stored ≤ room → IsReadyAt nodes (place_of name) what stored room
-ready_at p first nodes lives flags records group e what name stored room view ok few here is all_stored has_room = λ n at.
+node_is_ready_at_place p first nodes lives flags records group e what name stored room view ok few here is all_stored has_room = λ n at.
     let w = replay p in
     let place = place_of e.node in
     let within : place < 16 = omega arith in
-    let was = shows_at p first nodes lives flags records group view ok in
-    let placed : place_of name ≡ place = ap place_of here ∙ place_now place (w.lives place) within in
+    let was = play_shows_its_replay p first nodes lives flags records group view ok in
+    let placed : place_of name ≡ place = ap place_of here ∙ place_of_name_at place (w.lives place) within in
     let stands = was.standing.each place n (ap (slice_get nodes) (sym placed) ∙ at) in
     let agreed = ap length was.agreed in
     record {
-      numbers = numbers_left (length p.events) (length w.group) (w.nodes (current w place)) (state_of n) few (low p.rules p.events (current w place)) stands.0;
+      numbers = numbers_left (length p.events) (length w.group) (w.nodes (current w place)) (state_of n) few (node_numbers_le_run_length p.rules p.events (current w place)) stands.0;
       grows = λ outcome letters m does order.
-          let done = step_end (w.nodes (current w place)) (state_of n) m what outcome letters stands.0 stands.1 does in
+          let done = whole_step_comes_to_end (w.nodes (current w place)) (state_of n) m what outcome letters stands.0 stands.1 does in
           let lows = next_low p e what m is done.node order in
           (omega arith, omega arith);
     }
@@ -114,7 +114,7 @@ ready_at p first nodes lives flags records group e what name stored room view ok
 -- ---- after it
 
 nodes_step : (w : model.World) (e : Event) (what : NodeEvent) (nodes more : List Node) (place : ℕ) (n : Node) → place < 16 → place ≡ place_of e.node
-    → more ≡ slice_set nodes place n → Keeps (step (w.nodes (current w place)) what).node (state_of n) → AreNodes nodes w → AreNodes more (next_world w e what)
+    → more ≡ slice_set nodes place n → NodeKeepsEndInOrder (step (w.nodes (current w place)) what).node (state_of n) → AreNodes nodes w → AreNodes more (world_after_node_event w e what)
 unfolding with_step
 nodes_step w e what nodes more place n within here placed kept h =
     let count = h.count in
@@ -124,25 +124,25 @@ nodes_step w e what nodes more place n within here placed kept h =
     }
   where
     go : (i : ℕ) (k : Node) → slice_get (slice_set nodes place n) i ≡ Some k → (b : Bool) → (i == place) ≡ b
-        → Keeps ((next_world w e what).nodes (current w i)) (state_of k)
+        → NodeKeepsEndInOrder ((world_after_node_event w e what).nodes (current w i)) (state_of k)
     go i k at true t =
         let same_place : i ≡ place = grind (arith, nat_tests) in
         let count = h.count in
-        let same : n ≡ k = get_set_here nodes place n k (omega arith) (ap (slice_get (slice_set nodes place n)) (sym same_place) ∙ at) in
-        let all : (next_world w e what).nodes (current w i) ≡ (step (w.nodes (current w place)) what).node =
-        ap (λ j. (next_world w e what).nodes (current w j)) (same_place ∙ here) ∙ next_node w e what
+        let same : n ≡ k = slice_get_where_set nodes place n k (omega arith) (ap (slice_get (slice_set nodes place n)) (sym same_place) ∙ at) in
+        let all : (world_after_node_event w e what).nodes (current w i) ≡ (step (w.nodes (current w place)) what).node =
+        ap (λ j. (world_after_node_event w e what).nodes (current w j)) (same_place ∙ here) ∙ next_node w e what
         ∙ ap (λ j. (step (w.nodes (current w j)) what).node) (sym here) in
-        subst (λ m. Keeps m (state_of k)) (sym all) (subst (λ (x : Node). Keeps (step (w.nodes (current w place)) what).node (state_of x)) same kept)
+        subst (λ m. NodeKeepsEndInOrder m (state_of k)) (sym all) (subst (λ (x : Node). NodeKeepsEndInOrder (step (w.nodes (current w place)) what).node (state_of x)) same kept)
     go i k at false f =
         let other : i ≡ place → ⊥ = grind (arith, nat_tests) in
-        let old = sym (get_set_other nodes place i n other) ∙ at in
-        let inside = get_some nodes i k old in
+        let old = sym (slice_get_beside_set nodes place i n other) ∙ at in
+        let inside = slice_get_some_below_length nodes i k old in
         let apart : (current w i == current w (place_of e.node)) ≡ false = grind (arith, nat_tests) in
         rw apart (h.each i k old)
 
-follows_step : (w : model.World) (e : Event) (what : NodeEvent) (outcome : Outcome) (letters : List Letter) → happens w e ≡ next_world w e what
+follows_step : (w : model.World) (e : Event) (what : NodeEvent) (outcome : Outcome) (letters : List Letter) → happens w e ≡ world_after_node_event w e what
     → outcome ≡ (step (w.nodes (current w (place_of e.node))) what).outcome → letters ≡ (step (w.nodes (current w (place_of e.node))) what).letters
-    → Follows w (next_world w e what) e outcome letters
+    → WorldFollowsEvent w (world_after_node_event w e what) e outcome letters
 unfolding with_step
 follows_step w e what outcome letters is answer sent = record {
   happens_ = is;
@@ -151,39 +151,39 @@ follows_step w e what outcome letters is answer sent = record {
   letters_ = ap (λ ls. w.letters ++ ls) (sym sent);
 }
 
-lives_step : (w : model.World) (e : Event) (what : NodeEvent) (lives : List ℕ) → AreLives lives w → AreLives lives (next_world w e what)
+lives_step : (w : model.World) (e : Event) (what : NodeEvent) (lives : List ℕ) → AreLives lives w → AreLives lives (world_after_node_event w e what)
 unfolding with_step
 lives_step w e what lives h = record { count = h.count; each = h.each; within = h.within }
 
-flags_step : (w : model.World) (e : Event) (what : NodeEvent) (flags : List Bool) → AreFlags flags w → AreFlags flags (next_world w e what)
+flags_step : (w : model.World) (e : Event) (what : NodeEvent) (flags : List Bool) → AreFlags flags w → AreFlags flags (world_after_node_event w e what)
 unfolding with_step
 flags_step w e what flags h = record { count = h.count; each = h.each }
 
 group_step : (w : model.World) (e : Event) (what : NodeEvent)
-    → (next_world w e what).group ≡ group_after w.group (step (w.nodes (current w (place_of e.node))) what).node
+    → (world_after_node_event w e what).group ≡ group_after w.group (step (w.nodes (current w (place_of e.node))) what).node
 unfolding with_step
 group_step w e what = refl
 
-pub act_goes_on : (p : Play) (first founding : Rules) (nodes more : List Node) (lives : List ℕ) (flags : List Bool) (records pushed : List Record)
+pub act_carries_play_on : (p : Play) (first founding : Rules) (nodes more : List Node) (lives : List ℕ) (flags : List Bool) (records pushed : List Record)
     (group longer : List Entry) (e : Event) (what : NodeEvent) (outcome : Outcome) (letters : List Letter) (name : ℕ)
     → play_of first records ≡ p → IsRun (play_of first records) nodes lives flags records group → length p.events < most_events
     → name ≡ current (replay p) (place_of e.node) → StepsAt nodes more group longer (place_of name) what outcome letters
-    → IsRecorded (replay p) e outcome letters first founding records pushed → happens (replay p) e ≡ next_world (replay p) e what
-    → IsRun (play_of founding pushed) more lives flags pushed longer × Answers p e outcome
-act_goes_on p first founding nodes more lives flags records pushed group longer e what outcome letters name view ok few here steps recorded is =
+    → EventIsRecorded (replay p) e outcome letters first founding records pushed → happens (replay p) e ≡ world_after_node_event (replay p) e what
+    → IsRun (play_of founding pushed) more lives flags pushed longer × EventIsAnswered p e outcome
+act_carries_play_on p first founding nodes more lives flags records pushed group longer e what outcome letters name view ok few here steps recorded is =
     let w = replay p in
     let place = place_of e.node in
     let within : place < 16 = omega arith in
-    let was = shows_at p first nodes lives flags records group view ok in
+    let was = play_shows_its_replay p first nodes lives flags records group view ok in
     let short : length group ≤ 1 + length p.events = subst (λ (q : Play). length group ≤ 1 + length q.events) view ok.short in
-    let placed : place_of name ≡ place = ap place_of here ∙ place_now place (w.lives place) within in
+    let placed : place_of name ≡ place = ap place_of here ∙ place_of_name_at place (w.lives place) within in
     let m = w.nodes (current w place) in
     let new = state_of steps.next in
     let stands = was.standing.each place steps.before (ap (slice_get nodes) (sym placed) ∙ steps.there) in
-    let done = step_end m (state_of steps.before) new what outcome letters stands.0 stands.1 steps.does in
+    let done = whole_step_comes_to_end m (state_of steps.before) new what outcome letters stands.0 stands.1 steps.does in
     let lows = next_low p e what new is done.node steps.order in
     let base_low : new.core.base ≤ length group = subst (λ g. new.core.base ≤ length g) (sym was.agreed) lows.0 in
-    goes_on p first founding nodes more lives lives flags flags records pushed group longer e outcome letters (next_world w e what) view ok few recorded
+    world_that_follows_carries_on p first founding nodes more lives lives flags flags records pushed group longer e outcome letters (world_after_node_event w e what) view ok few recorded
     (follows_step w e what outcome letters is done.answer done.sent)
     (nodes_step w e what nodes more place steps.next within refl (steps.placed ∙ ap (λ k. slice_set nodes k steps.next) placed) (
       done.node,

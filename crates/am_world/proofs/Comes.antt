@@ -2,9 +2,9 @@
 use Rattle.am_world.proofs.Words.{◌≡◌, ℕ, ◌+◌, ◌<◌, ◌==◌, ◌||◌, not, Bool, true, false, if◌then◌else◌, List, [], ◌∷◌, ◌++◌, Option, Some, None, Result, Err}
 use Rattle.am_world.proofs.Words.{refl, sym, ap, ◌∙◌, subst, arith, OnOk, on_ok_weaker, place_of, life_of, name_at, Outcome, NodeEvent, Packet, Letter}
 use Rattle.am_world.proofs.Words.{IsPacket, spelling, Act, Event, letter_at, is_for, Step, step, hear, World, current, is_stopped, with_record, with_step}
-use Rattle.am_world.proofs.Words.{hears_letter, hear_cut, comes_back, lives_on, acts_as, happens, has_departed, spelling_is_heard, cut_is_heard, flag_of}
-use Rattle.am_world.proofs.Words.{if_running, first_bytes, gives_up, stops, returns, event_or_answer, SpellsPacket, after_answer, comes}
-use Rattle.am_laws.proofs.Fresh.{place_now, life_now}
+use Rattle.am_world.proofs.Words.{hears_letter, hear_cut, comes_back, lives_on, acts_as, happens, has_departed, spelled_packet_is_heard, cut_packet_whole_or_refused, flag_of}
+use Rattle.am_world.proofs.Words.{if_running, first_bytes, give_up_or_answer, stops_node, returns, event_or_answer, SpellsPacket, after_answer, comes}
+use Rattle.am_step_laws.proofs.Watching.Fresh.{place_of_name_at, life_of_name_at}
 use Rattle.am_journal.specs.Asked.{hears}
 use Rattle.am_base.specs.declared.outcome.Outcome.TheVariants as said
 use Rattle.am_base.specs.declared.event.NodeEvent.TheVariants as does
@@ -12,7 +12,7 @@ use Rattle.am_group.specs.declared.event.Act.TheVariants as act
 
 -- ---- acts
 
-abbrev pub name_of : World → Event → ℕ
+abbrev name_of : World → Event → ℕ
 name_of w e = current w (place_of e.node)
 
 run_case : (w : World) (e : Event) (what : NodeEvent) (b : Bool)
@@ -22,13 +22,13 @@ run_case w e what false = refl
 
 give_case : (w : World) (e : Event) (other : ℕ) (b c : Bool)
     → (if b then with_record w e said.IsStopped else if c then with_step w e (name_of w e)
-    (step (w.nodes (name_of w e)) (does.GiveUp other)) else with_record w e said.NotStopped) ≡ comes w e (gives_up b c other)
+    (step (w.nodes (name_of w e)) (does.GiveUp other)) else with_record w e said.NotStopped) ≡ comes w e (give_up_or_answer b c other)
 give_case w e other true c = refl
 give_case w e other false true = refl
 give_case w e other false false = refl
 
 stop_case : (w : World) (e : Event) (b : Bool) → (if b then with_record w e said.IsStopped else with_record
-    (record w { stopped = w.stopped ++ name_of w e ∷ [] }) e said.Stopped) ≡ after_answer w e (stops b)
+    (record w { stopped = w.stopped ++ name_of w e ∷ [] }) e said.Stopped) ≡ after_answer w e (stops_node b)
 stop_case w e true = refl
 stop_case w e false = refl
 
@@ -61,11 +61,11 @@ hear_case w e keep stopped hearing (Some letter) same h is =
     (on_ok_weaker (if addressed then if_running stopped what else Err said.NotAddressed) (λ (all : (l : Letter) → Some letter ≡ Some l
     → IsPacket l.packet). same letter.packet (all letter refl)) h))
 
-abbrev pub gone_now : World → Event → Bool
-gone_now w e = has_departed (w.nodes (name_of w e)).status
+abbrev pub has_actor_gone_now : World → Event → Bool
+has_actor_gone_now w e = has_departed (w.nodes (name_of w e)).status
 
-abbrev pub asked_now : World → Event → List Bool → Act → Result NodeEvent Outcome
-asked_now w e flags a = event_or_answer w.letters flags (gone_now w e) (name_of w e) a
+abbrev asked_now : World → Event → List Bool → Act → Result NodeEvent Outcome
+asked_now w e flags a = event_or_answer w.letters flags (has_actor_gone_now w e) (name_of w e) a
 
 runs : (w : World) (e : Event) (flags : List Bool) (what : NodeEvent) → flag_of flags (name_of w e) ≡ is_stopped w (name_of w e)
     → (if is_stopped w (name_of w e) then with_record w e said.IsStopped else with_step w e (name_of w e) (step (w.nodes (name_of w e)) what))
@@ -74,32 +74,32 @@ runs w e flags what agree = subst (λ b. (if b then with_record w e said.IsStopp
     ≡ comes w e (if_running (flag_of flags (name_of w e)) what)) agree (run_case w e what (flag_of flags (name_of w e)))
 
 gives : (w : World) (e : Event) (flags : List Bool) (other : ℕ) → ((name : ℕ) → flag_of flags name ≡ is_stopped w name)
-    → acts_as w e (name_of w e) (act.GiveUp other) ≡ comes w e (gives_up (flag_of flags (name_of w e)) (flag_of flags other) other)
+    → acts_as w e (name_of w e) (act.GiveUp other) ≡ comes w e (give_up_or_answer (flag_of flags (name_of w e)) (flag_of flags other) other)
 gives w e flags other agree = give_case w e other (is_stopped w (name_of w e)) (is_stopped w other)
-    ∙ ap (λ b. comes w e (gives_up b (is_stopped w other) other)) (sym (agree (name_of w e)))
-    ∙ ap (λ b. comes w e (gives_up (flag_of flags (name_of w e)) b other)) (sym (agree other))
+    ∙ ap (λ b. comes w e (give_up_or_answer b (is_stopped w other) other)) (sym (agree (name_of w e)))
+    ∙ ap (λ b. comes w e (give_up_or_answer (flag_of flags (name_of w e)) b other)) (sym (agree other))
 
 stop_now : (w : World) (e : Event) (flags : List Bool) → ((name : ℕ) → flag_of flags name ≡ is_stopped w name)
-    → acts_as w e (name_of w e) act.Stop ≡ after_answer w e (stops (flag_of flags (name_of w e)))
-stop_now w e flags agree = stop_case w e (is_stopped w (name_of w e)) ∙ ap (λ b. after_answer w e (stops b)) (sym (agree (name_of w e)))
+    → acts_as w e (name_of w e) act.Stop ≡ after_answer w e (stops_node (flag_of flags (name_of w e)))
+stop_now w e flags agree = stop_case w e (is_stopped w (name_of w e)) ∙ ap (λ b. after_answer w e (stops_node b)) (sym (agree (name_of w e)))
 
 return_now : (w : World) (e : Event) (flags : List Bool) → ((name : ℕ) → flag_of flags name ≡ is_stopped w name) → place_of e.node < 16
     → 0 < w.lives (place_of e.node) → acts_as w e (name_of w e) act.Return
-    ≡ after_answer w e (returns (flag_of flags (name_of w e) || gone_now w e) (life_of (name_of w e)))
+    ≡ after_answer w e (returns (flag_of flags (name_of w e) || has_actor_gone_now w e) (life_of (name_of w e)))
 return_now w e flags agree within lives =
     let place = place_of e.node in
-    let gone = gone_now w e in
-    ap (comes_back w e) (place_now place (w.lives place) within)
+    let gone = has_actor_gone_now w e in
+    ap (comes_back w e) (place_of_name_at place (w.lives place) within)
     ∙ return_case w e (is_stopped w (name_of w e) || gone) (w.lives place == 16) (w.lives place)
     ∙ ap (λ b. after_answer w e (returns (b || gone) (w.lives place))) (sym (agree (name_of w e)))
-    ∙ ap (λ l. after_answer w e (returns (flag_of flags (name_of w e) || gone) l)) (sym (life_now place (w.lives place) within lives))
+    ∙ ap (λ l. after_answer w e (returns (flag_of flags (name_of w e) || gone) l)) (sym (life_of_name_at place (w.lives place) within lives))
 
 heard_now : (w : World) (e : Event) (flags : List Bool) (number : ℕ) → ((name : ℕ) → flag_of flags name ≡ is_stopped w name)
     → OnOk (asked_now w e flags (act.Hear number)) (SpellsPacket w.letters (act.Hear number))
     → acts_as w e (name_of w e) (act.Hear number) ≡ comes w e (asked_now w e flags (act.Hear number))
 heard_now w e flags number agree spells =
     let found = letter_at w.letters number in
-    hear_case w e None (flag_of flags (name_of w e)) (hear (w.nodes (name_of w e))) found (λ p is. spelling_is_heard (w.nodes (name_of w e)) p is)
+    hear_case w e None (flag_of flags (name_of w e)) (hear (w.nodes (name_of w e))) found (λ p is. spelled_packet_is_heard (w.nodes (name_of w e)) p is)
     (on_ok_weaker (asked_now w e flags (act.Hear number)) (λ (all : SpellsPacket w.letters (act.Hear number)).
     λ l is. all (record { packet = number; keep = None }) l refl is) spells)
     (sym (agree (name_of w e)))
@@ -110,7 +110,7 @@ cut_now : (w : World) (e : Event) (flags : List Bool) (number keep : ℕ) → ((
 cut_now w e flags number keep agree spells =
     let found = letter_at w.letters number in
     hear_case w e (Some keep) (flag_of flags (name_of w e)) (hear_cut (w.nodes (name_of w e)) keep) found
-    (λ p is. cut_is_heard (w.nodes (name_of w e)) p keep is)
+    (λ p is. cut_packet_whole_or_refused (w.nodes (name_of w e)) p keep is)
     (on_ok_weaker (asked_now w e flags (act.Cut number keep)) (λ (all : SpellsPacket w.letters (act.Cut number keep)).
     λ l is. all (record { packet = number; keep = Some keep }) l refl is) spells)
     (sym (agree (name_of w e)))
@@ -133,7 +133,7 @@ by_act w e flags (act.Cut number keep) agree within lives h = cut_now w e flags 
 by_act w e flags act.Return agree within lives h = return_now w e flags agree within lives
 
 -- what the run makes of an event
-pub happens_comes : (w : World) (e : Event) (flags : List Bool) → ((name : ℕ) → flag_of flags name ≡ is_stopped w name) → place_of e.node < 16
+pub event_comes_to_asked : (w : World) (e : Event) (flags : List Bool) → ((name : ℕ) → flag_of flags name ≡ is_stopped w name) → place_of e.node < 16
     → 0 < w.lives (place_of e.node) → OnOk (asked_now w e flags e.act) (SpellsPacket w.letters e.act) → happens w e ≡ comes w e (asked_now w e flags e.act)
 unfolding happens
-happens_comes w e flags agree within lives spells = by_act w e flags e.act agree within lives spells
+event_comes_to_asked w e flags agree within lives spells = by_act w e flags e.act agree within lives spells

@@ -7,31 +7,31 @@ use Rattle.am_journal.specs.Asked.{hears}
 use Rattle.am_base.specs.declared.event.NodeEvent.TheVariants as does
 use Rattle.am_base.specs.declared.outcome.Outcome.TheVariants as said
 use Rattle.am_group.specs.declared.event.Act.TheVariants as act
-use Rattle.am_world.proofs.{Comes.gone_now, Comes.happens_comes, Goes.shows_at}
+use Rattle.am_world.proofs.{Comes.has_actor_gone_now, Comes.event_comes_to_asked, Goes.play_shows_its_replay}
 
 -- ---- what was looked up
 
-pub no_packet : (keep : Option ℕ) (name : ℕ) (stopped : Bool) (found : Option Letter) → found ≡ None
+pub hears_without_packet : (keep : Option ℕ) (name : ℕ) (stopped : Bool) (found : Option Letter) → found ≡ None
     → Err said.NoPacket ≡ hears keep name stopped found
-no_packet keep name stopped found none = sym (ap (hears keep name stopped) none)
+hears_without_packet keep name stopped found none = sym (ap (hears keep name stopped) none)
 
-pub not_addressed : (keep : Option ℕ) (name : ℕ) (stopped : Bool) (found : Option Letter) (letter : Letter) → found ≡ Some letter
+pub hears_packet_for_others : (keep : Option ℕ) (name : ℕ) (stopped : Bool) (found : Option Letter) (letter : Letter) → found ≡ Some letter
     → is_for letter name ≡ false → Err said.NotAddressed ≡ hears keep name stopped found
-not_addressed keep name stopped found letter there other = sym (ap (hears keep name stopped) there ∙ rw other refl)
+hears_packet_for_others keep name stopped found letter there other = sym (ap (hears keep name stopped) there ∙ rw other refl)
 
-pub is_stopped : (keep : Option ℕ) (name : ℕ) (stopped : Bool) (found : Option Letter) (letter : Letter) → found ≡ Some letter
+pub hears_of_stopped_name : (keep : Option ℕ) (name : ℕ) (stopped : Bool) (found : Option Letter) (letter : Letter) → found ≡ Some letter
     → is_for letter name ≡ true → stopped ≡ true → Err said.IsStopped ≡ hears keep name stopped found
-is_stopped keep name stopped found letter there own stop = sym (ap (hears keep name stopped) there ∙ rw (own, stop) refl)
+hears_of_stopped_name keep name stopped found letter there own stop = sym (ap (hears keep name stopped) there ∙ rw (own, stop) refl)
 
-pub is_heard : (keep : Option ℕ) (name : ℕ) (stopped : Bool) (found : Option Letter) (letter : Letter) (bytes : List ℕ) → found ≡ Some letter
+pub hears_packet_bytes : (keep : Option ℕ) (name : ℕ) (stopped : Bool) (found : Option Letter) (letter : Letter) (bytes : List ℕ) → found ≡ Some letter
     → is_for letter name ≡ true → stopped ≡ false → bytes ≡ first_bytes keep (spelling letter.packet)
     → Ok (does.Hear bytes) ≡ hears keep name stopped found
-is_heard keep name stopped found letter bytes there own runs same =
+hears_packet_bytes keep name stopped found letter bytes there own runs same =
     ap (λ bs. Ok (does.Hear bs)) same ∙ sym (ap (hears keep name stopped) there ∙ rw (own, runs) refl)
 
 -- no other letter is found
-pub found_packet : (found : Option Letter) (letter other : Letter) → found ≡ Some letter → IsPacket letter.packet → found ≡ Some other → IsPacket other.packet
-found_packet found letter other there is again = subst (λ (l : Letter). IsPacket l.packet) (same_Some letter other (sym there ∙ again)) is
+pub found_letter_is_packet : (found : Option Letter) (letter other : Letter) → found ≡ Some letter → IsPacket letter.packet → found ≡ Some other → IsPacket other.packet
+found_letter_is_packet found letter other there is again = subst (λ (l : Letter). IsPacket l.packet) (same_Some letter other (sym there ∙ again)) is
 
 -- ---- what comes of it
 
@@ -44,44 +44,44 @@ heard_asked letters flags departed name (act.Cut number keep) h is =
 heard_asked letters flags departed name _ h is = absurd (none-some _ is)
 
 -- what hears nothing needs no letters
-pub called_asked : (letters : List Letter) (flags : List Bool) (departed : Bool) (name : ℕ) (a : Act) → heard_of a ≡ None
+pub call_is_asked_as_event : (letters : List Letter) (flags : List Bool) (departed : Bool) (name : ℕ) (a : Act) → heard_of a ≡ None
     → event_or_answer [] flags departed name a ≡ event_or_answer letters flags departed name a
-called_asked letters flags departed name (act.Hear number) is = absurd (none-some _ (sym is))
-called_asked letters flags departed name (act.Cut number keep) is = absurd (none-some _ (sym is))
-called_asked letters flags departed name _ is = refl
+call_is_asked_as_event letters flags departed name (act.Hear number) is = absurd (none-some _ (sym is))
+call_is_asked_as_event letters flags departed name (act.Cut number keep) is = absurd (none-some _ (sym is))
+call_is_asked_as_event letters flags departed name _ is = refl
 
 -- and spells none
 called_spells : (letters : List Letter) (a : Act) → heard_of a ≡ None → SpellsPacket letters a
 called_spells letters a none = λ h letter is there. absurd (none-some _ (sym none ∙ is))
 
-pub on_any : {A E P : Type 0} (r : Result A E) → P → OnOk r P
+on_any : {A E P : Type 0} (r : Result A E) → P → OnOk r P
 on_any (Ok x) p = p
 on_any (Err e) p = tt
 
-pub called_packets : (letters : List Letter) (a : Act) (r : Result NodeEvent Outcome) → heard_of a ≡ None → OnOk r (SpellsPacket letters a)
-called_packets letters a r none = on_any r (called_spells letters a none)
+pub call_spells_no_packet : (letters : List Letter) (a : Act) (r : Result NodeEvent Outcome) → heard_of a ≡ None → OnOk r (SpellsPacket letters a)
+call_spells_no_packet letters a r none = on_any r (called_spells letters a none)
 
 -- what is heard comes to what the run makes of it
-pub heard_comes : (p : Play) (first : Rules) (nodes : List Node) (lives : List ℕ) (flags : List Bool) (records : List Record) (group : List Entry) (e : Event)
+pub hearing_comes_in_replay : (p : Play) (first : Rules) (nodes : List Node) (lives : List ℕ) (flags : List Bool) (records : List Record) (group : List Entry) (e : Event)
     (h : Heard) (name : ℕ) (r : Result NodeEvent Outcome)
     → play_of first records ≡ p → IsRun (play_of first records) nodes lives flags records group
     → name ≡ current (replay p) (place_of e.node) → heard_of e.act ≡ Some h
     → r ≡ hears h.keep name (flag_of flags name) (letter_at (letters_of records) h.packet)
     → OnOk r ((l : Letter) → letter_at (letters_of records) h.packet ≡ Some l → IsPacket l.packet)
     → happens (replay p) e ≡ comes (replay p) e r
-heard_comes p first nodes lives flags records group e h name r view ok here heard is packets =
+hearing_comes_in_replay p first nodes lives flags records group e h name r view ok here heard is packets =
     let w = replay p in
     let place = place_of e.node in
     let within : place < 16 = omega arith in
-    let was = shows_at p first nodes lives flags records group view ok in
-    let now : r ≡ event_or_answer w.letters flags (gone_now w e) (current w place) e.act =
+    let was = play_shows_its_replay p first nodes lives flags records group view ok in
+    let now : r ≡ event_or_answer w.letters flags (has_actor_gone_now w e) (current w place) e.act =
     is ∙ ap (λ ls. hears h.keep name (flag_of flags name) (letter_at ls h.packet)) was.sent
     ∙ ap (λ k. hears h.keep k (flag_of flags k) (letter_at w.letters h.packet)) here
-    ∙ sym (heard_asked w.letters flags (gone_now w e) (current w place) e.act h heard) in
+    ∙ sym (heard_asked w.letters flags (has_actor_gone_now w e) (current w place) e.act h heard) in
     let spells : OnOk r (SpellsPacket w.letters e.act) =
     on_ok_weaker r (λ (all : (l : Letter) → letter_at (letters_of records) h.packet ≡ Some l → IsPacket l.packet).
     λ g l of there. all l (ap (λ ls. letter_at ls h.packet) was.sent
     ∙ ap (λ (x : Heard). letter_at w.letters x.packet) (same_Some h g (sym heard ∙ of)) ∙ there))
     packets in
-    happens_comes w e flags was.stopped.each within (was.living.within place within).0 (subst (λ q. OnOk q (SpellsPacket w.letters e.act)) now spells)
+    event_comes_to_asked w e flags was.stopped.each within (was.living.within place within).0 (subst (λ q. OnOk q (SpellsPacket w.letters e.act)) now spells)
     ∙ ap (comes w e) (sym now)

@@ -1,17 +1,17 @@
 -- The words of this crate's proofs, of the crates and definitions that they come from.
-pub use Rattle.am_laws.proofs.Words.{◌≡◌, ℕ, ◌+◌, ◌-◌, ◌<◌, ◌≤◌, ◌==◌, max, Bool, true, false, if◌then◌else◌, List, [], ◌∷◌, ◌++◌, length, take, drop, Some}
-pub use Rattle.am_laws.proofs.Words.{slice_get, refl, sym, ap, ◌∙◌, subst, arith, length-append, length-drop, ⊎_elim, zero, suc, slice_index, slice_index_or}
-pub use Rattle.am_laws.proofs.Words.{◌||◌, not, Option, None, map, ◌≢◌, nat_tests, length-take, length-set, length-map}
-pub use Rattle.am_laws.proofs.Words.{list_any, Entry, Image, Stamp, Outcome, NodeEvent, Rules, MayFound, place_of, has, name_at, life_of}
-pub use Rattle.am_laws.proofs.Words.{Log, entry_at, members_of, Letter, Packet, IsPacket}
-pub use Rattle.am_laws.proofs.Words.{CoreState, Event, Act, letter_at, is_for, view, founder, stranger, founders_view, set_at}
-pub use Rattle.am_laws.proofs.Words.{has_log, Step}
-pub use Rattle.am_laws.proofs.Words.{Status}
-pub use Rattle.am_laws.proofs.Words.{current, group_with, group_after, start, first_node, World, is_stopped, hears_letter, hear_cut}
-pub use Rattle.am_laws.proofs.Words.{lives_on, acts_as, run, spelling_is_heard, cut_is_heard, all_item, equals_itself, actor}
-pub use Rattle.am_laws.proofs.Words.{UpTo}
-unfoldable pub use Rattle.am_laws.proofs.Words.{step, hear}
-unfoldable pub use Rattle.am_laws.proofs.Words.{happens, with_step, happen, with_record}
+pub use Rattle.am_step_laws.proofs.Words.{◌≡◌, ℕ, ◌+◌, ◌-◌, ◌<◌, ◌≤◌, ◌==◌, max, Bool, true, false, if◌then◌else◌, List, [], ◌∷◌, ◌++◌, length, take, drop, Some}
+pub use Rattle.am_step_laws.proofs.Words.{slice_get, refl, sym, ap, ◌∙◌, subst, arith, length-append, length-drop, ⊎_elim, zero, suc, slice_index, slice_index_or}
+pub use Rattle.am_step_laws.proofs.Words.{◌||◌, not, Option, None, map, ◌≢◌, nat_tests, length-take, length-set, length-map}
+pub use Rattle.am_step_laws.proofs.Words.{list_any, Entry, Image, Stamp, Outcome, NodeEvent, Rules, MayFound, place_of, has, name_at, life_of}
+pub use Rattle.am_step_laws.proofs.Words.{Log, entry_at, members_of, Letter, Packet, IsPacket}
+pub use Rattle.am_step_laws.proofs.Words.{CoreState, Event, Act, letter_at, is_for, view, founder, stranger, founders_entry, set_at}
+pub use Rattle.am_step_laws.proofs.Words.{has_log, Step}
+pub use Rattle.am_step_laws.proofs.Words.{Status}
+pub use Rattle.am_step_laws.proofs.Words.{current, group_with, group_after, start, first_node, World, is_stopped, hears_letter, hear_cut}
+pub use Rattle.am_step_laws.proofs.Words.{lives_on, acts_as, run, spelled_packet_is_heard, cut_packet_whole_or_refused, all_gives_item_at, number_equals_itself, actor}
+pub use Rattle.am_step_laws.proofs.Words.{UpTo}
+unfoldable pub use Rattle.am_step_laws.proofs.Words.{step, hear}
+unfoldable pub use Rattle.am_step_laws.proofs.Words.{happens, with_step, happen, with_record}
 pub use Rattle.std.{proofs.lemmas.Result.on_ok_weaker, specs.Option.option_copied, specs.Prelude.OnOk}
 pub use Rattle.std.{specs.Prelude.IfOk}
 pub use Rattle.std.proofs.Common.{Ok, slice_set, replicate, Result, Err, append-nil, append_assoc, vec_len, vec_capacity}
@@ -19,32 +19,34 @@ pub use Rattle.std.proofs.lemmas.List.{drop-drop, length-replicate, map_push, ta
 pub use Rattle.std.proofs.lemmas.Option.{slice_get_within, get_or_from_slice_get, none-some, same_Some, slice_get_read}
 pub use Rattle.am_base.specs.Most.{most_events}
 pub use Rattle.am_packet.specs.{Spelling.spelling}
-pub use Rattle.am_state.specs.Cores.{IsInOrder}
-pub use Rattle.am_state.proofs.{Ends.end-told, Ends.entry-get, Folds.slice_get-drop}
+pub use Rattle.am_node_defs.specs.Cores.{IsInOrder}
+pub use Rattle.am_node_defs.proofs.{Ends.told_by_end_is_told, Ends.entry_at_is_slice_get, Folds.slice_get-drop}
 pub use Rattle.am_group.specs.{declared.event.Record.Record, Journals.letters_of, Journals.the_record}
-pub use Rattle.am_group.proofs.Places.{get_some, letters_more}
+pub use Rattle.am_group.proofs.Places.{slice_get_some_below_length, letters_of_pushed_record}
 pub use Rattle.am_model.specs.{Node.has_departed, Ends.IsEndOf}
 pub use Rattle.am_model.specs.Nodes.{HasNumbersLeft, HasPlace}
-pub use Rattle.am_play.specs.{World.record_of, World.comes_back, Lawful.Watch, Lawful.watch_start, Lawful.watch_run}
-pub use Rattle.am_play.proofs.Runs.{runs_go_on, watched_is_run}
-unfoldable pub use Rattle.am_play.specs.Lawful.{watch, watch_all}
-pub use Rattle.am_watching.specs.{declared.views.Standing.Standing}
-pub use Rattle.am_watching.specs.Watching.{Watching, first_watching, standing, watch_step as watched_step, stop, pass, accept}
-pub use Rattle.am_watching.specs.Watches.{Watches, Steps, SteppedTo, standing_of, view_of, additions, IsNew}
-pub use Rattle.am_watching.proofs.{Events.watched_after, Events.stepped_to, Steps.steps_are_watched}
-pub use Rattle.am_model.proofs.Steps.{end_high, step_end, own_end}
+pub use Rattle.am_group_defs.specs.{World.record_of, World.comes_back, Lawful.Watch, Lawful.watch_start, Lawful.watch_run}
+pub use Rattle.am_group_defs.proofs.Runs.{runs_go_on, watched_is_run}
+unfoldable pub use Rattle.am_group_defs.specs.Lawful.{watch, watch_all}
+pub use Rattle.am_lawful_defs.specs.{declared.views.NameStanding.NameStanding}
+pub use Rattle.am_lawful_defs.specs.Watching.{Watching, first_watching, standing, watch_step as watched_step, stop, pass, watch_accepts}
+pub use Rattle.am_lawful_defs.specs.Watches.{Watches, NameSteps, SteppedTo, standing_of, view_of, additions, StampIsNew}
+pub use Rattle.am_lawful_defs.proofs.{Events.watch_is_after_event, Events.world_stepped_to_node, Steps.steps_are_watched}
+pub use Rattle.am_model.proofs.Steps.{node_end_has_same_top, whole_step_comes_to_end, untrimmed_node_is_own_end}
 pub use Rattle.am_node.specs.{declared.node.Node.Node, Stands.state_of}
-pub use Rattle.am_laws.proofs.{Items.get_push}
-pub use Rattle.am_laws.specs.{Numbers.NodeNumbers}
-pub use Rattle.am_laws.proofs.{Named.few_names, Named.run_named, EventCounts.actor_low, RunCounts.bounds_after, RunCounts.run_low}
-pub use Rattle.am_laws.proofs.{RunCounts.numbers_hold}
-pub use Rattle.am_laws.proofs.Watched.{watch_push, stop_is_watched, pass_is_watched, return_is_watched, beginning_is_kept}
-pub use Rattle.am_watcher.specs.Watchers.{watching_of}
+pub use Rattle.am_step_laws.proofs.{Items.slice_get_after_push}
+pub use Rattle.am_step_laws.specs.{Numbers.NodeNumbers}
+pub use Rattle.am_step_laws.proofs.Named.{actor_is_below_256, run_has_names}
+pub use Rattle.am_step_laws.proofs.Numbers.EventCounts.{event_keeps_actor_numbers_low}
+pub use Rattle.am_step_laws.proofs.Numbers.RunCounts.{bounds_after_events, run_has_low_numbers}
+pub use Rattle.am_step_laws.proofs.Numbers.RunCounts.{number_bounds_hold_in_runs}
+pub use Rattle.am_step_laws.proofs.Watching.Watched.{watch_all_with_one_more, stop_is_watched, idle_event_is_watched, return_is_watched, first_watching_is_kept}
+pub use Rattle.am_lawful_watch.specs.Watchers.{watching_of}
 pub use Rattle.am_journal.specs.declared.asked.Heard.{Heard}
-pub use Rattle.am_world.specs.Moves.{IsReadyAt, StepsAt, HasPlaceAt, IsReady}
-pub use Rattle.am_world.specs.Runs.{Play, replay, after, AreNodes, AreLives, AreFlags, IsRun, play_of, Answers, AreFirst, Shows}
-pub use Rattle.am_journal.specs.Asked.{flag_of, if_running, first_bytes, gives_up, stops, returns, event_or_answer, SpellsPacket, heard_of}
+pub use Rattle.am_world.specs.Moves.{IsReadyAt, StepsAt, HasPlaceAt, WorldIsReady}
+pub use Rattle.am_world.specs.Runs.{Play, replay, play_after, AreNodes, AreLives, AreFlags, IsRun, play_of, EventIsAnswered, AreFirst, Shows}
+pub use Rattle.am_journal.specs.Asked.{flag_of, if_running, first_bytes, give_up_or_answer, stops_node, returns, event_or_answer, SpellsPacket, heard_of}
 pub use Rattle.am_world.specs.Asked.{comes, after_answer}
-pub use Rattle.am_watching.specs.Telling.{shown_of, begins, standing_after, stored_of, stops_by}
-unfoldable pub use Rattle.am_watching.specs.Telling.{told_step}
+pub use Rattle.am_lawful_defs.specs.Telling.{shown_of, begins, standing_after, stored_of, stops_by}
+unfoldable pub use Rattle.am_lawful_defs.specs.Telling.{told_step}
 pub use Rattle.am_world.specs.Watched.{IsWatched}

@@ -7,7 +7,7 @@ use Rattle.am_base.specs.declared.event.NodeEvent.{NodeEvent}
 use Rattle.am_base.specs.Names.{place_of, life_of}
 use Rattle.am_group.specs.declared.event.Event.{Event}
 use Rattle.am_model.specs.Step.{step}
-use Rattle.am_play.specs.World.{World, current, with_record, with_step, lives_on, happens}
+use Rattle.am_group_defs.specs.World.{World, current, with_record, with_step, lives_on, happens}
 use Rattle.am_world.specs.Runs.{Play, replay}
 
 -- what comes of it

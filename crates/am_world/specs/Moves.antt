@@ -4,10 +4,10 @@ use Rattle.am_base.specs.declared.entry.Entry.{Entry}
 use Rattle.am_base.specs.declared.outcome.Outcome.{Outcome}
 use Rattle.am_base.specs.declared.event.NodeEvent.{NodeEvent}
 use Rattle.am_packet.specs.Boxes.{Letter}
-use Rattle.am_state.specs.Cores.{IsInOrder}
+use Rattle.am_node_defs.specs.Cores.{IsInOrder}
 use Rattle.am_model.specs.Node as model
 use Rattle.am_model.specs.Step.{row}
-use Rattle.am_play.specs.World.{group_after}
+use Rattle.am_group_defs.specs.World.{group_after}
 use Rattle.am_model.specs.Ends.{Does}
 use Rattle.am_node.specs.declared.node.Node.{Node}
 use Rattle.am_node.specs.Stands.{state_of}
@@ -20,12 +20,12 @@ GrowsWithin m what stored room = (outcome : Outcome) (letters : List Letter) (n 
     → (n.core.base ≤ stored) × (max n.core.acc stored ≤ room)
 
 -- the node is ready for a step, and the group list for what comes of it
-pub record IsReady (m : model.Node) (what : NodeEvent) (stored room : ℕ) : Type 0 where
+pub record WorldIsReady (m : model.Node) (what : NodeEvent) (stored room : ℕ) : Type 0 where
   pub numbers : HasNumbersLeft m
   pub grows : GrowsWithin m what stored room
 
 abbrev pub IsReadyAt : List Node → ℕ → NodeEvent → ℕ → ℕ → Type 0
-IsReadyAt nodes place what stored room = (n : Node) → slice_get nodes place ≡ Some n → IsReady (state_of n) what stored room
+IsReadyAt nodes place what stored room = (n : Node) → slice_get nodes place ≡ Some n → WorldIsReady (state_of n) what stored room
 
 -- there is room for what the node of this place takes
 abbrev pub HasPlaceAt : List Node → ℕ → NodeEvent → Option ℕ → Type 0

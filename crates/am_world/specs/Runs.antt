@@ -5,12 +5,12 @@ use Rattle.am_base.specs.declared.entry.Entry.{Entry}
 use Rattle.am_base.specs.declared.outcome.Outcome.{Outcome}
 use Rattle.am_base.specs.Founding.{Rules, MayFound}
 use Rattle.am_packet.specs.Boxes.{Letter}
-use Rattle.am_state.specs.Cores.{IsInOrder}
+use Rattle.am_node_defs.specs.Cores.{IsInOrder}
 use Rattle.am_group.specs.declared.event.Event.{Event}
 use Rattle.am_group.specs.declared.event.Record.{Record}
 use Rattle.am_group.specs.Journals.{letters_of}
-use Rattle.am_play.specs.World as model
-use Rattle.am_play.specs.World.{run, record_of, current, is_stopped}
+use Rattle.am_group_defs.specs.World as model
+use Rattle.am_group_defs.specs.World.{run, record_of, current, is_stopped}
 use Rattle.am_model.specs.Ends.{IsEndOf}
 use Rattle.am_node.specs.declared.node.Node.{Node}
 use Rattle.am_node.specs.Stands.{state_of}
@@ -24,8 +24,8 @@ abbrev pub replay : Play → model.World
 replay p = run p.rules p.events
 
 -- the same with one event more
-abbrev pub after : Play → Event → Play
-after p event = record p { events = p.events ++ event ∷ [] }
+abbrev pub play_after : Play → Event → Play
+play_after p event = record p { events = p.events ++ event ∷ [] }
 
 -- of each place the node of its current life
 pub record AreNodes (nodes : List Node) (w : model.World) : Type 0 where
@@ -68,9 +68,9 @@ abbrev pub play_of : Rules → List Record → Play
 play_of rules records = record { rules = rules; events = map (λ r. r.event) records }
 
 -- the event's record has this outcome
-abbrev pub Answers : Play → Event → Outcome → Type 0
-Answers p event outcome = (letters : List Letter) × ((replay (after p event)).records ≡ (replay p).records ++ record_of (replay p) event outcome letters ∷ [])
+abbrev pub EventIsAnswered : Play → Event → Outcome → Type 0
+EventIsAnswered p event outcome = (letters : List Letter) × ((replay (play_after p event)).records ≡ (replay p).records ++ record_of (replay p) event outcome letters ∷ [])
 
 -- exactly one record more, the event's
 abbrev pub IsOneMore : Play → Event → Type 0
-IsOneMore p event = (outcome : Outcome) × Answers p event outcome
+IsOneMore p event = (outcome : Outcome) × EventIsAnswered p event outcome

@@ -5,8 +5,8 @@ use Rattle.am_packet.specs.Boxes.{Letter}
 use Rattle.am_group.specs.declared.event.Act.{Act}
 use Rattle.am_group.specs.declared.event.Event.{Event}
 use Rattle.am_group.specs.Addressed.{is_for}
-use Rattle.am_play.specs.World.{World, current, is_stopped}
-use Rattle.am_play.specs.Settle.{Settling, event_at, round, settle_events}
+use Rattle.am_group_defs.specs.World.{World, current, is_stopped}
+use Rattle.am_group_defs.specs.Settle.{Settling, event_at, round, settle_events}
 use Rattle.am_world.specs.Runs.{Play, replay}
 use Rattle.am_world.specs.declared.world.WorldRefusal.{WorldRefusal}
 use Rattle.am_world.specs.declared.world.WorldRefusal.TheVariants.{Spent}
@@ -20,8 +20,8 @@ abbrev pub is_meant : World → Letter → ℕ → Bool
 is_meant w letter place = is_for letter (current w place)
 
 -- an act of one place, where it passes
-abbrev pub act_at : Bool → Act → ℕ → List Event
-act_at passes act place = if passes then event_at place act ∷ [] else []
+abbrev pub passing_act_at : Bool → Act → ℕ → List Event
+passing_act_at passes act place = if passes then event_at place act ∷ [] else []
 
 -- a world, with nothing done yet
 abbrev pub settling_of : World → Settling

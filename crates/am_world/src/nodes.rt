@@ -1,6 +1,6 @@
 ghost use Rattle.std.specs.Prelude.{◌≡◌, ◌+◌, ◌-◌, ◌<◌, ◌≤◌, ◌++◌, ◌∷◌, [], length, max, take, drop, vec_len, vec_capacity, OnOk, IfOk};
 ghost use Rattle.am_base.specs.Names.{place_of};
-ghost use Rattle.am_play.specs.World.{group_with, group_after};
+ghost use Rattle.am_group_defs.specs.World.{group_with, group_after};
 ghost use Rattle.am_node.specs.Stands.{state_of};
 ghost use Rattle.am_world.specs.Moves.{HasPlaceAt, IsReadyAt, StepsAt};
 
@@ -11,9 +11,9 @@ use am_base::items::Items;
 use am_base::name::Name;
 use am_base::outcome::Outcome;
 use am_base::taken::EntryRoom;
-use am_letter::out_box::{OutBox, Rooms};
 use am_node::node::Node;
 use am_packet::letter::Letter;
+use am_packet_writer::out_box::{OutBox, Rooms};
 use std::alloc::Global;
 use std::mem;
 

@@ -1,6 +1,6 @@
 ghost use Rattle.std.specs.Prelude.{◌≡◌, ◌<◌, IfOk, IfErr, map, length};
 ghost use Rattle.am_base.specs.Most.{most_events};
-ghost use Rattle.am_play.specs.Lawful.{broken_at};
+ghost use Rattle.am_group_defs.specs.Lawful.{broken_at};
 ghost use Rattle.am_world.specs.declared.world.WorldRefusal.TheVariants as refusals;
 
 use crate::world::{World, WorldRefusal};

@@ -3,7 +3,7 @@ ghost use Rattle.am_base.specs.declared.outcome.Outcome.TheVariants as said;
 ghost use Rattle.am_base.specs.Most.{most_events};
 ghost use Rattle.am_base.specs.Founding.{MayFound};
 ghost use Rattle.am_base.specs.Names.{has, name_at, life_of};
-ghost use Rattle.am_play.specs.World.{first_node, start};
+ghost use Rattle.am_group_defs.specs.World.{first_node, start};
 ghost use Rattle.am_model.specs.Node.{has_departed};
 ghost use Rattle.am_model.specs.Ends.{IsEndOf};
 ghost use Rattle.am_node.specs.Stands.{state_of};
@@ -23,11 +23,11 @@ use am_group::event::{Event, Record};
 use am_journal::addressed::is_for;
 use am_journal::asked::{call_or_answer, first_bytes, heard_by, is_stopped};
 use am_journal::journal::{Journal, record_of};
-use am_letter::out_box::Rooms;
 use am_model::status::Status;
 use am_node::founding::{Room, founders_view};
 use am_node::node::Node;
 use am_packet::letter::Letter;
+use am_packet_writer::out_box::Rooms;
 use std::alloc::Global;
 use std::marker::Model;
 use std::mem;
@@ -44,7 +44,7 @@ fn first_node(room: Room, name: Name, founding: &Founding) -> Node
 }
 
 /// The sixteen nodes of a group to which nothing has happened. Each goes where it stays: nodes are large.
-#[tactic(auto, using(crate::proofs::Begins::begins))]
+#[tactic(auto, using(crate::proofs::Begins::world_begin_rules))]
 pub fn sixteen(alloc: Global, founding: &Founding) -> Result<Vec<Node>, NoMemory>
     ensures { IfOk result (λ v. AreNodes v.items (start founding.now)) }
 {
@@ -114,13 +114,13 @@ impl Run {
     ghost use Rattle.std.specs.Prelude.{OnErr, IfErr, Ok};
     ghost use Rattle.am_base.specs.Names.{place_of};
     ghost use Rattle.am_group.specs.Journals.{letters_of};
-    ghost use Rattle.am_play.specs.World.{current, is_stopped, with_record, happens};
-    ghost use Rattle.am_world.specs.Runs.{after, replay, IsOneMore};
+    ghost use Rattle.am_group_defs.specs.World.{current, is_stopped, with_record, happens};
+    ghost use Rattle.am_world.specs.Runs.{play_after, replay, IsOneMore};
     ghost use Rattle.am_world.specs.Asked.{comes, IsNextLife, MayAnswer};
 
     /// The group of a founding, to which nothing has happened, with room for the records of so many events, of no more than a
     /// run may have.
-    #[tactic(auto, using(crate::proofs::Begins::begins))]
+    #[tactic(auto, using(crate::proofs::Begins::world_begin_rules))]
     pub fn new(alloc: Global, founding: &Founding, events: usize) -> Result<Run, NoMemory>
         ensures { IfOk result (λ w. w ≡ record { rules = founding.now; events = [] }) }
     {

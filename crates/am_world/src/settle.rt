@@ -1,9 +1,9 @@
 ghost use Rattle.std.specs.Prelude.{◌≡◌, ◌<◌, ◌&&◌, OnOk, IfOk, IfErr, Some, length};
 ghost use Rattle.am_packet.specs.Boxes as boxes;
 ghost use Rattle.am_group.specs.Journals.{letter_at};
-ghost use Rattle.am_play.specs.Settle.{ticks, hearings_of, hearings, round_count};
+ghost use Rattle.am_group_defs.specs.Settle.{ticks, hearings_of, hearings, round_count};
 ghost use Rattle.am_world.specs.Runs.{replay};
-ghost use Rattle.am_world.specs.Settling.{schedule_of, is_running, is_meant, act_at, round_events, Did, Stuck};
+ghost use Rattle.am_world.specs.Settling.{schedule_of, is_running, is_meant, passing_act_at, round_events, Did, Stuck};
 
 use crate::world::{World, WorldRefusal};
 use am_base::name::Name;
@@ -135,7 +135,7 @@ fn round_count(world: &World) -> u16
 }
 
 /// How many events were done.
-#[tactic(auto, using(am_play::proofs::Runs::one_record_each))]
+#[tactic(auto, using(am_group_defs::proofs::Runs::one_record_each))]
 fn event_count(world: &World) -> usize
     ensures { result ≡ length world.now.events }
 {

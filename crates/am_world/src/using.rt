@@ -4,9 +4,9 @@ ghost use Rattle.am_base.specs.Most.{most_events};
 ghost use Rattle.am_base.specs.Names.{place_of};
 ghost use Rattle.am_group.specs.Deliveries.{deliveries};
 ghost use Rattle.am_group.specs.declared.event.Act.TheVariants as acts;
-ghost use Rattle.am_play.specs.Settle.{event_at};
-ghost use Rattle.am_play.specs.World.{current};
-ghost use Rattle.am_world.specs.Runs.{after, replay};
+ghost use Rattle.am_group_defs.specs.Settle.{event_at};
+ghost use Rattle.am_group_defs.specs.World.{current};
+ghost use Rattle.am_world.specs.Runs.{play_after, replay};
 ghost use Rattle.am_world.specs.declared.world.WorldRefusal.{WorldRefusal};
 
 use crate::world::{World, WorldRefusal};

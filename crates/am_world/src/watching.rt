@@ -1,16 +1,16 @@
 ghost use Rattle.std.specs.Prelude.{◌≡◌};
 ghost use Rattle.am_node.specs.Stands.{state_of};
-ghost use Rattle.am_watching.specs.Telling.{shown_of};
+ghost use Rattle.am_lawful_defs.specs.Telling.{shown_of};
 
 use am_base::entry::GroupView;
+use am_lawful_defs::views::{DecidedView, ShownNode};
 use am_node::node::Node;
-use am_watching::views::{DecidedView, Shown};
 
 /// What a watcher is told of a node.
-pub fn shown_by(node: &Node) -> Shown
+pub fn shown_by(node: &Node) -> ShownNode
     ensures { result ≡ shown_of (state_of node.now) }
 {
-    Shown {
+    ShownNode {
         status: node.status(),
         start: node.start(),
         base: node.base(),

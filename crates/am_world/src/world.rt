@@ -1,7 +1,7 @@
 ghost use Rattle.std.specs.Prelude.{◌≡◌, ◌+◌, ◌≤◌, [], length, IfOk};
 ghost use Rattle.am_base.specs.Most.{most_events};
 ghost use Rattle.am_model.specs.Ends.{IsEndOf};
-ghost use Rattle.am_play.specs.Lawful.{broken_at};
+ghost use Rattle.am_group_defs.specs.Lawful.{broken_at};
 ghost use Rattle.am_base.specs.Names.{place_of};
 
 use crate::run::Run;
@@ -15,10 +15,10 @@ use am_base::outcome::Outcome;
 use am_group::event::Event;
 use am_journal::asked::keep_room;
 use am_journal::journal::Journal;
+use am_lawful_watch::telling::{has_log, stops_by};
+use am_lawful_watch::watcher::Watcher;
 use am_model::info::Info;
 use am_node::node::Node;
-use am_watcher::telling::{has_log, stops_by};
-use am_watcher::watcher::Watcher;
 use std::alloc::Global;
 use std::marker::Model;
 
@@ -51,7 +51,7 @@ pub struct World {
 }
 
 impl Model for World {
-    ghost use Rattle.am_watcher.specs.Watchers.{watching_of};
+    ghost use Rattle.am_lawful_watch.specs.Watchers.{watching_of};
     ghost use Rattle.am_world.specs.Runs.{Play};
     ghost use Rattle.am_world.specs.Watched.{IsWatched};
 
@@ -72,11 +72,11 @@ impl Drop for World {
 impl World {
     ghost use Rattle.std.specs.Prelude.{◌↔◌, OnOk, OnErr, Err};
     ghost use Rattle.am_group.specs.Journals.{letters_of};
-    ghost use Rattle.am_play.specs.World.{current, is_stopped};
+    ghost use Rattle.am_group_defs.specs.World.{current, is_stopped};
     ghost use Rattle.am_model.specs.Node.{has_log};
     ghost use Rattle.am_model.specs.Info.{info_of};
     ghost use Rattle.am_node.specs.Stands.{state_of};
-    ghost use Rattle.am_world.specs.Runs.{after, replay, IsOneMore};
+    ghost use Rattle.am_world.specs.Runs.{play_after, replay, IsOneMore};
     ghost use Rattle.am_world.specs.Asked.{MayAnswer};
 
     /// The group of a founding, to which nothing has happened.

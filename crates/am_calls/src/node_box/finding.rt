@@ -1,31 +1,31 @@
 ghost use Rattle.std.specs.Prelude.{◌≡◌, ℕ, ◌<◌, ◌≤◌, None, Some, length, IfSome, IfNone, Option, true, false};
 ghost use Rattle.am_base.specs.Most.{most_events};
-ghost use Rattle.am_sharing.specs.Passes.{Sees};
-ghost use Rattle.am_races.specs.Boxes.{IsShareOf, Looks, Hears, GivesUp, node_by, heard_in, lost_in, Picked, is_turn_act, Found, event_at, turn_by};
-ghost use Rattle.am_races.specs.Callings.{luck_after};
-ghost use Rattle.am_races.specs.Going.{luck_behind};
-ghost use Rattle.am_races.specs.Ready.{is_ready};
-ghost use Rattle.am_races.specs.Tags.{of_call, own_of};
-ghost use Rattle.am_sharing.specs.Choices.{act_of};
+ghost use Rattle.am_shared_journal_defs.specs.Passes.{Sees};
+ghost use Rattle.am_race_laws.specs.Boxes.{IsShareOf, BoxLooks, Hears, GivesUp, node_by, heard_in, lost_in, Picked, is_turn_act, Found, turn_event_at, turn_by};
+ghost use Rattle.am_race_laws.specs.Callings.{caller_luck_after};
+ghost use Rattle.am_race_laws.specs.Going.{luck_behind};
+ghost use Rattle.am_race_laws.specs.Ready.{is_ready};
+ghost use Rattle.am_race_laws.specs.Tags.{of_call, own_of};
+ghost use Rattle.am_shared_journal_defs.specs.Choices.{act_of};
 ghost use Rattle.am_group.specs.declared.event.Act.TheVariants as acts;
-ghost use Rattle.am_races.specs.Lawful.{IsSent, plan_by, terms_of};
-ghost use Rattle.am_races.specs.Turns.{waits_in_vain, words_drawn, is_turn};
+ghost use Rattle.am_race_laws.specs.Lawful.{IsSent, plan_by, terms_of};
+ghost use Rattle.am_race_laws.specs.Turns.{waits_in_vain, words_drawn, is_turn};
 
 use super::{NodeBox, Visit};
 use crate::acts::least_of_both;
 use crate::naming::{RaceLaw, Racing};
 use am_base::name::Name;
-use am_chooser::chooser::Chooser;
 use am_group::event::Act;
 use am_packet::letter::LetterCopy;
-use am_races::call::Came;
-use am_sharing::choice::Choice;
-use am_wire::wire::{Share, Wire};
+use am_race_laws::call::Came;
+use am_shared_journal::wire::{Share, Wire};
+use am_shared_journal_defs::choice::Choice;
+use am_turn_chooser::chooser::Chooser;
 use std::sync::Wait;
 
 /// A turn: what the node does, the letter that it hears, and the number of the letter that it lost, or 0.
 #[derive(Drop)]
-pub(super) struct Turn {
+pub(super) struct FoundTurn {
     pub(super) act: Act,
     pub(super) letter: Option<LetterCopy>,
     pub(super) lost: u32,
@@ -65,7 +65,7 @@ impl<N: Racing> NodeBox<N> {
     }
 
     /// What a choice does, which hears only what was sent to the node.
-    fn turn_of_choice<R: Wait>(&mut self, rt: &R, wire: &Wire<RaceLaw>, choice: Choice) -> Turn
+    fn turn_of_choice<R: Wait>(&mut self, rt: &R, wire: &Wire<RaceLaw>, choice: Choice) -> FoundTurn
         requires own { wire.now.id ≡ N.wire }
         requires open_ { self.old.closed ≡ None }
         requires sent { (number : ℕ) → heard_in choice ≡ Some number
@@ -77,17 +77,17 @@ impl<N: Racing> NodeBox<N> {
             → Hears self.new.seen self.new.name number result.letter }
     {
         match choice {
-            Choice::Tick => Turn {
+            Choice::Tick => FoundTurn {
                 act: Act::Tick,
                 letter: None,
                 lost: 0,
             },
-            Choice::Lose(number) => Turn {
+            Choice::Lose(number) => FoundTurn {
                 act: Act::Tick,
                 letter: None,
                 lost: number,
             },
-            Choice::Hear(number) | Choice::Repeat(number) => Turn {
+            Choice::Hear(number) | Choice::Repeat(number) => FoundTurn {
                 act: Act::Hear(number),
                 letter: Some(self.letter(rt, wire, number)),
                 lost: 0,
@@ -96,7 +96,7 @@ impl<N: Racing> NodeBox<N> {
     }
 
     /// What the chooser says by the letters for its node.
-    fn choose<R: Wait>(&mut self, rt: &R, wire: &Wire<RaceLaw>, chooser: &mut Chooser) -> Turn
+    fn choose<R: Wait>(&mut self, rt: &R, wire: &Wire<RaceLaw>, chooser: &mut Chooser) -> FoundTurn
         requires own { wire.now.id ≡ N.wire }
         requires open_ { self.old.closed ≡ None }
         ensures looks { Looks self.old self.new }
@@ -114,7 +114,7 @@ impl<N: Racing> NodeBox<N> {
 
     /// What its node does at a turn: it gives up the least name that it waits for and that has stopped, or does what the chooser
     /// says.
-    fn find<R: Wait>(&mut self, rt: &R, wire: &Wire<RaceLaw>, chooser: &mut Chooser) -> Turn
+    fn find<R: Wait>(&mut self, rt: &R, wire: &Wire<RaceLaw>, chooser: &mut Chooser) -> FoundTurn
         requires own { wire.now.id ≡ N.wire }
         requires open_ { self.old.closed ≡ None }
         ensures looks { Looks self.old self.new }
@@ -125,7 +125,7 @@ impl<N: Racing> NodeBox<N> {
             → Hears self.new.seen self.new.name number result.letter }
     {
         match self.in_vain(rt, wire) {
-            Some(name) => Turn {
+            Some(name) => FoundTurn {
                 act: Act::GiveUp(name),
                 letter: None,
                 lost: 0,
@@ -140,7 +140,7 @@ impl<N: Racing> NodeBox<N> {
         visit: &Visit<R, G>,
         share: &mut Share,
         chooser: &mut Chooser,
-    ) -> Turn
+    ) -> FoundTurn
         requires own { visit.now.wire.now.id ≡ N.wire }
         requires open_ { self.old.closed ≡ None }
         requires share { IsShareOf N.wire N.plan visit.now.tag.caller share.old }

@@ -1,6 +1,6 @@
 use Rattle.std.proofs.Common.{◌≡◌, List, [], drop}
-use Rattle.am_verdicts.specs.Lines.{Line}
-use Rattle.am_verdicts.specs.Verdicts.{first_fault}
+use Rattle.am_audit_defs.specs.Lines.{Line}
+use Rattle.am_audit_defs.specs.Verdicts.{first_fault}
 use Rattle.am_audit.specs.Views.{lines_in}
 use Rattle.am_audit.specs.Keeping.{IsKept}
 use Rattle.am_audit.proofs.faults.first_fault.Given as goal

@@ -1,5 +1,5 @@
 use Rattle.std.proofs.Common.{◌≡◌, ◌+◌, ◌≤◌, drop}
-use Rattle.am_verdicts.specs.Verdicts.{first_misfit}
+use Rattle.am_audit_defs.specs.Verdicts.{first_misfit}
 use Rattle.am_base.specs.Most.{most_number}
 use Rattle.am_base.specs.Lists.{blank}
 use Rattle.am_audit.specs.Views.{texts_in}

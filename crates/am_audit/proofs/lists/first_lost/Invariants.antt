@@ -1,5 +1,5 @@
 use Rattle.std.proofs.Common.{◌≡◌, drop}
-use Rattle.am_verdicts.specs.Verdicts.{first_lost}
+use Rattle.am_audit_defs.specs.Verdicts.{first_lost}
 use Rattle.am_audit.specs.Views.{texts_in}
 use Rattle.am_audit.proofs.lists.first_lost.Given as goal
 

@@ -1,5 +1,5 @@
 use Rattle.std.proofs.Common.{◌≡◌, ℕ, ◌<◌, false, drop}
-use Rattle.am_verdicts.specs.Lines.{begins_mark}
+use Rattle.am_audit_defs.specs.Lines.{begins_mark}
 use Rattle.am_audit.proofs.mark.mark_cut.Given as goal
 
 abbrev pub invariant-loop-at : goal.invariant-loop-at

@@ -1,7 +1,7 @@
 use Rattle.std.proofs.Common.{◌≡◌, ℕ, ◌<◌, ◌≤◌, length, drop}
 use Rattle.std.specs.Ordering.{nat_cmp}
 use Rattle.std.specs.BTreeMap.{get}
-use Rattle.am_verdicts.specs.Verdicts.{first_asked}
+use Rattle.am_audit_defs.specs.Verdicts.{first_asked}
 use Rattle.am_audit.specs.Views.{lines_in}
 use Rattle.am_audit.specs.Keeping.{send_key}
 use Rattle.am_audit.proofs.sends.asking.Given as goal

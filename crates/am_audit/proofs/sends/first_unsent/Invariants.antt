@@ -1,5 +1,5 @@
 use Rattle.std.proofs.Common.{◌≡◌, drop}
-use Rattle.am_verdicts.specs.Verdicts.{first_unsent}
+use Rattle.am_audit_defs.specs.Verdicts.{first_unsent}
 use Rattle.am_audit.specs.Views.{lines_in, texts_in}
 use Rattle.am_audit.proofs.sends.first_unsent.Given as goal
 

@@ -1,14 +1,14 @@
 use Rattle.std.proofs.Common.{◌≡◌, List, [], length, drop}
-use Rattle.am_verdicts.specs.Lines.{Line}
-use Rattle.am_verdicts.specs.Verdicts.{first_untaken}
+use Rattle.am_audit_defs.specs.Lines.{Line}
+use Rattle.am_audit_defs.specs.Verdicts.{first_untaken}
 use Rattle.am_audit.specs.Views.{lines_in}
-use Rattle.am_audit.specs.Keeping.{IsCount}
+use Rattle.am_audit.specs.Keeping.{CountsEachName}
 use Rattle.am_audit.proofs.takes.first_untaken.Given as goal
 
 abbrev pub invariant-loop-at : goal.invariant-loop-at
 invariant-loop-at l = record {
   before : List Line;
   so_many : length before ≡ l.at;
-  done : IsCount l.done before;
+  done : CountsEachName l.done before;
   rest : first_untaken (lines_in l.fn.takes) before (lines_in (drop l.at l.logs)) ≡ first_untaken (lines_in l.fn.takes) [] (lines_in l.logs);
 }

@@ -1,5 +1,5 @@
 use Rattle.std.proofs.Common.{drop}
-use Rattle.am_verdicts.specs.Verdicts.{first_found}
+use Rattle.am_audit_defs.specs.Verdicts.{first_found}
 use Rattle.am_audit.specs.Views.{lines_in}
 use Rattle.am_audit.specs.Keeping.{IsPassing}
 use Rattle.am_audit.proofs.walk.first_found.Given as goal

@@ -1,5 +1,5 @@
 use Rattle.std.proofs.Common.{ℕ, ◌<◌}
-use Rattle.am_races.specs.Boxes.{InBoth}
+use Rattle.am_race_laws.specs.Boxes.{InBoth}
 use Rattle.am_calls.proofs.acts.least_of_both.Given as goal
 
 abbrev pub invariant-loop-place : goal.invariant-loop-place

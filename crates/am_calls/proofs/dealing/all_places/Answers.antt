@@ -2,8 +2,8 @@ use Rattle.std.proofs.Common.{ℕ, [], ◌∷◌, length-append, refl, ap, ◌�
 use Rattle.std.proofs.lemmas.Iterator.Adapters.{YieldsList-from_vec}
 use Rattle.std.proofs.lemmas.Iterator.Consumers.{YieldsList-end}
 use Rattle.std.specs.Vec.Iter.{into_iter_items, into_iter_len}
-use Rattle.am_races.specs.Ran.{HasPlaces}
-use Rattle.am_races.proofs.Joined.{place_more}
+use Rattle.am_race_laws.specs.Ran.{HasPlaces}
+use Rattle.am_race_laws.proofs.Joined.{joined_pass_adds_place}
 use Rattle.am_calls.proofs.dealing.all_places.Goals as goal
 
 pub loop-other-preserved : goal.loop-other-preserved
@@ -12,7 +12,7 @@ loop-other-preserved g c = (
       let so_far = c.loop-other.invariant.0 in
       omega arith,
   c.join.ensures.wire ∙ c.loop-other.invariant.1,
-  place_more c.loop-other.place c.loop-other.pass c.pass_of.result c.join.new.pass c.loop-other.invariant.2 c.join.ensures c.pass_of.ensures.keys,
+  joined_pass_adds_place c.loop-other.place c.loop-other.pass c.pass_of.result c.join.new.pass c.loop-other.invariant.2 c.join.ensures c.pass_of.ensures.keys,
 )
 
 pub returns-clause-places : goal.returns-clause-places

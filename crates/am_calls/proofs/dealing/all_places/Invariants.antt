@@ -1,5 +1,5 @@
 use Rattle.std.proofs.Common.{◌≡◌, ◌+◌, length}
-use Rattle.am_races.specs.Ran.{HasPlaces}
+use Rattle.am_race_laws.specs.Ran.{HasPlaces}
 use Rattle.am_calls.proofs.dealing.all_places.Given as goal
 
 abbrev pub invariant-loop-other : goal.invariant-loop-other

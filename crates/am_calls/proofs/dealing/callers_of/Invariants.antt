@@ -1,5 +1,5 @@
 use Rattle.std.proofs.Common.{◌≡◌, length}
-use Rattle.am_races.specs.Ran.{fresh_callers}
+use Rattle.am_race_laws.specs.Ran.{fresh_callers}
 use Rattle.am_calls.proofs.dealing.callers_of.Given as goal
 
 abbrev pub invariant-loop-share : goal.invariant-loop-share

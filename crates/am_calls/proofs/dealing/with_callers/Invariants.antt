@@ -1,5 +1,5 @@
 use Rattle.std.proofs.Common.{◌≡◌, All}
-use Rattle.am_races.specs.Ran.{HasPlaces, IsIn}
+use Rattle.am_race_laws.specs.Ran.{HasPlaces, IsIn}
 use Rattle.am_calls.proofs.dealing.with_callers.Given as goal
 
 abbrev pub invariant-loop-caller : goal.invariant-loop-caller

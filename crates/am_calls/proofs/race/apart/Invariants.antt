@@ -1,6 +1,6 @@
 use Rattle.std.proofs.Common.{◌≡◌, ◌≤◌, map, length, vec_len}
 use Rattle.std.specs.Prelude.{vec_capacity}
-use Rattle.am_races.specs.Ran.{first_refusal}
+use Rattle.am_race_laws.specs.Ran.{first_refusal}
 use Rattle.am_calls.proofs.race.apart.Given as goal
 
 abbrev pub invariant-loop-one : goal.invariant-loop-one

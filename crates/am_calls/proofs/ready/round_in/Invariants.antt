@@ -1,5 +1,5 @@
 use Rattle.std.proofs.Common.{◌≡◌, drop}
-use Rattle.am_races.specs.Ready.{round_in}
+use Rattle.am_race_laws.specs.Ready.{round_in}
 use Rattle.am_calls.proofs.ready.round_in.Given as goal
 
 abbrev pub invariant-loop-letter : goal.invariant-loop-letter

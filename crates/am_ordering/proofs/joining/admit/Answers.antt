@@ -1,5 +1,5 @@
 use Rattle.am_ordering.proofs.JoiningWords.{ℕ, ap, sym, ◌∙◌, subst, Report, with_admitted, reports_of, Node, NodeKeeps, node_of}
-use Rattle.am_ordering.proofs.Joins.{keeps_admitted}
+use Rattle.am_ordering.proofs.Joins.{node_keeps_by_admitted_report}
 use Rattle.am_ordering.proofs.joining.admit.Goals as goal
 
 pub invariant_of-parts : goal.invariant_of-parts
@@ -7,7 +7,7 @@ invariant_of-parts c =
     let old = node_of c.args.parts.now in
     record {
       keeps = subst (λ (r : ℕ → Report). NodeKeeps (record old { reports = r })) (sym c.admit.ensures)
-          (keeps_admitted old c.args.name c.base_of-base.result c.requires c.args.parts.now.keeps);
+          (node_keeps_by_admitted_report old c.args.name c.base_of-base.result c.requires c.args.parts.now.keeps);
     }
 
 pub returns : goal.returns

@@ -1,10 +1,10 @@
-use Rattle.am_ordering.proofs.JoiningWords.{refl, ap, ◌∙◌, Row, node_of, replying, replies_as}
-use Rattle.am_handlers.specs.declared.reply.Answer.TheVariants as answer
-use Rattle.am_handlers.specs.declared.reply.Telling.TheVariants as tell
-use Rattle.am_ordering.proofs.Leaves.{again_reply}
+use Rattle.am_ordering.proofs.JoiningWords.{refl, ap, ◌∙◌, Row, node_of, replying, equal_reply_of_equal_plan}
+use Rattle.am_node_parts.specs.declared.reply.StepAnswer.TheVariants as answer
+use Rattle.am_node_parts.specs.declared.reply.Telling.TheVariants as tell
+use Rattle.am_ordering.proofs.Leaves.{leave_again_replies_gone}
 use Rattle.am_ordering.proofs.leaving.leave_again.Goals as goal
 
 pub returns : goal.returns
 returns c =
-    replies_as refl (c.answering.ensures ∙ ap (λ (r : Row). replying (answer.LetGo c.args.from r.left) (tell.Gone c.args.from)) c.row-number.ensures.value)
-    (again_reply (node_of c.args.parts.now) c.args.from)
+    equal_reply_of_equal_plan refl (c.answering.ensures ∙ ap (λ (r : Row). replying (answer.LetGo c.args.from r.left) (tell.Gone c.args.from)) c.row-number.ensures.value)
+    (leave_again_replies_gone (node_of c.args.parts.now) c.args.from)

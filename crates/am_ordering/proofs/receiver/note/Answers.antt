@@ -1,5 +1,5 @@
-use Rattle.am_ordering.proofs.ReceivingWords.{node_of, steady_leads}
-use Rattle.am_ordering.proofs.Notes.{noted_end, end_noted_steady, end_noted_keeps}
+use Rattle.am_ordering.proofs.ReceivingWords.{node_of, steady_node_stays_sequencer}
+use Rattle.am_ordering.proofs.Notes.{end_of_node_with_noted, end_with_noted_is_steady, end_with_noted_keeps_node}
 use Rattle.am_ordering.proofs.receiver.note.Goals as goal
 
 pub invariant_of-parts : goal.invariant_of-parts
@@ -7,16 +7,16 @@ invariant_of-parts c =
     let old = node_of c.args.parts.now in
     let order = c.accept_front-before.ensures.order in
     record {
-      keeps = end_noted_keeps old _ c.args.base c.args.acc
-          (noted_end old c.note_fronts.new.core c.args.base c.args.acc order.kept c.note_fronts.ensures) c.args.parts.now.keeps;
+      keeps = end_with_noted_keeps_node old _ c.args.base c.args.acc
+          (end_of_node_with_noted old c.note_fronts.new.core c.args.base c.args.acc order.kept c.note_fronts.ensures) c.args.parts.now.keeps;
     }
 
 pub returns-clause-end : goal.returns-clause-end
 returns-clause-end c = let order = c.accept_front-before.ensures.order in
-    noted_end (node_of c.args.parts.now) c.note_fronts.new.core c.args.base c.args.acc order.kept c.note_fronts.ensures
+    end_of_node_with_noted (node_of c.args.parts.now) c.note_fronts.new.core c.args.base c.args.acc order.kept c.note_fronts.ensures
 
 pub returns-clause-steady : goal.returns-clause-steady
-returns-clause-steady c = end_noted_steady (node_of c.args.parts.now) _ c.args.base c.args.acc (returns-clause-end c)
+returns-clause-steady c = end_with_noted_is_steady (node_of c.args.parts.now) _ c.args.base c.args.acc (returns-clause-end c)
 
 pub returns-clause-leads : goal.returns-clause-leads
-returns-clause-leads c = steady_leads (node_of c.args.parts.now) _ (returns-clause-steady c)
+returns-clause-leads c = steady_node_stays_sequencer (node_of c.args.parts.now) _ (returns-clause-steady c)

@@ -1,6 +1,6 @@
 use Rattle.am_ordering.proofs.ReceivingWords.{ap, Option, ◌∙◌, subst, Entry, with_noted, receive_entry, order_row, is_member, node_of, Replies}
 use Rattle.am_base.specs.declared.outcome.Outcome.TheVariants as said
-use Rattle.am_ordering.proofs.Notes.{noted_replies}
+use Rattle.am_ordering.proofs.Notes.{receive_entry_with_noted_replies}
 use Rattle.am_ordering.proofs.receiver.on_order.Goals as goal
 
 pub returns : goal.returns
@@ -12,7 +12,7 @@ returns c =
     let P : Option Entry → Type 0 = λ found. Replies (receive_entry (with_noted old told.base told.acc) told.sender told.base told.number found missing)
     c.receive_entry.result (node_of c.receive_entry.new.parts) in
     subst P (c.standing.ensures ∙ c.data_of-data.ensures.value)
-    (noted_replies old (node_of c.note.new.parts) _ told.base told.acc told.sender told.number
+    (receive_entry_with_noted_replies old (node_of c.note.new.parts) _ told.base told.acc told.sender told.number
     c.standing.result missing _ c.note.ensures.end c.note.ensures.order c.receive_entry.ensures)
 
 pub receive_entry-requires-clause-follows : goal.receive_entry-requires-clause-follows

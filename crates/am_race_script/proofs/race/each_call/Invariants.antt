@@ -1,8 +1,8 @@
 use Rattle.std.proofs.Common.{◌≡◌, ◌+◌, ◌++◌, drop, Ok}
 use Rattle.am_script.specs.Seen.{items_seen}
-use Rattle.am_schedules.specs.Refusals.{◌>>=◌}
-use Rattle.am_schedules.specs.Values.{each_from}
-use Rattle.am_schedules.specs.Races.{call_from}
+use Rattle.am_script_defs.specs.Refusals.{◌>>=◌}
+use Rattle.am_script_defs.specs.Values.{each_from}
+use Rattle.am_script_defs.specs.Races.{call_from}
 use Rattle.am_race_script.proofs.race.each_call.Given as goal
 
 abbrev pub invariant-loop-before : goal.invariant-loop-before

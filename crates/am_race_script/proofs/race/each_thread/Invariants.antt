@@ -1,7 +1,7 @@
 use Rattle.std.proofs.Common.{◌≡◌, ◌+◌, ◌*◌, ◌^◌, ◌≤◌, ◌++◌, drop, Ok}
 use Rattle.am_script.specs.Seen.{items_seen}
-use Rattle.am_schedules.specs.Refusals.{◌>>=◌}
-use Rattle.am_schedules.specs.Races.{each_thread}
+use Rattle.am_script_defs.specs.Refusals.{◌>>=◌}
+use Rattle.am_script_defs.specs.Races.{each_thread}
 use Rattle.am_race_script.proofs.race.each_thread.Given as goal
 
 abbrev pub invariant-loop-value : goal.invariant-loop-value

@@ -1,9 +1,9 @@
-use Rattle.am_resetting.proofs.CatchingWords.{Option, sym, ap, subst, ◌∙◌, Entry, View, node_of, end_self, only_name, push_entry, trim_up_to, telling, ack_of}
-use Rattle.am_resetting.proofs.CatchingWords.{IsEndOf, hears_result, unless_denied, plan_of, MayStore, Denial, by_plan, by_reply, saying_of, replies_telling}
+use Rattle.am_resetting.proofs.CatchingWords.{Option, sym, ap, subst, ◌∙◌, Entry, View, node_of, untrimmed_node_ends_itself, only_name, push_entry, trim_up_to, telling, ack_of}
+use Rattle.am_resetting.proofs.CatchingWords.{IsEndOf, hears_result, unless_denied, plan_of, CatcherMayStore, Denial, reply_of_equal_plan, equal_reply_of_plan, saying_of, reply_tells_one_note}
 use Rattle.am_base.specs.declared.outcome.Outcome.TheVariants as said
-use Rattle.am_handlers.specs.declared.reply.Telling.TheVariants as tell
-use Rattle.am_handlers.specs.declared.reply.Note.TheVariants as note
-use Rattle.am_resetting.proofs.Pieces.{replies_plan, may_view, none_open}
+use Rattle.am_node_parts.specs.declared.reply.Telling.TheVariants as tell
+use Rattle.am_node_parts.specs.declared.reply.Note.TheVariants as note
+use Rattle.am_resetting.proofs.Pieces.{plan_replies_plain_telling, next_view_may_be_stored, ballot_of_other_is_over}
 use Rattle.am_resetting.proofs.catching.hears_result.Goals as goal
 
 pub returns-in-Some : goal.returns-in-Some
@@ -15,10 +15,10 @@ returns-in-Some c =
     let rest = telling (push_entry (trim_up_to old arrival.base) (View v)) (said.Stored arrival.number)
     (only_name arrival.from) ack_of in
     let row = hears_result old arrival.from arrival.base arrival.number v in
-    by_reply row c.saying.result (saying_of r.outcome r.telling) old c.saying.ensures
-    (by_plan row (plan_of old r.outcome r.telling) (saying_of r.outcome r.telling) old
+    equal_reply_of_plan row c.saying.result (saying_of r.outcome r.telling) old c.saying.ensures
+    (reply_of_equal_plan row (plan_of old r.outcome r.telling) (saying_of r.outcome r.telling) old
     (c.result_refusal.ensures.value ∙ ap (λ (x : Option Denial). unless_denied x old rest) c.in-Some.is)
-    (replies_plan old old r.outcome r.telling c.in-Some.ensures.plain (end_self old c.requires.order.kept)))
+    (plan_replies_plain_telling old old r.outcome r.telling c.in-Some.ensures.plain (untrimmed_node_ends_itself old c.requires.order.kept)))
 
 pub returns-in-None : goal.returns-in-None
 returns-in-None c =
@@ -32,17 +32,17 @@ returns-in-None c =
     let rest = telling w stored (only_name arrival.from) ack_of in
     let row = hears_result old arrival.from arrival.base arrival.number v in
     let reply = saying_of stored (tell.Note (only_name arrival.from) note.Ack) in
-    by_reply row c.saying-in-None.result reply new (c.saying-in-None.ensures ∙ ap (saying_of stored) c.note_to.ensures)
-    (by_plan row rest reply new (c.result_refusal.ensures.value ∙ ap (λ (x : Option Denial). unless_denied x old rest) c.in-None.is)
-    (replies_telling w new stored (only_name arrival.from) note.Ack tt
+    equal_reply_of_plan row c.saying-in-None.result reply new (c.saying-in-None.ensures ∙ ap (saying_of stored) c.note_to.ensures)
+    (reply_of_equal_plan row rest reply new (c.result_refusal.ensures.value ∙ ap (λ (x : Option Denial). unless_denied x old rest) c.in-None.is)
+    (reply_tells_one_note w new stored (only_name arrival.from) note.Ack tt
     (λ k. subst (λ (x : Entry). IsEndOf (push_entry (trim_up_to old arrival.base) x) new) c.view_entry.ensures
-    (c.store.ensures.changes old (end_self old c.requires.order.kept)))))
+    (c.store.ensures.changes old (untrimmed_node_ends_itself old c.requires.order.kept)))))
 
 pub store-requires : goal.store-requires
 store-requires c =
     let arrival = c.args.arrival.now in
     let v = c.args.view.now in
     let old = node_of c.args.parts.now in
-    subst (λ (x : Entry). MayStore old arrival.base x) (sym c.view_entry.ensures)
-    (may_view old arrival.base arrival.number v c.requires.order c.requires.logged c.requires.promise
-    (none_open old v.stamp c.args.parts.now.keeps c.requires.promise c.requires.other) c.requires.within c.requires.number c.in-None.ensures.next)
+    subst (λ (x : Entry). CatcherMayStore old arrival.base x) (sym c.view_entry.ensures)
+    (next_view_may_be_stored old arrival.base arrival.number v c.requires.order c.requires.logged c.requires.promise
+    (ballot_of_other_is_over old v.stamp c.args.parts.now.keeps c.requires.promise c.requires.other) c.requires.within c.requires.number c.in-None.ensures.next)

@@ -1,6 +1,6 @@
-use Rattle.am_resetting.proofs.CatchingWords.{Some, sym, ◌∙◌, ballot_of, node_of, piece_for, with_ballot, end_as, by_reply, quiet_of}
+use Rattle.am_resetting.proofs.CatchingWords.{Some, sym, ◌∙◌, ballot_of, node_of, piece_for, with_ballot, untrimmed_node_has_equal_end, equal_reply_of_plan, quiet_of}
 use Rattle.am_base.specs.declared.outcome.Outcome.TheVariants as said
-use Rattle.am_resetting.proofs.Pieces.{piece_elsewhere}
+use Rattle.am_resetting.proofs.Pieces.{piece_of_ballot_is_elsewhere}
 use Rattle.am_resetting.proofs.catching.piece_for.Goals as goal
 
 pub returns-then-not-fetches_from : goal.returns-then-not-fetches_from
@@ -9,8 +9,8 @@ returns-then-not-fetches_from c =
     let b = ballot_of c.args.ballot in
     let m = with_ballot (node_of c.args.parts.now) (Some b) in
     let new = node_of c.put_back-then-not-fetches_from.new.parts in
-    by_reply (piece_for m arrival.from arrival.stamp arrival.base arrival.number c.args.entry.now (Some b)) c.quiet.result (quiet_of said.Elsewhere) new
+    equal_reply_of_plan (piece_for m arrival.from arrival.stamp arrival.base arrival.number c.args.entry.now (Some b)) c.quiet.result (quiet_of said.Elsewhere) new
     c.quiet.ensures
-    (piece_elsewhere m new arrival.from arrival.stamp arrival.base arrival.number c.args.entry.now b (sym c.is_over.ensures
+    (piece_of_ballot_is_elsewhere m new arrival.from arrival.stamp arrival.base arrival.number c.args.entry.now b (sym c.is_over.ensures
     ∙ c.if-is_over.false) (sym c.fetches_from.ensures ∙ c.if-not-fetches_from.true)
-    (end_as m new c.requires.order.kept c.put_back-then-not-fetches_from.ensures))
+    (untrimmed_node_has_equal_end m new c.requires.order.kept c.put_back-then-not-fetches_from.ensures))

@@ -1,7 +1,7 @@
 use Rattle.am_resetting.proofs.DecidingWords.{◌≡◌, ◌+◌, ◌-◌, ◌≤◌, ℕ, List, length, true, Some, ap, sym, subst, ◌∙◌, arith, nat_tests, Entry, View, Stamp}
 use Rattle.am_resetting.proofs.DecidingWords.{Outcome, fits, size, has, stamp_lt, IsKept, reports_from, NodeKeeps, node_of, ballot_of, Node, Ballot, image_of}
-use Rattle.am_resetting.proofs.DecidingWords.{push_entry, with_end, decided_view, IsEndOf, has_size, IsTakenOut, MayBeView, put_back}
-use Rattle.am_resetting.proofs.{Orders.lt_self, Views.fits_view, Nodes.keeps_pushed, Nodes.taken_idle, Verdicts.decided_comes, Verdicts.own_ended}
+use Rattle.am_resetting.proofs.DecidingWords.{push_entry, with_end, decided_view, IsEndOf, set_with_name_has_size, IsTakenOut, MayBeView, put_back}
+use Rattle.am_resetting.proofs.{Orders.stamp_not_lt_itself, Views.view_above_fits_image, Nodes.node_keeps_by_push, Nodes.node_without_ballot_acts_not, Verdicts.decide_with_room_comes, Verdicts.ended_ballot_is_own}
 use Rattle.am_resetting.proofs.deciding.push_view.Goals as goal
 
 -- the View of a ballot that was taken out fits
@@ -9,16 +9,16 @@ own_view_fits : (m : Node) (b : Ballot) (names : List ℕ) → IsTakenOut m b �
     → fits (image_of m) (View (decided_view m b names)) ≡ true
 own_view_fits m b names is may =
     let by = (is.own).by is.is_open in
-    fits_view (image_of m) (decided_view m b names) ((is.own).ahead is.is_open) may.within (ap (has names) by
+    view_above_fits_image (image_of m) (decided_view m b names) ((is.own).ahead is.is_open) may.within (ap (has names) by
     ∙ may.itself) (omega arith)
 
 own_view_keeps : (m : Node) (b : Ballot) (names : List ℕ) (capacity : ℕ) → IsKept m.core.log capacity → IsTakenOut m b → MayBeView m names → NodeKeeps m
     → NodeKeeps (push_entry m (View (decided_view m b names)))
 own_view_keeps m b names capacity kept is may keeps =
     let stamp = (is.own).stamp is.is_open in
-    keeps_pushed m (View (decided_view m b names)) capacity kept keeps (own_view_fits m b names is may)
-    (ap (λ (p : Stamp). stamp_lt p b.stamp) (sym stamp) ∙ lt_self b.stamp)
-    (taken_idle m b is) ((is.own).logged is.is_open) (λ other there. absurd (let x = sym is.out ∙ there in cc))
+    node_keeps_by_push m (View (decided_view m b names)) capacity kept keeps (own_view_fits m b names is may)
+    (ap (λ (p : Stamp). stamp_lt p b.stamp) (sym stamp) ∙ stamp_not_lt_itself b.stamp)
+    (node_without_ballot_acts_not m b is) ((is.own).logged is.is_open) (λ other there. absurd (let x = sym is.out ∙ there in cc))
 
 pub push-requires-clause-fits : goal.push-requires-clause-fits
 push-requires-clause-fits c = ap (fits (image_of (node_of c.args.parts.now))) c.view_of.ensures.value
@@ -26,7 +26,7 @@ push-requires-clause-fits c = ap (fits (image_of (node_of c.args.parts.now))) c.
 
 pub push-requires-clause-room : goal.push-requires-clause-room
 push-requires-clause-room c =
-    let some = has_size c.args.names c.args.parts.now.core.who c.requires.names.itself in
+    let some = set_with_name_has_size c.args.names c.args.parts.now.core.who c.requires.names.itself in
     let start = c.requires.ballot.order.kept in
     let room = c.requires.room in
     let low : c.args.parts.now.core.log.start + length c.args.parts.now.core.log.entries + 1 - c.args.parts.now.core.base ≤ c.args.parts.now.core.rules.window
@@ -46,7 +46,7 @@ returns-clause-comes c =
     let mid = node_of c.push.new.parts in
     let b = ballot_of c.args.ballot.now in
     let e = View (decided_view old b c.args.names) in
-    decided_comes old mid (put_back (node_of c.restart.new.parts) (ballot_of c.close.new.ballot)) b c.args.names c.close.result c.requires.room
+    decide_with_room_comes old mid (put_back (node_of c.restart.new.parts) (ballot_of c.close.new.ballot)) b c.args.names c.close.result c.requires.room
     (λ all end. subst (λ (x : Entry). IsEndOf (push_entry all x) mid) c.view_of.ensures.value (c.push.ensures.changes all end))
     (c.close.ensures.answer ∙ c.decided_answer-answer.ensures.value)
     (ap (put_back (node_of c.restart.new.parts)) c.close.ensures.ballot ∙ ap (λ (x : Node). record x { ballot = Some (with_end b c.decided_answer-answer.result) }) c.restart.ensures
@@ -55,4 +55,4 @@ returns-clause-comes c =
 
 pub returns-clause-own : goal.returns-clause-own
 returns-clause-own c =
-    own_ended (node_of c.restart.new.parts) (ballot_of c.args.ballot.now) c.close.ensures (c.requires.ballot.own).resilience
+    ended_ballot_is_own (node_of c.restart.new.parts) (ballot_of c.args.ballot.now) c.close.ensures (c.requires.ballot.own).resilience

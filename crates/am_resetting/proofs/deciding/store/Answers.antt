@@ -1,5 +1,5 @@
 use Rattle.am_resetting.proofs.DecidingWords.{◌+◌, ap, sym, subst, arith, Rules, Node, push_entry, trim_up_to, IsSteady, node_of}
-use Rattle.am_resetting.proofs.Nodes.{keeps_stored, steady_pushed}
+use Rattle.am_resetting.proofs.Nodes.{node_keeps_by_stored_piece, steady_nodes_after_same_push}
 use Rattle.am_resetting.proofs.deciding.store.Goals as goal
 
 pub push-requires-clause-room : goal.push-requires-clause-room
@@ -14,7 +14,7 @@ push-requires-clause-room c =
 pub push-requires-clause-keeps : goal.push-requires-clause-keeps
 push-requires-clause-keeps c =
     let mid = node_of c.trim.new.parts in
-    keeps_stored (node_of c.args.parts.now) mid c.args.base c.args.entry.now
+    node_keeps_by_stored_piece (node_of c.args.parts.now) mid c.args.base c.args.entry.now
     (mid.core.rules.window + 15) c.accept_front-before.ensures.kept c.requires c.trim.ensures.steady c.trim.new.parts.keeps
 
 pub returns-clause-changes : goal.returns-clause-changes
@@ -25,4 +25,4 @@ returns-clause-steady c =
     let old = node_of c.args.parts.now in
     let mid = node_of c.trim.new.parts in
     let e = c.args.entry.now in
-    subst (λ (x : Node). IsSteady (push_entry old e) x) (sym c.push.ensures.value) (steady_pushed old mid e c.trim.ensures.steady)
+    subst (λ (x : Node). IsSteady (push_entry old e) x) (sym c.push.ensures.value) (steady_nodes_after_same_push old mid e c.trim.ensures.steady)

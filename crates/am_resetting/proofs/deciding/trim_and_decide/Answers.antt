@@ -1,10 +1,10 @@
-use Rattle.am_resetting.proofs.DecidingWords.{ap, ◌∙◌, arith, Image, members_of, has, is_within, node_of, ballot_of, own_steady, put_back}
-use Rattle.am_resetting.proofs.Verdicts.{trimmed_comes}
+use Rattle.am_resetting.proofs.DecidingWords.{ap, ◌∙◌, arith, Image, members_of, has, is_within, node_of, ballot_of, own_ballot_of_steady_node, put_back}
+use Rattle.am_resetting.proofs.Verdicts.{decide_after_trim_comes}
 use Rattle.am_resetting.proofs.deciding.trim_and_decide.Goals as goal
 
 pub returns-clause-comes : goal.returns-clause-comes
 returns-clause-comes c =
-    trimmed_comes (node_of c.args.parts.now) (node_of c.trim.new.parts)
+    decide_after_trim_comes (node_of c.args.parts.now) (node_of c.trim.new.parts)
     (put_back (node_of c.decide_view.new.parts) (ballot_of c.decide_view.new.ballot))
     (ballot_of c.args.ballot.now) c.args.names c.decide_view.result c.least_taken-least.result c.least_taken-least.ensures.value c.trim.ensures.changes
     c.decide_view.ensures.comes
@@ -13,7 +13,7 @@ pub decide_view-requires-clause-ballot : goal.decide_view-requires-clause-ballot
 decide_view-requires-clause-ballot c = record {
   order = c.trim.ensures.order;
   out = c.trim.ensures.steady.ballot ∙ c.requires.ballot.out;
-  own = own_steady (node_of c.args.parts.now) (node_of c.trim.new.parts) (ballot_of c.args.ballot.now) c.trim.ensures.steady c.requires.ballot.own;
+  own = own_ballot_of_steady_node (node_of c.args.parts.now) (node_of c.trim.new.parts) (ballot_of c.args.ballot.now) c.trim.ensures.steady c.requires.ballot.own;
   is_open = c.requires.ballot.is_open;
   number = let t = c.trim.ensures.steady.top in let n = c.requires.ballot.number in omega arith;
 }

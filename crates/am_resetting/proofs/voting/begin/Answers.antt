@@ -1,6 +1,6 @@
-use Rattle.am_resetting.proofs.VotingWords.{◌≡◌, min, None, sym, subst, ◌∙◌, ballot_of, node_of, end_self, Node, Ballot, others, with_promise, next_stamp, new_ballot, false}
-use Rattle.am_resetting.proofs.VotingWords.{begin, decide, IsTakenOut, ComesTo, replies_ballot, asking_of, by_reply, decide_with}
-use Rattle.am_resetting.proofs.Ballots.{begins, next_node}
+use Rattle.am_resetting.proofs.VotingWords.{◌≡◌, min, None, sym, subst, ◌∙◌, ballot_of, node_of, untrimmed_node_ends_itself, Node, Ballot, others, with_promise, next_stamp, new_ballot, false}
+use Rattle.am_resetting.proofs.VotingWords.{begin, decide, IsTakenOut, VerdictComesTo, reply_asks_names_of_ballot, asking_of, equal_reply_of_plan, decide_without_own_ballot}
+use Rattle.am_resetting.proofs.Ballots.{new_ballot_is_taken_out, node_with_next_stamp}
 use Rattle.am_resetting.proofs.voting.begin.Goals as goal
 
 pub decide-outcome-requires : goal.decide-outcome-requires
@@ -8,12 +8,12 @@ decide-outcome-requires c =
     let old = node_of c.args.parts.now in
     let mid = node_of c.raise_promise.new.parts in
     let stamp : c.next_stamp-stamp.result ≡ next_stamp old = c.next_stamp-stamp.ensures.value in
-    let node : mid ≡ next_node old = c.raise_promise.ensures ∙ (λ k. with_promise (c.drop_ballot.ensures k) (stamp k)) in
+    let node : mid ≡ node_with_next_stamp old = c.raise_promise.ensures ∙ (λ k. with_promise (c.drop_ballot.ensures k) (stamp k)) in
     let ballot : ballot_of c.new-ballot.result ≡ new_ballot (next_stamp old) c.args.least (min c.args.resilience 15) = c.new-ballot.ensures
     ∙ (λ k. new_ballot ((c.copy_of.ensures ∙ stamp) k) c.args.least (c.min.ensures k)) in
     subst (λ (x : Node). IsTakenOut x (ballot_of c.new-ballot.result)) (sym node)
-    (subst (λ (b : Ballot). IsTakenOut (next_node old) b) (sym ballot)
-    (begins old c.args.least c.args.resilience c.requires.order c.args.parts.now.keeps c.requires.logged c.requires.number))
+    (subst (λ (b : Ballot). IsTakenOut (node_with_next_stamp old) b) (sym ballot)
+    (new_ballot_is_taken_out old c.args.least c.args.resilience c.requires.order c.args.parts.now.keeps c.requires.logged c.requires.number))
 
 pub returns : goal.returns
 unfolding begin
@@ -22,14 +22,14 @@ returns c =
     let mid = node_of c.raise_promise.new.parts in
     let new = node_of c.decide-outcome.new.parts in
     let stamp : c.next_stamp-stamp.result ≡ next_stamp old = c.next_stamp-stamp.ensures.value in
-    let node : mid ≡ next_node old = c.raise_promise.ensures ∙ (λ k. with_promise (c.drop_ballot.ensures k) (stamp k)) in
+    let node : mid ≡ node_with_next_stamp old = c.raise_promise.ensures ∙ (λ k. with_promise (c.drop_ballot.ensures k) (stamp k)) in
     let b = new_ballot (next_stamp old) c.args.least (min c.args.resilience 15) in
     let ballot : ballot_of c.new-ballot.result ≡ b = c.new-ballot.ensures ∙ (λ k. new_ballot ((c.copy_of.ensures ∙ stamp) k) c.args.least (c.min.ensures k)) in
     let kept : mid.core.base ≡ mid.core.log.start = subst (λ (x : Node). x.core.base ≡ x.core.log.start) (sym node) c.requires.order.kept in
     let same : decide mid (ballot_of c.new-ballot.result) ≡ decide (with_promise old (next_stamp old)) b = (λ k. decide (node k) (ballot k))
-    ∙ decide_with (with_promise old (next_stamp old)) None b in
-    let comes : ComesTo (decide (with_promise old (next_stamp old)) b) c.decide-outcome.result new =
-    subst (λ v. ComesTo v c.decide-outcome.result new) same (c.decide-outcome.ensures.comes mid (end_self mid kept)) in
-    by_reply (begin old c.args.least c.args.resilience) c.asking.result (asking_of c.decide-outcome.result c.others_of-invited.result false) new c.asking.ensures
-    (replies_ballot (decide (with_promise old (next_stamp old)) b) new c.decide-outcome.result
+    ∙ decide_without_own_ballot (with_promise old (next_stamp old)) None b in
+    let comes : VerdictComesTo (decide (with_promise old (next_stamp old)) b) c.decide-outcome.result new =
+    subst (λ v. VerdictComesTo v c.decide-outcome.result new) same (c.decide-outcome.ensures.comes mid (untrimmed_node_ends_itself mid kept)) in
+    equal_reply_of_plan (begin old c.args.least c.args.resilience) c.asking.result (asking_of c.decide-outcome.result c.others_of-invited.result false) new c.asking.ensures
+    (reply_asks_names_of_ballot (decide (with_promise old (next_stamp old)) b) new c.decide-outcome.result
     (others old) c.others_of-invited.result comes c.decide-outcome.ensures.told c.others_of-invited.ensures)

@@ -1,19 +1,19 @@
-use Rattle.am_resetting.proofs.VotingWords.{sym, subst, node_of, ballot_of, end_self, Ballot, without_voter, give_up, decide, IsTakenOut, ComesTo, replies_silent, asking_of, by_reply, true}
-use Rattle.am_resetting.proofs.Ballots.{taken_given}
+use Rattle.am_resetting.proofs.VotingWords.{sym, subst, node_of, ballot_of, untrimmed_node_ends_itself, Ballot, without_voter, give_up, decide, IsTakenOut, VerdictComesTo, reply_fetches_and_asks_nobody, asking_of, equal_reply_of_plan, true}
+use Rattle.am_resetting.proofs.Ballots.{taken_out_ballot_without_voter}
 use Rattle.am_resetting.proofs.voting.give_up.Goals as goal
 
 pub decide-outcome-requires : goal.decide-outcome-requires
 decide-outcome-requires c =
     let old = node_of c.args.parts.now in
-    subst (λ (b : Ballot). IsTakenOut old b) (sym c.give_up.ensures) (taken_given old (ballot_of c.args.ballot) c.args.name c.requires.other c.requires.ballot)
+    subst (λ (b : Ballot). IsTakenOut old b) (sym c.give_up.ensures) (taken_out_ballot_without_voter old (ballot_of c.args.ballot) c.args.name c.requires.other c.requires.ballot)
 
 pub returns : goal.returns
 unfolding give_up
 returns c =
     let old = node_of c.args.parts.now in
     let new = without_voter (ballot_of c.args.ballot) c.args.name in
-    let comes : ComesTo (decide old new) c.decide-outcome.result (node_of c.decide-outcome.new.parts) =
-    subst (λ (b : Ballot). ComesTo (decide old b) c.decide-outcome.result (node_of c.decide-outcome.new.parts)) c.give_up.ensures
-    (c.decide-outcome.ensures.comes old (end_self old c.requires.ballot.order.kept)) in
-    by_reply (give_up old (ballot_of c.args.ballot) c.args.name) c.asking.result (asking_of c.decide-outcome.result c.empty.result true) (node_of c.decide-outcome.new.parts) c.asking.ensures
-    (replies_silent (decide old new) (node_of c.decide-outcome.new.parts) c.decide-outcome.result c.empty.result comes c.decide-outcome.ensures.told c.empty.ensures)
+    let comes : VerdictComesTo (decide old new) c.decide-outcome.result (node_of c.decide-outcome.new.parts) =
+    subst (λ (b : Ballot). VerdictComesTo (decide old b) c.decide-outcome.result (node_of c.decide-outcome.new.parts)) c.give_up.ensures
+    (c.decide-outcome.ensures.comes old (untrimmed_node_ends_itself old c.requires.ballot.order.kept)) in
+    equal_reply_of_plan (give_up old (ballot_of c.args.ballot) c.args.name) c.asking.result (asking_of c.decide-outcome.result c.empty.result true) (node_of c.decide-outcome.new.parts) c.asking.ensures
+    (reply_fetches_and_asks_nobody (decide old new) (node_of c.decide-outcome.new.parts) c.decide-outcome.result c.empty.result comes c.decide-outcome.ensures.told c.empty.ensures)

@@ -1,13 +1,13 @@
-use Rattle.am_resetting.proofs.VotingWords.{◌≡◌, sym, subst, node_of, ballot_of, end_self, Ballot, with_vote, newly_needed, keep_vote, decide, IsTakenOut, ComesTo, true}
-use Rattle.am_resetting.proofs.VotingWords.{replies_asking, asking_of, by_reply}
-use Rattle.am_resetting.proofs.Ballots.{taken_voted, newly_is}
+use Rattle.am_resetting.proofs.VotingWords.{◌≡◌, sym, subst, node_of, ballot_of, untrimmed_node_ends_itself, Ballot, with_vote, newly_needed, keep_vote, decide, IsTakenOut, VerdictComesTo, true}
+use Rattle.am_resetting.proofs.VotingWords.{reply_asks_names_and_fetches, asking_of, equal_reply_of_plan}
+use Rattle.am_resetting.proofs.Ballots.{taken_out_ballot_with_vote, minus_is_newly_needed}
 use Rattle.am_resetting.proofs.voting.keep_vote.Goals as goal
 
 pub decide-outcome-requires : goal.decide-outcome-requires
 decide-outcome-requires c =
     let old = node_of c.args.parts.now in
     subst (λ (b : Ballot). IsTakenOut old b) (sym c.keep.ensures)
-    (taken_voted old (ballot_of c.args.ballot) c.args.from c.args.vote.now c.requires.other c.requires.ballot)
+    (taken_out_ballot_with_vote old (ballot_of c.args.ballot) c.args.from c.args.vote.now c.requires.other c.requires.ballot)
 
 pub returns : goal.returns
 unfolding keep_vote
@@ -15,12 +15,12 @@ returns c =
     let old = node_of c.args.parts.now in
     let new = with_vote (ballot_of c.args.ballot) c.args.from c.args.vote.now in
     let invited : c.newly_needed-invited.result ≡ newly_needed old (ballot_of c.args.ballot) new =
-    newly_is old (ballot_of c.args.ballot) new (ballot_of c.keep.new.self) c.name_of-who.result c.own_vote-own.result c.best.result c.best-2.result
+    minus_is_newly_needed old (ballot_of c.args.ballot) new (ballot_of c.keep.new.self) c.name_of-who.result c.own_vote-own.result c.best.result c.best-2.result
     c.newly_needed-invited.result c.members-before.result c.members-needed.result c.keep.ensures c.name_of-who.ensures c.own_vote-own.ensures.value
     c.best.ensures c.best-2.ensures c.members-before.ensures c.members-needed.ensures c.newly_needed-invited.ensures in
-    let comes : ComesTo (decide old new) c.decide-outcome.result (node_of c.decide-outcome.new.parts) =
-    subst (λ (b : Ballot). ComesTo (decide old b) c.decide-outcome.result (node_of c.decide-outcome.new.parts)) c.keep.ensures
-    (c.decide-outcome.ensures.comes old (end_self old c.requires.ballot.order.kept)) in
-    by_reply (keep_vote old (ballot_of c.args.ballot) c.args.from c.args.vote.now) c.asking.result (asking_of c.decide-outcome.result c.newly_needed-invited.result true) (node_of c.decide-outcome.new.parts) c.asking.ensures
-    (replies_asking (decide old new) (node_of c.decide-outcome.new.parts) c.decide-outcome.result
+    let comes : VerdictComesTo (decide old new) c.decide-outcome.result (node_of c.decide-outcome.new.parts) =
+    subst (λ (b : Ballot). VerdictComesTo (decide old b) c.decide-outcome.result (node_of c.decide-outcome.new.parts)) c.keep.ensures
+    (c.decide-outcome.ensures.comes old (untrimmed_node_ends_itself old c.requires.ballot.order.kept)) in
+    equal_reply_of_plan (keep_vote old (ballot_of c.args.ballot) c.args.from c.args.vote.now) c.asking.result (asking_of c.decide-outcome.result c.newly_needed-invited.result true) (node_of c.decide-outcome.new.parts) c.asking.ensures
+    (reply_asks_names_and_fetches (decide old new) (node_of c.decide-outcome.new.parts) c.decide-outcome.result
     (newly_needed old (ballot_of c.args.ballot) new) c.newly_needed-invited.result comes c.decide-outcome.ensures.told invited)

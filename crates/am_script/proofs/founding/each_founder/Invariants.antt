@@ -1,7 +1,7 @@
 use Rattle.std.proofs.Common.{◌≡◌, drop}
 use Rattle.am_script.specs.Seen.{items_seen}
 use Rattle.am_base.specs.Names.{nobody}
-use Rattle.am_schedules.specs.Founders.{each_founder}
+use Rattle.am_script_defs.specs.Founders.{each_founder}
 use Rattle.am_script.proofs.founding.each_founder.Given as goal
 
 abbrev pub invariant-loop-value : goal.invariant-loop-value

@@ -1,8 +1,8 @@
 use Rattle.std.proofs.Common.{◌≡◌, ◌+◌, ◌++◌, drop, Ok}
 use Rattle.am_script.specs.Seen.{items_seen}
-use Rattle.am_schedules.specs.Refusals.{◌>>=◌}
-use Rattle.am_schedules.specs.Values.{each_from}
-use Rattle.am_schedules.specs.Events.{event_from}
+use Rattle.am_script_defs.specs.Refusals.{◌>>=◌}
+use Rattle.am_script_defs.specs.Values.{each_from}
+use Rattle.am_script_defs.specs.Events.{event_from}
 use Rattle.am_script.proofs.play.each_event.Given as goal
 
 abbrev pub invariant-loop-before : goal.invariant-loop-before

@@ -1,6 +1,6 @@
 use Rattle.std.proofs.Common.{◌≡◌, ◌++◌, length, decimal, string_bytes}
 use Rattle.std.specs.List.{flat_map}
-use Rattle.am_dir.specs.Kept.{contents_in}
+use Rattle.am_directory.specs.Kept.{contents_in}
 use Rattle.am_services.specs.Texts.{directory_line, setting_line}
 use Rattle.am_services.proofs.directories.push_replica.Given as goal
 

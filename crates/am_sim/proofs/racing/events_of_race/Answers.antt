@@ -2,11 +2,11 @@ use Rattle.std.proofs.Common.{◌∙◌, ap, length, arith}
 use Rattle.std.proofs.lemmas.List.{length-map}
 use Rattle.am_group.specs.declared.event.Record.{Record}
 use Rattle.am_sim.specs.Racing.{events_of}
-use Rattle.am_sim.proofs.Raced.{may_race}
+use Rattle.am_sim.proofs.Raced.{race_within_may_race}
 use Rattle.am_sim.proofs.racing.events_of_race.Goals as goal
 
 pub race-requires-clause-within : goal.race-requires-clause-within
-race-requires-clause-within g c = λ _ _. may_race c.args.plan.now c.requires
+race-requires-clause-within g c = λ _ _. race_within_may_race c.args.plan.now c.requires
 
 pub returns-clause-raced : goal.returns-clause-raced
 returns-clause-raced g c = (

@@ -1,13 +1,13 @@
 use Rattle.std.proofs.Common.{◌≡◌, ℕ, List, Option, Some, subst, sym}
 use Rattle.std.specs.Io.KnownBytes.{Appends}
 use Rattle.am_io.specs.Outside.{ReadToEnd, GaveMore, GaveAtMost}
-use Rattle.am_words.specs.declared.form.Form.{Form}
-use Rattle.am_words.specs.declared.form.Form.TheVariants as form
-use Rattle.am_words.specs.Forms.{Generates}
-use Rattle.am_player.specs.Statuses.{IfBadScript, OnDone, OnWriteFault, WrotePart}
-use Rattle.am_sim.specs.Simulation.{form_of_words, most_of, Reads, ReadsScript, IsRefused, IsAnswer}
-use Rattle.am_player.proofs.Statuses.{took_counts, took_more, took_few, wrote_counts, wrote_part, wrote_whole, wrote_none}
-use Rattle.am_sim.proofs.Answered.{bad_if, reads_if}
+use Rattle.am_cli_words.specs.declared.form.Form.{Form}
+use Rattle.am_cli_words.specs.declared.form.Form.TheVariants as form
+use Rattle.am_cli_words.specs.Forms.{Generates}
+use Rattle.am_player.specs.Statuses.{IfBadScript, OnDone, OnWriteFault, WroteTextPart}
+use Rattle.am_sim.specs.Simulation.{form_of_words, most_bytes_of, FormReads, ReadsScript, InputIsRefused, IsTextOfForm}
+use Rattle.am_player.proofs.Statuses.{status_counts_reads, status_took_more_than_limit, status_took_at_most_limit, status_counts_writes, status_wrote_part_of_text, status_wrote_whole_text, status_wrote_nothing}
+use Rattle.am_sim.proofs.Answered.{bad_script_claim_holds, bad_script_form_reads_script}
 use Rattle.am_sim.proofs.simulate.simulate.Given.{Over}
 use Rattle.am_sim.proofs.simulate.simulate.Goals as goal
 
@@ -20,7 +20,7 @@ returns-then-is_race-clause-usage g c =
     (λ e. absurd (c.race_script.ensures.not_usage e), λ e. cc)
 
 pub returns-then-is_race-clause-unread : goal.returns-then-is_race-clause-unread
-returns-then-is_race-clause-unread g c = λ none. absurd (none (subst Reads (sym (is_asked g c)) tt))
+returns-then-is_race-clause-unread g c = λ none. absurd (none (subst FormReads (sym (is_asked g c)) tt))
 
 pub returns-then-is_race-clause-generates : goal.returns-then-is_race-clause-generates
 returns-then-is_race-clause-generates g c = λ gen. absurd (subst Generates (is_asked g c) gen)
@@ -29,49 +29,49 @@ pub returns-then-is_race-clause-bad_script : goal.returns-then-is_race-clause-ba
 returns-then-is_race-clause-bad_script g c =
     subst (λ (a : Option Form). IfBadScript c.race_script.result (λ cause. (x : List ℕ)
     × ReadToEnd (g.S.Source.left c.args.source.now) (g.S.Source.left c.race_script.new.source) x
-    × IsRefused a x cause)) (sym (is_asked g c)) c.race_script.ensures.bad_script
+    × InputIsRefused a x cause)) (sym (is_asked g c)) c.race_script.ensures.bad_script
 
 pub returns-then-is_race-clause-scripts : goal.returns-then-is_race-clause-scripts
 returns-then-is_race-clause-scripts g c =
-    bad_if c.race_script.result (ReadsScript (form_of_words c.args.words.now)) (subst ReadsScript (sym (is_asked g c)) tt)
+    bad_script_claim_holds c.race_script.result (ReadsScript (form_of_words c.args.words.now)) (subst ReadsScript (sym (is_asked g c)) tt)
 
 pub returns-then-is_race-clause-part : goal.returns-then-is_race-clause-part
 returns-then-is_race-clause-part g c = λ not_node.
     subst (λ (a : Option Form). OnWriteFault c.race_script.result ((x : List ℕ)
-    × IsAnswer a (g.S.Source.left c.args.source.now) (g.S.Source.left c.race_script.new.source) x
-    × WrotePart (g.K.Sink.contents c.args.sink.now) (g.K.Sink.contents c.race_script.new.sink) x)) (sym (is_asked g c))
-    (wrote_part g.K.Sink.contents g.K.Sink.count _ c.race_script.result _ _ c.race_script.ensures.wrote)
+    × IsTextOfForm a (g.S.Source.left c.args.source.now) (g.S.Source.left c.race_script.new.source) x
+    × WroteTextPart (g.K.Sink.contents c.args.sink.now) (g.K.Sink.contents c.race_script.new.sink) x)) (sym (is_asked g c))
+    (status_wrote_part_of_text g.K.Sink.contents g.K.Sink.count _ c.race_script.result _ _ c.race_script.ensures.wrote)
 
 pub returns-then-is_race-clause-done : goal.returns-then-is_race-clause-done
 returns-then-is_race-clause-done g c =
     subst (λ (a : Option Form). OnDone c.race_script.result ((x : List ℕ)
-    × IsAnswer a (g.S.Source.left c.args.source.now) (g.S.Source.left c.race_script.new.source) x
+    × IsTextOfForm a (g.S.Source.left c.args.source.now) (g.S.Source.left c.race_script.new.source) x
     × Appends (g.K.Sink.contents c.args.sink.now) (g.K.Sink.contents c.race_script.new.sink) x)) (sym (is_asked g c))
-    (wrote_whole g.K.Sink.contents g.K.Sink.count _ c.race_script.result _ _ c.race_script.ensures.wrote)
+    (status_wrote_whole_text g.K.Sink.contents g.K.Sink.count _ c.race_script.result _ _ c.race_script.ensures.wrote)
 
 pub returns-then-is_race-clause-within : goal.returns-then-is_race-clause-within
 returns-then-is_race-clause-within g c = λ not_node other.
-    subst (λ (a : Option Form). GaveAtMost (most_of a) (g.S.Source.left c.args.source.now) (g.S.Source.left c.race_script.new.source)) (sym (is_asked g c))
-    (took_few g.S.Source.left g.S.Source.count _ c.race_script.result _ _ other c.race_script.ensures.took)
+    subst (λ (a : Option Form). GaveAtMost (most_bytes_of a) (g.S.Source.left c.args.source.now) (g.S.Source.left c.race_script.new.source)) (sym (is_asked g c))
+    (status_took_at_most_limit g.S.Source.left g.S.Source.count _ c.race_script.result _ _ other c.race_script.ensures.took)
 
 pub returns-then-is_race-clause-too_long : goal.returns-then-is_race-clause-too_long
 returns-then-is_race-clause-too_long g c = λ is.
-    subst (λ (a : Option Form). GaveMore (most_of a) (g.S.Source.left c.args.source.now) (g.S.Source.left c.race_script.new.source)) (sym (is_asked g c))
-    (took_more g.S.Source.left g.S.Source.count _ c.race_script.result _ _ is c.race_script.ensures.took)
+    subst (λ (a : Option Form). GaveMore (most_bytes_of a) (g.S.Source.left c.args.source.now) (g.S.Source.left c.race_script.new.source)) (sym (is_asked g c))
+    (status_took_more_than_limit g.S.Source.left g.S.Source.count _ c.race_script.result _ _ is c.race_script.ensures.took)
 
 pub returns-then-is_race-clause-reads : goal.returns-then-is_race-clause-reads
-returns-then-is_race-clause-reads g c = took_counts g.S.Source.left g.S.Source.count _ c.race_script.result _ _ c.race_script.ensures.took
+returns-then-is_race-clause-reads g c = status_counts_reads g.S.Source.left g.S.Source.count _ c.race_script.result _ _ c.race_script.ensures.took
 
 pub returns-then-is_race-clause-writes : goal.returns-then-is_race-clause-writes
-returns-then-is_race-clause-writes g c = wrote_counts g.K.Sink.contents g.K.Sink.count _ c.race_script.result _ _ c.race_script.ensures.wrote
+returns-then-is_race-clause-writes g c = status_counts_writes g.K.Sink.contents g.K.Sink.count _ c.race_script.result _ _ c.race_script.ensures.wrote
 
 pub returns-then-is_race-clause-unwritten : goal.returns-then-is_race-clause-unwritten
 returns-then-is_race-clause-unwritten g c = λ not_node none.
-    wrote_none g.K.Sink.contents g.K.Sink.count _ c.race_script.result _ _ none c.race_script.ensures.wrote
+    status_wrote_nothing g.K.Sink.contents g.K.Sink.count _ c.race_script.result _ _ none c.race_script.ensures.wrote
 
 pub returns-clause-within : goal.returns-clause-within
 returns-clause-within g c = λ not_node other.
-    took_few g.S.Source.left g.S.Source.count _ c.in-Some-simulate_alone.status _ _ other c.in-Some-simulate_alone.ensures.took
+    status_took_at_most_limit g.S.Source.left g.S.Source.count _ c.in-Some-simulate_alone.status _ _ other c.in-Some-simulate_alone.ensures.took
 
 pub returns-clause-scripts : goal.returns-clause-scripts
-returns-clause-scripts g c = reads_if (form_of_words c.args.words.now) c.in-Some-simulate_alone.status c.in-Some-simulate_alone.ensures.scripts
+returns-clause-scripts g c = bad_script_form_reads_script (form_of_words c.args.words.now) c.in-Some-simulate_alone.status c.in-Some-simulate_alone.ensures.scripts

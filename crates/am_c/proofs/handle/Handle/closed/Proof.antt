@@ -10,7 +10,7 @@ use types.ByLocal.{alloc_all, pass_all, free_all, look_at, sets}
 use denote.RawPtr.{null_ptr}
 use denote.Steps.{nothing}
 use denote.Triple.Walked.{Stays, walk_of, says, ends_at}
-use Rattle.am_c.proofs.Walks.{Handle, handle_val, handle_in}
+use Rattle.am_c.proofs.Walks.{Handle, handle_val, handle_value_is_put_together}
 use Rattle.am_c.specs.contracts.handle.Handle.closed as f
 use Rattle.am_c.proofs.handle.Handle.closed.Statement.{statement}
 use Rattle.am_c.proofs.handle.Handle.closed.Code as code
@@ -28,4 +28,4 @@ closed_spec 𝓤 𝓛 𝓜 𝓡 wired =
     sets ! (agg ! (and_then ! (lit ! tt) (no_more !))) refl (tt, (record { fits = lit< tt }, tt)) $
     returns ! (look_at ! 0 refl) $ free_all ! refl $
     suffices ! _ (ends_at 𝓛 f.ended stayed c y (handle_val null_ptr) made tt tt) $ says ! refl $
-    nothing ! $ handle_in ! made $ nothing ! $ join ! $ nothing ! $ join ! $ done !))
+    nothing ! $ handle_value_is_put_together ! made $ nothing ! $ join ! $ nothing ! $ join ! $ done !))

@@ -27,7 +27,7 @@ use Rattle.std.proofs.alloc.Global.TheLaws as heap_laws
 use Rattle.std.specs.contracts.impls.GlobalAllocator.TheImpl.{ghosts}
 use Rattle.am_c.specs.contracts.session.Session.{the_row as Row}
 use Rattle.am_c.proofs.Boxes as boxes
-use Rattle.am_c.proofs.Walks.{al, Parts, Handle, handle_val, handle_out, by_open}
+use Rattle.am_c.proofs.Walks.{al, Parts, Handle, handle_val, handle_value_is_taken_apart, held_session_null_or_box}
 use Rattle.am_c.specs.contracts.handle.Handle.take as f
 use Rattle.am_c.proofs.handle.Handle.take.Statement.{statement}
 use Rattle.am_c.proofs.handle.Handle.take.Code as code
@@ -43,9 +43,9 @@ take_spec 𝓤 𝓛 𝓜 𝓡 wired =
     f.Key.name code.function (code.unfolded 𝓤 𝓛.H 𝓜 𝓡 wired) (λ y are.
     let h = y.0.3.0 in let alloc = y.0.3.1.0 in let Run : List Val → SProp 𝓤 = λ ws. WpFn 𝓤 𝓛.H 𝓣.C 𝓣.Λ code.function ws (W.post y) in
     qed 𝓛 ((‵ ftrue ⊛ ‵ (fsep (Handle.own_val h y.0.4.0) (fsep (heap.the_row.own_val alloc y.0.4.1.0) ftrue))) ∷ ‵ ftrue ∷ []) ∵
-    split ! $ drop ! $ fsplit ! $ handle_out ! h y.0.4.0 (λ e. move ! (1 ∷ []) $ fsplit ! $ handle_tells al ! alloc y.0.4.1.0 (λ hv ea fa. keep ! (2 ∷ 0 ∷ []) $
+    split ! $ drop ! $ fsplit ! $ handle_value_is_taken_apart ! h y.0.4.0 (λ e. move ! (1 ∷ []) $ fsplit ! $ handle_tells al ! alloc y.0.4.1.0 (λ hv ea fa. keep ! (2 ∷ 0 ∷ []) $
     -- [what the handle has; the allocator]
-    by_open ! h.at h.session
+    held_session_null_or_box ! h.at h.session
     (λ at none.
     let us : List Val = handle_val null_ptr ∷ hv ∷ [] in let e' = e ∙ ap (λ (q : Ptr). handle_val q ∷ []) at in
     suffices ! (Run us) (subst (λ (ws : List Val). ent 𝓤 (Run us) (Run ws)) (sym (λ i. e' i ++ (ea i ++ []))) (id⊢ 𝓤 (Run us))) $
@@ -62,7 +62,7 @@ take_spec 𝓤 𝓛 𝓜 𝓡 wired =
     (λ b o x at some may.
     let us : List Val = handle_val (block_ptr b o) ∷ hv ∷ [] in let e' = e ∙ ap (λ (q : Ptr). handle_val q ∷ []) at in
     let made : Parts.Denot = record { ptr = block_ptr b o; alloc = alloc; value = x } in let v = boxes.parts_val hv b o in
-    let typed = boxes.parts_fit Row heap.the_row heap_laws.the_row_laws ghosts hv b o fa in
+    let typed = boxes.parts_value_fits_type Row heap.the_row heap_laws.the_row_laws ghosts hv b o fa in
     suffices ! (Run us) (subst (λ (ws : List Val). ent 𝓤 (Run us) (Run ws)) (sym (λ i. e' i ++ (ea i ++ []))) (id⊢ 𝓤 (Run us))) $
     enter ! _ _ _ _ _ $ alloc_all ! (λ l. pass_all ! refl ((tt, (tt, tt)), (fa, tt)) $
     sets ! (of_opd ! (get_in ! (fld ! refl (stop !)) (sub ! 0 refl (whole !)))) refl (tt, tt) $
@@ -74,7 +74,7 @@ take_spec 𝓤 𝓛 𝓜 𝓡 wired =
     sets ! (agg ! (and_then ! (get ! refl) (and_then ! (get ! refl) (no_more !)))) refl typed $
     sets ! (agg ! (and_then ! (lit ! tt) (and_then ! (get ! refl) (no_more !)))) refl
     (and_tt (has_ty (layout Parts) v) typed.0, (record { fits = lit< tt }, (typed.1, tt))) $
-    returns ! (look_at ! 0 refl) $ free_all ! refl $ boxes.parts_in Row heap.the_row heap_laws.the_row_laws ghosts ! b o hv alloc x $
+    returns ! (look_at ! 0 refl) $ free_all ! refl $ boxes.parts_value_is_put_together Row heap.the_row heap_laws.the_row_laws ghosts ! b o hv alloc x $
     use1 𝓛 (‵ ((option.the_row Parts).own_val (Some made) (live 1 (of_list (v ∷ [])) ∷ []))) (Some-of 𝓛 Parts made v) $
     suffices ! _ (ends_at 𝓛 f.ended stayed c y (live 1 (of_list (v ∷ []))) (Some made) (tt, (tt, tt)) (tt, (tt, tt))) $ says ! some $
     nothing ! $ nothing ! $ fjoin ! $ nothing ! $ fjoin ! $ join ! $ nothing ! $ join ! $ done !))))))

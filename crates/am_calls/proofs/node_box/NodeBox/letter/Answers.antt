@@ -1,22 +1,22 @@
 use Rattle.std.proofs.Common.{sym, subst}
-use Rattle.am_races.specs.Boxes.{Boxed}
-use Rattle.am_races.specs.Lawful.{IsSent}
-use Rattle.am_races.proofs.Boxing.{sees_more}
-use Rattle.am_races.proofs.Turning.{sent_by, not_there, hears_it}
+use Rattle.am_race_laws.specs.Boxes.{Boxed}
+use Rattle.am_race_laws.specs.Lawful.{IsSent}
+use Rattle.am_race_laws.proofs.Boxing.{open_box_sees_more_records}
+use Rattle.am_race_laws.proofs.Turning.{sent_letter_stays_sent, sent_letter_is_there, found_letter_is_heard}
 use Rattle.am_calls.proofs.node_box.NodeBox.letter.Goals as goal
 
 pub invariant_of-self : goal.invariant_of-self
-invariant_of-self g c = sees_more _ _ _ _ _ _ _ _ _ _ _ c.self.view_is c.self.invariant c.requires.open_ c.read.ensures.sees c.read.ensures.lawful
+invariant_of-self g c = open_box_sees_more_records _ _ _ _ _ _ _ _ _ _ _ c.self.view_is c.self.invariant c.requires.open_ c.read.ensures.sees c.read.ensures.lawful
 
 pub unreachable-requires : goal.unreachable-requires
 unreachable-requires g c =
-    not_there _ _ _ c.read.result c.read.ensures.letter
-    (sent_by _ _ _ _ c.read.ensures.sees.goes.begins (subst (λ (b : Boxed). IsSent b.seen b.name c.args.number) (sym c.self.view_is) c.requires.sent))
+    sent_letter_is_there _ _ _ c.read.result c.read.ensures.letter
+    (sent_letter_stays_sent _ _ _ _ c.read.ensures.sees.goes.begins (subst (λ (b : Boxed). IsSent b.seen b.name c.args.number) (sym c.self.view_is) c.requires.sent))
     c.in-None.is
 
 pub returns-clause-hears : goal.returns-clause-hears
 returns-clause-hears g c =
-    hears_it _ _ _ c.read.result c.in-Some.letter c.read.ensures.letter
-    (sent_by _ _ _ _ c.read.ensures.sees.goes.begins (subst (λ (b : Boxed). IsSent b.seen b.name c.args.number) (sym c.self.view_is) c.requires.sent))
+    found_letter_is_heard _ _ _ c.read.result c.in-Some.letter c.read.ensures.letter
+    (sent_letter_stays_sent _ _ _ _ c.read.ensures.sees.goes.begins (subst (λ (b : Boxed). IsSent b.seen b.name c.args.number) (sym c.self.view_is) c.requires.sent))
     c.in-Some.is
     c.bytes-bytes.ensures.packet

@@ -1,6 +1,6 @@
 use Rattle.std.proofs.Common.{◌≡◌, ◌<◌, length, ap, rules}
 use Rattle.am_base.specs.Most.{most_events}
-use Rattle.am_journal.proofs.Places.{places_more}
+use Rattle.am_journal.proofs.Places.{places_with_pushed_record}
 use Rattle.am_journal.proofs.journal.Journal.push.Goals as goal
 
 pub invariant_of-self : goal.invariant_of-self
@@ -13,4 +13,4 @@ invariant_of-self c =
       c.push_places.ensures,
       number,
       many,
-    ) (places_more c.self.inside.records.items c.self.inside.places.items c.args.item c.self.invariant c.requires.letters few)
+    ) (places_with_pushed_record c.self.inside.records.items c.self.inside.places.items c.args.item c.self.invariant c.requires.letters few)

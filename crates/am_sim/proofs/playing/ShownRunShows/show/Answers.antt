@@ -1,7 +1,7 @@
 use Rattle.std.proofs.Common.{ap, sym, subst}
 use Rattle.std.proofs.lemmas.Result.{on_ok_weaker}
 use Rattle.am_io.specs.Buffers.{Goes}
-use Rattle.am_play.specs.Lawful.{watch_run}
+use Rattle.am_group_defs.specs.Lawful.{watch_run}
 use Rattle.am_sim.specs.Playing.{shown_text}
 use Rattle.am_sim.proofs.playing.ShownRunShows.show.Goals as goal
 

@@ -1,24 +1,24 @@
 use Rattle.am_world.proofs.Words.{◌≡◌, ◌+◌, ◌<◌, ◌≤◌, ℕ, Bool, List, Some, max, length, slice_get, slice_index_or, slice_set, vec_len, vec_capacity, ap, ◌∙◌}
 use Rattle.am_world.proofs.Words.{subst, arith, most_events, place_of, Rules, Entry, NodeEvent, Event, Record, current, happens, Node, state_of, HasPlaceAt}
-use Rattle.am_world.proofs.Words.{IsReady, Play, IsRun, play_of, replay, Answers, the_record}
-use Rattle.am_world.proofs.{Spots.read_here, Goes.recorded, Goes.living_at, Goes.as_many, Acts.ready_at, Acts.next_world, Acts.act_goes_on}
+use Rattle.am_world.proofs.Words.{WorldIsReady, Play, IsRun, play_of, replay, EventIsAnswered, the_record}
+use Rattle.am_world.proofs.{Spots.slice_get_of_read_item, Goes.event_is_recorded_in_play, Goes.lives_of_replay_are_kept, Goes.events_as_many_as_records, Acts.node_is_ready_at_place, Acts.world_after_node_event, Acts.act_carries_play_on}
 use Rattle.am_world.proofs.{run.Run.act.Goals.After-push}
 use Rattle.am_world.proofs.run.Run.act.Goals as goal
 
 -- the node of an index that is a name's place
 there : (nodes : List Node) (name i : ℕ) (n : Node) → length nodes ≡ 16 → i ≡ place_of name → n ≡ slice_index_or nodes i n
     → slice_get nodes (place_of name) ≡ Some n
-there nodes name i n count at is = read_here nodes i (place_of name) n at (omega arith) is
+there nodes name i n count at is = slice_get_of_read_item nodes i (place_of name) n at (omega arith) is
 
 -- it is ready for its step, and the group list for what comes of that
 ready : (p : Play) (first : Rules) (nodes : List Node) (lives : List ℕ) (flags : List Bool) (records : List Record) (group : List Entry) (e : Event)
     (what : NodeEvent) (name i stored room : ℕ) (n : Node) → play_of first records ≡ p → IsRun (play_of first records) nodes lives flags records group
-    → length p.events < most_events → name ≡ current (replay p) (place_of e.node) → happens (replay p) e ≡ next_world (replay p) e what
+    → length p.events < most_events → name ≡ current (replay p) (place_of e.node) → happens (replay p) e ≡ world_after_node_event (replay p) e what
     → stored ≡ length group → max (length records + 2) stored ≤ room → i ≡ place_of name → n ≡ slice_index_or nodes i n
-    → IsReady (state_of n) what stored room
+    → WorldIsReady (state_of n) what stored room
 ready p first nodes lives flags records group e what name i stored room n view ok few here is all_stored has_room at found =
-    let events : length p.events ≡ length records = as_many p first records view in
-    ready_at p first nodes lives flags records group e what name stored room view ok few here is all_stored (omega arith) n
+    let events : length p.events ≡ length records = events_as_many_as_records p first records view in
+    node_is_ready_at_place p first nodes lives flags records group e what name stored room view ok few here is all_stored (omega arith) n
     (there nodes name i n ok.shows.standing.count at found)
 
 pub step-outcome-requires-clause-numbers : goal.step-outcome-requires-clause-numbers
@@ -54,13 +54,13 @@ grow-requires c =
 
 made : (c : After-push)
     → IsRun (play_of c.push.new.self.founding c.push.new.self.records) (slice_set c.self.inside.nodes.items c.from.result c.step-outcome.new.self)
-    c.self.inside.lives c.self.inside.stopped c.push.new.self.records c.grow.new.group.items × Answers c.args.self.now c.args.event.now c.step-outcome.result
+    c.self.inside.lives c.self.inside.stopped c.push.new.self.records c.grow.new.group.items × EventIsAnswered c.args.self.now c.args.event.now c.step-outcome.result
 made c =
     let w = c.self.inside in
     let p = c.args.self.now in
     let place = c.from.ensures ∙ c.place.ensures.value in
-    let living = living_at p w.journal.founding w.nodes.items w.lives w.stopped w.journal.records w.group.items c.self.view_is c.self.invariant in
-    act_goes_on p w.journal.founding c.push.new.self.founding w.nodes.items (slice_set w.nodes.items c.from.result c.step-outcome.new.self) w.lives w.stopped
+    let living = lives_of_replay_are_kept p w.journal.founding w.nodes.items w.lives w.stopped w.journal.records w.group.items c.self.view_is c.self.invariant in
+    act_carries_play_on p w.journal.founding c.push.new.self.founding w.nodes.items (slice_set w.nodes.items c.from.result c.step-outcome.new.self) w.lives w.stopped
     w.journal.records c.push.new.self.records w.group.items c.grow.new.group.items c.args.event.now c.args.what.now c.step-outcome.result
     c.step-outcome.new.out c.args.name c.self.view_is c.self.invariant c.requires.few c.requires.name
     (record {
@@ -73,7 +73,7 @@ made c =
       order = c.accept_front-accepted.ensures.order;
       grows = rw (← c.make_room.ensures.items) c.grow.ensures;
     })
-    (recorded (replay p) c.args.event.now c.step-outcome.result c.step-outcome.new.out living c.requires.name c.life.ensures.value
+    (event_is_recorded_in_play (replay p) c.args.event.now c.step-outcome.result c.step-outcome.new.out living c.requires.name c.life.ensures.value
     (c.record_of.ensures ∙ ap (λ (e : Event). the_record e c.life.result c.step-outcome.result c.packets_of-packets.result) c.in_ok-done.ensures.copy
     ∙ ap (the_record c.args.event.now c.life.result c.step-outcome.result) c.packets_of-packets.ensures) (c.push.ensures.founding
     ∙ c.copy_for.ensures.founding) c.copy_for.ensures.records c.push.ensures.records)

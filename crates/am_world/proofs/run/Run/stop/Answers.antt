@@ -1,18 +1,18 @@
-use Rattle.am_world.proofs.Words.{[], true, slice_set, ◌∙◌, IsRun, play_of, replay, Answers}
+use Rattle.am_world.proofs.Words.{[], true, slice_set, ◌∙◌, IsRun, play_of, replay, EventIsAnswered}
 use Rattle.am_base.specs.declared.outcome.Outcome.TheVariants as said
-use Rattle.am_world.proofs.{Goes.recorded, Goes.living_at, Stops.stop_goes_on, run.Run.stop.Goals.After-push}
+use Rattle.am_world.proofs.{Goes.event_is_recorded_in_play, Goes.lives_of_replay_are_kept, Stops.stop_carries_play_on, run.Run.stop.Goals.After-push}
 use Rattle.am_world.proofs.run.Run.stop.Goals as goal
 
 made : (c : After-push) → IsRun (play_of c.push.new.self.founding c.push.new.self.records) c.self.inside.nodes.items c.self.inside.lives
     (slice_set c.self.inside.stopped c.from.result true) c.push.new.self.records c.self.inside.group.items
-    × Answers c.args.self.now c.args.event.now said.Stopped
+    × EventIsAnswered c.args.self.now c.args.event.now said.Stopped
 made c =
     let w = c.self.inside in
     let p = c.args.self.now in
-    let living = living_at p w.journal.founding w.nodes.items w.lives w.stopped w.journal.records w.group.items c.self.view_is c.self.invariant in
-    stop_goes_on p w.journal.founding c.push.new.self.founding w.nodes.items w.lives w.stopped w.journal.records c.push.new.self.records w.group.items
+    let living = lives_of_replay_are_kept p w.journal.founding w.nodes.items w.lives w.stopped w.journal.records w.group.items c.self.view_is c.self.invariant in
+    stop_carries_play_on p w.journal.founding c.push.new.self.founding w.nodes.items w.lives w.stopped w.journal.records c.push.new.self.records w.group.items
     c.args.event.now c.args.name c.from.result c.self.view_is c.self.invariant c.requires.few c.requires.named (c.from.ensures ∙ c.get.ensures.value)
-    (recorded (replay p) c.args.event.now said.Stopped [] living c.requires.named c.life.ensures.value c.in_ok-record.ensures.value
+    (event_is_recorded_in_play (replay p) c.args.event.now said.Stopped [] living c.requires.named c.life.ensures.value c.in_ok-record.ensures.value
     (c.push.ensures.founding ∙ c.record_for.ensures.founding) c.record_for.ensures.records c.push.ensures.records)
     c.requires.comes_
 

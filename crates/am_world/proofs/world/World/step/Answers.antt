@@ -1,12 +1,12 @@
 use Rattle.am_world.proofs.Words.{◌≡◌, Ok, length, sym, ap, ◌∙◌, subst, arith, place_of, current, happens, IsEndOf, state_of, Watching, watching_of, comes}
-use Rattle.am_world.proofs.Words.{◌+◌, drop, told_step, Play, after, replay, IsWatched}
-use Rattle.am_world.proofs.Kept.{count_of, act_is_watched, group_longer}
+use Rattle.am_world.proofs.Words.{◌+◌, drop, told_step, Play, play_after, replay, IsWatched}
+use Rattle.am_world.proofs.Kept.{watched_count_is_events, act_is_watched, group_grows_by_event}
 use Rattle.am_world.proofs.world.World.step.Goals as goal
 
 pub note_step-requires-clause-few : goal.note_step-requires-clause-few
 note_step-requires-clause-few c =
     let count = ap (λ (k : Watching). k.count) c.reserve.ensures.same in
-    let events = count_of c.self.inside.run (watching_of c.self.inside.watcher) c.self.invariant in
+    let events = watched_count_is_events c.self.inside.run (watching_of c.self.inside.watcher) c.self.invariant in
     omega arith
 
 pub note_step-requires-clause-known : goal.note_step-requires-clause-known
@@ -14,7 +14,7 @@ note_step-requires-clause-known c =
     let e = c.args.event.now in
     let p = c.self.inside.run in
     let is : happens (replay p) e ≡ comes (replay p) e (Ok c.in-Ok.what) = c.in_ok-what.ensures.comes ∙ ap (comes (replay p) e) c.in-Ok.is in
-    let more = group_longer p e c.in-Ok.what is in
+    let more = group_grows_by_event p e c.in-Ok.what is in
     let before = ap length c.group-known.ensures.value in
     let now = ap length (c.group.ensures.value ∙ ap (λ (q : Play). (replay q).group) c.in_ok-act-in-Ok.ensures.ok) in
     omega arith
@@ -36,4 +36,4 @@ invariant_of-self-in-Ok c =
     ∙ ap (λ n. told_step k c.name_at-name.result n c.in-Ok.what (known + 1) (drop known c.group.result.now)) c.shown_by-shown.ensures in
     let done = act_is_watched p k e c.name_at-name.result c.in-Ok.what m known c.group.result.now
     c.group-known.ensures.founded kept c.name_at-name.ensures is end (ap length c.group-known.ensures.value) group in
-    subst (λ q. IsWatched q (watching_of c.note_step.new.self)) (sym made) (subst (IsWatched (after p e)) (sym told) done)
+    subst (λ q. IsWatched q (watching_of c.note_step.new.self)) (sym made) (subst (IsWatched (play_after p e)) (sym told) done)

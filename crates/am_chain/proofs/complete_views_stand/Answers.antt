@@ -1,5 +1,0 @@
-use Rattle.am_chain.proofs.Runs.{complete_views_stand}
-use Rattle.am_chain.proofs.complete_views_stand.Goals as goal
-
-pub returns : goal.returns
-returns c = complete_views_stand

@@ -1,6 +1,0 @@
-use Rattle.std.specs.Option.{option_copied}
-use Rattle.am_dir.proofs.Loops.{Restored}
-use Rattle.am_dir.proofs.directory.Directory.restore_keys.Given as goal
-
-abbrev pub invariant-loop : goal.invariant-loop
-invariant-loop l = Restored l.count l.bytes l.counter (option_copied l.last) l.rest l.directory

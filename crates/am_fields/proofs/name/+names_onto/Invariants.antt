@@ -1,5 +1,0 @@
-use Rattle.std.proofs.Common.{length}
-use Rattle.am_fields.proofs.name.+names_onto.Given as goal
-
-abbrev pub decreases-names_onto : goal.decreases-names_onto
-decreases-names_onto l = length l.text.now

@@ -1,8 +1,0 @@
-use Rattle.am_handlers.proofs.Words.{refresh, settle, refresh_at_end, node_of}
-use Rattle.am_handlers.proofs.Ends.{changes_then}
-use Rattle.am_handlers.proofs.parts.Parts.end.Goals as goal
-
-pub returns : goal.returns
-unfolding refresh_at_end
-returns c = changes_then refresh settle (node_of c.args.self.now) (node_of c.refresh.new.self)
-    (node_of c.settle.new.self) c.refresh.ensures.changes c.settle.ensures.changes

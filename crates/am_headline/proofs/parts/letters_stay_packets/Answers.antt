@@ -1,5 +1,0 @@
-use Rattle.am_headline.proofs.RangeBytes.{letters_stay_packets, letters_stay_read, runs_stay_of_bytes, short_runs_stay}
-use Rattle.am_headline.proofs.parts.letters_stay_packets.Goals as goal
-
-pub returns : goal.returns
-returns c = record { packets = letters_stay_packets; read = letters_stay_read; bytes = runs_stay_of_bytes; short = short_runs_stay }

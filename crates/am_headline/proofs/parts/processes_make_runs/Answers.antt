@@ -1,5 +1,0 @@
-use Rattle.am_headline.proofs.Processes.{processes_make_runs}
-use Rattle.am_headline.proofs.parts.processes_make_runs.Goals as goal
-
-pub returns : goal.returns
-returns c = processes_make_runs

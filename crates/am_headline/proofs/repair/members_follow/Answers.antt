@@ -1,5 +1,0 @@
-use Rattle.am_headline.proofs.Members.{fronts_are_heard, gaps_are_asked, entries_are_stored}
-use Rattle.am_headline.proofs.repair.members_follow.Goals as goal
-
-pub returns : goal.returns
-returns c = record { fronts = fronts_are_heard; gaps = gaps_are_asked; entries = entries_are_stored }

@@ -1,8 +1,0 @@
-use Rattle.am_headline.proofs.Ticks.{sequencers_poll, members_report}
-use Rattle.am_headline.proofs.repair.ticks_tell.Goals as goal
-
-pub returns-clause-poll : goal.returns-clause-poll
-returns-clause-poll c = sequencers_poll
-
-pub returns-clause-report : goal.returns-clause-report
-returns-clause-report c = members_report

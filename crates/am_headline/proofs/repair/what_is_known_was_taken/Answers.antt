@@ -1,5 +1,0 @@
-use Rattle.am_headline.proofs.ReportedRuns.{known_is_taken}
-use Rattle.am_headline.proofs.repair.what_is_known_was_taken.Goals as goal
-
-pub returns : goal.returns
-returns c = known_is_taken

@@ -1,5 +1,0 @@
-use Rattle.am_headline.proofs.Sound.{records_are_sound}
-use Rattle.am_headline.proofs.sound_records.records_are_sound.Goals as goal
-
-pub returns : goal.returns
-returns c = records_are_sound

@@ -1,5 +1,0 @@
-use Rattle.am_headline.proofs.RaisedRuns.{resiliences_hold}
-use Rattle.am_headline.proofs.sound_records.resiliences_hold.Goals as goal
-
-pub returns : goal.returns
-returns c = resiliences_hold

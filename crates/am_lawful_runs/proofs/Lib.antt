@@ -1,0 +1,11 @@
+pub mod Words
+pub mod Lists
+pub mod Shapes
+pub mod OneStep
+pub mod Marks
+pub mod Lawful
+pub mod Ready
+pub mod Greatest
+pub mod Fold
+pub mod Begun
+pub mod Ways

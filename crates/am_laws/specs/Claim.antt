@@ -1,9 +1,0 @@
--- What is claimed of how much a node keeps.
-use Rattle.std.specs.Prelude.{List}
-use Rattle.am_base.specs.Founding.{Rules, MayFound}
-use Rattle.am_group.specs.declared.event.Event.{Event}
-use Rattle.am_play.specs.Claims.{Bounded}
-
--- Each node of every run of every founding.
-abbrev pub BoundedHolds : Type 0
-BoundedHolds = (rules : Rules) (events : List Event) → MayFound rules → Bounded rules events

@@ -1,7 +1,0 @@
-ghost use Rattle.am_laws.specs.Claim.{BoundedHolds};
-
-/// At every moment of every run of every founding, each node keeps at most the window and fifteen entries more above its base.
-#[tactic(auto, using(crate::proofs::BoundedRuns::bounded_holds))]
-pub fn each_node_is_bounded()
-    ensures { BoundedHolds }
-{}

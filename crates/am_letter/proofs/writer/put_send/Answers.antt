@@ -1,9 +1,0 @@
-use Rattle.byteorder.specs.Endian.{big_bytes}
-use Rattle.am_packet.specs.Spelling.{report_bytes}
-use Rattle.am_letter.proofs.Pieces.{three}
-use Rattle.am_letter.proofs.writer.put_send.Goals as goal
-
-pub returns : goal.returns
-returns c = three c.args.into.now c.put_report.new.into c.put_number.new.into c.extend.new.self
-    (report_bytes c.args.report) (big_bytes 4 c.args.req) c.args.body.now
-    c.put_report.ensures c.put_number.ensures (rw (← c.bytes.ensures.value) c.extend.ensures)

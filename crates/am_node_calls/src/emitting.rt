@@ -1,0 +1,124 @@
+ghost use Rattle.std.specs.Prelude.{◌≡◌, ◌<◌, ◌+◌, ◌&&◌, nat_lt, nat_le, length, true, Some, is_some};
+ghost use Rattle.am_node_parts.specs.Prelude.{most_number, IsNumber, top_of, acts, is_sequencer, push_entry, top, view, waiting, node_of};
+ghost use Rattle.am_node_parts.specs.Replies.{Replies};
+ghost use Rattle.am_base.specs.declared.entry.Entry.TheVariants.{Data};
+ghost use Rattle.am_node_defs.specs.Sends.{waiting_send};
+ghost use Rattle.am_model.specs.Node.{own_row};
+ghost use Rattle.am_model.specs.Calls.{hand_in, emit};
+ghost use Rattle.am_node_calls.specs.Forms.{own_send};
+
+use am_base::body::Body;
+use am_base::entry::{EntryParts, EntryRef};
+use am_base::name::Name;
+use am_base::outcome::Outcome;
+use am_node_parts::asking::{has_room, next_number, others};
+use am_node_parts::owning::{WaitingSend, next_send};
+use am_node_parts::packets::only;
+use am_node_parts::parts::Parts;
+use am_node_parts::reply::{OwnLetter, Reply, Telling, quiet, saying};
+use am_node_storage::log::Log;
+
+/// Whether a send waits.
+pub fn has_waiting(parts: &Parts) -> bool
+    ensures { result ≡ is_some (waiting (node_of parts.now)) }
+{
+    parts.sender.waiting().is_some()
+}
+
+/// Whether a send would go out: the node acts, and the send isn't numbered yet.
+pub fn would_emit(parts: &Parts, req: u32) -> bool
+    ensures { result ≡ (acts (node_of parts.now) && nat_lt (own_row (node_of parts.now)).last req) }
+{
+    parts.acts() && parts.core.log.row(parts.core.who).last < req
+}
+
+/// The node's name.
+pub fn who(parts: &Parts) -> Name
+    ensures { result ≡ parts.now.core.who }
+{
+    parts.core.who
+}
+
+/// Whether a body goes by the sequencer.
+fn is_short(parts: &Parts, body: &Body) -> bool
+    ensures { result ≡ nat_le (length body.now) parts.now.core.rules.pb_up_to }
+{
+    body.bytes().len() <= usize::from(parts.core.rules.pb_up_to())
+}
+
+/// Whose view it is.
+pub fn leader(parts: &Parts) -> Name
+    ensures { result ≡ (view (node_of parts.now)).by }
+{
+    parts.core.log.view().by
+}
+
+/// A member hands its send in: to the sequencer where it is short, else to everybody.
+fn hand_in<'a>(parts: &Parts, send: &WaitingSend, answer: Outcome) -> Reply<'a>
+    requires { waiting_send parts.now.sender ≡ Some (send.now.req, send.now.body) }
+    ensures { Replies (hand_in (node_of parts.now) (own_send send.now.req send.now.body) answer)
+        result (node_of parts.now) }
+{
+    if is_short(parts, &send.body) {
+        let request = Telling::Own {
+            to: only(leader(parts)),
+            letter: OwnLetter::Request,
+        };
+        return saying(answer, request);
+    }
+    let spread = Telling::Own {
+        to: others(parts),
+        letter: OwnLetter::Spread,
+    };
+    saying(answer, spread)
+}
+
+/// Numbers the node's own send.
+pub fn number_send(parts: &mut Parts, send: &WaitingSend) -> u32
+    requires leads { is_sequencer (node_of parts.old) ≡ true }
+    requires waits { waiting_send parts.old.sender ≡ Some (send.now.req, send.now.body) }
+    requires new { (own_row (node_of parts.old)).last < send.now.req }
+    requires room { length parts.old.core.log.entries < parts.old.core.rules.window + 15 }
+    requires req { IsNumber send.now.req }
+    requires number { top_of parts.old.core.log < most_number }
+    ensures node { node_of parts.new ≡ push_entry (node_of parts.old)
+        (Data parts.old.core.who send.now.req send.now.body) }
+    ensures number { result ≡ top (node_of parts.old) + 1 }
+    ensures within { IsNumber result }
+{
+    let _before = parts.accept_front();
+    let number = next_number(parts);
+    let entry = EntryRef::of(EntryParts::Data {
+        from: who(parts),
+        req: send.req,
+        body: send.body.as_ref(),
+    });
+    parts.push(&entry);
+    number
+}
+
+/// Emits the waiting send: a member hands it in, and the sequencer numbers it where there is room. Nothing is emitted where
+/// none waits, or where it wouldn't go out. It gives the answer back.
+#[inline(never)]
+pub fn emit<'a>(parts: &mut Parts, answer: Outcome) -> Reply<'a>
+    requires { top_of parts.old.core.log < most_number }
+    ensures { Replies (emit (node_of parts.old) (waiting (node_of parts.old)) answer) result
+        (node_of parts.new) }
+{
+    let Some(send) = next_send(parts) else {
+        return quiet(answer);
+    };
+    if !would_emit(parts, send.req) {
+        return quiet(answer);
+    }
+    if !parts.is_sequencer() {
+        return hand_in(parts, &send, answer);
+    }
+    if !has_room(parts) {
+        return quiet(answer);
+    }
+    let to = others(parts);
+    let number = number_send(parts, &send);
+    let letter = OwnLetter::Bcast { number };
+    saying(answer, Telling::Own { to, letter }).numbering()
+}

@@ -1,0 +1,123 @@
+ghost use Rattle.std.specs.Prelude.{◌≡◌, ◌<◌, ◌≤◌, ◌||◌, nat_lt, false, None};
+ghost use Rattle.am_node_parts.specs.Prelude.{most_number, top_of, is_member, waiting, node_of};
+ghost use Rattle.am_model.specs.Node.{node_unsettled_count, lowest_or_first};
+ghost use Rattle.am_model.specs.Emit.{quiet};
+ghost use Rattle.am_model.specs.Calls.{go, is_unfinished, leave_now, leave_row};
+ghost use Rattle.am_node_parts.specs.Replies.{Replies};
+ghost use Rattle.am_node_calls.specs.Forms.{hands_over};
+
+use crate::changing::{begin_leaving, is_leaving, is_member, status};
+use am_base::name::Name;
+use am_base::names::Names;
+use am_base::outcome::Outcome;
+use am_model::status::Status;
+use am_node_parts::asking::{has_room, held_answer, others};
+use am_node_parts::parts::Parts;
+use am_node_parts::reply::{Note, Reply, Telling, note_to, quiet, saying};
+
+/// Whether there is a ballot that isn't over.
+pub fn is_unfinished(parts: &Parts) -> bool
+    ensures { result ≡ is_unfinished (node_of parts.now).ballot }
+{
+    match &parts.ballot {
+        Some(ballot) => !ballot.is_over(),
+        None => false,
+    }
+}
+
+/// How many sends aren't settled.
+fn unsettled_count(parts: &Parts) -> u32
+    ensures value { result ≡ unsettled_count (node_of parts.now) }
+    ensures few { result ≤ 4 }
+{
+    parts.sender.unsettled_count()
+}
+
+/// Whether a send isn't settled, or a ballot isn't over.
+fn is_busy(parts: &Parts) -> bool
+    ensures { result ≡ (nat_lt 0 (unsettled_count (node_of parts.now))
+        || is_unfinished (node_of parts.now).ballot) }
+{
+    0 < unsettled_count(parts) || is_unfinished(parts)
+}
+
+/// The lowest of some names; the first of all where there is none.
+fn lowest_or_first(names: Names) -> Name
+    ensures { result ≡ lowest_or_first names }
+{
+    match names.lowest() {
+        Some(name) => name,
+        None => Name::of_byte(0),
+    }
+}
+
+/// The lowest of some names is to begin a ballot.
+pub fn handing_over<'a>(names: Names) -> Telling<'a>
+    ensures { result ≡ hands_over names }
+{
+    note_to(lowest_or_first(names), Note::HandOver)
+}
+
+/// A leaving node goes on: a member asks the others; the sequencer hands over to the lowest other member; the last member
+/// departs where there is room, and else the answer is Held. It gives the answer back, where that isn't another.
+pub fn go_on_leaving<'a>(parts: &Parts, answer: Outcome) -> Reply<'a>
+    requires idle { waiting (node_of parts.now) ≡ None }
+    requires number { top_of parts.now.core.log < most_number }
+    ensures { Replies (go (quiet (node_of parts.now) answer)) result (node_of parts.now) }
+{
+    let others = others(parts);
+    if !parts.is_sequencer() {
+        let ask = Telling::Note {
+            to: others,
+            note: Note::LeaveAsk,
+        };
+        return saying(answer, ask);
+    }
+    if 0 < others.len() {
+        return saying(answer, handing_over(others));
+    }
+    if !has_room(parts) {
+        return quiet(held_answer(parts));
+    }
+    saying(Outcome::Departed, Telling::Departs).numbering()
+}
+
+/// A member begins to leave, unless it is leaving already, or has unsettled sends or an unfinished ballot.
+fn leave_now<'a>(parts: &mut Parts) -> Reply<'a>
+    requires { top_of parts.old.core.log < most_number }
+    ensures { Replies (leave_now (node_of parts.old)) result (node_of parts.new) }
+{
+    if is_leaving(parts) {
+        return quiet(Outcome::Leaving);
+    }
+    if is_busy(parts) {
+        let queued = unsettled_count(parts) as u8;
+        return quiet(Outcome::Busy { queued });
+    }
+    begin_leaving(parts);
+    go_on_leaving(parts, Outcome::Asked)
+}
+
+/// What a node is told that would leave and is no member.
+fn outside(parts: &Parts) -> Outcome
+    requires { is_member parts.now.status ≡ false }
+    ensures { leave_row (node_of parts.now) ≡ quiet (node_of parts.now) result }
+{
+    match status(parts) {
+        Status::Departed => Outcome::Departed,
+        _ => Outcome::NotMember,
+    }
+}
+
+/// The application would leave (docs/PROTOCOL.md, "Calls"). NotMember where the node never was one; Departed; Leaving
+/// already; Busy with the number of unsettled sends where there is one, or an unfinished ballot. Else it goes on leaving:
+/// Asked, Departed as the last member, or Held where that one has no room.
+pub fn on_leave<'a>(parts: &mut Parts) -> Reply<'a>
+    requires { top_of parts.old.core.log < most_number }
+    ensures { Replies (leave_row (node_of parts.old)) result (node_of parts.new) }
+{
+    if is_member(parts) {
+        return leave_now(parts);
+    }
+    quiet(outside(parts))
+}

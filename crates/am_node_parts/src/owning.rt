@@ -1,0 +1,28 @@
+ghost use Rattle.std.specs.Prelude.{◌≡◌, IfSome, option_map};
+ghost use Rattle.am_node_parts.specs.Prelude.{IsNumber};
+ghost use Rattle.am_node_defs.specs.Sends.{waiting_send};
+
+use crate::parts::Parts;
+use am_base::body::Body;
+
+/// A send of the node's own: its request and its body.
+#[derive(Drop)]
+pub struct WaitingSend {
+    /// Its request.
+    pub req: u32,
+    /// Its body.
+    pub body: Body,
+}
+
+/// The send that waits; None exactly where there is none.
+pub fn next_send(parts: &Parts) -> Option<WaitingSend>
+    ensures value { option_map (λ send. (send.req, send.body)) result
+        ≡ waiting_send parts.now.sender }
+    ensures within { IfSome result (λ send. IsNumber send.req) }
+{
+    let (req, body) = parts.sender.waiting()?;
+    Some(WaitingSend {
+        req,
+        body: body.copy(),
+    })
+}

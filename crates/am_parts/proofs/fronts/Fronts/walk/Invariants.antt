@@ -1,7 +1,0 @@
-use Rattle.std.proofs.Common.{◌≡◌, ℕ, ◌<◌, ◌≤◌, true}
-use Rattle.am_base.specs.Fronts.{is_held}
-use Rattle.am_state.specs.Reports.{reports_of}
-use Rattle.am_parts.proofs.fronts.Fronts.walk.Given as goal
-
-abbrev pub invariant-loop-number : goal.invariant-loop-number
-invariant-loop-number g l = (n : ℕ) → l.from < n → n ≤ l.number → is_held (reports_of l.self) (g.L.Log.list l.log) n ≡ true

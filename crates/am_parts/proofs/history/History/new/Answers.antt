@@ -1,7 +1,0 @@
-use Rattle.std.proofs.Common.{sym, ◌∙◌, refl, arith, []}
-use Rattle.am_parts.proofs.Rings.{ring-begin}
-use Rattle.am_parts.proofs.history.History.new.Goals as goal
-
-pub invariant_of-result : goal.invariant_of-result
-invariant_of-result c = rw (c.in_ok-ring.ensures) (ring-begin 0 _ c.blank.result c.blank-2.result [] refl (c.blank-2.ensures.value
-    ∙ sym c.blank.ensures.value) (omega arith) c.blank.ensures.within)

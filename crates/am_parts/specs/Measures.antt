@@ -1,9 +1,0 @@
--- Which of a report's numbers is meant.
-use Rattle.std.specs.Prelude.{ℕ}
-use Rattle.am_base.specs.declared.image.Report.{Report}
-use Rattle.am_parts.specs.declared.fronts.Measure.{Measure}
-use Rattle.am_parts.specs.declared.fronts.Measure.TheVariants.{Stored, Taken}
-
-abbrev pub measured : Measure → Report → ℕ
-measured Stored report = report.stored
-measured Taken report = report.taken

@@ -1,5 +1,0 @@
-use Rattle.am_pump.proofs.Words.{first_drive, drive, IsDriven}
-use Rattle.am_pump.proofs.generate.generate.Given as goal
-
-abbrev pub invariant-loop-done : goal.invariant-loop-done
-invariant-loop-done l = IsDriven (drive l._done (first_drive l.seed)) l.generator

@@ -1,7 +1,0 @@
-use Rattle.am_pump.proofs.Words.{◌≡◌, ℕ, ◌+◌, ◌%◌, ◌<◌, length, slice_index, most_drawn}
-use Rattle.am_pump.proofs.generator.counting.Given as goal
-
-abbrev pub invariant-loop-index : goal.invariant-loop-index
-invariant-loop-index l =
-    (length l.bytes ≡ most_drawn) × (l.next ≡ (l.number + l.index) % 256)
-    × ((k : ℕ) → k < l.index → slice_index l.bytes k ≡ (l.number + k) % 256)

@@ -1,0 +1,15 @@
+pub mod StepWords
+pub mod Owns
+pub mod Starting
+pub mod Worlds
+pub mod Refreshed
+pub mod Courses
+pub mod StepGoing
+pub mod Deeds
+pub mod StepEnds
+pub mod Landing
+pub mod StepLetters
+pub mod StepSilent
+pub mod Senders
+pub mod Departed
+pub mod Steps

@@ -1,0 +1,9 @@
+pub mod Reported
+pub mod ReportedRuns
+pub mod Knowing
+pub mod KnownRuns
+pub mod OldLives
+pub mod Leavers
+pub mod Beginning
+pub mod OneLists
+pub mod Claims

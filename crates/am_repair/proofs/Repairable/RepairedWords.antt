@@ -1,0 +1,66 @@
+-- The words of this crate's proofs, of the crates and definitions that they come from.
+pub use Rattle.am_lawful_runs.proofs.Words.{◌≡◌, ℕ, ◌==◌, ◌&&◌, ◌||◌, not, nat_lt, nat_le, Bool, true, false, if◌then◌else◌, Some, refl, sym, ap, ◌∙◌, subst}
+pub use Rattle.am_lawful_runs.proofs.Words.{arith, ◌⊎◌, inl, inr, either, ◌≤◌, ◌<◌, max, List, [], ◌≢◌, zero, suc, ◌+◌, ◌∷◌, ◌++◌, length, slice_index, slice_get}
+pub use Rattle.am_lawful_runs.proofs.Words.{take, None, ◌-◌, drop, length-append, append_assoc, eqb-true, nat_tests, take-append-drop, take_all, All-nil, All-cons}
+pub use Rattle.am_lawful_runs.proofs.Words.{All-append, All-weaker, slice_get-get_or, Stamp, Join, Data, Leave, View, Outcome, Row, life_of, IsSet, has, place_of}
+pub use Rattle.am_lawful_runs.proofs.Words.{name_at, names_from, names_of, Log, blank, told_by, members_of, top_of, split_on_bool, both_of_and, Image, Rules, MayFound, Entry}
+pub use Rattle.am_lawful_runs.proofs.Words.{stamp_lt, stamp_eq, Packet, Letter, Act, Event, is_for, letter_at, Node, image_of, is_sequencer, has_room, has_log}
+pub use Rattle.am_lawful_runs.proofs.Words.{Ballot, view, acts, is_member, push_entry, trim_up_to, top, lowest_or_first, has_departed, founding_stamp, Plan, Step}
+pub use Rattle.am_lawful_runs.proofs.Words.{hears_member, packet_length, refresh_at_end, refresh, Verdict, with_promise, trim_for, left_in, need_of, is_view}
+pub use Rattle.am_lawful_runs.proofs.Words.{Status, is_unfinished, lowest_founder_founds, World, is_stopped, hears_letter, hear_cut, acts_as, current, run, start}
+pub use Rattle.am_lawful_runs.proofs.Words.{founders_decided, first_node, Decided, group_with, heard_by, whole, broken_at, front_is_lawful, runs_go_on, Begins}
+pub use Rattle.am_lawful_runs.proofs.Words.{IsGood, key, begins_trans, beginning_length_le, length_push, take_begins_list, begins_refl, begins_append, shorter_beginning_begins_longer, begins_not_longer_is_same}
+pub use Rattle.am_lawful_runs.proofs.Words.{length_take, beginning_of_good_is_good, image_of_push, member_is_in_row, image_has_sixteen_rows, in_row_is_member, IsMemberRow, row_of_place, same_key_same_by, view_by_is_small, view_key_grows_along_list, view_after_pushed_view}
+pub use Rattle.am_lawful_runs.proofs.Words.{actor, WasSentTo, IsCause, steps, Cause, hears, Changes, unchanged, changed, Change, refreshes, settles, numbers}
+pub use Rattle.am_lawful_runs.proofs.Words.{stores, begins_list, looks, fetches, stores_view, collects, takes, asks_to_join, asks_to_leave, closes, refresh_rests_with_list}
+pub use Rattle.am_lawful_runs.proofs.Words.{settle_changes_only_sends, end_refresh_rests_with_list, member_status_has_log, asking_status_has_no_log, stamp_eq_gives_equality, Looks, decides, all_gives_slice_get, Says, piece, result, LetterSays}
+pub use Rattle.am_lawful_runs.proofs.Words.{number_equals_itself, Ending, at_end, let_go, closing, Effect, welcomed_node_is_asking, HeardStampsHaveNames, NodePartsHaveNames, HeardWelcomeImageIsUsed, TrimsOnlyTakenAlongStep, run_trims_only_taken}
+pub use Rattle.am_lawful_runs.proofs.Words.{each_node_trims_only_taken, heard_welcome_image_is_used, NodeBallotFits, change_keeps_list_and_ballot, IsBlankWithoutLog, number_bounds_hold_in_runs, NotedViewStandsInLog, heard_stamps_have_names, lists_only_grow_in_runs, Group}
+pub use Rattle.am_lawful_runs.proofs.Words.{opening, chain_of, IsUp, put, GroupKeeps, Move, chosen_by, longer, learns, begins, raises, gives_over, welcomes, asks, stops}
+pub use Rattle.am_lawful_runs.proofs.Words.{Run, founded, more, put_at_same_index, group_run_is_kept_lawful, NameStands, NamesNamed, Moves, Following, image_of_whole_list, length_of_whole_list, member_has_not_departed}
+pub use Rattle.am_lawful_runs.proofs.Words.{set_name_is_below_256, group_run_is_kept, PacketSays, WelcomeTo, has_begun, has_gone, has_left, is_leaving, may_begin, PieceSays}
+pub use Rattle.am_lawful_runs.proofs.Words.{BecameMemberBy, stayed, joins, founds, new_member_came_by_entry, departed_nodes_are_silent, GroupOk, take_of_longer_list, steps_are_group_moves, departed_step_sends_no_letters, departed_status_is_departed}
+unfoldable pub use Rattle.am_lawful_runs.proofs.Words.{finish, hear, hear_refusal, hear_row, with_record, with_step, happens, stamp_of_list}
+pub use Rattle.std.proofs.lemmas.List.{same_from_push}
+pub use Rattle.am_refinement.proofs.Words.{take-append-add, length-take, Report, at_place, counted_at, fold_append, view_number_only_grows, members, next_stamp, begins_push_or_is_push}
+pub use Rattle.am_refinement.proofs.Words.{member_stays_by_push, was_member_in_longer_list, member_of_both_is_between, leaver_was_member, leaver_is_no_member, IsPastRow, WasMemberRow, Fetches, without_ballot, admits, keeps_body, notes}
+pub use Rattle.am_refinement.proofs.Words.{promises, opens, takes_report, stamp_eq_of_itself, finds_itself_out, waits, fetches_from_best, finds_too_few, finds_no_room}
+pub use Rattle.am_refinement.proofs.Words.{view_of_pushed_plain_entry, welcome, changes_trim_only_taken, numbered_entry_is_no_view, balloting_looks_at_open_ballot, unordered_stamps_are_equal, image_after_view_has_it, counted_in, MayNumber, accepts}
+pub use Rattle.am_refinement.proofs.Words.{shows, serves, first_stamp, put_keeps_property, of_line, of_shown, over, NewView}
+unfoldable pub use Rattle.am_refinement.proofs.Words.{fits, fold, mem}
+pub use Rattle.std.proofs.Common.{All}
+pub use Rattle.am_model.specs.{Node.image_of as told_at, Joining.node_with_admitted}
+unfoldable pub use Rattle.am_model.specs.Joining.{join_ask_row}
+pub use Rattle.am_group_defs.specs.{Lawful.lawful_front, Settle.settle_events}
+pub use Rattle.am_repair.specs.Claim.{MayRepair, HasCaughtUp, Repairs}
+pub use Rattle.am_base.proofs.Members.{membership_ends_between}
+pub use Rattle.am_step_laws.proofs.Hearing.{heard_member_is_other}
+pub use Rattle.am_step_laws.proofs.Rests.{own_leave_rests}
+pub use Rattle.am_step_laws.proofs.Trimming.Taken.{stamp_name_is_sender, heard_asking_is_other}
+pub use Rattle.am_step_laws.proofs.Trimming.TakenRuns.{trimmed_was_taken_in_runs, WorldTrimsOnlyTaken}
+pub use Rattle.am_step_laws.proofs.Trimming.TakenRuns.{events_trim_only_taken}
+pub use Rattle.am_step_laws.proofs.ViewChanges.{next_round_is_above}
+pub use Rattle.am_step_laws.proofs.Stamps.{stamp_not_below_itself, lower_stamp_is_not_above, stamp_at_most_is_transitive, stamp_at_most_then_below}
+pub use Rattle.am_step_laws.proofs.{Stamps.stamp_below_then_at_most, ViewSteps.HasSameView, ViewSteps.LastViewStandsInLog, ViewSteps.view_of_pushed_view, Named.names_hold_in_runs}
+pub use Rattle.am_step_laws.specs.Changes.{for_ballot, departs}
+pub use Rattle.am_abstract_group.specs.Group.{Leads, current_of}
+pub use Rattle.am_refinement.proofs.{ChainNames.counted_names_of_named_list, Parts.counted_name_was_member_near, Parts.counted_at_of_whole_list, Entries.stamps_of_equal_keys, Sent.sequencer_leads_its_line, Sent.LeadsItsLine, Growing.moves_grow_the_group}
+pub use Rattle.am_refinement.proofs.WholeSteps.Starting.{LetterGoesToItsKind, run_letters_go_by_kind, item_at_gives_slice_get}
+pub use Rattle.am_refinement.proofs.WholeSteps.Departed.{step_keeps_departed_node, course_keeps_departed_node}
+pub use Rattle.am_lawful_runs.proofs.Ways.{ChangeByItsKind, change_has_its_kind}
+pub use Rattle.am_lawful_runs.proofs.Begun.{group_follows_unbroken_run}
+pub use Rattle.am_lawful_runs.proofs.OneStep.{parts_of_one_step, one_step_grows_group, OneStepWithGroup}
+pub use Rattle.am_lawful_runs.proofs.Fold.{PropertyIsKeptByRuns, WorldStaysQuiet}
+pub use Rattle.am_lawful_runs.proofs.Shapes.{ListOfNameGoes}
+pub use Rattle.am_lawful_runs.proofs.Shapes.{same, up, gone, property_of_lists_by_moves}
+pub use Rattle.am_repair.proofs.Nodes.{acting_member_promised_its_view, refreshed_node_stands_alike, settled_node_stands_alike}
+pub use Rattle.am_repair.proofs.Nodes.{views_of_alike_nodes, acts_of_alike_nodes, NodesStandAlike}
+pub use Rattle.am_repair.proofs.Known.ReportedRuns.{known_is_taken, reports_of_runs_are_true}
+pub use Rattle.am_repair.proofs.Known.ReportedRuns.{cause_of_run_reports_taken}
+pub use Rattle.am_repair.proofs.Known.Knowing.{CauseIsNoJoin}
+pub use Rattle.am_repair.proofs.Known.Beginning.{repairs_where_lists_agree}
+pub use Rattle.am_repair.proofs.Known.KnownRuns.{sequencers_trim_known}
+pub use Rattle.am_repair.proofs.Known.OneLists.{one_list_agrees}
+pub use Rattle.am_repair.proofs.Known.Reported.{end_keeps_reports_of_others, BaseAndTakenRise, base_and_taken_rise, CauseReportsTaken, reported_taken_le_taken, refresh_keeps_reports_of_others}
+pub use Rattle.am_repair.specs.Standing.{IsOneList, RepairableIsOneList}
+pub use Rattle.am_repair.specs.Trimmed.{RepairableTrims, RepairableCounts}

@@ -1,0 +1,9 @@
+pub mod Claim
+pub mod Answers
+pub mod Rows
+pub mod Calm
+pub mod Rounds
+pub mod Known
+pub mod Standing
+pub mod Waves
+pub mod Trimmed

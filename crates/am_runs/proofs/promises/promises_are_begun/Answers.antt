@@ -1,5 +1,0 @@
-use Rattle.am_runs.proofs.PromisedRuns.{promises_are_begun}
-use Rattle.am_runs.proofs.promises.promises_are_begun.Goals as goal
-
-pub returns : goal.returns
-returns c = promises_are_begun

@@ -1,0 +1,5 @@
+pub mod Lists
+pub mod Records
+pub mod Resiliences
+pub mod Parts
+pub mod Processes

@@ -1,0 +1,35 @@
+ghost use Rattle.std.specs.Prelude.{◌≡◌, ◌<◌, length};
+ghost use Rattle.am_node_parts.specs.Prelude.{PacketIsWithin, Tells, node_of};
+ghost use Rattle.am_node_parts.specs.Parts.{with_told};
+ghost use Rattle.am_model.specs.Emit.{accept_of};
+
+use am_node_parts::packet_from;
+use am_node_parts::parts::Parts;
+use am_node_storage::log::Log;
+use am_packet::packet::Packet;
+use am_packet_writer::out_box::OutBox;
+
+/// An Accept.
+#[tactic(auto, unfolding(am_packet::specs::Limits::PacketIsWithin))]
+fn accept(parts: &Parts, polls: bool) -> Packet<'_>
+    ensures value { Tells (λ n. accept_of n polls) (node_of parts.now) result }
+    ensures within { IsWithin result }
+{
+    packet_from!(parts.core => Accept {
+        base: parts.core.log.base(),
+        acc: parts.core.acc,
+        top: parts.core.log.top(),
+        poll: polls,
+    })
+}
+
+/// The sequencer tells the other members what is accepted: where it polls them, or where that rose above what was
+/// accepted before the step and no entry that it numbered tells it. The out box must have room.
+pub fn tell_accepted(parts: &Parts, before: u32, polls: bool, numbers: bool, out: &mut OutBox)
+    requires room { length out.old < 24 }
+    ensures { Tells (with_told before polls numbers out.old) (node_of parts.now) out.new }
+{
+    if parts.is_sequencer() && (polls || (before < parts.core.acc && !numbers)) {
+        out.put(parts.others(), &accept(parts, polls));
+    }
+}

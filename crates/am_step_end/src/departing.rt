@@ -1,0 +1,44 @@
+ghost use Rattle.std.specs.Prelude.{◌≡◌, false};
+ghost use Rattle.am_node_parts.specs.Prelude.{size, is_member, others, push_entry, IsEndOf, node_of};
+ghost use Rattle.am_base.specs.declared.entry.Entry.TheVariants.{Leave};
+ghost use Rattle.am_node_defs.specs.Refresh.{MayLead};
+ghost use Rattle.am_model.specs.Refresh.{lead, refresh_at_end};
+ghost use Rattle.am_node_parts.specs.Replies.{departed, LastMayDepart};
+
+use am_base::entry::EntryRef;
+use am_base::name::Name;
+use am_model::status::Status;
+use am_node_parts::departing::set_status;
+use am_node_parts::parts::Parts;
+
+/// The node's name.
+fn who(parts: &Parts) -> Name
+    ensures { result ≡ parts.now.core.who }
+{
+    parts.core.who
+}
+
+/// Leads as the last member does that has departed.
+fn lead(parts: &mut Parts)
+    requires leads { MayLead parts.old.core }
+    requires outside { is_member parts.old.status ≡ false }
+    ensures { IsEndOf (lead (node_of parts.old)) (node_of parts.new) }
+{
+    let _before = parts.accept_front();
+    parts.fronts.refresh(&mut parts.core);
+}
+
+/// The last member numbers its Leave, which is accepted at once, and departs.
+pub fn depart(parts: &mut Parts)
+    requires { MayDepart (node_of parts.old) }
+    ensures end { IsEndOf (departed (refresh_at_end
+        (push_entry (node_of parts.old) (Leave parts.old.core.who)))) (node_of parts.new) }
+    ensures nobody { size (others (refresh_at_end
+        (push_entry (node_of parts.old) (Leave parts.old.core.who)))) ≡ 0 }
+{
+    set_status(parts, Status::Departed);
+    let _before = parts.accept_front();
+    let who = who(parts);
+    parts.push(&EntryRef::leave(who));
+    lead(parts);
+}

@@ -1,0 +1,256 @@
+#![tactic(auto, unfolding(am_packet::specs::Limits::PacketIsWithin))]
+
+ghost use Rattle.std.specs.Prelude.{◌≡◌, ◌≤◌};
+ghost use Rattle.am_node_parts.specs.Prelude.{IsNumber, IsEntry, PacketIsWithin, node_of};
+ghost use Rattle.am_base.specs.Limits.{IsReport};
+ghost use Rattle.am_base.specs.declared.entry.Entry.TheVariants.{Data};
+ghost use Rattle.am_model.specs.Node.{report_of};
+ghost use Rattle.am_model.specs.Emit.{bcast_of, order_of, ack_of, nack_of, hold_of, join_ask_of, welcome_of, gone_of, leave_ask_of, invite_of, fetch_of, hand_over_of, request_of, spread_of, result_of};
+ghost use Rattle.am_model.specs.Ballots.{vote_of};
+ghost use Rattle.am_node_parts.specs.Replies.{packet_of, own_packet, IsNoteWithin, IsOwnWithin};
+
+use am_base::body::Body;
+use am_base::entry::{EntryParts, EntryRef, GroupView};
+use am_base::image::Report;
+use am_base::name::Name;
+use am_base::names::Names;
+use am_node_parts::owning::WaitingSend;
+use am_node_parts::packet_from;
+use am_node_parts::parts::Parts;
+use am_node_parts::reply::{Note, OwnLetter};
+use am_node_parts::votes::own_vote;
+use am_node_storage::log::Log;
+use am_packet::image_ref::ImageRef;
+use am_packet::packet::Packet;
+
+/// What the node has stored and taken.
+fn report(parts: &Parts) -> Report
+    ensures value { result ≡ report_of (node_of parts.now) }
+    ensures within { IsReport result }
+{
+    Report {
+        stored: parts.core.log.top(),
+        taken: parts.core.taken,
+    }
+}
+
+/// A numbered entry.
+fn bcast<'a>(parts: &Parts, number: u32, entry: &EntryRef<'a>) -> Packet<'a>
+    requires number { IsNumber number }
+    requires entry { IsEntry entry.now }
+    ensures value { result ≡ bcast_of (node_of parts.now) number entry.now }
+    ensures within { IsWithin result }
+{
+    packet_from!(parts.core => Bcast {
+        base: parts.core.log.base(),
+        acc: parts.core.acc,
+        number,
+        entry: entry.again(),
+    })
+}
+
+/// The number of a send whose body was spread.
+fn order<'a>(parts: &Parts, number: u32, from: Name, req: u32) -> Packet<'a>
+    requires number { IsNumber number }
+    requires req { IsNumber req }
+    ensures value { result ≡ order_of (node_of parts.now) number from req }
+    ensures within { IsWithin result }
+{
+    packet_from!(parts.core => Order {
+        base: parts.core.log.base(),
+        acc: parts.core.acc,
+        number,
+        from,
+        req,
+    })
+}
+
+/// A report.
+pub fn ack<'a>(parts: &Parts) -> Packet<'a>
+    ensures value { result ≡ ack_of (node_of parts.now) }
+    ensures within { IsWithin result }
+{
+    packet_from!(parts.core => Ack { report: report(parts) })
+}
+
+/// A report that asks for what comes next.
+fn nack<'a>(parts: &Parts) -> Packet<'a>
+    ensures value { result ≡ nack_of (node_of parts.now) }
+    ensures within { IsWithin result }
+{
+    packet_from!(parts.core => Nack { report: report(parts) })
+}
+
+/// There is no room for a send.
+fn hold<'a>(parts: &Parts, req: u32) -> Packet<'a>
+    requires { IsNumber req }
+    ensures value { result ≡ hold_of (node_of parts.now) req }
+    ensures within { IsWithin result }
+{
+    packet_from!(parts.core => Hold {
+        base: parts.core.log.base(),
+        top: parts.core.log.top(),
+        req,
+    })
+}
+
+/// The node would join.
+fn join_ask<'a>(parts: &Parts) -> Packet<'a>
+    ensures value { result ≡ join_ask_of (node_of parts.now) }
+    ensures within { IsWithin result }
+{
+    let _top = parts.core.log.top();
+    packet_from!(parts.core => JoinAsk {})
+}
+
+/// A name is welcomed.
+fn welcome(parts: &Parts, name: Name) -> Packet<'_>
+    ensures value { result ≡ welcome_of (node_of parts.now) name }
+    ensures within { IsWithin result }
+{
+    packet_from!(parts.core => Welcome {
+        base: parts.core.log.base(),
+        join: parts.core.log.row(name).joined,
+        image: ImageRef::of(parts.core.log.image_at_base()),
+    })
+}
+
+/// A name may go, by the number of its Leave.
+pub fn gone<'a>(parts: &Parts, number: u32) -> Packet<'a>
+    requires { IsNumber number }
+    ensures value { result ≡ gone_of (node_of parts.now) number }
+    ensures within { IsWithin result }
+{
+    let _top = parts.core.log.top();
+    packet_from!(parts.core => Gone { number })
+}
+
+/// The node would leave.
+fn leave_ask<'a>(parts: &Parts) -> Packet<'a>
+    ensures value { result ≡ leave_ask_of (node_of parts.now) }
+    ensures within { IsWithin result }
+{
+    packet_from!(parts.core => LeaveAsk { report: report(parts) })
+}
+
+/// An Invite to the ballot that the node has promised.
+fn invite<'a>(parts: &Parts) -> Packet<'a>
+    ensures value { result ≡ invite_of (node_of parts.now) }
+    ensures within { IsWithin result }
+{
+    let _top = parts.core.log.top();
+    packet_from!(parts.core => Invite {})
+}
+
+/// What the node shows in a ballot.
+fn vote<'a>(parts: &Parts) -> Packet<'a>
+    ensures value { result ≡ vote_of (node_of parts.now) }
+    ensures within { IsWithin result }
+{
+    packet_from!(parts.core => Vote { vote: own_vote(parts) })
+}
+
+/// A Fetch of what comes next.
+pub fn fetch<'a>(parts: &Parts) -> Packet<'a>
+    ensures value { result ≡ fetch_of (node_of parts.now) }
+    ensures within { IsWithin result }
+{
+    packet_from!(parts.core => Fetch { stored: parts.core.log.top() })
+}
+
+/// The sequencer leaves.
+fn hand_over<'a>(parts: &Parts) -> Packet<'a>
+    ensures value { result ≡ hand_over_of (node_of parts.now) }
+    ensures within { IsWithin result }
+{
+    let _top = parts.core.log.top();
+    packet_from!(parts.core => HandOver {})
+}
+
+/// The result of a ballot: its View's number, members and resilience.
+pub fn result<'a>(parts: &Parts, number: u32, members: Names, resilience: u8) -> Packet<'a>
+    requires number { IsNumber number }
+    requires resilience { resilience ≤ 15 }
+    ensures value { result ≡ result_of (node_of parts.now) number members resilience }
+    ensures within { IsWithin result }
+{
+    Packet::Result {
+        sender: parts.core.who,
+        base: parts.core.log.base(),
+        number,
+        view: GroupView {
+            stamp: parts.core.promise,
+            members,
+            resilience,
+        },
+    }
+}
+
+/// A send of the node's own for the sequencer to number.
+fn request<'a>(parts: &Parts, req: u32, body: &'a Body) -> Packet<'a>
+    requires { IsNumber req }
+    ensures value { result ≡ request_of (node_of parts.now) req body.now }
+    ensures within { IsWithin result }
+{
+    packet_from!(parts.core => Request { report: report(parts), req, body: body.as_ref() })
+}
+
+/// One for everybody.
+fn spread<'a>(parts: &Parts, req: u32, body: &'a Body) -> Packet<'a>
+    requires { IsNumber req }
+    ensures value { result ≡ spread_of (node_of parts.now) req body.now }
+    ensures within { IsWithin result }
+{
+    packet_from!(parts.core => Spread { report: report(parts), req, body: body.as_ref() })
+}
+
+/// One that is numbered.
+fn own_bcast<'a>(parts: &Parts, number: u32, req: u32, body: &'a Body) -> Packet<'a>
+    requires number { IsNumber number }
+    requires req { IsNumber req }
+    ensures value { result ≡ bcast_of (node_of parts.now) number (Data parts.now.core.who req body.now) }
+    ensures within { IsWithin result }
+{
+    let entry = EntryRef::of(EntryParts::Data {
+        from: parts.core.who,
+        req,
+        body: body.as_ref(),
+    });
+    bcast(parts, number, &entry)
+}
+
+/// The packet of a send of the node's own.
+pub fn own_packet<'a>(parts: &Parts, letter: OwnLetter, send: &'a WaitingSend) -> Packet<'a>
+    requires letter { IsOwnWithin letter }
+    requires req { IsNumber send.now.req }
+    ensures value { result ≡ own_packet letter (send.now.req, send.now.body) (node_of parts.now) }
+    ensures within { IsWithin result }
+{
+    match letter {
+        OwnLetter::Request => request(parts, send.req, &send.body),
+        OwnLetter::Spread => spread(parts, send.req, &send.body),
+        OwnLetter::Bcast { number } => own_bcast(parts, number, send.req, &send.body),
+    }
+}
+
+/// The packet that the node makes of a note now.
+pub fn packet<'a>(parts: &'a Parts, note: &Note<'a>) -> Packet<'a>
+    requires { IsNoteWithin note.now }
+    ensures value { result ≡ packet_of note.now (node_of parts.now) }
+    ensures within { IsWithin result }
+{
+    match note {
+        Note::Bcast { number, entry } => bcast(parts, *number, entry),
+        Note::Order { number, from, req } => order(parts, *number, *from, *req),
+        Note::Ack => ack(parts),
+        Note::Nack => nack(parts),
+        Note::Hold { req } => hold(parts, *req),
+        Note::JoinAsk => join_ask(parts),
+        Note::Welcome(name) => welcome(parts, *name),
+        Note::LeaveAsk => leave_ask(parts),
+        Note::Invite => invite(parts),
+        Note::Vote => vote(parts),
+        Note::Fetch => fetch(parts),
+        Note::HandOver => hand_over(parts),
+    }
+}

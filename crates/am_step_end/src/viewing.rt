@@ -1,0 +1,110 @@
+ghost use Rattle.std.specs.Prelude.{◌≡◌, ◌<◌, ◌≤◌, ◌+◌, nat_lt, length};
+ghost use Rattle.std.specs.Option.{option_copied};
+ghost use Rattle.am_node_parts.specs.Prelude.{most_number, entry_at, others, image_of, node_of};
+ghost use Rattle.am_node_defs.specs.Reports.{reports_of};
+ghost use Rattle.am_model.specs.Node.{name_where, those};
+ghost use Rattle.am_model.specs.Ticks.{viewed_by};
+ghost use Rattle.am_node_parts.specs.Replies.{and_view};
+
+use crate::notes::result;
+use am_base::entry::Entry;
+use am_base::name::Name;
+use am_base::names::Names;
+use am_node_parts::asking::others;
+use am_node_parts::parts::Parts;
+use am_node_storage::log::Log;
+use am_packet_writer::out_box::OutBox;
+
+/// A life of a place that has reported less than a number as stored, else 0.
+fn behind_life(parts: &Parts, number: u32, place: u8, life: u8) -> u8
+    requires { (place < 16) × (life ≤ 16) }
+    ensures value { result ≡ name_where (λ name. nat_lt
+        (reports_of parts.now.fronts name).stored number) place life }
+    ensures fits { result ≤ 16 }
+{
+    match Name::of(place, life) {
+        None => 0,
+        Some(name) => {
+            if parts.fronts.of(name).stored < number {
+                return life;
+            }
+            0
+        }
+    }
+}
+
+/// The other members that have reported less than a number as stored.
+fn behind(parts: &Parts, number: u32) -> Names
+    ensures { result ≡ those (λ name. nat_lt (reports_of parts.now.fronts name).stored number)
+        (others (node_of parts.now)) }
+{
+    let lives = others(parts).each_life();
+    let mut behind = [0; 16];
+    for place in 0..16u8 {
+        behind[usize::from(place)] = behind_life(parts, number, place, lives[usize::from(place)]);
+    }
+    Names::of_lives(behind)
+}
+
+/// The members that a View names; nobody for another entry.
+fn viewed_by(entry: Option<&Entry>) -> Names
+    ensures { result ≡ viewed_by (option_copied entry.entry) }
+{
+    match entry {
+        None => Names::empty(),
+        Some(entry) => match entry {
+            Entry::View(view) => view.members,
+            Entry::Data { .. } => Names::empty(),
+            Entry::Join(_) => Names::empty(),
+            Entry::Leave(_) => Names::empty(),
+        },
+    }
+}
+
+/// The members that the entry of a number names.
+fn viewed_at(parts: &Parts, number: u32) -> Names
+    ensures { result ≡ viewed_by (entry_at parts.now.core.log number) }
+{
+    viewed_by(parts.core.log.entry(number))
+}
+
+/// The number of the last View.
+fn view_number(parts: &Parts) -> u32
+    ensures value { result ≡ (image_of (node_of parts.now)).view_number }
+    ensures within { result ≤ most_number }
+{
+    parts.core.log.view_number()
+}
+
+/// The resilience of the last View.
+fn resilience(parts: &Parts) -> u8
+    ensures value { result ≡ (image_of (node_of parts.now)).resilience }
+    ensures within { result ≤ 15 }
+{
+    parts.core.log.resilience()
+}
+
+/// Up to where the list is trimmed.
+fn base(parts: &Parts) -> u32
+    ensures value { result ≡ parts.now.core.base }
+    ensures kept { parts.now.core.base ≡ parts.now.core.log.start }
+{
+    parts.core.log.base()
+}
+
+/// Tells the last View again to the other members that haven't stored it, as long as it isn't trimmed.
+#[tactic(auto, using(am_model::proofs::Letters::with_letter_adds_one))]
+pub fn tell_view(parts: &Parts, out: &mut OutBox)
+    requires { length out.old < 24 }
+    ensures letters { out.new ≡ and_view out.old (node_of parts.now) }
+    ensures few { length out.new ≤ length out.old + 1 }
+{
+    let number = view_number(parts);
+    if number <= base(parts) {
+        return;
+    }
+    let to = behind(parts, number);
+    let members = viewed_at(parts, number);
+    let result = result(parts, number, members, resilience(parts));
+    out.put(to, &result);
+}

@@ -1,0 +1,4 @@
+pub mod Limits
+pub mod NodeLimits
+pub mod LetterLimits
+pub mod RunLimits

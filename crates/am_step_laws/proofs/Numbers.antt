@@ -1,0 +1,9 @@
+pub mod Counts
+pub mod BallotCounts
+pub mod CallCounts
+pub mod HearingCounts
+pub mod Images
+pub mod ListImages
+pub mod LetterCounts
+pub mod EventCounts
+pub mod RunCounts

@@ -1,0 +1,15 @@
+pub mod WatchedWords
+pub mod Chains
+pub mod Lists
+pub mod Own
+pub mod New
+pub mod Members
+pub mod MembersRuns
+pub mod Watched
+pub mod StoredWords
+pub mod Fresh
+pub mod Start
+pub mod StoredViews
+pub mod StoredPieces
+pub mod StoredSteps
+pub mod Stored

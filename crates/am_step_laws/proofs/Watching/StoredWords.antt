@@ -1,0 +1,23 @@
+-- The words of the proofs about what a step stores, of the crates and definitions that they come from.
+pub use Rattle.am_step_laws.proofs.Stamps.{stamp_at_most_is_transitive, stamp_at_most_then_below, lower_stamp_is_not_above, stamp_not_below_itself}
+pub use Rattle.am_step_laws.proofs.ViewChanges.{sequencer_is_member, hearing_member_has_log, next_round_is_above, welcomed_node_has_no_log, numbered_entry_is_no_view, BallotIsOpenAndPromised, OpenBallotIsPromised, NodeBallotFits}
+pub use Rattle.am_step_laws.proofs.Blank.{blank_lists_hold_in_runs}
+pub use Rattle.am_step_laws.proofs.Watching.Chains.{WelcomeBaseIsWithin, change_keeps_start_within}
+pub use Rattle.am_step_laws.proofs.Hearing.{steps_have_effects, hearing_has_effects}
+pub use Rattle.am_step_laws.proofs.Hearing.{refusing_has_effects}
+pub use Rattle.am_step_laws.proofs.Watching.Lists.{lists_only_grow_in_runs, HasNoEntriesWithoutLog, run_has_bare_listless_nodes}
+pub use Rattle.am_step_laws.proofs.Named.{actor_is_below_256, names_hold_in_runs}
+pub use Rattle.am_step_laws.proofs.Watching.New.{decided_views_of_runs_are_new}
+pub use Rattle.am_step_laws.proofs.Numbers.RunCounts.{number_bounds_hold_in_runs}
+pub use Rattle.am_step_laws.proofs.ViewSteps.{view_of_pushed_view}
+pub use Rattle.am_step_laws.specs.Causes.{refuses, BringsFronts, with_entry, with_number, alone}
+pub use Rattle.am_step_laws.specs.{Blank.IsBlank, Changes.overtaken, Changes.asks_to_leave, Looks.BeginsBy, Looks.by_reset}
+pub use Rattle.am_model.specs.{Ballots.is_waited_for, Ballots.ends, Node.has_departed, Node.has_own_leave, Resets.is_view_past, Resets.fetches_from}
+pub use Rattle.am_model.specs.{Step.read_row}
+pub use Rattle.am_packet.specs.{Reading.Read, Reading.reading, Reading.refusal_number, declared.packet.Packet.TheVariants.Piece}
+pub use Rattle.am_group_defs.specs.{Lawful.is_view_of, World.does_event, World.comes_back}
+pub use Rattle.am_lawful_defs.proofs.{Steps.other_entry_has_no_stamp}
+pub use Rattle.am_lawful_defs.specs.Telling.{begins, one_of, piece_in, fetched_from, entry_in, view_entry_of, stored_of}
+pub use Rattle.am_lawful_defs.specs.{Watches.standing_of, Watches.view_of, Watches.StampIsNew, Watching.watch_decides}
+pub use Rattle.std.proofs.lemmas.Bool.{not-true, eq-eqb, not-false, or_right, or_left}
+pub use Rattle.std.{proofs.Common.Ok, proofs.Common.Err, proofs.Math.Bool.or-false}

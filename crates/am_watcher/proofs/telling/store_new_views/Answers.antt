@@ -1,9 +1,0 @@
-use Rattle.am_watcher.proofs.WatchWords.{[], if◌then◌else◌, false, refl, ◌∙◌, watching_of, entry_in, one_of, last_view}
-use Rattle.am_watcher.proofs.Tellings.{views_more}
-use Rattle.am_watcher.proofs.telling.store_new_views.Goals as goal
-
-pub returns : goal.returns
-returns c =
-    c.store.ensures ∙ views_more (watching_of c.args.watcher.now) (watching_of c.store_one.new.watcher) c.args.step.now.name false false
-    (if c.args.is_decided then one_of (entry_in c.args.step.now.what.now) else []) (one_of c.fetched_before-earlier.result)
-    (last_view c.args.step.now.view.now) c.last_view.result refl refl c.fetched_before-earlier.ensures c.last_view.ensures c.store_one.ensures

@@ -1,6 +1,0 @@
-use Rattle.am_watcher.proofs.WatchWords.{ap, look, end_event, watching_of}
-use Rattle.am_watcher.proofs.watcher.Watcher.look.Goals as goal
-
-pub returns : goal.returns
-unfolding look
-returns c = rw (c.keep_above.ensures, c.broken_after-self.ensures) (ap (end_event (watching_of c.args.self.now)) c.greatest-best.ensures)

@@ -1,5 +1,0 @@
-use Rattle.am_watcher.proofs.WatchWords.{refl}
-use Rattle.am_watcher.proofs.watcher.Watcher.new.Goals as goal
-
-pub returns : goal.returns
-returns c = rw (c.first_standings.ensures, c.first_view.ensures, c.new.ensures.items, c.new-2.ensures.items) refl

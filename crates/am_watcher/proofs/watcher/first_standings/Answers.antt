@@ -1,6 +1,0 @@
-use Rattle.am_watcher.proofs.WatchWords.{arith, fill_by_all, blank_standing, first_standing}
-use Rattle.am_watcher.proofs.watcher.first_standings.Goals as goal
-
-pub returns : goal.returns
-returns c = fill_by_all (first_standing c.args.founding.now) c.loop-byte.names 256 blank_standing c.loop-byte.invariant.long
-    (λ k h. c.loop-byte.invariant.filled k (omega arith))

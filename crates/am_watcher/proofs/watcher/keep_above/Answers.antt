@@ -1,5 +1,0 @@
-use Rattle.am_watcher.proofs.WatchWords.{rules, filter_same, is_above}
-use Rattle.am_watcher.proofs.watcher.keep_above.Goals as goal
-
-pub returns : goal.returns
-returns c = filter_same _ (is_above c.args.stamp) _ (λ v b f k. search rules) _ _ c.retain.ensures.filtered

@@ -1,5 +1,0 @@
-use Rattle.am_written.proofs.Agree.{runs_have_their_texts}
-use Rattle.am_written.proofs.audited.runs_have_their_texts.Goals as goal
-
-pub returns : goal.returns
-returns c = runs_have_their_texts

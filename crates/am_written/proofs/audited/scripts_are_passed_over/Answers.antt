@@ -1,5 +1,0 @@
-use Rattle.am_written.proofs.Scripts.{scripts_are_passed_over}
-use Rattle.am_written.proofs.audited.scripts_are_passed_over.Goals as goal
-
-pub returns : goal.returns
-returns c = scripts_are_passed_over
