@@ -60,7 +60,7 @@ def fitted(line: str, more: str = "    ") -> str:
 def fitted_uses(line: str) -> str:
     """A `use` line, as several where it is longer than others are."""
     head, names = line[:line.index("{") + 1], line[line.index("{") + 1:-1].split(", ")
-    lines = textwrap.wrap(" ".join(names), 150 - len(head), break_long_words=False, break_on_hyphens=False)
+    lines = textwrap.wrap(" ".join(names), 156 - len(head), break_long_words=False, break_on_hyphens=False)
     return "\n".join(head + ", ".join(some.split(" ")) + "}" for some in lines)
 
 

@@ -1,3 +1,3 @@
-//! What a run is up to its lawful front (docs/SAFETY.md): a group of the abstract kind follows it, and the views that became complete in the
-//! run are those that the group has marked.
+//! Laws of runs up to their lawful front: each is followed by a run of the abstract group, in which the views are complete that became so in it
+//! (docs/SAFETY.md).
 #![tactic(auto)]

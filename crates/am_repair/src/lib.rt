@@ -1,4 +1,4 @@
-//! What a lossless schedule repairs, and which sends it leaves answered (docs/REPAIR.md).
+//! Laws of repair: what a lossless schedule brings about in each member, and which sends are answered then (docs/REPAIR.md).
 #![tactic(auto)]
 
 pub mod repair;

@@ -1,5 +1,5 @@
-//! The headline, which is what every run keeps up to its lawful front; what holds of its records; that it is made of its nodes; and what a
-//! lossless schedule repairs (docs/REPAIR.md).
+//! The headline, which is what every run keeps up to its lawful front (docs/SAFETY.md); what holds of its records; and that it is made of its
+//! nodes.
 #![tactic(auto)]
 
 pub mod parts;
