@@ -19,7 +19,7 @@ use std::alloc::Global;
 /// What is wrong with the list and the logs.
 #[tactic(auto, unfolding(am_audit_defs::specs::Verdicts::wrong_lists))]
 fn wrong_lists(alloc: Global, lines: &Lines) -> Result<Option<Verdict>, NoMemory>
-    ensures { IfOk result (λ found. found ≡ wrong_lists (told lines.now)) }
+    ensures { IfOk result (λ found. found ≡ wrong_lists (reading_told lines.now)) }
 {
     match first_fault(alloc, &lines.logs)? {
         Some(fault) => return Ok(Some(fault)),
@@ -46,7 +46,7 @@ fn wrong_events(alloc: Global, lines: &Lines) -> Result<Option<Verdict>, NoMemor
     requires faultless { first_fault [] (lines_in lines.now.logs.items) ≡ None }
     requires listed { first_astray (texts_in lines.now.group.items)
         (lines_in lines.now.logs.items) ≡ None }
-    ensures { IfOk result (λ found. found ≡ wrong_events (told lines.now)) }
+    ensures { IfOk result (λ found. found ≡ wrong_events (reading_told lines.now)) }
 {
     match first_skipped(&lines.sends) {
         Some(skipped) => return Ok(Some(skipped)),
@@ -66,7 +66,7 @@ fn wrong_events(alloc: Global, lines: &Lines) -> Result<Option<Verdict>, NoMemor
 /// The verdict on what was read.
 #[tactic(auto, unfolding(am_audit_defs::specs::Verdicts::verdict_of))]
 fn verdict_of(alloc: Global, lines: &Lines) -> Result<Verdict, NoMemory>
-    ensures { IfOk result (λ verdict. verdict ≡ verdict_of (told lines.now)) }
+    ensures { IfOk result (λ verdict. verdict ≡ verdict_of (reading_told lines.now)) }
 {
     let wrong = wrong_lists(alloc, lines)?;
     match wrong {

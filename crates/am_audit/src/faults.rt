@@ -16,7 +16,7 @@ use std::collections::BTreeMap;
 
 /// Whether a line's number isn't the one behind its name's last.
 fn gap_at(last: Option<u32>, line: &TextLine) -> Option<Verdict>
-    ensures { result ≡ gap_at last (line_of line.now) }
+    ensures { result ≡ gap_at last (line_seen line.now) }
 {
     match last {
         Some(last) if u64::from(last) + 1 != u64::from(line.number) => Some(Verdict::Gap {
@@ -29,8 +29,8 @@ fn gap_at(last: Option<u32>, line: &TextLine) -> Option<Verdict>
 
 /// Whether a line's entry isn't that of the first line with its number.
 fn differs_at(logs: &[TextLine], first: Option<u64>, line: &TextLine) -> Option<Verdict>
-    ensures { (found : Option Line) → IsFirst (lines_in logs.now) first found
-        → result ≡ differs_at found (line_of line.now) }
+    ensures { (found : Option Line) → IsIndexOfFound (lines_in logs.now) first found
+        → result ≡ differs_at found (line_seen line.now) }
 {
     let Some(first) = first else {
         return None;
@@ -61,9 +61,9 @@ fn twice_by(first: Option<u64>, from: Name, req: u32, number: u32) -> Option<Ver
 
 /// Whether a line has a send that stands at another number too. The send is kept.
 fn twice_at(sent: &mut BTreeMap<u64, u64>, line: &TextLine) -> Result<Option<Verdict>, NoMemory>
-    ensures { IfOk result (λ found. (before : List Line) → IsSent sent.old before
+    ensures { IfOk result (λ found. (before : List Line) → AreFirstNumbers sent.old before
         → (found ≡ twice_by_key before (data_in line.now.text.now) line.now.number)
-        × IsSent sent.new (line_of line.now ∷ before)) }
+        × AreFirstNumbers sent.new (line_seen line.now ∷ before)) }
 {
     match data_in(line.text) {
         Ok((from, req, _)) => {

@@ -17,7 +17,7 @@ use am_text_reader::number::{number, number_up_to, resilience};
 
 /// What stands before the first blank, and what behind it.
 pub fn two(text: &[u8]) -> Result<(&[u8], &[u8]), FieldFault>
-    ensures { Gives (λ x. (x.0.now, x.1.now)) result (two_of text.entry.now) }
+    ensures { GivesWhatIsRead (λ x. (x.0.now, x.1.now)) result (two_of text.entry.now) }
 {
     let (first, rest) = cut(text, b' ');
     match rest {
@@ -39,7 +39,7 @@ pub fn expect(text: &[u8], word: &[u8]) -> Result<(), FieldFault>
 /// The sender, the request and the body of what stands behind the word data.
 #[tactic(auto, unfolding(am_audit_defs::specs::Fields::data_parts))]
 fn data_parts(text: &[u8]) -> Result<(Name, u32, &[u8]), FieldFault>
-    ensures { Gives (λ x. (x.0, x.1, x.2.now)) result (data_parts text.entry.now) }
+    ensures { GivesWhatIsRead (λ x. (x.0, x.1, x.2.now)) result (data_parts text.entry.now) }
 {
     let (from, rest) = two(text)?;
     let from = name(from)?;
@@ -65,7 +65,7 @@ fn data(text: &[u8]) -> Result<Outline, FieldFault>
 /// A resilience behind its letter, which isn't 0.
 #[tactic(auto, unfolding(am_audit_defs::specs::Fields::resilience_in_text))]
 fn lettered_resilience(word: &[u8]) -> Result<u8, FieldFault>
-    ensures { result ≡ resilience_of word.now }
+    ensures { result ≡ resilience_in_text word.now }
 {
     if word.is_empty() || word[0] != b'r' {
         return Err(FieldFault::Form);
@@ -80,7 +80,7 @@ fn lettered_resilience(word: &[u8]) -> Result<u8, FieldFault>
 /// A view, behind that word.
 #[tactic(auto, unfolding(am_audit_defs::specs::Fields::view_in_text))]
 fn view(text: &[u8]) -> Result<Outline, FieldFault>
-    ensures { result ≡ view_of text.now }
+    ensures { result ≡ view_in_text text.now }
 {
     let (first, rest) = two(text)?;
     let stamp = stamp(first)?;
@@ -121,7 +121,7 @@ pub fn outline(text: &[u8]) -> Result<Outline, FieldFault>
 /// The sender, the request and the body of an entry that is data.
 #[tactic(auto, unfolding(am_audit_defs::specs::Fields::data_in))]
 pub fn data_in(text: &[u8]) -> Result<(Name, u32, &[u8]), FieldFault>
-    ensures { Gives (λ x. (x.0, x.1, x.2.now)) result (data_in text.entry.now) }
+    ensures { GivesWhatIsRead (λ x. (x.0, x.1, x.2.now)) result (data_in text.entry.now) }
 {
     let (word, rest) = two(text)?;
     expect(word, b"data".as_slice())?;
@@ -141,7 +141,7 @@ fn told_number(outcome: &[u8], word: &[u8]) -> Result<u32, FieldFault>
 /// A send: its place, its request and its body.
 #[tactic(auto, unfolding(am_audit_defs::specs::Fields::send_of))]
 pub fn send<'a>(rest: &'a [u8], outcome: &[u8]) -> Result<(u8, u32, &'a [u8]), FieldFault>
-    ensures value { Gives (λ x. (x.0, x.1, x.2.now)) result (send_of rest.entry.now outcome.now) }
+    ensures value { GivesWhatIsRead (λ x. (x.0, x.1, x.2.now)) result (send_of rest.entry.now outcome.now) }
     ensures within { IfOk result (λ x. x.0 ≤ 15) }
 {
     let (at, body) = two(rest)?;
@@ -154,7 +154,7 @@ pub fn send<'a>(rest: &'a [u8], outcome: &[u8]) -> Result<(u8, u32, &'a [u8]), F
 /// An answer: its place, its request, and the number of the send.
 #[tactic(auto, unfolding(am_audit_defs::specs::Fields::answer_fields_of))]
 pub fn answer(rest: &[u8], outcome: &[u8]) -> Result<(u8, u32, u32), FieldFault>
-    ensures value { result ≡ answer_of rest.now outcome.now }
+    ensures value { result ≡ answer_fields_of rest.now outcome.now }
     ensures within { IfOk result (λ x. x.0 ≤ 15) }
 {
     let (at, req) = two(rest)?;
@@ -171,7 +171,7 @@ pub fn answer(rest: &[u8], outcome: &[u8]) -> Result<(u8, u32, u32), FieldFault>
 /// A take: its place, its number and its entry.
 #[tactic(auto, unfolding(am_audit_defs::specs::Fields::take_of))]
 pub fn take<'a>(rest: &[u8], outcome: &'a [u8]) -> Result<(u8, u32, &'a [u8]), FieldFault>
-    ensures value { Gives (λ x. (x.0, x.1, x.2.now)) result (take_of rest.now outcome.entry.now) }
+    ensures value { GivesWhatIsRead (λ x. (x.0, x.1, x.2.now)) result (take_of rest.now outcome.entry.now) }
     ensures within { IfOk result (λ x. x.0 ≤ 15) }
 {
     let place = place(rest)?;

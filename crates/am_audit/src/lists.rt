@@ -51,7 +51,7 @@ pub fn first_astray(group: &[Piece], logs: &[TextLine]) -> Option<Verdict>
 
 /// Keeps where an entry's send stands, before all that was kept: at one number, or at several.
 fn stand_at(map: &mut BTreeMap<u64, Option<u64>>, text: &[u8], number: u64) -> Result<(), NoMemory>
-    ensures { OnOk result ((key : ℕ) → get nat_cmp map.new key ≡ (if has_key key (data_in text.now)
+    ensures { OnOk result ((key : ℕ) → get nat_cmp map.new key ≡ (if has_send_key key (data_in text.now)
         then Some (once_more number (get nat_cmp map.old key)) else get nat_cmp map.old key)) }
 {
     if let Ok((from, req, _)) = data_in(text) {
@@ -121,7 +121,7 @@ pub fn first_lost(
 
 /// Whether a log may begin with a line.
 fn may_begin(line: &TextLine) -> bool
-    ensures { result ≡ may_begin (line_of line.now) (outline_of line.now.text.now) }
+    ensures { result ≡ may_begin (line_seen line.now) (outline_of line.now.text.now) }
 {
     let Ok(outline) = outline(line.text) else {
         return false;

@@ -63,7 +63,7 @@ fn may_log(stage: TextStage) -> bool
 
 /// Whether the last line was read.
 pub fn is_end(stage: TextStage) -> bool
-    ensures { result ≡ is_end stage }
+    ensures { result ≡ is_text_end stage }
 {
     match stage {
         TextStage::End => true,
@@ -74,7 +74,7 @@ pub fn is_end(stage: TextStage) -> bool
 impl<'a> Lines<'a> {
     /// Nothing yet.
     pub fn new(alloc: Global) -> Lines<'a>
-        ensures { told result ≡ nothing_read }
+        ensures { reading_told result ≡ nothing_read }
     {
         Lines {
             stage: TextStage::Events,
@@ -91,8 +91,8 @@ impl<'a> Lines<'a> {
 
     /// Keeps a send, where it is one.
     fn count_send(&mut self, rest: &'a [u8], outcome: &[u8]) -> Result<(), NoMemory>
-        ensures { OnOk result (told self.new
-            ≡ with_send (told self.old) (send_of rest.entry.now outcome.now)) }
+        ensures { OnOk result (reading_told self.new
+            ≡ with_send (reading_told self.old) (send_of rest.entry.now outcome.now)) }
     {
         if let Ok((place, number, text)) = send(rest, outcome) {
             let name = self.names[usize::from(place)];
@@ -103,8 +103,8 @@ impl<'a> Lines<'a> {
 
     /// Keeps an answer, where it is one.
     fn count_answer(&mut self, rest: &[u8], outcome: &[u8]) -> Result<(), NoMemory>
-        ensures { OnOk result (told self.new
-            ≡ with_answer (told self.old) (answer_of rest.now outcome.now)) }
+        ensures { OnOk result (reading_told self.new
+            ≡ with_sent_answer (reading_told self.old) (answer_fields_of rest.now outcome.now)) }
     {
         if let Ok((place, req, number)) = answer(rest, outcome) {
             let name = Name::of_byte(self.names[usize::from(place)]);
@@ -115,8 +115,8 @@ impl<'a> Lines<'a> {
 
     /// Keeps a take, where it is one.
     fn count_take(&mut self, rest: &[u8], outcome: &'a [u8]) -> Result<(), NoMemory>
-        ensures { OnOk result (told self.new
-            ≡ with_take (told self.old) (take_of rest.now outcome.entry.now)) }
+        ensures { OnOk result (reading_told self.new
+            ≡ with_take (reading_told self.old) (take_of rest.now outcome.entry.now)) }
     {
         if let Ok((place, number, text)) = take(rest, outcome) {
             let name = self.names[usize::from(place)];
@@ -127,7 +127,7 @@ impl<'a> Lines<'a> {
 
     /// Keeps a return, where it is one.
     fn count_return(&mut self, rest: &[u8], outcome: &[u8])
-        ensures { told self.new ≡ with_return (told self.old) (return_of rest.now outcome.now) }
+        ensures { reading_told self.new ≡ with_return (reading_told self.old) (return_of rest.now outcome.now) }
     {
         if let Ok((place, name)) = return_of(rest, outcome) {
             self.names[usize::from(place)] = name.get();
@@ -137,8 +137,8 @@ impl<'a> Lines<'a> {
     /// Keeps what counts of an event: its act, and its outcome.
     #[tactic(auto, unfolding(am_audit_defs::specs::Lines::counted))]
     fn count(&mut self, act: &'a [u8], outcome: &'a [u8]) -> Result<(), NoMemory>
-        ensures { OnOk result (told self.new
-            ≡ counted (told self.old) (two_of act.entry.now) outcome.entry.now) }
+        ensures { OnOk result (reading_told self.new
+            ≡ counted (reading_told self.old) (two_of act.entry.now) outcome.entry.now) }
     {
         let Ok((word, rest)) = two(act) else {
             return Ok(());
@@ -161,8 +161,8 @@ impl<'a> Lines<'a> {
     /// Takes an event's line: its number, and what stands behind that.
     #[tactic(auto, unfolding(am_audit_defs::specs::Lines::add_event))]
     fn add_event(&mut self, number_text: &[u8], rest: &'a [u8]) -> Result<(), LineFault>
-        ensures { Takes result (told self.new)
-            (add_event (told self.old) number_text.now rest.entry.now) }
+        ensures { Takes result (reading_told self.new)
+            (add_event (reading_told self.old) number_text.now rest.entry.now) }
     {
         let number = number(number_text)?;
         if !may_event(self.stage) || u64::from(number) != u64::from(self.events) + 1 {
@@ -181,7 +181,7 @@ impl<'a> Lines<'a> {
     /// Takes a line of the group list, behind its word.
     #[tactic(auto, unfolding(am_audit_defs::specs::Lines::add_entry))]
     fn add_entry(&mut self, rest: &'a [u8]) -> Result<(), LineFault>
-        ensures { Takes result (told self.new) (add_entry (told self.old) rest.entry.now) }
+        ensures { Takes result (reading_told self.new) (add_entry (reading_told self.old) rest.entry.now) }
     {
         let (first, text) = two(rest)?;
         let number = number(first)?;
@@ -197,7 +197,7 @@ impl<'a> Lines<'a> {
     /// Takes a log's line, behind its name.
     #[tactic(auto, unfolding(am_audit_defs::specs::Lines::logged))]
     fn logged(&mut self, name: Name, rest: &'a [u8]) -> Result<(), LineFault>
-        ensures { Takes result (told self.new) (logged (told self.old) name rest.entry.now) }
+        ensures { Takes result (reading_told self.new) (logged (reading_told self.old) name rest.entry.now) }
     {
         if rest == b"empty".as_slice() {
             self.stage = TextStage::Logs;
@@ -218,7 +218,7 @@ impl<'a> Lines<'a> {
     /// Takes a log's line, behind its word.
     #[tactic(auto, unfolding(am_audit_defs::specs::Lines::add_log))]
     fn add_log(&mut self, rest: &'a [u8]) -> Result<(), LineFault>
-        ensures { Takes result (told self.new) (add_log (told self.old) rest.entry.now) }
+        ensures { Takes result (reading_told self.new) (add_log (reading_told self.old) rest.entry.now) }
     {
         let (first, behind) = two(rest)?;
         let name = name(first)?;
@@ -230,7 +230,7 @@ impl<'a> Lines<'a> {
 
     /// Takes the last line.
     fn add_end(&mut self, void_from: Option<u32>) -> Result<(), LineFault>
-        ensures { Takes result (told self.new) (add_end (told self.old) void_from) }
+        ensures { Takes result (reading_told self.new) (add_end (reading_told self.old) void_from) }
     {
         if !may_log(self.stage) {
             return Err(LineFault::Field(FieldFault::Form));
@@ -243,7 +243,7 @@ impl<'a> Lines<'a> {
     /// Takes the last line of a text that is void, behind its first word.
     #[tactic(auto, unfolding(am_audit_defs::specs::Lines::add_void))]
     fn add_void(&mut self, rest: &[u8]) -> Result<(), LineFault>
-        ensures { Takes result (told self.new) (add_void (told self.old) rest.now) }
+        ensures { Takes result (reading_told self.new) (add_void (reading_told self.old) rest.now) }
     {
         let (word, last) = two(rest)?;
         expect(word, b"from".as_slice())?;
@@ -254,7 +254,7 @@ impl<'a> Lines<'a> {
     /// Takes one line more.
     #[tactic(auto, unfolding(am_audit_defs::specs::Lines::add_line))]
     pub fn add_line(&mut self, line: &'a [u8]) -> Result<(), LineFault>
-        ensures { Takes result (told self.new) (add_line (told self.old) line.entry.now) }
+        ensures { Takes result (reading_told self.new) (add_line (reading_told self.old) line.entry.now) }
     {
         if line == b"lawful".as_slice() {
             return self.add_end(None);

@@ -11,7 +11,7 @@ use am_base::name::Name;
 
 /// How many lines each name has.
 fn counts(lines: &[TextLine]) -> [usize; 256]
-    ensures { IsCount result (lines_in lines.now) }
+    ensures { CountsEachName result (lines_in lines.now) }
 {
     let mut counts = [0; 256];
     let mut at = lines.len();
@@ -38,7 +38,7 @@ fn firsts(lines: &[TextLine]) -> [u32; 256]
 
 /// Whether a take is the entry behind so many of a log, which has this first number and length.
 fn is_next(group: &[Piece], first: u32, count: usize, before: usize, taken: &TextLine) -> bool
-    ensures { result ≡ is_next (texts_in group.now) first count before (line_of taken.now) }
+    ensures { result ≡ is_next (texts_in group.now) first count before (line_seen taken.now) }
 {
     if count <= before || taken.number < first || (taken.number - first) as usize != before {
         return false;

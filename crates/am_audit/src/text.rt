@@ -10,7 +10,7 @@ use std::alloc::Global;
 
 /// Takes a line of this number.
 fn add<'a>(lines: &mut Lines<'a>, number: u32, line: &'a [u8]) -> Result<(), TextRefusal>
-    ensures { TakesAt number result (told lines.new) (add_line (told lines.old) line.entry.now) }
+    ensures { TakesAt number result (reading_told lines.new) (add_line (reading_told lines.old) line.entry.now) }
 {
     match lines.add_line(line) {
         Ok(()) => Ok(()),
@@ -34,7 +34,7 @@ fn whole_line(text: &[u8]) -> Option<(&[u8], &[u8])>
 
 /// What was read, where it ends behind the last newline.
 fn finish<'a>(number: u32, lines: Lines<'a>, rest: &[u8]) -> Result<Lines<'a>, TextRefusal>
-    ensures { Reads result (finish number (told lines.entry) rest.now) }
+    ensures { IsReadingOf result (finish_text number (reading_told lines.entry) rest.now) }
 {
     if rest.is_empty() && is_end(lines.stage) {
         return Ok(lines);
@@ -45,7 +45,7 @@ fn finish<'a>(number: u32, lines: Lines<'a>, rest: &[u8]) -> Result<Lines<'a>, T
 /// Reads lines, of which the first has this number.
 fn read_lines<'a>(alloc: Global, first: u32, text: &'a [u8]) -> Result<Lines<'a>, TextRefusal>
     requires few { first + length text.now < 4294967296 }
-    ensures { Reads result (read_lines first nothing_read (parts_of 10 text.entry.now)) }
+    ensures { IsReadingOf result (read_lines first nothing_read (split_text 10 text.entry.now)) }
 {
     let mut lines = Lines::new(alloc);
     let mut number = first;
@@ -63,7 +63,7 @@ fn read_lines<'a>(alloc: Global, first: u32, text: &'a [u8]) -> Result<Lines<'a>
 /// Reads a text; a first line that begins with a brace is passed over.
 pub fn read_text<'a>(alloc: Global, text: &'a [u8]) -> Result<Lines<'a>, TextRefusal>
     requires few { length text.now < 4294967290 }
-    ensures { Reads result (read_text text.entry.now) }
+    ensures { IsReadingOf result (read_text text.entry.now) }
 {
     if text.is_empty() || text[0] != b'{' {
         return read_lines(alloc, 1, text);

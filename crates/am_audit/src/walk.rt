@@ -14,7 +14,7 @@ pub(crate) trait Check {
 
     /// What is found at a line, whose name's last one has this number.
     fn found(last: Option<u32>, line: &TextLine) -> Option<Verdict>
-        ensures { result ≡ found last (line_of line.now) };
+        ensures { result ≡ found last (line_seen line.now) };
 }
 
 /// What is found first.

@@ -98,7 +98,7 @@ impl Model for Ballot {
     ghost use Rattle.am_base.specs.Outcomes.{is_took};
     ghost use Rattle.am_ballots.specs.Kept.{KeptBallot};
 
-    ghost Value = { Kept };
+    ghost Value = { KeptBallot };
 
     ghost view = { λ b. record {
       stamp = b.stamp;

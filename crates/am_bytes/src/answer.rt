@@ -88,7 +88,7 @@ pub fn answer(
     event: &[u8],
     out: &mut Vec<u8>,
 ) -> Result<(), NoMemory>
-    ensures ok { OnOk result (AnswersBy (λ m. answer_to m event.now)
+    ensures ok { OnOk result (AnswersBy (λ m. event_answer m event.now)
         (speaking speaker.old).node out.old.items (speaking speaker.new).node out.new.items) }
     ensures rules { (speaking speaker.new).rules ≡ (speaking speaker.old).rules }
 {

@@ -85,7 +85,7 @@ fn any(fields: &[u8]) -> Result<bool, FieldFault>
 #[tactic(auto, unfolding(am_packet::specs::Reading::read_set_at))]
 fn addressees(fields: &[u8]) -> Result<Names, FieldFault>
     requires { 11 ≤ length fields.now }
-    ensures { result ≡ field_of (set_at fields.now 1) }
+    ensures { result ≡ field_of (read_set_at fields.now 1) }
 {
     let mask = BigEndian::read_u16(&fields[1..]);
     let lives = BigEndian::read_u64(&fields[3..]);
@@ -138,7 +138,7 @@ fn sized(least: u8, resilience: u8) -> Line
 /// What a reset asks for.
 #[tactic(auto, unfolding(crate::specs::Events::reset_in_bytes))]
 fn reset(fields: &[u8]) -> Line
-    ensures { result ≡ reset_in fields.now }
+    ensures { result ≡ reset_in_bytes fields.now }
 {
     if fields.len() != 2 {
         return Line::Bad(BadLine::Form);

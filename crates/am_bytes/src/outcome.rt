@@ -76,7 +76,7 @@ pub(crate) fn kind_of(outcome: &Outcome) -> u8
 /// Adds an entry: its kind, and the kind's fields.
 #[tactic(auto, unfolding(crate::specs::Answers::entry_answer_bytes))]
 fn put_entry(out: &mut Vec<u8>, entry: &EntryRef<'_>) -> Result<(), NoMemory>
-    ensures { OnOk result (out.new.items ≡ out.old.items ++ entry_bytes entry.now) }
+    ensures { OnOk result (out.new.items ≡ out.old.items ++ entry_answer_bytes entry.now) }
 {
     match entry.parts() {
         EntryParts::Data { from, req, body } => {
@@ -117,7 +117,7 @@ fn put_three(out: &mut Vec<u8>, first: u32, second: u32, third: u32) -> Result<(
 /// Adds an entry with its number before it.
 fn put_numbered(out: &mut Vec<u8>, number: u32, entry: &EntryRef<'_>) -> Result<(), NoMemory>
     ensures { OnOk result (out.new.items
-        ≡ out.old.items ++ (big_bytes 4 number ++ entry_bytes entry.now)) }
+        ≡ out.old.items ++ (big_bytes 4 number ++ entry_answer_bytes entry.now)) }
 {
     put_number(out, number)?;
     put_entry(out, entry)

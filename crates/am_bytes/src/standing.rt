@@ -44,7 +44,7 @@ pub struct NodeStanding {
 impl NodeStanding {
     /// That of a node.
     pub fn of(node: &Node) -> NodeStanding
-        ensures { result ≡ standing_of (state_of node.now) }
+        ensures { result ≡ node_standing (state_of node.now) }
     {
         let info = node.info();
         NodeStanding {

@@ -32,7 +32,7 @@ pub extern "C" fn muoswyld_open(alloc: Global, node: &mut Handle, options: &[u8]
     ensures same { result ≡ open_now → node.new.session ≡ node.old.session }
     ensures stays_closed { result ≢ done → result ≢ open_now → node.new.session ≡ None }
     ensures options { result ≡ bad_options → IsUtf8 options.now
-        → IsNode (form_of (words_of options.now)) → ⊥ }
+        → IsNode (form_of (option_words options.now)) → ⊥ }
     ensures numbers { result ≢ done → result ≢ open_now → result ≢ bad_options
         → result ≡ no_memory }
 {

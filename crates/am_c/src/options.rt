@@ -35,16 +35,16 @@ impl OptionsFault {
 
 /// The words of a text, with one blank between two.
 fn words(alloc: Global, text: &str) -> Result<Vec<&str>, AllocError>
-    ensures { IfOk result (λ words. map (λ word. word.now) words.items ≡ parts_of 32 text.now) }
+    ensures { IfOk result (λ words. map (λ word. word.now) words.items ≡ split_text 32 text.now) }
 {
     text.split(' ').collect(alloc)
 }
 
 /// The node that options ask for: those of the program's word `node`, with one blank between two words.
 pub(crate) fn node_of(alloc: Global, options: &[u8]) -> Result<NodeWords, OptionsFault>
-    ensures node { IfOk result (λ node. form_of (words_of options.now) ≡ Some (form.Node node)) }
+    ensures node { IfOk result (λ node. form_of (option_words options.now) ≡ Some (form.Node node)) }
     ensures form { IfErr result (λ fault. fault ≡ OptionsFault.Form → IsUtf8 options.now
-        → IsNode (form_of (words_of options.now)) → ⊥) }
+        → IsNode (form_of (option_words options.now)) → ⊥) }
 {
     let Ok(options) = str::from_utf8(options) else {
         return Err(OptionsFault::Form);
@@ -71,7 +71,7 @@ pub(crate) fn node_of(alloc: Global, options: &[u8]) -> Result<NodeWords, Option
 pub(crate) fn opened(alloc: Global, options: &[u8]) -> Result<Box<Session>, OptionsFault>
     ensures opened { IfOk result (λ session. Opened options.now (Some session.value)) }
     ensures form { IfErr result (λ fault. fault ≡ OptionsFault.Form → IsUtf8 options.now
-        → IsNode (form_of (words_of options.now)) → ⊥) }
+        → IsNode (form_of (option_words options.now)) → ⊥) }
 {
     let node = node_of(alloc, options)?;
     let Ok(session) = Session::new(alloc, &node) else {

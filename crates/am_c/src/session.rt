@@ -52,7 +52,7 @@ impl StepEnd {
 
     /// Its number.
     pub(crate) fn number(self) -> i32
-        ensures { result ≡ number_of self }
+        ensures { result ≡ step_number self }
     {
         match self {
             StepEnd::Told => DONE,
@@ -106,7 +106,7 @@ impl Session {
     fn make(&mut self, alloc: Global, form: AskForm, kept: &[u8]) -> Result<(), NoMemory>
         ensures made { OnOk result ((all : Node) → IsEndOf all (speaking self.old.speaker).node
             → MadeBy (made_of self.new) (speaking self.new.speaker).node
-            (answer_in form (speaking self.old.speaker).rules all kept.now)) }
+            (session_answer form (speaking self.old.speaker).rules all kept.now)) }
         ensures form { self.new.form ≡ form }
         ensures rules { (speaking self.new.speaker).rules ≡ (speaking self.old.speaker).rules }
         ensures asked { self.new.asked.items ≡ self.old.asked.items }
@@ -127,8 +127,8 @@ impl Session {
 
     /// Takes a line or an event: keeps it, and its answer.
     fn hold(&mut self, alloc: Global, form: AskForm, asked: &[u8]) -> Result<(), NoMemory>
-        ensures waits { OnOk result ((rules : Rules) (name : ℕ) (before : List Asked)
-            → IsReady self.old rules name before
+        ensures waits { OnOk result ((rules : Rules) (name : ℕ) (before : List AskedOfNode)
+            → SessionIsReady self.old rules name before
             → IsWaiting self.new rules name before (record { form = form; bytes = asked.now })) }
         ensures spent { OnErr result (self.new.stage ≡ stages.Spent) }
     {
@@ -153,8 +153,8 @@ impl Session {
 
     /// Has the answer to what is asked: the one that waits, where it is that, or that of the node.
     fn have_answer(&mut self, alloc: Global, form: AskForm, asked: &[u8]) -> Result<(), StepEnd>
-        ensures waits { OnOk result ((rules : Rules) (name : ℕ) (before : List Asked)
-            (waiting : Option Asked) → IsBehind self.old rules name before waiting
+        ensures waits { OnOk result ((rules : Rules) (name : ℕ) (before : List AskedOfNode)
+            (waiting : Option AskedOfNode) → IsBehind self.old rules name before waiting
             → IsWaiting self.new rules name before (record { form = form; bytes = asked.now })) }
         ensures spent { IfErr result (λ end. end ≡ StepEnd.NoMemory
             → self.new.stage ≡ stages.Spent) }
@@ -193,8 +193,8 @@ impl Session {
     /// Tells the answer that waits, where the room is long enough, and how long it is.
     fn tell(&mut self, room: &mut [u8], said: &mut usize) -> StepEnd
         ensures told { result ≡ StepEnd.Told → (rules : Rules) (name : ℕ)
-            (before : List Asked) (asked : Asked) → IsWaiting self.old rules name before asked
-            → IsReady self.new rules name (before ++ asked ∷ [])
+            (before : List AskedOfNode) (asked : AskedOfNode) → IsWaiting self.old rules name before asked
+            → SessionIsReady self.new rules name (before ++ asked ∷ [])
             × IsWritten (answer_behind rules name before asked).text room.old room.new said.new }
         ensures no_room { result ≢ StepEnd.Told → result ≡ StepEnd.NoRoom }
         ensures same { result ≢ StepEnd.Told → self.new ≡ self.old }

@@ -24,7 +24,7 @@ impl Hand {
     /// The hand of a caller that has drawn no word.
     fn new(plan: &RacePlan, number: u32, share: Share) -> Hand
         ensures share { result.share ≡ share }
-        ensures chooser { result.chooser ≡ luck_after plan.now number 0 }
+        ensures chooser { result.chooser ≡ caller_luck_after plan.now number 0 }
     {
         Hand {
             share,

@@ -46,7 +46,7 @@ fn all_do<R: Threads + Wait + Sync, N: Racing + Send + Sync, G: TestHook + Sync,
     callers: Vec<Caller<N>>,
 ) -> Result<Vec<Caller<N>>, NoMemory>
     requires fresh { callers.items ≡ fresh_callers (length N.plan.threads) }
-    ensures numbers { IfOk result (λ back. numbers_of back.items ≡ numbers_of callers.items) }
+    ensures numbers { IfOk result (λ back. caller_numbers back.items ≡ caller_numbers callers.items) }
     ensures done { IfOk result (λ back. All (J.did job.now) back.items) }
 {
     gather(rt, callers.len())?;

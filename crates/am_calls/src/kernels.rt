@@ -148,7 +148,7 @@ impl<'g, N: Racing, G: TestHook> Kernels<'g, N, G> {
         has_turn: bool,
     ) -> Result<Looked, CallAnswer>
         requires hand { IsHand N.wire N.plan call.now.tag.caller hand.old.share hand.old.chooser }
-        requires may { MayLook N.plan call.now.tag call.now.act.now came.now has_turn hand.old.share.seen }
+        requires may { CallerMayLook N.plan call.now.tag call.now.act.now came.now has_turn hand.old.share.seen }
         ensures hand { IsHand N.wire N.plan call.now.tag.caller hand.new.share hand.new.chooser }
         ensures ok { IfOk result (HasLooked (place_of call.now.node) call.now.tag call.now.act.now
             came.entry.now has_turn hand.old.share.seen hand.new.share.seen) }
@@ -188,7 +188,7 @@ impl<'g, N: Racing, G: TestHook> Kernels<'g, N, G> {
         came: &Option<Came>,
     ) -> CallAnswer
         requires hand { IsHand N.wire N.plan call.now.tag.caller hand.old.share hand.old.chooser }
-        requires begun { HasBegun call.now.act.now came.now
+        requires begun { CallHasBegun call.now.act.now came.now
             (of_call call.now.tag.caller call.now.tag.call hand.old.share.seen) }
         ensures hand { IsHand N.wire N.plan call.now.tag.caller hand.new.share hand.new.chooser }
         ensures made { Made N.plan call.now.node call.now.tag call.now.act.now
@@ -359,7 +359,7 @@ impl<'g, N: Racing, G: TestHook> Kernels<'g, N, G> {
 
     /// Ends a race, to which all its callers are handed in: the journal that they leave is legal with the calls that they made.
     pub fn finish<R: Wait>(self, rt: &R, callers: Vec<Caller<N>>) -> Journal
-        requires callers { numbers_of callers.items ≡ range_with_len 0 (length N.plan.threads) }
+        requires callers { caller_numbers callers.items ≡ range_with_len 0 (length N.plan.threads) }
         ensures founding { result.founding ≡ N.plan.founding }
         ensures legal { IsLegalWithTags N.plan (calls_by callers.items) result.records }
         ensures ends { All (EndsFor result.records) callers.items }

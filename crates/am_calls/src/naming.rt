@@ -29,5 +29,5 @@ pub struct RaceLaw;
 impl Law for RaceLaw {
     ghost use Rattle.am_race_laws.specs.Lawful.{IsLawfulRecord};
 
-    ghost next = { IsLawful };
+    ghost next = { IsLawfulRecord };
 }

@@ -164,7 +164,7 @@ impl<N: Racing> NodeBox<N> {
         requires own { (wire.now.id ≡ N.wire) × (share.old.wire ≡ N.wire) }
         requires terms { share.old.terms ≡ terms_of N.plan }
         requires one { length share.old.keys ≡ 1 }
-        ensures looks { Looks self.old self.new }
+        ensures looks { BoxLooks self.old self.new }
         ensures share { Sees share.old share.new }
         ensures both { share.new.seen ≡ self.new.seen }
         ensures few { length self.new.seen ≤ most_events }
@@ -187,7 +187,7 @@ impl<N: Racing> NodeBox<N> {
         requires own { (wire.now.id ≡ N.wire) × (hand.old.share.wire ≡ N.wire) }
         requires terms { hand.old.share.terms ≡ terms_of N.plan }
         requires one { length hand.old.share.keys ≡ 1 }
-        ensures looks { Looks self.old self.new }
+        ensures looks { BoxLooks self.old self.new }
         ensures share { Sees hand.old.share hand.new.share }
         ensures chooser { hand.new.chooser ≡ hand.old.chooser }
         ensures both { hand.new.share.seen ≡ self.new.seen }
@@ -353,7 +353,7 @@ impl<N: Racing> NodeBox<N> {
             → is_due N.plan (node_by N.plan self.old.seen self.old.name)
             (of_call by.caller by.call self.old.seen) ≡ true }
         ensures hand { IsHand N.wire N.plan by.caller hand.new.share hand.new.chooser }
-        ensures ok { IfOk result (λ came. Asked N.plan self.old.name act by came hand.old.share.seen
+        ensures ok { IfOk result (λ came. OwnActIsDone N.plan self.old.name act by came hand.old.share.seen
             hand.new.share.seen) }
         ensures err { IfErr result (WasRefused self.old.name by.caller hand.old.share.seen
             hand.new.share.seen) }
@@ -426,7 +426,7 @@ impl<N: Racing> NodeBox<N> {
     ) -> Result<Looked, CallAnswer>
         requires own { visit.now.wire.now.id ≡ N.wire }
         requires hand { IsHand N.wire N.plan visit.now.tag.caller hand.old.share hand.old.chooser }
-        requires may { MayLook N.plan visit.now.tag visit.now.act.now came.now has_turn
+        requires may { CallerMayLook N.plan visit.now.tag visit.now.act.now came.now has_turn
             hand.old.share.seen }
         ensures hand { IsHand N.wire N.plan visit.now.tag.caller hand.new.share hand.new.chooser }
         ensures ok { IfOk result (HasLooked self.old.name visit.now.tag visit.now.act.now came.entry.now

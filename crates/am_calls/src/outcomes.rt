@@ -16,7 +16,7 @@ pub fn is_take(act: &Act) -> bool
 
 /// The request of a send that was queued, and else 0.
 pub fn request_in(outcome: &Outcome) -> u32
-    ensures { result ≡ request_in outcome.now }
+    ensures { result ≡ sent_request outcome.now }
 {
     match outcome {
         Outcome::Queued { req } => *req,

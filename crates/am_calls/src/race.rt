@@ -103,7 +103,7 @@ fn all_run<R: Threads + Wait + Sync, N: Racing + Send + Sync, G: TestHook + Sync
     requires threads { threads.now ≡ N.plan.threads }
     requires fresh { callers.items ≡ fresh_callers (length N.plan.threads) }
     ensures numbers { IfOk result (λ ran. map (λ r. r.caller.number) ran.items
-        ≡ numbers_of callers.items) }
+        ≡ caller_numbers callers.items) }
     ensures ran { IfOk result (λ ran. All (λ r. HasRun N.plan r.caller r.refusal) ran.items) }
 {
     gather(rt, callers.len())?;

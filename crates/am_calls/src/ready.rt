@@ -59,7 +59,7 @@ fn is_ended(end: &Option<BallotEnd>) -> bool
 }
 
 fn is_sent(node: &Node, outcome: &Outcome) -> bool
-    ensures { result ≡ is_sent (state_of node.now) outcome.now }
+    ensures { result ≡ send_is_settled (state_of node.now) outcome.now }
 {
     match outcome {
         Outcome::Queued { req } => node.is_settled(*req),

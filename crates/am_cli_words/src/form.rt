@@ -55,7 +55,7 @@ fn are_digits(text: &[u8]) -> bool
 
 /// The number of a text of one to twenty decimal digits; None where it is none, or none of 64 bits.
 fn number_of(text: &str) -> Option<u64>
-    ensures { result ≡ number_of text.now }
+    ensures { result ≡ seed_of text.now }
 {
     let digits = text.as_bytes();
     if digits.len() <= 20 && are_digits(digits) {
@@ -111,7 +111,7 @@ fn numbers_of_five(
 fn form_of_six(words: &[&str]) -> Option<Form>
     requires { length words.now ≡ 6 }
     ensures value { result ≡ other_form (map (λ word. word.now) words.now) }
-    ensures few { IfSome result IsShort }
+    ensures few { IfSome result ScriptIsShort }
 {
     if words[1] == "--script" {
         return numbers_of_five(words[0], words[2], words[3], words[4], words[5]).map(Form::Script);
@@ -127,7 +127,7 @@ fn form_of_six(words: &[&str]) -> Option<Form>
 
 /// What a word asks for of a script's run.
 fn shown_of(word: &str) -> Option<RunText>
-    ensures { result ≡ shown_of word.now }
+    ensures { result ≡ shown_by_word word.now }
 {
     match word {
         "play" => Some(RunText::Text),
@@ -141,7 +141,7 @@ fn shown_of(word: &str) -> Option<RunText>
 /// The form of one word.
 fn form_of_one(word: &str) -> Option<Form>
     ensures value { result ≡ one_form word.now }
-    ensures few { IfSome result IsShort }
+    ensures few { IfSome result ScriptIsShort }
 {
     if word == "race" {
         return Some(Form::Race);
@@ -158,7 +158,7 @@ fn form_of_one(word: &str) -> Option<Form>
 /// The form of words that don't begin with `node`.
 fn other_form(words: &[&str]) -> Option<Form>
     ensures value { result ≡ other_form (map (λ word. word.now) words.now) }
-    ensures few { IfSome result IsShort }
+    ensures few { IfSome result ScriptIsShort }
 {
     if words.len() == 1 {
         return form_of_one(words[0]);
@@ -185,7 +185,7 @@ fn is_node(words: &[&str]) -> bool
 #[tactic(auto, unfolding(crate::specs::Forms::form_of))]
 pub fn form_of(words: &[&str]) -> Option<Form>
     ensures value { result ≡ form_of (map (λ word. word.now) words.now) }
-    ensures few { IfSome result IsShort }
+    ensures few { IfSome result ScriptIsShort }
 {
     if is_node(words) {
         return node_of(&words[1..]).map(Form::Node);

@@ -19,7 +19,7 @@ pub struct Options {
 
 /// What was read of an option that wasn't there.
 fn fresh<T: Copy>(there: Option<T>, read: T) -> Option<Option<T>>
-    ensures { result ≡ fresh there read }
+    ensures { result ≡ unless_given there read }
 {
     match there {
         Some(_) => None,
@@ -75,7 +75,7 @@ fn founding_of(founders: Names, resilience: u8, window: u16, pb_up_to: u16) -> O
 
 /// A node's name and its founding, of its options: a name and founders are wanted.
 fn node_with(options: Options) -> Option<NodeWords>
-    ensures { result ≡ node_with options }
+    ensures { result ≡ node_words_with options }
 {
     let name = options.name?;
     let founders = options.founders?;
@@ -92,7 +92,7 @@ fn node_with(options: Options) -> Option<NodeWords>
 /// What the words behind `node` ask for: `--name` and `--founders`, and maybe `--resilience`, `--window` and `--pb-up-to`, each at most
 /// once, in any order. None where they are none of these, or a value is none.
 pub(crate) fn node_of(words: &[&str]) -> Option<NodeWords>
-    ensures { result ≡ node_of (map (λ word. word.now) words.now) }
+    ensures { result ≡ node_words_in (map (λ word. word.now) words.now) }
 {
     let none = Options {
         name: None,

@@ -17,7 +17,7 @@ use std::alloc::Global;
 /// Applies an entry, of which the body counts where it is a send.
 pub fn apply_entry(directory: &mut Directory, number: u32, entry: &Entry) -> Result<Step, NoMemory>
     ensures step { IfOk result (λ step. step ≡ step_ready directory.old entry.now) }
-    ensures applied { OnOk result (directory.new ≡ with_entry directory.old (number, entry.now)) }
+    ensures applied { OnOk result (directory.new ≡ contents_with directory.old (number, entry.now)) }
     ensures err { OnErr result (directory.new ≡ directory.old) }
 {
     match entry {

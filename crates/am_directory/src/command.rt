@@ -28,7 +28,7 @@ pub enum Command<'a> {
 /// A value with nothing behind it; None where there is none.
 #[tactic(auto, unfolding(am_service_defs::specs::Commands::value_in_body))]
 fn value_in(bytes: &[u8]) -> Option<&[u8]>
-    ensures { option_copied result ≡ value_in bytes.entry.now }
+    ensures { option_copied result ≡ value_in_body bytes.entry.now }
 {
     let value = field_in(bytes, 0, 64)?;
     if value.rest.is_empty() {

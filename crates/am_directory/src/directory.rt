@@ -74,7 +74,7 @@ impl Directory {
 
     /// Whether there is room for a key more.
     fn has_room(&self) -> bool
-        ensures { result ≡ has_room self.now }
+        ensures { result ≡ contents_has_room self.now }
     {
         self.len() < MOST_KEYS
     }
@@ -92,7 +92,7 @@ impl Directory {
     pub(crate) fn set(&mut self, key: &[u8], setting: Setting) -> Result<(), NoMemory>
         requires key { IsKey key.now }
         requires value { IsValue setting.value }
-        requires room { IsTrue (has_key self.old key.now) ⊎ IsTrue (has_room self.old) }
+        requires room { IsTrue (has_key self.old key.now) ⊎ IsTrue (contents_has_room self.old) }
         ensures set { OnOk result (self.new ≡ with_setting self.old key.now setting) }
         ensures err { OnErr result (self.new ≡ self.old) }
     {
@@ -161,7 +161,7 @@ impl Directory {
 
     /// Applies the body of the entry of a number. It is an error where there is no memory for a key; then nothing has changed.
     pub fn apply(&mut self, number: u32, body: &[u8]) -> Result<Applied, NoMemory>
-        ensures answer { IfOk result (λ answer. answer ≡ answer_of self.old body.now) }
+        ensures answer { IfOk result (λ answer. answer ≡ body_answer self.old body.now) }
         ensures applied { OnOk result (self.new ≡ applied self.old number body.now) }
         ensures err { OnErr result (self.new ≡ self.old) }
     {

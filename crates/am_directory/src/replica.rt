@@ -26,13 +26,13 @@ impl Model for Replica {
 
     ghost Value = { ReplicaState };
 
-    ghost view = { λ r. state_of r };
+    ghost view = { λ r. replica_state_of r };
 }
 
 impl Replica {
     /// The replica of a name whose first entry has this number. It is an error where there is no memory for it.
     pub fn new(alloc: Global, start: u32) -> Result<Replica, NoMemory>
-        ensures { IfOk result (λ r. r ≡ fresh start) }
+        ensures { IfOk result (λ r. r ≡ fresh_replica start) }
     {
         let backlog = if start == 1 {
             None

@@ -57,7 +57,7 @@ pub fn is_sent(outcome: &Outcome) -> bool
 }
 
 fn is_held(outcome: &Outcome) -> bool
-    ensures { result ≡ is_held outcome.now }
+    ensures { result ≡ has_no_room outcome.now }
 {
     matches!(outcome, Outcome::Held { .. })
 }
@@ -77,7 +77,7 @@ impl Counts {
 
     /// An event of this outcome was done.
     fn add(&mut self, outcome: &Outcome)
-        requires { IsBelow most_events self.old }
+        requires { CountsAreBelow most_events self.old }
         ensures { self.new ≡ counts_after self.old outcome.now }
     {
         self.events += 1;
@@ -129,7 +129,7 @@ fn asked(
     name: Name,
     act: Act,
 ) -> Result<Result<NodeEvent, Outcome>, NoMemory>
-    requires { IsCalm act }
+    requires { IsCalmAct act }
     ensures asks { IfOk result (λ r. r
         ≡ asks.event_or_answer letters.now no_flags false name act) }
     ensures spells { IfOk result (λ r. OnOk r (SpellsPacket letters.now act)) }
@@ -178,7 +178,7 @@ impl Course {
 
     /// How many entries the group list has.
     pub fn entries(&self) -> usize
-        ensures { result ≡ entries_of self.now }
+        ensures { result ≡ course_entries self.now }
     {
         self.places.group().len()
     }
@@ -215,7 +215,7 @@ impl Course {
     fn act(&mut self, name: Name, what: NodeEvent) -> Result<Outcome, NoMemory>
         requires run { (p : Play) × ((e : Event) × Acts p e self.old name what) }
         ensures ok { (p : Play) (e : Event) → Acts p e self.old name what
-            → IfOk result (λ outcome. IsCourse (after p e) self.new × Answers p e outcome) }
+            → IfOk result (λ outcome. IsCourse (play_after p e) self.new × EventIsAnswered p e outcome) }
         ensures err { (p : Play) → IsCourse p self.old → OnErr result (IsCourse p self.new) }
     {
         self.watcher.reserve()?;
@@ -232,9 +232,9 @@ impl Course {
     /// Does an event: the answer of it. After a refusal all is as it was. It is Spent exactly where 100,000 events were done.
     pub fn step(&mut self, event: Event) -> Result<Outcome, WorldRefusal>
         requires run { (p : Play) × IsCourse p self.old }
-        requires calm { IsCalm event.act }
+        requires calm { IsCalmAct event.act }
         ensures ok { (p : Play) → IsCourse p self.old → IfOk result (λ outcome.
-            IsCourse (after p event) self.new × Answers p event outcome) }
+            IsCourse (play_after p event) self.new × EventIsAnswered p event outcome) }
         ensures spent { (result ≡ Err WorldRefusal.Spent) ↔ (events_done self.old ≡ most_events) }
         ensures err { (p : Play) → IsCourse p self.old → OnErr result (IsCourse p self.new) }
     {

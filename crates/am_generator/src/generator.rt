@@ -201,10 +201,10 @@ impl Generator {
     /// An event happens. NoMemory where there is no memory for it, and Spent only where 100,000 events were done.
     pub fn happen(&mut self, event: Event) -> Result<(), WorldRefusal>
         requires place { event.node < 4 }
-        requires calm { IsCalm event.act }
+        requires calm { IsCalmAct event.act }
         requires driven { (d : GeneratedRun) × IsDriven d self.old }
         ensures ok { (d : GeneratedRun) → IsDriven d self.old
-            → OnOk result (IsDriven (record d { play = after d.play event }) self.new) }
+            → OnOk result (IsDriven (record d { play = play_after d.play event }) self.new) }
         ensures spent { (d : GeneratedRun) → IsDriven d self.old → IfErr result (λ refusal. refusal
             ≡ refusals.Spent → length d.play.events ≡ most_events) }
     {

@@ -35,7 +35,7 @@ impl Places {
 
     /// The places of a group to which nothing has happened.
     pub fn new(alloc: Global, founding: &Founding) -> Result<Places, NoMemory>
-        ensures begins { IfOk result (Begins founding.now) }
+        ensures begins { IfOk result (ArePlacesAtStart founding.now) }
         ensures founded { IfOk result (λ places. MayFound founding.now) }
     {
         let nodes = sixteen(alloc, founding)?;
@@ -77,7 +77,7 @@ impl Places {
         requires places { length self.old.nodes.items ≡ 16 }
         requires few { events < most_events }
         requires ready { IsReadyAt self.old.nodes.items (place_of name) what.now (length self.old.group.items) (max (events + 2) (length self.old.group.items)) }
-        ensures moves { IfOk result (Moves self.old self.new (place_of name) what.now) }
+        ensures moves { IfOk result (PlaceMoves self.old self.new (place_of name) what.now) }
         ensures err { OnErr result (StaysAs self.old self.new) }
     {
         make_room(&mut self.group, events + 2)?;

@@ -205,7 +205,7 @@ fn letter_in(records: &[Record], place: Place) -> Option<&Letter>
 #[tactic(auto, using(crate::proofs::Places::places_of_next_letter))]
 fn push_places(places: &mut Vec<Place>, number: u32, many: u32)
     requires { vec_len places.old + many ≤ vec_capacity places.old }
-    ensures { places.new.items ≡ places.old.items ++ places_of number many }
+    ensures { places.new.items ≡ places.old.items ++ letter_places number many }
 {
     for index in 0..many {
         places.push_reserved(Place { number, index });

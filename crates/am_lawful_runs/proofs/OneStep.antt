@@ -81,7 +81,7 @@ one_step_grows_group {rules = rules} {events = events} {e = e} {step = step} {s 
   group_grows = subst (λ g. Begins g v.group) x.old.stands.group (subst (Begins s.group) x.new.stands.group x.grows.group);
 }
   where
-    open parts rules events e step use {w, i, n, v}
+    open parts_of_one_step rules events e step use {w, i, n, v}
 
     few : i < 256
     few = actor_is_below_256 rules w e (run_trims_only_taken rules events x.may).blanks.base.named

@@ -51,7 +51,7 @@ fn standing_after(before: &NameStanding, shown: &ShownNode) -> NameStanding
 
 /// The View that made a view.
 fn last_view(decided: &DecidedView) -> Entry
-    ensures { result ≡ last_view decided.now }
+    ensures { result ≡ view_entry_of decided.now }
 {
     Entry::View(decided.view)
 }
@@ -103,7 +103,7 @@ struct Stepped<'a> {
 fn store_new_views(watcher: &mut Watcher, step: &Stepped<'_>, is_decided: bool)
     ensures { watching_of watcher.new ≡ with_entries (watching_of watcher.old) step.now.name
         ((if is_decided then one_of (entry_in step.now.what.now) else [])
-        ++ last_view step.now.view.now ∷ []) }
+        ++ view_entry_of step.now.view.now ∷ []) }
 {
     let earlier = fetched_before(is_decided, step.what);
     store_one(watcher, step.name, earlier);
@@ -126,7 +126,7 @@ fn store_views(watcher: &mut Watcher, step: &Stepped<'_>)
 
 /// The watcher is told which view a name decided in a step, and which Views it stored: none where its last View stayed.
 fn note_views(watcher: &mut Watcher, step: &Stepped<'_>)
-    requires room { HasRoom watcher.old }
+    requires room { HasWatchRoom watcher.old }
     requires before { step.now.before.now ≡ standing (watching_of watcher.old) step.now.name }
     ensures { watching_of watcher.new ≡ with_views (watching_of watcher.old) step.now.name
         step.now.before.now step.now.after.now step.now.view.now step.now.what.now }
@@ -142,7 +142,7 @@ fn note_views(watcher: &mut Watcher, step: &Stepped<'_>)
 fn accept_above(watcher: &mut Watcher, group: &[Entry], known: usize)
     requires known { known ≤ length group.now }
     requires few { length group.now ≤ most_number }
-    ensures { watching_of watcher.new ≡ accept (watching_of watcher.old) (known + 1)
+    ensures { watching_of watcher.new ≡ watch_accepts (watching_of watcher.old) (known + 1)
         (drop known group.now) }
 {
     for index in known..group.len() {
@@ -164,7 +164,7 @@ pub fn stops_by(has_stopped: bool, outcome: &Outcome) -> bool
 impl Watcher {
     /// An event that was no step of a node, after which a name has stopped or not.
     pub fn note_answer(&mut self, name: Name, stops: bool)
-        requires room { HasRoom self.old }
+        requires room { HasWatchRoom self.old }
         requires few { (watching_of self.old).count < most_word }
         ensures { watching_of self.new ≡ (if stops then stop (watching_of self.old) name
             else pass (watching_of self.old)) }
@@ -185,7 +185,7 @@ impl Watcher {
         group: &[Entry],
         known: usize,
     )
-        requires room { HasRoom self.old }
+        requires room { HasWatchRoom self.old }
         requires few { (watching_of self.old).count < most_word }
         requires known { known ≤ length group.now }
         requires short { length group.now ≤ most_number }

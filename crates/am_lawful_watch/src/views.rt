@@ -111,7 +111,7 @@ pub fn is_alike(before: &NameStanding, after: &NameStanding) -> bool
 
 /// Whether the name decided a view in this step.
 pub fn decides(before: &NameStanding, name: Name, after: &NameStanding) -> bool
-    ensures { result ≡ decides before.now name after.now }
+    ensures { result ≡ watch_decides before.now name after.now }
 {
     is_member(before.status) && after.view.by == name && !is_same_stamp(&before.view, &after.view)
 }
@@ -145,7 +145,7 @@ pub fn store_in_each(pending: &mut [Pending], name: Name, stamp: &Stamp)
 }
 
 fn number_after(known: Option<u32>, is_it: bool, number: u32) -> Option<u32>
-    ensures { result ≡ or_else known (if is_it then Some number else None) }
+    ensures { result ≡ number_or_else known (if is_it then Some number else None) }
 {
     match known {
         Some(known) => Some(known),

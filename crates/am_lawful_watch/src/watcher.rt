@@ -107,7 +107,7 @@ impl Watcher {
 
     /// Makes room for one event, and changes nothing else.
     pub fn reserve(&mut self) -> Result<(), NoMemory>
-        ensures room { OnOk result (HasRoom self.new) }
+        ensures room { OnOk result (HasWatchRoom self.new) }
         ensures same { watching_of self.new ≡ watching_of self.old }
     {
         self.stopped.reserve(1)?;
@@ -122,19 +122,19 @@ impl Watcher {
     }
 
     fn has_stopped(&self, name: Name) -> bool
-        ensures { result ≡ has_stopped (watching_of self.now) name }
+        ensures { result ≡ watch_has_stopped (watching_of self.now) name }
     {
         self.stopped.as_slice().iter().any(|other| *other == name)
     }
 
     fn has_stored(&self, v: &Pending, name: Name) -> bool
-        ensures { result ≡ has_stored (watching_of self.now) v.now name }
+        ensures { result ≡ watch_has_stored (watching_of self.now) v.now name }
     {
         is_by(v.number_in_group, self.standing(name).from) || v.stored[usize::from(name.get())]
     }
 
     fn lags(&self, v: &Stamp, name: Name) -> bool
-        ensures { result ≡ lags (watching_of self.now) v.now name }
+        ensures { result ≡ watch_lags (watching_of self.now) v.now name }
     {
         if !self.standing(name).view.is_below(*v) {
             return false;
@@ -148,7 +148,7 @@ impl Watcher {
     /// How many of a view's members have stored it.
     #[tactic(auto, using(am_node_defs::proofs::ReportLaws::count_and_size_rules))]
     fn holders(&self, v: &Pending) -> u32
-        ensures { result ≡ count_by (has_stored (watching_of self.now) v.now)
+        ensures { result ≡ count_by (watch_has_stored (watching_of self.now) v.now)
             (names_of v.now.decided.view.members) }
     {
         let lives = v.decided.view.members.each_life();
@@ -165,7 +165,7 @@ impl Watcher {
     /// Whether a running member's list hasn't reached a view.
     #[tactic(auto, using(am_lawful_defs::proofs::Members::any_of_set_rules))]
     fn is_lagged(&self, v: &Pending) -> bool
-        ensures { result ≡ list_any (lags (watching_of self.now) v.now.decided.view.stamp)
+        ensures { result ≡ list_any (watch_lags (watching_of self.now) v.now.decided.view.stamp)
             (names_of v.now.decided.view.members) }
     {
         let lives = v.decided.view.members.each_life();
@@ -182,7 +182,7 @@ impl Watcher {
 
     #[tactic(auto, unfolding(am_lawful_defs::specs::Watching::watch_is_complete))]
     fn is_complete(&self, v: &Pending) -> bool
-        ensures { result ≡ is_complete (watching_of self.now) v.now }
+        ensures { result ≡ watch_is_complete (watching_of self.now) v.now }
     {
         if self.is_lagged(v) {
             return false;
@@ -203,7 +203,7 @@ impl Watcher {
     /// The greatest view that is complete now.
     #[tactic(auto, using(am_lawful_defs::proofs::Members::greatest_view_rules))]
     fn greatest(&self) -> DecidedView
-        ensures { result ≡ greatest (watching_of self.now) (watching_of self.now).complete
+        ensures { result ≡ watch_greatest (watching_of self.now) (watching_of self.now).complete
             (watching_of self.now).pending }
     {
         let mut best = self.complete;
@@ -214,7 +214,7 @@ impl Watcher {
     }
 
     fn is_lost(&self, v: &DecidedView, name: Name) -> bool
-        ensures { result ≡ is_lost (watching_of self.now) v.now name }
+        ensures { result ≡ watch_is_lost (watching_of self.now) v.now name }
     {
         let standing = self.standing(name);
         (v.view.members.has(name) || v.number < standing.start) && !has_departed(standing.status)
@@ -222,7 +222,7 @@ impl Watcher {
 
     #[tactic(auto, unfolding(am_lawful_defs::specs::Watching::watch_is_lawful))]
     fn is_lawful(&self, v: &DecidedView) -> bool
-        ensures { result ≡ is_lawful (watching_of self.now) v.now }
+        ensures { result ≡ watch_is_lawful (watching_of self.now) v.now }
     {
         let lost = self
             .stopped
@@ -235,7 +235,7 @@ impl Watcher {
 
     fn broken_after(&self, best: &DecidedView) -> Option<u32>
         requires { (watching_of self.now).count < most_word }
-        ensures { result ≡ broken_now (watching_of self.now) best.now
+        ensures { result ≡ watch_broken_now (watching_of self.now) best.now
             (watching_of self.now).broken }
     {
         match self.broken {
@@ -275,7 +275,7 @@ impl Watcher {
 
     /// A name has stopped, by its own event or since its place returned. It takes no memory.
     pub fn stop(&mut self, name: Name)
-        requires room { HasRoom self.old }
+        requires room { HasWatchRoom self.old }
         requires few { (watching_of self.old).count < most_word }
         ensures { watching_of self.new ≡ stop (watching_of self.old) name }
     {
@@ -286,7 +286,7 @@ impl Watcher {
     /// A name did a step: what its node shows after that, and the view in which its list ends. This comes first; then the
     /// entries that the name stored in the step; and then the step is finished. It takes no memory.
     pub fn decide(&mut self, name: Name, after: &NameStanding, decided: &DecidedView)
-        requires { HasRoom self.old }
+        requires { HasWatchRoom self.old }
         ensures { watching_of self.new ≡ with_decided
             (watching_of self.old) name after.now decided.now }
     {
@@ -299,7 +299,7 @@ impl Watcher {
 
     /// The name stored an entry in this step.
     pub fn store(&mut self, name: Name, entry: &Entry)
-        ensures { watching_of self.new ≡ with_entry (watching_of self.old) name entry.now }
+        ensures { watching_of self.new ≡ watch_with_entry (watching_of self.old) name entry.now }
     {
         match entry {
             Entry::Data { .. } => {}
@@ -329,7 +329,7 @@ impl Watcher {
     /// The name's step is over.
     pub fn finish(&mut self, name: Name, after: &NameStanding)
         requires { (watching_of self.old).count < most_word }
-        ensures { watching_of self.new ≡ finish (watching_of self.old) name after.now }
+        ensures { watching_of self.new ≡ watch_finish (watching_of self.old) name after.now }
     {
         if self.is_quiet(name, after) {
             self.stand(name, after);
@@ -342,7 +342,7 @@ impl Watcher {
 
     /// The group list goes on by an entry, which has this number.
     pub fn accept(&mut self, number: u32, entry: &Entry)
-        ensures { watching_of self.new ≡ accept (watching_of self.old) number (entry.now ∷ []) }
+        ensures { watching_of self.new ≡ watch_accepts (watching_of self.old) number (entry.now ∷ []) }
     {
         match entry {
             Entry::Data { .. } => {}

@@ -64,7 +64,7 @@ impl MessageRoom {
         requires fits { fits_message (part_read part.now) ≡ true }
         requires so_far { length self.old.bytes.items ≡ 1019 * part.now.index }
         ensures value { result ≡ fed_by from (with_part from (part_read part.now) self.old.bytes.items) }
-        ensures after { Keeps self.new (with_part from (part_read part.now) self.old.bytes.items) }
+        ensures after { RoomKeeps self.new (with_part from (part_read part.now) self.old.bytes.items) }
     {
         self.unfinished = None;
         let _ = self.bytes.extend_from_slice(part.payload);
@@ -85,7 +85,7 @@ impl MessageRoom {
     /// Takes the body of a Data of a name.
     pub fn take(&mut self, from: Name, body: &[u8]) -> Fed
         ensures value { result ≡ fed_by from (taken_with (begun_in self.old) from body.now) }
-        ensures after { Keeps self.new (taken_with (begun_in self.old) from body.now) }
+        ensures after { RoomKeeps self.new (taken_with (begun_in self.old) from body.now) }
     {
         let Some(part) = part_in(body) else {
             self.unfinished = None;

@@ -33,7 +33,7 @@ pub fn founding_stamp(founding: &Founding) -> Stamp
 
 /// The first entry of the list.
 pub fn founders_view(founding: &Founding) -> Entry
-    ensures value { result ≡ founders_view founding.now }
+    ensures value { result ≡ founders_entry founding.now }
     ensures within { MayFound founding.now }
 {
     let founders = founding.founders();

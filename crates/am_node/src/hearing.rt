@@ -39,7 +39,7 @@ fn told(sender: Name, base: u32, acc: u32, number: u32) -> Told
 /// is numbered by the sequencer, and kept by another member.
 fn heard_row<'a>(parts: &mut Parts, packet: &Packet<'a>) -> Reply<'a>
     requires heard { is_heard (node_of parts.old) packet.now ≡ true }
-    requires within { IsWithin packet.now }
+    requires within { PacketIsWithin packet.now }
     requires numbers { HasNumbersLeft (node_of parts.old) }
     ensures { Replies (heard_row (node_of parts.old) packet.now) result (node_of parts.new) }
 {
@@ -178,7 +178,7 @@ fn heard_row<'a>(parts: &mut Parts, packet: &Packet<'a>) -> Reply<'a>
 
 /// Hears a packet: Elsewhere where it isn't heard by its kind.
 fn hear<'a>(parts: &mut Parts, packet: &Packet<'a>) -> Reply<'a>
-    requires within { IsWithin packet.now }
+    requires within { PacketIsWithin packet.now }
     requires numbers { HasNumbersLeft (node_of parts.old) }
     ensures { Replies (hear_row (node_of parts.old) packet.now) result (node_of parts.new) }
 {

@@ -117,7 +117,7 @@ impl Node {
 
     /// Whether a send of its own isn't settled.
     pub fn is_sending(&self) -> bool
-        ensures { result ≡ nat_lt 0 (unsettled_count (state_of self.now)) }
+        ensures { result ≡ nat_lt 0 (node_unsettled_count (state_of self.now)) }
     {
         0 < self.parts.sender.unsettled_count()
     }

@@ -21,7 +21,7 @@ use am_node_storage::log::Log;
 /// Whether a send is numbered, or its body is kept.
 fn is_known(parts: &Parts, from: Name, req: u32) -> bool
     ensures { result ≡ (nat_le req (row_at (node_of parts.now) from).last
-        || list_any (is_of from req) parts.now.pool) }
+        || list_any (is_body_of from req) parts.now.pool) }
 {
     req <= parts.core.log.row(from).last || parts.pool.holds(from, req)
 }

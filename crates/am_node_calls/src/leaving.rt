@@ -27,7 +27,7 @@ pub fn is_unfinished(parts: &Parts) -> bool
 
 /// How many sends aren't settled.
 fn unsettled_count(parts: &Parts) -> u32
-    ensures value { result ≡ unsettled_count (node_of parts.now) }
+    ensures value { result ≡ node_unsettled_count (node_of parts.now) }
     ensures few { result ≤ 4 }
 {
     parts.sender.unsettled_count()
@@ -35,7 +35,7 @@ fn unsettled_count(parts: &Parts) -> u32
 
 /// Whether a send isn't settled, or a ballot isn't over.
 fn is_busy(parts: &Parts) -> bool
-    ensures { result ≡ (nat_lt 0 (unsettled_count (node_of parts.now))
+    ensures { result ≡ (nat_lt 0 (node_unsettled_count (node_of parts.now))
         || is_unfinished (node_of parts.now).ballot) }
 {
     0 < unsettled_count(parts) || is_unfinished(parts)

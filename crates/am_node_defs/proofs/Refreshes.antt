@@ -131,7 +131,7 @@ own_whole all s st = ap (λ (t : ℕ). let l : Led = record {
   core = whole_core all s.core;
   reports =
       after_report s.reports s.core.who (record { stored = t; taken = s.core.taken });
-} in l) (sym (end-top all s.core.log st.kept))
+} in l) (sym (top_of_end_is_top all s.core.log st.kept))
 
 tell_whole : (all : Log) (s : Led) → CoreStands all s.core → s.core.base ≤ s.core.acc → tell (whole_led all s) ≡ whole_led all (tell s)
 unfolding tell

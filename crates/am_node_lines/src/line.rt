@@ -22,7 +22,7 @@ pub enum BadLine {
 impl BadLine {
     /// Its number, 1 to 4.
     pub fn cause(self) -> u8
-        ensures { result ≡ cause_of self }
+        ensures { result ≡ bad_line_number self }
     {
         match self {
             BadLine::NoSuchWord => 1,

@@ -68,7 +68,7 @@ fn word_of(text: &[u8]) -> Option<Word>
 
 /// The number of a request or a round, 1 to 2,000,000,000.
 fn count(text: &[u8]) -> Result<u32, FieldFault>
-    ensures { result ≡ count_of text.now }
+    ensures { result ≡ request_number_of text.now }
 {
     let number = number(text)?;
     if number == 0 {
@@ -79,7 +79,7 @@ fn count(text: &[u8]) -> Result<u32, FieldFault>
 
 /// How many members a view is to have at least, 1 to 16.
 fn least(text: &[u8]) -> Result<u8, FieldFault>
-    ensures { result ≡ least_of text.now }
+    ensures { result ≡ reset_least_of text.now }
 {
     let number = number_up_to(text, 16)?;
     if number == 0 {
@@ -90,7 +90,7 @@ fn least(text: &[u8]) -> Result<u8, FieldFault>
 
 /// A resilience behind its letter, or the founding's where none is said.
 fn resilience_or(founding: &Founding, text: Option<&[u8]>) -> Result<u8, FieldFault>
-    ensures { result ≡ resilience_of founding.now (option_map (λ t. t.now) text.entry) }
+    ensures { result ≡ line_resilience founding.now (option_map (λ t. t.now) text.entry) }
 {
     let Some(text) = text else {
         return Ok(founding.resilience());
@@ -175,7 +175,7 @@ fn send_line(alloc: Global, rest: &[u8]) -> Result<Line, NoMemory>
 
 /// A line that asks for what came of a send.
 fn done_line(rest: &[u8]) -> Line
-    ensures { result ≡ line_from (count_of rest.now) (λ req. said.Does (does.Done req)) }
+    ensures { result ≡ line_from (request_number_of rest.now) (λ req. said.Does (does.Done req)) }
 {
     match count(rest) {
         Ok(req) => Line::Does(NodeEvent::Done(req)),
@@ -185,7 +185,7 @@ fn done_line(rest: &[u8]) -> Line
 
 /// A line that asks for what came of a ballot.
 fn ask_line(rest: &[u8]) -> Line
-    ensures { result ≡ line_from (count_of rest.now) (λ round. said.Does (does.Ask round)) }
+    ensures { result ≡ line_from (request_number_of rest.now) (λ round. said.Does (does.Ask round)) }
 {
     match count(rest) {
         Ok(round) => Line::Does(NodeEvent::Ask(round)),
@@ -195,7 +195,7 @@ fn ask_line(rest: &[u8]) -> Line
 
 /// A line that gives up a name.
 fn give_up_line(rest: &[u8]) -> Line
-    ensures { result ≡ line_from (name_of rest.now) (λ name. said.Does (does.GiveUp name)) }
+    ensures { result ≡ line_from (name_in_text rest.now) (λ name. said.Does (does.GiveUp name)) }
 {
     match name(rest) {
         Ok(name) => Line::Does(NodeEvent::GiveUp(name)),
@@ -258,7 +258,7 @@ fn line_by(
 #[tactic(auto, unfolding(crate::specs::Lines::node_line_of))]
 /// What a line says. It is an error where there is no memory for a letter's bytes or a body.
 pub fn read_line(alloc: Global, founding: &Founding, text: &[u8]) -> Result<Line, NoMemory>
-    ensures { IfOk result (λ line. line ≡ line_of founding.now text.now) }
+    ensures { IfOk result (λ line. line ≡ node_line_of founding.now text.now) }
 {
     if MOST_LINE < text.len() {
         return Ok(Line::Bad(BadLine::TooLong));

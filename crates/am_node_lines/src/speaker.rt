@@ -193,7 +193,7 @@ impl Speaker {
         line: &[u8],
         answer: &mut String,
     ) -> Result<(), NoMemory>
-        ensures ok { OnOk result (AnswersBy (λ m. answer_of (speaking self.old).rules m line.now)
+        ensures ok { OnOk result (AnswersBy (λ m. line_answer (speaking self.old).rules m line.now)
             (speaking self.old).node (string_bytes answer.old) (speaking self.new).node (string_bytes answer.new)) }
         ensures rules { (speaking self.new).rules ≡ (speaking self.old).rules }
         ensures ready { OnOk result ((speaking self.new).failed ≡ false) }

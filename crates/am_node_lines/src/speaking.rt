@@ -45,7 +45,7 @@ impl Talk {
 
     /// The answer to the line, with a newline; and the next line begins.
     fn say(&mut self, alloc: Global) -> Result<(), NoMemory>
-        ensures says { OnOk result (Says (speaking self.old.speaker) self.old.line.items
+        ensures says { OnOk result (LineIsAnswered (speaking self.old.speaker) self.old.line.items
             (speaking self.new.speaker) (string_bytes self.new.answer)) }
         ensures same { (speaking self.new.speaker).rules ≡ (speaking self.old.speaker).rules }
         ensures ready { OnOk result ((speaking self.new.speaker).failed ≡ false) }

@@ -27,7 +27,7 @@ fn push_to(out: &mut String, letter: &Letter) -> Result<(), NoMemory>
 /// Adds a letter: its addressees and its bytes.
 #[tactic(auto, unfolding(crate::specs::Answers::answer_letter_text))]
 fn push_letter(out: &mut String, letter: &Letter) -> Result<(), NoMemory>
-    ensures { OnOk result (string_bytes out.new ≡ string_bytes out.old ++ letter_text letter.now) }
+    ensures { OnOk result (string_bytes out.new ≡ string_bytes out.old ++ answer_letter_text letter.now) }
 {
     out.push_str(" | ")?;
     push_to(out, letter)?;
@@ -38,7 +38,7 @@ fn push_letter(out: &mut String, letter: &Letter) -> Result<(), NoMemory>
 /// Adds letters in order.
 fn push_letters(out: &mut String, letters: &[Letter]) -> Result<(), NoMemory>
     ensures { OnOk result (string_bytes out.new
-        ≡ string_bytes out.old ++ flat_map letter_text letters.now) }
+        ≡ string_bytes out.old ++ flat_map answer_letter_text letters.now) }
 {
     for letter in letters {
         push_letter(out, letter)?;
@@ -65,7 +65,7 @@ fn role_word(role: Role) -> &'static str
 fn push_numbers(out: &mut String, node: &Node, info: &Info) -> Result<(), NoMemory>
     requires { info.now ≡ info_of (state_of node.now) }
     ensures { OnOk result (string_bytes out.new
-        ≡ string_bytes out.old ++ numbers_text (state_of node.now)) }
+        ≡ string_bytes out.old ++ list_numbers_text (state_of node.now)) }
 {
     let resilience = node.resilience();
     let base = info.base;

@@ -112,7 +112,7 @@ impl Parts {
 
     /// Takes in what the node knows by now: the sequencer all of it, another node what it was told.
     pub fn refresh(&mut self)
-        ensures changes { Changes refresh (node_of self.old) (node_of self.new) }
+        ensures changes { ChangesAllAlike refresh (node_of self.old) (node_of self.new) }
         ensures again { (all : Node) → IsEndOf all (node_of self.old)
             → refresh (refresh all) ≡ refresh all }
     {
@@ -126,7 +126,7 @@ impl Parts {
     /// Takes a report of another name.
     pub fn report(&mut self, from: Name, report: Report)
         requires { from ≢ self.old.core.who }
-        ensures { node_of self.new ≡ with_report (node_of self.old) from report }
+        ensures { node_of self.new ≡ node_with_report (node_of self.old) from report }
     {
         self.fronts.report(from, report);
     }
@@ -160,7 +160,7 @@ impl Parts {
 
     /// Whether a send of the node's own stands at a number.
     fn stands_at(&self, number: u32, req: u32) -> bool
-        ensures { result ≡ passes (is_data_of self.now.core.who req)
+        ensures { result ≡ some_passes (is_data_of self.now.core.who req)
             (entry_at self.now.core.log number) }
     {
         match self.core.log.entry(number) {
@@ -207,7 +207,7 @@ impl Parts {
 
     /// Settles the waiting send where it is accepted.
     pub fn settle(&mut self)
-        ensures changes { Changes settle (node_of self.old) (node_of self.new) }
+        ensures changes { ChangesAllAlike settle (node_of self.old) (node_of self.new) }
         ensures core { self.new.core ≡ self.old.core }
     {
         let Some(req) = self.waiting_request() else {
@@ -220,7 +220,7 @@ impl Parts {
 
     /// The end of a step: the refresh, and the waiting send is settled where it is accepted.
     pub fn end(&mut self)
-        ensures { Changes refresh_at_end (node_of self.old) (node_of self.new) }
+        ensures { ChangesAllAlike refresh_at_end (node_of self.old) (node_of self.new) }
     {
         self.refresh();
         self.settle();

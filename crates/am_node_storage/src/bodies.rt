@@ -48,7 +48,7 @@ impl Pool {
 
     /// Whether the body of this name's send with this request is kept.
     pub fn holds(&self, from: Name, req: u32) -> bool
-        ensures { result ≡ list_any (is_of from req) self.now }
+        ensures { result ≡ list_any (is_body_of from req) self.now }
     {
         self.bodies
             .as_slice()

@@ -286,9 +286,9 @@ impl Fronts {
     pub fn refresh<L: Log>(&mut self, core: &mut Core<L>)
         requires own { (reports_of self.old core.old.who).taken ≤ core.old.taken }
         requires leads { MayLead core.old }
-        ensures value { LeadsBy refresh (core_and_reports core.old self.old)
+        ensures value { LeadsBy refresh_led (core_and_reports core.old self.old)
             (core_and_reports core.new self.new) }
-        ensures again { StaysAt refresh (core_and_reports core.old self.old)
+        ensures again { StaysAt refresh_led (core_and_reports core.old self.old)
             (core_and_reports core.new self.new) }
         ensures order { IsInOrder core.new }
         ensures own { (reports_of self.new core.new.who).taken ≡ core.new.taken }

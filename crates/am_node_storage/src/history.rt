@@ -70,7 +70,7 @@ impl History {
 
     /// Its ring: the entries from `base + 1` to `top` in order, each with the members after it.
     pub fn ring(&self) -> &Ring
-        ensures entries { entries_of result.now.items ≡ self.now.list.entries }
+        ensures entries { slot_entries result.now.items ≡ self.now.list.entries }
         ensures members { HaveMembers self.now.list result.now.items }
         ensures capacity { result.now.capacity ≡ self.now.capacity }
     {

@@ -122,7 +122,7 @@ impl Sender {
     /// Settles the send that waits: it stands in the list at this number.
     pub fn settle(&mut self, req: u32, number: u32)
         requires { option_map (λ send. send.0) (waiting_send self.old) ≡ Some req }
-        ensures value { self.new ≡ settle req number self.old }
+        ensures value { self.new ≡ settle_request req number self.old }
         ensures next { next_request self.new ≡ req + 1 }
     {
         settle_in(self.queue.as_mut_slice(), req, number);

@@ -116,7 +116,7 @@ impl<L: Log> Core<L> {
     #[tactic(auto, using(am_node_defs::proofs::CoreLaws::unions_rules))]
     pub fn since_accepted(&self) -> Names
         ensures value { result ≡ since_accepted self.now }
-        ensures model { Sends since_accepted self.now result }
+        ensures model { CoreSends since_accepted self.now result }
     {
         let mut names = self.log.members_after(self.acc);
         for number in self.acc..self.log.top() {

@@ -57,7 +57,7 @@ fn base_of(parts: &Parts) -> u32
 /// A joiner's reports begin at the base.
 fn admit(parts: &mut Parts, name: Name)
     requires { name ≢ parts.old.core.who }
-    ensures { node_of parts.new ≡ with_admitted (node_of parts.old) name }
+    ensures { node_of parts.new ≡ node_with_admitted (node_of parts.old) name }
 {
     let base = base_of(parts);
     parts.fronts.admit(name, base);

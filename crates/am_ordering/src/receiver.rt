@@ -168,7 +168,7 @@ fn own_body(parts: &Parts, from: Name, req: u32) -> Option<&Body>
 /// The Data of a send whose body was spread; None where the node has no such body.
 fn data_of(parts: &Parts, from: Name, req: u32) -> Option<Entry>
     requires { IsNumber req }
-    ensures value { result ≡ data_of from req (body_of (node_of parts.now) from req) }
+    ensures value { result ≡ data_entry_of from req (body_of (node_of parts.now) from req) }
     ensures within { IfSome result (λ e. IsEntry e) }
 {
     let body = own_body(parts, from, req).or(parts.pool.find(from, req))?;

@@ -28,7 +28,7 @@ impl<'a> Model for ImageRef<'a> {
 
     ghost Value = { Image };
 
-    ghost view = { λ i. image_of i.place };
+    ghost view = { λ i. image_of_place i.place };
 
     ghost invariant = { λ i. IsPlace i.place };
 }
@@ -73,7 +73,7 @@ impl<'a> fmt::Debug for ImageRef<'a> {
 /// The number in the four bytes at an offset.
 fn number(bytes: &[u8], at: usize) -> u32
     requires { at + 4 ≤ length bytes.now }
-    ensures { result ≡ number_in bytes.now at }
+    ensures { result ≡ number_in_bytes bytes.now at }
 {
     BigEndian::read_u32(&bytes[at..])
 }

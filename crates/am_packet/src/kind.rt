@@ -145,7 +145,7 @@ impl PacketKind {
 
     /// Its number, 1 to 18.
     pub fn number(self) -> u8
-        ensures { result ≡ number_of self }
+        ensures { result ≡ packet_kind_number self }
     {
         self.row().number
     }

@@ -39,14 +39,14 @@ impl Model for Letter {
 
     ghost Value = { boxes.Letter };
 
-    ghost view = { λ l. record { to = l.to; any = l.any; packet = packet_in (bytes_in l.within.items (option_map (λ v. v.items) l.apart)) } };
+    ghost view = { λ l. record { to = l.to; any = l.any; packet = packet_in (bytes_in_letter l.within.items (option_map (λ v. v.items) l.apart)) } };
 
-    ghost invariant = { λ l. IsSpelled (bytes_in l.within.items (option_map (λ v. v.items) l.apart)) };
+    ghost invariant = { λ l. IsSpelled (bytes_in_letter l.within.items (option_map (λ v. v.items) l.apart)) };
 }
 
 /// The bytes that stand within a letter, or apart from it.
 fn bytes_in<'a>(within: &'a [u8], apart: &'a Option<Vec<u8>>) -> &'a [u8]
-    ensures { result.now ≡ bytes_in within.now (option_map (λ v. v.items) apart.now) }
+    ensures { result.now ≡ bytes_in_letter within.now (option_map (λ v. v.items) apart.now) }
 {
     match apart {
         Some(bytes) => bytes.as_slice(),

@@ -31,7 +31,7 @@ impl PacketRefusal {
 
     /// The number of the cause, 1 to 6.
     pub fn cause(self) -> u8
-        ensures value { result ≡ cause_of self }
+        ensures value { result ≡ refusal_number self }
     {
         match self {
             PacketRefusal::Short => 1,

@@ -60,7 +60,7 @@ pub fn stamp(bytes: &[u8], at: u32) -> Result<Stamp, PacketRefusal>
 pub fn set(bytes: &[u8], at: u32) -> Result<Names, PacketRefusal>
     requires long { at + 10 ≤ length bytes.now }
     requires small { at < most_packet }
-    ensures { result ≡ set_at bytes.now at }
+    ensures { result ≡ read_set_at bytes.now at }
 {
     let mask = BigEndian::read_u16(&bytes[at as usize..]);
     let lives = BigEndian::read_u64(&bytes[at as usize + 2..]);
@@ -114,7 +114,7 @@ fn life(bytes: &[u8], at: u32, joined: u32) -> Result<u8, PacketRefusal>
 fn row(bytes: &[u8], at: u32) -> Result<Row, PacketRefusal>
     requires long { at + 13 ≤ length bytes.now }
     requires small { at < most_packet }
-    ensures { result ≡ row_at bytes.now at }
+    ensures { result ≡ read_row_at bytes.now at }
 {
     let joined = number(bytes, at + 1)?;
     let life = life(bytes, at, joined)?;
@@ -139,7 +139,7 @@ fn rows(bytes: &[u8], at: u32) -> Result<[Row; 16], PacketRefusal>
 fn whole_image(bytes: &[u8], at: u32) -> Result<Image, PacketRefusal>
     requires long { at + image_length ≤ length bytes.now }
     requires small { at < 50 }
-    ensures { result ≡ image_at bytes.now at }
+    ensures { result ≡ read_image_at bytes.now at }
 {
     read!(bytes, Image { view: stamp @ at, view_number: number @ at + 5, resilience: resilience @ at + 9, rows: rows @ at + 10 })
 }
@@ -148,7 +148,7 @@ fn whole_image(bytes: &[u8], at: u32) -> Result<Image, PacketRefusal>
 pub fn image(bytes: &[u8], at: u32) -> Result<ImageRef<'_>, PacketRefusal>
     requires long { at + image_length ≤ length bytes.now }
     requires small { at < 50 }
-    ensures { result ≡ image_at bytes.now at }
+    ensures { result ≡ read_image_at bytes.now at }
 {
     match whole_image(bytes, at) {
         Ok(_) => Ok(ImageRef::among(bytes, at as usize)),
@@ -240,7 +240,7 @@ fn view(bytes: &[u8], at: u32) -> Result<EntryRef<'_>, PacketRefusal>
 pub fn entry(bytes: &[u8], at: u32) -> Result<EntryRef<'_>, PacketRefusal>
     requires long { at < length bytes.now }
     requires small { at < 100 }
-    ensures { result ≡ entry_at bytes.now at }
+    ensures { result ≡ read_entry_at bytes.now at }
 {
     match bytes[at as usize] {
         1 => data(bytes, at),

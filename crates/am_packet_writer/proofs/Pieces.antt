@@ -37,7 +37,7 @@ pub rows_bytes_with_next_row : (rows : List Row) (d : Row) (i : ℕ) (old middle
 rows_bytes_with_next_row rows d i old middle new lt before now = rw (
   take_more rows i d lt,
   rows_bytes-append (take i rows) (get_or rows i d),
-) (after old middle new (rows_bytes (take i rows)) (row_bytes (get_or rows i d)) now before)
+) (bytes_after_two_pieces old middle new (rows_bytes (take i rows)) (row_bytes (get_or rows i d)) now before)
 
 -- so many rows leave room for another
 pub packet_has_room_for_row : (rows : List Row) (i : ℕ) (old middle : List ℕ) → i < 16 → middle ≡ old ++ rows_bytes (take i rows) → length old + 208 ≤ most_packet

@@ -14,7 +14,7 @@ use std::alloc::Global;
 /// where there is no memory for its bytes.
 #[tactic(auto, using(am_packet::proofs::Read::spelled_packet_rules))]
 pub fn letter_of(alloc: Global, to: Names, packet: &Packet) -> Result<Letter, NoMemory>
-    requires { IsWithin packet.now }
+    requires { PacketIsWithin packet.now }
     ensures { IfOk result (λ l. l ≡ letter_to to packet.now) }
 {
     let mut rooms = Vec::with_capacity(alloc, 1)?;

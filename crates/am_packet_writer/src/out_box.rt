@@ -176,7 +176,7 @@ impl OutBox {
     #[tactic(auto, using(am_packet::proofs::Read::spelled_packet_rules))]
     pub fn put(&mut self, to: Names, packet: &Packet)
         requires room { length self.old < 24 }
-        requires within { IsWithin packet.now }
+        requires within { PacketIsWithin packet.now }
         ensures { self.new ≡ with_letter to packet.now self.old }
     {
         if has_nobody(to) {

@@ -387,7 +387,7 @@ fn put_header(into: &mut PacketBytes, kind: u8, sender: Name, stamp: Stamp, tota
 /// Leaves in `into` exactly the packet's spelling.
 #[tactic(auto, unfolding(am_packet::specs::Spelling::spelling))]
 pub fn encode(packet: &Packet, into: &mut PacketBytes)
-    requires { IsWithin packet.now }
+    requires { PacketIsWithin packet.now }
     ensures spelled { into.new ≡ spelling packet.now }
     ensures packet { IsPacket packet.now }
 {

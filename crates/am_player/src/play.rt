@@ -48,7 +48,7 @@ pub fn play<T: Shows, S: Source, K: Sink>(
     ensures took { Took S.left S.count most_input result source.old source.new }
     ensures bad_script { IfBadScript result (λ cause. (bytes : List ℕ)
         × ReadToEnd (S.left source.old) (S.left source.new) bytes
-        × (reading bytes ≡ Err cause)) }
+        × (script_reading bytes ≡ Err cause)) }
     ensures spent { result ≡ ExitStatus.Spent → (bytes : List ℕ)
         × ReadToEnd (S.left source.old) (S.left source.new) bytes × IsSpent bytes }
     ensures wrote { Wrote K.contents K.count (IsPlayedBy (T.text shows.now)
@@ -63,7 +63,7 @@ fn play_bytes<T: Shows, K: Sink>(alloc: Global, shows: &T, bytes: &[u8], sink: &
     ensures not_usage { result ≢ ExitStatus.Usage }
     ensures not_of_audit { IsOfAudit result → ⊥ }
     ensures not_of_read { IsOfRead result → ⊥ }
-    ensures bad_script { IfBadScript result (λ cause. reading bytes.now ≡ Err cause) }
+    ensures bad_script { IfBadScript result (λ cause. script_reading bytes.now ≡ Err cause) }
     ensures spent { result ≡ ExitStatus.Spent → IsSpent bytes.now }
     ensures wrote { Wrote K.contents K.count (PlayedBy (T.text shows.now) bytes.now)
         result sink.old sink.new }

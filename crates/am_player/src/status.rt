@@ -31,7 +31,7 @@ impl ExitStatus {
 
     /// Its number, which a process ends with: 0 to 9.
     pub fn number(self) -> u8
-        ensures { result ≡ number_of self }
+        ensures { result ≡ status_number self }
     {
         match self {
             ExitStatus::Done => 0,

@@ -46,7 +46,7 @@ fn bad_text_line(number: u32) -> StatusLine
 /// The line that tells of a status on standard error, without its end; empty for Done and Disagrees, of which nothing is told. It takes no
 /// memory (docs/PROTOCOL.md, "Statuses").
 pub fn line_of(status: ExitStatus) -> StatusLine
-    ensures { result.bytes ≡ line_of status }
+    ensures { result.bytes ≡ status_line status }
 {
     match status {
         ExitStatus::Done => ArrayString::new(),

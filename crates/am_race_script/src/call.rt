@@ -14,7 +14,7 @@ use std::alloc::Global;
 
 /// Whether a thread of a race can call for a kind of events.
 fn is_call(kind: EventKind) -> bool
-    ensures { result ≡ is_call kind }
+    ensures { result ≡ is_call_kind kind }
 {
     match kind {
         EventKind::Send

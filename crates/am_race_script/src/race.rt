@@ -134,7 +134,7 @@ fn threads(alloc: Global, value: &Value, founding: u8) -> Read<Items<ThreadPlan>
 /// How many calls threads have in all.
 fn calls_of(threads: &[ThreadPlan]) -> u64
     requires { length threads.now ≤ 16 }
-    ensures { result ≡ calls_of threads.now }
+    ensures { result ≡ calls_in_all threads.now }
 {
     let mut count = 0;
     for thread in threads {

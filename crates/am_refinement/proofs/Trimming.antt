@@ -54,7 +54,7 @@ module _ (v : World) (i : ℕ) (x y : Node) (s : Group) (h : SequencerRefreshed 
   abbrev list : List Entry
   list = (s.node i).list
 
-  open on_chain v i y s h.speaks h.leads use {chain, good, group_in}
+  open sequencer_list_is_chain v i y s h.speaks h.leads use {chain, good, group_in}
 
   trimmed_to : (to : ℕ) → least_taken y.reports (concerned_names y) ≡ Some to → x.core.base < to → to ≤ y.core.base → Trimmed s to
   trimmed_to to least up low =

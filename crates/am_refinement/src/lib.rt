@@ -62,7 +62,7 @@ pub fn letters_stay()
 
 /// A lawful run of the group that goes on by a move that is no stop is lawful: so between the moves of one event all is kept.
 pub fn runs_go_on()
-    ensures { RunsGoOn }
+    ensures { LawfulRunsGoOn }
 {}
 
 /// In a lawful run of the group, what begins the line of a decided view begins the line of its own last View's, which was decided.

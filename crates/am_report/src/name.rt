@@ -48,7 +48,7 @@ fn push_place<O: Writer>(out: &mut O, first: bool, names: Names, place: u8) -> b
     requires { place < 16 }
     ensures text { WritesInCalls O.writes out.old
         (place_text first place (slice_index names place)) out.new }
-    ensures first { result ≡ first_behind first (slice_index names place) }
+    ensures first { result ≡ is_first_behind first (slice_index names place) }
 {
     let Some(name) = Name::of(place, names.life_at(place)) else {
         return first;

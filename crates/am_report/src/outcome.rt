@@ -85,7 +85,7 @@ enum OutcomeNumbers {
 // The numbers of an outcome that has nothing but numbers.
 #[tactic(auto, unfolding(crate::specs::Outcomes::outcome_numbers_in))]
 fn numbers_of(outcome: &Outcome) -> OutcomeNumbers
-    ensures { numbers_in result ≡ outcome_numbers outcome.now }
+    ensures { outcome_numbers_in result ≡ outcome_numbers outcome.now }
 {
     match outcome {
         Outcome::Queued { req: number }

@@ -93,7 +93,7 @@ fn refusal(parts: &Parts, arrival: &Arrival, entry: &EntryRef, in_ballot: bool) 
         ≡ unless result (with_ballot (node_of parts.now) x)
         (then_ (push_entry (trim_up_to (with_ballot (node_of parts.now) x) arrival.now.base)
         entry.now)) }
-    ensures next { IfNone result (ComesNext (node_of parts.now)
+    ensures next { IfNone result (CatchesNext (node_of parts.now)
         arrival.now.stamp arrival.now.base arrival.now.number entry.now in_ballot) }
 {
     let top = last_of(parts);

@@ -22,7 +22,7 @@ use am_node_storage::log::Log;
 pub fn trim(parts: &mut Parts, base: u32)
     requires order { IsInOrder parts.old.core }
     requires taken { base ≤ parts.old.core.taken }
-    ensures changes { Changes (λ m. trim_up_to m base) (node_of parts.old) (node_of parts.new) }
+    ensures changes { ChangesAllAlike (λ m. trim_up_to m base) (node_of parts.old) (node_of parts.new) }
     ensures steady { IsSteady (node_of parts.old) (node_of parts.new) }
     ensures base { parts.new.core.base ≡ max parts.old.core.base base }
     ensures rules { parts.new.core.rules ≡ parts.old.core.rules }
@@ -40,7 +40,7 @@ fn push(parts: &mut Parts, entry: &EntryRef)
     requires number { top_of parts.old.core.log < most_number }
     requires keeps { NodeKeeps (push_entry (node_of parts.old) entry.now) }
     ensures value { node_of parts.new ≡ push_entry (node_of parts.old) entry.now }
-    ensures changes { Changes (λ m. push_entry m entry.now) (node_of parts.old) (node_of parts.new) }
+    ensures changes { ChangesAllAlike (λ m. push_entry m entry.now) (node_of parts.old) (node_of parts.new) }
     ensures order { IsInOrder parts.new.core }
 {
     parts.core.push(entry);
@@ -48,8 +48,8 @@ fn push(parts: &mut Parts, entry: &EntryRef)
 
 /// Trims the list up to a base, where that is greater, and stores an entry behind it.
 pub fn store(parts: &mut Parts, base: u32, entry: &EntryRef)
-    requires { MayStore (node_of parts.old) base entry.now }
-    ensures changes { Changes (λ m. push_entry (trim_up_to m base) entry.now) (node_of parts.old)
+    requires { CatcherMayStore (node_of parts.old) base entry.now }
+    ensures changes { ChangesAllAlike (λ m. push_entry (trim_up_to m base) entry.now) (node_of parts.old)
         (node_of parts.new) }
     ensures steady { IsSteady (push_entry (node_of parts.old) entry.now) (node_of parts.new) }
     ensures order { IsInOrder parts.new.core }
@@ -62,7 +62,7 @@ pub fn store(parts: &mut Parts, base: u32, entry: &EntryRef)
 /// The ballot ends with this answer.
 fn close(ballot: &mut Ballot, answer: Outcome) -> Outcome
     requires plain { is_took answer ≡ false }
-    ensures { Answered (with_end (ballot_of ballot.old) answer) answer result (ballot_of ballot.new) }
+    ensures { BallotIsAnswered (with_end (ballot_of ballot.old) answer) answer result (ballot_of ballot.new) }
 {
     ballot.end(&answer);
     answer
@@ -71,7 +71,7 @@ fn close(ballot: &mut Ballot, answer: Outcome) -> Outcome
 /// The ballot goes on, and this is its answer.
 fn keep_on(ballot: &mut Ballot, answer: Outcome) -> Outcome
     requires plain { is_took answer ≡ false }
-    ensures { Answered (with_answer (ballot_of ballot.old) answer) answer result (ballot_of ballot.new) }
+    ensures { BallotIsAnswered (with_answer (ballot_of ballot.old) answer) answer result (ballot_of ballot.new) }
 {
     ballot.go_on(&answer);
     answer
@@ -137,7 +137,7 @@ fn push_view(parts: &mut Parts, ballot: &mut Ballot, names: Names) -> Outcome
     requires room { nat_lt (parts.old.core.rules.window + 16 - size names)
         (top_of parts.old.core.log + 1 - parts.old.core.base) ≡ false }
     ensures comes { (all : Node) → IsEndOf all (node_of parts.old)
-        → ComesTo (decide_view all (ballot_of ballot.old) names) result
+        → VerdictComesTo (decide_view all (ballot_of ballot.old) names) result
         (put_back (node_of parts.new) (ballot_of ballot.new)) }
     ensures told { IsTold result }
     ensures own { IsOwnBallot (node_of parts.new) (ballot_of ballot.new) }
@@ -155,7 +155,7 @@ fn decide_view(parts: &mut Parts, ballot: &mut Ballot, names: Names) -> Outcome
     requires ballot { IsTakenOut (node_of parts.old) (ballot_of ballot.old) }
     requires names { MayBeView (node_of parts.old) names }
     ensures comes { (all : Node) → IsEndOf all (node_of parts.old)
-        → ComesTo (decide_view all (ballot_of ballot.old) names) result
+        → VerdictComesTo (decide_view all (ballot_of ballot.old) names) result
         (put_back (node_of parts.new) (ballot_of ballot.new)) }
     ensures told { IsTold result }
     ensures own { IsOwnBallot (node_of parts.new) (ballot_of ballot.new) }
@@ -181,7 +181,7 @@ fn trim_and_decide(parts: &mut Parts, ballot: &mut Ballot, names: Names) -> Outc
     requires ballot { IsTakenOut (node_of parts.old) (ballot_of ballot.old) }
     requires names { MayBeView (node_of parts.old) names }
     ensures comes { (all : Node) → IsEndOf all (node_of parts.old)
-        → ComesTo (decide_view (trim_for all (ballot_of ballot.old) names) (ballot_of ballot.old) names)
+        → VerdictComesTo (decide_view (trim_for all (ballot_of ballot.old) names) (ballot_of ballot.old) names)
         result (put_back (node_of parts.new) (ballot_of ballot.new)) }
     ensures told { IsTold result }
     ensures own { IsOwnBallot (node_of parts.new) (ballot_of ballot.new) }
@@ -196,7 +196,7 @@ fn trim_and_decide(parts: &mut Parts, ballot: &mut Ballot, names: Names) -> Outc
 fn look(parts: &mut Parts, ballot: &mut Ballot) -> Outcome
     requires { IsTakenOut (node_of parts.old) (ballot_of ballot.old) }
     ensures comes { (all : Node) → IsEndOf all (node_of parts.old)
-        → ComesTo (decide all (ballot_of ballot.old)) result
+        → VerdictComesTo (decide all (ballot_of ballot.old)) result
         (put_back (node_of parts.new) (ballot_of ballot.new)) }
     ensures told { IsTold result }
     ensures own { IsOwnBallot (node_of parts.new) (ballot_of ballot.new) }
@@ -231,7 +231,7 @@ fn look(parts: &mut Parts, ballot: &mut Ballot) -> Outcome
 pub fn decide(parts: &mut Parts, mut ballot: Ballot) -> Outcome
     requires { IsTakenOut (node_of parts.old) (ballot_of ballot) }
     ensures comes { (all : Node) → IsEndOf all (node_of parts.old)
-        → ComesTo (decide all (ballot_of ballot)) result (node_of parts.new) }
+        → VerdictComesTo (decide all (ballot_of ballot)) result (node_of parts.new) }
     ensures told { IsTold result }
 {
     let answer = look(parts, &mut ballot);

@@ -55,9 +55,9 @@ in_view m s v t =
 
 module _ (rules : Rules) (events : List Event) (e : Event) (c : Cause) (step : Step) (s t : Group) (one : OneStepWithGroup rules events e c step s t)
     (h : Fitted rules (run rules events) s) where
-  open parts rules events e step use {w, i, m, n, v}
+  open parts_of_one_step rules events e step use {w, i, m, n, v}
   open one use {step_.{may, runs, cause, effect, is}, old, grows, shaped, new}
-  open plain one use {few, kept_s, kept_t, opens_t, runs_v, node_run, stands_m, stands_n, group_grows}
+  open one_step_grows_group one use {few, kept_s, kept_t, opens_t, runs_v, node_run, stands_m, stands_n, group_grows}
 
   order_n : n.core.log.start ≤ n.core.base
   order_n = subst (λ (x : Node). x.core.log.start ≤ x.core.base) node_run ((number_bounds_hold_in_runs rules (events ++ e ∷ [])).each i).kept

@@ -229,9 +229,9 @@ entry_taken_is_in_group rules w s i (suc j) x old few y =
 
 module _ (rules : Rules) (events : List Event) (e : Event) (c : Cause) (step : Step) (s t : Group) (one : OneStepWithGroup rules events e c step s t)
     (h : NamesHaveTakenInTurn rules (run rules events)) where
-  open parts rules events e step use {w, i, m, n, v}
+  open parts_of_one_step rules events e step use {w, i, m, n, v}
   open one use {step_.{may, runs, cause, effect}, old, path}
-  open plain one use {few, kept_s, node_v, group_v, run_v, node_run, stands_n, group_grows}
+  open one_step_grows_group one use {few, kept_s, node_v, group_v, run_v, node_run, stands_n, group_grows}
 
   abbrev inside : NodeWithinItsStep w.group i c step.outcome m n
   inside = inside_step rules events e c step may cause effect h

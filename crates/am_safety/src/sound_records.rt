@@ -15,7 +15,7 @@ pub fn records_are_sound()
 
 /// The requests that a name was given are 1, 2, 3 and so on.
 pub fn requests_are_in_turn()
-    ensures { RequestsInTurn }
+    ensures { RecordedRequestsInTurn }
 {}
 
 /// No View has less resilience than the founding, be it in a node's list or the group's, fetched, told of a ballot, or given out. Entry 1 of

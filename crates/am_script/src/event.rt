@@ -20,7 +20,7 @@ use std::alloc::Global;
 /// The kind of an event or a call, which is an object; BadValue at the key that it stands at where it is none.
 #[tactic(auto, unfolding(am_script_defs::specs::Events::event_kind_in))]
 pub fn kind(value: &Value, at: ScriptKey, place: u64) -> Read<EventKind>
-    ensures { result ≡ of_object at place (seen value.now) (kind_in place (seen value.now)) }
+    ensures { result ≡ of_object at place (seen value.now) (event_kind_in place (seen value.now)) }
 {
     object(value, at, place)?;
     let word = text_in(value, ScriptKey::Do, place)?;
@@ -40,7 +40,7 @@ fn are_digits(text: &str) -> bool
 
 /// Whether a text is pairs of such digits.
 fn are_pairs(text: &str) -> bool
-    ensures { result ≡ are_pairs text.now }
+    ensures { result ≡ are_hex_pairs text.now }
 {
     text.len() % 2 == 0 && are_digits(text)
 }
@@ -73,7 +73,7 @@ fn body(text: &str, place: u64) -> Read<Body>
 
 /// The number of a request, a round or a packet at a key of an event.
 fn count(event: &Value, key: ScriptKey, place: u64) -> Read<u32>
-    ensures { result ≡ number_in key place 1 most_number (seen event.now) }
+    ensures { result ≡ number_at_key key place 1 most_number (seen event.now) }
 {
     Ok(number_in(event, key, place, 1, u64::from(MOST_NUMBER))? as u32)
 }

@@ -71,7 +71,7 @@ pub fn text_in<'a>(object: &Value<'a>, key: ScriptKey, place: u64) -> Read<&'a s
 /// A whole number within its limits; BadValue where it is another value, OutOfRange where it is outside them.
 #[tactic(auto, unfolding(am_script_defs::specs::Values::number_within))]
 pub fn number(value: &Value, key: ScriptKey, place: u64, least: u64, most: u64) -> Read<u64>
-    ensures value { result ≡ number_from key place least most (seen value.now) }
+    ensures value { result ≡ number_within key place least most (seen value.now) }
     ensures at_least { IfOk result (λ n. least ≤ n) }
     ensures at_most { IfOk result (λ n. n ≤ most) }
 {
@@ -92,7 +92,7 @@ pub fn number(value: &Value, key: ScriptKey, place: u64, least: u64, most: u64) 
 
 /// The number at a key of an object, within its limits.
 pub fn number_in(object: &Value, key: ScriptKey, place: u64, least: u64, most: u64) -> Read<u64>
-    ensures value { result ≡ number_in key place least most (seen object.now) }
+    ensures value { result ≡ number_at_key key place least most (seen object.now) }
     ensures at_least { IfOk result (λ n. least ≤ n) }
     ensures at_most { IfOk result (λ n. n ≤ most) }
 {

@@ -26,9 +26,9 @@ fn script_in(alloc: Global, value: &Value) -> Read<Script>
 /// number of events.
 #[tactic(auto, using(am_script_defs::proofs::Answered::answered_script_is_within), unfolding(am_script_defs::specs::Scripts::script_reading))]
 pub fn read_script(alloc: Global, bytes: &[u8]) -> Result<Script, ScriptRefusal>
-    ensures ok { IfOk result (λ script. reading bytes.now ≡ Ok script) }
+    ensures ok { IfOk result (λ script. script_reading bytes.now ≡ Ok script) }
     ensures within { IfOk result ScriptWithin }
-    ensures refused { IfErr result (λ e. e ≢ ScriptRefusal.NoMemory → reading bytes.now ≡ Err e) }
+    ensures refused { IfErr result (λ e. e ≢ ScriptRefusal.NoMemory → script_reading bytes.now ≡ Err e) }
     ensures memory { IfErr result (λ e. e ≡ ScriptRefusal.NoMemory → 0 < length bytes.now) }
 {
     let mut scratch = Scratch::new(alloc);

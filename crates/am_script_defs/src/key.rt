@@ -63,7 +63,7 @@ const WORDS: [&str; 25] = [
 impl ScriptKey {
     /// Its word in a script.
     pub fn word(self) -> &'static str
-        ensures { result.now ≡ word_of self }
+        ensures { result.now ≡ key_word self }
     {
         WORDS[self as usize]
     }

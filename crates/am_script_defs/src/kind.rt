@@ -26,7 +26,7 @@ impl EventKind {
     /// The kind of a word; None where it is the word of none.
     #[tactic(auto, unfolding(crate::specs::Events::kind_of_word))]
     pub fn of(word: &str) -> Option<EventKind>
-        ensures { result ≡ kind_of word.now }
+        ensures { result ≡ kind_of_word word.now }
     {
         match word {
             "send" => Some(EventKind::Send),

@@ -69,7 +69,7 @@ impl ScriptRefusal {
 
     /// Its number, 1 to 6.
     pub fn number(self) -> u8
-        ensures { result ≡ number_of self }
+        ensures { result ≡ refusal_number_of self }
     {
         match self {
             ScriptRefusal::NotJson => 1,
@@ -83,7 +83,7 @@ impl ScriptRefusal {
 
     /// The number of the event or the call that is refused, or 0.
     pub fn place(self) -> u64
-        ensures { result ≡ place_of self }
+        ensures { result ≡ refused_place self }
     {
         match self {
             ScriptRefusal::NotJson | ScriptRefusal::NoMemory => 0,

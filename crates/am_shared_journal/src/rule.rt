@@ -42,7 +42,7 @@ pub struct OneJournal<L: Law>(PhantomData<L>);
 impl<L: Law> TableRule<Sheet, SeatView, Terms> for OneJournal<L> {
     ghost holds = { Stands L.next };
 
-    ghost first = { λ terms. view terms (all_keys terms.callers) [] [] false };
+    ghost first = { λ terms. seat_view terms (all_keys terms.callers) [] [] false };
 }
 
 /// Takes the slot.
@@ -77,9 +77,9 @@ impl<L: Law> Play<Sheet, SeatView> for CountLook<L> {
 pub struct FirstKey;
 
 impl Split<SeatView> for FirstKey {
-    ghost left = { λ v. view v.terms (drop 1 v.keys) v.seen v.older v.turn };
+    ghost left = { λ v. seat_view v.terms (drop 1 v.keys) v.seen v.older v.turn };
 
-    ghost right = { λ v. view v.terms (take 1 v.keys) v.seen [] false };
+    ghost right = { λ v. seat_view v.terms (take 1 v.keys) v.seen [] false };
 }
 
 /// One seat gets the keys of both, and has seen the longer of what they had seen.
@@ -88,7 +88,7 @@ pub struct Together;
 impl Join<SeatView> for Together {
     ghost use Rattle.am_shared_journal.specs.Seats.{sight_of};
 
-    ghost both = { λ v w. view v.terms (w.keys ++ v.keys) (longer v.seen w.seen) (sight_of v ∷ sight_of w ∷ []) false };
+    ghost both = { λ v w. seat_view v.terms (w.keys ++ v.keys) (longer_list v.seen w.seen) (sight_of v ∷ sight_of w ∷ []) false };
 
-    ghost spent = { view no_terms [] [] [] false };
+    ghost spent = { seat_view no_terms [] [] [] false };
 }

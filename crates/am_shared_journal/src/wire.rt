@@ -41,7 +41,7 @@ impl<L: Law> Model for Wire<L> {
     ghost use Rattle.std.specs.Prelude.{◌≡◌};
     ghost use Rattle.am_shared_journal.specs.Wires.{WireLine};
 
-    ghost Value = { Line };
+    ghost Value = { WireLine };
 
     ghost view = { λ w. record { id = w.table.shared.table_id; terms = w.table.shared.key } };
 
@@ -63,7 +63,7 @@ impl Model for Pass {
 
     ghost view = { λ p. known_by p.badge.table_id p.badge.views };
 
-    ghost invariant = { λ p. Rests p.badge.views };
+    ghost invariant = { λ p. OneSeatRests p.badge.views };
 }
 
 /// The pass of a caller: its one key is that caller's.
@@ -71,7 +71,7 @@ pub type Share = Pass;
 
 /// Takes the seat of a pass out.
 fn seat_in(badge: &mut Badge<SeatView>) -> TableSeat
-    requires { Rests badge.old.views }
+    requires { OneSeatRests badge.old.views }
     ensures wire { result.table_id ≡ badge.old.table_id }
     ensures one { badge.old.views ≡ result.me.0 ∷ [] }
     ensures empty { result.me.1 ≡ [] }
@@ -82,7 +82,7 @@ fn seat_in(badge: &mut Badge<SeatView>) -> TableSeat
 impl Pass {
     /// The pass of a seat that has keys.
     fn of(seat: TableSeat) -> Pass
-        requires idle { IsIdle seat.me }
+        requires idle { SeatIsIdle seat.me }
         requires keyed { 0 < length seat.me.0.keys }
         ensures { result ≡ known_by seat.table_id (seat.me.0 ∷ []) }
     {
@@ -97,7 +97,7 @@ impl<L: Law> Wire<L> {
     fn new(alloc: Global, terms: &Terms) -> Result<(Wire<L>, TableSeat), NoMemory>
         ensures wire { IfOk result (λ r. r.0.terms ≡ terms.now) }
         ensures seat { IfOk result (λ r. (r.1.table_id ≡ r.0.id)
-            × (r.1.me ≡ (view terms.now (all_keys terms.now.callers) [] [] false, []))) }
+            × (r.1.me ≡ (seat_view terms.now (all_keys terms.now.callers) [] [] false, []))) }
     {
         let mut slots = Vec::new(alloc);
         slots.push(Sheet::new(alloc, &terms.founding))?;
@@ -110,10 +110,10 @@ impl<L: Law> Wire<L> {
     /// Takes the slot, and sees all of the journal.
     fn take<R: Wait>(&self, rt: &R, seat: &mut TableSeat)
         requires own { seat.old.table_id ≡ self.now.id }
-        requires idle { IsIdle seat.old.me }
+        requires idle { SeatIsIdle seat.old.me }
         requires keyed { 0 < length seat.old.me.0.keys }
         ensures same { seat.new.table_id ≡ seat.old.table_id }
-        ensures takes { Takes L.next seat.old.me seat.new.me }
+        ensures takes { SeatTakes L.next seat.old.me seat.new.me }
     {
         for _ in rt.forever() {
             if self.table.shared.compare_exchange::<Take<L>>(seat, 0, 0, 1) == 0 {
@@ -130,7 +130,7 @@ impl<L: Law> Wire<L> {
         requires turn { HasTurn seat.old.me }
         ensures same { seat.new.table_id ≡ seat.old.table_id }
         ensures gave { seat.new.me ≡ (
-          view seat.old.me.0.terms seat.old.me.0.keys seat.old.me.0.seen
+          seat_view seat.old.me.0.terms seat.old.me.0.keys seat.old.me.0.seen
               [] false,
           [],
         ) }
@@ -141,7 +141,7 @@ impl<L: Law> Wire<L> {
     /// A seat gets another's keys, and sees what either had seen.
     fn unite(&self, seat: &mut TableSeat, other: TableSeat)
         requires own { (seat.old.table_id ≡ self.now.id) × (other.table_id ≡ self.now.id) }
-        requires idle { IsIdle seat.old.me × IsIdle other.me }
+        requires idle { SeatIsIdle seat.old.me × SeatIsIdle other.me }
         requires keyed { 0 < length seat.old.me.0.keys }
         ensures same { seat.new.table_id ≡ seat.old.table_id }
         ensures unites { Unites L.next seat.old.me.0 other.me.0 seat.new.me }
@@ -153,7 +153,7 @@ impl<L: Law> Wire<L> {
     /// Splits off a seat with the first key.
     fn part(&self, seat: &mut TableSeat) -> TableSeat
         requires own { seat.old.table_id ≡ self.now.id }
-        requires idle { IsIdle seat.old.me }
+        requires idle { SeatIsIdle seat.old.me }
         ensures same { (seat.new.table_id ≡ seat.old.table_id)
             × (result.table_id ≡ seat.old.table_id) }
         ensures parts { Parts seat.old.me seat.new.me result.me }
@@ -171,7 +171,7 @@ impl<L: Law> Wire<L> {
         requires few { length item.packets ≤ 24 }
         requires next { L.next seat.old.me.0.terms seat.old.me.0.seen item }
         ensures same { seat.new.table_id ≡ seat.old.table_id }
-        ensures ok { OnOk result (Adds seat.old.me item seat.new.me) }
+        ensures ok { OnOk result (AddsRecord seat.old.me item seat.new.me) }
         ensures number { IfOk result (λ n. n ≡ length seat.old.me.0.seen + 1) }
         ensures room { OnOk result (length seat.old.me.0.seen < most_events) }
         ensures err { OnErr result (seat.new.me ≡ seat.old.me) }
@@ -193,13 +193,13 @@ impl<L: Law> Wire<L> {
     /// Splits off passes with the first keys, one for each.
     fn deal(&self, alloc: Global, seat: &mut TableSeat, count: usize) -> Result<Vec<Pass>, NoMemory>
         requires own { seat.old.table_id ≡ self.now.id }
-        requires idle { IsIdle seat.old.me }
+        requires idle { SeatIsIdle seat.old.me }
         requires unseen { seat.old.me.0.seen ≡ [] }
         requires count { count ≤ length seat.old.me.0.keys }
         ensures passes { IfOk result (λ v. v.items
             ≡ map (fresh self.now.id seat.old.me.0.terms) (take count seat.old.me.0.keys)) }
         ensures same { seat.new.table_id ≡ seat.old.table_id }
-        ensures idle { IsIdle seat.new.me }
+        ensures idle { SeatIsIdle seat.new.me }
         ensures unseen { seat.new.me.0.seen ≡ [] }
         ensures terms { seat.new.me.0.terms ≡ seat.old.me.0.terms }
         ensures keys { OnOk result (seat.new.me.0.keys ≡ drop count seat.old.me.0.keys) }
@@ -256,8 +256,8 @@ impl<L: Law> Wire<L> {
         requires one { length share.old.keys ≡ 1 }
         ensures pass { Sees pass.old pass.new }
         ensures share { Sees share.old share.new }
-        ensures longer { pass.new.seen ≡ longer pass.old.seen share.old.seen }
-        ensures lawful { Follows (L.next pass.old.terms) pass.new.seen }
+        ensures longer { pass.new.seen ≡ longer_list pass.old.seen share.old.seen }
+        ensures lawful { EachComesNext (L.next pass.old.terms) pass.new.seen }
         ensures both { share.new.seen ≡ pass.new.seen }
         ensures few { length pass.new.seen ≤ most_events }
     {
@@ -281,7 +281,7 @@ impl<L: Law> Wire<L> {
         ensures ok { IfOk result (λ n. Committed
             (L.next pass.old.terms) pass.old share.old item n pass.new share.new) }
         ensures err { OnErr result (Sees pass.old pass.new × Sees share.old share.new) }
-        ensures lawful { Follows (L.next pass.old.terms) pass.new.seen }
+        ensures lawful { EachComesNext (L.next pass.old.terms) pass.new.seen }
         ensures both { share.new.seen ≡ pass.new.seen }
         ensures spent { IfErr result (λ e. e ≡ refusals.Spent
             ↔ (length pass.new.seen ≡ most_events)) }
@@ -301,7 +301,7 @@ impl<L: Law> Wire<L> {
         requires own { pass.old.wire ≡ self.now.id }
         ensures sees { Sees pass.old pass.new }
         ensures letter { result ≡ letter_at (letters_of pass.new.seen) number }
-        ensures lawful { Follows (L.next pass.old.terms) pass.new.seen }
+        ensures lawful { EachComesNext (L.next pass.old.terms) pass.new.seen }
     {
         let mut seat = seat_in(&mut pass.badge);
         self.take(rt, &mut seat);
@@ -317,7 +317,7 @@ impl<L: Law> Wire<L> {
         requires own { pass.old.wire ≡ self.now.id }
         ensures sees { Sees pass.old pass.new }
         ensures value { result ≡ next_for (letters_of pass.new.seen) node after }
-        ensures lawful { Follows (L.next pass.old.terms) pass.new.seen }
+        ensures lawful { EachComesNext (L.next pass.old.terms) pass.new.seen }
     {
         let mut seat = seat_in(&mut pass.badge);
         self.take(rt, &mut seat);
@@ -332,7 +332,7 @@ impl<L: Law> Wire<L> {
         requires own { pass.old.wire ≡ self.now.id }
         ensures sees { Sees pass.old pass.new }
         ensures value { result ≡ stopped_names pass.new.seen }
-        ensures lawful { Follows (L.next pass.old.terms) pass.new.seen }
+        ensures lawful { EachComesNext (L.next pass.old.terms) pass.new.seen }
     {
         let mut seat = seat_in(&mut pass.badge);
         self.take(rt, &mut seat);
@@ -345,11 +345,11 @@ impl<L: Law> Wire<L> {
     /// The journal as it stands at the end: the pass that has all keys has seen all of it.
     pub fn close(self, pass: Pass) -> Journal
         requires own { pass.wire ≡ self.id }
-        requires all { HasAll self.terms.callers pass.keys }
+        requires all { HasEachKey self.terms.callers pass.keys }
         ensures founding { result.founding ≡ self.terms.founding }
         ensures records { result.records ≡ pass.seen }
         ensures callers { All (λ r. r.by.caller < self.terms.callers) pass.seen }
-        ensures lawful { Follows (L.next self.terms) pass.seen }
+        ensures lawful { EachComesNext (L.next self.terms) pass.seen }
     {
         let Pass { badge } = pass;
         let seat = badge.into_seat();

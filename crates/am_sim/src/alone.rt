@@ -34,13 +34,13 @@ pub fn simulate_alone<S: Source, K: Sink>(
     ensures untouched_sink { result ≡ None → sink.new ≡ sink.old }
     ensures usage { IfSome result (λ status. (status ≡ ExitStatus.Usage)
         ↔ (form_of_words words.now ≡ None)) }
-    ensures unread { (Reads (form_of_words words.now) → ⊥) → source.new ≡ source.old }
+    ensures unread { (FormReads (form_of_words words.now) → ⊥) → source.new ≡ source.old }
     ensures generates { Generates (form_of_words words.now) → IfSome result EndsGen }
     ensures took { IfSome result (λ status. Took S.left S.count
-        (most_of (form_of_words words.now)) status source.old source.new) }
+        (most_bytes_of (form_of_words words.now)) status source.old source.new) }
     ensures bad_script { IfSome result (λ status. IfBadScript status (λ cause. (bytes : List ℕ)
         × ReadToEnd (S.left source.old) (S.left source.new) bytes
-        × IsRefused (form_of_words words.now) bytes cause)) }
+        × InputIsRefused (form_of_words words.now) bytes cause)) }
     ensures scripts { IfSome result (λ status. IfBadScript status (λ cause.
         Plays (form_of_words words.now))) }
     ensures plays { IfSome result (λ status. status ≡ ExitStatus.Spent

@@ -44,30 +44,30 @@ pub fn simulate<R: Threads + Wait + Sync, S: Source, K: Sink, G: TestHook + Sync
     sink: &mut K,
 ) -> ExitStatus
     ensures usage { (result ≡ ExitStatus.Usage) ↔ (form_of_words words.now ≡ None) }
-    ensures unread { (Reads (form_of_words words.now) → ⊥) → source.new ≡ source.old }
+    ensures unread { (FormReads (form_of_words words.now) → ⊥) → source.new ≡ source.old }
     ensures generates { Generates (form_of_words words.now) → EndsGen result }
     ensures scripts { IfBadScript result (λ cause. ReadsScript (form_of_words words.now)) }
     ensures plays { result ≡ ExitStatus.Spent → Plays (form_of_words words.now) }
-    ensures reads { S.count source.new ≡ reads_after result (S.count source.old) }
-    ensures writes { K.count sink.new ≡ writes_after result (K.count sink.old) }
+    ensures reads { S.count source.new ≡ source_reads_after result (S.count source.old) }
+    ensures writes { K.count sink.new ≡ sink_writes_after result (K.count sink.old) }
     ensures too_long { result ≡ ExitStatus.TooLong
-        → GaveMore (most_of (form_of_words words.now)) (S.left source.old) (S.left source.new) }
-    ensures within { (IsNode (form_of_words words.now) → ⊥) → result ≢ ExitStatus.TooLong
-        → GaveAtMost (most_of (form_of_words words.now)) (S.left source.old) (S.left source.new) }
+        → GaveMore (most_bytes_of (form_of_words words.now)) (S.left source.old) (S.left source.new) }
+    ensures within { (WordsAskForNode (form_of_words words.now) → ⊥) → result ≢ ExitStatus.TooLong
+        → GaveAtMost (most_bytes_of (form_of_words words.now)) (S.left source.old) (S.left source.new) }
     ensures bad_script { IfBadScript result (λ cause. (bytes : List ℕ)
         × ReadToEnd (S.left source.old) (S.left source.new) bytes
-        × IsRefused (form_of_words words.now) bytes cause) }
+        × InputIsRefused (form_of_words words.now) bytes cause) }
     ensures spent { result ≡ ExitStatus.Spent → (bytes : List ℕ)
         × ReadToEnd (S.left source.old) (S.left source.new) bytes × IsSpent bytes }
     ensures spoken { IfNode (form_of_words words.now) (λ node. Spoken node result
         (S.left source.old) (S.left source.new) (K.contents sink.old) (K.contents sink.new)) }
-    ensures part { (IsNode (form_of_words words.now) → ⊥) → OnWriteFault result ((text : List ℕ)
-        × IsAnswer (form_of_words words.now) (S.left source.old) (S.left source.new) text
-        × WrotePart (K.contents sink.old) (K.contents sink.new) text) }
+    ensures part { (WordsAskForNode (form_of_words words.now) → ⊥) → OnWriteFault result ((text : List ℕ)
+        × IsTextOfForm (form_of_words words.now) (S.left source.old) (S.left source.new) text
+        × WroteTextPart (K.contents sink.old) (K.contents sink.new) text) }
     ensures done { OnDone result ((text : List ℕ)
-        × IsAnswer (form_of_words words.now) (S.left source.old) (S.left source.new) text
+        × IsTextOfForm (form_of_words words.now) (S.left source.old) (S.left source.new) text
         × Appends (K.contents sink.old) (K.contents sink.new) text) }
-    ensures unwritten { (IsNode (form_of_words words.now) → ⊥) → (Writes result → ⊥)
+    ensures unwritten { (WordsAskForNode (form_of_words words.now) → ⊥) → (Writes result → ⊥)
         → sink.new ≡ sink.old }
     ensures bad_text { IfBadText result (λ line. (bytes : List ℕ)
         × ReadToEnd (S.left source.old) (S.left source.new) bytes × (read_text bytes ≡ Err line)) }

@@ -51,8 +51,8 @@ pub fn speak_node<R: Wait, S: Source, K: Sink>(
 ) -> ExitStatus
     ensures spoken { Spoken node.now result (S.left source.old) (S.left source.new)
         (K.contents sink.old) (K.contents sink.new) }
-    ensures reads { S.count source.new ≡ reads_after result (S.count source.old) }
-    ensures writes { K.count sink.new ≡ writes_after result (K.count sink.old) }
+    ensures reads { S.count source.new ≡ source_reads_after result (S.count source.old) }
+    ensures writes { K.count sink.new ≡ sink_writes_after result (K.count sink.old) }
 {
     let end = speak(rt, alloc, node.name, &node.founding, source, sink);
     status_of(end)

@@ -13,7 +13,7 @@ use am_packet_writer::out_box::OutBox;
 #[tactic(auto, unfolding(am_packet::specs::Limits::PacketIsWithin))]
 fn accept(parts: &Parts, polls: bool) -> Packet<'_>
     ensures value { Tells (λ n. accept_of n polls) (node_of parts.now) result }
-    ensures within { IsWithin result }
+    ensures within { PacketIsWithin result }
 {
     packet_from!(parts.core => Accept {
         base: parts.core.log.base(),

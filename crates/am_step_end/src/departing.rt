@@ -30,7 +30,7 @@ fn lead(parts: &mut Parts)
 
 /// The last member numbers its Leave, which is accepted at once, and departs.
 pub fn depart(parts: &mut Parts)
-    requires { MayDepart (node_of parts.old) }
+    requires { LastMayDepart (node_of parts.old) }
     ensures end { IsEndOf (departed (refresh_at_end
         (push_entry (node_of parts.old) (Leave parts.old.core.who)))) (node_of parts.new) }
     ensures nobody { size (others (refresh_at_end

@@ -17,7 +17,7 @@ use am_packet_writer::out_box::OutBox;
 
 /// The answer, with the values that stand now.
 fn answer(parts: &Parts, answer: StepAnswer) -> Outcome
-    ensures { result ≡ answer_of answer (node_of parts.now) }
+    ensures { result ≡ outcome_of_answer answer (node_of parts.now) }
 {
     match answer {
         StepAnswer::Is(outcome) => outcome,
@@ -47,7 +47,7 @@ fn answer(parts: &Parts, answer: StepAnswer) -> Outcome
 /// The end of a step, with what goes out first where that stands before it.
 fn end(parts: &mut Parts, first: &Telling, out: &mut OutBox)
     requires empty { out.old ≡ [] }
-    requires there { IsThere first.now (node_of parts.old) }
+    requires there { StandsAtEnd first.now (node_of parts.old) }
     ensures ended { Ended (is_departure first.now) (node_of parts.old) (node_of parts.new) }
     ensures letters { out.new ≡ early (node_of parts.old) first.now (node_of parts.new) }
     ensures few { length out.new ≤ 8 }

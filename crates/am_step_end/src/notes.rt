@@ -39,7 +39,7 @@ fn bcast<'a>(parts: &Parts, number: u32, entry: &EntryRef<'a>) -> Packet<'a>
     requires number { IsNumber number }
     requires entry { IsEntry entry.now }
     ensures value { result ≡ bcast_of (node_of parts.now) number entry.now }
-    ensures within { IsWithin result }
+    ensures within { PacketIsWithin result }
 {
     packet_from!(parts.core => Bcast {
         base: parts.core.log.base(),
@@ -54,7 +54,7 @@ fn order<'a>(parts: &Parts, number: u32, from: Name, req: u32) -> Packet<'a>
     requires number { IsNumber number }
     requires req { IsNumber req }
     ensures value { result ≡ order_of (node_of parts.now) number from req }
-    ensures within { IsWithin result }
+    ensures within { PacketIsWithin result }
 {
     packet_from!(parts.core => Order {
         base: parts.core.log.base(),
@@ -68,7 +68,7 @@ fn order<'a>(parts: &Parts, number: u32, from: Name, req: u32) -> Packet<'a>
 /// A report.
 pub fn ack<'a>(parts: &Parts) -> Packet<'a>
     ensures value { result ≡ ack_of (node_of parts.now) }
-    ensures within { IsWithin result }
+    ensures within { PacketIsWithin result }
 {
     packet_from!(parts.core => Ack { report: report(parts) })
 }
@@ -76,7 +76,7 @@ pub fn ack<'a>(parts: &Parts) -> Packet<'a>
 /// A report that asks for what comes next.
 fn nack<'a>(parts: &Parts) -> Packet<'a>
     ensures value { result ≡ nack_of (node_of parts.now) }
-    ensures within { IsWithin result }
+    ensures within { PacketIsWithin result }
 {
     packet_from!(parts.core => Nack { report: report(parts) })
 }
@@ -85,7 +85,7 @@ fn nack<'a>(parts: &Parts) -> Packet<'a>
 fn hold<'a>(parts: &Parts, req: u32) -> Packet<'a>
     requires { IsNumber req }
     ensures value { result ≡ hold_of (node_of parts.now) req }
-    ensures within { IsWithin result }
+    ensures within { PacketIsWithin result }
 {
     packet_from!(parts.core => Hold {
         base: parts.core.log.base(),
@@ -97,7 +97,7 @@ fn hold<'a>(parts: &Parts, req: u32) -> Packet<'a>
 /// The node would join.
 fn join_ask<'a>(parts: &Parts) -> Packet<'a>
     ensures value { result ≡ join_ask_of (node_of parts.now) }
-    ensures within { IsWithin result }
+    ensures within { PacketIsWithin result }
 {
     let _top = parts.core.log.top();
     packet_from!(parts.core => JoinAsk {})
@@ -106,7 +106,7 @@ fn join_ask<'a>(parts: &Parts) -> Packet<'a>
 /// A name is welcomed.
 fn welcome(parts: &Parts, name: Name) -> Packet<'_>
     ensures value { result ≡ welcome_of (node_of parts.now) name }
-    ensures within { IsWithin result }
+    ensures within { PacketIsWithin result }
 {
     packet_from!(parts.core => Welcome {
         base: parts.core.log.base(),
@@ -119,7 +119,7 @@ fn welcome(parts: &Parts, name: Name) -> Packet<'_>
 pub fn gone<'a>(parts: &Parts, number: u32) -> Packet<'a>
     requires { IsNumber number }
     ensures value { result ≡ gone_of (node_of parts.now) number }
-    ensures within { IsWithin result }
+    ensures within { PacketIsWithin result }
 {
     let _top = parts.core.log.top();
     packet_from!(parts.core => Gone { number })
@@ -128,7 +128,7 @@ pub fn gone<'a>(parts: &Parts, number: u32) -> Packet<'a>
 /// The node would leave.
 fn leave_ask<'a>(parts: &Parts) -> Packet<'a>
     ensures value { result ≡ leave_ask_of (node_of parts.now) }
-    ensures within { IsWithin result }
+    ensures within { PacketIsWithin result }
 {
     packet_from!(parts.core => LeaveAsk { report: report(parts) })
 }
@@ -136,7 +136,7 @@ fn leave_ask<'a>(parts: &Parts) -> Packet<'a>
 /// An Invite to the ballot that the node has promised.
 fn invite<'a>(parts: &Parts) -> Packet<'a>
     ensures value { result ≡ invite_of (node_of parts.now) }
-    ensures within { IsWithin result }
+    ensures within { PacketIsWithin result }
 {
     let _top = parts.core.log.top();
     packet_from!(parts.core => Invite {})
@@ -145,7 +145,7 @@ fn invite<'a>(parts: &Parts) -> Packet<'a>
 /// What the node shows in a ballot.
 fn vote<'a>(parts: &Parts) -> Packet<'a>
     ensures value { result ≡ vote_of (node_of parts.now) }
-    ensures within { IsWithin result }
+    ensures within { PacketIsWithin result }
 {
     packet_from!(parts.core => Vote { vote: own_vote(parts) })
 }
@@ -153,7 +153,7 @@ fn vote<'a>(parts: &Parts) -> Packet<'a>
 /// A Fetch of what comes next.
 pub fn fetch<'a>(parts: &Parts) -> Packet<'a>
     ensures value { result ≡ fetch_of (node_of parts.now) }
-    ensures within { IsWithin result }
+    ensures within { PacketIsWithin result }
 {
     packet_from!(parts.core => Fetch { stored: parts.core.log.top() })
 }
@@ -161,7 +161,7 @@ pub fn fetch<'a>(parts: &Parts) -> Packet<'a>
 /// The sequencer leaves.
 fn hand_over<'a>(parts: &Parts) -> Packet<'a>
     ensures value { result ≡ hand_over_of (node_of parts.now) }
-    ensures within { IsWithin result }
+    ensures within { PacketIsWithin result }
 {
     let _top = parts.core.log.top();
     packet_from!(parts.core => HandOver {})
@@ -172,7 +172,7 @@ pub fn result<'a>(parts: &Parts, number: u32, members: Names, resilience: u8) ->
     requires number { IsNumber number }
     requires resilience { resilience ≤ 15 }
     ensures value { result ≡ result_of (node_of parts.now) number members resilience }
-    ensures within { IsWithin result }
+    ensures within { PacketIsWithin result }
 {
     Packet::Result {
         sender: parts.core.who,
@@ -190,7 +190,7 @@ pub fn result<'a>(parts: &Parts, number: u32, members: Names, resilience: u8) ->
 fn request<'a>(parts: &Parts, req: u32, body: &'a Body) -> Packet<'a>
     requires { IsNumber req }
     ensures value { result ≡ request_of (node_of parts.now) req body.now }
-    ensures within { IsWithin result }
+    ensures within { PacketIsWithin result }
 {
     packet_from!(parts.core => Request { report: report(parts), req, body: body.as_ref() })
 }
@@ -199,7 +199,7 @@ fn request<'a>(parts: &Parts, req: u32, body: &'a Body) -> Packet<'a>
 fn spread<'a>(parts: &Parts, req: u32, body: &'a Body) -> Packet<'a>
     requires { IsNumber req }
     ensures value { result ≡ spread_of (node_of parts.now) req body.now }
-    ensures within { IsWithin result }
+    ensures within { PacketIsWithin result }
 {
     packet_from!(parts.core => Spread { report: report(parts), req, body: body.as_ref() })
 }
@@ -209,7 +209,7 @@ fn own_bcast<'a>(parts: &Parts, number: u32, req: u32, body: &'a Body) -> Packet
     requires number { IsNumber number }
     requires req { IsNumber req }
     ensures value { result ≡ bcast_of (node_of parts.now) number (Data parts.now.core.who req body.now) }
-    ensures within { IsWithin result }
+    ensures within { PacketIsWithin result }
 {
     let entry = EntryRef::of(EntryParts::Data {
         from: parts.core.who,
@@ -224,7 +224,7 @@ pub fn own_packet<'a>(parts: &Parts, letter: OwnLetter, send: &'a WaitingSend) -
     requires letter { IsOwnWithin letter }
     requires req { IsNumber send.now.req }
     ensures value { result ≡ own_packet letter (send.now.req, send.now.body) (node_of parts.now) }
-    ensures within { IsWithin result }
+    ensures within { PacketIsWithin result }
 {
     match letter {
         OwnLetter::Request => request(parts, send.req, &send.body),
@@ -237,7 +237,7 @@ pub fn own_packet<'a>(parts: &Parts, letter: OwnLetter, send: &'a WaitingSend) -
 pub fn packet<'a>(parts: &'a Parts, note: &Note<'a>) -> Packet<'a>
     requires { IsNoteWithin note.now }
     ensures value { result ≡ packet_of note.now (node_of parts.now) }
-    ensures within { IsWithin result }
+    ensures within { PacketIsWithin result }
 {
     match note {
         Note::Bcast { number, entry } => bcast(parts, *number, entry),

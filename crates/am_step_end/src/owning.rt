@@ -16,7 +16,7 @@ use am_packet_writer::out_box::OutBox;
 pub fn hand_out(parts: &mut Parts, to: Names, letter: OwnLetter, out: &mut OutBox)
     requires empty { out.old ≡ [] }
     requires within { IsOwnWithin letter }
-    ensures changes { Changes refresh_at_end (node_of parts.old) (node_of parts.new) }
+    ensures changes { ChangesAllAlike refresh_at_end (node_of parts.old) (node_of parts.new) }
     ensures letters { out.new ≡ own_letters to letter (waiting_send parts.old.sender)
         (node_of parts.new) }
     ensures few { length out.new ≤ 8 }

@@ -60,8 +60,8 @@ fn copies(parts: &Parts, stored: u32) -> ArrayVec<Entry, 8>
 fn packet_of<'a>(parts: &Parts, pieces: bool, number: u32, entry: EntryRef<'a>) -> Packet<'a>
     requires number { IsNumber number }
     requires entry { IsEntry entry }
-    ensures value { result ≡ entry_of pieces (node_of parts.now) number entry.entry }
-    ensures within { IsWithin result }
+    ensures value { result ≡ packet_of_entry pieces (node_of parts.now) number entry.entry }
+    ensures within { PacketIsWithin result }
 {
     if pieces {
         return packet_from!(parts.core => Piece { base: parts.core.log.base(), number, entry });
@@ -81,7 +81,7 @@ fn tell_entries(parts: &Parts, served: &Served, entries: &[Entry], out: &mut Out
     requires few { length entries.now ≤ 8 }
     requires within { All IsEntry entries.now }
     requires numbers { served.now.stored + length entries.now ≤ most_number }
-    ensures letters { out.new ≡ put_all (entry_of served.now.pieces (node_of parts.now))
+    ensures letters { out.new ≡ put_all (packet_of_entry served.now.pieces (node_of parts.now))
         (only_name served.now.to) (served.now.stored + 1) entries.now [] }
     ensures few { length out.new ≤ 8 }
 {
@@ -98,8 +98,8 @@ fn tell_entries(parts: &Parts, served: &Served, entries: &[Entry], out: &mut Out
 pub fn serve(parts: &mut Parts, to: Name, stored: u32, pieces: bool, out: &mut OutBox)
     requires empty { out.old ≡ [] }
     requires there { MayGive stored (node_of parts.old) }
-    ensures changes { Changes refresh_at_end (node_of parts.old) (node_of parts.new) }
-    ensures letters { out.new ≡ put_all (entry_of pieces (node_of parts.new)) (only_name to) (stored + 1)
+    ensures changes { ChangesAllAlike refresh_at_end (node_of parts.old) (node_of parts.new) }
+    ensures letters { out.new ≡ put_all (packet_of_entry pieces (node_of parts.new)) (only_name to) (stored + 1)
         (entries_to_serve (node_of parts.old) stored) [] }
     ensures few { length out.new ≤ 8 }
 {

@@ -192,9 +192,9 @@ fn written(alloc: Global, founding: &Founding, events: &[Event]) -> Result<Strin
 #[tactic(auto, using(am_script_defs::proofs::Again::script_read_from_its_text))]
 pub fn script_text(alloc: Global, founding: &Founding, events: &[Event]) -> Result<String, NoMemory>
     ensures text { IfOk result (λ text. string_bytes text ≡ script_text founding.now events.now) }
-    ensures again { IfOk result (λ text. IsWithin founding.now events.now
+    ensures again { IfOk result (λ text. ScriptIsWithin founding.now events.now
         → AreOfBytes events.now
-        → reading (string_bytes text) ≡ Ok (script_of founding.now events.now false)) }
+        → script_reading (string_bytes text) ≡ Ok (script_of founding.now events.now false)) }
 {
     let text = written(alloc, founding, events)?;
     Ok(text)

@@ -44,7 +44,7 @@ fn name_at(place: u8, life: u8) -> Name
 /// A name: its place, and a life other than the first behind a slash.
 #[tactic(auto, unfolding(am_text_defs::specs::Fields::name_in_text))]
 pub fn name(word: &[u8]) -> Result<Name, FieldFault>
-    ensures { result ≡ name_of word.now }
+    ensures { result ≡ name_in_text word.now }
 {
     let (first, rest) = cut(word, b'/');
     let place = place(first)?;
@@ -57,7 +57,7 @@ pub fn name(word: &[u8]) -> Result<Name, FieldFault>
 #[tactic(auto, unfolding(am_text_defs::specs::Fields::stamp_in_text))]
 /// A stamp: its round and its name, with a dot between them.
 pub fn stamp(word: &[u8]) -> Result<Stamp, FieldFault>
-    ensures { result ≡ stamp_of word.now }
+    ensures { result ≡ stamp_in_text word.now }
 {
     let (first, rest) = cut(word, b'.');
     let round = number(first)?;
@@ -67,7 +67,7 @@ pub fn stamp(word: &[u8]) -> Result<Stamp, FieldFault>
 
 /// The set with the names of a text, of which each has this place or one above it, and above those before it.
 fn names_onto(least: u8, set: Names, text: &[u8]) -> Result<Names, FieldFault>
-    ensures { result ≡ names_onto least set (parts_of 44 text.now) }
+    ensures { result ≡ names_onto least set (split_text 44 text.now) }
 {
     let (first, rest) = cut(text, b',');
     let name = name(first)?;
@@ -83,7 +83,7 @@ fn names_onto(least: u8, set: Names, text: &[u8]) -> Result<Names, FieldFault>
 #[tactic(auto, unfolding(am_text_defs::specs::Fields::names_in_text))]
 /// A set of names: ascending by place, one life of each, with commas between them; or a dash for nobody.
 pub fn names(word: &[u8]) -> Result<Names, FieldFault>
-    ensures { result ≡ names_of word.now }
+    ensures { result ≡ names_in_text word.now }
 {
     if word == b"-".as_slice() {
         return Ok(Names::empty());

@@ -60,7 +60,7 @@ pub fn number_up_to(word: &[u8], most: u32) -> Result<u32, FieldFault>
 
 /// A number of an entry, a round or a request, 0 to 2,000,000,000.
 pub fn number(word: &[u8]) -> Result<u32, FieldFault>
-    ensures value { result ≡ number_of word.now }
+    ensures value { result ≡ number_in_text word.now }
     ensures within { IfOk result (λ number. number ≤ most_number) }
 {
     number_up_to(word, MOST_NUMBER)

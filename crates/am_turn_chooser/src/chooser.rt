@@ -9,7 +9,7 @@ use std::marker::Model;
 
 /// What a word below 100 chooses where a letter is ahead.
 fn turn_by(loss: u32, repeat: u32, word: u32, ahead: u32, last: Option<u32>) -> Choice
-    ensures { result ≡ turn_by loss repeat word ahead last }
+    ensures { result ≡ choice_by loss repeat word ahead last }
 {
     if word < loss {
         return Choice::Lose(ahead);
@@ -40,7 +40,7 @@ impl Model for Chooser {
 impl Chooser {
     /// A chooser that draws the words of a seed and a stream, loses so many letters of a hundred and repeats so many more.
     pub fn new(seed: u64, stream: u64, loss: u32, repeat: u32) -> Chooser
-        ensures { result ≡ record { words = words_of seed stream; loss = loss; repeat = repeat } }
+        ensures { result ≡ record { words = words_by_seed seed stream; loss = loss; repeat = repeat } }
     {
         Chooser {
             words: Lcg64Xsh32::new(seed, stream),

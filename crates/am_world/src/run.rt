@@ -196,7 +196,7 @@ impl Run {
         requires name { name ≡ current (replay self.old) (place_of event.now.node) }
         requires comes { happens (replay self.old) event.now
             ≡ with_record (replay self.old) event.now outcome }
-        ensures ok { OnOk result (self.new ≡ after self.old event.now) }
+        ensures ok { OnOk result (self.new ≡ play_after self.old event.now) }
         ensures one { OnOk result (IsOneMore self.old event.now) }
         ensures err { OnErr result (self.new ≡ self.old) }
     {
@@ -210,7 +210,7 @@ impl Run {
     /// Records that a name has stopped.
     fn stop(&mut self, event: &Event, name: Name) -> Result<(), NoMemory>
         requires { MayAnswer self.old event.now name said.Stopped }
-        ensures ok { OnOk result (self.new ≡ after self.old event.now) }
+        ensures ok { OnOk result (self.new ≡ play_after self.old event.now) }
         ensures one { OnOk result (IsOneMore self.old event.now) }
         ensures err { OnErr result (self.new ≡ self.old) }
     {
@@ -225,7 +225,7 @@ impl Run {
     /// A place goes on with its next life: the node of the one before is let go, and a fresh one takes its place.
     fn come_back(&mut self, event: &Event, name: Name, life: u8) -> Result<(), NoMemory>
         requires { MayAnswer self.old event.now name (said.Returned life) }
-        ensures ok { OnOk result (self.new ≡ after self.old event.now) }
+        ensures ok { OnOk result (self.new ≡ play_after self.old event.now) }
         ensures one { OnOk result (IsOneMore self.old event.now) }
         ensures err { OnErr result (self.new ≡ self.old) }
     {
@@ -242,7 +242,7 @@ impl Run {
     /// Records an event that is no step of a node.
     pub fn answer(&mut self, event: &Event, name: Name, outcome: Outcome) -> Result<(), NoMemory>
         requires { MayAnswer self.old event.now name outcome }
-        ensures ok { OnOk result (self.new ≡ after self.old event.now) }
+        ensures ok { OnOk result (self.new ≡ play_after self.old event.now) }
         ensures one { OnOk result (IsOneMore self.old event.now) }
         ensures err { OnErr result (self.new ≡ self.old) }
     {
@@ -259,7 +259,7 @@ impl Run {
         requires name { name ≡ current (replay self.old) (place_of event.now.node) }
         requires comes { happens (replay self.old) event.now
             ≡ comes (replay self.old) event.now (Ok what.now) }
-        ensures ok { OnOk result (self.new ≡ after self.old event.now) }
+        ensures ok { OnOk result (self.new ≡ play_after self.old event.now) }
         ensures one { OnOk result (IsOneMore self.old event.now) }
         ensures err { OnErr result (self.new ≡ self.old) }
     {

@@ -37,9 +37,9 @@ fn letter_count(world: &World) -> u32
 /// An act of a place, where it is to be done.
 fn act_where(world: &mut World, is_due: bool, act: Act, place: u8) -> Result<(), WorldRefusal>
     requires { place < 16 }
-    ensures ok { OnOk result (Did (act_at is_due act place) world.old world.new) }
+    ensures ok { OnOk result (Did (passing_act_at is_due act place) world.old world.new) }
     ensures err { IfErr result (λ refusal. Stuck
-        (act_at is_due act place) world.old world.new refusal) }
+        (passing_act_at is_due act place) world.old world.new refusal) }
 {
     if !is_due {
         return Ok(());

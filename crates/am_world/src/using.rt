@@ -27,7 +27,7 @@ impl World {
     /// The current name of a place takes the next entry, and this is it, with its number; None exactly where it was given none. After
     /// a refusal all is as it was. It is Spent exactly where 100,000 events were done.
     pub fn take(&mut self, place: Name) -> Result<Option<(u32, Entry)>, WorldRefusal>
-        ensures ok { OnOk result (self.new ≡ after self.old (event_at place acts.Take)) }
+        ensures ok { OnOk result (self.new ≡ play_after self.old (event_at place acts.Take)) }
         ensures given { IfOk result (λ taken. deliveries (replay self.new).records (current (replay self.old) (place_of place))
             ≡ deliveries (replay self.old).records (current (replay self.old) (place_of place))
             ++ option_to_list taken) }

@@ -177,7 +177,7 @@ impl World {
     /// An event that is no step of a node: a name has stopped, or nothing changed that is watched.
     fn answer(&mut self, event: &Event, name: Name, outcome: Outcome) -> Result<(), NoMemory>
         requires { MayAnswer self.old event.now name outcome }
-        ensures ok { OnOk result (self.new ≡ after self.old event.now) }
+        ensures ok { OnOk result (self.new ≡ play_after self.old event.now) }
         ensures one { OnOk result (IsOneMore self.old event.now) }
         ensures err { OnErr result (self.new ≡ self.old) }
     {
@@ -190,7 +190,7 @@ impl World {
 
     /// Does an event. After a refusal all is as it was. It is Spent exactly where 100,000 events were done.
     pub fn step(&mut self, event: &Event) -> Result<(), WorldRefusal>
-        ensures ok { OnOk result (self.new ≡ after self.old event.now) }
+        ensures ok { OnOk result (self.new ≡ play_after self.old event.now) }
         ensures one { OnOk result (IsOneMore self.old event.now) }
         ensures spent { (result ≡ Err WorldRefusal.Spent) ↔ (length self.old.events ≡ most_events) }
         ensures err { OnErr result (self.new ≡ self.old) }

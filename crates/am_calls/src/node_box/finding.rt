@@ -36,7 +36,7 @@ impl<N: Racing> NodeBox<N> {
     fn in_vain<R: Wait>(&mut self, rt: &R, wire: &Wire<RaceLaw>) -> Option<Name>
         requires own { wire.now.id ≡ N.wire }
         requires open_ { self.old.closed ≡ None }
-        ensures looks { Looks self.old self.new }
+        ensures looks { BoxLooks self.old self.new }
         ensures some { IfSome result (GivesUp N.plan self.new.seen self.new.name) }
         ensures none { IfNone result (waits_in_vain
             (node_by N.plan self.new.seen self.new.name) self.new.seen ≡ false) }
@@ -52,7 +52,7 @@ impl<N: Racing> NodeBox<N> {
         requires own { wire.now.id ≡ N.wire }
         requires open_ { self.old.closed ≡ None }
         requires sent { IsSent self.old.seen self.old.name number }
-        ensures looks { Looks self.old self.new }
+        ensures looks { BoxLooks self.old self.new }
         ensures hears { Hears self.new.seen self.new.name number (Some result) }
     {
         match wire.read(rt, &mut self.pass, number) {
@@ -70,7 +70,7 @@ impl<N: Racing> NodeBox<N> {
         requires open_ { self.old.closed ≡ None }
         requires sent { (number : ℕ) → heard_in choice ≡ Some number
             → IsSent self.old.seen self.old.name number }
-        ensures looks { Looks self.old self.new }
+        ensures looks { BoxLooks self.old self.new }
         ensures act_ { result.act ≡ act_of choice }
         ensures lost_ { result.lost ≡ lost_in choice }
         ensures hears { (number : ℕ) → heard_in choice ≡ Some number
@@ -99,7 +99,7 @@ impl<N: Racing> NodeBox<N> {
     fn choose<R: Wait>(&mut self, rt: &R, wire: &Wire<RaceLaw>, chooser: &mut Chooser) -> FoundTurn
         requires own { wire.now.id ≡ N.wire }
         requires open_ { self.old.closed ≡ None }
-        ensures looks { Looks self.old self.new }
+        ensures looks { BoxLooks self.old self.new }
         ensures picked { Picked chooser.old self.old.name self.old.seen self.new.seen result.act
             result.lost }
         ensures hears { (number : ℕ) → result.act ≡ acts.Hear number
@@ -117,7 +117,7 @@ impl<N: Racing> NodeBox<N> {
     fn find<R: Wait>(&mut self, rt: &R, wire: &Wire<RaceLaw>, chooser: &mut Chooser) -> FoundTurn
         requires own { wire.now.id ≡ N.wire }
         requires open_ { self.old.closed ≡ None }
-        ensures looks { Looks self.old self.new }
+        ensures looks { BoxLooks self.old self.new }
         ensures found { Found N.plan chooser.old self.old.name self.old.seen self.new.seen
             result.act result.lost }
         ensures drawn { chooser.new ≡ luck_behind chooser.old result.act result.lost }
@@ -145,16 +145,16 @@ impl<N: Racing> NodeBox<N> {
         requires open_ { self.old.closed ≡ None }
         requires share { IsShareOf N.wire N.plan visit.now.tag.caller share.old }
         requires met { share.old.seen ≡ self.old.seen }
-        requires luck { chooser.old ≡ luck_after N.plan visit.now.tag.caller
+        requires luck { chooser.old ≡ caller_luck_after N.plan visit.now.tag.caller
             (words_drawn visit.now.tag.caller self.old.seen) }
         requires unready { is_ready (node_by N.plan self.old.seen self.old.name)
             (own_of (of_call visit.now.tag.caller visit.now.tag.call self.old.seen)) ≡ false }
-        ensures looks { Looks self.old self.new }
+        ensures looks { BoxLooks self.old self.new }
         ensures share { Sees share.old share.new }
         ensures met { share.new.seen ≡ self.new.seen }
         ensures few { length self.new.seen ≤ most_events }
         ensures turn { is_turn (plan_by (terms_of N.plan)) self.new.seen
-            (event_at self.old.name result.act)
+            (turn_event_at self.old.name result.act)
             (turn_by visit.now.tag.caller visit.now.tag.call result.lost) ≡ true }
         ensures hears { (number : ℕ) → result.act ≡ acts.Hear number
             → Hears self.new.seen self.new.name number result.letter }
@@ -169,7 +169,7 @@ impl<N: Racing> NodeBox<N> {
     fn has_letter<R: Wait>(&mut self, rt: &R, wire: &Wire<RaceLaw>) -> bool
         requires own { wire.now.id ≡ N.wire }
         requires open_ { self.old.closed ≡ None }
-        ensures looks { Looks self.old self.new }
+        ensures looks { BoxLooks self.old self.new }
     {
         let ahead = wire.next_for(rt, &mut self.pass, self.name, self.cursor);
         ahead.is_some()

@@ -90,7 +90,7 @@ module _ (v : World) (i : ℕ) (n : Node) (s : Group) (h : SequencerMayLetGo v i
   abbrev list : List Entry
   list = (s.node i).list
 
-  open on_chain v i n s h.speaks h.leads use {chain, good, group_in}
+  open sequencer_list_is_chain v i n s h.speaks h.leads use {chain, good, group_in}
 
   front : Begins before list
   front = begins_trans (begins_append before (Leave name ∷ [])) part

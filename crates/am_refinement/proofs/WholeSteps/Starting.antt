@@ -241,7 +241,7 @@ module _ (rules : Rules) (events : List Event) (e : Event) (c : Cause) (step : S
     (runs : is_stopped (run rules events) (actor (run rules events) e) ≡ false) (cause : IsCause (run rules events) (actor (run rules events) e) e.act c)
     (effect : Effect ((run rules events).nodes (actor (run rules events) e)) c step) (h : Following rules (run rules events) s)
     (here : has_departed ((run rules events).nodes (actor (run rules events) e)).status ≡ false) where
-  open acting rules events e use {w, name, m}
+  open acting_node_of_event rules events e use {w, name, m}
 
   -- with the step's record
   abbrev pub world_with_step_record : World

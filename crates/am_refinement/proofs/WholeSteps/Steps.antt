@@ -177,7 +177,7 @@ sends_so m n P low (was_bare welcomed other up) f = f up (just_begun (welcomed_n
 module _ (rules : Rules) (events : List Event) (e : Event) (c : Cause) (s : Group) (may : MayFound rules)
     (runs : is_stopped (run rules events) (actor (run rules events) e) ≡ false) (cause : IsCause (run rules events) (actor (run rules events) e) e.act c)
     (h : Following rules (run rules events) s) where
-  open acting rules events e use {w, name, m}
+  open acting_node_of_event rules events e use {w, name, m}
 
   few : name < 256
   few = actor_is_below_256 rules w e (run_trims_only_taken rules events may).blanks.base.named

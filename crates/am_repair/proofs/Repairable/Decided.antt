@@ -8,8 +8,8 @@ use Rattle.am_repair.proofs.Repairable.Mailed.{said_letter_has_low_base}
 module _ (rules : Rules) (events : List Event) (e : Event) (c : Cause) (step : Step) (s t : Group) (x : TrimStepWithGroup rules events e c step s t)
     (leads : is_sequencer step.node ≡ true)
     (above : stamp_lt (view ((run rules events).nodes (actor (run rules events) e))) (view step.node) ≡ true) where
-  open parts rules events e step use {w, i, m, n, v}
-  open plain x.goes use {few as small_i, node_v as at_i, others_v, run_v}
+  open parts_of_one_step rules events e step use {w, i, m, n, v}
+  open one_step_grows_group x.goes use {few as small_i, node_v as at_i, others_v, run_v}
 
   own : (view n).by ≡ i
   own =

@@ -17,8 +17,8 @@ use Rattle.am_repair.proofs.Repairable.Trims as trims
 -- ---- a step
 
 module _ (rules : Rules) (events : List Event) (e : Event) (c : Cause) (step : Step) (s t : Group) (x : TrimStepWithGroup rules events e c step s t) where
-  open parts rules events e step use {w, i, m, n, v}
-  open plain x.goes use {few as few_i, kept_t, node_v as here, others_v as there}
+  open parts_of_one_step rules events e step use {w, i, m, n, v}
+  open one_step_grows_group x.goes use {few as few_i, kept_t, node_v as here, others_v as there}
 
   came_n : acts n ≡ true → CameToActInView c m n
   came_n = trims.acting_after_step_came rules events e c step s t x

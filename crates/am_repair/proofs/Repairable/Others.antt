@@ -13,8 +13,8 @@ use Rattle.am_repair.proofs.Repairable.One.{one_sequencer_runs}
 module _ (rules : Rules) (events : List Event) (e : Event) (c : Cause) (step : Step) (s t : Group) (x : TrimStepWithGroup rules events e c step s t)
     (q : ℕ) (few_q : q < 256) (other : (q == actor (run rules events) e) ≡ false) (leads : is_sequencer ((run rules events).nodes q) ≡ true)
     (runs_q : is_stopped (run rules events) q ≡ false) where
-  open parts rules events e step use {w, i, m, n, v}
-  open plain x.goes use {few, kept_t, node_v as at_i, others_v}
+  open parts_of_one_step rules events e step use {w, i, m, n, v}
+  open one_step_grows_group x.goes use {few, kept_t, node_v as at_i, others_v}
 
   at_q : v.nodes q ≡ w.nodes q
   at_q = others_v q other

@@ -28,8 +28,8 @@ join_or_none _ = inr (λ s v is. absurd (cc))
 module _ (rules : Rules) (events : List Event) (e : Event) (c : Cause) (step : Step) (s t : Group) (x : TrimStepWithGroup rules events e c step s t)
     (leads : is_sequencer ((run rules events).nodes (actor (run rules events) e)) ≡ true)
     (same : view step.node ≡ view ((run rules events).nodes (actor (run rules events) e))) where
-  open parts rules events e step use {w, i, m, n, v}
-  open plain x.goes use {few as few_i, kept_s, node_v as here, others_v as there}
+  open parts_of_one_step rules events e step use {w, i, m, n, v}
+  open one_step_grows_group x.goes use {few as few_i, kept_s, node_v as here, others_v as there}
 
   was : SequencerTrimmedTaken w i
   was = x.trims.settles i few_i leads x.runs

@@ -52,8 +52,8 @@ pub data LetterWasSentByStep (w : World) (m n : Node) (c : Cause) (l : Letter) :
   now : LetterSays m c n l → LetterWasSentByStep w m n c l
 
 module _ (rules : Rules) (events : List Event) (e : Event) (c : Cause) (step : Step) (s t : Group) (x : TrimStepWithGroup rules events e c step s t) where
-  open parts rules events e step use {w, i, m, n, v}
-  open plain x.goes use {few, kept_s, node_v}
+  open parts_of_one_step rules events e step use {w, i, m, n, v}
+  open one_step_grows_group x.goes use {few, kept_s, node_v}
 
   pub world_before_keeps_laws : WorldTrimsOnlyTaken rules w
   world_before_keeps_laws = run_trims_only_taken rules events x.may

@@ -115,9 +115,9 @@ departed_low m n letters (closing {x = x} ev call course leads leaves alone room
 
 module _ (rules : Rules) (events : List Event) (e : Event) (c : Cause) (step : Step) (s t : Group) (one : OneStepWithGroup rules events e c step s t)
     (h : AcceptedIsUpheld (run rules events) s) where
-  open parts rules events e step use {w, i, m, n, v}
+  open parts_of_one_step rules events e step use {w, i, m, n, v}
   open one use {step_.{may, runs, cause, effect}, old, path, grows, shaped, new}
-  open plain one use {few, kept_s, kept_t, opens_t, node_v, others_v, group_v, node_run, stands_n, group_grows}
+  open one_step_grows_group one use {few, kept_s, kept_t, opens_t, node_v, others_v, group_v, node_run, stands_n, group_grows}
 
   -- nobody accepts less than it did
   acc_up : (j : ℕ) → has_log (w.nodes j).status ≡ true → (w.nodes j).core.acc ≤ (v.nodes j).core.acc

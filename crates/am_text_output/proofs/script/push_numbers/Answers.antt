@@ -11,5 +11,5 @@ returns c = rw (
   ← c.resilience-resilience.ensures,
   ← c.window-window.ensures.value,
 ) (on_ok_weaker c.write-3.result
-    (λ h. three (string_bytes c.args.out.now) (string_bytes c.write.new.self) (string_bytes c.write-2.new.self)
+    (λ h. text_after_three_writes (string_bytes c.args.out.now) (string_bytes c.write.new.self) (string_bytes c.write-2.new.self)
     (string_bytes c.write-3.new.self) _ _ _ c.in_ok-write.ensures.bytes c.in_ok-write-2.ensures.bytes h) c.write-3.ensures.bytes)

@@ -19,5 +19,5 @@ pub returns-in-Some-clause-list : goal.returns-in-Some-clause-list
 returns-in-Some-clause-list c = rw (
   c.pop_front.ensures.items,
   ← c.self.view_is,
-) (list_pop c.self.inside.base c.self.inside.below c.apply.new.self c.self.inside.ring.items c.in-Some.slot.now (sym c.in-Some.ensures)
+) (list_of_ring_without_first c.self.inside.base c.self.inside.below c.apply.new.self c.self.inside.ring.items c.in-Some.slot.now (sym c.in-Some.ensures)
     (c.apply.ensures.value ∙ ap (after c.self.inside.below (c.self.inside.base + 1)) c.as_ref.ensures))
