@@ -17,11 +17,11 @@ import re
 import sys
 from dataclasses import dataclass, field
 
-from node import NAME
-
 KINDS = (
     "Request Spread Bcast Order Accept Ack Nack Hold JoinAsk Welcome LeaveAsk Gone Invite Vote Fetch Piece Result HandOver"
 ).split()
+# a name: PLACE, or PLACE/LIFE for a place that came back
+NAME = re.compile(r"(?:[0-9]|1[0-5])(?:/(?:[2-9]|1[0-6]))?")
 CALLS = {"take", "join", "leave", "state", "tick"}
 COUNTS = 6
 # the first line of a journal: its name, the founders, and the founding's three numbers

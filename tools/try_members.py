@@ -1,102 +1,70 @@
-"""Tries what members of net/udp.py tell of each other, and what comes of a group in which some have stopped: a name's second process, wrong
-keys, a frozen member, stops beyond the resilience, ballots that go on, sends over a reset, and a joiner that isn't welcomed.
+"""Tries what members of muoswyldd tell of each other, and what comes of a group in which some have stopped: a frozen member, stops beyond the
+resilience, who resets and when, sends over a reset, a member that is left out, and a joiner that isn't welcomed.
 
-    python3 tools/try_members.py PROGRAM
+    python3 tools/try_members.py PROGRAM [MEMBER]
 
-PROGRAM is the command whose words `node` and `play` are run. Each part ends by itself, within some seconds. It prints what fails, and
-how many parts passed.
+PROGRAM is the command whose word `play` is run, MEMBER the one whose word `run` is a member, if it isn't the one that is built here. Each
+part ends by itself, within some seconds. It prints what fails, and how many parts passed.
 """
 
-import argparse
-import contextlib
-import io
-import os
 import re
-import shlex
 import signal
-import subprocess
-import sys
+import time
 
-from try_net import TOP, Quiet, Tried, try_parts
+from try_net import SOON, Process, Tried, end, letters_of, try_parts
 
-from node import Node  # noqa: E402
-from udp import Journal, Member  # noqa: E402
+from merge import KINDS  # noqa: E402
+from relay import Faults, Relay  # noqa: E402
 
-
-def second_process(tried: Tried) -> list[str]:
-    """A name that runs again in a second process is dropped and told, once, by who heard the first one; its place's next life isn't."""
-    members = {name: tried.start("net/udp.py", name) for name in ("0", "1", "2")}
-    members["0"].tell("hello")
-    wrong = [f"{name} wasn't given it" for name in ("1", "2") if not members[name].wants("2 0: hello")]
-    members["0"].kill()
-    os.unlink(tried.journal("0"))
-    again = tried.start("net/udp.py", "0")
-    told = "udp.py: what comes of place 0 is dropped: it is of a second process with the name 0; end it, and let its place come back as its"
-    wrong += [f"{name} doesn't tell of it" for name in ("1", "2") if not members[name].wants(f"{told} next life", 10)]
-    again.kill()
-    for name in ("1", "2"):
-        members[name].tell("stopped 0")
-    lines = members["2"].until("3 view 2.1 1,2")
-    members["0/2"] = tried.start("net/udp.py", "0/2")
-    lines += members["2"].until("4 join 0/2")
-    members["1"].tell("on")
-    lines += members["2"].until("5 1: on")
-    if lines[-1:] != ["5 1: on"] or any("dropped" in line for line in lines) or not members["0/2"].wants("5 1: on"):
-        wrong.append(f"its next life: {lines}")
-    statuses = [members[name].end() for name in ("1", "2", "0/2")]
-    return wrong + ([] if statuses == [0, 0, 0] else [f"they ended with {statuses}"])
+BEYOND = "2 members of a view have stopped, more than its resilience: nothing is claimed of this run from here on"
+RESETS = "a member has stopped: this one resets the group"
 
 
-def wrong_keys(tried: Tried) -> list[str]:
-    """Of a key that isn't the same, of one that isn't there, and of another run both sides tell, also who is sent nothing else."""
-    (tried.folder / "key").write_bytes(b"a key of these three")
-    (tried.folder / "other").write_bytes(b"another key")
-    keyed, wrong = tried.start("net/udp.py", "0", "--founders", "0", "--key", str(tried.folder / "key")), []
-    unsigned = "isn't signed with this key"
-    other = "is of another group: --run, --founders, --resilience, --window or --pb-up-to differs, or --key"
-    cases = (
-        ("1", ["--key", str(tried.folder / "other")], unsigned, unsigned),
-        ("2", [], unsigned, other),
-        ("1/2", ["--key", str(tried.folder / "key"), "--run", "two"], other, other),
-    )
-    for name, more, told, tells in cases:
-        member = tried.start("net/udp.py", name, "--founders", "0", *more)
-        if not keyed.wants(f"udp.py: what comes of place {name[0]} is dropped: it {told}", 5):
-            wrong.append(f"0 doesn't tell of {name}")
-        if not member.wants(f"udp.py: what comes of place 0 is dropped: it {tells}", 5):
-            wrong.append(f"{name} doesn't tell of 0")
-        member.kill()
-    return wrong + ([] if keyed.end() == 0 else ["an end"])
+def ended(members: dict[str, Process], wanted: int = 0) -> list[str]:
+    """Ends members' inputs; what is wrong, where one has another status."""
+    statuses = {name: member.end() for name, member in members.items()}
+    return [] if set(statuses.values()) == {wanted} else [f"they ended with {statuses}"]
+
+
+def given(members: dict[str, Process], line: str) -> list[str]:
+    """Which members aren't given something."""
+    return [f"{name} wasn't given {line!r}" for name, member in members.items() if not member.wants(line)]
 
 
 def window_full(tried: Tried) -> list[str]:
-    """Where a frozen member keeps the window full the sequencer tells who isn't heard, and the others who tells it; then all goes on."""
-    members = {name: tried.start("net/udp.py", name, "--window", "4") for name in ("0", "1", "2")}
-    members["1"].tell("hello")
-    wrong = [f"{name} wasn't given it" for name in members if not members[name].wants("2 1: hello")]
-    members["2"].child.send_signal(signal.SIGSTOP)
-    for number in range(9):
-        members["1"].tell(f"more {number}")
-    told = "udp.py: nothing is numbered: the window is full; "
-    if not members["0"].wants(told + "not heard for 5 seconds: 2"):
-        wrong.append("0 doesn't tell who isn't heard")
-    if not members["1"].wants(told + "0, which numbers, tells who isn't heard"):
-        wrong.append("1 doesn't tell that the window is full")
-    members["2"].child.send_signal(signal.SIGCONT)
-    wrong += [f"{name} wasn't given the last one" for name in members if not members[name].wants("11 1: more 8")]
-    statuses = [member.end() for member in members.values()]
-    return wrong + ([] if statuses == [0, 0, 0] else [f"they ended with {statuses}"])
+    """Where a frozen member keeps the window full the sequencer tells who isn't heard and who holds it; where the sequencer is frozen the others
+    tell that. Then all goes on, and nothing is lost."""
+    members = tried.group("0", "1", "2", more=("--window", "4"))
+    members["1"].tell("send hello")
+    wrong = given(members, "2 1: hello")
+    for frozen, holds, told in (("2", "0", "nothing is heard of 2"), ("0", "1", "nothing is heard of 0")):
+        members[frozen].signal(signal.SIGSTOP)
+        for number in range(9):
+            members["1"].tell(f"send {frozen} {number} {'x' * 900}")
+        wrong += [] if members[holds].wants(told) else [f"{holds} doesn't tell that {told}"]
+        if frozen == "2" and not members["0"].wants("the window is full: 2 has taken less than the others, and holds them"):
+            wrong.append("0 doesn't tell who holds the window")
+        silent, slow = tried.ask(holds, "status")["silent"], tried.ask(holds, "status")["slow"]
+        if silent != [frozen] or slow != ([frozen] if frozen == "2" else []):
+            wrong.append(f"its status has {silent} silent, and {slow} slow")
+        members[frozen].signal(signal.SIGCONT)
+        for name, member in members.items():
+            last = f"1: {frozen} 8 {'x' * 900}"
+            ends, line = time.monotonic() + SOON, ""
+            while not line.endswith(last) and time.monotonic() < ends:
+                line = member.lines.get(timeout=SOON)
+            wrong += [] if line.endswith(last) else [f"{name} wasn't given the last one"]
+    return wrong + ended(members)
 
 
 def beyond(tried: Tried) -> list[str]:
-    """A member tells where more have stopped than the resilience between two resets, and not where a reset stands between them."""
-    told, wrong = "udp.py: stopped: 0,1, more than the resilience of view 1.0, 1: nothing is claimed from here on", []
-    for is_apart, views in ((True, ["3 view 2.1 1,2", "4 view 3.2 2"]), (False, ["3 view 2.2 2"])):
-        (folder := tried.folder / str(is_apart)).mkdir()
-        group = Tried(folder, tried.program)
-        members = {name: group.start("net/udp.py", name) for name in ("0", "1", "2")}
-        members["2"].tell("hello")
-        wrong += [f"{name} wasn't given it" for name, member in members.items() if not member.wants("2 2: hello")]
+    """A member tells where more have stopped than the resilience between two resets, and not where a reset stands between them; its run goes on,
+    and ends with 76."""
+    wrong = []
+    for is_apart, views, status in ((True, ["3 view 1,2 r1", "4 view 2 r1"], 0), (False, ["3 view 2 r1"], 76)):
+        members = tried.group("0", "1", "2", more=("--least", "1"))
+        members["2"].tell("send hello")
+        wrong += given(members, "2 2: hello")
         members.pop("0").kill()
         lines = []
         if is_apart:
@@ -106,75 +74,182 @@ def beyond(tried: Tried) -> list[str]:
         members.pop("1").kill()
         members["2"].tell("stopped 1" if is_apart else "stopped 0\nstopped 1")
         lines += members["2"].until(views[-1])
-        if lines.count(told) != (not is_apart) or [line for line in lines if " view " in line and line != told] != views:
+        members["2"].tell("send alone")
+        wrong += given(members, f"{len(views) + 3} 2: alone")
+        if lines.count(BEYOND) != (not is_apart) or [line for line in lines if re.match(r"\d+ view ", line)] != views:
             wrong.append(f"{is_apart}: {lines}")
-        if members["2"].end():
-            wrong.append("an end")
+        wrong += ended(members, status)
+        judged = tried.judged("0", "1", "2")
+        if (judged == "lawful") != is_apart or not is_apart and not judged.startswith("void from "):
+            wrong.append(f"{is_apart}: {judged}")
+        for name in "012":
+            tried.journal(name).unlink()
     return wrong
 
 
-def fetching(tried: Tried) -> list[str]:
-    """A ballot that fetches from a member that then stops gives it up and goes on."""
-    nodes = {name: Node(name, "0,1,2", program=shlex.split(tried.program)) for name in "012"}
-    member = Member(nodes["1"], Journal(str(tried.journal("1")), ["1"]), Quiet(), argparse.Namespace(name="1", least=1))
-    (bcast,) = nodes["0"].do("send 61")[1]
-    nodes["2"].do(bcast.heard())
-    with contextlib.redirect_stderr(io.StringIO()), contextlib.redirect_stdout(io.StringIO()):
-        member.told("stopped 0")
-        member.ticks += 100
-        member.look(member.info())
-        (invite,) = re.findall(r"\treset 1\t\t.* \| (.*)\n", tried.journal("1").read_text())
-        (vote,) = nodes["2"].do(f"hear {invite}")[1]
-        member.act(vote.heard(), "2 1")
-        member.told("stopped 2")
-        for _ in range(3):
-            member.look(member.info())
-    for node in nodes.values():
-        node.close()
-    answers = re.findall(r"\t((?:fetching|decided) [^|]*?)(?: \||\n)", tried.journal("1").read_text())
-    return [] if answers == ["fetching 2 2", "decided 2 1"] else [f"{answers}: {tried.journal('1').read_text()}"]
+def left_out(tried: Tried) -> list[str]:
+    """A member that is given up while it runs ends where it gets the view without it, and says so; where the others have no such view for it any
+    more, it tells that nothing is heard."""
+    members = tried.group("0", "1", "2")
+    members["2"].tell("send hello")
+    wrong = given(members, "2 2: hello")
+    frozen = members.pop("2")
+    frozen.signal(signal.SIGSTOP)
+    for member in members.values():
+        member.tell("stopped 2")
+    wrong += given(members, "3 view 0,1 r1")
+    frozen.signal(signal.SIGCONT)
+    said = "muoswyldd: the member ended: the group goes on without it; its place comes back as its next life"
+    ends, line = time.monotonic() + SOON, ""
+    while line not in (said, "nothing is heard of 0") and time.monotonic() < ends:
+        line = frozen.lines.get(timeout=SOON)
+    if line != "nothing is heard of 0" and (line != said or frozen.status() != 69):
+        wrong.append("who is left out neither ends with 69 nor tells that nothing is heard")
+    return wrong + ended(members)
+
+
+def too_few(tried: Tried) -> list[str]:
+    """A reset that can't have its least size is told once, and comes once the size is smaller; one by hand says why it came to nothing."""
+    members = tried.group("0", "1", more=("--founders", "0,1", "--least", "2"))
+    members.pop("1").kill()
+    members["0"].tell("stopped 1")
+    wrong = [] if members["0"].wants("no reset: 1 members run, and a reset goes on with at least 2") else ["too few aren't told"]
+    time.sleep(1)
+    answer = tried.ask("0", "reset 2")
+    if answer != {"error": "1 members are left, of 2 at least"}:
+        wrong.append(f"a reset with two is answered {answer}")
+    answer = tried.ask("0", "reset 1")
+    lines = members["0"].until("2 view 0 r1")
+    if answer != {"reset": 2} or any(line.startswith("no reset") for line in lines) or lines[-1] != "2 view 0 r1":
+        wrong.append(f"a reset with one is answered {answer}: {lines}")
+    return wrong + ended(members)
+
+
+def resets(tried: Tried, name: str) -> list[int]:
+    """When a member began ballots, in milliseconds."""
+    return [int(time) // 1000 for time in re.findall(r"^(\d+)\treset ", tried.text(name), re.MULTILINE)]
+
+
+def who_resets(tried: Tried) -> list[str]:
+    """Where a process has ended, the lowest running member that was told of it resets; where that one doesn't, the next one does a little
+    later; and one whose ballot comes to nothing doesn't try again at once."""
+    members = tried.group("0", "1", "2", more=("--least", "1"))
+    members.pop("2").kill()
+    for member in members.values():
+        member.tell("stopped 2")
+    wrong = given(members, "2 view 0,1 r1")
+    if not resets(tried, "0") or resets(tried, "1"):
+        wrong.append(f"the lowest is to reset: {resets(tried, '0')}, {resets(tried, '1')}")
+    for name in ("2/2", "2/3"):
+        members[name] = tried.start(name, "--least", "1")
+        for life in ("2", "2/2"):
+            if life != name:
+                members[name].tell(f"stopped {life}")
+        wrong += [] if members[name].wants(f"{3 if name == '2/2' else 5} joined {name}") else [f"{name} hasn't joined"]
+        members.pop(name).kill()
+        began = time.time_ns() // 1_000_000
+        if name == "2/2":
+            members["1"].tell("stopped 2/2")
+            wrong += given(members, "4 view 0,1 r1")
+            if not resets(tried, "1") or resets(tried, "1")[0] < began + 100:
+                wrong.append(f"the next one resets at {resets(tried, '1')}, told at {began}")
+            for member in members.values():
+                member.tell("stopped 2/2")
+    # the vote of one that is frozen doesn't come: its ballot waits, and isn't begun again and again
+    members["0"].signal(signal.SIGSTOP)
+    before = len(resets(tried, "1"))
+    members["1"].tell("stopped 2/3")
+    time.sleep(2)
+    tries = len(resets(tried, "1")) - before
+    members["0"].signal(signal.SIGCONT)
+    wrong += given(members, "6 view 0,1 r1")
+    if not 1 <= tries <= 5:
+        wrong.append(f"a ballot was begun {tries} times in two seconds")
+    return wrong + ended(members)
 
 
 def over_a_reset(tried: Tried) -> list[str]:
     """A send whose request was lost is numbered in the view that a reset brings."""
-    nodes = {name: Node(name, "0,1,2", "--resilience", "1", program=shlex.split(tried.program)) for name in "012"}
-    nodes["1"].do("send 61")
-    for line in ("reset 2", "giveup 0", "tick", "tick"):
-        letters = nodes["1"].do(line)[1]
-        while letters:
-            letter = letters.pop(0)
-            for name in {"1", "2"}.intersection(letter.names()):
-                letters += nodes[name].do(letter.heard())[1]
-    answers = [nodes[name].do(line)[0] for name, line in (("1", "done 1"), *[("2", "take")] * 3)]
-    for node in nodes.values():
-        node.close()
-    return [] if answers == ["sent 1 3", "took 1 view 1.0 0,1,2", "took 2 view 2.1 1,2", "took 3 data 1 1 61"] else [f"{answers}"]
+    members = tried.group("0", "1", "2")
+    members.pop("0").kill()
+    members["1"].tell("send a")
+    time.sleep(0.2)
+    for member in members.values():
+        member.tell("stopped 0")
+    lines = members["2"].until("3 1: a")
+    wrong = [] if lines[-2:] == ["2 view 1,2 r1", "3 1: a"] else [f"2 was given {lines}"]
+    return wrong + ended(members)
+
+
+class Cut(Relay):
+    """A relay that is told which ways it cuts: of two places, of all kinds of packets or of one."""
+
+    def __init__(self, homes: list[int]):
+        super().__init__(homes, Faults())
+        self.cut: dict[tuple[int, int], int | None] = {}
+
+    def carries(self, sender: int, reader: int, data: bytes) -> bool:
+        """Whether the way isn't cut."""
+        if (sender, reader) not in self.cut:
+            return True
+        kind = self.cut[sender, reader]
+        return kind is not None and all(packet[3] != kind for packet in letters_of(data))
+
+
+def fetching(tried: Tried) -> list[str]:
+    """A ballot that fetches from a member that then stops gives it up, and goes on."""
+    relay = tried.relay = Cut(tried.ports)
+    relay.start()
+    members = tried.group("0", "1", "2", more=("--key", "", "--least", "1"))
+    relay.cut[0, 1] = None
+    members["2"].tell("send a")
+    wrong = [] if members["2"].wants("2 2: a") else ["nothing was accepted"]
+    members.pop("0").kill()
+    relay.cut[1, 2] = 1 + KINDS.index("Fetch")
+    for member in members.values():
+        member.tell("stopped 0")
+    wrong += tried.lacks("1", "\tfetching 2 2")
+    members.pop("2").kill()
+    members["1"].tell("stopped 2")
+    wrong += given(members, "2 view 1 r1")
+    answers = re.findall(r"\t((?:fetching|decided) [^|\n]*?)(?: \||\n)", tried.text("1"))
+    wrong += [] if answers[:1] == ["fetching 2 2"] and answers[-1] == "decided 2 1" else [f"{answers}"]
+    return wrong + ended(members, 76)
 
 
 def joiner_not_welcomed(tried: Tried) -> list[str]:
-    """A group that waits for a joiner that it can't welcome goes on once that has ended (docs/NETWORK.md), and the run is lawful."""
-    both = "--founders", "0,1"
-    members = {name: tried.start("net/udp.py", name, *both) for name in ("0", "1")}
-    wrong = [f"{name} has no view" for name in members if not members[name].wants("1 view 1.0 0,1")]
-    members["1"].kill()
-    members["2"] = tried.start("net/udp.py", "2", *both)
-    wrong += tried.lacks("0", "\tnumbered 2")
-    members["0"].tell("stopped 1")
-    wrong += tried.lacks("0", "\tdecided 3 0,2")
-    lines = members["0"].until("2 join 2", 0.5)
-    members["2"].kill()
-    members["0"].tell("stopped 2")
-    members["2/2"] = tried.start("net/udp.py", "2/2", *both)
-    wanted = ["2 join 2", "3 view 2.0 0,2", "4 view 3.0 0", "5 join 2/2"]
-    if lines or (lines := members["0"].until(wanted[-1])) != wanted or not members["2/2"].wants(wanted[-1]):
-        wrong.append(f"0 took {lines}")
-    statuses = [members[name].end() for name in ("0", "2/2")]
-    journals = [tried.journal(name) for name in ("0", "1", "2", "2/2")]
-    merged = subprocess.run([sys.executable, TOP / "net" / "merge.py", *journals], capture_output=True, check=False)
-    played = subprocess.run([*shlex.split(tried.program), "play"], input=merged.stdout, capture_output=True, check=False)
-    is_lawful = played.stdout.endswith(b"\nlawful\n")
-    return wrong + ([] if is_lawful and statuses == [0, 0] else [f"{statuses}, {merged.stderr} {played.stdout[-99:]} {played.stderr}"])
+    """A group that waits for a joiner that it can't welcome goes on: the joiner is welcomed late, or ends by itself, and its place comes back
+    (docs/NETWORK.md). The run is lawful."""
+    both = "--founders", "0,1", "--least", "1"
+    members = tried.group("0", "1", more=both)
+    members.pop("1").kill()
+    joiner, name = tried.start("2", *both), "2"
+    wrong = tried.lacks("0", "\tnumbered 2")
+    for member in (members["0"], joiner):
+        member.tell("stopped 1")
+    ends = time.monotonic() + SOON
+    while joiner.child.poll() is None and tried.ask("0", "status")["accepted"] < 2 and time.monotonic() < ends:
+        time.sleep(0.1)
+    if joiner.child.poll() is not None:
+        said = "muoswyldd: the member ended: nobody welcomed it; its place comes back as its next life"
+        if joiner.status() != 69 or not joiner.wants(said):
+            wrong.append("the joiner ended otherwise")
+        members["0"].tell("stopped 2")
+        joiner, name = tried.start("2/2", *both), "2/2"
+        joiner.tell("stopped 1\nstopped 2")
+    members[name] = joiner
+    tried.caller(name).close()
+    members["0"].tell("send on")
+    for each, member in members.items():
+        ends, line = time.monotonic() + SOON, ""
+        while not line.endswith(" 0: on") and time.monotonic() < ends:
+            line = member.lines.get(timeout=SOON)
+        wrong += [] if line.endswith(" 0: on") else [f"{each} wasn't given the last one"]
+    wrong += ended(members)
+    judged = tried.judged("0", "1", "2", *(["2/2"] if name == "2/2" else []))
+    return wrong + ([] if judged == "lawful" else [judged])
 
 
 if __name__ == "__main__":
-    sys.exit(try_parts(__doc__, Tried, (second_process, wrong_keys, window_full, beyond, fetching, over_a_reset, joiner_not_welcomed)))
+    parts = (window_full, beyond, left_out, too_few, who_resets, over_a_reset, fetching, joiner_not_welcomed)
+    end(lambda: try_parts(__doc__, ((Tried, part) for part in parts)))

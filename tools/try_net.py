@@ -1,17 +1,14 @@
-"""Tries net/ and examples/ on two addresses of this machine, 127.0.0.1 and 127.0.0.2: a small cluster with a crash,
-members that drop what isn't theirs, a dictionary and a chat, the loop of docs/NETWORK.md, inputs and journals of all sorts, and
-journals that can't be merged.
+"""Tries members as processes of muoswyldd, on two addresses of this machine, 127.0.0.1 and 127.0.0.2: they drop what isn't theirs and tell it on
+both sides, take inputs and messages of all sorts, and keep journals; and the loop of docs/NETWORK.md.
 
-    python3 tools/try_net.py PROGRAM
+    python3 tools/try_net.py PROGRAM [MEMBER]
 
-PROGRAM is the command whose words `node` and `play` are run. Each part ends by itself, within some seconds. It prints what fails, and
-how many parts passed.
+PROGRAM is the command whose words `node` and `play` are run, MEMBER the one whose word `run` is a member, if it isn't the one that is built
+here. Each part ends by itself, within some seconds. It prints what fails, and how many parts passed.
 """
 
-import argparse
 import contextlib
-import hashlib
-import io
+import json
 import os
 import pathlib
 import queue
@@ -25,37 +22,48 @@ import tempfile
 import textwrap
 import threading
 import time
+import urllib.request
 from collections.abc import Callable, Iterable
 
 TOP = pathlib.Path(__file__).resolve().parent.parent
 sys.path.insert(0, str(TOP / "net"))
 
+from member import Caller, Ended, Refused  # noqa: E402
 from members import free_ports  # noqa: E402
-from node import Ended, Node
-from udp import Journal, Member, Refused
-from words import words
+from programs import member_of  # noqa: E402
+from relay import Faults, Relay  # noqa: E402
+from words import end, words
+
+# a line of the log, and what it tells
+LOGGED = re.compile(r"\d{4}-\d\d-\d\dT\S+Z +(?:INFO|WARN|ERROR) (.*)")
+# what a member tells of what it drops
+NOT_SEALED = "it isn't sealed by this member's key"
+OTHER_GROUP = "it is of another group, of an earlier run, or of other settings"
+OTHER_PROCESS = "another process has this name already; a place comes back as its next life"
+SOON = 30
 
 
 class Process:
-    """A member's process, whose lines are read as they come, also those of standard error."""
+    """A process whose lines are read as they come, also those of its log, of which only what they tell is kept."""
 
     def __init__(self, command: list[str]):
         pipes = {"stdin": subprocess.PIPE, "stdout": subprocess.PIPE, "stderr": subprocess.STDOUT}
-        self.child = subprocess.Popen(command, text=True, bufsize=1, **pipes)
+        self.child = subprocess.Popen(command, text=True, bufsize=1, errors="replace", **pipes)
         self.lines: queue.Queue[str] = queue.Queue()
         threading.Thread(target=self.read, daemon=True).start()
 
     def read(self) -> None:
         """Reads its lines until it ends."""
         for line in self.child.stdout:
-            self.lines.put(line.rstrip("\n"))
+            found = LOGGED.fullmatch(line.rstrip("\n"))
+            self.lines.put(found[1] if found else line.rstrip("\n"))
 
     def tell(self, line: str) -> None:
         """Gives it a line."""
         self.child.stdin.write(line + "\n")
         self.child.stdin.flush()
 
-    def until(self, wanted: str, seconds: float = 30) -> list[str]:
+    def until(self, wanted: str, seconds: float = SOON) -> list[str]:
         """The lines that come in so much time, up to the first that is this one."""
         ends, lines = time.monotonic() + seconds, []
         with contextlib.suppress(queue.Empty):
@@ -63,56 +71,152 @@ class Process:
                 lines.append(self.lines.get(timeout=max(0, ends - time.monotonic())))
         return lines
 
-    def wants(self, wanted: str, seconds: float = 30) -> bool:
+    def wants(self, wanted: str, seconds: float = SOON) -> bool:
         """Whether a line comes that is this one, in so much time."""
         return self.until(wanted, seconds)[-1:] == [wanted]
 
     def end(self) -> int:
         """Ends its input, and gives its status."""
         self.child.stdin.close()
+        return self.status()
+
+    def status(self) -> int:
+        """Its status, once it has ended; -1 where that takes too long."""
         try:
-            return self.child.wait(timeout=15)
+            return self.child.wait(timeout=SOON)
         except subprocess.TimeoutExpired:
             self.child.kill()
             return -1
 
+    def signal(self, number: int) -> None:
+        """Sends it a signal."""
+        self.child.send_signal(number)
+
     def kill(self) -> None:
         """Kills it, and waits until it has ended."""
-        self.child.send_signal(signal.SIGKILL)
+        self.signal(signal.SIGKILL)
         self.child.wait()
 
 
 class Tried:
-    """A folder with the addresses of three places, and the processes that run there."""
+    """A folder with a key and the addresses of some places, and the processes that run there. Place 2 has an address of its own, as if it
+    were another machine."""
 
-    def __init__(self, folder: pathlib.Path, program: str):
-        self.folder, self.program = folder, program
-        self.ports = free_ports(3)
-        # place 2 has an address of its own, as if it were another machine
-        lines = [f"{place} 127.0.0.{1 + place // 2}:{port}  # place {place}\n" for place, port in enumerate(self.ports)]
-        (folder / "peers").write_text("".join(lines))
+    places = 3
+    # what the network does, where it isn't left alone
+    faults: Faults | None = None
 
-    def command(self, script: str, name: str, *more: str) -> list[str]:
-        """The command of a member."""
-        words = [sys.executable, str(TOP / script), "--name", name, "--founders", "0,1,2", "--peers", str(self.folder / "peers")]
-        return [*words, "--resilience", "1", "--seconds", "300", "--program", self.program, *more]
+    def __init__(self, folder: pathlib.Path, program: str, member: str):
+        self.folder, self.program, self.member = folder, program, member
+        self.ports = free_ports(self.places)
+        self.relay = Relay(self.ports, self.faults) if self.faults else None
+        if self.relay:
+            self.relay.start()
+        self.started: list[Process] = []
+        subprocess.run([*shlex.split(member), "keygen", folder / "key"], check=True)
 
-    def start(self, script: str, name: str, *more: str) -> Process:
-        """Starts a member."""
-        process, ends = Process(self.command(script, name, "--journal", str(self.journal(name)), *more)), time.monotonic() + 20
-        while not self.journal(name).exists() and time.monotonic() < ends:
+    def close(self) -> None:
+        """Ends what still runs."""
+        for process in self.started:
+            process.kill()
+        if self.relay:
+            self.relay.close()
+
+    def address(self, place: int) -> tuple[str, int]:
+        """The address of a place."""
+        return "127.0.0.2" if place == 2 and not self.relay else "127.0.0.1", self.ports[place]
+
+    def words(self, name: str, *more: str) -> list[str]:
+        """The command of a member. A word that is said twice has its last value."""
+        own, options = int(name.split("/")[0]), {"--name": name, "--founders": "0,1,2", "--resilience": "1"}
+        options |= {"--key": str(self.folder / "key"), "--input": "commands"}
+        options |= dict(zip(more[::2], more[1::2]))
+        words = [*shlex.split(self.member), "run"]
+        for place in range(self.places):
+            host, port = self.address(place)
+            if self.relay and place != own:
+                port = self.relay.port(own, place)
+            words += ["--address", f"{place}={host}:{port}"]
+        if options["--key"] == "":
+            del options["--key"]
+            words.append("--insecure")
+        return [*words, *(word for option in options.items() for word in option)]
+
+    def start(self, name: str, *more: str) -> Process:
+        """Starts a member, with its journal and its socket."""
+        files = "--journal", str(self.journal(name)), "--socket", str(self.socket(name))
+        process, ends = Process(self.words(name, *files, *more)), time.monotonic() + SOON
+        self.started.append(process)
+        while not self.text(name) and process.child.poll() is None and time.monotonic() < ends:
             time.sleep(0.01)
         return process
 
-    def alone(self, cases: list[tuple[list[str], str, bytes | pathlib.Path]]) -> list[tuple[int, str, str]]:
-        """What comes of members of groups of one, all at the same time, each on an address of its own: with these words more, these lines
-        more in its PEERS, and this input."""
+    def group(self, *names: str, more: Iterable[str] = ()) -> dict[str, Process]:
+        """Starts members, and waits until each listens."""
+        members = {name: self.start(name, *more) for name in names}
+        for name in names:
+            self.caller(name).close()
+        return members
+
+    def caller(self, name: str) -> Caller:
+        """A connection to a member, once it listens."""
+        ends = time.monotonic() + SOON
+        while True:
+            try:
+                return Caller(self.socket(name))
+            except OSError:
+                if time.monotonic() > ends:
+                    raise
+                time.sleep(0.01)
+
+    def ask(self, name: str, command: str) -> dict:
+        """What a member answers to a command, also where it refuses it."""
+        caller = self.caller(name)
+        try:
+            return caller.ask(command)
+        except Refused as error:
+            return {"error": str(error)}
+        finally:
+            caller.close()
+
+    def file(self, kind: str, name: str) -> pathlib.Path:
+        """A file of a kind for a member."""
+        return self.folder / f"{kind}-{name.replace('/', '-')}"
+
+    def journal(self, name: str) -> pathlib.Path:
+        """Where a member's journal is."""
+        return self.file("journal", name)
+
+    def socket(self, name: str) -> pathlib.Path:
+        """Where a member listens."""
+        return self.file("socket", name)
+
+    def text(self, name: str) -> str:
+        """A member's journal so far."""
+        return self.journal(name).read_text() if self.journal(name).exists() else ""
+
+    def lacks(self, name: str, wanted: str) -> list[str]:
+        """Waits until a member's journal has a text; what is wrong, where it hasn't."""
+        ends = time.monotonic() + SOON
+        while wanted not in self.text(name):
+            if time.monotonic() > ends:
+                return [f"the journal of {name} hasn't {wanted!r}"]
+            time.sleep(0.02)
+        return []
+
+    def judged(self, *names: str) -> str:
+        """The last line of what `play` says of the members' journals, or why there is none."""
+        merged = subprocess.run([TOP / "net" / "merge.py", *map(self.journal, names)], capture_output=True, check=False)
+        played = subprocess.run([*shlex.split(self.program), "play"], input=merged.stdout, capture_output=True, check=False)
+        said = played.stdout.decode().splitlines()
+        return said[-1] if said else (merged.stderr + played.stderr).decode()
+
+    def alone(self, cases: list[tuple[list[str], bytes | pathlib.Path]]) -> list[tuple[int, str, str]]:
+        """What comes of members of groups of one, all at the same time, each on an address of its own: with these words more, and this input."""
         children = []
-        for number, (more, lines, given) in enumerate(cases, 10):
-            peers = self.folder / f"peers-{number}"
-            mine = [f"{place} 127.0.0.{number}:{port}\n" for place, port in enumerate(self.ports)]
-            peers.write_text("".join(mine) + lines, errors="surrogateescape")
-            words = self.command("net/udp.py", "0", "--founders", "0", "--resilience", "0", "--peers", str(peers), *more)
+        for number, (more, given) in enumerate(cases, 10):
+            words = self.words("0", "--founders", "0", "--resilience", "0", "--input", "messages", *more)
+            words = [re.sub(r"^(\d+=)127\.0\.0\.[12]:", rf"\g<1>127.0.0.{number}:", word) for word in words]
             read = given.open("rb") if isinstance(given, pathlib.Path) else subprocess.PIPE
             child = subprocess.Popen(words, stdin=read, stdout=subprocess.PIPE, stderr=subprocess.PIPE)
             if isinstance(given, bytes):
@@ -120,112 +224,327 @@ class Tried:
                 child.stdin.close()
                 child.stdin = None
             children.append(child)
-        said = [child.communicate(timeout=30) for child in children]
+        said = [child.communicate(timeout=2 * SOON) for child in children]
         return [(child.returncode, out.decode(), err.decode()) for child, (out, err) in zip(children, said)]
 
-    def lacks(self, name: str, wanted: str) -> list[str]:
-        """Waits until a member's journal has a text; what is wrong, where it hasn't."""
-        ends = time.monotonic() + 20
-        while wanted not in self.journal(name).read_text():
-            if time.monotonic() > ends:
-                return [f"the journal of {name} hasn't {wanted!r}"]
-            time.sleep(0.02)
-        return []
 
-    def counts(self, name: str) -> list[str]:
-        """What a member counted at its end: of unknown senders, unsigned, of another group."""
-        lines = [line for line in self.journal(name).read_text().splitlines() if line.startswith("counts")]
-        return lines[-1].split("\t")[4:] if lines else []
-
-    def journal(self, name: str) -> pathlib.Path:
-        """Where a member's journal is."""
-        return self.folder / f"journal-{name.replace('/', '-')}"
+def bound(address: tuple[str, int]) -> socket.socket:
+    """A socket at an address, which waits some seconds for what comes."""
+    there = socket.socket(socket.AF_INET, socket.SOCK_DGRAM)
+    there.bind(address)
+    there.settimeout(SOON)
+    return there
 
 
-def cluster(tried: Tried) -> list[str]:
-    """Three members, three seconds, a crash and a return."""
-    words = "--nodes 3 --seconds 3 --rate 50 --loss 3 --repeat 2 --delay 3 --kill 1 --seed 7".split()
-    words = [sys.executable, str(TOP / "net" / "cluster.py"), *words, "--program", tried.program]
-    ran = subprocess.run(words, capture_output=True, text=True, timeout=90, check=False)
-    wanted = "answers again"
-    return [] if ran.returncode == 0 and wanted in ran.stdout and "kills 1" in ran.stdout else [ran.stdout + ran.stderr]
+def letters_of(datagram: bytes) -> list[bytes]:
+    """The packets of a datagram that isn't sealed (docs/MEMBER.md, "Datagrams"), or none."""
+    packets, at = [], 19
+    while datagram[:2] == b"\xa0\x01" and at < len(datagram):
+        at += 7 + (8 if datagram[at + 4] & 2 else 0)
+        size = int.from_bytes(datagram[at : at + 2], "big")
+        packets.append(datagram[at + 2 : at + 2 + size])
+        at += 2 + size
+    return packets
 
 
-def dropped(tried: Tried) -> list[str]:
-    """What comes from elsewhere, or isn't signed, is dropped and counted; what is signed is heard."""
-    (tried.folder / "key").write_bytes(b"a key of these three")
-    key = "--key", str(tried.folder / "key")
-    members = [tried.start("net/udp.py", name, *key) for name in ("0", "1")]
-    with socket.socket(socket.AF_INET, socket.SOCK_DGRAM) as other:
-        for _ in range(3):
-            other.sendto(b"1 1 0\nAG", ("127.0.0.1", tried.ports[0]))
-    members[1].tell("hello")
-    wrong = [] if members[0].wants("2 1: hello") else ["place 0 wasn't given what place 1 sent"]
-    statuses = [member.end() for member in members]
-    if tried.counts("0") != ["0", "3", "0"] or statuses != [0, 0]:
-        wrong.append(f"place 0 counted {tried.counts('0')}, and they ended with {statuses}")
-    return wrong
+def metric(port: int, name: str) -> int:
+    """A metric of a member."""
+    with urllib.request.urlopen(f"http://127.0.0.1:{port}/metrics", timeout=SOON) as answer:
+        (value,) = re.findall(rf"^muoswyld_{name} (\d+)$", answer.read().decode(), re.MULTILINE)
+    return int(value)
 
 
-def unknown(tried: Tried) -> list[str]:
-    """Without a key a datagram of an address that isn't its sender's is dropped and counted; nonsense, too, also in a datagram of the
-    group; what is of another run or founding is counted for itself, and told once."""
-    member = tried.start("net/udp.py", "0")
-    tag = hashlib.sha256(b"\n0,1,2\n1\n64\n256").digest()[:8] + b"process!"
-    heads = [b"1 1 0", b"2 1", b"2 1 0 0", b"2 x 0", b"2 " + b"1" * 11 + b" 0", "2 \u0661 0".encode(), b"2 1 0\t", b"2 1 \xff", b"02 1 0"]
-    heads += [b"1" * 5000 + b" 1 0", b"2 1 " + b"0," * 500 + b"0"]
-    nonsense = [head + b"\n" + b"AG" * 20 for head in heads] + [b"", b"\n", b"2 1 0", b"2 1 0\n", b"2 1 0\nAG", b"2 1 0\n" + b"A" * 1153]
-    place_0 = "127.0.0.1", tried.ports[0]
-    with socket.socket(socket.AF_INET, socket.SOCK_DGRAM) as other, socket.socket(socket.AF_INET, socket.SOCK_DGRAM) as place_2:
-        place_2.bind(("127.0.0.2", tried.ports[2]))
-        elsewhere = [b"1 1 0\nAG", b"1" * 5000 + b" 1 0\n", b"", b"x\n", b"1 1\n", b"\xff\xff 1 0\n", tag + b"2 1 0\n" + b"A" * 20]
-        for data in elsewhere:
-            other.sendto(data, place_0)
-        for data in nonsense:
-            place_2.sendto(tag + data, place_0)
-        for data in (b"2 1 0\n" + b"A" * 20, b"", b"1" * 5000 + b" 1 0\n"):
-            place_2.sendto(data, place_0)
-        told = "udp.py: what comes of place 2 is dropped: it is of another group: --run, --founders, --resilience, --window or "
-        wrong = [] if member.wants(told + "--pb-up-to differs, or --key") else ["another group isn't told"]
-        place_2.sendto(tag + b"2 1 0\n" + b"A" * 20, place_0)
-        time.sleep(0.2)
-    status, wanted = member.end(), [str(len(elsewhere + nonsense)), "0", "3"]
-    if (status, tried.counts("0")) != (0, wanted) or "hear 0 4141" not in tried.journal("0").read_text():
-        wrong.append(f"status {status}, counts {tried.counts('0')}, wanted {wanted}")
-    return wrong
+def sealed(tried: Tried) -> list[str]:
+    """What comes from elsewhere, or isn't sealed, is dropped and counted, each changed datagram too; what is sealed is heard."""
+    port = free_ports(1)[0]
+    wrong = []
+    with bound(tried.address(2)) as place_2, socket.socket(socket.AF_INET, socket.SOCK_DGRAM) as other:
+        members = {"0": tried.start("0", "--metrics", f"127.0.0.1:{port}"), "1": tried.start("1")}
+        letter = place_2.recv(65536)
+        wrong += [] if letter[0] == 0xA1 else [f"a datagram begins with {letter[0]:02x}"]
+        changed = [letter[:at] + bytes([letter[at] ^ 1]) + letter[at + 1 :] for at in (0, 1, 16, 17, 24, 25, len(letter) - 1)]
+        cut = [letter[:size] for size in (0, 1, 24, 25, len(letter) - 1)]
+        for data in [*changed, *cut, b"1 1 0\nAG", bytes(2000)]:
+            place_2.sendto(data, tried.address(0))
+        for data in (letter, b"", b"AG", bytes(1400)):
+            other.sendto(data, tried.address(0))
+        tried.caller("1").close()
+        members["1"].tell("send hello")
+        wrong += [f"{name} wasn't given it" for name, member in members.items() if not member.wants("2 1: hello")]
+        told = members["0"].wants("no line is this", 0.1)
+    counted, wanted = metric(port, "datagrams_dropped_total"), len(changed) + len(cut) + 2 + 4
+    if told or counted != wanted:
+        wrong.append(f"dropped are {counted}, of {wanted}")
+    statuses = [member.end() for member in members.values()]
+    return wrong + ([] if statuses == [0, 0] else [f"they ended with {statuses}"])
+
+
+def unsealed(tried: Tried) -> list[str]:
+    """Without a key a letter of an address that isn't its sender's is dropped, and nonsense, too; one of the group is heard."""
+    wrong = []
+    with bound(tried.address(2)) as place_2, socket.socket(socket.AF_INET, socket.SOCK_DGRAM) as other:
+        member = tried.start("0", "--key", "")
+        while (datagram := place_2.recv(65536))[:2] != b"\xa0\x01":
+            pass
+        head = datagram[:10]
+
+        def letter(name: int, packet: bytes, places: int = 1, flags: int = 0) -> bytes:
+            fields = name, b"process!", (1).to_bytes(4, "big"), flags, places.to_bytes(2, "big"), len(packet).to_bytes(2, "big")
+            return b"".join(bytes([field]) if isinstance(field, int) else field for field in fields) + packet
+
+        good, packet = letter(2, b"A" * 20), b"B" * 20
+        for data in (head + good, head + letter(0x12, packet), b"", b"\xa0"):
+            other.sendto(data, tried.address(0))
+        nonsense = [letter(0, packet), letter(0x10, packet), letter(2, b"B" * 11), letter(2, b"B" * 1153), letter(2, packet, flags=4), letter(2, packet)[:-1]]
+        for data in [*(head + each for each in nonsense), b"\xa0\x09", head, b"\xa0\x01" + bytes(8) + letter(2, packet), bytes(40)]:
+            place_2.sendto(data, tried.address(0))
+        place_2.sendto(head + good, tried.address(0))
+        wrong += tried.lacks("0", "\thear 0 " + "41" * 20)
+    if "42" * 11 in tried.text("0") or tried.text("0").count("\thear ") != 1:
+        wrong.append("nonsense was heard, or a letter of another address")
+    if not member.wants(f"what comes of 2 is dropped: {OTHER_GROUP}"):
+        wrong.append("another group isn't told")
+    return wrong + ([] if member.end() == 0 else ["an end"])
+
+
+class Recording(Relay):
+    """A relay that keeps what it carries to place 0."""
+
+    def __init__(self, homes: list[int]):
+        super().__init__(homes, Faults())
+        self.kept: list[bytes] = []
+
+    def carries(self, sender: int, reader: int, data: bytes) -> bool:
+        """Keeps what goes to place 0."""
+        self.kept += [data] if reader == 0 else []
+        return True
 
 
 def begun_anew(tried: Tried) -> list[str]:
-    """Letters of a run aren't taken by the group that begins anew with the same names and the same key, and another run word."""
-    (tried.folder / "key").write_bytes(b"a key of these three")
-    key = "--key", str(tried.folder / "key")
-    with socket.socket(socket.AF_INET, socket.SOCK_DGRAM) as place_0:
-        place_0.bind(("127.0.0.1", tried.ports[0]))
-        place_0.settimeout(10)
-        old = tried.start("net/udp.py", "1", *key, "--run", "one")
-        old.tell("OLD message")
-        letters = [place_0.recv(65536) for _ in range(4)]
-        old.kill()
-    wrong = [] if any(b"OLD message" in letter for letter in letters) else ["place 1 sent nothing"]
-    with socket.socket(socket.AF_INET, socket.SOCK_DGRAM) as place_1:
-        place_1.bind(("127.0.0.1", tried.ports[1]))
-        new = tried.start("net/udp.py", "0", *key, "--run", "two")
-        for letter in letters:
-            place_1.sendto(letter, ("127.0.0.1", tried.ports[0]))
-        time.sleep(0.2)
-    status = new.end()
-    if (status, tried.counts("0")) != (0, ["0", "0", "4"]):
-        wrong.append(f"status {status}, counts {tried.counts('0')}")
+    """Letters of a run aren't taken by the group that begins anew with the same names and the same key."""
+    tried.relay = Recording(tried.ports)
+    tried.relay.start()
+    two = "--founders", "0,1"
+    old = tried.group("0", "1", more=two)
+    old["1"].tell("send OLD")
+    wrong = [] if old["0"].wants("2 1: OLD") else ["nothing was sent"]
+    for name, member in old.items():
+        member.kill()
+        tried.journal(name).unlink()
+    kept = list(tried.relay.kept)
+    new = tried.start("0", *two)
+    for data in kept:
+        tried.relay.pairs[0, 1].socket.sendto(data, tried.address(0))
+    wrong += [] if new.wants(f"what comes of 1 is dropped: {OTHER_GROUP}") else ["an earlier run isn't told"]
+    statuses = new.end(), "\thear " in tried.text("0")
+    return wrong + ([] if statuses == (0, False) else [f"{statuses}"])
+
+
+def second_process(tried: Tried) -> list[str]:
+    """A name that runs again in a second process is dropped and told, once, by who heard the first one; its place's next life isn't."""
+    members, wrong = tried.group("0", "1", "2", more=("--pb-up-to", "0")), []
+    members["1"].tell("send hello")
+    wrong += [f"{name} wasn't given it" for name, member in members.items() if not member.wants("2 1: hello")]
+    for place in ("0", "1"):
+        members[place].kill()
+        tried.journal(place).unlink()
+        tried.socket(place).unlink()
+    again = tried.start("1", "--pb-up-to", "0")
+    wrong += [] if members["2"].wants(f"what comes of 1 is dropped: {OTHER_PROCESS}") else ["2 doesn't tell of it"]
+    again.kill()
+    members["2"].child.kill()
     return wrong
+
+
+def next_life(tried: Tried) -> list[str]:
+    """A founder that runs again as the same name is of another group; its place's next life joins, and is heard."""
+    members, wrong = tried.group("0", "1", "2"), []
+    members["0"].tell("send hello")
+    wrong += [f"{name} wasn't given it" for name, member in members.items() if not member.wants("2 0: hello")]
+    members["0"].kill()
+    tried.journal("0").unlink()
+    again = tried.start("0")
+    wrong += [f"{name} doesn't tell of it" for name in ("1", "2") if not members[name].wants(f"what comes of 0 is dropped: {OTHER_GROUP}")]
+    again.kill()
+    for name in ("1", "2"):
+        members[name].tell("stopped 0")
+    lines = members["2"].until("3 view 1,2 r1")
+    members["0/2"] = tried.start("0/2")
+    lines += members["2"].until("4 joined 0/2")
+    members["1"].tell("send on")
+    lines += members["2"].until("5 1: on")
+    if lines[-1:] != ["5 1: on"] or any("dropped" in line for line in lines) or not members["0/2"].wants("5 1: on"):
+        wrong.append(f"its next life: {lines}")
+    statuses = [members[name].end() for name in ("1", "2", "0/2")]
+    return wrong + ([] if statuses == [0, 0, 0] else [f"they ended with {statuses}"])
+
+
+def wrong_keys(tried: Tried) -> list[str]:
+    """Of a key that isn't the same, of one that isn't there, and of another founding both sides tell, also who is sent nothing else."""
+    subprocess.run([*shlex.split(tried.member), "keygen", tried.folder / "other"], check=True)
+    keyed, wrong = tried.start("0", "--founders", "0"), []
+    cases = (
+        ("1", ["--key", str(tried.folder / "other")], f"what comes of place 1 is dropped: {NOT_SEALED}", f"what comes of place 0 is dropped: {NOT_SEALED}"),
+        ("2", ["--key", ""], f"what comes of place 2 is dropped: {NOT_SEALED}", f"what comes of place 0 is dropped: {NOT_SEALED}"),
+        ("1/2", ["--window", "9"], f"what comes of 1/2 is dropped: {OTHER_GROUP}", f"what comes of 0 is dropped: {OTHER_GROUP}"),
+    )
+    for name, more, told, tells in cases:
+        member = tried.start(name, "--founders", "0", *more)
+        if not keyed.wants(told):
+            wrong.append(f"0 doesn't tell of {name}")
+        if not member.wants(tells):
+            wrong.append(f"{name} doesn't tell of 0")
+        member.kill()
+    return wrong + ([] if keyed.end() == 0 else ["an end"])
+
+
+def inputs(tried: Tried) -> list[str]:
+    """A group of one: all of its input goes out, of each sort, and it ends with what it should."""
+    (tried.folder / "file").write_bytes(b"".join(b"%d\n" % k for k in range(300)))
+    nothing, view, commands = pathlib.Path("/dev/null"), "1 view 0 r0\n", ["--input", "commands"]
+    cases = [
+        ("of a pipe", [], b"x\n\xff\xfe\x1b", 0, ["x", "\ufffd\ufffd\ufffd"], ""),
+        ("of a file", [], tried.folder / "file", 0, [str(k) for k in range(300)], ""),
+        ("of nothing", [], nothing, 0, [], ""),
+        ("leaving", commands, b"send hello\nleave\n", 0, ["hello"], "the group is over"),
+        ("of the most bytes", [], b"a" * 65535 + b"\n" + b"b" * 65536 + b"\nc\n", 0, ["a" * 65535, "c"], "a message has at most 65,535 bytes"),
+        ("of no command", commands, b"stopped\nstopped 00\nsned x\n", 0, [], "a command is send MESSAGE"),
+        ("of no name", commands, b"stopped 00\n", 0, [], "stopped wants a name: PLACE, or PLACE/LIFE"),
+        ("of its own name", commands, b"stopped 0\n", 0, [], "the member itself hasn't stopped"),
+        ("of nobody", commands, b"stopped 3\nsend x\n", 0, ["x"], ""),
+    ]
+    wrong = []
+    for (what, _, _, status, messages, told), got in zip(cases, tried.alone([(more, given) for _, more, given, *_ in cases])):
+        said = [line.partition(": ")[2] for line in got[1].splitlines()[1:]]
+        if got[0] != status or said != messages or not got[1].startswith(view) or told not in got[2]:
+            wrong.append(f"input {what}: {[text[:300] for text in map(str, got)]}")
+    return wrong
+
+
+def not_read(tried: Tried) -> list[str]:
+    """With an input that isn't read a member runs until a signal; who can't leave alone says so, and ends in time."""
+    waits = "leaving waits for messages on their way, for a reset, or for another member that leaves"
+    alone = tried.start("0", "--founders", "0", "--input", "nothing")
+    tried.caller("0").close()
+    alone.child.stdin.close()
+    alone.signal(signal.SIGTERM)
+    wrong = [] if alone.status() == 0 else ["a signal doesn't end a member that is alone"]
+    tried.journal("0").unlink()
+    pair = tried.start("0", "--founders", "0,1", "--leave-within", "1")
+    tried.caller("0").close()
+    pair.tell("send x")
+    pair.signal(signal.SIGTERM)
+    if not pair.wants(waits) or not pair.wants("the member hasn't left within 1 seconds") or pair.status() != 75:
+        wrong.append("who can't leave doesn't say so, or doesn't end with 75")
+    return wrong
+
+
+def refused(tried: Tried) -> list[str]:
+    """A start that is refused says its cause in a line, and uses up no name."""
+    (tried.folder / "empty").write_bytes(b"")
+    (tried.folder / "empty").chmod(0o600)
+    key = str(tried.folder / "key")
+    cases = [
+        (["--window", "0"], 78, "a window is 1 to 1,008"),
+        (["--least", "17"], 78, "a reset goes on with 1 to 16 members"),
+        (["--tick", "nan"], 64, "Invalid value 'nan'"),
+        (["--founders", "0,0"], 64, "Invalid value '0,0'"),
+        (["--founders", "0,3"], 78, "place 3 has no address"),
+        (["--address", "3=127.0.0.1:99999"], 78, "127.0.0.1:99999: invalid port value"),
+        (["--address", "3=127.0.0.1"], 78, "127.0.0.1: invalid socket address"),
+        (["--address", "3=[::1]:4000"], 78, "[::1]:4000 is of another kind than the addresses before it"),
+        (["--address", f"3=127.0.0.1:{tried.ports[0]}"], 78, "is the address of two places"),
+        (["--address", "0=127.0.0.1:4000"], 78, "place 0 has two addresses"),
+        (["--address", "3=no.such.host.invalid:4000"], 78, "no.such.host.invalid:4000: "),
+        (["--output", "socket"], 78, "--output socket wants --socket"),
+        (["--key", str(tried.folder / "empty")], 78, "is no key"),
+        (["--key", "/no/such"], 66, "No such file"),
+        (["--journal", key], 71, "it is there, and a name never runs twice"),
+        (["--journal", "/no/such/journal"], 71, "No such file"),
+    ]
+    wrong = []
+    for number, (more, status, said) in enumerate(cases):
+        journal = tried.journal(str(number))
+        done = subprocess.run(tried.words("0", "--founders", "0", "--journal", str(journal), *more), stdin=subprocess.DEVNULL, capture_output=True, text=True, timeout=SOON)
+        if done.returncode != status or said not in done.stderr or journal.exists():
+            wrong.append(f"{more}: {done.returncode}, {done.stderr}, {journal.exists()}")
+    return wrong
+
+
+def full_journal(tried: Tried) -> list[str]:
+    """Where a journal takes no more, the member ends before a letter goes out that isn't in it, and what is there can be merged."""
+    journal = tried.journal("0")
+    words = tried.words("0", "--founders", "0,1", "--key", "", "--input", "messages", "--journal", str(journal))
+    with bound(tried.address(1)) as place_1:
+        # Python ignores the signal of a file that is too long, and so does what it starts
+        ran = subprocess.run(
+            ["prlimit", "--fsize=1500", *words], input=b"x\n" * 40, capture_output=True, timeout=SOON, check=False, restore_signals=False
+        )
+        place_1.setblocking(False)
+        heard = [packet.hex() for data in iter(lambda: received(place_1), None) for packet in letters_of(data)]
+    *lines, cut = journal.read_text().split("\n")
+    missing = [packet for packet in heard if packet not in "\n".join(lines)]
+    wrong = [] if (ran.returncode, cut != "", missing) == (74, True, []) and heard else [f"it ended with {ran.returncode}; {heard}; {missing}"]
+    if b"the journal can't be written: File too large" not in ran.stderr:
+        wrong.append(f"{ran.stderr!r}")
+    merged = subprocess.run([TOP / "net" / "merge.py", journal], capture_output=True, check=False)
+    return wrong + ([] if merged.returncode == 0 and b'"do":"stop"' in merged.stdout else [f"it is merged with {merged}"])
+
+
+def received(there: socket.socket) -> bytes | None:
+    """The next datagram that is there."""
+    try:
+        return there.recv(65536)
+    except BlockingIOError:
+        return None
+
+
+def lengths(tried: Tried) -> list[str]:
+    """Messages of each length at which something changes come whole, at the socket and in the order in which they were sent."""
+    members = tried.group("0", "1", more=("--founders", "0,1"))
+    caller, heard = tried.caller("1"), []
+    sizes = [0, 1, 1020, 1021, 1022, 1024, 2038, 2039, 65534, 65535]
+    positions = [caller.send(b"%d" % (size % 10) * size) for size in sizes]
+    wrong = [] if positions == sorted(positions) else [f"they stand at {positions}"]
+    for size in sizes:
+        heard += members["0"].until(f"{positions[len(heard)].number} 1: {str(size % 10) * size}")[-1:]
+    if [len(line.partition(": ")[2]) for line in heard] != sizes:
+        wrong.append(f"lengths {[len(line) for line in heard]}")
+    for size, said in ((65536, "a message has at most 65,535 bytes"), (100_001, "the command is too long")):
+        try:
+            caller.send(bytes(size))
+            wrong.append(f"a message of {size} bytes was sent")
+        except Refused as error:
+            wrong += [] if said in str(error) else [f"{size} bytes: {error}"]
+        except Ended:
+            wrong.append(f"a message of {size} bytes isn't answered")
+    statuses = [member.end() for member in members.values()]
+    return wrong + ([] if statuses == [0, 0] else [f"they ended with {statuses}"])
+
+
+class Slow(Tried):
+    """A network that takes its time."""
+
+    faults = Faults(delay=40, reorder=20, repeat=10)
+
+
+def last_sent(tried: Tried) -> list[str]:
+    """After the end of its input a member goes on until all of that is sent, also on a slow network."""
+    two = "--founders", "0,1"
+    other = tried.start("0", *two)
+    words = tried.words("1", *two, "--input", "messages")
+    given = "".join(f"{number}\n" for number in range(200))
+    ran = subprocess.run(words, input=given, capture_output=True, text=True, timeout=2 * SOON, check=False)
+    count = ran.stdout.count(" 1: ")
+    return [] if ran.returncode == 0 and count == 200 and other.end() == 0 else [f"{ran.returncode}, {count} sent: {ran.stderr}"]
 
 
 class Looped:
     """A member whose loop is that of docs/NETWORK.md: its lines are a queue, and its network those of the others."""
 
-    def __init__(self, tried: Tried, name: str):
+    def __init__(self, name: str):
         self.lines: queue.Queue[str | None] = queue.Queue()
-        self.name, self.took_bodies, self.written = name, [], []
-        self.node = Node(name, "0,1,2", "--resilience", "1", program=shlex.split(tried.program))
+        self.name, self.took_bodies = name, []
         self.all: dict[str, Looped] = {}
 
     def send(self, names: list[str], line: str) -> None:
@@ -238,275 +557,61 @@ class Looped:
         if " data " in answer:
             self.took_bodies.append(answer.split(" ")[-1])
 
-    def write(self, text: str) -> None:
-        """As the loop's journal, keeps a line."""
-        self.written.append(text)
+    def write(self, _: str) -> None:
+        """As the loop's journal, keeps nothing."""
 
-    def loop(self, code: str) -> None:
+    def loop(self, code: str, program: str) -> None:
         """Does what the page says, until there are no more lines."""
-        names = {"Node": lambda *_: self.node, "name": self.name, "founders": "0,1,2", "lines": iter(self.lines.get, None)}
+        names = {"program": program, "name": self.name, "founders": "0,1,2", "lines": iter(self.lines.get, None)}
         bodies = [f"{self.name}{k}".encode().hex() for k in range(10)]
         exec(code, {**names, "network": self, "application": self, "journal": self, "bodies": bodies})
 
 
 def loop(tried: Tried) -> list[str]:
     """The loop of docs/NETWORK.md, as it stands there: three members send ten messages each, and take all thirty in the same order."""
-    found = re.search(r"\n((?:    .*\n|\n)*    for line in lines:\n(?:    .*\n)+)", (TOP / "docs" / "NETWORK.md").read_text())
+    found = re.search(r"\n(    import subprocess\n(?:    .*\n|\n)*    for line in lines:\n(?:    .*\n)+)", (TOP / "docs" / "NETWORK.md").read_text())
     if not found:
         return ["docs/NETWORK.md has no loop"]
-    members = {name: Looped(tried, name) for name in "012"}
-    threads = [threading.Thread(target=member.loop, args=(textwrap.dedent(found[1]),)) for member in members.values()]
+    program = tried.folder / "program"
+    program.write_text(f'#!/bin/sh\nexec {tried.program} "$@"\n')
+    program.chmod(0o700)
+    members = {name: Looped(name) for name in "012"}
+    threads = [threading.Thread(target=member.loop, args=(textwrap.dedent(found[1]), str(program)), daemon=True) for member in members.values()]
     for member in members.values():
         member.all = members
     for thread in threads:
         thread.start()
-    ends = time.monotonic() + 60
+    ends = time.monotonic() + 2 * SOON
     while min(len(member.took_bodies) for member in members.values()) < 30 and time.monotonic() < ends:
         for member in members.values():
             member.lines.put("tick")
         time.sleep(0.01)
     for member, thread in zip(members.values(), threads):
         member.lines.put(None)
-        thread.join()
-        member.node.close()
+        thread.join(SOON)
     taken = [member.took_bodies for member in members.values()]
     return [] if taken[0] == taken[1] == taken[2] and len(set(taken[0])) == 30 else [f"they took {taken}"]
 
 
-def lines_of_a_node(tried: Tried) -> list[str]:
-    """What is no line isn't given to a node, and one that is closed says so."""
-    node, wrong = Node("0", "0", program=shlex.split(tried.program)), []
-    for line, error in (("", ValueError), ("tick\ninfo", ValueError), ("tick", None), ("tick", Ended)):
-        if error is Ended:
-            node.close()
-        try:
-            if (answer := node.do(line)) != ("ticked", []) or error:
-                wrong.append(f"{line!r} is answered {answer}")
-        except (ValueError, Ended) as raised:
-            if error is not type(raised):
-                wrong.append(f"{line!r} raises {raised!r}")
-    return wrong
+def absolute(command: str) -> str:
+    """A command whose words that are files are named from the root."""
+    return shlex.join([os.path.abspath(word) if os.path.exists(word) else word for word in shlex.split(command)])
 
 
-def inputs(tried: Tried) -> list[str]:
-    """A group of one: all of its input goes out, of each sort, and it ends with what it should."""
-    (tried.folder / "file").write_bytes(b"".join(b"%d\n" % k for k in range(300)))
-    nothing, view = pathlib.Path("/dev/null"), "1 view 1.0 0\n"
-    cases = [
-        ("of a pipe", [], b"x\n\xff\xfe\x1b", 0, view + "2 0: x\n3 0: \ufffd\ufffd\ufffd\n", ""),
-        ("of a file", [], tried.folder / "file", 0, view + "".join(f"{k + 2} 0: {k}\n" for k in range(300)), ""),
-        ("of nothing", [], nothing, 0, view, ""),
-        ("not at all", ["--no-input", "--seconds", "0.3"], nothing, 0, view, ""),
-        ("leaving", [], b"hello\nleave\n", 0, view + "2 0: hello\ndeparted\n", ""),
-        ("without others", ["--founders", "0,1", "--resilience", "1"], b"x\n", 1, "1 view 1.0 0,1\n", "answered as sent: 1\n"),
-        ("leaving, without others", ["--name", "1"], b"leave\n", 1, "", "leave waits until a send, a join or a reset is done\n"),
-        ("of no names", [], b"stopped\nstopped 00\nstopped 0 \n", 0, view, "udp.py: stopped NAME wants the name of another member"),
-        ("of nobody", [], b"stopped 3\n", 0, view, "udp.py: stopped 3: no member has this name now\n"),
-    ]
-    wrong = []
-    for (what, _, _, *wanted, told), got in zip(cases, tried.alone([(more, "", given) for _, more, given, *_ in cases])):
-        if list(got[:2]) != wanted or (told not in got[2] if told else got[2]):
-            wrong.append(f"input {what}: {got}")
-    return wrong
-
-
-def refused(tried: Tried) -> list[str]:
-    """A start that is refused says its cause in a line, and uses up no name; a full journal ends the member before a letter goes out."""
-    cases = [
-        (["--window", "0"], "", 2, "'0' is no number from 1 to 1008"),
-        (["--least", "17"], "", 2, "'17' is no number from 1 to 16"),
-        (["--tick", "nan"], "", 2, "'nan' is no number from 1 to 10000"),
-        (["--founders", "0,0"], "", 2, "aren't places of 0 to 15 in ascending order"),
-        (["--founders", "0,3"], "", 1, "has no address of place 3"),
-        (["--program", "/bin/true"], "", 1, "the node has ended, with status 0, before it did anything"),
-        (["--program", "x '"], "", 1, "No closing quotation"),
-        (["--program", "/no/such"], "", 1, "'/no/such' isn't there, or can't be run"),
-        ([], "3 127.0.0.1:99999\n", 1, "line 4: '127.0.0.1:99999' is no HOST:PORT with a port of 1 to 65535"),
-        ([], "3 [::1]:4000\n", 1, "line 4: '[::1]' is no address of IPv4"),
-        ([], "0 127.0.0.1:4000\n", 1, "line 4: its place or its address is in a line above"),
-        ([], "3 \udcff\0:4000\n", 1, "is unknown as a host"),
-    ]
-    journals = [["--journal", str(tried.journal(str(number)))] for number in range(len(cases))]
-    wrong, given = [], [(more + journal, lines, b"x\n") for (more, lines, *_), journal in zip(cases, journals)]
-    for case, journal, got in zip(cases, journals, tried.alone(given)):
-        if got[0] != case[2] or case[3] not in got[2] or "Traceback" in got[2] or os.path.exists(journal[1]):
-            wrong.append(f"{case}: {got}")
-    return wrong
-
-
-def full_journal(tried: Tried) -> list[str]:
-    """Where a journal takes no more, the member ends before a letter goes out that isn't in it, and what is there can be merged."""
-    peers, journal = tried.folder / "peers", tried.journal("0")
-    words = tried.command("net/udp.py", "0", "--founders", "0,1", "--peers", str(peers), "--journal", str(journal))
-    with socket.socket(socket.AF_INET, socket.SOCK_DGRAM) as place_1:
-        place_1.bind(("127.0.0.1", tried.ports[1]))
-        ran = subprocess.run(["prlimit", "--fsize=400", *words], input=b"x\n" * 9, capture_output=True, timeout=30, check=False)
-        heard = len([1 for _ in iter(lambda: received(place_1), None)])
-    *lines, cut = journal.read_text().split("\n")
-    wrong = [] if (ran.returncode, cut != "") == (1, True) else [f"it ended with {ran.returncode}"]
-    if ran.stderr != b"udp.py: the journal can't be written: File too large\n" or heard != "".join(lines).count(" | "):
-        wrong.append(f"{ran.stderr!r}, {heard} letters of {lines}")
-    merged = subprocess.run([sys.executable, TOP / "net" / "merge.py", journal], capture_output=True, check=False)
-    return wrong + ([] if merged.returncode == 0 and b'"do":"stop"' in merged.stdout else [f"it is merged with {merged}"])
-
-
-def received(there: socket.socket) -> bytes | None:
-    """The next datagram that is there."""
-    there.setblocking(False)
-    try:
-        return there.recv(65536)
-    except BlockingIOError:
-        return None
-
-
-def dictionary(tried: Tried) -> list[str]:
-    """A member is killed, the group goes on without it, and its place comes back to the same contents."""
-    members = {name: tried.start("examples/dictionary.py", name) for name in ("0", "1", "2")}
-    wrong = []
-
-    def gets(name: str, key: str, value: str) -> None:
-        for _ in range(50):
-            members[name].tell(f"get {key}")
-            if members[name].wants(value, 0.5):
-                return
-        wrong.append(f"{name} hasn't {value} at {key}")
-
-    members["1"].tell("put colour blue")
-    members["2"].tell("put size 7")
-    for name in members:
-        gets(name, "colour", "blue")
-        gets(name, "size", "7")
-    members.pop("0").kill()
-    for member in members.values():
-        member.tell("stopped 0")
-    members["2"].tell("put colour red")
-    gets("1", "colour", "red")
-    members["0/2"] = tried.start("examples/dictionary.py", "0/2")
-    members["0/2"].tell("stopped 0")
-    members["1"].tell("delete size")
-    gets("0/2", "colour", "red")
-    gets("0/2", "size", "-")
-    members["0/2"].tell("put more yes")
-    gets("2", "more", "yes")
-    statuses = [member.end() for member in members.values()]
-    return wrong + ([] if statuses == [0, 0, 0] else [f"they ended with {statuses}"])
-
-
-def chat(tried: Tried) -> list[str]:
-    """Two say something, one leaves."""
-    members = [tried.start("examples/chat.py", name) for name in ("0", "1", "2")]
-    members[0].tell("hello")
-    wrong = [f"{place} didn't see it" for place, member in enumerate(members) if not member.wants("<0> hello")]
-    members[2].tell("bye\nleave")  # it is said before, so it is sent before
-    if not members[0].wants("<2> bye") or not members[0].wants("* 2 leaves") or not members[2].wants("departed"):
-        wrong.append("nobody said bye and left")
-    return wrong + ([] if [member.end() for member in members] == [0, 0, 0] else ["an end"])
-
-
-def left_out(tried: Tried) -> list[str]:
-    """A member that is given up while it runs says so where it gets the view without it; one that hears nothing says that."""
-    nodes = [Node(name, "0,1,2", program=shlex.split(tried.program)) for name in "012"]
-    member, wrong, told = Member(nodes[2], Journal(None, []), Quiet(), argparse.Namespace(name="2", least=1)), [], io.StringIO()
-    with contextlib.redirect_stderr(told), contextlib.redirect_stdout(io.StringIO()):
-        member.look(member.info())
-        member.silent_since -= 6
-        for _ in range(2):
-            member.look(member.info())
-        invite = nodes[0].do("reset 1")[1][0].heard()
-        nodes[2].do(invite)  # its vote is lost
-        for line in (nodes[1].do(invite)[1][0].heard(), "giveup 2"):
-            nodes[0].do(line)
-        for letter in nodes[0].do(nodes[2].do("tick")[1][0].heard())[1]:
-            member.act(letter.heard(), "0 1")
-        try:
-            member.look(member.info())
-            wrong.append("it goes on")
-        except Refused as error:
-            wrong += [] if str(error) == "the group goes on without this member: view 2.0 is of 0,1" else [str(error)]
-    for node in nodes:
-        node.close()
-    return wrong + ([] if told.getvalue().count("nothing heard for 5 seconds") == 1 else [f"it told {told.getvalue()!r}"])
-
-
-def too_few(tried: Tried) -> list[str]:
-    """A reset that can't have its least size is told once, and tried again."""
-    node, told = Node("0", "0,1", program=shlex.split(tried.program)), io.StringIO()
-    member = Member(node, Journal(str(tried.journal("0")), ["0"]), Quiet(), argparse.Namespace(name="0", least=2))
-    member.stopped.add("1")
-    with contextlib.redirect_stderr(told):
-        for _ in range(3):
-            member.ticks += 100
-            member.look(member.info())
-    node.close()
-    tries = tried.journal("0").read_text().count("\treset 2\t")
-    return [] if told.getvalue().count("no reset: fewer than --least 2") == 1 and tries == 3 else [f"{tries} tries: {told.getvalue()!r}"]
-
-
-def last_sent(tried: Tried) -> list[str]:
-    """Behind the end of its input a member goes on as long as something of that is sent, each time within the limit."""
-    other = tried.start("net/udp.py", "1", "--founders", "0,1", "--no-input")
-    shorter = "import sys; sys.path.insert(0, sys.argv.pop(1)); import udp; udp.LAST_SECONDS = 1; sys.exit(udp.run())"
-    words = tried.command("net/udp.py", "0", "--founders", "0,1", "--delay", "40")[2:]
-    given = "".join(f"{number}\n" for number in range(60))
-    ran = subprocess.run([sys.executable, "-c", shorter, str(TOP / "net"), *words], input=given, capture_output=True, text=True, timeout=30)
-    other.kill()
-    count = ran.stdout.count(" 0: ")
-    return [] if ran.returncode == 0 and count == 60 else [f"{ran.returncode}, {count} sent: {ran.stderr}"]
-
-
-class Quiet:
-    """A network that loses everything."""
-
-    def send(self, *_) -> None:
-        """Loses a letter."""
-
-
-def once(tried: Tried) -> list[str]:
-    """A name whose journal is there isn't run again."""
-    tried.journal("0").write_text("")
-    words = tried.start("net/udp.py", "0")
-    return [] if words.end() not in (0, -1) else ["a name was run twice"]
-
-
-def merging(tried: Tried) -> list[str]:
-    """Journals that can't be merged are refused for their cause, and a torn line isn't there."""
-    head = "node\t{}\t0,1\t0\t64\t256\n"
-    one = head.format(0) + "1\tsend 61\t\tqueued 1 | 1 " + "41470303" + "00" * 26 + "\nend\n"
-    two = head.format(1) + "2\thear 1 4147\t0 1\tstored 2\n"
-    cases = [
-        ([one, two + "3\ttak"], 0, '"do":"hear","node":1,"packet":1},{"do":"stop","node":1}'),
-        ([two + "end\n"], 1, "whose journal isn't there"),
-        ([one, two.replace("0 1\t", "0 2\t") + "end\n"], 1, "1 wants letter 2 of 0"),
-        ([one, one], 1, "a name has two journals"),
-        ([one, two.replace("\t64\t", "\t32\t")], 1, "has another founding"),
-        ([one.replace("node\t0\t", "node\t0/2\t")], 1, "0 stopped, and its journal isn't there"),
-        ([one.replace("node\t0\t", "node\t0/2\t"), ""], 0, '[{"do":"stop","node":0},{"do":"return","node":0},{"do":"send"'),
-        ([one.replace("node\t0\t", "node\t0/3\t"), "nod"], 1, "0/2 stopped, and its journal isn't there"),
-        ([head.format(0) + "2\tgiveup 1\t\tnot-coordinator\n"], 1, "1 stopped, and its journal isn't there"),
-        ([head.format(0) + "2\tgiveup 1\t\tnot-coordinator\nend\n", ""], 0, '[{"do":"stop","node":1},{"do":"giveup","node":0,"name":1}]'),
-        (["", ""], 1, "no journal has a whole line"),
-        (["x\n"], 1, "is no journal"),
-    ]
-    wrong = []
-    for texts, status, said in cases:
-        paths = []
-        for number, text in enumerate(texts):
-            paths.append(tried.folder / f"merged-{number}")
-            paths[-1].write_text(text)
-        ran = subprocess.run([sys.executable, TOP / "net" / "merge.py", *paths], capture_output=True, text=True, check=False)
-        if ran.returncode != status or said not in ran.stdout + ran.stderr:
-            wrong.append(f"{said!r}: {ran.returncode} {ran.stdout}{ran.stderr}")
-    return wrong
-
-
-def try_parts(page: str | None, kind: type[Tried], parts: Iterable[Callable]) -> int:
-    """Tries each part in a folder of its own, with the program that the words of the call name; 1 where one fails."""
-    (command,) = words(page or "", 1, 1)
-    program = shlex.join([os.path.abspath(word) if os.path.exists(word) else word for word in shlex.split(command)])
+def try_parts(page: str | None, parts: Iterable[tuple[type[Tried], Callable]]) -> int:
+    """Tries each part in a folder of its own, with the programs that the words of the call name; 1 where one fails."""
+    given = words(page or "", 1, 2)
+    program, member = absolute(given[0]), shlex.join(member_of(absolute(given[1]) if given[1:] else None))
     passed = failed = 0
-    for part in parts:
+    for kind, part in parts:
         with tempfile.TemporaryDirectory() as folder:
-            wrong = part(kind(pathlib.Path(folder), program))
+            tried = kind(pathlib.Path(folder), program, member)
+            try:
+                wrong = part(tried)
+            except (OSError, Ended, subprocess.SubprocessError, json.JSONDecodeError) as error:
+                wrong = [repr(error)]
+            finally:
+                tried.close()
         passed, failed = passed + (not wrong), failed + bool(wrong)
         for line in wrong:
             print(f"refused: {part.__name__}: {line}")
@@ -515,6 +620,5 @@ def try_parts(page: str | None, kind: type[Tried], parts: Iterable[Callable]) ->
 
 
 if __name__ == "__main__":
-    members = (cluster, dropped, unknown, begun_anew, loop, lines_of_a_node, inputs, refused, full_journal)
-    groups = (dictionary, chat, left_out, too_few, last_sent, once, merging)
-    sys.exit(try_parts(__doc__, Tried, members + groups))
+    plain = (sealed, unsealed, begun_anew, second_process, next_life, wrong_keys, inputs, not_read, refused, full_journal, lengths, loop)
+    end(lambda: try_parts(__doc__, [*((Tried, part) for part in plain), (Slow, last_sent)]))

@@ -36,6 +36,10 @@ impl fmt::Display for Notice {
                 f,
                 "what comes of {name} is dropped: another process has this name already; a place comes back as its next life"
             ),
+            Notice::OtherKey(place) => write!(
+                f,
+                "what comes of place {place} is dropped: it isn't sealed by this member's key"
+            ),
             Notice::LeaveWaits => {
                 f.write_str("leaving waits for messages on their way, for a reset, or for another member that leaves")
             }
