@@ -10,7 +10,8 @@ import random
 import sys
 import time
 
-from try_net import SOON, TOP, Process, Tried, end, try_parts
+from processes import SOON, TOP, Process, Tried, try_parts
+from words import end
 
 sys.path.append(str(TOP / "examples"))
 

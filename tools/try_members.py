@@ -11,7 +11,8 @@ import re
 import signal
 import time
 
-from try_net import SOON, Process, Tried, end, letters_of, try_parts
+from processes import SOON, Process, Tried, letters_of, try_parts
+from words import end
 
 from merge import KINDS  # noqa: E402
 from relay import Faults, Relay  # noqa: E402
@@ -32,8 +33,8 @@ def given(members: dict[str, Process], line: str) -> list[str]:
 
 
 def window_full(tried: Tried) -> list[str]:
-    """Where a frozen member keeps the window full the sequencer tells who isn't heard and who holds it; where the sequencer is frozen the others
-    tell that. Then all goes on, and nothing is lost."""
+    """Where a frozen member keeps the window full the sequencer tells who isn't heard and who holds it, and who sends tells that it does so; where
+    the sequencer is frozen the others tell that. Then all goes on, and nothing is lost."""
     members = tried.group("0", "1", "2", more=("--window", "4"))
     members["1"].tell("send hello")
     wrong = given(members, "2 1: hello")
@@ -44,6 +45,8 @@ def window_full(tried: Tried) -> list[str]:
         wrong += [] if members[holds].wants(told) else [f"{holds} doesn't tell that {told}"]
         if frozen == "2" and not members["0"].wants("the window is full: 2 has taken less than the others, and holds them"):
             wrong.append("0 doesn't tell who holds the window")
+        if frozen == "2" and not members["1"].wants("the window is full, so nothing is sent: 0 tells who holds it"):
+            wrong.append("1 doesn't tell that the window is full")
         silent, slow = tried.ask(holds, "status")["silent"], tried.ask(holds, "status")["slow"]
         if silent != [frozen] or slow != ([frozen] if frozen == "2" else []):
             wrong.append(f"its status has {silent} silent, and {slow} slow")

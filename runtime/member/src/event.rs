@@ -199,6 +199,8 @@ pub enum Notice {
     Heard(Name),
     /// Half of the window is used and has been for a while, since this member takes nothing. It is told at the sequencer.
     Slow(Name),
+    /// The sequencer has had no room for an own send for a while. It is told at any other member.
+    Full(Name),
     /// A reset isn't begun, since fewer members run than it is to go on with.
     TooFew {
         /// How many run.

@@ -15,6 +15,10 @@ impl fmt::Display for Notice {
             Notice::Slow(name) => {
                 write!(f, "the window is full: {name} has taken less than the others, and holds them")
             }
+            Notice::Full(sequencer) => write!(
+                f,
+                "the window is full, so nothing is sent: {sequencer} tells who holds it"
+            ),
             Notice::TooFew { running, least } => write!(
                 f,
                 "no reset: {running} members run, and a reset goes on with at least {least}"

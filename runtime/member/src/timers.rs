@@ -79,6 +79,8 @@ pub(crate) struct Timers {
     pub(crate) taken: [u32; 16],
     /// Which places were told as slow.
     pub(crate) slow: [bool; 16],
+    /// Whether it was told that the sequencer has no room.
+    pub(crate) full: bool,
 }
 
 impl Timers {
@@ -96,6 +98,7 @@ impl Timers {
             reported: 0,
             taken: [0; 16],
             slow: [false; 16],
+            full: false,
         }
     }
 
