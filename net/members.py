@@ -5,7 +5,6 @@ import os
 import pathlib
 import secrets
 import signal
-import socket
 import subprocess
 import time
 from collections.abc import Iterator
@@ -16,6 +15,8 @@ from programs import member_of
 from relay import HOST, Faults, Relay
 from seen import differences
 
+# where place 0 listens, and the others behind it
+FIRST_PORT = 7000
 # how long a member may take to begin
 START_SECONDS = 20
 # the status of a joiner that nobody welcomed, and what it says
@@ -30,15 +31,9 @@ class Failed(Exception):
     """Why a run has no result."""
 
 
-def free_ports(count: int) -> list[int]:
-    """So many ports that nobody has now."""
-    sockets = [socket.socket(socket.AF_INET, socket.SOCK_DGRAM) for _ in range(count)]
-    for each in sockets:
-        each.bind((HOST, 0))
-    ports = [each.getsockname()[1] for each in sockets]
-    for each in sockets:
-        each.close()
-    return ports
+def own_host(number: int = 1) -> str:
+    """A host of this machine that other processes have no sockets on, as its number is that of this process: the first one, or another."""
+    return f"127.{1 + os.getpid() // 256 % 254}.{os.getpid() % 256}.{number}"
 
 
 class Members:
@@ -53,13 +48,13 @@ class Members:
         self.stopped: list[str] = []
         self.late: list[str] = []
         self.sent = self.unwelcomed = self.freezes = 0
-        self.ports = free_ports(wanted.nodes)
+        self.homes = [(own_host(), FIRST_PORT + place) for place in range(wanted.nodes)]
         self.founders = ",".join(map(str, range(wanted.nodes)))
         key = folder / "key"
         key.write_text(f"{secrets.token_hex(32)}\n")
         os.chmod(key, 0o600)
         faults = Faults(wanted.loss, wanted.repeat, wanted.reorder, wanted.delay)
-        self.relay = Relay(self.ports, faults, wanted.seed)
+        self.relay = Relay(self.homes, faults, wanted.seed)
         self.relay.start()
 
     def name(self, place: int) -> str:
@@ -74,9 +69,9 @@ class Members:
         """The command of the place's process."""
         wanted = self.wanted
         words = [*self.program, "run", "--name", self.name(place), "--founders", self.founders, "--key", str(self.folder / "key")]
-        for other, home in enumerate(self.ports):
-            port = home if other == place else self.relay.port(place, other)
-            words += ["--address", f"{other}={HOST}:{port}"]
+        for other, home in enumerate(self.homes):
+            host, port = home if other == place else (HOST, self.relay.port(place, other))
+            words += ["--address", f"{other}={host}:{port}"]
         words += ["--resilience", str(wanted.resilience), "--tick", f"{wanted.tick:.0f}", "--input", "commands", "--output", "json"]
         words += ["--least", str(wanted.least)] if wanted.least else []
         words += ["--journal", str(self.file(self.journals, "journal", place)), "--socket", str(self.file(self.folder, "socket", place))]

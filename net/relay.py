@@ -18,6 +18,8 @@ import time
 from typing import NamedTuple
 
 HOST = "127.0.0.1"
+# the address of a host and a port
+Address = tuple[str, int]
 # how many bytes the system keeps for each pair of members, and how many datagrams of a pair are carried in a turn
 KEPT = 1 << 22
 MOST_IN_TURN = 64
@@ -102,10 +104,10 @@ class Pair:
 
 
 class Relay(threading.Thread):
-    """Carries datagrams between the places 0 and on, whose members listen at these ports. For each pair of places the seed says what becomes
+    """Carries datagrams between the places 0 and on, whose members listen at these addresses. For each pair of places the seed says what becomes
     of the first datagram, of the second, and so on."""
 
-    def __init__(self, homes: list[int], faults: Faults, seed: int = 0):
+    def __init__(self, homes: list[Address], faults: Faults, seed: int = 0):
         super().__init__(name="relay", daemon=True)
         self.homes, self.is_over = homes, threading.Event()
         places = range(len(homes))
@@ -138,14 +140,14 @@ class Relay(threading.Thread):
                 return
             except OSError:
                 continue  # an earlier datagram found nobody
-            if data and address == (HOST, self.homes[sender]) and self.carries(sender, reader, data):
+            if data and address == self.homes[sender] and self.carries(sender, reader, data):
                 pair.take(data, time.monotonic())
 
     def let_out(self, sender: int, reader: int) -> None:
         """Sends what is due on a pair's way; what the system doesn't take is lost."""
         for data in self.pairs[sender, reader].ready(time.monotonic()):
             try:
-                self.pairs[reader, sender].socket.sendto(data, (HOST, self.homes[reader]))
+                self.pairs[reader, sender].socket.sendto(data, self.homes[reader])
             except OSError:
                 pass
 

@@ -19,9 +19,9 @@ TOP = pathlib.Path(__file__).resolve().parent.parent
 sys.path.insert(0, str(TOP / "net"))
 
 from member import Caller, Ended, Refused  # noqa: E402
-from members import free_ports  # noqa: E402
+from members import FIRST_PORT, own_host  # noqa: E402
 from programs import member_of  # noqa: E402
-from relay import Faults, Relay  # noqa: E402
+from relay import HOST, Faults, Relay  # noqa: E402
 from words import words  # noqa: E402
 
 # a line of the log, and what it tells
@@ -95,8 +95,7 @@ class Tried:
 
     def __init__(self, folder: pathlib.Path, program: str, member: str):
         self.folder, self.program, self.member = folder, program, member
-        self.ports = free_ports(self.places)
-        self.relay = Relay(self.ports, self.faults) if self.faults else None
+        self.relay = Relay(self.homes(), self.faults) if self.faults else None
         if self.relay:
             self.relay.start()
         self.started: list[Process] = []
@@ -111,7 +110,11 @@ class Tried:
 
     def address(self, place: int) -> tuple[str, int]:
         """The address of a place."""
-        return "127.0.0.2" if place == 2 and not self.relay else "127.0.0.1", self.ports[place]
+        return own_host(2 if place == 2 else 1), FIRST_PORT + place
+
+    def homes(self) -> list[tuple[str, int]]:
+        """The addresses of all places."""
+        return [self.address(place) for place in range(self.places)]
 
     def words(self, name: str, *more: str) -> list[str]:
         """The command of a member. A word that is said twice has its last value."""
@@ -122,7 +125,7 @@ class Tried:
         for place in range(self.places):
             host, port = self.address(place)
             if self.relay and place != own:
-                port = self.relay.port(own, place)
+                host, port = HOST, self.relay.port(own, place)
             words += ["--address", f"{place}={host}:{port}"]
         if options["--key"] == "":
             del options["--key"]
@@ -203,7 +206,7 @@ class Tried:
         children = []
         for number, (more, given) in enumerate(cases, 10):
             words = self.words("0", "--founders", "0", "--resilience", "0", "--input", "messages", *more)
-            words = [re.sub(r"^(\d+=)127\.0\.0\.[12]:", rf"\g<1>127.0.0.{number}:", word) for word in words]
+            words = [re.sub(rf"^(\d+=)({own_host(1)}|{own_host(2)}):", rf"\g<1>{own_host(number)}:", word) for word in words]
             read = given.open("rb") if isinstance(given, pathlib.Path) else subprocess.PIPE
             child = subprocess.Popen(words, stdin=read, stdout=subprocess.PIPE, stderr=subprocess.PIPE)
             if isinstance(given, bytes):

@@ -261,7 +261,7 @@ def relays(_: Tried) -> list[str]:
         for home in homes:
             home.bind((HOST, 0))
             home.settimeout(0.5)
-        relay = Relay([home.getsockname()[1] for home in homes], faults)
+        relay = Relay([home.getsockname() for home in homes], faults)
         relay.start()
         homes[2].sendto(b"a stranger", (HOST, relay.port(0, 1)))
         for data in sent:

@@ -187,7 +187,7 @@ def over_a_reset(tried: Tried) -> list[str]:
 class Cut(Relay):
     """A relay that is told which ways it cuts: of two places, of all kinds of packets or of one."""
 
-    def __init__(self, homes: list[int]):
+    def __init__(self, homes: list[tuple[str, int]]):
         super().__init__(homes, Faults())
         self.cut: dict[tuple[int, int], int | None] = {}
 
@@ -201,7 +201,7 @@ class Cut(Relay):
 
 def fetching(tried: Tried) -> list[str]:
     """A ballot that fetches from a member that then stops gives it up, and goes on."""
-    relay = tried.relay = Cut(tried.ports)
+    relay = tried.relay = Cut(tried.homes())
     relay.start()
     members = tried.group("0", "1", "2", more=("--key", "", "--least", "1"))
     relay.cut[0, 1] = None

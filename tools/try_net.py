@@ -1,4 +1,4 @@
-"""Tries members as processes of muoswyldd, on two addresses of this machine, 127.0.0.1 and 127.0.0.2: they drop what isn't theirs and tell it on
+"""Tries members as processes of muoswyldd, on two addresses of this machine: they drop what isn't theirs and tell it on
 both sides, take inputs and messages of all sorts, and keep journals; and the loop of docs/NETWORK.md.
 
     python3 tools/try_net.py PROGRAM [MEMBER]
@@ -23,7 +23,7 @@ from processes import SOON, TOP, Tried, letters_of, try_parts
 from words import end
 
 from member import Ended, Refused  # noqa: E402
-from members import free_ports  # noqa: E402
+from members import own_host  # noqa: E402
 from relay import Faults, Relay  # noqa: E402
 
 # what a member tells of what it drops
@@ -40,19 +40,19 @@ def bound(address: tuple[str, int]) -> socket.socket:
     return there
 
 
-def metric(port: int, name: str) -> int:
+def metric(address: str, name: str) -> int:
     """A metric of a member."""
-    with urllib.request.urlopen(f"http://127.0.0.1:{port}/metrics", timeout=SOON) as answer:
+    with urllib.request.urlopen(f"http://{address}/metrics", timeout=SOON) as answer:
         (value,) = re.findall(rf"^muoswyld_{name} (\d+)$", answer.read().decode(), re.MULTILINE)
     return int(value)
 
 
 def sealed(tried: Tried) -> list[str]:
     """What comes from elsewhere, or isn't sealed, is dropped and counted, each changed datagram too; what is sealed is heard."""
-    port = free_ports(1)[0]
+    serves = f"{own_host()}:9100"
     wrong = []
     with bound(tried.address(2)) as place_2, socket.socket(socket.AF_INET, socket.SOCK_DGRAM) as other:
-        members = {"0": tried.start("0", "--metrics", f"127.0.0.1:{port}"), "1": tried.start("1")}
+        members = {"0": tried.start("0", "--metrics", serves), "1": tried.start("1")}
         letter = place_2.recv(65536)
         wrong += [] if letter[0] == 0xA1 else [f"a datagram begins with {letter[0]:02x}"]
         changed = [letter[:at] + bytes([letter[at] ^ 1]) + letter[at + 1 :] for at in (0, 1, 16, 17, 24, 25, len(letter) - 1)]
@@ -65,7 +65,7 @@ def sealed(tried: Tried) -> list[str]:
         members["1"].tell("send hello")
         wrong += [f"{name} wasn't given it" for name, member in members.items() if not member.wants("2 1: hello")]
         told = members["0"].wants("no line is this", 0.1)
-    counted, wanted = metric(port, "datagrams_dropped_total"), len(changed) + len(cut) + 2 + 4
+    counted, wanted = metric(serves, "datagrams_dropped_total"), len(changed) + len(cut) + 2 + 4
     if told or counted != wanted:
         wrong.append(f"dropped are {counted}, of {wanted}")
     statuses = [member.end() for member in members.values()]
@@ -103,7 +103,7 @@ def unsealed(tried: Tried) -> list[str]:
 class Recording(Relay):
     """A relay that keeps what it carries to place 0."""
 
-    def __init__(self, homes: list[int]):
+    def __init__(self, homes: list[tuple[str, int]]):
         super().__init__(homes, Faults())
         self.kept: list[bytes] = []
 
@@ -115,7 +115,7 @@ class Recording(Relay):
 
 def begun_anew(tried: Tried) -> list[str]:
     """Letters of a run aren't taken by the group that begins anew with the same names and the same key."""
-    tried.relay = Recording(tried.ports)
+    tried.relay = Recording(tried.homes())
     tried.relay.start()
     two = "--founders", "0,1"
     old = tried.group("0", "1", more=two)
@@ -246,7 +246,7 @@ def refused(tried: Tried) -> list[str]:
         (["--address", "3=127.0.0.1:99999"], 78, "127.0.0.1:99999: invalid port value"),
         (["--address", "3=127.0.0.1"], 78, "127.0.0.1: invalid socket address"),
         (["--address", "3=[::1]:4000"], 78, "[::1]:4000 is of another kind than the addresses before it"),
-        (["--address", f"3=127.0.0.1:{tried.ports[0]}"], 78, "is the address of two places"),
+        (["--address", "3=%s:%d" % tried.address(0)], 78, "is the address of two places"),
         (["--address", "0=127.0.0.1:4000"], 78, "place 0 has two addresses"),
         (["--address", "3=no.such.host.invalid:4000"], 78, "no.such.host.invalid:4000: "),
         (["--output", "socket"], 78, "--output socket wants --socket"),
