@@ -2,10 +2,11 @@
 """Builds the member in native code and the program muoswyldd, with the proved library of a node.
 
     tools/runtime.py               builds runtime/target/release/muoswyldd
-    tools/runtime.py test          runs the tests of the workspace too, and looks at its form
+    tools/runtime.py test          runs the tests of the workspace too, and checks its form
 
-It makes the node's library first, if it isn't there (tools/library.py). The other libraries are those of Debian's packages: what is
-missing of these is installed, if this is run by root, and else named in a line. With CRATES_IO=1 cargo takes them from crates.io.
+If the node's library isn't there, it makes it first (tools/library.py). The other libraries come from Debian's packages. If some are missing,
+it installs them if root runs it, and otherwise names them in a line. With CRATES_IO=1 cargo takes them from crates.io. With MUOSWYLD_UNPROVED=1
+it makes and takes a library of which nothing is proved.
 """
 
 import os
@@ -13,21 +14,25 @@ import pathlib
 import shutil
 import subprocess
 import sys
+from typing import Any
 
 from words import end, words
 
 TOP = pathlib.Path(__file__).resolve().parent.parent
 HOME = TOP / "runtime"
 SOURCES = pathlib.Path("/usr/share/cargo/registry")
-# the crates that the workspace names, and the packages of Debian that have them and what they stand on
+# the crates that the workspace needs, some with a version, and the packages of Debian that have them and what they stand on
 PACKAGES = {
-    "clap": "clap-derive",
+    "bit-set": "bit-set",
+    "clap-4": "clap",
+    "clap_derive-4": "clap-derive",
     "hex": "hex",
     "libc": "libc",
     "prometheus": "prometheus",
     "proptest": "proptest",
     "quick-error": "quick-error",
     "ring": "ring",
+    "rusty-fork": "rusty-fork",
     "serde": "serde-derive",
     "serde_json": "serde-json",
     "signal-hook": "signal-hook",
@@ -37,6 +42,7 @@ PACKAGES = {
     "toml": "toml",
     "tracing": "tracing",
     "tracing-subscriber": "tracing-subscriber",
+    "wait-timeout": "wait-timeout",
 }
 
 
@@ -46,8 +52,8 @@ class Missing(Exception):
 
 def missing_packages() -> list[str]:
     """The packages of Debian that aren't installed."""
-    there = {folder.name.rsplit("-", 1)[0] for folder in SOURCES.glob("*-[0-9]*")} if SOURCES.is_dir() else set()
-    return [f"librust-{package}-dev" for crate, package in PACKAGES.items() if crate not in there]
+    patterns = {crate: f"{crate}.*" if crate[-1:].isdigit() else f"{crate}-[0-9]*" for crate in PACKAGES}
+    return [f"librust-{package}-dev" for crate, package in PACKAGES.items() if not any(SOURCES.glob(patterns[crate]))]
 
 
 def install() -> None:
@@ -58,7 +64,7 @@ def install() -> None:
     command = ["apt-get", "install", "-y", "--no-install-recommends", *packages]
     if os.geteuid() != 0 or shutil.which("apt-get") is None:
         raise Missing(f"packages of Debian are missing, or CRATES_IO=1 for crates.io: {' '.join(command)}")
-    quiet = {"stdout": subprocess.DEVNULL, "stderr": subprocess.DEVNULL}
+    quiet: dict[str, Any] = {"stdout": subprocess.DEVNULL, "stderr": subprocess.DEVNULL}
     subprocess.run(["apt-get", "update"], check=False, **quiet)
     subprocess.run(command, check=False, env={**os.environ, "DEBIAN_FRONTEND": "noninteractive"}, **quiet)
     if packages := missing_packages():
@@ -86,7 +92,8 @@ def main() -> int:
     except Missing as error:
         print(f"tools/runtime.py: {error}", file=sys.stderr)
         return 1
-    if status := subprocess.run([sys.executable, TOP / "tools" / "library.py"], check=False).returncode:
+    is_quick = bool(os.environ.get("MUOSWYLD_UNPROVED"))
+    if status := subprocess.run([sys.executable, TOP / "tools" / "library.py", *["--quick"] * is_quick], check=False).returncode:
         return status
     if status := cargo("build", "--release"):
         return status
