@@ -52,7 +52,7 @@ class Missing(Exception):
 
 def missing_packages() -> list[str]:
     """The packages of Debian that aren't installed."""
-    patterns = {crate: f"{crate}.*" if crate[-1:].isdigit() else f"{crate}-[0-9]*" for crate in PACKAGES}
+    patterns = {crate: f"{crate}.*" if crate.rpartition("-")[2].isdigit() else f"{crate}-[0-9]*" for crate in PACKAGES}
     return [f"librust-{package}-dev" for crate, package in PACKAGES.items() if not any(SOURCES.glob(patterns[crate]))]
 
 
