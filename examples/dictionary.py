@@ -89,7 +89,7 @@ class Dictionary:
     """A member's copy of the contents, without any network. `send` sends a command and `send_part` a part of contents, one after the other
     each, and the two beside each other; `others` tells the other members that aren't known to have stopped."""
 
-    def __init__(self, name: str, send: Callable[[bytes], None], send_part: Callable[[bytes], None], others: Callable[[], list[str]]):
+    def __init__(self, name: str, send: Callable[[bytes], None], send_part: Callable[[bytes], None], others: Callable[[], list[str]]) -> None:
         self.name, self.send, self.send_part, self.others = name, send, send_part, others
         self.contents: dict[str, str] = {}
         self.is_ready = False
@@ -214,6 +214,7 @@ def run(path: str) -> None:
     caller, sender, parts, urgent = Caller(path), Sender(path), Sender(path), Sender(path)
 
     def others() -> list[str]:
+        """The other members that aren't known to have stopped."""
         status = caller.ask("status")
         return [name for name in status["members"] if name != status["name"] and name not in status["stopped"]]
 

@@ -21,7 +21,7 @@ STATUSES = (0, 76)
 class Input(threading.Thread):
     """Writes lines to a member's input, so that nobody waits for one that doesn't read yet. `messages` are those that it was given."""
 
-    def __init__(self, pipe: IO[bytes]):
+    def __init__(self, pipe: IO[bytes]) -> None:
         super().__init__(daemon=True)
         self.pipe = pipe
         self.lines: queue.Queue[str | None] = queue.Queue()
@@ -54,7 +54,7 @@ class Input(threading.Thread):
 class Asker(threading.Thread):
     """Sends messages by a member's socket, one after the other. `answers` has what became of each that was answered."""
 
-    def __init__(self, path: pathlib.Path, child: subprocess.Popen[bytes]):
+    def __init__(self, path: pathlib.Path, child: subprocess.Popen[bytes]) -> None:
         super().__init__(daemon=True)
         self.path, self.child = path, child
         self.wanted: queue.Queue[str | None] = queue.Queue()
@@ -95,7 +95,7 @@ class Asker(threading.Thread):
 class Running:
     """A life whose process was started: who gives it messages, and what it printed."""
 
-    def __init__(self, name: str, child: subprocess.Popen[bytes], socket_path: pathlib.Path, printed: pathlib.Path):
+    def __init__(self, name: str, child: subprocess.Popen[bytes], socket_path: pathlib.Path, printed: pathlib.Path) -> None:
         assert child.stdin
         self.name, self.child, self.log = name, child, Log(printed)
         self.input = Input(child.stdin)
@@ -111,13 +111,14 @@ class Running:
 
     def close(self) -> None:
         """Ends its input, and its callers."""
-        for each in (self.input, *self.askers):
-            each.close()
+        self.input.close()
+        for asker in self.askers:
+            asker.close()
 
     def seen(self) -> Seen:
         """What its application sent and saw."""
         self.log.read()
-        channels = [list(each.messages) for each in (self.input, *self.askers)]
+        channels = [list(self.input.messages), *(list(asker.messages) for asker in self.askers)]
         answers = {message: answer for asker in self.askers for message, answer in list(asker.answers.items())}
         return Seen(self.name, channels, answers, self.log.deliveries, self.child.poll() in STATUSES and not self.is_killed)
 

@@ -104,7 +104,9 @@ def hundredths(values: list[int], share: int) -> str:
 def times_of(lives: list[Life]) -> tuple[list[int], list[int], int]:
     """Microseconds from each send to its answer `sent`, and to the last take of it, and how many entries were taken."""
     begun: dict[tuple[str, str], int] = {}
-    answered, last_take, taken = [], {}, 0
+    answered: list[int] = []
+    last_take: dict[tuple[str, str], int] = {}
+    taken = 0
     for life in lives:
         for step in life.steps:
             if step.answer.startswith("queued "):
@@ -171,6 +173,7 @@ def number_of(kind: Callable[[str], float], least: float, most: float) -> Callab
     """What reads a word of the command that is a number, of a kind and in a range."""
 
     def read(text: str) -> float:
+        """The number of a word."""
         with contextlib.suppress(ValueError):
             if least <= (value := kind(text)) <= most:
                 return value

@@ -17,6 +17,7 @@ import sys
 import threading
 import time
 from collections.abc import Callable, Iterator
+from dataclasses import dataclass
 from typing import Any, NamedTuple
 
 
@@ -28,7 +29,8 @@ class Ended(Exception):
     """How the member ended, as far as that is known."""
 
 
-class Position(NamedTuple):
+@dataclass(frozen=True, order=True)
+class Position:
     """Where something stands in the group's list: the number of the entry, and its index among the messages of that entry."""
 
     number: int
@@ -60,7 +62,7 @@ def shown(message: bytes) -> str:
 class Caller:
     """A connection to a member. It is an OSError if no member listens at the path."""
 
-    def __init__(self, path: str | os.PathLike[str]):
+    def __init__(self, path: str | os.PathLike[str]) -> None:
         self.socket = socket.socket(socket.AF_UNIX, socket.SOCK_STREAM)
         try:
             self.socket.connect(os.fspath(path))
@@ -77,7 +79,8 @@ class Caller:
             line = b""
         if not line.endswith(b"\n"):
             raise Ended("the member has ended, or the connection is closed")
-        return json.loads(line)
+        said: dict[str, Any] = json.loads(line)
+        return said
 
     def ask(self, command: bytes | str) -> dict[str, Any]:
         """Gives the member a command, and waits for its answer."""
@@ -121,7 +124,7 @@ def complain(text: str) -> None:
 class Sender(threading.Thread):
     """Gives a member commands, one after the other, while others go on. What the member refuses is said on standard error."""
 
-    def __init__(self, path: str):
+    def __init__(self, path: str) -> None:
         super().__init__(daemon=True)
         self.caller = Caller(path)
         self.commands: queue.Queue[bytes] = queue.Queue()
@@ -159,6 +162,7 @@ def events(path: str, tick_seconds: float = 1) -> Iterator[Delivery | bytes | No
     came: queue.Queue[Delivery | bytes | Exception] = queue.Queue()
 
     def hear() -> None:
+        """Hands over deliveries, and last how the member ended."""
         try:
             for delivery in heard.deliveries():
                 came.put(delivery)
@@ -166,6 +170,7 @@ def events(path: str, tick_seconds: float = 1) -> Iterator[Delivery | bytes | No
             came.put(end)
 
     def read() -> None:
+        """Hands over lines of standard input, and last its end."""
         rest = b""
         while data := os.read(0, 1 << 16):
             *lines, rest = (rest + data).split(b"\n")

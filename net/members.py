@@ -39,7 +39,7 @@ def own_host(number: int = 1) -> str:
 class Members:
     """The members, by place, and the relay between them. Journals are in one folder, what else they need in another."""
 
-    def __init__(self, wanted: argparse.Namespace, journals: pathlib.Path, folder: pathlib.Path):
+    def __init__(self, wanted: argparse.Namespace, journals: pathlib.Path, folder: pathlib.Path) -> None:
         self.wanted, self.journals, self.folder = wanted, journals, folder
         self.program = member_of(wanted.member)
         self.lives = [1] * wanted.nodes

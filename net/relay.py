@@ -51,7 +51,7 @@ class Counts(NamedTuple):
 class Pair:
     """The way from one place to another: the socket where the first reaches the second, and what becomes of its datagrams."""
 
-    def __init__(self, faults: Faults, draw: random.Random):
+    def __init__(self, faults: Faults, draw: random.Random) -> None:
         self.faults, self.draw = faults, draw
         self.carried = self.lost = self.repeated = self.reordered = 0
         self.numbers = itertools.count()
@@ -90,7 +90,8 @@ class Pair:
 
     def due(self) -> float:
         """When the next one is due."""
-        return min([when for when, *_ in (*self.waiting[:1], *([self.held] if self.held else []))], default=float("inf"))
+        waiting = self.waiting[0][0] if self.waiting else float("inf")
+        return min(waiting, self.held[0]) if self.held else waiting
 
     def ready(self, now: float) -> list[bytes]:
         """What goes out now: what is due, and behind its first one the datagram that is held."""
@@ -107,7 +108,7 @@ class Relay(threading.Thread):
     """Carries datagrams between the places 0 and on, whose members listen at these addresses. For each pair of places the seed says what becomes
     of the first datagram, of the second, and so on."""
 
-    def __init__(self, homes: list[Address], faults: Faults, seed: int = 0):
+    def __init__(self, homes: list[Address], faults: Faults, seed: int = 0) -> None:
         super().__init__(name="relay", daemon=True)
         self.homes, self.is_over = homes, threading.Event()
         places = range(len(homes))
@@ -120,7 +121,7 @@ class Relay(threading.Thread):
 
     def port(self, sender: int, reader: int) -> int:
         """Where the first place reaches the second."""
-        return self.pairs[sender, reader].socket.getsockname()[1]
+        return int(self.pairs[sender, reader].socket.getsockname()[1])
 
     def counts(self) -> Counts:
         """What became of all datagrams."""

@@ -14,6 +14,7 @@ import json
 import pathlib
 from collections.abc import Iterator
 from dataclasses import dataclass, replace
+from typing import Any
 
 from member import Position
 from merge import Life
@@ -26,9 +27,9 @@ SHARE = 1019
 class Log:
     """What a member prints, an object of JSON a line, read as it comes; a last line that is cut isn't there."""
 
-    def __init__(self, path: pathlib.Path):
+    def __init__(self, path: pathlib.Path) -> None:
         self.path, self.offset = path, 0
-        self.deliveries: list[dict] = []
+        self.deliveries: list[dict[str, Any]] = []
 
     def read(self) -> None:
         """Reads what came since the last time."""
@@ -51,7 +52,7 @@ class Seen:
     name: str
     channels: list[list[str]]
     answers: dict[str, Position | None]  # none where it was refused
-    log: list[dict]
+    log: list[dict[str, Any]]
     has_ended: bool  # by the end of its input
 
     def missing(self) -> set[str]:
@@ -61,20 +62,20 @@ class Seen:
         return {message for channel in self.channels for message in channel} - refused - own
 
 
-def at_of(delivery: dict) -> Position:
+def at_of(delivery: dict[str, Any]) -> Position:
     """Where a delivery stands."""
     return Position(delivery["number"], delivery["index"])
 
 
-def shown(delivery: dict) -> str:
+def shown(delivery: dict[str, Any]) -> str:
     """A delivery in a line, cut where it is long."""
     text = json.dumps(delivery)
     return text if len(text) <= 100 else f"{text[:97]}.."
 
 
-def one_list(lives: list[Seen]) -> tuple[dict[Position, dict], list[str]]:
+def one_list(lives: list[Seen]) -> tuple[dict[Position, dict[str, Any]], list[str]]:
     """The list of which each life was given a piece, in order, and what speaks against that."""
-    found: dict[Position, dict] = {}
+    found: dict[Position, dict[str, Any]] = {}
     wrong = []
     for life in lives:
         last = None
@@ -92,11 +93,11 @@ def begins(life: Seen) -> bool:
     """Whether a life's piece begins with the founders' view, or with its own join."""
     first = life.log[0]
     if "/" in life.name:
-        return first["kind"] == "joined" and first["name"] == life.name
-    return first["kind"] == "view" and first["number"] == 1 and life.name in first["members"]
+        return bool(first["kind"] == "joined" and first["name"] == life.name)
+    return bool(first["kind"] == "view" and first["number"] == 1 and life.name in first["members"])
 
 
-def gaps(life: Seen, whole: dict[Position, dict]) -> Iterator[str]:
+def gaps(life: Seen, whole: dict[Position, dict[str, Any]]) -> Iterator[str]:
     """What stands between two deliveries of a life, and wasn't given to it."""
     had = {at_of(delivery) for delivery in life.log}
     first, last = min(had), max(had)
@@ -111,7 +112,7 @@ def gaps(life: Seen, whole: dict[Position, dict]) -> Iterator[str]:
         spoke.add(sender)
 
 
-def of_sender(life: Seen, whole: dict[Position, dict], claimed: int | None) -> Iterator[str]:
+def of_sender(life: Seen, whole: dict[Position, dict[str, Any]], claimed: int | None) -> Iterator[str]:
     """What of the list isn't what a life sent, in the order in which it sent it; and what is missing of it, up to the last number that is
     claimed of what it was given, where that isn't all."""
     places: dict[str, Position] = {}
@@ -188,7 +189,7 @@ def taken(life: Life) -> Iterator[tuple[Position, str, str]]:
             yield Position(int(number), 0), {"join": "joined", "leave": "left"}[kind], rest[0]
 
 
-def printed(delivery: dict) -> tuple[Position, str, str]:
+def printed(delivery: dict[str, Any]) -> tuple[Position, str, str]:
     """A delivery, as a journal has it."""
     match delivery["kind"]:
         case "message":

@@ -14,6 +14,7 @@ import tempfile
 import threading
 import time
 from collections.abc import Callable, Iterable
+from typing import Any
 
 TOP = pathlib.Path(__file__).resolve().parent.parent
 sys.path.insert(0, str(TOP / "net"))
@@ -33,9 +34,9 @@ SOON = 30
 class Process:
     """A process whose lines are read as they come, also those of its log, of which only what they tell is kept."""
 
-    def __init__(self, command: list[str]):
-        pipes = {"stdin": subprocess.PIPE, "stdout": subprocess.PIPE, "stderr": subprocess.STDOUT}
-        self.child = subprocess.Popen(command, text=True, bufsize=1, errors="replace", **pipes)
+    def __init__(self, command: list[str]) -> None:
+        pipe = subprocess.PIPE
+        self.child = subprocess.Popen(command, text=True, bufsize=1, errors="replace", stdin=pipe, stdout=pipe, stderr=subprocess.STDOUT)
         self.lines: queue.Queue[str] = queue.Queue()
         threading.Thread(target=self.read, daemon=True).start()
 
@@ -52,7 +53,8 @@ class Process:
 
     def until(self, wanted: str, seconds: float = SOON) -> list[str]:
         """The lines that come in so much time, up to the first that is this one."""
-        ends, lines = time.monotonic() + seconds, []
+        ends = time.monotonic() + seconds
+        lines: list[str] = []
         with contextlib.suppress(queue.Empty):
             while lines[-1:] != [wanted]:
                 lines.append(self.lines.get(timeout=max(0, ends - time.monotonic())))
@@ -93,7 +95,7 @@ class Tried:
     # what the network does, where it isn't left alone
     faults: Faults | None = None
 
-    def __init__(self, folder: pathlib.Path, program: str, member: str):
+    def __init__(self, folder: pathlib.Path, program: str, member: str) -> None:
         self.folder, self.program, self.member = folder, program, member
         self.relay = Relay(self.homes(), self.faults) if self.faults else None
         if self.relay:
@@ -159,7 +161,7 @@ class Tried:
                     raise
                 time.sleep(0.01)
 
-    def ask(self, name: str, command: str) -> dict:
+    def ask(self, name: str, command: str) -> dict[str, Any]:
         """What a member answers to a command, also where it refuses it."""
         caller = self.caller(name)
         try:
@@ -234,7 +236,7 @@ def absolute(command: str) -> str:
     return shlex.join([os.path.abspath(word) if os.path.exists(word) else word for word in shlex.split(command)])
 
 
-def try_parts(page: str | None, parts: Iterable[tuple[type[Tried], Callable]]) -> int:
+def try_parts(page: str | None, parts: Iterable[tuple[type[Tried], Callable[[Any], list[str]]]]) -> int:
     """Tries each part in a folder of its own, with the programs that the words of the call name; 1 where one fails."""
     given = words(page or "", 1, 2)
     program, member = absolute(given[0]), shlex.join(member_of(absolute(given[1]) if given[1:] else None))

@@ -17,6 +17,7 @@ import subprocess
 import sys
 import tempfile
 import time
+from typing import Any
 
 TOP = pathlib.Path(__file__).resolve().parent.parent
 sys.path.insert(0, str(TOP / "net"))
@@ -74,7 +75,7 @@ MOST_SECONDS = 200
 
 def ran(tool: str, *given: object, out: int = subprocess.PIPE) -> tuple[int, str, str]:
     """The status of a tool of net/, what it wrote and what it told."""
-    command = [TOP / "net" / tool, *map(str, given)]
+    command = [str(TOP / "net" / tool), *map(str, given)]
     done = subprocess.run(command, stdout=out, stderr=subprocess.PIPE, text=True, timeout=MOST_SECONDS, check=False)
     return done.returncode, done.stdout or "", done.stderr
 
@@ -82,7 +83,7 @@ def ran(tool: str, *given: object, out: int = subprocess.PIPE) -> tuple[int, str
 class Tried:
     """A folder, the judge, and the member."""
 
-    def __init__(self, folder: pathlib.Path, program: str, member: str):
+    def __init__(self, folder: pathlib.Path, program: str, member: str) -> None:
         self.folder, self.program, self.member = folder, program, member
 
     def python(self, name: str, text: str, change: str, program: str) -> str:
@@ -281,7 +282,7 @@ def relays(_: Tried) -> list[str]:
     return wrong
 
 
-def message(number: int, index: int, sender: str, text: str) -> dict:
+def message(number: int, index: int, sender: str, text: str) -> dict[str, Any]:
     """A delivery of a message."""
     return {"number": number, "index": index, "kind": "message", "from": sender, "text": text}
 

@@ -27,7 +27,7 @@ PAIRS = 100
 class Listed:
     """A member whose group is a list that it is given entry by entry."""
 
-    def __init__(self, group: "Group", name: str, front: int):
+    def __init__(self, group: "Group", name: str, front: int) -> None:
         self.group, self.name, self.front = group, name, front
         self.messages: list[bytes] = []
         self.parts: list[bytes] = []
@@ -57,7 +57,7 @@ class Listed:
 class Group:
     """A list, who is a member now, and what a random run does with them."""
 
-    def __init__(self, seed: int):
+    def __init__(self, seed: int) -> None:
         self.draw = random.Random(seed)
         self.entries: list[tuple[str, bytes]] = []
         self.lives = dict.fromkeys(range(5), 1)
@@ -144,7 +144,7 @@ def bounds(_: Tried) -> list[str]:
 class Application:
     """An application with its member."""
 
-    def __init__(self, tried: Tried, script: str, name: str):
+    def __init__(self, tried: Tried, script: str, name: str) -> None:
         self.member = tried.start(name, "--input", "nothing", "--output", "socket", "--least", "1")
         tried.caller(name).close()
         self.own = Process([sys.executable, str(TOP / "examples" / script), str(tried.socket(name))])
@@ -183,6 +183,7 @@ def dictionary(tried: Tried) -> list[str]:
     wrong = []
 
     def gets(name: str, key: str, value: str) -> None:
+        """Notes that a member hasn't a value."""
         if not members[name].gets(f"get {key}", value):
             wrong.append(f"{name} hasn't {value} at {key}")
 

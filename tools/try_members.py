@@ -187,7 +187,7 @@ def over_a_reset(tried: Tried) -> list[str]:
 class Cut(Relay):
     """A relay that is told which ways it cuts: of two places, of all kinds of packets or of one."""
 
-    def __init__(self, homes: list[tuple[str, int]]):
+    def __init__(self, homes: list[tuple[str, int]]) -> None:
         super().__init__(homes, Faults())
         self.cut: dict[tuple[int, int], int | None] = {}
 

@@ -82,6 +82,7 @@ def unsealed(tried: Tried) -> list[str]:
         head = datagram[:10]
 
         def letter(name: int, packet: bytes, places: int = 1, flags: int = 0) -> bytes:
+            """A name's letter to some places."""
             fields = name, b"process!", (1).to_bytes(4, "big"), flags, places.to_bytes(2, "big"), len(packet).to_bytes(2, "big")
             return b"".join(bytes([field]) if isinstance(field, int) else field for field in fields) + packet
 
@@ -103,7 +104,7 @@ def unsealed(tried: Tried) -> list[str]:
 class Recording(Relay):
     """A relay that keeps what it carries to place 0."""
 
-    def __init__(self, homes: list[tuple[str, int]]):
+    def __init__(self, homes: list[tuple[str, int]]) -> None:
         super().__init__(homes, Faults())
         self.kept: list[bytes] = []
 
@@ -295,7 +296,8 @@ def received(there: socket.socket) -> bytes | None:
 def lengths(tried: Tried) -> list[str]:
     """Messages of each length at which something changes come whole, at the socket and in the order in which they were sent."""
     members = tried.group("0", "1", more=("--founders", "0,1"))
-    caller, heard = tried.caller("1"), []
+    caller = tried.caller("1")
+    heard: list[str] = []
     sizes = [0, 1, 1020, 1021, 1022, 1024, 2038, 2039, 65534, 65535]
     positions = [caller.send(b"%d" % (size % 10) * size) for size in sizes]
     wrong = [] if positions == sorted(positions) else [f"they stand at {positions}"]
@@ -335,9 +337,10 @@ def last_sent(tried: Tried) -> list[str]:
 class Looped:
     """A member whose loop is that of docs/NETWORK.md: its lines are a queue, and its network those of the others."""
 
-    def __init__(self, name: str):
+    def __init__(self, name: str) -> None:
         self.lines: queue.Queue[str | None] = queue.Queue()
-        self.name, self.took_bodies = name, []
+        self.name = name
+        self.took_bodies: list[str] = []
         self.all: dict[str, Looped] = {}
 
     def send(self, names: list[str], line: str) -> None:
