@@ -19,24 +19,26 @@ from words import end, words
 TOP = pathlib.Path(__file__).resolve().parent.parent
 HOME = TOP / "runtime"
 SOURCES = pathlib.Path("/usr/share/cargo/registry")
-# the crates that the workspace names, and the packages of Debian that have them and what they stand on
+# the crates that the workspace names, as its Cargo.toml files have their versions, and the packages of Debian that have them and what they
+# stand on; a package of another version may be there too
 PACKAGES = {
-    "clap": "clap-derive",
-    "hex": "hex",
-    "libc": "libc",
-    "prometheus": "prometheus",
-    "proptest": "proptest",
-    "quick-error": "quick-error",
-    "ring": "ring",
-    "serde": "serde-derive",
-    "serde_json": "serde-json",
-    "signal-hook": "signal-hook",
-    "socket2": "socket2",
-    "thiserror": "thiserror",
-    "tiny_http": "tiny-http",
-    "toml": "toml",
-    "tracing": "tracing",
-    "tracing-subscriber": "tracing-subscriber",
+    "clap-4": "clap",
+    "hex-0.4": "hex",
+    "libc-0.2": "libc",
+    "prometheus-0.13": "prometheus",
+    "proptest-1": "proptest",
+    "quick-error-2": "quick-error",
+    "ring-0.16": "ring",
+    "serde-1": "serde",
+    "serde_derive-1": "serde-derive",
+    "serde_json-1": "serde-json",
+    "signal-hook-0.3": "signal-hook",
+    "socket2-0.4": "socket2",
+    "thiserror-1": "thiserror",
+    "tiny_http-0.12": "tiny-http",
+    "toml-0.5": "toml",
+    "tracing-0.1": "tracing",
+    "tracing-subscriber-0.3": "tracing-subscriber",
 }
 
 
@@ -46,8 +48,7 @@ class Missing(Exception):
 
 def missing_packages() -> list[str]:
     """The packages of Debian that aren't installed."""
-    there = {folder.name.rsplit("-", 1)[0] for folder in SOURCES.glob("*-[0-9]*")} if SOURCES.is_dir() else set()
-    return [f"librust-{package}-dev" for crate, package in PACKAGES.items() if crate not in there]
+    return [f"librust-{package}-dev" for crate, package in PACKAGES.items() if not any(SOURCES.glob(f"{crate}.*"))]
 
 
 def install() -> None:
