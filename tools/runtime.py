@@ -13,42 +13,32 @@ import pathlib
 import shutil
 import subprocess
 import sys
+import tomllib
 
 from words import end, words
 
 TOP = pathlib.Path(__file__).resolve().parent.parent
 HOME = TOP / "runtime"
 SOURCES = pathlib.Path("/usr/share/cargo/registry")
-# the crates that the workspace names, as its Cargo.toml files have their versions, and the packages of Debian that have them and what they
-# stand on; a package of another version may be there too
-PACKAGES = {
-    "clap-4": "clap",
-    "hex-0.4": "hex",
-    "libc-0.2": "libc",
-    "prometheus-0.13": "prometheus",
-    "proptest-1": "proptest",
-    "quick-error-2": "quick-error",
-    "ring-0.16": "ring",
-    "serde-1": "serde",
-    "serde_derive-1": "serde-derive",
-    "serde_json-1": "serde-json",
-    "signal-hook-0.3": "signal-hook",
-    "socket2-0.4": "socket2",
-    "thiserror-1": "thiserror",
-    "tiny_http-0.12": "tiny-http",
-    "toml-0.5": "toml",
-    "tracing-0.1": "tracing",
-    "tracing-subscriber-0.3": "tracing-subscriber",
-}
 
 
 class Missing(Exception):
     """What is needed and isn't there."""
 
 
+def is_there(name: str, version: str) -> bool:
+    """Whether a crate is installed, in this version or one that Cargo takes in its place."""
+    numbers = version.split(".")
+    same = numbers[:1] if numbers[0] != "0" else numbers[:2]
+    return any(SOURCES.glob(f"{name}-{'.'.join(same)}.*"))
+
+
 def missing_packages() -> list[str]:
-    """The packages of Debian that aren't installed."""
-    return [f"librust-{package}-dev" for crate, package in PACKAGES.items() if not any(SOURCES.glob(f"{crate}.*"))]
+    """The packages of Debian that have the crates of Cargo.lock and aren't installed."""
+    with open(HOME / "Cargo.lock", "rb") as file:
+        crates = tomllib.load(file)["package"]
+    wanted = {crate["name"] for crate in crates if "source" in crate and not is_there(crate["name"], crate["version"])}
+    return sorted(f"librust-{name.replace('_', '-').lower()}-dev" for name in wanted)
 
 
 def install() -> None:
