@@ -82,7 +82,7 @@ impl Member {
     }
 
     /// The members that haven't stopped.
-    fn running(&self) -> Names {
+    pub(crate) fn running(&self) -> Names {
         let members = self.standing.members;
         members
             .iter()
@@ -244,12 +244,16 @@ impl Member {
         since.after(wait).max(self.resetting.patience)
     }
 
-    /// When an asker that stays unwelcomed ends.
+    /// When an asker ends that stays unwelcomed after it gave its vote to resets: later after one alone.
     fn unwelcomed_at(&self) -> Time {
-        if self.standing.role == Role::Asking && self.resetting.votes > 1 {
-            return self.resetting.voted_at.after(self.settings.stuck_after);
-        }
-        Time::NEVER
+        let wait = self.settings.stuck_after;
+        let wait = match self.resetting.votes {
+            _ if self.standing.role != Role::Asking => return Time::NEVER,
+            0 => return Time::NEVER,
+            1 => wait.saturating_mul(4),
+            _ => wait,
+        };
+        self.resetting.voted_at.after(wait)
     }
 
     /// When this member has to look at the group.
