@@ -1,11 +1,10 @@
 #!/usr/bin/env python3
-"""Audits a printed text: whose logs agree with each other, with the group list, and with the events. docs/AUDIT.md says what each
-verdict is.
+"""Audits a printed text: do its logs agree with each other, with the group list, and with the events? docs/AUDIT.md has the verdicts.
 
     tools/audit.py < TEXT
 
-It is written from that page alone, and does what `./muoswyld audit` does. It writes the verdict, and ends with 0 where it is `agrees` or
-`lists-agree`, else with 9; with 8 where the input is no text, with 3 where it is too long; then the cause stands on standard error.
+It is written from that page alone, and does what `./muoswyld audit` does. It writes the verdict. It ends with 0 if that is `agrees` or
+`lists-agree`, with 9 for another verdict, with 8 if the input is no text, and with 3 if it is too long; then the cause is on standard error.
 """
 
 import re
@@ -14,18 +13,13 @@ from collections.abc import Iterator
 from dataclasses import dataclass, field
 from itertools import islice
 
+import grammar
 from words import end, taken, words
 
 MOST_BYTES = 16_777_216
 MOST_NUMBER = 2_000_000_000
-MOST_BODY = 1_024
 
-NUMBER = rb"(0|[1-9][0-9]{0,9})"
-PLACE = rb"(?:[0-9]|1[0-5])"
-NAME = rb"(?:[0-9]|1[0-5])(?:/(?:[2-9]|1[0-6]))?"
-BODY = rb"(?:-|(?:[0-9a-f]{2}){1,%d})" % MOST_BODY
-NAMES = rb"(?:-|%s(?:,%s)*)" % (NAME, NAME)
-ENTRY = rb"(?:data %s %s %s|join %s|leave %s|view %s\.%s %s(?: r(?:[1-9]|1[0-5]))?)" % (NAME, NUMBER, BODY, NAME, NAME, NUMBER, NAME, NAMES)
+NUMBER, PLACE, NAME, NAMES, BODY = (part.encode() for part in (f"({grammar.NUMBER})", grammar.PLACE, grammar.NAME, grammar.NAMES, grammar.BODY))
 
 EVENT = re.compile(rb"%s (.*?) : (.*)" % NUMBER, re.DOTALL)
 GROUP = re.compile(rb"group %s (.*)" % NUMBER, re.DOTALL)
@@ -48,6 +42,7 @@ class BadText(Exception):
     """The input is no text."""
 
     def __init__(self, line: int) -> None:
+        """The first bad line."""
         super().__init__(f"bad text at {line}")
         self.line = line
 
@@ -60,11 +55,14 @@ class Name:
     life: int
 
     def __str__(self) -> str:
+        """As texts spell it."""
         return str(self.place) if self.life == 1 else f"{self.place}/{self.life}"
 
 
 @dataclass(frozen=True)
 class Data:
+    """A send with its number."""
+
     sender: Name
     request: int
     body: bytes
@@ -87,6 +85,8 @@ class Leave(Named):
 
 @dataclass(frozen=True)
 class View:
+    """A view."""
+
     round: int
     by: Name
     members: tuple[Name, ...]
@@ -135,6 +135,7 @@ def number_of(digits: bytes) -> int | None:
 
 
 def name_of(word: bytes) -> Name:
+    """The name that a word spells."""
     place, _, life = word.partition(b"/")
     return Name(int(place), int(life or b"1"))
 
@@ -147,11 +148,13 @@ def names_of(word: bytes) -> tuple[Name, ...] | None:
 
 
 def entry_of(words: bytes) -> Entry | None:
+    """The entry that words spell; None if they spell none."""
     if said := DATA.fullmatch(words):
         request = number_of(said[2])
         return None if request is None else Data(name_of(said[1]), request, said[3])
     if said := MOVE.fullmatch(words):
-        return (Join if said[1] == b"join" else Leave)(name_of(said[2]))
+        name = name_of(said[2])
+        return Join(name) if said[1] == b"join" else Leave(name)
     if said := VIEW.fullmatch(words):
         turn, members = number_of(said[1]), names_of(said[3])
         return None if turn is None or members is None else View(turn, name_of(said[2]), members, int(said[4] or b"0"))
@@ -162,11 +165,13 @@ class Reader:
     """Goes through a text line by line."""
 
     def __init__(self) -> None:
+        """Nothing was read yet."""
         self.text = Text()
         self.lives: dict[int, int] = {}
         self.ended = False
 
     def name_at(self, place: bytes) -> Name:
+        """The name of a place, with its current life."""
         return Name(int(place), self.lives.get(int(place), 1))
 
     def count(self, act: bytes, outcome: bytes) -> None:
@@ -188,6 +193,7 @@ class Reader:
             self.lives[int(asked[1])] = int(said[1])
 
     def event(self, line: bytes) -> bool:
+        """Whether a line is the next event, which is kept."""
         said = EVENT.fullmatch(line)
         if self.text.group or not said or number_of(said[1]) != self.text.events + 1:
             return False
@@ -196,6 +202,7 @@ class Reader:
         return True
 
     def group(self, line: bytes) -> bool:
+        """Whether a line is the next entry of the group list, which is kept."""
         said = GROUP.fullmatch(line)
         if self.logs_began or not said or number_of(said[1]) != len(self.text.group) + 1:
             return False
@@ -208,6 +215,7 @@ class Reader:
     logs_began = False
 
     def log(self, line: bytes) -> bool:
+        """Whether a line is one of a log, which is kept."""
         said = LOG.fullmatch(line)
         if not self.text.group or not said:
             return False
@@ -220,6 +228,7 @@ class Reader:
         return True
 
     def end(self, line: bytes) -> bool:
+        """Whether a line is the last one, which is kept."""
         said = END.fullmatch(line)
         if not self.text.group or not said:
             return False
@@ -260,6 +269,7 @@ def logs_of(lines: list[Numbered]) -> dict[Name, list[Numbered]]:
 
 
 def at(group: list[Entry], number: int) -> Entry | None:
+    """The entry with a number of a list; None if there is none."""
     return group[number - 1] if 1 <= number <= len(group) else None
 
 
@@ -282,12 +292,14 @@ def faults(text: Text) -> Iterator[str]:
 
 
 def astray(text: Text) -> Iterator[str]:
+    """The log lines that the group list doesn't have."""
     for line in text.logs:
         if at(text.group, line.number) != line.entry:
             yield f"astray {line.name} {line.number}"
 
 
 def lost(text: Text) -> Iterator[str]:
+    """The answers whose send doesn't stand at their number."""
     stands: dict[tuple[Name, int], list[int]] = {}
     for number, entry in enumerate(text.group, 1):
         if isinstance(entry, Data):
@@ -298,6 +310,7 @@ def lost(text: Text) -> Iterator[str]:
 
 
 def early(text: Text) -> Iterator[str]:
+    """The logs that don't begin at a founders' view or at their Join."""
     for name, lines in logs_of(text.logs).items():
         number, entry = lines[0].number, lines[0].entry
         founds = number == 1 and isinstance(entry, View) and name in entry.members
@@ -318,11 +331,13 @@ class Fold:
     """What the list tells, entry by entry."""
 
     def __init__(self) -> None:
+        """A blank image."""
         self.seats = [Seat() for _ in range(16)]
         self.stamp = (0, Name(0, 1))
         self.resilience = 0
 
     def is_member(self, name: Name) -> bool:
+        """Whether a name is a member now."""
         seat = self.seats[name.place]
         return seat.member and seat.life == name.life
 
@@ -356,6 +371,7 @@ class Fold:
         return fits
 
     def view(self, entry: View) -> bool:
+        """Whether a view fits; its members are those from here on."""
         fits = (
             (entry.round, entry.by) > self.stamp
             and all(map(self.is_member, entry.members))
@@ -370,6 +386,7 @@ class Fold:
 
 
 def misfit(text: Text) -> Iterator[str]:
+    """The entries that don't fit those before them."""
     fold = Fold()
     for number, entry in enumerate(text.group, 1):
         if not (fold.found(entry) if number == 1 else fold.add(entry)):
@@ -377,11 +394,13 @@ def misfit(text: Text) -> Iterator[str]:
 
 
 def no_events(text: Text) -> Iterator[str]:
+    """The verdict if there are no events."""
     if text.events == 0:
         yield "lists-agree"
 
 
 def skipped(text: Text) -> Iterator[str]:
+    """The sends whose request isn't the next of their name."""
     last: dict[Name, int] = {}
     for send in text.sends:
         if send.request != last.get(send.sender, 0) + 1:
@@ -390,6 +409,7 @@ def skipped(text: Text) -> Iterator[str]:
 
 
 def unsent(text: Text) -> Iterator[str]:
+    """The entries that no send asked for."""
     sends = set(text.sends)
     for entry in text.group:
         if isinstance(entry, Data) and entry not in sends:
@@ -397,7 +417,9 @@ def unsent(text: Text) -> Iterator[str]:
 
 
 def unlogged(text: Text) -> Iterator[str]:
-    logs, taken = logs_of(text.logs), {}
+    """The takes that the log of their name doesn't have."""
+    logs = logs_of(text.logs)
+    taken: dict[Name, int] = {}
     for take in text.takes:
         k = taken.get(take.name, 0)
         if logs.get(take.name, [])[k:k + 1] != [take]:
@@ -406,6 +428,7 @@ def unlogged(text: Text) -> Iterator[str]:
 
 
 def untaken(text: Text) -> Iterator[str]:
+    """The log lines that no take gave."""
     left = {name: len(lines) for name, lines in logs_of(text.takes).items()}
     for line in text.logs:
         left[line.name] = left.get(line.name, 0) - 1
@@ -430,6 +453,7 @@ def audit(data: bytes) -> tuple[str, int]:
 
 
 def main() -> int:
+    """Audits the text that is read."""
     words(__doc__, most=0)
     data = taken(MOST_BYTES + 1)
     if len(data) > MOST_BYTES:

@@ -3,12 +3,11 @@
 
     tools/explain.py [PROGRAM [WORD]] < SCRIPT
 
-PROGRAM is crates/am_sim/out/am_sim where none is named, and WORD `play`, `race` or `audit`: where none is said, what the script's own key
-is, else `play`. Of a text, for `audit`, it shows the bad line, and says what may stand there. It ends with 0 where the program takes
-what was read, else with 1, and with 2 where the words of its call aren't so. Whether a script is refused, with which
-cause and at which place, the program alone says. Of the keys that stand there it says which one it is, too: it is asked again about
-small scripts that have the event's keys up to one of them, in the order in which they are read, and lawful values behind it. The first
-that it refuses names the key.
+PROGRAM is crates/am_sim/out/am_sim by default. WORD is `play`, `race` or `audit`; by default it is the script's own key, or `play` if there is
+none. For `audit` it shows the bad line of the text, and says what may stand there. It ends with 0 if the program takes the input, with 1 if it
+doesn't, and with 2 if the words of the call are wrong. Only the program says whether a script is refused, for which cause and at which place.
+To find the key, this asks the program again about small scripts. They have the event's keys up to one of them, in the order in which they are
+read, and lawful values after it. The first that the program refuses names the key.
 """
 
 import json
@@ -17,6 +16,8 @@ import pathlib
 import re
 import subprocess
 import sys
+from collections.abc import Callable, Iterable
+from typing import Any, NoReturn
 
 from words import end, printable, taken, words
 
@@ -26,26 +27,32 @@ NOT_JSON, MISSING, UNKNOWN, BAD_VALUE, OUT_OF_RANGE = 1, 2, 3, 4, 5
 
 MOST_BYTES = 16_777_216
 
+# keys in their order, each with what it may be and a lawful value; and what asks the program for the cause that it refuses an object for
+Keys = dict[str, tuple[str, Any]]
+Ask = Callable[[Any], int | None]
+# a kind of object, the acts that it may have, and the keys that it has beside those of its act
+Form = tuple[str, list[str], Keys]
+
 COUNT = "a whole number, 1 to 2,000,000,000"
 PLACE = "a place, 0 to 15"
 
 # of each key: what it may be, and a value that is lawful; of keys that needn't be there the value is None
-FOUNDING = {
+FOUNDING: Keys = {
     "founders": ("an array of 1 to 16 different places, each 0 to 15", [0]),
     "resilience": ("a whole number, 0 to 15", None),
     "window": ("a whole number, 1 to 1,008", None),
     "pb_up_to": ("a whole number, 0 to 1,024", None),
 }
-PLAY = {
+PLAY: Keys = {
     **FOUNDING,
     "settle": ("true or false", None),
     "events": ("an array of events", []),
 }
-THREAD = {
+THREAD: Keys = {
     "node": (PLACE, 0),
     "calls": ("an array of calls", []),
 }
-RACE = {
+RACE: Keys = {
     **FOUNDING,
     "seed": ("a whole number, 0 to 18,446,744,073,709,551,615", 0),
     "loss": ("a whole number, 0 to 50", None),
@@ -54,7 +61,7 @@ RACE = {
     "threads": ("an array of 1 to 16 threads", [{"node": 0, "calls": []}]),
 }
 SCRIPTS = {"play": PLAY, "race": RACE}
-ACTS = {
+ACTS: dict[str, Keys] = {
     "send": {"body": ("a text of pairs of the digits 0 to 9 and a to f, 1,024 pairs at most", "")},
     "done": {"req": (COUNT, 1)},
     "take": {},
@@ -73,8 +80,8 @@ ACTS = {
 CALLS = ["send", "take", "join", "leave", "reset", "stop"]
 
 # of an event and of a call: its acts, and the keys that it has beside those of its act
-EVENT = "an event", list(ACTS), {"node": (PLACE, 0)}
-CALL = "a call", CALLS, {}
+EVENT: Form = "an event", list(ACTS), {"node": (PLACE, 0)}
+CALL: Form = "a call", CALLS, {}
 
 # how many calls a race has at most, and how many records; and its turns where none are said
 MOST_CALLS, MOST_RECORDS, TURNS = 1000, 100000, 200
@@ -87,7 +94,7 @@ class Number(str):
     """A number as it is written."""
 
 
-def keys_of(event, form=EVENT):
+def keys_of(event: dict[str, Any], form: Form = EVENT) -> Keys:
     """The keys of an event or a call, in the order in which they are read."""
     _, acts, beside = form
     act = event.get("do")
@@ -95,12 +102,12 @@ def keys_of(event, form=EVENT):
     return {"do": ("one of " + ", ".join(acts), "take"), **beside, **more}
 
 
-def read(text):
+def read(text: bytes) -> Any:
     """A document, with its numbers as they are written."""
     return json.loads(text, parse_int=Number, parse_float=Number)
 
 
-def written(value):
+def written(value: Any) -> str:
     """A value as JSON."""
     if isinstance(value, Number):
         return str(value)
@@ -114,45 +121,46 @@ def written(value):
 class Asked:
     """The program, asked about the scripts of a word."""
 
-    def __init__(self, program, word="play"):
+    def __init__(self, program: str, word: str = "play") -> None:
+        """The program and its word."""
         self.program = program
         self.word = word
 
-    def say(self, data):
+    def say(self, data: bytes) -> tuple[int, str]:
         """The status that it gives for a script, and what it says on standard error."""
         ran = subprocess.run([self.program, self.word], input=data, stdout=subprocess.DEVNULL, stderr=subprocess.PIPE)
         return ran.returncode, ran.stderr.decode(errors="replace").strip()
 
-    def cause(self, made):
+    def cause(self, made: dict[str, Any]) -> int | None:
         """The cause that a script with these keys is refused for; None where it isn't."""
         told = refusal(*self.say(written({self.word: made}).encode()))
         return told and told[0]
 
-    def cause_with(self, **made):
+    def cause_with(self, **made: Any) -> int | None:
         """The same of a script with these keys, and lawful values at the others that it needs."""
         lawful = {key: value for key, (_, value) in SCRIPTS[self.word].items() if value is not None}
         return self.cause({**lawful, **made})
 
-    def cause_of_event(self, event):
+    def cause_of_event(self, event: Any) -> int | None:
         """The same of a play with one event."""
         return self.cause_with(events=[event])
 
-    def cause_of_thread(self, thread):
+    def cause_of_thread(self, thread: Any) -> int | None:
         """The same of a race with one thread."""
         return self.cause_with(threads=[thread])
 
-    def cause_of_call(self, call):
+    def cause_of_call(self, call: Any) -> int | None:
         """The same of a race with one call, of one turn at most."""
         return self.cause_with(turns=1, threads=[{"node": 0, "calls": [call]}])
 
 
-def refusal(status, said):
+def refusal(status: int, said: str) -> tuple[int, int] | None:
     """The cause and the place of a refusal; None where it is none."""
     found = re.fullmatch(r"bad script ([1-5]) at ([0-9]+)", said)
     return (int(found[1]), int(found[2])) if status == 2 and found else None
 
 
-def filled(keys, found, upto):
+def filled(keys: Keys, found: dict[str, Any], upto: str) -> dict[str, Any]:
     """An object with the found values at its keys up to one, and lawful ones at those that it needs behind that."""
     made, is_found = {}, True
     for key, (_, lawful) in keys.items():
@@ -164,12 +172,12 @@ def filled(keys, found, upto):
     return made
 
 
-def first_refused(keys, found, cause, ask):
+def first_refused(keys: Keys, found: dict[str, Any], cause: int, ask: Ask) -> str | None:
     """The first key at which an object is refused for a cause."""
     return next((key for key in keys if ask(filled(keys, found, key)) == cause), None)
 
 
-def strangers(keys, found, ask):
+def strangers(keys: Keys, found: dict[str, Any], ask: Ask) -> list[str]:
     """The keys that don't belong in an object."""
     lawful = {key: value for key, (_, value) in keys.items() if value is not None}
     if "do" in lawful:
@@ -177,7 +185,7 @@ def strangers(keys, found, ask):
     return [key for key in found if key not in lawful and ask({**lawful, key: found[key]}) == UNKNOWN]
 
 
-def shown(value):
+def shown(value: Any) -> str:
     """A value, and what it is, in a few words."""
     text = written(value)
     text = text if len(text) <= 40 else text[:36] + " ..."
@@ -187,17 +195,17 @@ def shown(value):
     elif value is None or isinstance(value, bool):
         return text
     else:
-        kind = {dict: "an object", list: "an array", str: "a text"}[type(value)]
+        kind = "an object" if isinstance(value, dict) else "an array" if isinstance(value, list) else "a text"
     return f"{text}, {kind}"
 
 
-def listed(keys):
+def listed(keys: Iterable[str]) -> str:
     """Keys, one after the other."""
     words = [f"`{key}`" for key in keys]
     return words[0] if len(words) == 1 else ", ".join(words[:-1]) + " and " + words[-1]
 
 
-def why_not_json(data):
+def why_not_json(data: bytes) -> str:
     """Where bytes stop being JSON."""
     start = "the bytes aren't JSON: "
     if not data.strip():
@@ -228,17 +236,19 @@ def why_not_json(data):
     return start + "why isn't known"
 
 
-def no_number(word):
+def no_number(word: str) -> NoReturn:
+    """Refuses a word that JSON doesn't have, such as NaN."""
     raise ValueError(f"{word} is no number")
 
 
-def finite(word):
+def finite(word: str) -> int:
+    """Refuses a number that no float holds; its value doesn't matter."""
     if float(word) in INFINITE:
         raise ValueError(f"the number {word if len(word) <= 40 else word[:36] + ' ...'} is too great")
     return 0
 
 
-def depth(value):
+def depth(value: Any) -> int:
     """How deep arrays and objects are nested."""
     deep, layer = 0, [value]
     while layer := [v for v in layer if isinstance(v, (dict, list))]:
@@ -247,7 +257,7 @@ def depth(value):
     return deep
 
 
-def of_founders(ask, founders, cause):
+def of_founders(ask: Asked, founders: Any, cause: int) -> str:
     """Which of the founders is refused; the count comes first."""
     if not isinstance(founders, list):
         return f"`founders` is {shown(founders)}"
@@ -261,7 +271,7 @@ def of_founders(ask, founders, cause):
     return "`founders` is refused"
 
 
-def of_body(text):
+def of_body(text: str) -> str:
     """What there is to see of a text that is no body."""
     other = re.search("[^0-9a-f]", text)
     if other:
@@ -269,12 +279,12 @@ def of_body(text):
     return f"has {len(text)} digits, which aren't pairs" if len(text) % 2 else f"has {len(text) // 2} pairs of digits"
 
 
-def of_object(ask, cause, found, keys, where, kind):
+def of_object(ask: Ask, cause: int, found: dict[str, Any], keys: Keys, where: str, kind: str) -> str | None:
     """A key of an object that is refused, in words; None where the program names none. `ask` asks about such an object."""
     if cause == UNKNOWN:
         others = strangers(keys, found, ask)
         belong = "doesn't belong there" if len(others) == 1 else "don't belong there"
-        return others and f"{where}: {listed(others)} {belong}; {kind} has {listed(keys)}"
+        return f"{where}: {listed(others)} {belong}; {kind} has {listed(keys)}" if others else None
     key = first_refused(keys, found, cause, ask)
     if key is None:
         return None
@@ -287,7 +297,7 @@ def of_object(ask, cause, found, keys, where, kind):
     return f"{where}: `{key}` is {value}; it must be {may}"
 
 
-def of_count(race):
+def of_count(race: dict[str, Any]) -> str:
     """What there is to say of how many calls a race has."""
     calls = sum(len(thread["calls"]) for thread in race["threads"])
     turns = int(race.get("turns", TURNS))
@@ -296,7 +306,7 @@ def of_count(race):
     return f"race: {calls} calls times ({turns} turns + 2) are {calls * (turns + 2)}; {MOST_RECORDS:,} at most"
 
 
-def of_threads(ask, race, cause):
+def of_threads(ask: Asked, race: dict[str, Any], cause: int) -> str | None:
     """Which of a race's threads is refused, and why; the count comes first, and how many calls there are last."""
     may, (lawful,) = RACE["threads"]
     threads = race["threads"]
@@ -315,7 +325,7 @@ def of_threads(ask, race, cause):
     return of_count(race)
 
 
-def of_script(ask, cause, script):
+def of_script(ask: Asked, cause: int, script: dict[str, Any]) -> str | None:
     """A refusal of a play or a race that isn't one of an event or a call, in words."""
     word, keys = ask.word, SCRIPTS[ask.word]
     if cause != UNKNOWN:
@@ -330,7 +340,7 @@ def of_script(ask, cause, script):
     return said
 
 
-def explain(ask, data, cause, place):
+def explain(ask: Asked, data: bytes, cause: int, place: int) -> str:
     """A refusal in words."""
     if cause == NOT_JSON:
         return why_not_json(data)
@@ -355,7 +365,7 @@ def explain(ask, data, cause, place):
     return of_script(ask, cause, script) or f"{word}: which key it is, isn't known"
 
 
-def of_call(ask, cause, threads, place):
+def of_call(ask: Asked, cause: int, threads: list[dict[str, Any]], place: int) -> str:
     """A refusal of a call in words, by its number over all threads."""
     number, before = 1, 0
     while before + len(threads[number - 1]["calls"]) < place:
@@ -365,7 +375,7 @@ def of_call(ask, cause, threads, place):
     return of_event(ask.cause_of_call, cause, call, f"call {place} (thread {number}, its call {place - before})", CALL)
 
 
-def of_event(ask, cause, event, where, form):
+def of_event(ask: Ask, cause: int, event: Any, where: str, form: Form) -> str:
     """A refusal of an event or a call in words."""
     kind, acts, _ = form
     if not isinstance(event, dict):
@@ -376,13 +386,13 @@ def of_event(ask, cause, event, where, form):
     return of_object(ask, cause, event, keys_of(event, form), where, kind) or f"{where}: which key it is, isn't known"
 
 
-def quoted(line):
+def quoted(line: bytes) -> str:
     """A line, or its beginning where it is long."""
     text = line.decode(errors="replace")
     return json.dumps(text if len(text) <= 80 else text[:76] + " ...")
 
 
-def of_text(data, number):
+def of_text(data: bytes, number: int) -> str:
     """What a text has at its bad line, and what may stand there."""
     *lines, rest = data.split(b"\n")
     before = lines[:number - 1]
@@ -403,7 +413,7 @@ def of_text(data, number):
     return f"line {number} is {found}; there may stand {may}"
 
 
-def word_of(data):
+def word_of(data: bytes) -> str:
     """The word that a script is for, by its own key; `play` where it isn't told."""
     try:
         document = json.loads(data)
@@ -412,7 +422,7 @@ def word_of(data):
     return "race" if isinstance(document, dict) and "race" in document and "play" not in document else "play"
 
 
-def sentence(ask, data, status, said):
+def sentence(ask: Asked, data: bytes, status: int, said: str) -> str:
     """What there is to say of a script, or a text, that the program ended with a status for."""
     kind = "text" if ask.word == "audit" else "script"
     bad = re.fullmatch("bad text at ([0-9]+)", said)
@@ -429,18 +439,18 @@ def sentence(ask, data, status, said):
     }.get(status, said or f"the program ended with {status}")
 
 
-def is_taken(ask, status):
+def is_taken(ask: Asked, status: int) -> bool:
     """Whether the program took what it read; of a text it may say that its logs disagree."""
     return status == 0 or (ask.word, status) == ("audit", 9)
 
 
-def answer(ask, data):
+def answer(ask: Asked, data: bytes) -> tuple[str, bool]:
     """What there is to say of a script, or a text, and whether the program takes it."""
     status, said = ask.say(data)
     return printable(sentence(ask, data, status, said)), is_taken(ask, status)
 
 
-def wrong_words(program, word):
+def wrong_words(program: str, word: str | None) -> str | None:
     """What is wrong with the words of a call; None where nothing is."""
     if word not in (None, *SCRIPTS, "audit"):
         return f"{word} isn't play, race or audit"
@@ -451,7 +461,7 @@ def wrong_words(program, word):
     return None
 
 
-def main():
+def main() -> int:
     """Says what there is to say of what is read."""
     program, word, *_ = [*words(__doc__, 0, 2), None, None]
     program = program or str(PROGRAM)

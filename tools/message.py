@@ -4,7 +4,7 @@
     tools/message.py FILE > SCRIPT
     ./muoswyld messages < SCRIPT
 
-FILE has at most 65,535 bytes. Parts are cut as docs/MESSAGES.md says, and each is sent once the one before was answered.
+FILE has at most 65,535 bytes. Parts are cut as docs/MESSAGES.md says, and each is sent after the one before was answered.
 """
 
 import json

@@ -1,19 +1,20 @@
-"""Reads the text of a play: its events, and what they come to at each name.
+"""Reads the text of a play: its events, and what each name has after them.
 
-What the text doesn't say outright, this has by docs/PROTOCOL.md: the stamps of letters, and so of views, from who promised
-what; the number of an entry that the sequencer sent by itself, as the one above the last that it has. What the only member
-sends counts as numbered where it was sent, or, where a tick says that there was no room, at the next one that doesn't.
+The text leaves some things out, and this adds them by docs/PROTOCOL.md: the stamps of letters, and so of views, from the promises; and the
+number of an entry that the sequencer sent by itself, as the one above the last that it has. A send of the only member counts as numbered when
+it was sent, or, if a tick says that there was no room, at the next one that doesn't.
 """
 
 import re
 from dataclasses import dataclass, field
+from typing import Any
 
 import audit
 from explain import of_text
+from grammar import MEMBERS, NAME, PLACE
 
 # an event's line, with the fields of what is read of it
-NUMBER, PLACE, NAME = "[0-9]{1,10}", audit.PLACE.decode(), audit.NAME.decode()
-MEMBERS = f"{NAME}(?:,{NAME})*"
+NUMBER = "[0-9]{1,10}"
 ACT = (
     f"(?:take|join|state|leave|stop|tick|return) {PLACE}|send {PLACE} [0-9a-f-]+|(?:done|ask|hear) {PLACE} {NUMBER}"
     f"|reset {PLACE} {NUMBER}(?: r{NUMBER})?|giveup {PLACE} {NAME}|cut {PLACE} {NUMBER} {NUMBER}"
@@ -39,34 +40,43 @@ UNHEARD = {"no-packet", "not-addressed", "is-stopped"}
 PROMISED = {"known", "unfit", "behind", "catching", "stored"}
 
 
+# a round and a name; and an entry: its kind, and the stamp of a View or the name that comes or goes
+Stamp = tuple[int, str]
+Item = tuple[str, Any]
+
+
 class NoText(Exception):
-    """What was read is no text of a play."""
+    """The input is no text of a play."""
 
 
 @dataclass
 class Letter:
+    """A letter of a run, and who heard it."""
+
     number: int
     kind: str
-    to: list            # names, or None for all
+    to: list[str] | None    # names, or None for all
     row: int            # the row of the event that sent it
     sender: str
-    stamp: tuple = None
-    heard: list = field(default_factory=list)   # (row, name, event)
+    stamp: Stamp
+    heard: list[tuple[int, str, "Event"]] = field(default_factory=list)   # row, name, event
 
 
 @dataclass
 class Event:
+    """An event of a run, with what is drawn of it."""
+
     number: int
     name: str
     act: str
-    arguments: list
-    outcome: list       # its words
-    letters: list       # (number, kind, addressees)
+    arguments: list[str]
+    outcome: list[str]  # its words
+    letters: list[tuple[int, str, list[str] | None]]    # number, kind, addressees
     text: str           # as in the margin
     line: str
     mark: str = "dot"   # or numbered, stored, taken, stop, end, begin
     entry: int = 0      # its number
-    view: tuple = None  # the stamp of a view that its name has from here on
+    view: Stamp | None = None   # the stamp of a view that its name has from here on
     label: str = ""
     row: int = 0
     left_out: int = 0       # so many idle ticks before it aren't drawn
@@ -75,44 +85,48 @@ class Event:
 
 @dataclass
 class Node:
-    """What the text tells of a name so far."""
-    has: dict = field(default_factory=dict)     # an entry's number -> its kind, and the View's stamp or who comes or goes
-    promise: tuple = (0, "0")
-    view: tuple = None
-    bands: list = field(default_factory=list)   # (row, stamp)
+    """What the text says of a name so far."""
+    has: dict[int, Item] = field(default_factory=dict)      # an entry's number -> the entry
+    promise: Stamp = (0, "0")
+    view: Stamp | None = None
+    bands: list[tuple[int, Stamp]] = field(default_factory=list)    # row, stamp
     queued: int = 0                             # the last request that it sent
-    member_from: int = None
-    ends: int = None
-    begins: int = None
+    member_from: int | None = None
+    ends: int | None = None
+    begins: int | None = None
 
-    def top(self):
+    def top(self) -> int:
+        """The greatest number of its entries."""
         return max(self.has, default=0)
 
 
-def key_of(name):
+def key_of(name: str) -> tuple[int, int]:
     """The order of names: by place, then by life."""
     place, _, life = name.partition("/")
     return int(place), int(life or 1)
 
 
-def short(word):
+def short(word: str) -> str:
     """A long body's beginning."""
     return word if len(word) <= 14 else word[:8] + "\u2026"
 
 
-def stamp_of(word):
+def stamp_of(word: str) -> Stamp:
     """A stamp from its text, as 2.1 or 2.1/2."""
     number, _, name = word.partition(".")
     return int(number), name
 
 
-def read(data):
+def read(data: bytes) -> tuple[list[Event], list[list[str]], str]:
     """The events, the group list and the last line of a text, or NoText."""
     try:
         audit.read(data)
     except audit.BadText as bad:
         raise NoText(of_text(data, bad.line)) from None
-    events, group, mark, lives = [], [], "", {}
+    events: list[Event] = []
+    group: list[list[str]] = []
+    mark = ""
+    lives: dict[str, int] = {}
     for number, line in enumerate(data.decode(errors="replace").split("\n")[:-1], 1):
         words = line.split(" ")
         if number == 1 and line.startswith("{"):
@@ -130,16 +144,15 @@ def read(data):
     return events, group, mark
 
 
-def shortened(line):
+def shortened(line: str) -> str:
     """A line, or its beginning."""
     return line if len(line) <= 60 else line[:57] + "..."
 
 
-def event_of(line, lives):
+def event_of(line: str, lives: dict[str, int]) -> Event:
     """An event from its line; `lives` has each place's current life."""
     parts = line.split(" | ")
-    said, _, answered = parts[0].partition(" : ")
-    said, answered = said.split(), answered.split()
+    said, answered = (words.split() for words in parts[0].split(" : ", 1))
     place = said[2]
     life = lives.get(place, 1)
     letters = []
@@ -153,7 +166,7 @@ def event_of(line, lives):
     return Event(int(said[0]), name, said[1], said[3:], answered, letters, text, line)
 
 
-def are_alike(last, event, heard):
+def are_alike(last: Event, event: Event, heard: set[int]) -> bool:
     """Whether two events are ticks of one name with the same answer, whose letters nobody hears."""
     return (last.act, last.name, last.outcome) == (event.act, event.name, event.outcome) == ("tick", last.name, ["ticked"]) and not heard & {
         number for number, _, _ in last.letters + event.letters
@@ -163,11 +176,12 @@ def are_alike(last, event, heard):
 class Run:
     """The events of a text, with what they come to at each name."""
 
-    def __init__(self, events, group):
+    def __init__(self, events: list[Event], group: list[list[str]]) -> None:
+        """Follows all events of a text with this group list."""
         self.group = group
-        self.letters = {}
-        self.nodes = {}
-        self.members = {}
+        self.letters: dict[int, Letter] = {}
+        self.nodes: dict[str, Node] = {}
+        self.members: dict[Stamp, list[str]] = {}
         self.events = self.drawn(events)
         self.found(group)
         for event in self.events:
@@ -176,12 +190,13 @@ class Run:
             except (IndexError, KeyError, ValueError):
                 raise NoText(f"event {event.number} doesn't fit what stands before it: {shortened(event.line)}") from None
 
-    def drawn(self, events):
+    def drawn(self, events: list[Event]) -> list[Event]:
         """The events of names that take part, each with its row. Ticks of a name one behind the other, of which nobody hears
         anything, are one."""
         partners = {e.name for e in events if e.outcome != ["idle"]}
         heard = {int(e.arguments[0]) for e in events if e.act in ("hear", "cut")}
-        kept, left_out = [], 0
+        kept: list[Event] = []
+        left_out = 0
         for event in events:
             last = kept[-1] if kept else None
             if event.outcome == ["idle"] and event.name not in partners:
@@ -196,10 +211,11 @@ class Run:
                 kept.append(event)
         return kept
 
-    def node(self, name):
+    def node(self, name: str) -> Node:
+        """What is known of a name."""
         return self.nodes.setdefault(name, Node())
 
-    def found(self, group):
+    def found(self, group: list[list[str]]) -> None:
         """The founders, by the first entry of the group list."""
         stamp = stamp_of(group[0][2])
         self.members[stamp] = group[0][3].split(",")
@@ -208,12 +224,12 @@ class Run:
             node.has, node.promise, node.member_from = {1: ("view", stamp)}, stamp, -1
             self.turn(node, -1, stamp)
 
-    def turn(self, node, row, stamp):
+    def turn(self, node: Node, row: int, stamp: Stamp) -> None:
         """A node comes into a view."""
         node.view = stamp
         node.bands.append((row, stamp))
 
-    def store(self, event, mark, number, entry=("data", None)):
+    def store(self, event: Event, mark: str, number: int, entry: Item = ("data", None)) -> None:
         """The event's name has an entry from here on."""
         node = self.node(event.name)
         node.has[number] = entry
@@ -222,28 +238,29 @@ class Run:
             event.view = entry[1]
             self.turn(node, event.row, entry[1])
 
-    def is_alone(self, name):
+    def is_alone(self, name: str) -> bool:
         """Whether a name is the sequencer, and the only member that it knows of."""
         node = self.node(name)
         if node.view is None or node.view[1] != name or node.promise != node.view:
             return False
-        now = set()
+        now: set[str] = set()
         for _, (kind, what) in sorted(node.has.items()):
             now = {"view": lambda: set(self.members[what]), "join": lambda: now | {what}, "leave": lambda: now - {what}}.get(
                 kind, lambda: now)()
         return now == {name}
 
-    def sent_alone(self, event, node):
+    def sent_alone(self, event: Event, node: Node) -> None:
         """The only member numbers what it sends, unless its next tick says that there was no room."""
         number = node.top() + 1
-        entry = next((rest for at, *rest in self.group if int(at) == number), [])
+        entry: list[str] = next((rest for at, *rest in self.group if int(at) == number), [])
         if entry[:2] != ["data", event.name] or node.queued < int(entry[2]):
             return
         later = (e for e in self.events[event.row + 1:] if e.name == event.name and e.act == "tick")
         if next((e.outcome[:2] for e in later), []) != ["put-off", entry[2]]:
             self.store(event, "numbered", number)
 
-    def follow(self, event):
+    def follow(self, event: Event) -> None:
+        """Takes in an event, and its letters."""
         node = self.node(event.name)
         event.label = " ".join(event.outcome)
         if event.act in ("hear", "cut"):
@@ -258,8 +275,8 @@ class Run:
                 self.node(name)
             self.letters[number] = Letter(number, kind, to, event.row, event.name, node.promise)
 
-    def call(self, event, node):
-        """What a call or a tick comes to."""
+    def call(self, event: Event, node: Node) -> None:
+        """Takes in a call or a tick."""
         word = event.outcome[0]
         kinds = [kind for _, kind, _ in event.letters]
         event.label = event.act if word in PLAIN else f"{event.act}: {' '.join(event.outcome[:2])}"
@@ -287,15 +304,15 @@ class Run:
                 if [kind, *rest] == ["leave", event.name]:
                     self.store(event, "numbered", int(number), ("leave", event.name))
 
-    def come_back(self, event, node):
+    def come_back(self, event: Event, node: Node) -> None:
         """A place goes on with its next life."""
         node.ends = event.row if node.ends is None else node.ends
         name = f"{event.name.partition('/')[0]}/{event.outcome[1]}"
         self.node(name).begins = event.row
         event.mark, event.label = "begin", "return"
 
-    def ballot(self, event, before):
-        """What a ballot comes to."""
+    def ballot(self, event: Event, before: str) -> None:
+        """Takes in the result of a ballot."""
         event.label = f"{before}: {event.outcome[0]}" if before else event.outcome[0]
         if event.outcome[0] == "waiting" and len(event.outcome[1]) <= 7:
             event.label += " " + event.outcome[1]
@@ -304,8 +321,8 @@ class Run:
             self.members[stamp] = event.outcome[2].split(",")
             self.store(event, "numbered", int(event.outcome[1]), ("view", stamp))
 
-    def hear(self, event, node):
-        """What a hearing comes to."""
+    def hear(self, event: Event, node: Node) -> None:
+        """Takes in a hearing."""
         word = event.outcome[0]
         letter = self.letters.get(int(event.arguments[0]))
         kind = letter.kind if letter else "packet " + event.arguments[0]
@@ -338,7 +355,7 @@ class Run:
         elif word == "overtaken":
             node.promise = stamp_of(event.outcome[1])
 
-    def piece(self, event, node, letter):
+    def piece(self, event: Event, node: Node, letter: Letter) -> None:
         """An entry of another's list, brought to one that catches up."""
         number = int(event.outcome[1]) if event.outcome[0] == "stored" else node.top() + 1
         self.store(event, "stored", number, self.node(letter.sender).has.get(number, ("data", None)))
@@ -346,7 +363,7 @@ class Run:
         if event.outcome[0] != "stored":
             self.ballot(event, "Piece")
 
-    def welcome(self, event, node, letter):
+    def welcome(self, event: Event, node: Node, letter: Letter) -> None:
         """A joiner's list begins."""
         node.member_from, node.promise = event.row, letter.stamp
         event.label = f"Welcome: entry {event.outcome[1]}"

@@ -1,20 +1,20 @@
-"""Writes statements that say which text the definitions give for a script, from scripts and their expected texts.
+"""Writes the computed runs of am_rows: statements that the definitions give a text for a script, from scripts and their expected texts.
 
-    python3 tools/rows.py CASES OUT
+    rows.py CASES OUT
 
-CASES is a folder of folders. Each of those has two cases at least, a case being a file NAME.json, a play script, and a
-file NAME.txt, the text that it must write; and a file about.txt, a line that says what its cases are. OUT is a crate's
-folder. For each folder F of CASES this writes specs/F.antt with a statement for each case, src/F.rt with a function
-whose contract they are, and its answers, by computing; and for all of them proofs/Opened.antt, with what that unfolds.
+CASES is a folder of folders. Each of these has at least two cases and a file about.txt, a line that says what its cases are. A case is a
+play script NAME.json, and the text NAME.txt that it must write. OUT is a crate's folder. For each folder F of CASES this writes specs/F.antt
+with a statement for each case, src/F.rt with a function whose contract they are, and its answers, by computing. For all of them it writes
+proofs/Opened.antt, with the definitions that the answers unfold.
 
-A folder without an about.txt isn't computed: the program alone runs it.
+A folder without an about.txt isn't computed: only the program runs it.
 """
 
 import json
 import os
 import re
-import sys
 import textwrap
+from typing import Any
 
 from words import words
 
@@ -47,26 +47,26 @@ use Rattle.am_rows.specs.Scripts.{set_of}
 """
 
 
-def opened_names(opened):
+def opened_names(opened: str) -> str:
     """The names of `use` lines, for an `unfolding` line."""
     return " ".join(name.strip() for line in opened.strip().splitlines() for name in line[line.index("{") + 1:-1].split(","))
 
 
-def fitted(line, more="    "):
+def fitted(line: str, more: str = "    ") -> str:
     """A line, broken at spaces where it is longer than others are."""
     return "\n".join(textwrap.wrap(line, 150, subsequent_indent=more, break_long_words=False, break_on_hyphens=False))
 
 
-def fitted_uses(line):
+def fitted_uses(line: str) -> str:
     """A `use` line, as several where it is longer than others are."""
     head, names = line[:line.index("{") + 1], line[line.index("{") + 1:-1].split(", ")
     lines = textwrap.wrap(" ".join(names), 150 - len(head), break_long_words=False, break_on_hyphens=False)
     return "\n".join(head + ", ".join(some.split(" ")) + "}" for some in lines)
 
 
-def packed(events):
+def packed(events: list[str]) -> list[str]:
     """The lines of a list's events, as many to a line as fit."""
-    lines = []
+    lines: list[str] = []
     for event in events:
         if lines and len(lines[-1]) + len(event) < 150:
             lines[-1] += " " + event + " ∷"
@@ -75,22 +75,23 @@ def packed(events):
     return [fitted(line) + "\n" for line in lines]
 
 
-def items(xs):
+def items(xs: list[str]) -> str:
     """A list term."""
     return "[]" if not xs else "(" + " ∷ ".join(xs) + " ∷ [])"
 
 
-def body(text):
+def body(text: str) -> str:
     """A body's bytes, from its hexadecimal digits or a dash."""
     digits = "" if text == "-" else text
     return items([str(int(digits[i:i + 2], 16)) for i in range(0, len(digits), 2)])
 
 
-def name_list(numbers):
+def name_list(numbers: list[int]) -> str:
+    """A list term of names."""
     return items([str(n) for n in numbers])
 
 
-def act(event, resilience):
+def act(event: dict[str, Any], resilience: int) -> str:
     """The act of a script's event."""
     do = event["do"]
     if do == "send":
@@ -111,13 +112,13 @@ def act(event, resilience):
                      "return": "Return"}[do]
 
 
-def codes(line):
+def codes(line: str) -> str:
     """A line of a text, in parts where it is longer than others are."""
     parts = ['codes "%s"' % line[at:at + 120] for at in range(0, len(line), 120)]
     return parts[0] if len(parts) == 1 else "(%s)" % "\n    ++ ".join(parts)
 
 
-def statement(title, script, text):
+def statement(title: str, script: dict[str, Any], text: str) -> str:
     """The statement of a case: the text of its events is this one."""
     play = script["play"]
     resilience = play.get("resilience", 0)
@@ -130,7 +131,8 @@ def statement(title, script, text):
     return "abbrev pub %s : Type 0\n%s ≡ lines (\n%s    [])\n" % (title, run, lines)
 
 
-def titled(case):
+def titled(case: str) -> str:
+    """The name of a case, or a folder, as a definition has it."""
     return "".join(part.capitalize() for part in case.replace("-", "_").split("_"))
 
 
@@ -141,7 +143,7 @@ use Rattle.am_rows.specs.Scripts.{rules_with, on, lines}
 """
 
 
-def used(head, text):
+def used(head: str, text: str) -> str:
     """The `use` lines of a head with the names alone that a text uses."""
     lines = []
     for line in head.strip().splitlines():
@@ -154,7 +156,7 @@ def used(head, text):
     return "\n".join(lines) + "\n"
 
 
-def is_used(name, text):
+def is_used(name: str, text: str) -> bool:
     """Whether a text uses a name; an operator by its sign."""
     if name.endswith("."):
         return re.search(r"\b" + re.escape(name), text) is not None
@@ -163,14 +165,14 @@ def is_used(name, text):
     return re.search(r"(?<![\w.])" + re.escape(name) + r"(?![\w])", text) is not None
 
 
-def write(path, text):
+def write(path: str, text: str) -> None:
     """Writes a file, with its folders."""
     os.makedirs(os.path.dirname(path), exist_ok=True)
     with open(path, "w") as f:
         f.write(text)
 
 
-def opened_file(opened):
+def opened_file(opened: str) -> str:
     """The definition that unfolds all that a text is computed by."""
     return ("-- All that a text is computed by. Written by tools/rows.py.\nuse Rattle.std.proofs.Common.{ℕ}\n"
             + "".join(fitted_uses(line) + "\n" for line in opened.strip().splitlines())
@@ -178,7 +180,7 @@ def opened_file(opened):
             % fitted("unfolding " + opened_names(opened)))
 
 
-def carrier(crate, module, folder, about, found):
+def carrier(crate: str, module: str, folder: str, about: str, found: list[str]) -> tuple[str, str]:
     """The function whose contract the statements are, and its answers."""
     clauses = "".join("    ensures %s { %s }\n" % (c, titled(c)) for c in found)
     source = ("//! %s Written by tools/rows.py.\n\nghost use Rattle.%s.specs.%s.{%s};\n\n"
@@ -191,7 +193,7 @@ def carrier(crate, module, folder, about, found):
     return source, answers
 
 
-def read_case(cases, folder, case):
+def read_case(cases: str, folder: str, case: str) -> tuple[dict[str, Any], str]:
     """A case's script and its text."""
     place = os.path.join(cases, folder)
     with open(os.path.join(place, case + ".json")) as f:
@@ -200,7 +202,7 @@ def read_case(cases, folder, case):
         return script, f.read()
 
 
-def write_module(out, folder, head, source, answers, head_line, statements):
+def write_module(out: str, folder: str, head: str, source: str, answers: str, head_line: str, statements: list[str]) -> None:
     """Writes a module's three files."""
     specs = "".join("\n" + s for s in statements)
     write(os.path.join(out, "specs", titled(folder) + ".antt"), head_line + used(head, specs) + specs)
@@ -208,7 +210,7 @@ def write_module(out, folder, head, source, answers, head_line, statements):
     write(os.path.join(out, "proofs", folder, "texts", "Answers.antt"), answers)
 
 
-def write_folder(cases, out, folder):
+def write_folder(cases: str, out: str, folder: str) -> None:
     """The statements of a folder of cases."""
     place = os.path.join(cases, folder)
     found = sorted(f[:-5] for f in os.listdir(place) if f.endswith(".json"))
@@ -220,7 +222,8 @@ def write_folder(cases, out, folder):
     write_module(out, folder, SPECS_HEAD, source, answers, head_line, statements)
 
 
-def main():
+def main() -> None:
+    """Writes the statements of all folders."""
     cases, out = words(__doc__, 2, 2)
     write(os.path.join(out, "proofs", "Opened.antt"), opened_file(OPENED))
     for folder in sorted(os.listdir(cases)):
@@ -228,4 +231,5 @@ def main():
             write_folder(cases, out, folder)
 
 
-main()
+if __name__ == "__main__":
+    main()

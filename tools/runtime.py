@@ -2,10 +2,10 @@
 """Builds the member in native code and the program muoswyldd, with the proved library of a node.
 
     tools/runtime.py               builds runtime/target/release/muoswyldd
-    tools/runtime.py test          runs the tests of the workspace too, and looks at its form
+    tools/runtime.py test          runs the tests of the workspace too, and checks its form
 
-It makes the node's library first, if it isn't there (tools/library.py). The other libraries are those of Debian's packages: what is
-missing of these is installed, if this is run by root, and else named in a line. With CRATES_IO=1 cargo takes them from crates.io.
+If the node's library isn't there, it makes it first (tools/library.py). The other libraries come from Debian's packages. If some are missing,
+it installs them if root runs it, and otherwise names them in a line. With CRATES_IO=1 cargo takes them from crates.io.
 """
 
 import os
@@ -14,6 +14,7 @@ import shutil
 import subprocess
 import sys
 import tomllib
+from typing import Any
 
 from words import end, words
 
@@ -49,7 +50,7 @@ def install() -> None:
     command = ["apt-get", "install", "-y", "--no-install-recommends", *packages]
     if os.geteuid() != 0 or shutil.which("apt-get") is None:
         raise Missing(f"packages of Debian are missing, or CRATES_IO=1 for crates.io: {' '.join(command)}")
-    quiet = {"stdout": subprocess.DEVNULL, "stderr": subprocess.DEVNULL}
+    quiet: dict[str, Any] = {"stdout": subprocess.DEVNULL, "stderr": subprocess.DEVNULL}
     subprocess.run(["apt-get", "update"], check=False, **quiet)
     subprocess.run(command, check=False, env={**os.environ, "DEBIAN_FRONTEND": "noninteractive"}, **quiet)
     if packages := missing_packages():

@@ -1,15 +1,15 @@
 #!/usr/bin/env python3
-"""What the services over a group's list write, by their docs alone and without the program's code.
+"""Writes what the services over a group's list write, by their pages alone and without the program's code.
 
     tools/services.py parts < BYTES             the parts of a message, a line each, in digits
     ./muoswyld play < SCRIPT | tools/services.py messages
     ./muoswyld play < SCRIPT | tools/services.py directory
     ./muoswyld play < SCRIPT | tools/services.py snapshots
 
-The last three read the text of a play, where the program's words of these names read its script; given anything else they end with 1.
-`messages` writes a line for each message that ends in what a name was given, as docs/MESSAGES.md says what a message is; `directory`
-what each name's replica has, as docs/DIRECTORY.md says; `snapshots` what a ready replica would send at each Join that its name was
-given. Then each writes the text's last line.
+The last three read the text of a play, while the program's words of these names read its script. If they are given anything else they end
+with 1. `messages` writes a line for each message that ends in the log of a name (docs/MESSAGES.md). `directory` writes the contents of each
+name's replica (docs/DIRECTORY.md). `snapshots` writes the snapshot that a ready replica would send at each Join that its name was given. Then
+each writes the text's last line.
 """
 
 import sys

@@ -2,6 +2,22 @@
 
 import html
 import json
+from typing import Any, Protocol
+
+
+class Drawn(Protocol):
+    """What a page takes of a picture: its run, its group list, its names, and where things stand."""
+
+    run: Any
+    group: list[list[str]]
+    names: list[str]
+
+    def y(self, row: int) -> float:
+        """The height of an event."""
+
+    def title(self) -> str:
+        """What the picture is of."""
+
 
 PAGE = """<!doctype html>
 <html lang="en">
@@ -85,7 +101,7 @@ show(0, false);
 """
 
 
-def page(picture, drawing: str) -> str:
+def page(picture: Drawn, drawing: str) -> str:
     """The page of a picture."""
     run = picture.run
     numbers = {(entry[2], entry[3]): int(entry[0]) for entry in picture.group if entry[1] == "data"}

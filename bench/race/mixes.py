@@ -1,22 +1,17 @@
 #!/usr/bin/env python3
 """Counts how calls of races end.
 
-    python3 bench/race/mixes.py PROGRAM FOLDER [TIMES]
-
-Each race of FOLDER is run so many times, a hundred where none are said, by `PROGRAM race`. The table has for each race its calls, and of
-a run in the mean: how many calls were answered; how many were late; behind how many late ones another place still did something; how
-many were never made, as their threads had ended; the events, and the ticks among them; and the longest row of ticks of one place.
+`PROGRAM race` runs each race of FOLDER TIMES times. The table has for each race its calls, and the means of a run: how many calls were answered; how
+many were late; after how many late ones another place still did something; how many were never made, as their threads had ended; the events, and
+the ticks among them; and the longest row of ticks of one place.
 """
 
+import argparse
 import json
 import pathlib
 import subprocess
 import sys
 from dataclasses import dataclass, fields
-
-sys.path.insert(0, str(pathlib.Path(__file__).resolve().parents[2] / "tools"))
-
-from words import words  # noqa: E402
 
 # the acts that end a call where they have an answer, and those that end it with or without one
 OWN = {"send", "join", "leave", "reset", "stop"}
@@ -97,17 +92,22 @@ def line(name: str, calls: int, counts: Counts, times: int) -> str:
     return f"{name:20}{calls:6}" + "".join(means) + f"{counts.row:9}"
 
 
-def main(program: str, folder: str, times: str = "100") -> int:
+def main() -> int:
     """Prints the table of a folder's races, and a last line of them all together."""
-    many = int(times)
+    words = argparse.ArgumentParser(description=__doc__, formatter_class=argparse.RawDescriptionHelpFormatter)
+    words.add_argument("program", help="the command whose word race is run")
+    words.add_argument("folder", type=pathlib.Path, help="its files NAME.json are races")
+    words.add_argument("times", type=int, nargs="?", default=100, help="how often each is run")
+    given = words.parse_args()
+    many = given.times
     print(f"{'race':20}{'calls':>6}" + "".join(f"{field.name:>9}" for field in fields(Counts)))
     whole, all_calls = Counts(), 0
-    for file in sorted(pathlib.Path(folder).glob("*.json")):
+    for file in sorted(given.folder.glob("*.json")):
         race = file.read_bytes()
         calls = sum(len(thread["calls"]) for thread in json.loads(race)["race"]["threads"])
         counts = Counts()
         for _ in range(many):
-            counts.add(counts_of(run(program, race), calls))
+            counts.add(counts_of(run(given.program, race), calls))
         print(line(file.stem, calls, counts, many), flush=True)
         whole.add(counts)
         all_calls += calls
@@ -116,4 +116,4 @@ def main(program: str, folder: str, times: str = "100") -> int:
 
 
 if __name__ == "__main__":
-    sys.exit(main(*words(__doc__, 2, 3)))
+    sys.exit(main())

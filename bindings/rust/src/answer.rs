@@ -4,7 +4,7 @@
 use crate::event::To;
 use crate::names::{Name, Names, Stamp};
 
-/// What a node is to its group.
+/// A node's role in its group.
 #[derive(Clone, Copy, Debug, PartialEq, Eq)]
 pub enum Role {
     /// It has no list, and has not asked for one.
@@ -24,7 +24,7 @@ pub enum Role {
 /// How a node stands.
 #[derive(Clone, Copy, Debug, PartialEq, Eq)]
 pub struct Standing {
-    /// What it is to its group.
+    /// Its role in its group.
     pub role: Role,
     /// The stamp of the last view of its list; its name is the sequencer.
     pub view: Stamp,
@@ -73,7 +73,7 @@ pub enum Entry {
     },
 }
 
-/// What came of an event.
+/// The outcome of an event.
 #[derive(Clone, Debug, PartialEq, Eq)]
 #[allow(missing_docs)] // each field says what it is, and the page has each outcome
 pub enum Outcome {
@@ -206,7 +206,7 @@ pub enum Outcome {
     NoNumbersLeft,
 }
 
-/// What a node sends.
+/// A letter that a node sends.
 #[derive(Clone, Debug, PartialEq, Eq)]
 pub struct Packet {
     /// For whom it is.
@@ -215,10 +215,10 @@ pub struct Packet {
     pub bytes: Vec<u8>,
 }
 
-/// What a node answers to an event.
+/// A node's answer to an event.
 #[derive(Clone, Debug, PartialEq, Eq)]
 pub struct Did {
-    /// What came of it.
+    /// The outcome.
     pub outcome: Outcome,
     /// How the node stands after it.
     pub standing: Standing,

@@ -28,12 +28,12 @@ impl fmt::Display for To {
     }
 }
 
-/// What a node is asked to do, or hears.
+/// A call to a node, a tick, or a packet that it hears.
 #[derive(Clone, Copy, Debug, PartialEq, Eq)]
 pub enum Event<'a> {
     /// Sends a body of at most 1,024 bytes to the group.
     Send(&'a [u8]),
-    /// Asks what came of the send with this request number, 1 to 2,000,000,000.
+    /// Asks for the outcome of the send with this request number, 1 to 2,000,000,000.
     Done(u32),
     /// Takes the next accepted entry.
     Take,
@@ -43,7 +43,7 @@ pub enum Event<'a> {
     State,
     /// Asks to leave.
     Leave,
-    /// Begins a ballot for a view of at least so many members, 1 to 16, with this resilience, 0 to 15.
+    /// Begins a ballot for a view of at least `least` members, 1 to 16, with this resilience, 0 to 15.
     Reset {
         /// The least number of members.
         least: u8,
@@ -63,7 +63,7 @@ pub enum Event<'a> {
         /// The packet.
         packet: &'a [u8],
     },
-    /// Asks what the node knows of itself and of its group, and changes nothing.
+    /// Asks for the node's state and its view of the group, and changes nothing.
     Look,
 }
 

@@ -7,14 +7,14 @@
 //! let answer = node.step("tick")?;
 //! assert_eq!(answer.said, "ticked");
 //! for letter in &answer.letters {
-//!     // each is to be heard by whom it names: `letter.heard()` is the line
+//!     // each goes to the names that it has: `letter.heard()` is the line by which they hear it
 //!     assert_eq!(letter.names().collect::<Vec<_>>(), ["0"]);
 //! }
 //! # Ok::<(), muoswyld::Refusal>(())
 //! ```
 //!
-//! The contracts of the four calls stand in `crates/am_c/src/lib.rt`. What they ask of a caller is what this crate's types say: a
-//! handle is written by them alone, slices are there and apart, and calls on one handle come one after another, on its thread.
+//! The contracts of the four calls stand in `crates/am_c/src/lib.rt`. This crate's types guarantee what they ask of a caller: only
+//! the calls write to a handle, slices are there and apart, and calls on one handle come one after another, on its thread.
 //! Nothing compares the declarations below with that file.
 
 pub mod answer;
@@ -68,14 +68,14 @@ const DONE: i32 = 0;
 const NO_ROOM: i32 = 2;
 const BAD_OPTIONS: i32 = 5;
 
-/// Why a node wasn't opened, or a line has no answer.
+/// The reason why a node wasn't opened, or why a line has no answer.
 #[derive(Clone, Copy, Debug, PartialEq, Eq)]
 pub enum Refusal {
     /// There was no memory. A node that gave it once gives no answer any more.
     NoMemory,
-    /// The options are none.
+    /// These aren't options.
     BadOptions,
-    /// What the library wrote is no answer of a node. A library of another version does this.
+    /// The library wrote something that is no answer of a node. A library of another version does this.
     NoAnswer,
 }
 
@@ -91,10 +91,10 @@ impl fmt::Display for Refusal {
 
 impl error::Error for Refusal {}
 
-/// What a node sends.
+/// A letter that a node sends.
 #[derive(Clone, Debug, PartialEq, Eq)]
 pub struct Letter {
-    /// For whom it is, as a set of names is printed, with a star before it where any life of their places hears it.
+    /// The names that it is for, printed as a set of names, with a star before it if any life of their places hears it.
     pub to: String,
     /// Its bytes, two digits each.
     pub data: String,
@@ -115,12 +115,12 @@ impl Letter {
     }
 }
 
-/// What a node answers to a line.
+/// A node's answer to a line.
 #[derive(Clone, Debug, PartialEq, Eq)]
 pub struct Answer {
-    /// What came of it.
+    /// The outcome.
     pub said: String,
-    /// What the node sends, in order.
+    /// The letters that the node sends, in order.
     pub letters: Vec<Letter>,
 }
 
@@ -177,7 +177,7 @@ impl Node {
         }
     }
 
-    /// What a call answers to bytes, as it stands until the next call.
+    /// A call's answer to bytes, which is valid until the next call.
     fn ask(&mut self, call: Call, asked: &[u8]) -> Result<&[u8], Refusal> {
         let mut length = 0;
         loop {
@@ -213,7 +213,7 @@ impl Node {
         self.ask(muoswyld_do, event)
     }
 
-    /// What the node answers to an event.
+    /// The node's answer to an event.
     ///
     /// ```
     /// use muoswyld::answer::Outcome;

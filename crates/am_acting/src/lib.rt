@@ -1,4 +1,4 @@
-//! What a node does when its application calls and at its ticks, and with a spread body, a Hold or a Gone.
+//! The rows of an application's calls and of ticks, and of a spread body, a Hold and a Gone.
 #![tactic(auto)]
 
 mod changing;

@@ -1,4 +1,4 @@
-//! The audit of a printed text: whose logs agree with each other, with the group list, and with the events.
+//! The auditor of a printed text: do its logs agree with each other, with the group list, and with the events?
 #![tactic(auto)]
 
 pub mod audit;

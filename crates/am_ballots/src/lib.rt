@@ -1,4 +1,4 @@
-//! A node's last ballot: who voted what, who was given up, and what it came to.
+//! A node's last ballot: votes, names given up, and how it ended.
 #![tactic(auto)]
 
 pub mod ballot;

@@ -1,4 +1,4 @@
-//! The plain data of a group, and the definitions that speak of its list.
+//! The plain data of a group, definitions on its list, and facts about whole lists.
 #![tactic(auto)]
 
 pub mod body;

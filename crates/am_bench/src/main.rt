@@ -1,4 +1,4 @@
-//! Times what nodes do most.
+//! The timer of the codec, the journal, the history and the fronts.
 //!
 //!     am_bench codec COUNT    packets that are read and written, and letters that are looked up, so many times
 //!     am_bench parts COUNT    a node's history and fronts, gone over so many times

@@ -1,4 +1,4 @@
-//! A node's events and answers as bytes (docs/EMBEDDING.md, "The binary call"): the same that its lines and their answers say.
+//! A node's events and answers as bytes, which say the same as its lines and their answers (docs/EMBEDDING.md, "The binary call").
 #![tactic(auto)]
 
 pub mod answer;

@@ -1,6 +1,5 @@
-//! A node for C and whatever calls C: a handle is opened with a node's options, answers lines and events, and is closed. The lines and
-//! their answers are those of the program's word `node` (docs/NETWORK.md), the events and theirs say the same in bytes
-//! (docs/EMBEDDING.md), and bindings/c/muoswyld.h is the header.
+//! A node as a static library for C and whatever calls C: a handle is opened with a node's options, answers lines and events, and is closed
+//! (docs/EMBEDDING.md; bindings/c/muoswyld.h is the header).
 #![tactic(auto)]
 
 ghost use Rattle.std.specs.Prelude.{◌≡◌, ◌≢◌, ◌↔◌, None, IsSome, IfSome, IsUtf8};

@@ -1,4 +1,4 @@
-//! The calls of a race's threads, at their nodes.
+//! The blocking calls of threads at their nodes, over the shared journal.
 #![tactic(auto)]
 
 mod acts;

@@ -1,4 +1,4 @@
-//! Why a group has one list: each accepted entry stands in what every later ballot chooses (docs/SAFETY.md).
+//! The abstract group and its moves, and why it has one list: what was accepted begins what every later ballot chooses (docs/SAFETY.md).
 #![tactic(auto)]
 
 pub mod chain_moves;

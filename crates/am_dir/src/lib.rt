@@ -1,4 +1,4 @@
-//! A replicated directory: what the entries of a group's list make of keys and values, at each node that is given them.
+//! A replicated directory: commands as bodies, keys with their values, snapshots, and a node's replica (docs/DIRECTORY.md).
 #![tactic(auto)]
 
 mod backlog;

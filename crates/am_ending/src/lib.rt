@@ -1,4 +1,4 @@
-//! The end of a step: the node takes in what it knows by then, answers, and puts out what the row said.
+//! The end of a step: the node takes in what it knows by then, answers, and puts out what its row replied.
 #![tactic(auto)]
 
 mod accepting;

@@ -1,4 +1,4 @@
-//! The examples of README, of docs/DIRECTORY.md and of docs/EMBEDDING.md.
+//! The examples of docs/LIBRARY.md, docs/DIRECTORY.md and docs/EMBEDDING.md, as they stand there.
 #![tactic(auto)]
 
 pub mod counter;

@@ -1,4 +1,4 @@
-//! What the texts of a group are made of, read again: numbers, names, sets of names, stamps and bodies.
+//! The reader of what texts are made of: numbers, names, sets of names, stamps and bodies.
 #![tactic(auto)]
 
 pub mod body;

@@ -1,4 +1,5 @@
-//! What happened in a group as plain data: its events and their records, and the plans of races.
+//! Plain data of what happens in a group: events, records, journals, and the plans of races; its letters, what each name was given, and the
+//! list as its users see it.
 #![tactic(auto)]
 
 pub mod event;

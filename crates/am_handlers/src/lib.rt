@@ -1,4 +1,4 @@
-//! What all handlers of a node stand on: its parts together, what a row asks of them, and what it replies.
+//! All parts of a node together, what a row asks of them, and what a row replies, as data.
 #![tactic(auto)]
 
 pub mod asking;

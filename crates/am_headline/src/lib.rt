@@ -1,5 +1,5 @@
-//! The headline, from the argument why a group has one list (docs/SAFETY.md): what every run keeps up to its lawful front. Each step of a
-//! name is moves of the group that stands for its world (`am_stands`).
+//! The headline, which is what every run keeps up to its lawful front; what holds of its records; that it is made of its nodes; and what a
+//! lossless schedule repairs (docs/REPAIR.md).
 #![tactic(auto)]
 
 pub mod parts;

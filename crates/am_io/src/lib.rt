@@ -1,4 +1,4 @@
-//! The outside: what gives bytes and what takes them, each with a count of its faults, and what text is written to.
+//! The outside: sources of bytes and sinks for bytes, each with a count of its faults, and what text is written to.
 #![tactic(auto)]
 
 pub mod buffered;

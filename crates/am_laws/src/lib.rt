@@ -1,4 +1,5 @@
-//! What every run of the whole definitions keeps, proved on the definitions alone.
+//! Laws of each event: what each row does, by named changes of a node and by its letters; and what every run keeps of names, numbers,
+//! letters, views and ballots.
 #![tactic(auto)]
 
 pub mod bounded_nodes;

@@ -1,4 +1,4 @@
-//! Packets written as bytes, the one spelling of each; the letters of packets; and the letters of one step in their order.
+//! The encoder of packets, a packet's letter, and the letters of one step in their order.
 #![tactic(auto)]
 
 pub mod letter;

@@ -1,4 +1,4 @@
-//! A node that speaks lines: what a line asks of it, what it answers, and the loop that answers a source's lines.
+//! A node that answers lines: what a line asks of it, what it answers, and the loop over a source's lines (docs/NETWORK.md).
 #![tactic(auto)]
 
 pub mod ending;

@@ -1,4 +1,4 @@
-//! That the definitions mean what they say.
+//! Laws of the definitions: that they mean what they say.
 #![tactic(auto)]
 
 pub mod laws;

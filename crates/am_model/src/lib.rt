@@ -1,4 +1,5 @@
-//! The definitions of a node: its state, and the table of its steps, one function for each row.
+//! Definitions of a node: its state, and the table of its steps, one function for each row; and the law that a step reads nothing below the
+//! node's base.
 #![tactic(auto)]
 
 pub mod info;

@@ -1,4 +1,4 @@
-//! One node of a group.
+//! One node of a group, which keeps the end of its list.
 #![tactic(auto)]
 
 mod acting;

@@ -1,5 +1,5 @@
-//! What nodes do in the order of entries: the sequencer with sends and reports, the others with its packets, and both where somebody joins
-//! or leaves.
+//! The rows of entries in their order: the sequencer with sends and reports, a member with the sequencer's packets, and both if somebody
+//! joins or leaves.
 #![tactic(auto)]
 
 pub mod joining;

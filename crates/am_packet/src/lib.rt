@@ -1,5 +1,5 @@
-//! What nodes tell each other: packets, the one spelling of each as bytes and what bytes are read as, and letters, which are the
-//! bytes of a packet with its addressees.
+//! Packets, which nodes send each other: how each is spelled as bytes and how bytes are read; and letters, which are a packet's bytes with
+//! its addressees.
 #![tactic(auto)]
 
 pub mod image_ref;

@@ -1,5 +1,5 @@
-//! The parts of a node: the list that it has accepted, the table of its view, the history of entries, how far each member has come,
-//! the bodies that wait for their numbers, and its own sends.
+//! The containers of a node: the end of its list in a ring of fixed size, the table of its view, its numbers, reports and the accept front,
+//! bodies that wait for their numbers, and its own sends.
 #![tactic(auto)]
 
 pub mod bodies;

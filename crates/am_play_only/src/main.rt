@@ -1,4 +1,4 @@
-//! The program that only plays: runs the script of standard input, and prints the text of its run. Its words are ignored.
+//! The program that only plays: it runs the script of standard input, and prints the text of its run. It ignores its words.
 #![tactic(auto)]
 
 use am_io::standard::{StdSink, StdSource};

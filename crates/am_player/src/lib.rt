@@ -1,4 +1,4 @@
-//! Plays a script: reads it from a source, runs it, and writes what is shown of its run to a sink.
+//! The player of a script, from a source to a sink; and the statuses of a call, with their lines.
 #![tactic(auto)]
 
 pub mod play;

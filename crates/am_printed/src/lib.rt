@@ -1,4 +1,4 @@
-//! What texts print is read again: numbers, names, stamps, sets of names, bytes and bodies.
+//! Laws of what texts print: it is read again, for numbers, names, stamps, sets of names, bytes and bodies.
 #![tactic(auto)]
 
 ghost use Rattle.am_printed.specs.Laws.{NumbersAreRead, NamesAreRead, StampsAreRead, SetsAreRead, BytesAreRead, BodiesAreRead};

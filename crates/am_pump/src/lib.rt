@@ -1,4 +1,4 @@
-//! Runs from a seed: a generator of events.
+//! The generator of runs from a seed, and a run of which no records are kept.
 #![tactic(auto)]
 
 pub mod course;

@@ -1,4 +1,4 @@
-//! Races of scripts: threads, each with the calls that it makes at its node, read from JSON.
+//! The reader of races in JSON.
 #![tactic(auto)]
 
 mod call;

@@ -1,4 +1,4 @@
-//! Calls of a race's threads, and the journals that races leave: the definitions, and what is so of them.
+//! Definitions and laws of races: what the calls of threads answer, and which journals races leave.
 #![tactic(auto)]
 
 pub mod answer;

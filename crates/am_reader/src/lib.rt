@@ -1,4 +1,4 @@
-//! Packets read from bytes, and the packets of letters.
+//! The decoder of packets, and a letter's packet.
 #![tactic(auto)]
 
 /// What is read field by field, each by its reader at its offset, in this order; the first that is refused is the answer.

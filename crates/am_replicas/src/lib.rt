@@ -1,4 +1,5 @@
-//! What services make of a group's list, of messages of parts and of a directory's contents: data, definitions, and the laws over these.
+//! Definitions of services over a group's list: parts of messages, the messages that end in it, the commands, contents and snapshots of a
+//! directory, and a node's replica.
 #![tactic(auto)]
 
 pub mod applied;

@@ -1,4 +1,5 @@
-//! What replicas have in every run, up to its lawful front (docs/DIRECTORY.md).
+//! Laws of services in every run: messages longer than a body (docs/MESSAGES.md), and what the replicas of a directory have
+//! (docs/DIRECTORY.md).
 #![tactic(auto)]
 
 pub mod assembled;

@@ -1,4 +1,4 @@
-//! What is printed of a run, part by part, behind what was written before.
+//! The text of a run, part by part, after what was written before.
 #![tactic(auto)]
 
 pub mod entry;

@@ -1,4 +1,4 @@
-//! What nodes do where a group is reset: promises, votes, what a coordinator decides, and how nodes catch up with a view.
+//! The rows of a reset: promises, votes, what a coordinator decides, and how nodes catch up with a view.
 #![tactic(auto)]
 
 pub mod catching;

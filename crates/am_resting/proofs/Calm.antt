@@ -238,7 +238,7 @@ take_fine rules r w place h =
     let e = event_at place Act.Take in
     record { laws = each_owned rules w e (happens w e) (events_have_effects w e) h.laws; calm = (take_goes rules r w place h).0 }
 
-one_fine : (rules : Rules) (r : Repair) (w : World) (e : Event) → IsTaking r e → Fine rules r w → Fine rules r (happens w e)
+pub one_fine : (rules : Rules) (r : Repair) (w : World) (e : Event) → IsTaking r e → Fine rules r w → Fine rules r (happens w e)
 one_fine rules r w e (ours e_ is) h = fine_goes rules r w e is h
 one_fine rules r w e (takes_one place) h = take_fine rules r w place h
 

@@ -4,3 +4,7 @@ pub mod Calm
 pub mod Given
 pub mod Rounds
 pub mod Answered
+pub mod Sums
+pub mod Stands
+pub mod TakenReports
+pub mod Quiet

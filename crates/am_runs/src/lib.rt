@@ -1,4 +1,5 @@
-//! What every run keeps of sends, promises and ballots, and what one keeps in which nobody began a ballot.
+//! Laws of every run: whose sends stand in the group list, promises, stamps and ballots, and all that a run keeps in which nobody began a
+//! ballot.
 #![tactic(auto)]
 
 pub mod promises;

@@ -1,4 +1,5 @@
-//! Scripts and races as documents: their keys and the kinds of their events as plain data, what bytes are read as, and what is written.
+//! Definitions of scripts and races as documents: their keys and the kinds of their events, how bytes are read, and how a run is written as
+//! a script that is read again.
 #![tactic(auto)]
 
 pub mod key;

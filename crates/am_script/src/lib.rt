@@ -1,5 +1,4 @@
-//! Scripts: how a group begins and what happens then, read from JSON. What reads them is open to crates that read other documents by
-//! the same keys.
+//! The reader of scripts in JSON, whose parts other readers use too.
 #![tactic(auto)]
 
 pub mod document;

@@ -1,4 +1,4 @@
-//! Messages longer than a body: their parts, and how they are put together from a group's list (docs/MESSAGES.md).
+//! Messages longer than a body: their parts, and the assembler that puts them together from a group's list (docs/MESSAGES.md).
 #![tactic(auto)]
 
 pub mod assembler;

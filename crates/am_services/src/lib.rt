@@ -1,5 +1,5 @@
-//! What is printed of services over a group: the parts of a message, the messages in what nodes were given, and nodes' directories
-//! and their snapshots (docs/MESSAGES.md, docs/DIRECTORY.md).
+//! The texts of services over a group: parts of a message, the messages in what nodes were given, nodes' directories, and their snapshots
+//! (docs/MESSAGES.md, docs/DIRECTORY.md).
 #![tactic(auto)]
 
 pub mod directories;

@@ -1,5 +1,4 @@
-//! What threads that share a journal know of it and are refused, and what they choose by drawn words: plain data, and the
-//! definitions on it.
+//! Plain data and definitions of threads that share a journal: what each knows of it, how it is refused, and its turns by drawn words.
 #![tactic(auto)]
 
 pub mod choice;

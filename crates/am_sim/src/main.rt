@@ -1,6 +1,5 @@
-//! The program: runs a script and prints what comes of it, the messages in it, or each node's directory; lets the threads of a
-//! race make their calls and prints what they did; makes a run from two numbers and prints its summary or its script; audits a
-//! text and prints the verdict; cuts a message into parts; or is one node that answers lines.
+//! The program of all words: it plays scripts, races threads, generates runs, audits texts, prints messages and directories, and is one
+//! node that answers lines.
 #![tactic(auto)]
 
 pub mod alone;

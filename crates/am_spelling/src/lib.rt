@@ -1,4 +1,4 @@
-//! How texts spell numbers, names, sets of names, stamps and bodies.
+//! Definitions of how texts spell numbers, names, sets of names, stamps and bodies.
 #![tactic(auto)]
 
 pub mod fault;

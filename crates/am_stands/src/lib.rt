@@ -1,5 +1,5 @@
-//! How a world of the whole definitions stands for a group of whole lists, of which it is proved that it has one list
-//! (docs/SAFETY.md), and how each event is moves of that group, with what it needs of it.
+//! The refinement: a world of the whole definitions and an abstract group that stand for each other, and how each step of a name is moves
+//! of that group (docs/SAFETY.md).
 #![tactic(auto)]
 
 pub mod steps_move;

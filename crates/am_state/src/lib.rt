@@ -1,4 +1,5 @@
-//! The definitions of a node's parts: its core, what it was told, the bodies that wait and its own sends; and what holds of the end of a list.
+//! Definitions of a node's parts: its core, reports, the accept front, the refresh, bodies that came before their numbers, and its own
+//! sends; and what the end of a list says of each.
 #![tactic(auto)]
 
 pub mod bodies;

@@ -1,5 +1,5 @@
-//! Tests of what crates offer each other: each module is of one crate. They stand together, since a crate with tests of its
-//! own is proved a second time with them.
+//! Tests of what crates offer each other, one module for each crate. They stand together, since a crate with tests of its own is proved a
+//! second time with them.
 #![tactic(auto)]
 
 #[cfg(test)]

@@ -1,4 +1,4 @@
-//! Tests of what crates of runs and of races offer: each module is of one crate. They stand apart from those of am_tests, which load less.
+//! Tests of what crates of runs and of races offer, one module for each crate. They stand apart from those of am_tests, which load less.
 #![tactic(auto)]
 
 #[cfg(test)]

@@ -1,5 +1,5 @@
-//! What was done, written as a script that is read again; the summary of a run; the parts of a report as texts in memory; and sources
-//! and sinks in memory, with faults where a test wants them.
+//! The writer of scripts, the summary of a run, the parts of a report as texts in memory, and sources and sinks in memory, with faults if a
+//! test wants them.
 #![tactic(auto)]
 
 pub mod held;

@@ -1,4 +1,4 @@
-//! What a text of a run is read as, and the verdict on it; and what the verdicts mean.
+//! Definitions of an audit: how a text of a run is read, the verdict on it, and what each verdict means.
 #![tactic(auto)]
 
 pub mod laws;

@@ -1,5 +1,4 @@
-//! What watches a run, event by event: the views that are in force or pending, and how far each name stands in them, from which it is
-//! known whether the run is lawful.
+//! The watcher of a run: it follows the run event by event and knows whether it is lawful.
 #![tactic(auto)]
 
 pub mod telling;

@@ -1,4 +1,4 @@
-//! What is kept of a run to say whether it is lawful: its definitions, and that it goes on with the run.
+//! Definitions of what is kept of a run to say whether it is lawful, and the law that it stays that of the run.
 #![tactic(auto)]
 
 pub mod laws;

@@ -1,4 +1,5 @@
-//! The shared journal: threads add records to it and read its letters, and each knows which records are its own.
+//! The shared journal of a race: threads add records and read letters, each record comes next by a law that its user gives, and each pass
+//! knows what it has seen.
 #![tactic(auto)]
 
 mod rule;

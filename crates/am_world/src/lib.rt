@@ -1,5 +1,5 @@
-//! A whole group: the nodes of sixteen places, every packet that was sent, and the one group list. Whether its run is lawful is kept
-//! event by event.
+//! A whole group: its nodes, every letter that was sent, the one group list, and whether its run is lawful, kept event by event; and the
+//! lossless schedule, done to a group.
 #![tactic(auto)]
 
 pub mod nodes;

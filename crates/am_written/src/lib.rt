@@ -1,4 +1,4 @@
-//! What holds of what the programs read and write: of scripts and races, and of the texts of runs, which audits read.
+//! Laws of what the programs read and write: the bodies of scripts, the script of a race, and how an audit reads the text of a run.
 #![tactic(auto)]
 
 pub mod audited;

@@ -10,7 +10,7 @@ use std::path::PathBuf;
 use std::sync::Arc;
 use std::time::Duration;
 
-/// What a member calls on its own thread.
+/// A function that a member calls on its own thread.
 pub(crate) struct Callback<T>(pub(crate) Arc<dyn Fn(T) + Send + Sync>);
 
 impl<T> Clone for Callback<T> {
@@ -25,7 +25,7 @@ impl<T> fmt::Debug for Callback<T> {
     }
 }
 
-/// What a member of a group is started with. All members of a group are given the same founders, resilience, window,
+/// The settings of a member of a group. All members of a group are given the same founders, resilience, window,
 /// `pb_up_to` and key.
 ///
 /// ```no_run
@@ -100,7 +100,7 @@ impl Config {
     }
 
     /// The longest body that goes by the sequencer, 0 to 1,024 bytes; a longer one goes to all, and its number alone by the
-    /// sequencer, which pays where the network has multicast.
+    /// sequencer, which pays if the network has multicast.
     pub fn pb_up_to(mut self, bytes: u16) -> Config {
         self.founding.pb_up_to = bytes;
         self
@@ -112,7 +112,7 @@ impl Config {
         Ok(self)
     }
 
-    /// The address to bind, where it isn't the one at which the others reach this member.
+    /// The address to bind, if it isn't the one at which the others reach this member.
     pub fn bind(mut self, address: SocketAddr) -> Config {
         self.bind = Some(address);
         self
@@ -172,7 +172,7 @@ impl Config {
         self
     }
 
-    /// Calls this with what an operator should know: who is silent or slow, who was left out and why. It runs on the member's
+    /// Calls this with notices for an operator: which members are silent or slow, and which were left out and why. It runs on the member's
     /// thread, and must not wait. If it isn't set, notices go to the log.
     pub fn on_notice(mut self, call: impl Fn(Notice) + Send + Sync + 'static) -> Config {
         self.on_notice = Some(Callback(Arc::new(call)));

@@ -25,7 +25,7 @@ impl Ticket {
         self.slot.wait(until).unwrap_or(Err(SendError::Timeout))
     }
 
-    /// What became of the message; None as long as nothing has.
+    /// The result of the message; None while there is none.
     pub fn look(&self) -> Option<Result<Position, SendError>> {
         self.slot.look()
     }
