@@ -14,6 +14,7 @@ import pathlib
 import shutil
 import subprocess
 import sys
+import tomllib
 from typing import Any
 
 from words import end, words
@@ -21,39 +22,25 @@ from words import end, words
 TOP = pathlib.Path(__file__).resolve().parent.parent
 HOME = TOP / "runtime"
 SOURCES = pathlib.Path("/usr/share/cargo/registry")
-# the crates that the workspace needs, some with a version, and the packages of Debian that have them and what they stand on
-PACKAGES = {
-    "bit-set": "bit-set",
-    "clap-4": "clap",
-    "clap_derive-4": "clap-derive",
-    "hex": "hex",
-    "libc": "libc",
-    "prometheus": "prometheus",
-    "proptest": "proptest",
-    "quick-error": "quick-error",
-    "ring": "ring",
-    "rusty-fork": "rusty-fork",
-    "serde": "serde-derive",
-    "serde_json": "serde-json",
-    "signal-hook": "signal-hook",
-    "socket2": "socket2",
-    "thiserror": "thiserror",
-    "tiny_http": "tiny-http",
-    "toml": "toml",
-    "tracing": "tracing",
-    "tracing-subscriber": "tracing-subscriber",
-    "wait-timeout": "wait-timeout",
-}
 
 
 class Missing(Exception):
     """What is needed and isn't there."""
 
 
+def is_there(name: str, version: str) -> bool:
+    """Whether a crate is installed, in this version or one that Cargo takes in its place."""
+    numbers = version.split(".")
+    same = numbers[:1] if numbers[0] != "0" else numbers[:2]
+    return any(SOURCES.glob(f"{name}-{'.'.join(same)}.*"))
+
+
 def missing_packages() -> list[str]:
-    """The packages of Debian that aren't installed."""
-    patterns = {crate: f"{crate}.*" if crate.rpartition("-")[2].isdigit() else f"{crate}-[0-9]*" for crate in PACKAGES}
-    return [f"librust-{package}-dev" for crate, package in PACKAGES.items() if not any(SOURCES.glob(patterns[crate]))]
+    """The packages of Debian that have the crates of Cargo.lock and aren't installed."""
+    with open(HOME / "Cargo.lock", "rb") as file:
+        crates = tomllib.load(file)["package"]
+    wanted = {crate["name"] for crate in crates if "source" in crate and not is_there(crate["name"], crate["version"])}
+    return sorted(f"librust-{name.replace('_', '-').lower()}-dev" for name in wanted)
 
 
 def install() -> None:

@@ -69,7 +69,8 @@ pub(crate) struct Timers {
     pub(crate) stands_since: Time,
     tries: u32,
     last_tick: Time,
-    polled_at: Option<Time>,
+    /// When the sequencer first asked for reports that it didn't get yet, and whether it asked again.
+    polled: Option<(Time, bool)>,
     /// Whether something that is wanted was missing when it was last heard of.
     is_behind: bool,
     is_wanted: bool,
@@ -92,7 +93,7 @@ impl Timers {
             stands_since: now,
             tries: 0,
             last_tick: now,
-            polled_at: None,
+            polled: None,
             is_behind: false,
             is_wanted: false,
             reported: 0,
@@ -127,8 +128,8 @@ impl Timers {
             | Outcome::Welcomed { .. }
             | Outcome::Decided { .. } => self.is_behind = false,
             Outcome::Noted | Outcome::Accepted { .. } => {
-                if let Some(polled) = self.polled_at.take() {
-                    self.round_trip.measure(now.since(polled), false);
+                if let Some((polled, again)) = self.polled.take() {
+                    self.round_trip.measure(now.since(polled), again);
                 }
             }
             _ => {}
@@ -170,6 +171,9 @@ impl Member {
         };
         if before == marks {
             return;
+        }
+        if marks.view != before.view {
+            self.new_view();
         }
         if marks.base > before.base && self.sending.put_off {
             self.timers.want_tick();
@@ -233,7 +237,8 @@ impl Member {
         timers.moved_at = self.now;
         timers.tries = timers.tries.saturating_add(1);
         if self.standing.role == Role::Sequencer {
-            timers.polled_at = Some(self.now);
+            let first = timers.polled.map(|(first, _)| (first, true));
+            timers.polled = first.or(Some((self.now, false)));
         }
         if let Some(own) = &mut self.sending.under_way {
             own.sent_at = self.now;
