@@ -1,7 +1,7 @@
 """Tries net/cluster.py and net/merge.py: clusters with kills, losses and frozen members whose runs are judged; members and plays whose text is
 changed; what can't begin or be done in time; the relay; what is compared of the deliveries that members print; journals that can't be merged.
 
-    python3 tools/try_clusters.py [PROGRAM [MEMBER]]
+    python3 gate/try_clusters.py [PROGRAM [MEMBER]]
 
 PROGRAM is the command whose word `play` judges, MEMBER the one whose word `run` is a member; else those that are built here. Each part
 ends by itself, within some seconds. It prints what fails, and how many parts passed.
@@ -19,15 +19,14 @@ import tempfile
 import time
 from typing import Any
 
-TOP = pathlib.Path(__file__).resolve().parent.parent
-sys.path.insert(0, str(TOP / "net"))
+from member import Position
+from merge import Life, Step
+from programs import judge_of, member_of
+from relay import HOST, Counts, Faults, Relay
+from seen import Seen, differences
+from words import end, words
 
-from member import Position  # noqa: E402
-from merge import Life, Step  # noqa: E402
-from programs import judge_of, member_of  # noqa: E402
-from relay import HOST, Counts, Faults, Relay  # noqa: E402
-from seen import Seen, differences  # noqa: E402
-from words import end, words  # noqa: E402
+TOP = pathlib.Path(__file__).resolve().parent.parent
 
 # a command whose word `play` writes a text that is changed
 FILTER = """\
@@ -363,7 +362,7 @@ def main() -> int:
         passed, failed = passed + (not wrong), failed + bool(wrong)
         for line in wrong:
             print(f"refused: {part.__name__}: {line}")
-    print(f"tools/try_clusters.py: {passed} passed, {failed} failed")
+    print(f"gate/try_clusters.py: {passed} passed, {failed} failed")
     return 1 if failed else 0
 
 

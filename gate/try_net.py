@@ -1,7 +1,7 @@
 """Tries members as processes of muoswyldd, on two addresses of this machine: they drop what isn't theirs and tell it on
 both sides, take inputs and messages of all sorts, and keep journals; and the loop of docs/NETWORK.md.
 
-    python3 tools/try_net.py PROGRAM [MEMBER]
+    python3 gate/try_net.py PROGRAM [MEMBER]
 
 PROGRAM is the command whose words `node` and `play` are run, MEMBER the one whose word `run` is a member, if it isn't the one that is built
 here. Each part ends by itself, within some seconds. It prints what fails, and how many parts passed.

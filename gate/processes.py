@@ -16,14 +16,13 @@ import time
 from collections.abc import Callable, Iterable
 from typing import Any
 
-TOP = pathlib.Path(__file__).resolve().parent.parent
-sys.path.insert(0, str(TOP / "net"))
+from member import Caller, Ended, Refused
+from members import FIRST_PORT, own_host
+from programs import member_of
+from relay import HOST, Faults, Relay
+from words import words
 
-from member import Caller, Ended, Refused  # noqa: E402
-from members import FIRST_PORT, own_host  # noqa: E402
-from programs import member_of  # noqa: E402
-from relay import HOST, Faults, Relay  # noqa: E402
-from words import words  # noqa: E402
+TOP = pathlib.Path(__file__).resolve().parent.parent
 
 # a line of the log, and what it tells
 LOGGED = re.compile(r"\d{4}-\d\d-\d\dT\S+Z +(?:INFO|WARN|ERROR) (.*)")

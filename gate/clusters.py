@@ -2,7 +2,7 @@
 """Runs many clusters on this machine (net/cluster.py): 3 to 7 members, losses up to 20 of a hundred, kills one after the other and at
 once, up to what the resilience allows and beyond, and members that are frozen for a while.
 
-    tools/clusters.py PROGRAM [FIRST LAST]
+    gate/clusters.py PROGRAM [FIRST LAST]
 
 PROGRAM is the command whose word `play` judges. Each seed from FIRST to LAST, 1 to 100, is a cluster of some seconds. It prints a line for
 each, and last how many passed.

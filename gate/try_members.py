@@ -1,7 +1,7 @@
 """Tries what members of muoswyldd tell of each other, and what comes of a group in which some have stopped: a frozen member, stops beyond the
 resilience, who resets and when, sends over a reset, a member that is left out, and a joiner that isn't welcomed.
 
-    python3 tools/try_members.py PROGRAM [MEMBER]
+    python3 gate/try_members.py PROGRAM [MEMBER]
 
 PROGRAM is the command whose word `play` is run, MEMBER the one whose word `run` is a member, if it isn't the one that is built here. Each
 part ends by itself, within some seconds. It prints what fails, and how many parts passed.

@@ -1,6 +1,6 @@
 """Tries examples/: a dictionary whose contents stay the same whoever joins, stops and comes back, and a chat.
 
-    python3 tools/try_groups.py PROGRAM [MEMBER]
+    python3 gate/try_groups.py PROGRAM [MEMBER]
 
 PROGRAM is the command whose word `play` is run, MEMBER the one whose word `run` is a member, if it isn't the one that is built here. Each
 part ends by itself, within some seconds. It prints what fails, and how many parts passed.
@@ -10,15 +10,11 @@ import random
 import sys
 import time
 
+from dictionary import MOST_MESSAGE, MOST_PAIR, Dictionary, command_of, message_of, parts_of, size_of
+from member import Delivery, Position
 from processes import SOON, TOP, Process, Tried, try_parts
+from relay import Faults
 from words import end
-
-sys.path.append(str(TOP / "examples"))
-
-from dictionary import MOST_MESSAGE, MOST_PAIR, Dictionary, command_of, message_of, parts_of, size_of  # noqa: E402
-from member import Delivery, Position  # noqa: E402
-from relay import Faults  # noqa: E402
-
 
 # so many pairs are put by each of two members: what a joiner is sent takes some seconds
 PAIRS = 100
