@@ -148,7 +148,7 @@ def no_memory(tried: Tried) -> list[str]:
     if tried.sanitize:
         return []
     library = tried.folder / "fail_malloc.so"
-    words = [tried.compiler, "-shared", "-fPIC", "-O2", str(TOP / "tools" / "fail_malloc.c"), "-o", str(library), "-ldl"]
+    words = [tried.compiler, "-shared", "-fPIC", "-O2", str(TOP / "gate" / "fail_malloc.c"), "-o", str(library), "-ldl"]
     wrong = told("fail_malloc", run(words))
     lines = "\n".join(ANYTHING).encode()
     driver = [*tried.drivers()["C"], "--name", "1", "--founders", "0,1,2"]

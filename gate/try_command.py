@@ -15,6 +15,7 @@ import pathlib
 import pty
 import re
 import shutil
+import signal
 import subprocess
 import sys
 import tempfile
@@ -245,6 +246,9 @@ def tool_faults(tools: list[pathlib.Path]) -> Iterator[str]:
 def main() -> int:
     """Tries the command of the folder that is named, and the pages of its tools."""
     source = pathlib.Path(words(__doc__, 1, 1)[0])
+    # calls are ended by these, also if whoever runs this ignores them: what is caught here is the default of a call
+    signal.signal(signal.SIGINT, signal.default_int_handler)
+    signal.signal(signal.SIGHUP, signal.SIG_DFL)
     tools = tools_of(source)
     with tempfile.TemporaryDirectory() as folder:
         top = pathlib.Path(folder)

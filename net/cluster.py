@@ -3,14 +3,17 @@
 
     net/cluster.py --nodes 4 --resilience 1 --seconds 10 --rate 300 --loss 5 --repeat 2 --delay 5 --kill 2 --seed 1
 
-Members are processes of their own (net/udp.py) over datagrams on 127.0.0.1. They send `--rate` messages a second in all; of a hundred
-datagrams so many are lost and repeated, and each is delayed by up to so many milliseconds. `--kill` times one of them is killed by
-SIGKILL; the others are told once it has ended, and its place comes back as its next life. In the end their inputs end; whom that doesn't
-end within `--patience` seconds, as it has still much to send, is killed. Behind that the journals are merged to one script, `play` runs it,
-and each answer of each process is compared with its line. It ends with 1 where one differs, or where a member ended by itself.
+Members are processes of muoswyldd, and a relay between them makes the faults. They send `--rate` messages a second in all; of a hundred
+datagrams so many are lost, repeated and overtaken by the next one, and each is delayed by up to so many milliseconds. `--kill` times one of
+them is killed by SIGKILL; the others are told once it has ended, and its place comes back as its next life. `--freeze` times one of them is
+stopped by SIGSTOP for a while. In the end their inputs end; whom that doesn't end within `--patience` seconds, as it has still much to send,
+is killed. After that the journals are merged to one script, `play` runs it, and each answer of each process is compared with its line; and
+what the members printed is compared with each other, with what was sent and answered, and with the journals. It ends with 1 where something
+differs, or where a member ended by itself.
 """
 
 import argparse
+import contextlib
 import os
 import pathlib
 import random
@@ -18,13 +21,11 @@ import subprocess
 import sys
 import tempfile
 import time
-from collections.abc import Iterator
+from collections.abc import Callable, Iterator
 
-from members import START_SECONDS, Failed, Interpreted, Members
+from members import START_SECONDS, Failed, Members
 from merge import Life, Merged, Unmerged, write_out
-from native import Native
-from node import program_of
-from udp import complain, number_of
+from programs import judge_of
 
 MOST_EVENTS = 100_000
 
@@ -43,7 +44,30 @@ def moments(wanted: argparse.Namespace) -> list[tuple[float, str, int]]:
             place = k % wanted.nodes
         plan.append((when, "kill", place))
         plan.append((when + (step * 0.4 if not wanted.at_once else (last - first) * 0.5), "back", place))
-    return sorted(plan)
+    return sorted(plan + freezes(wanted, first, last))
+
+
+def freezes(wanted: argparse.Namespace, first: float, last: float) -> list[tuple[float, str, int]]:
+    """When which member is frozen, and goes on; it may be killed meanwhile."""
+    draw = random.Random(f"{wanted.seed} freeze")
+    step, plan = (last - first) / max(wanted.freeze, 1), []
+    for k in range(wanted.freeze):
+        place, when = draw.randrange(wanted.nodes), first + step * (k + draw.random() * 0.3)
+        plan += [(when, "freeze", place), (when + step * (0.2 + draw.random() * 0.4), "thaw", place)]
+    return plan
+
+
+def do(cluster: Members, what: str, place: int) -> None:
+    """Does one thing of the plan to a place, where it can be done."""
+    member = cluster.running.get(place)
+    if what == "kill" and member:
+        cluster.kill(place)
+    elif what == "back" and not member:
+        cluster.back(place)
+    elif what == "freeze" and member and not member.is_frozen and cluster.is_in(place):
+        cluster.freeze(place)
+    elif what == "thaw" and member and member.is_frozen:
+        cluster.thaw(place)
 
 
 def act(cluster: Members) -> None:
@@ -58,16 +82,15 @@ def act(cluster: Members) -> None:
     sending_ends = began + wanted.seconds * 0.85
     while (now := time.monotonic()) < began + wanted.seconds:
         while plan and began + plan[0][0] <= now:
-            _, what, place = plan.pop(0)
-            if what == "kill" and place in cluster.running:
-                cluster.kill(place)
-            elif what == "back" and place not in cluster.running:
-                cluster.back(place)
+            do(cluster, *plan.pop(0)[1:])
         if now < sending_ends:
             for _ in range(int((now - began) * wanted.rate) - cluster.sent):
                 cluster.send()
         cluster.look()
         time.sleep(0.002)
+    for place, member in cluster.running.items():
+        if member.is_frozen:
+            cluster.thaw(place)
     cluster.end()
 
 
@@ -81,7 +104,9 @@ def hundredths(values: list[int], share: int) -> str:
 def times_of(lives: list[Life]) -> tuple[list[int], list[int], int]:
     """Microseconds from each send to its answer `sent`, and to the last take of it, and how many entries were taken."""
     begun: dict[tuple[str, str], int] = {}
-    answered, last_take, taken = [], {}, 0
+    answered: list[int] = []
+    last_take: dict[tuple[str, str], int] = {}
+    taken = 0
     for life in lives:
         for step in life.steps:
             if step.answer.startswith("queued "):
@@ -101,7 +126,7 @@ def told(merged: Merged, cluster: Members) -> Iterator[str]:
     """The lines that tell what happened."""
     wanted = cluster.wanted
     answered, delivered, taken = times_of(merged.lives)
-    datagrams, *more = cluster.told(merged.lives)
+    datagrams, *more = cluster.told()
     words = [step.line.split(" ")[0] for _, step in merged.steps]
     joined = {step.answer.split(" ")[1] for _, step in merged.steps if step.answer.startswith("took ") and " join " in step.answer}
     letters = sum(len(step.letters) for _, step in merged.steps)
@@ -119,7 +144,7 @@ def judged(merged: Merged, wanted: argparse.Namespace, text: str) -> tuple[list[
     """Compares the lines of the script's text with what the processes answered: what to say of it, and 1 where one differs, or where the
     run isn't lawful from another event on than a stop, or with no more stops than the resilience."""
     lines = text.splitlines()
-    play = "the proved play" if wanted.program is None and wanted.judge is None else "play"
+    play = "the proved play" if wanted.program is None else "play"
     events = merged.events[:MOST_EVENTS]
     stops = [number for number, event in enumerate(events, 1) if event["do"] == "stop"]
     void = int(lines[-1].split(" ")[-1]) if lines[-1].startswith("void") else 0
@@ -144,6 +169,19 @@ def claimed_of(merged: Merged, last: str) -> dict[str, int] | None:
     return {life.name: int(step.answer.split(" ")[1]) for life, step in before if step.answer.startswith("took ")}
 
 
+def number_of(kind: Callable[[str], float], least: float, most: float) -> Callable[[str], float]:
+    """What reads a word of the command that is a number, of a kind and in a range."""
+
+    def read(text: str) -> float:
+        """The number of a word."""
+        with contextlib.suppress(ValueError):
+            if least <= (value := kind(text)) <= most:
+                return value
+        raise argparse.ArgumentTypeError(f"{text[:40]!r} is no number from {least} to {most}")
+
+    return read
+
+
 def options() -> argparse.Namespace:
     """The words of the command."""
     parser = argparse.ArgumentParser(description=__doc__, formatter_class=argparse.RawDescriptionHelpFormatter)
@@ -152,23 +190,21 @@ def options() -> argparse.Namespace:
     parser.add_argument("--rate", type=number_of(float, 0, 100_000), default=500, help="messages a second, of all members together (500)")
     parser.add_argument("--loss", type=number_of(float, 0, 100), default=0, help="of a hundred datagrams (0)")
     parser.add_argument("--repeat", type=number_of(float, 0, 100), default=0, help="of a hundred datagrams (0)")
+    parser.add_argument("--reorder", type=number_of(float, 0, 100), default=0, help="of a hundred datagrams, overtaken by the next (0)")
     parser.add_argument("--delay", type=number_of(float, 0, 10_000), default=0, help="milliseconds at most (0)")
     parser.add_argument("--kill", type=number_of(int, 0, 15), default=0, help="how many kills (0)")
+    parser.add_argument("--freeze", type=number_of(int, 0, 15), default=0, help="how often a member is stopped for a while (0)")
     parser.add_argument("--at-once", action="store_true", help="all kills at one moment, of different members")
     parser.add_argument("--resilience", type=number_of(int, 0, 15), default=1, help="how many stops between two resets keep it lawful (1)")
     parser.add_argument("--tick", type=number_of(float, 1, 10_000), default=20, help="milliseconds (20)")
     parser.add_argument("--patience", type=number_of(float, 0, 86_400), default=20, help="seconds until who hasn't ended is killed (20)")
     parser.add_argument("--seed", type=int, default=1, help="whom is killed when, and what is lost (1)")
     parser.add_argument("--keep", help="a new or empty folder, in which journals, script.json and its text script.txt stay")
-    parser.add_argument("--program", help="the command whose word node is run; else the one that is built here")
-    parser.add_argument("--native", action="store_true", help="members are processes of muoswyldd, and a relay makes the faults")
-    parser.add_argument("--member", help="with --native, the command whose word run is a member; else the one that is built here")
-    parser.add_argument("--least", type=number_of(int, 1, 16), help="with --native, the fewest members of a reset (a majority)")
-    parser.add_argument("--leave", action="store_true", help="with --native, the members leave at the end, all at once")
-    parser.add_argument("--judge", help="the command whose word play judges; else the same")
+    parser.add_argument("--program", help="the command whose word play judges; else the one that is built here")
+    parser.add_argument("--member", help="the command whose word run is a member; else the one that is built here")
+    parser.add_argument("--least", type=number_of(int, 1, 16), help="the fewest members of a reset (a majority)")
+    parser.add_argument("--leave", action="store_true", help="the members leave at the end, all at once")
     wanted = parser.parse_args()
-    if not wanted.native and (wanted.member or wanted.least or wanted.leave):
-        parser.error("--member, --least and --leave are for --native")
     if wanted.at_once and wanted.kill > wanted.nodes:
         parser.error(f"--at-once: there are no {wanted.kill} members to kill")
     try:
@@ -183,12 +219,10 @@ def options() -> argparse.Namespace:
 
 def ran(wanted: argparse.Namespace, made: pathlib.Path) -> int:
     """Runs, merges and judges."""
-    if not wanted.native:
-        program_of(wanted.program)  # for its cause, where there is none, before anything starts
-    judge = program_of(wanted.judge or wanted.program)
+    judge = judge_of(wanted.program)
     journals = pathlib.Path(wanted.keep) if wanted.keep else made / "journals"
     journals.mkdir(parents=True, exist_ok=True)
-    cluster = (Native if wanted.native else Interpreted)(wanted, journals, made)
+    cluster = Members(wanted, journals, made)
     try:
         act(cluster)
     finally:
@@ -224,7 +258,7 @@ def main() -> int:
         cause = f"{error.filename or 'standard output'}: {error.strerror}" if error.strerror else str(error)
     except KeyboardInterrupt:
         cause = "interrupted"
-    complain(cause)
+    print(f"cluster.py: {cause}", file=sys.stderr)
     return 130 if cause == "interrupted" else 1
 
 

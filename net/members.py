@@ -1,52 +1,61 @@
-"""The processes of a cluster's members (net/cluster.py): how they are started, told, killed and ended."""
+"""The members of a cluster (net/cluster.py): how their processes are started, told, killed, frozen and ended."""
 
 import argparse
 import os
 import pathlib
 import secrets
 import signal
-import socket
 import subprocess
-import sys
 import time
+from collections.abc import Iterator
 
+from callers import STATUSES, Running
 from merge import Life
+from programs import member_of
+from relay import HOST, Faults, Relay
+from seen import differences
 
-HERE = pathlib.Path(__file__).resolve().parent
+# where place 0 listens, and the others behind it
+FIRST_PORT = 7000
 # how long a member may take to begin
 START_SECONDS = 20
+# the status of a joiner that nobody welcomed, and what it says
+UNWELCOMED = 69, b"nobody welcomed it"
+# after the end of their inputs or the word to leave, how long members may take at least
+LAST_SECONDS = 10
+# each of so many messages is long: it goes in parts
+LONG_EVERY, LONG = 16, 2500
 
 
 class Failed(Exception):
     """Why a run has no result."""
 
 
-def free_ports(count: int) -> list[int]:
-    """So many ports that nobody has now."""
-    sockets = [socket.socket(socket.AF_INET, socket.SOCK_DGRAM) for _ in range(count)]
-    for each in sockets:
-        each.bind(("127.0.0.1", 0))
-    ports = [each.getsockname()[1] for each in sockets]
-    for each in sockets:
-        each.close()
-    return ports
+def own_host(number: int = 1) -> str:
+    """A host of this machine that other processes have no sockets on, as its number is that of this process: the first one, or another."""
+    return f"127.{1 + os.getpid() // 256 % 254}.{os.getpid() % 256}.{number}"
 
 
 class Members:
-    """The members' processes, by place. Journals are in one folder, what else they need in another."""
+    """The members, by place, and the relay between them. Journals are in one folder, what else they need in another."""
 
-    # the statuses with which a member may end where its input ends, and whether what it prints is kept
-    statuses: tuple[int, ...] = (0, 1)
-    prints = False
-
-    def __init__(self, wanted: argparse.Namespace, journals: pathlib.Path, folder: pathlib.Path):
+    def __init__(self, wanted: argparse.Namespace, journals: pathlib.Path, folder: pathlib.Path) -> None:
         self.wanted, self.journals, self.folder = wanted, journals, folder
+        self.program = member_of(wanted.member)
         self.lives = [1] * wanted.nodes
-        self.running: dict[int, subprocess.Popen] = {}
-        self.sent = 0
+        self.running: dict[int, Running] = {}
+        self.all: list[Running] = []
+        self.stopped: list[str] = []
         self.late: list[str] = []
-        self.ports = free_ports(wanted.nodes)
+        self.sent = self.unwelcomed = self.freezes = 0
+        self.homes = [(own_host(), FIRST_PORT + place) for place in range(wanted.nodes)]
         self.founders = ",".join(map(str, range(wanted.nodes)))
+        key = folder / "key"
+        key.write_text(f"{secrets.token_hex(32)}\n")
+        os.chmod(key, 0o600)
+        faults = Faults(wanted.loss, wanted.repeat, wanted.reorder, wanted.delay)
+        self.relay = Relay(self.homes, faults, wanted.seed)
+        self.relay.start()
 
     def name(self, place: int) -> str:
         """A place's name now."""
@@ -58,21 +67,32 @@ class Members:
 
     def command(self, place: int) -> list[str]:
         """The command of the place's process."""
-        raise NotImplementedError
+        wanted = self.wanted
+        words = [*self.program, "run", "--name", self.name(place), "--founders", self.founders, "--key", str(self.folder / "key")]
+        for other, home in enumerate(self.homes):
+            host, port = home if other == place else (HOST, self.relay.port(place, other))
+            words += ["--address", f"{other}={host}:{port}"]
+        words += ["--resilience", str(wanted.resilience), "--tick", f"{wanted.tick:.0f}", "--input", "commands", "--output", "json"]
+        words += ["--least", str(wanted.least)] if wanted.least else []
+        words += ["--journal", str(self.file(self.journals, "journal", place)), "--socket", str(self.file(self.folder, "socket", place))]
+        return words
 
     def start(self, place: int) -> None:
         """Starts the place's process."""
-        printed = self.file(self.folder, "out", place) if self.prints else os.devnull
+        printed = self.file(self.folder, "out", place)
         with open(self.file(self.folder, "errors", place), "wb") as errors, open(printed, "wb") as out:
-            self.running[place] = subprocess.Popen(self.command(place), bufsize=0, stdin=subprocess.PIPE, stdout=out, stderr=errors)
+            child = subprocess.Popen(self.command(place), bufsize=0, stdin=subprocess.PIPE, stdout=out, stderr=errors)
+        self.running[place] = Running(self.name(place), child, self.file(self.folder, "socket", place), printed)
+        self.all.append(self.running[place])
 
     def is_in(self, place: int) -> bool:
-        """Whether a member has begun its journal."""
+        """Whether a founder is in the group, and listens; whether another one has begun its journal."""
         journal = self.file(self.journals, "journal", place)
-        return journal.exists() and journal.stat().st_size > 0
+        has_begun = journal.exists() and journal.stat().st_size > 0
+        return has_begun and (self.lives[place] > 1 or self.file(self.folder, "socket", place).exists())
 
     def has_begun(self, place: int) -> bool:
-        """Waits until a place's process has begun its journal; False where it takes too long."""
+        """Waits until a place's process has begun; False where it takes too long."""
         ends = time.monotonic() + START_SECONDS
         while not self.is_in(place):
             self.look()
@@ -82,26 +102,22 @@ class Members:
         return True
 
     def look(self) -> None:
-        """Looks whether each member still runs."""
-        for place, child in self.running.items():
-            if child.poll() is not None:
+        """Looks whether each member still runs. A joiner that nobody welcomed has ended as it should, and its place comes back."""
+        for place in [place for place, member in self.running.items() if member.child.poll() == UNWELCOMED[0]]:
+            if UNWELCOMED[1] in self.file(self.folder, "errors", place).read_bytes():
+                self.unwelcomed += 1
+                self.remove(place)
+                self.back(place)
+        for place, member in self.running.items():
+            if member.child.poll() is not None:
                 raise self.failed(place)
 
     def failed(self, place: int) -> Failed:
         """What to say of a member that ended by itself, with its last line."""
         errors = self.file(self.folder, "errors", place).read_text(errors="replace").split("\n")
         last = next((line for line in reversed(errors) if line.strip()), "it said nothing")
-        return Failed(f"member {self.name(place)} ended by itself with status {self.running[place].returncode}: {last.strip()}")
-
-    def tell(self, place: int, line: str) -> None:
-        """Gives a member a line."""
-        child = self.running[place]
-        assert child.stdin
-        try:
-            child.stdin.write(line.encode() + b"\n")
-        except OSError:
-            self.has_ended(place, time.monotonic() + self.wanted.patience)  # it reads no more
-            self.look()
+        status = self.running[place].child.returncode
+        return Failed(f"member {self.name(place)} ended by itself with status {status}: {last.strip()}")
 
     def kill(self, place: int) -> None:
         """Kills a member that has begun, or takes too long to."""
@@ -110,92 +126,101 @@ class Members:
 
     def remove(self, place: int) -> None:
         """Ends a process, and tells the others once it has ended: it can't act any more. Where it has no journal, an empty one says so."""
-        child = self.running.pop(place)
-        child.send_signal(signal.SIGKILL)
-        child.wait()
+        member = self.running.pop(place)
+        member.is_killed = True
+        member.child.send_signal(signal.SIGKILL)
+        member.child.wait()
         self.file(self.journals, "journal", place).touch()
-        for other in self.running:
-            self.tell(other, f"stopped {self.name(place)}")
+        for other in self.running.values():
+            other.input.give(f"stopped {self.name(place)}")
+        self.stopped.append(self.name(place))
 
     def back(self, place: int) -> None:
         """Lets a killed member's place come back; it is told who stopped before."""
-        stopped = self.name(place)
         self.lives[place] += 1
         self.start(place)
-        self.tell(place, f"stopped {stopped}")
+        for name in self.stopped:
+            self.running[place].input.give(f"stopped {name}")
+
+    def freeze(self, place: int) -> None:
+        """Has a member do nothing until it is thawed."""
+        self.freezes += 1
+        self.running[place].is_frozen = True
+        self.running[place].child.send_signal(signal.SIGSTOP)
+
+    def thaw(self, place: int) -> None:
+        """Has a frozen member go on."""
+        self.running[place].is_frozen = False
+        self.running[place].child.send_signal(signal.SIGCONT)
 
     def send(self) -> None:
-        """Has the members send one message more, in turn."""
+        """Has the members send one message more, in turn; some are long."""
         places = sorted(self.running)
         if places:
             self.sent += 1
-            self.tell(places[self.sent % len(places)], f"message {self.sent}")
+            padding = "." * LONG if self.sent % LONG_EVERY == 0 else ""
+            self.running[places[self.sent % len(places)]].send(self.sent // len(places), f"message {self.sent} {padding}".rstrip())
 
-    def has_ended(self, place: int, ends: float) -> bool:
-        """Waits until a member has ended; where it hasn't by then, it is killed."""
-        child = self.running[place]
-        try:
-            child.wait(timeout=max(0, ends - time.monotonic()))
-        except subprocess.TimeoutExpired:
-            child.kill()
-            child.wait()
+    def is_settled(self) -> bool:
+        """Whether each member has printed all that it was given, and all have printed the list up to the same position."""
+        if any(member.waits() for member in self.running.values()):
             return False
-        return True
+        return len({member.log.last() for member in self.running.values()}) <= 1
 
     def end(self) -> None:
-        """Ends the members' inputs, and waits for them. A member that could send no more ends with 1; who isn't done in time is killed."""
+        """Waits until all is sent and printed, and ends the members' inputs, or has them leave. Who isn't done in time is killed."""
+        ends = time.monotonic() + self.wanted.patience
+        while not self.is_settled() and time.monotonic() < ends:
+            self.look()
+            time.sleep(0.02)
         self.look()
-        for child in self.running.values():
-            assert child.stdin
-            child.stdin.close()
-        self.wait_for_all(time.monotonic() + self.wanted.patience)
+        for place, member in list(self.running.items()):
+            if member.waits():
+                self.late.append(member.name)
+                self.remove(place)
+            elif self.wanted.leave:
+                member.child.send_signal(signal.SIGTERM)
+            else:
+                member.close()
+        self.wait_for_all(max(ends, time.monotonic() + LAST_SECONDS))
 
     def wait_for_all(self, ends: float) -> None:
         """Waits until all have ended; who hasn't by then is killed."""
-        for place, child in self.running.items():
-            if not self.has_ended(place, ends):
-                self.late.append(self.name(place))
-            elif child.returncode not in self.statuses or b"Traceback" in self.file(self.folder, "errors", place).read_bytes():
+        for place, member in self.running.items():
+            try:
+                member.child.wait(timeout=max(0, ends - time.monotonic()))
+            except subprocess.TimeoutExpired:
+                member.child.kill()
+                member.child.wait()
+                self.late.append(member.name)
+                continue
+            if member.child.returncode not in STATUSES:
                 raise self.failed(place)
 
     def stop(self) -> None:
-        """Kills who still runs."""
-        for child in self.running.values():
-            child.kill()
-            child.wait()
+        """Kills who still runs, and ends the relay."""
+        for member in self.running.values():
+            member.child.kill()
+            member.child.wait()
+        for member in self.all:
+            member.close()
+        self.relay.close()
 
-    def told(self, lives: list[Life]) -> list[str]:
-        """What became of the datagrams."""
-        raise NotImplementedError
+    def told(self) -> Iterator[str]:
+        """What became of the datagrams, as the relay counted them, and of the messages."""
+        counts = self.relay.counts()
+        yield f"datagrams {counts.carried}: {counts.lost} lost, {counts.repeated} repeated, {counts.reordered} reordered"
+        answers = sum(answer is not None for member in self.all for answer in member.seen().answers.values())
+        frozen = f"; members frozen: {self.freezes}" if self.freezes else ""
+        unwelcomed = f"; joiners that nobody welcomed: {self.unwelcomed}" if self.unwelcomed else ""
+        yield f"messages {self.sent}: {answers} answered at a socket{frozen}{unwelcomed}"
 
     def compared(self, lives: list[Life], claimed: dict[str, int] | None) -> tuple[list[str], int]:
         """Compares what the applications saw, up to each life's last entry that is claimed where that isn't all: what to say of it, and 1
-        where something is wrong. The journals have all of it here."""
-        return [], 0
-
-
-class Interpreted(Members):
-    """Members in Python, whose nodes are processes of their own (net/udp.py)."""
-
-    def __init__(self, wanted: argparse.Namespace, journals: pathlib.Path, folder: pathlib.Path):
-        super().__init__(wanted, journals, folder)
-        self.run = secrets.token_hex(8)
-        (folder / "peers").write_text("".join(f"{place} 127.0.0.1:{port}\n" for place, port in enumerate(self.ports)))
-        (folder / "key").write_bytes(os.urandom(32))
-
-    def command(self, place: int) -> list[str]:
-        """The command of the place's process."""
-        wanted = self.wanted
-        words = [sys.executable, str(HERE / "udp.py"), "--name", self.name(place), "--founders", self.founders]
-        words += ["--peers", str(self.folder / "peers"), "--key", str(self.folder / "key"), "--run", self.run]
-        words += ["--journal", str(self.file(self.journals, "journal", place)), "--seconds", str(wanted.seconds + wanted.patience + 10)]
-        words += ["--program", wanted.program] if wanted.program else []
-        for option in ("resilience", "tick", "loss", "repeat", "delay", "seed"):
-            words += [f"--{option}", str(getattr(wanted, option))]
-        return words
-
-    def told(self, lives: list[Life]) -> list[str]:
-        """What became of the datagrams, as the journals' ends have it."""
-        sent, lost, repeated, unknown, unsigned, others = (sum(counts) for counts in zip(*(life.counts for life in lives)))
-        dropped = f"dropped: {unknown} of unknown senders, {unsigned} unsigned, {others} of another group"
-        return [f"datagrams {sent}: {lost} lost, {repeated} repeated", dropped]
+        where something is wrong."""
+        seen = [member.seen() for member in self.all]
+        wrong = differences(seen, {life.name: life for life in lives}, claimed)
+        if wrong:
+            return [f"printed: {line}" for line in wrong[:10]], 1
+        until = "" if claimed is None else ", as far as that is claimed"
+        return [f"the {sum(len(each.log) for each in seen)} deliveries that were printed are pieces of one list{until}"], 0

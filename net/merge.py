@@ -16,12 +16,13 @@ import json
 import re
 import sys
 from dataclasses import dataclass, field
-
-from node import NAME
+from typing import Any
 
 KINDS = (
     "Request Spread Bcast Order Accept Ack Nack Hold JoinAsk Welcome LeaveAsk Gone Invite Vote Fetch Piece Result HandOver"
 ).split()
+# a name: PLACE, or PLACE/LIFE for a place that came back
+NAME = re.compile(r"(?:[0-9]|1[0-5])(?:/(?:[2-9]|1[0-6]))?")
 CALLS = {"take", "join", "leave", "state", "tick"}
 COUNTS = 6
 # the first line of a journal: its name, the founders, and the founding's three numbers
@@ -227,10 +228,10 @@ def in_order(lives: list[Life]) -> list[tuple[Life, Step]]:
     return order
 
 
-def event_of(place: int, line: str, packet: int) -> dict:
+def event_of(place: int, line: str, packet: int) -> dict[str, Any]:
     """The event of a script that a line is."""
     word, *rest = line.split(" ")
-    event: dict = {"do": word, "node": place}
+    event: dict[str, Any] = {"do": word, "node": place}
     if word == "send":
         event["body"] = rest[0].replace("-", "")
     elif word == "done":
@@ -261,7 +262,7 @@ def to_text(place: int, to: str) -> str:
 class Merged:
     """The events of the journals, and of each the line that `play` must print."""
 
-    def __init__(self, paths: list[str]):
+    def __init__(self, paths: list[str]) -> None:
         read_all = [read(path) for path in paths]
         lives = [life for life in read_all if life]
         if not lives:
@@ -276,7 +277,7 @@ class Merged:
             "pb_up_to": int(pb_up_to),
         }
         self.steps = in_order(self.lives)
-        self.events: list[dict] = []
+        self.events: list[dict[str, Any]] = []
         self.lines: list[str] = []
         numbers: dict[tuple[str, int], int] = {}
         sent = {life.name: 0 for life in self.lives}

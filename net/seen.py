@@ -14,8 +14,9 @@ import json
 import pathlib
 from collections.abc import Iterator
 from dataclasses import dataclass, replace
-from typing import NamedTuple
+from typing import Any
 
+from member import Position
 from merge import Life
 
 # the longest message that isn't sent in parts
@@ -23,19 +24,12 @@ MOST_PACKED = 1021
 SHARE = 1019
 
 
-class At(NamedTuple):
-    """A position in the list: an entry's number, and which of that entry's messages it is."""
-
-    number: int
-    index: int
-
-
 class Log:
     """What a member prints, an object of JSON a line, read as it comes; a last line that is cut isn't there."""
 
-    def __init__(self, path: pathlib.Path):
+    def __init__(self, path: pathlib.Path) -> None:
         self.path, self.offset = path, 0
-        self.deliveries: list[dict] = []
+        self.deliveries: list[dict[str, Any]] = []
 
     def read(self) -> None:
         """Reads what came since the last time."""
@@ -46,7 +40,7 @@ class Log:
             self.offset += len(whole) + 1
             self.deliveries += [json.loads(line) for line in whole.split(b"\n")]
 
-    def last(self) -> At | None:
+    def last(self) -> Position | None:
         """The last position that was read."""
         return at_of(self.deliveries[-1]) if self.deliveries else None
 
@@ -57,31 +51,31 @@ class Seen:
 
     name: str
     channels: list[list[str]]
-    answers: dict[str, dict]
-    log: list[dict]
+    answers: dict[str, Position | None]  # none where it was refused
+    log: list[dict[str, Any]]
     has_ended: bool  # by the end of its input
 
     def missing(self) -> set[str]:
         """The messages that it was to send, that it wasn't refused, and that it wasn't given itself."""
-        refused = {message for message, answer in self.answers.items() if "error" in answer}
+        refused = {message for message, answer in self.answers.items() if answer is None}
         own = {delivery["text"] for delivery in self.log if delivery.get("from") == self.name}
         return {message for channel in self.channels for message in channel} - refused - own
 
 
-def at_of(delivery: dict) -> At:
+def at_of(delivery: dict[str, Any]) -> Position:
     """Where a delivery stands."""
-    return At(delivery["number"], delivery["index"])
+    return Position(delivery["number"], delivery["index"])
 
 
-def shown(delivery: dict) -> str:
+def shown(delivery: dict[str, Any]) -> str:
     """A delivery in a line, cut where it is long."""
     text = json.dumps(delivery)
     return text if len(text) <= 100 else f"{text[:97]}.."
 
 
-def one_list(lives: list[Seen]) -> tuple[dict[At, dict], list[str]]:
+def one_list(lives: list[Seen]) -> tuple[dict[Position, dict[str, Any]], list[str]]:
     """The list of which each life was given a piece, in order, and what speaks against that."""
-    found: dict[At, dict] = {}
+    found: dict[Position, dict[str, Any]] = {}
     wrong = []
     for life in lives:
         last = None
@@ -99,11 +93,11 @@ def begins(life: Seen) -> bool:
     """Whether a life's piece begins with the founders' view, or with its own join."""
     first = life.log[0]
     if "/" in life.name:
-        return first["kind"] == "joined" and first["name"] == life.name
-    return first["kind"] == "view" and first["number"] == 1 and life.name in first["members"]
+        return bool(first["kind"] == "joined" and first["name"] == life.name)
+    return bool(first["kind"] == "view" and first["number"] == 1 and life.name in first["members"])
 
 
-def gaps(life: Seen, whole: dict[At, dict]) -> Iterator[str]:
+def gaps(life: Seen, whole: dict[Position, dict[str, Any]]) -> Iterator[str]:
     """What stands between two deliveries of a life, and wasn't given to it."""
     had = {at_of(delivery) for delivery in life.log}
     first, last = min(had), max(had)
@@ -118,10 +112,10 @@ def gaps(life: Seen, whole: dict[At, dict]) -> Iterator[str]:
         spoke.add(sender)
 
 
-def of_sender(life: Seen, whole: dict[At, dict], claimed: int | None) -> Iterator[str]:
+def of_sender(life: Seen, whole: dict[Position, dict[str, Any]], claimed: int | None) -> Iterator[str]:
     """What of the list isn't what a life sent, in the order in which it sent it; and what is missing of it, up to the last number that is
     claimed of what it was given, where that isn't all."""
-    places: dict[str, At] = {}
+    places: dict[str, Position] = {}
     given = {message for channel in life.channels for message in channel}
     for at, delivery in whole.items():
         if delivery.get("from") == life.name:
@@ -133,11 +127,11 @@ def of_sender(life: Seen, whole: dict[At, dict], claimed: int | None) -> Iterato
         if order != sorted(order):
             yield f"messages of {life.name} don't stand in the order in which it was given them"
     for message, answer in life.answers.items():
-        is_claimed = "sent" in answer and (claimed is None or answer["sent"] <= claimed)
-        if is_claimed and places.get(message) != At(answer["sent"], answer["index"]):
+        is_claimed = answer is not None and (claimed is None or answer.number <= claimed)
+        if is_claimed and places.get(message) != answer:
             yield f"{message[:20]!r} of {life.name} was answered {answer}, and stands at {places.get(message)}"
     if life.has_ended and claimed is None:
-        refused = {message for message, answer in life.answers.items() if "error" in answer}
+        refused = {message for message, answer in life.answers.items() if answer is None}
         for message in given - refused - places.keys():
             yield f"{message[:20]!r} of {life.name} stands nowhere, and it ended with all sent"
 
@@ -178,7 +172,7 @@ class Parts:
         return []
 
 
-def taken(life: Life) -> Iterator[tuple[At, str, str]]:
+def taken(life: Life) -> Iterator[tuple[Position, str, str]]:
     """What a life's journal says that its node gave it: where, of what kind, and what."""
     parts = Parts()
     for step in life.steps:
@@ -188,14 +182,14 @@ def taken(life: Life) -> Iterator[tuple[At, str, str]]:
         if kind == "data":
             body = b"" if rest[2] == "-" else bytes.fromhex(rest[2])
             for index, message in enumerate(parts.messages(rest[0], body)):
-                yield At(int(number), index), "message", f"{rest[0]} {message.decode(errors='replace')}"
+                yield Position(int(number), index), "message", f"{rest[0]} {message.decode(errors='replace')}"
         elif kind == "view":
-            yield At(int(number), 0), "view", rest[1]
+            yield Position(int(number), 0), "view", rest[1]
         else:
-            yield At(int(number), 0), {"join": "joined", "leave": "left"}[kind], rest[0]
+            yield Position(int(number), 0), {"join": "joined", "leave": "left"}[kind], rest[0]
 
 
-def printed(delivery: dict) -> tuple[At, str, str]:
+def printed(delivery: dict[str, Any]) -> tuple[Position, str, str]:
     """A delivery, as a journal has it."""
     match delivery["kind"]:
         case "message":

@@ -5,7 +5,8 @@
     tools/runtime.py test          runs the tests of the workspace too, and checks its form
 
 If the node's library isn't there, it makes it first (tools/library.py). The other libraries come from Debian's packages. If some are missing,
-it installs them if root runs it, and otherwise names them in a line. With CRATES_IO=1 cargo takes them from crates.io.
+it installs them if root runs it, and otherwise names them in a line. With CRATES_IO=1 cargo takes them from crates.io. With MUOSWYLD_UNPROVED=1
+it makes and takes a library of which nothing is proved.
 """
 
 import os
@@ -13,6 +14,7 @@ import pathlib
 import shutil
 import subprocess
 import sys
+import tomllib
 from typing import Any
 
 from words import end, words
@@ -20,35 +22,25 @@ from words import end, words
 TOP = pathlib.Path(__file__).resolve().parent.parent
 HOME = TOP / "runtime"
 SOURCES = pathlib.Path("/usr/share/cargo/registry")
-# the crates that the workspace names, and the packages of Debian that have them and what they stand on
-PACKAGES = {
-    "clap": "clap-derive",
-    "hex": "hex",
-    "libc": "libc",
-    "prometheus": "prometheus",
-    "proptest": "proptest",
-    "quick-error": "quick-error",
-    "ring": "ring",
-    "serde": "serde-derive",
-    "serde_json": "serde-json",
-    "signal-hook": "signal-hook",
-    "socket2": "socket2",
-    "thiserror": "thiserror",
-    "tiny_http": "tiny-http",
-    "toml": "toml",
-    "tracing": "tracing",
-    "tracing-subscriber": "tracing-subscriber",
-}
 
 
 class Missing(Exception):
     """What is needed and isn't there."""
 
 
+def is_there(name: str, version: str) -> bool:
+    """Whether a crate is installed, in this version or one that Cargo takes in its place."""
+    numbers = version.split(".")
+    same = numbers[:1] if numbers[0] != "0" else numbers[:2]
+    return any(SOURCES.glob(f"{name}-{'.'.join(same)}.*"))
+
+
 def missing_packages() -> list[str]:
-    """The packages of Debian that aren't installed."""
-    there = {folder.name.rsplit("-", 1)[0] for folder in SOURCES.glob("*-[0-9]*")} if SOURCES.is_dir() else set()
-    return [f"librust-{package}-dev" for crate, package in PACKAGES.items() if crate not in there]
+    """The packages of Debian that have the crates of Cargo.lock and aren't installed."""
+    with open(HOME / "Cargo.lock", "rb") as file:
+        crates = tomllib.load(file)["package"]
+    wanted = {crate["name"] for crate in crates if "source" in crate and not is_there(crate["name"], crate["version"])}
+    return sorted(f"librust-{name.replace('_', '-').lower()}-dev" for name in wanted)
 
 
 def install() -> None:
@@ -87,7 +79,8 @@ def main() -> int:
     except Missing as error:
         print(f"tools/runtime.py: {error}", file=sys.stderr)
         return 1
-    if status := subprocess.run([sys.executable, TOP / "tools" / "library.py"], check=False).returncode:
+    is_quick = bool(os.environ.get("MUOSWYLD_UNPROVED"))
+    if status := subprocess.run([sys.executable, TOP / "tools" / "library.py", *["--quick"] * is_quick], check=False).returncode:
         return status
     if status := cargo("build", "--release"):
         return status

@@ -53,7 +53,7 @@ impl Group {
         };
         match group.shared.is_in.wait(until) {
             Some(true) => Ok(group),
-            Some(false) => Err(CreateError::Ended(group.end())),
+            Some(false) => Err(CreateError::Ended(group.wait())),
             None => Err(CreateError::Timeout),
         }
     }
@@ -139,7 +139,7 @@ impl Group {
             slot: slot.clone(),
         };
         if self.shared.command(command, None).is_err() {
-            return Err(ResetError::Ended(self.end()));
+            return Err(ResetError::Ended(self.wait()));
         }
         let reset = slot.wait(deadline(Some(most)));
         reset.unwrap_or(Err(ResetError::Timeout))
@@ -158,11 +158,11 @@ impl Group {
             .command(command, None)
             .ok()
             .and_then(|()| slot.wait(None));
-        told.unwrap_or_else(|| Err(ToldError::Ended(self.end())))
+        told.unwrap_or_else(|| Err(ToldError::Ended(self.wait())))
     }
 
-    /// How the member ended, once it has.
-    fn end(&self) -> End {
+    /// Waits until the member ends, and gives how.
+    pub fn wait(&self) -> End {
         self.shared.ended.wait(None).unwrap_or(End::Stopped)
     }
 
@@ -185,7 +185,7 @@ impl Group {
         // a command that is taken is answered, also at the member's end
         match asked.ok().and_then(|()| slot.wait(None)) {
             Some(info) => Ok(info),
-            None => Err(self.end()),
+            None => Err(self.wait()),
         }
     }
 

@@ -10,12 +10,12 @@ use crate::slot::Slot;
 use crate::socket::Udp;
 use muoswyld::names::{Name, Names};
 use muoswyld_member::{
-    Delivery, HandleError, Input, Member, NotReset, Notice, Output, Position, Settings, Time,
+    Delivery, HandleError, Info, Input, Member, NotReset, Notice, Output, Position, Settings, Time,
     Unsent,
 };
 use std::collections::HashMap;
 use std::fs::{File, OpenOptions};
-use std::io::Write;
+use std::io::{ErrorKind, Write};
 use std::os::unix::fs::OpenOptionsExt;
 use std::sync::Arc;
 use std::thread::JoinHandle;
@@ -71,6 +71,8 @@ struct Shell {
     datagram: Vec<u8>,
     /// Datagrams that no member sealed, came from no member's address, or are too long.
     dropped: u64,
+    /// How many datagrams of each place's address weren't sealed by the key.
+    unsealed: [u64; 16],
 }
 
 /// The addresses of a member's group, with its own to bind.
@@ -112,7 +114,26 @@ fn journal_of(config: &Config) -> std::io::Result<Option<File>> {
     };
     let mut options = OpenOptions::new();
     options.write(true).create_new(true).mode(0o600);
-    options.open(path).map(Some)
+    let cannot = |error: std::io::Error| match error.kind() {
+        ErrorKind::AlreadyExists => "it is there, and a name never runs twice".to_string(),
+        _ => error.to_string(),
+    };
+    let opened = options.open(path);
+    let opened = opened.map_err(|error| {
+        let why = format!("the journal {}: {}", path.display(), cannot(error));
+        std::io::Error::other(why)
+    });
+    opened.map(Some)
+}
+
+/// A member that begins, and its journal. A name that doesn't begin has none.
+fn begun(
+    settings: Settings,
+    now: Time,
+    config: &Config,
+) -> Result<(Member, Option<File>), CreateError> {
+    let member = Member::new(settings, now)?;
+    Ok((member, journal_of(config)?))
 }
 
 /// Starts a member's thread.
@@ -127,18 +148,17 @@ pub(crate) fn start(config: Config) -> Result<(Arc<Shared>, JoinHandle<()>), Cre
     let own = own_address(&config)?;
     let size = config.datagram + seal.overhead();
     let udp = Udp::bind(own, &config.addresses, size)?;
-    let journal = journal_of(&config)?;
-    let (begun, opened) = std::sync::mpsc::channel();
+    let (starts, opened) = std::sync::mpsc::channel();
     let callers = shared.clone();
     let thread = std::thread::Builder::new()
         .name(format!("member {}", config.name))
         .spawn(move || {
             // a node stays on the thread that opened it, so the member is made here
             let clock = Clock::new();
-            match Member::new(settings, clock.now()) {
-                Ok(member) => {
+            match begun(settings, clock.now(), &config) {
+                Ok((member, journal)) => {
                     // whoever started this waits for it
-                    let _heard = begun.send(Ok(()));
+                    let _heard = starts.send(Ok(()));
                     let mut shell = Shell {
                         member,
                         udp,
@@ -155,18 +175,19 @@ pub(crate) fn start(config: Config) -> Result<(Arc<Shared>, JoinHandle<()>), Cre
                         commands: Vec::new(),
                         datagram: Vec::new(),
                         dropped: 0,
+                        unsealed: [0; 16],
                     };
                     let end = shell.run();
                     shell.close(&end);
                 }
                 Err(error) => {
-                    let _heard = begun.send(Err(error));
+                    let _heard = starts.send(Err(error));
                 }
             }
         })?;
     match opened.recv() {
         Ok(Ok(())) => Ok((shared, thread)),
-        Ok(Err(error)) => Err(CreateError::Member(error)),
+        Ok(Err(error)) => Err(error),
         // the thread ended before it said anything
         Err(_) => Err(CreateError::Ended(End::Failed("its thread ended".into()))),
     }
@@ -224,20 +245,44 @@ impl Shell {
         for _ in 0..MOST_BATCHES {
             let now = self.now();
             let (member, seal, udp) = (&mut self.member, &mut self.seal, &mut self.udp);
-            let mut unsealed = 0;
-            let brought = udp.receive(|_place, datagram| match seal.open(datagram) {
+            let mut unsealed = Vec::new();
+            let brought = udp.receive(|place, datagram| match seal.open(datagram) {
                 Some(payload) => {
                     // only messages can be refused
                     let _taken = member.handle(now, Input::Datagram(payload));
                 }
-                None => unsealed += 1,
+                None => unsealed.push(place),
             })?;
-            self.dropped += unsealed + (brought.strangers + brought.long) as u64;
+            self.dropped += (unsealed.len() + brought.strangers + brought.long) as u64;
+            for place in unsealed {
+                self.refuse(place);
+            }
             if brought.read < crate::socket::BATCH {
                 break;
             }
         }
         Ok(())
+    }
+
+    /// A datagram of a place isn't sealed by the key. The first one is told. At the first, the second, the fourth and so on the place is sent
+    /// one that it can't open either, so that its own log tells it.
+    fn refuse(&mut self, place: u8) {
+        let count = &mut self.unsealed[usize::from(place % 16)];
+        *count += 1;
+        let count = *count;
+        if count == 1 {
+            self.tell(Notice::OtherKey(place));
+        }
+        if count.is_power_of_two() && self.seal.seal(&[], &mut self.datagram) {
+            self.udp.push(&self.datagram, std::iter::once(place));
+        }
+    }
+
+    /// How the member stands, with what its network dropped.
+    fn info(&self) -> Info {
+        let mut info = self.member.info();
+        info.counts.dropped = self.dropped;
+        info
     }
 
     /// Does what callers asked for; the end, if one of them asked for it.
@@ -250,7 +295,7 @@ impl Shell {
                 Command::Send { message, slot } => self.send(message, slot),
                 Command::Leave => self.handle(Input::Leave),
                 Command::Stopped { name, slot } => slot.fill(self.stopped(name)),
-                Command::Info(slot) => slot.fill(self.member.info()),
+                Command::Info(slot) => slot.fill(self.info()),
                 Command::Stop => end = Some(End::Stopped),
                 Command::Reset {
                     least,
@@ -410,7 +455,7 @@ impl Shell {
             match command {
                 Command::Send { slot, .. } => slot.fill(Err(SendError::NotSent(end.clone()))),
                 Command::Reset { slot, .. } => slot.fill(Err(ResetError::Ended(end.clone()))),
-                Command::Info(slot) => slot.fill(self.member.info()),
+                Command::Info(slot) => slot.fill(self.info()),
                 Command::Stopped { slot, .. } => slot.fill(Err(ToldError::Ended(end.clone()))),
                 Command::Leave | Command::Stop => {}
             }

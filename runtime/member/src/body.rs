@@ -6,7 +6,8 @@
 //! | `S` | a part of a message |
 //! | `C` | control, which no application is given |
 //!
-//! Any other body, and one that isn't of its form, is a message as it is: a sender of another kind wrote it.
+//! Any other body, and one that isn't of its form, is a message as it is. So a message goes out that fits into a body, but not with the
+//! head of a packed one: a kilobyte is one body, if it doesn't begin as one of these.
 
 use muoswyld::names::Name;
 
@@ -147,6 +148,11 @@ pub(crate) fn read(body: &[u8]) -> Body<'_> {
         Some((&CONTROL, _)) => Body::Control,
         _ => Body::Plain,
     }
+}
+
+/// Whether a message is a body as it is: too long to be packed, short enough for a body, and not read as anything else.
+pub(crate) fn is_whole_body(message: &[u8]) -> bool {
+    (MOST_PACKED + 1..=MOST_BODY).contains(&message.len()) && read(message) == Body::Plain
 }
 
 /// What has begun at a place: the parts of a message so far.

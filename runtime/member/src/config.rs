@@ -121,9 +121,10 @@ pub struct Settings {
     pub most_resend: u64,
     /// After how many microseconds without a letter of a member it is told as silent.
     pub silent_after: u64,
-    /// How many microseconds a member waits for the reset of each lower one, before it resets itself.
+    /// How many microseconds a member waits for the reset of each lower one, before it resets itself. It is a round trip at least, and
+    /// doubles with each ballot that the member began by itself since the last view; but it is at most 32 times this.
     pub reset_step: u64,
-    /// After how many microseconds without an answer, while all others are heard, a member resets.
+    /// After how many microseconds without an answer, while all others are heard, a member resets. It is four round trips at least.
     pub stuck_after: u64,
     /// Whether it gives lines of a journal.
     pub journal: bool,

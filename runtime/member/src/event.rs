@@ -199,6 +199,8 @@ pub enum Notice {
     Heard(Name),
     /// Half of the window is used and has been for a while, since this member takes nothing. It is told at the sequencer.
     Slow(Name),
+    /// The sequencer has had no room for an own send for a while. It is told at any other member.
+    Full(Name),
     /// A reset isn't begun, since fewer members run than it is to go on with.
     TooFew {
         /// How many run.
@@ -218,6 +220,8 @@ pub enum Notice {
     OtherGroup(Name),
     /// What comes of a name is of another process than before, and dropped.
     OtherProcess(Name),
+    /// What comes of a place's address isn't sealed by the group's key, and dropped.
+    OtherKey(u8),
     /// A leave waits: for sends, for a reset, or until another leaver has left.
     LeaveWaits,
 }
@@ -265,6 +269,8 @@ pub struct Counts {
     pub datagrams_sent: u64,
     /// Datagrams that are none by their form, or come of this place itself.
     pub malformed: u64,
+    /// Datagrams that its network dropped before they reached it: not sealed by the key, of no member's address, or too long.
+    pub dropped: u64,
     /// Datagrams of another group or founding.
     pub other_group: u64,
     /// Datagrams of another process of a name.

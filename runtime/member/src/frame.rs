@@ -5,6 +5,7 @@
 //! | 1, letters | group id (8), sender's name (1), its process word (8), then letters to the end |
 //! | 2, asks for the group's id | digest of the founding (8), name (1), process word (8), nonce (8) |
 //! | 3, tells it | nonce (8), group id (8), name (1), process word (8) |
+//! | 4, refuses it, since the founding is another one | nonce (8), name (1), process word (8) |
 //!
 //! A letter is its number (4), flags (1: bit 0 any life of the places, bit 1 lives follow), the mask of the places (2), the lives
 //! (8, if they follow), a length (2), and so many bytes of a packet, 12 to 1,152.
@@ -24,6 +25,7 @@ pub const LEAST_DATAGRAM: usize = 1232;
 const LETTERS: u8 = 1;
 const ASK: u8 = 2;
 const TELL: u8 = 3;
+const REFUSE: u8 = 4;
 const ANY: u8 = 1;
 const LIVES: u8 = 2;
 
@@ -58,6 +60,10 @@ pub(crate) enum Frame<'a> {
     Tell {
         nonce: u64,
         group: u64,
+        from: Speaker,
+    },
+    Refuse {
+        nonce: u64,
         from: Speaker,
     },
 }
@@ -133,7 +139,7 @@ impl<'a> Iterator for Letters<'a> {
     }
 }
 
-/// What a payload is; None if it is none of the three kinds by its form.
+/// What a payload is; None if it is none of the four kinds by its form.
 pub(crate) fn read(payload: &[u8]) -> Option<Frame<'_>> {
     let mut bytes = Bytes(payload);
     let frame = match bytes.u8()? {
@@ -150,6 +156,10 @@ pub(crate) fn read(payload: &[u8]) -> Option<Frame<'_>> {
         TELL => Frame::Tell {
             nonce: bytes.u64()?,
             group: bytes.u64()?,
+            from: bytes.speaker()?,
+        },
+        REFUSE => Frame::Refuse {
+            nonce: bytes.u64()?,
             from: bytes.speaker()?,
         },
         _ => return None,
@@ -216,6 +226,14 @@ pub(crate) fn tell(nonce: u64, group: u64, from: Speaker) -> Vec<u8> {
     let mut payload = vec![TELL];
     payload.extend(nonce.to_be_bytes());
     payload.extend(group.to_be_bytes());
+    push_speaker(&mut payload, from);
+    payload
+}
+
+/// The payload that refuses the group's id, since the founding is another one.
+pub(crate) fn refuse(nonce: u64, from: Speaker) -> Vec<u8> {
+    let mut payload = vec![REFUSE];
+    payload.extend(nonce.to_be_bytes());
     push_speaker(&mut payload, from);
     payload
 }
@@ -295,6 +313,10 @@ mod tests {
             3, 0, 0, 0, 0, 0, 0, 0, 4, 0, 0, 0, 0, 0, 0, 0, 5, 0x21, 1, 2, 3, 4, 5, 6, 7, 8,
         ];
         assert_eq!(tell(4, 5, ME), tells);
+        let refuses = [4, 0, 0, 0, 0, 0, 0, 0, 4, 0x21, 1, 2, 3, 4, 5, 6, 7, 8];
+        assert_eq!(refuse(4, ME), refuses);
+        let read_again = Frame::Refuse { nonce: 4, from: ME };
+        assert_eq!(read(&refuses), Some(read_again));
     }
 
     #[test]
@@ -314,7 +336,7 @@ mod tests {
             bad[at] = byte;
             read(&bad).is_none()
         };
-        assert!(with(0, 0) && with(0, 4), "a kind");
+        assert!(with(0, 0) && with(0, 5), "a kind");
         assert!(with(HEAD + 4, 4), "a flag");
         assert!(with(HEAD + 8, 11) && with(HEAD + 8, 13), "a length");
         let mut lives = begin(1, ME, 0);
@@ -329,7 +351,7 @@ mod tests {
 
     proptest! {
         #[test]
-        fn any_bytes_are_read_or_refused(bytes in prop::collection::vec(any::<u8>(), 0..200), kind in 0_u8..5) {
+        fn any_bytes_are_read_or_refused(bytes in prop::collection::vec(any::<u8>(), 0..200), kind in 0_u8..6) {
             let mut bytes = bytes;
             if let Some(first) = bytes.first_mut() {
                 *first = kind;

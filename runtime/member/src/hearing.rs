@@ -114,6 +114,10 @@ impl Member {
                 Some(())
             }
             Some(Frame::Tell { nonce, group, from }) => self.told(nonce, group, from),
+            Some(Frame::Refuse { nonce, from }) => {
+                self.refused(nonce, from);
+                Some(())
+            }
             None => {
                 self.counts.malformed += 1;
                 Some(())
@@ -155,11 +159,10 @@ impl Member {
         let Some(group) = self.hearing.group else {
             return;
         };
-        if digest != self.settings.founding.digest() {
+        let is_of_group = digest == self.settings.founding.digest();
+        if !is_of_group {
             self.drop_other_group(from);
-            return;
-        }
-        if !self.may_speak(from) {
+        } else if !self.may_speak(from) {
             return;
         }
         let answered = &mut self.hearing.answered[usize::from(from.name.place())];
@@ -167,8 +170,18 @@ impl Member {
             return;
         }
         *answered = Some(self.now);
-        let tell = frame::tell(nonce, group, self.speaker());
-        self.send_direct(Names::nobody().with(from.name), tell);
+        let answer = match is_of_group {
+            true => frame::tell(nonce, group, self.speaker()),
+            false => frame::refuse(nonce, self.speaker()),
+        };
+        self.send_direct(Names::nobody().with(from.name), answer);
+    }
+
+    /// Hears that the one whom it asked is of another founding.
+    fn refused(&mut self, nonce: u64, from: Speaker) {
+        if self.hearing.group.is_none() && nonce == self.hearing.nonce {
+            self.drop_other_group(from);
+        }
     }
 
     /// Takes the group's id, if it was asked for by this nonce.

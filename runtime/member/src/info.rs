@@ -84,6 +84,17 @@ impl Member {
                 None => *told = false,
             }
         }
+        self.look_for_full(stood);
+    }
+
+    /// Tells once that the sequencer has no room for an own send, if the window has stood for a while.
+    fn look_for_full(&mut self, stood: bool) {
+        let is_full = self.standing.role == Role::Member && self.sending.put_off;
+        let was_told = self.timers.full;
+        self.timers.full = is_full && (stood || was_told);
+        if self.timers.full && !was_told {
+            self.tell(Notice::Full(self.standing.view.name));
+        }
     }
 
     /// At the sequencer, with half of the window used, where it puts its own sends off: the members that have taken no more than what everybody has.

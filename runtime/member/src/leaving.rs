@@ -5,7 +5,7 @@ use crate::event::{End, Notice};
 use crate::member::Member;
 use muoswyld::answer::{Outcome, Role};
 use muoswyld::event::Event;
-use muoswyld::names::Names;
+use muoswyld::names::{Name, Names};
 
 /// How long after another member last asked to leave the sequencer takes it for one that leaves, in microseconds.
 const LINGERS: u64 = 1_000_000;
@@ -73,14 +73,23 @@ impl Member {
         let Some(asked) = self.leaving.asked_at else {
             return Time::NEVER;
         };
+        // another member that is stuck resets before that
+        let long = self.settings.stuck_after.saturating_mul(2);
         if !self.standing.members.has(self.me()) {
-            return asked.after(self.settings.stuck_after.saturating_mul(2));
+            return asked.after(long);
         }
-        let heard = self.hearing.heard.iter().max().copied();
+        if self.is_alone() {
+            // who left before it hears of that no more, and nobody else is left to lose anything
+            return asked.max(self.timers.stands_since).after(long);
+        }
+        // strangers that ask to join don't count, nor a later life of one that has stopped
+        let others = self.running().without(self.me());
+        let heard = |name: Name| self.hearing.heard[usize::from(name.place())];
+        let heard = others.iter().map(heard).max();
         heard
             .unwrap_or_default()
             .max(asked)
-            .after(self.settings.silent_after)
+            .after(long.max(self.settings.silent_after))
     }
 
     /// Whether all is sent and delivered, no reset is under way, and nobody has stopped that is still a member.

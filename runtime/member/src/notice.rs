@@ -15,6 +15,10 @@ impl fmt::Display for Notice {
             Notice::Slow(name) => {
                 write!(f, "the window is full: {name} has taken less than the others, and holds them")
             }
+            Notice::Full(sequencer) => write!(
+                f,
+                "the window is full, so nothing is sent: {sequencer} tells who holds it"
+            ),
             Notice::TooFew { running, least } => write!(
                 f,
                 "no reset: {running} members run, and a reset goes on with at least {least}"
@@ -35,6 +39,10 @@ impl fmt::Display for Notice {
             Notice::OtherProcess(name) => write!(
                 f,
                 "what comes of {name} is dropped: another process has this name already; a place comes back as its next life"
+            ),
+            Notice::OtherKey(place) => write!(
+                f,
+                "what comes of place {place} is dropped: it isn't sealed by this member's key"
             ),
             Notice::LeaveWaits => {
                 f.write_str("leaving waits for messages on their way, for a reset, or for another member that leaves")

@@ -1,7 +1,9 @@
 //! Letters on their way out: those of one batch that go to one place share datagrams.
 
 use crate::frame::{begin, most_letter, push_letter, Letter, Speaker};
+use crate::packet::{front_of, view_of, Front};
 use muoswyld::answer::Packet;
+use muoswyld::event::To;
 use muoswyld::names::{Name, Names, PLACES};
 
 #[derive(Debug)]
@@ -25,17 +27,45 @@ impl Outbox {
         self.letters.is_empty()
     }
 
-    /// Which letters go to a place, by their indices.
+    /// The places that letters go to, but for the own one.
+    fn places(&self, own: u8) -> u16 {
+        let places = self.letters.iter().fold(0, |places, kept| {
+            let (mask, _) = kept.packet.to.names.parts();
+            places | mask
+        });
+        places & !(1 << own)
+    }
+
+    /// Which letters go to a place, by their indices. One is left out that tells a front alone, if a later one tells that front too, of
+    /// the same view: fronts never go back, and any letter may get lost.
     fn letters_to(&self, place: u8) -> Vec<usize> {
-        (0..self.letters.len())
-            .filter(|k| self.letters[*k].packet.to.names.at(place).is_some())
-            .collect()
+        let mut found = Vec::new();
+        let mut later: [Option<(Front, To, &[u8])>; 2] = [None; 2];
+        for k in (0..self.letters.len()).rev() {
+            let packet = &self.letters[k].packet;
+            let Some(name) = packet.to.names.at(place) else {
+                continue;
+            };
+            if let Some((front, is_alone)) = front_of(&packet.bytes) {
+                let names = Names::nobody().with(name);
+                let to = To { names, ..packet.to };
+                let told = Some((front, to, view_of(&packet.bytes)));
+                if is_alone && later.contains(&told) {
+                    continue;
+                }
+                later[front as usize] = told;
+            }
+            found.push(k);
+        }
+        found.reverse();
+        found
     }
 
     /// Places that get the same letters, with these. The own place gets none.
     fn groups(&self, own: u8) -> Vec<(Names, Vec<usize>)> {
         let mut groups: Vec<(Names, Vec<usize>)> = Vec::new();
-        for place in (0..PLACES).filter(|place| *place != own) {
+        let places = self.places(own);
+        for place in (0..PLACES).filter(|place| places >> place & 1 == 1) {
             let letters = self.letters_to(place);
             let Some(last) = letters.last() else {
                 continue;
@@ -52,9 +82,8 @@ impl Outbox {
         groups
     }
 
-    /// The datagrams of all letters, each of at most so many bytes, and to whom each goes. Nothing is kept.
-    ///
-    /// A letter may be left out here, as any letter may get lost: this is the place for dropping what a later one covers.
+    /// The datagrams of the letters, each of at most so many bytes, and to whom each goes. Nothing is kept. What a later letter covers is
+    /// left out.
     pub(crate) fn take(&mut self, group: u64, from: Speaker, most: usize) -> Vec<(Names, Vec<u8>)> {
         let mut datagrams = Vec::new();
         for (names, letters) in self.groups(from.name.place()) {
@@ -83,7 +112,6 @@ impl Outbox {
 mod tests {
     use super::*;
     use crate::frame::{read, Frame};
-    use muoswyld::event::To;
 
     const ME: Speaker = Speaker {
         name: Name::of_byte(2),
@@ -128,6 +156,53 @@ mod tests {
             some,
             [("0".to_string(), vec![0]), ("1".to_string(), vec![0, 1])]
         );
+    }
+
+    /// A packet of a kind in a view, with a last byte.
+    fn told(to: &str, kind: u8, round: u8, last: u8) -> Packet {
+        let mut packet = packet(to, if kind == 5 { 25 } else { 20 });
+        packet.bytes[..4].copy_from_slice(&[0x41, 0x47, 3, kind]);
+        packet.bytes[8] = round;
+        if let Some(byte) = packet.bytes.last_mut() {
+            *byte = last;
+        }
+        packet
+    }
+
+    #[test]
+    fn what_a_later_letter_covers_is_left_out() {
+        let numbers = |packets: Vec<Packet>| {
+            let mut sent = sent(packets, 1400);
+            sent.pop().map(|(_, numbers)| numbers)
+        };
+        let (ack, request, nack, bcast, accept) = (6, 1, 7, 3, 5);
+        for later in [ack, request, nack] {
+            let packets = vec![told("0", ack, 1, 4), told("0", later, 1, 5)];
+            assert_eq!(numbers(packets), Some(vec![1]), "{later}");
+        }
+        for later in [accept, bcast, 4] {
+            let packets = vec![told("0,1", accept, 1, 0), told("0,1", later, 1, 0)];
+            assert_eq!(numbers(packets), Some(vec![1]), "{later}");
+        }
+        let kept = [
+            // of another view, for another life, only before, of another front, or wanted for an answer
+            vec![told("0", ack, 1, 4), told("0", ack, 2, 4)],
+            vec![told("0", ack, 1, 4), told("0/2", ack, 1, 4)],
+            vec![told("0", request, 1, 4), told("0", ack, 1, 4)],
+            vec![told("0", ack, 1, 4), told("0", accept, 1, 0)],
+            vec![told("0", accept, 1, 1), told("0", bcast, 1, 0)],
+            vec![told("0", bcast, 1, 0), told("0", accept, 1, 0)],
+        ];
+        for packets in kept {
+            assert_eq!(numbers(packets), Some(vec![0, 1]));
+        }
+    }
+
+    #[test]
+    fn a_letter_is_left_out_only_where_it_is_covered() {
+        let packets = vec![told("0,1", 5, 1, 0), told("1", 3, 1, 0)];
+        let wanted = [("0".to_string(), vec![0]), ("1".to_string(), vec![1])];
+        assert_eq!(sent(packets, 1400), wanted);
     }
 
     #[test]

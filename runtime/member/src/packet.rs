@@ -24,6 +24,26 @@ pub(crate) fn kind_of(packet: &[u8]) -> Option<Kind> {
     }
 }
 
+/// What a packet tells of a front, which a later one to the same place may tell again.
+#[derive(Clone, Copy, Debug, PartialEq, Eq)]
+pub(crate) enum Front {
+    /// How far the sender stored and took the list: Request, Ack and Nack.
+    Reported,
+    /// How far the list is accepted: Bcast, Order and Accept.
+    Accepted,
+}
+
+/// The front that a packet tells, if it tells one, and whether it does nothing else: an Ack, and an Accept that asks for no answer.
+pub(crate) fn front_of(packet: &[u8]) -> Option<(Front, bool)> {
+    match packet.get(3)? {
+        1 | 7 => Some((Front::Reported, false)),
+        6 => Some((Front::Reported, true)),
+        3 | 4 => Some((Front::Accepted, false)),
+        5 => Some((Front::Accepted, packet.get(24) == Some(&0))),
+        _ => None,
+    }
+}
+
 fn number_at(packet: &[u8], at: usize) -> Option<u32> {
     let bytes = packet.get(at..at + 4)?;
     Some(u32::from_be_bytes(bytes.try_into().ok()?))
@@ -32,6 +52,11 @@ fn number_at(packet: &[u8], at: usize) -> Option<u32> {
 /// Its stamp: a round and a name's byte.
 pub(crate) fn stamp_of(packet: &[u8]) -> Option<(u32, u8)> {
     Some((number_at(packet, 5)?, *packet.get(9)?))
+}
+
+/// Its sender's byte and its stamp, as bytes.
+pub(crate) fn view_of(packet: &[u8]) -> &[u8] {
+    packet.get(4..10).unwrap_or_default()
 }
 
 /// The round of its stamp.
@@ -47,6 +72,24 @@ pub(crate) fn taken_of(packet: &[u8]) -> Option<u32> {
 #[cfg(test)]
 mod tests {
     use super::*;
+
+    #[test]
+    fn acks_and_unpolled_accepts_tell_a_front_alone() {
+        let of = |kind: u8, length: usize, last: u8| {
+            let mut packet = vec![0x41, 0x47, 3, kind];
+            packet.resize(length, 0);
+            packet[length - 1] = last;
+            front_of(&packet)
+        };
+        assert_eq!(of(6, 20, 9), Some((Front::Reported, true)));
+        assert_eq!(of(1, 24, 9), Some((Front::Reported, false)));
+        assert_eq!(of(7, 20, 9), Some((Front::Reported, false)));
+        assert_eq!(of(5, 25, 0), Some((Front::Accepted, true)));
+        assert_eq!(of(5, 25, 1), Some((Front::Accepted, false)));
+        assert_eq!(of(3, 26, 0), Some((Front::Accepted, false)));
+        assert_eq!(of(4, 29, 0), Some((Front::Accepted, false)));
+        assert_eq!((of(2, 24, 0), of(9, 12, 0)), (None, None));
+    }
 
     #[test]
     fn fields_are_where_the_page_has_them() {

@@ -1,6 +1,6 @@
 //! Messages that wait to be sent, and the bodies that they go out in.
 
-use crate::body::{part_count, part_of, Packing, MOST_PACKED};
+use crate::body::{is_whole_body, part_count, part_of, Packing, MOST_PACKED};
 use crate::config::MESSAGE_HEAD;
 use std::collections::VecDeque;
 
@@ -74,10 +74,11 @@ impl Queue {
         Ok(())
     }
 
-    /// The next body: as many small messages as fit, or a part of a long one.
+    /// The next body: as many small messages as fit, one that fills a body, or a part of a long one.
     pub(crate) fn next(&mut self) -> Option<Load> {
         match self.messages.front() {
             None => None,
+            Some(first) if is_whole_body(&first.bytes) => self.next_whole(),
             Some(first) if first.bytes.len() > MOST_PACKED => self.next_part(),
             Some(_) => Some(self.next_packed()),
         }
@@ -87,6 +88,14 @@ impl Queue {
         let message = self.messages.pop_front()?;
         self.waiting -= message.bytes.len() + MESSAGE_HEAD;
         Some(message)
+    }
+
+    fn next_whole(&mut self) -> Option<Load> {
+        let message = self.pop()?;
+        Some(Load {
+            body: message.bytes,
+            tickets: vec![message.ticket],
+        })
     }
 
     fn next_part(&mut self) -> Option<Load> {
@@ -131,7 +140,9 @@ impl Queue {
 #[cfg(test)]
 mod tests {
     use super::*;
-    use crate::body::{read, Body};
+    use crate::body::{read, Assembler, Body};
+    use muoswyld::names::Name;
+    use proptest::prelude::*;
 
     fn queue_of(lengths: &[usize]) -> Queue {
         let mut queue = Queue::new(1 << 20);
@@ -167,15 +178,15 @@ mod tests {
 
     #[test]
     fn long_messages_go_in_parts_in_their_order() {
-        let two = [(vec![], 1024), (vec![0], 8)];
-        assert_eq!(loads(&[1022]), two);
-        let mixed = loads(&[5, 1023, 1024, 6]);
+        let two = [(vec![], 1024), (vec![0], 11)];
+        assert_eq!(loads(&[1025]), two);
+        let mixed = loads(&[5, 1026, 1027, 6]);
         let wanted = [
             (vec![0], 8),
             (vec![], 1024),
-            (vec![1], 9),
+            (vec![1], 12),
             (vec![], 1024),
-            (vec![2], 10),
+            (vec![2], 13),
             (vec![3], 9),
         ];
         assert_eq!(mixed, wanted);
@@ -185,6 +196,96 @@ mod tests {
             .iter()
             .all(|load| load.0.is_empty() && load.1 == 1024));
         assert_eq!(longest[64], (vec![0], 5 + 65_535 - 64 * 1019));
+    }
+
+    #[test]
+    fn a_message_that_fills_a_body_goes_as_it_is() {
+        let one = |length| [(vec![0], length)];
+        for length in 1022..=1024 {
+            assert_eq!(loads(&[length]), one(length));
+        }
+        assert_eq!(
+            loads(&[5, 1024, 6]),
+            [(vec![0], 8), (vec![1], 1024), (vec![2], 9)]
+        );
+        for first in *b"SPC" {
+            let mut queue = Queue::new(1 << 20);
+            // read as a part, as a packed message or as control it wouldn't come back
+            let mut message = vec![0; 1024];
+            message[..5].copy_from_slice(&[first, 0, 0, 0, 2]);
+            message[1..3].copy_from_slice(&if first == b'P' { [3, 253] } else { [0, 0] });
+            queue.push(7, message).expect("room");
+            assert_eq!(queue.next().map(|load| load.tickets), Some(vec![]));
+            assert_eq!(queue.next().map(|load| load.tickets), Some(vec![7]));
+        }
+    }
+
+    /// The messages of all bodies of a queue, as a member delivers them.
+    fn come_back(messages: &[Vec<u8>]) -> Vec<Vec<u8>> {
+        let mut queue = Queue::new(1 << 20);
+        for (k, message) in messages.iter().enumerate() {
+            queue.push(k as u64, message.clone()).expect("room");
+        }
+        let mut assembler = Assembler::default();
+        let (mut found, mut tickets) = (Vec::new(), Vec::new());
+        let from = Name::first(3).expect("a place");
+        while let Some(load) = queue.next() {
+            assert!(load.body.len() <= 1024);
+            let before = found.len();
+            match read(&load.body) {
+                Body::Packed(messages) => found.extend(messages.map(<[u8]>::to_vec)),
+                Body::Plain => found.push(load.body),
+                Body::Control => panic!("a message became control"),
+                Body::Part {
+                    index,
+                    count,
+                    share,
+                } => found.extend(assembler.part(from, index, count, share)),
+            }
+            assert_eq!(found.len() - before, load.tickets.len());
+            tickets.extend(load.tickets);
+        }
+        assert!(tickets.into_iter().eq(0..messages.len() as u64));
+        found
+    }
+
+    #[test]
+    fn all_lengths_and_first_bytes_come_back() {
+        for length in 0..=2100 {
+            let all = 0..=255;
+            let near_an_edge = (1015..1030).contains(&length) || (2034..2044).contains(&length);
+            let firsts: Vec<u8> = match near_an_edge {
+                true => all.collect(),
+                false => b"SPC\0x".to_vec(),
+            };
+            for first in firsts {
+                let mut message: Vec<u8> = (0..length).map(|k| k as u8).collect();
+                if let Some(byte) = message.first_mut() {
+                    *byte = first;
+                }
+                let messages = [message];
+                assert_eq!(come_back(&messages), messages, "{length} {first}");
+            }
+        }
+    }
+
+    proptest! {
+        #[test]
+        fn any_messages_come_back(
+            heads in prop::collection::vec((prop::sample::select(b"SPCx".to_vec()), prop::collection::vec(any::<u8>(), 4), 0_usize..2100), 0..20),
+            edges in prop::collection::vec(1018_usize..1028, 20),
+            is_edge in prop::collection::vec(any::<bool>(), 20),
+        ) {
+            let messages: Vec<Vec<u8>> = heads.into_iter().enumerate().map(|(k, (first, head, length))| {
+                let length = if is_edge[k] { edges[k] } else { length };
+                let mut message = vec![first];
+                message.extend(head.iter().map(|byte| byte % 5));
+                message.resize(length.max(message.len()), 0);
+                message.truncate(length);
+                message
+            }).collect();
+            prop_assert_eq!(come_back(&messages), messages);
+        }
     }
 
     #[test]

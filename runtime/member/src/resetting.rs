@@ -11,6 +11,9 @@ use muoswyld::answer::{Outcome, Role};
 use muoswyld::event::Event;
 use muoswyld::names::{Name, Names};
 
+/// How often the wait for the reset of a lower member is doubled at most.
+const MOST_DOUBLINGS: u32 = 5;
+
 /// The ballot that this member began last.
 #[derive(Clone, Copy, Debug)]
 struct Ballot {
@@ -27,6 +30,8 @@ pub(crate) struct Resetting {
     fetches_from: Option<Name>,
     /// Before this time it doesn't reset by itself.
     patience: Time,
+    /// How many ballots it began by itself since the last view.
+    ballots: u32,
     /// To how many coordinators it gave its vote while it asked to join, to which the last one, and when.
     votes: u32,
     voted_for: Option<(u32, u8)>,
@@ -57,12 +62,27 @@ impl Member {
             self.resetting.was_beyond = true;
             self.tell(Notice::BeyondResilience(count));
         }
-        let wait = self.settings.reset_step.saturating_mul(self.rank() as u64);
-        self.resetting.patience = self.resetting.patience.max(self.now.after(wait));
+        self.wait_for_lower(self.rank());
+    }
+
+    /// Waits for the reset of so many others. Where letters take long, a member hears of another's ballot only after it began its own, and
+    /// ballots overtake each other. So the wait for each is a round trip at least, and doubles with each own ballot since the last view.
+    fn wait_for_lower(&mut self, others: usize) {
+        let step = self.settings.reset_step;
+        let first = step.max(self.timers.round_trip.smooth().unwrap_or(0));
+        let most = Time::doubled(step, MOST_DOUBLINGS);
+        let each = Time::doubled(first, self.resetting.ballots).min(most);
+        let until = self.now.after(each.saturating_mul(others as u64));
+        self.resetting.patience = self.resetting.patience.max(until);
+    }
+
+    /// A view began.
+    pub(crate) fn new_view(&mut self) {
+        self.resetting.ballots = 0;
     }
 
     /// The members that haven't stopped.
-    fn running(&self) -> Names {
+    pub(crate) fn running(&self) -> Names {
         let members = self.standing.members;
         members
             .iter()
@@ -177,8 +197,8 @@ impl Member {
 
     /// It voted for another coordinator, which is given time.
     pub(crate) fn voted(&mut self, stamp: Option<(u32, u8)>) {
-        let until = self.now.after(self.settings.reset_step);
-        self.resetting.patience = self.resetting.patience.max(until);
+        self.wait_for_lower(1 + self.rank());
+        self.timers.stands_since = self.now;
         let resetting = &mut self.resetting;
         if self.standing.role == Role::Asking && resetting.voted_for != stamp {
             resetting.voted_for = stamp;
@@ -208,21 +228,32 @@ impl Member {
         if !self.is_waiting() || self.leaving.is_asked() {
             return Time::NEVER;
         }
-        let wait = Time::doubled(self.settings.stuck_after, self.resetting.stuck.min(6));
+        let trips = self
+            .timers
+            .round_trip
+            .smooth()
+            .unwrap_or(0)
+            .saturating_mul(4);
+        let wait = self.settings.stuck_after.max(trips);
+        let wait = Time::doubled(wait, self.resetting.stuck.min(6));
         let wait = wait.saturating_mul(1 + self.rank() as u64);
         let since = match &self.sending.under_way {
             Some(own) => own.began.max(self.timers.stands_since),
             None => self.timers.stands_since,
         };
-        since.after(wait)
+        since.after(wait).max(self.resetting.patience)
     }
 
-    /// When an asker that stays unwelcomed ends.
+    /// When an asker ends that stays unwelcomed after it gave its vote to resets: later after one alone.
     fn unwelcomed_at(&self) -> Time {
-        if self.standing.role == Role::Asking && self.resetting.votes > 1 {
-            return self.resetting.voted_at.after(self.settings.stuck_after);
-        }
-        Time::NEVER
+        let wait = self.settings.stuck_after;
+        let wait = match self.resetting.votes {
+            _ if self.standing.role != Role::Asking => return Time::NEVER,
+            0 => return Time::NEVER,
+            1 => wait.saturating_mul(4),
+            _ => wait,
+        };
+        self.resetting.voted_at.after(wait)
     }
 
     /// When this member has to look at the group.
@@ -278,9 +309,9 @@ impl Member {
     }
 
     fn reset_by_itself(&mut self) -> Option<()> {
-        let step = self.settings.reset_step;
-        let wait = step.saturating_mul(1 + self.rank() as u64);
-        self.resetting.patience = self.now.after(wait);
+        self.resetting.ballots = self.resetting.ballots.saturating_add(1);
+        self.resetting.patience = self.now;
+        self.wait_for_lower(1 + self.rank());
         self.timers.stands_since = self.now;
         self.counts.resets += 1;
         self.reset(None, self.least(), self.standing.resilience)

@@ -69,7 +69,8 @@ pub(crate) struct Timers {
     pub(crate) stands_since: Time,
     tries: u32,
     last_tick: Time,
-    polled_at: Option<Time>,
+    /// When the sequencer first asked for reports that it didn't get yet, and whether it asked again.
+    polled: Option<(Time, bool)>,
     /// Whether something that is wanted was missing when it was last heard of.
     is_behind: bool,
     is_wanted: bool,
@@ -79,6 +80,8 @@ pub(crate) struct Timers {
     pub(crate) taken: [u32; 16],
     /// Which places were told as slow.
     pub(crate) slow: [bool; 16],
+    /// Whether it was told that the sequencer has no room.
+    pub(crate) full: bool,
 }
 
 impl Timers {
@@ -90,12 +93,13 @@ impl Timers {
             stands_since: now,
             tries: 0,
             last_tick: now,
-            polled_at: None,
+            polled: None,
             is_behind: false,
             is_wanted: false,
             reported: 0,
             taken: [0; 16],
             slow: [false; 16],
+            full: false,
         }
     }
 
@@ -124,8 +128,8 @@ impl Timers {
             | Outcome::Welcomed { .. }
             | Outcome::Decided { .. } => self.is_behind = false,
             Outcome::Noted | Outcome::Accepted { .. } => {
-                if let Some(polled) = self.polled_at.take() {
-                    self.round_trip.measure(now.since(polled), false);
+                if let Some((polled, again)) = self.polled.take() {
+                    self.round_trip.measure(now.since(polled), again);
                 }
             }
             _ => {}
@@ -167,6 +171,9 @@ impl Member {
         };
         if before == marks {
             return;
+        }
+        if marks.view != before.view {
+            self.new_view();
         }
         if marks.base > before.base && self.sending.put_off {
             self.timers.want_tick();
@@ -230,7 +237,8 @@ impl Member {
         timers.moved_at = self.now;
         timers.tries = timers.tries.saturating_add(1);
         if self.standing.role == Role::Sequencer {
-            timers.polled_at = Some(self.now);
+            let first = timers.polled.map(|(first, _)| (first, true));
+            timers.polled = first.or(Some((self.now, false)));
         }
         if let Some(own) = &mut self.sending.under_way {
             own.sent_at = self.now;

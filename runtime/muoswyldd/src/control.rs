@@ -2,12 +2,13 @@
 //! standard input.
 
 use crate::exit::{Fault, CANT_CREATE, CONFIG, IO, UNAVAILABLE};
-use muoswyld_group::{Group, Name};
+use crate::show::object;
+use muoswyld_group::{Group, Name, ReceiveError};
 use serde_json::{json, Value};
 use std::io::{BufRead, BufReader, Read, Write};
 use std::os::unix::net::{UnixListener, UnixStream};
 use std::path::Path;
-use std::sync::atomic::{AtomicUsize, Ordering};
+use std::sync::atomic::{AtomicBool, AtomicUsize, Ordering};
 use std::sync::Arc;
 use std::time::{Duration, Instant};
 
@@ -31,6 +32,8 @@ pub enum Command {
     Stopped(Name),
     /// Tells how the member stands.
     Status,
+    /// Gives this caller all deliveries from here on.
+    Deliveries,
 }
 
 impl Command {
@@ -57,7 +60,8 @@ impl Command {
                 name.map(Command::Stopped).ok_or("stopped wants a name: PLACE, or PLACE/LIFE")
             }
             (b"status", None) => Ok(Command::Status),
-            _ => Err("a command is send MESSAGE, send-hex DIGITS, leave, reset, reset LEAST, stopped NAME or status"),
+            (b"deliveries", None) => Ok(Command::Deliveries),
+            _ => Err("a command is send MESSAGE, send-hex DIGITS, leave, reset, reset LEAST, stopped NAME, status or deliveries"),
         }
     }
 
@@ -70,6 +74,7 @@ impl Command {
             Command::Reset(Some(least)) => format!("reset {least}").into_bytes(),
             Command::Stopped(name) => format!("stopped {name}").into_bytes(),
             Command::Status => b"status".to_vec(),
+            Command::Deliveries => b"deliveries".to_vec(),
         }
     }
 
@@ -97,6 +102,9 @@ impl Command {
                 Ok(info) => status(&info),
                 Err(end) => refused(&end),
             },
+            Command::Deliveries => {
+                refused(&"--output socket gives deliveries to one caller at the socket")
+            }
         }
     }
 }
@@ -128,19 +136,70 @@ fn status(info: &muoswyld_group::Info) -> Value {
     })
 }
 
-/// How long the end of a member waits for answers that are being written.
+/// How long the end of a member waits for what is being written to callers.
 const LAST_ANSWERS: Duration = Duration::from_secs(1);
+/// How often it is looked whether the caller that is given deliveries is gone, and how long a look waits.
+const LOOK_EVERY: Duration = Duration::from_millis(200);
+const LOOK: Duration = Duration::from_millis(1);
+
+/// What the callers of a member share.
+struct Desk {
+    group: Arc<Group>,
+    /// How many are connected.
+    callers: AtomicUsize,
+    /// How many are being answered.
+    busy: AtomicUsize,
+    /// Whether a caller is given deliveries, or they are printed.
+    is_given: AtomicBool,
+}
+
+impl Desk {
+    /// Answers a command of a caller; whether the caller may give another one.
+    fn answer(&self, caller: &UnixStream, line: &[u8]) -> std::io::Result<bool> {
+        let whole = line.strip_suffix(b"\n").unwrap_or(line);
+        let is_too_long = whole.len() as u64 >= MOST_COMMAND;
+        let answer = match Command::of(whole) {
+            _ if is_too_long => json!({ "error": "the command is too long" }),
+            Ok(Command::Deliveries) if !self.is_given.swap(true, Ordering::SeqCst) => {
+                let given = self.give(caller);
+                self.is_given.store(false, Ordering::SeqCst);
+                return given.map(|()| false);
+            }
+            Ok(command) => command.done_by(&self.group),
+            Err(why) => json!({ "error": why }),
+        };
+        let mut writer = caller;
+        writeln!(writer, "{answer}")?;
+        Ok(!is_too_long && self.group.ended().is_none())
+    }
+
+    /// Gives a caller all deliveries from here on, a line each, and last how the member ended.
+    fn give(&self, mut caller: &UnixStream) -> std::io::Result<()> {
+        caller.set_read_timeout(Some(LOOK))?;
+        loop {
+            match self.group.receive_timeout(LOOK_EVERY) {
+                Ok(delivery) => writeln!(caller, "{}", object(&delivery))?,
+                Err(ReceiveError::Ended(end)) => {
+                    return writeln!(caller, "{}", json!({ "ended": end.to_string() }));
+                }
+                // who is gone has closed its end, and says nothing more
+                Err(_) if matches!(caller.read(&mut [0]), Ok(0)) => return Ok(()),
+                Err(_) => {}
+            }
+        }
+    }
+}
 
 /// A socket file that is removed when this ends, after the commands under way have their answers.
 pub struct Listening<'a> {
     path: &'a Path,
-    busy: Arc<AtomicUsize>,
+    desk: Arc<Desk>,
 }
 
 impl Drop for Listening<'_> {
     fn drop(&mut self) {
         let began = Instant::now();
-        while self.busy.load(Ordering::SeqCst) > 0 && began.elapsed() < LAST_ANSWERS {
+        while self.desk.busy.load(Ordering::SeqCst) > 0 && began.elapsed() < LAST_ANSWERS {
             std::thread::sleep(Duration::from_millis(1));
         }
         // one that is gone already is as it should be
@@ -148,42 +207,44 @@ impl Drop for Listening<'_> {
     }
 }
 
-/// Serves commands at a path, each caller in a thread of its own.
-pub fn serve<'a>(path: &'a Path, group: &Arc<Group>) -> Result<Listening<'a>, Fault> {
+/// Serves commands at a path, each caller in a thread of its own; deliveries too, if they aren't printed.
+pub fn serve<'a>(path: &'a Path, group: &Arc<Group>, gives: bool) -> Result<Listening<'a>, Fault> {
     if UnixStream::connect(path).is_err() {
         // a file that nobody listens at was left by a process that was ended
         let _removed = std::fs::remove_file(path);
     }
     let cannot = |error| Fault::of(CANT_CREATE, format_args!("{}: {error}", path.display()));
     let listener = UnixListener::bind(path).map_err(cannot)?;
-    let group = group.clone();
-    let callers = Arc::new(AtomicUsize::new(0));
-    let busy = Arc::new(AtomicUsize::new(0));
-    let answered = busy.clone();
+    let desk = Arc::new(Desk {
+        group: group.clone(),
+        callers: AtomicUsize::new(0),
+        busy: AtomicUsize::new(0),
+        is_given: AtomicBool::new(!gives),
+    });
+    let shared = desk.clone();
     std::thread::Builder::new()
         .name("commands".into())
         .spawn(move || {
             for caller in listener.incoming().flatten() {
-                if callers.fetch_add(1, Ordering::SeqCst) >= MOST_CALLERS {
-                    callers.fetch_sub(1, Ordering::SeqCst);
+                if shared.callers.fetch_add(1, Ordering::SeqCst) >= MOST_CALLERS {
+                    shared.callers.fetch_sub(1, Ordering::SeqCst);
                     continue;
                 }
-                let (group, callers, busy) = (group.clone(), callers.clone(), answered.clone());
+                let desk = shared.clone();
                 std::thread::spawn(move || {
                     // a caller that is gone hears nothing
-                    let _served = answer_all(&caller, &group, &busy);
-                    callers.fetch_sub(1, Ordering::SeqCst);
+                    let _served = answer_all(&caller, &desk);
+                    desk.callers.fetch_sub(1, Ordering::SeqCst);
                 });
             }
         })
         .map_err(cannot)?;
-    Ok(Listening { path, busy })
+    Ok(Listening { path, desk })
 }
 
 /// Answers a caller's commands until it ends.
-fn answer_all(caller: &UnixStream, group: &Group, busy: &AtomicUsize) -> std::io::Result<()> {
+fn answer_all(caller: &UnixStream, desk: &Desk) -> std::io::Result<()> {
     let mut reader = BufReader::new(caller);
-    let mut writer = caller;
     let mut line = Vec::new();
     loop {
         line.clear();
@@ -194,18 +255,10 @@ fn answer_all(caller: &UnixStream, group: &Group, busy: &AtomicUsize) -> std::io
         if line.is_empty() {
             return Ok(());
         }
-        busy.fetch_add(1, Ordering::SeqCst);
-        let whole = line.strip_suffix(b"\n").unwrap_or(&line);
-        let is_too_long = whole.len() as u64 >= MOST_COMMAND;
-        let answer = match Command::of(whole) {
-            _ if is_too_long => json!({ "error": "the command is too long" }),
-            Ok(command) => command.done_by(group),
-            Err(why) => json!({ "error": why }),
-        };
-        let written = writeln!(writer, "{answer}");
-        busy.fetch_sub(1, Ordering::SeqCst);
-        written?;
-        if is_too_long || group.ended().is_some() {
+        desk.busy.fetch_add(1, Ordering::SeqCst);
+        let goes_on = desk.answer(caller, &line);
+        desk.busy.fetch_sub(1, Ordering::SeqCst);
+        if !goes_on? {
             return Ok(());
         }
     }
@@ -275,6 +328,7 @@ mod tests {
             Command::Reset(Some(2)),
             Command::Stopped(name),
             Command::Status,
+            Command::Deliveries,
         ];
         for command in commands {
             assert_eq!(Command::of(&command.line()), Ok(command));

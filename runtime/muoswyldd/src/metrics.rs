@@ -117,6 +117,11 @@ fn values(info: &Info) -> Vec<(&'static str, &'static str, u64)> {
             counts.malformed,
         ),
         (
+            "muoswyld_datagrams_dropped_total",
+            "datagrams that aren't sealed by the key, come of no member's address, or are too long",
+            counts.dropped,
+        ),
+        (
             "muoswyld_datagrams_other_group_total",
             "datagrams of another group",
             counts.other_group,

@@ -1,12 +1,12 @@
 //! A member that runs until it leaves, its input ends, or a signal ends it.
 
 use crate::control::{self, of_input, Command};
-use crate::exit::{by_end, Fault, IO, SYSTEM, TRY_AGAIN, VOID};
+use crate::exit::{by_end, Fault, CONFIG, IO, SYSTEM, TRY_AGAIN, VOID};
 use crate::log::Log;
 use crate::metrics;
 use crate::options::{Reads, Run};
 use crate::show::{line, object, Form};
-use muoswyld_group::{Group, LeaveError, Notice, ReceiveError, Ticket};
+use muoswyld_group::{End, Group, LeaveError, Notice, ReceiveError, Ticket};
 use signal_hook::consts::{SIGHUP, SIGINT, SIGTERM};
 use signal_hook::iterator::Signals;
 use std::io::{BufRead, Write};
@@ -28,6 +28,10 @@ struct Process {
 /// Runs a member.
 pub fn run(words: Run) -> Result<(), Fault> {
     let run = words.with_file()?;
+    let form = run.output.unwrap_or_default();
+    if form == Form::Socket && run.socket.is_none() {
+        return Err(Fault::of(CONFIG, "--output socket wants --socket, too"));
+    }
     let log = Log::to(run.log.as_deref())?;
     log.begin(run.log_form.unwrap_or_default());
     let is_void = Arc::new(AtomicBool::new(false));
@@ -50,7 +54,7 @@ pub fn run(words: Run) -> Result<(), Fault> {
         is_void,
     };
     let _listening = match &run.socket {
-        Some(path) => Some(control::serve(path, &group)?),
+        Some(path) => Some(control::serve(path, &group, form == Form::Socket)?),
         None => None,
     };
     if let Some(address) = run.metrics {
@@ -61,7 +65,7 @@ pub fn run(words: Run) -> Result<(), Fault> {
     if input != Reads::Nothing {
         read_input(&group, input == Reads::Commands)?;
     }
-    process.print(run.output.unwrap_or_default())
+    process.go_on(form)
 }
 
 /// Leaves at SIGTERM and SIGINT, and ends at once at the second; opens the log again at SIGHUP.
@@ -135,26 +139,11 @@ fn read_input(group: &Arc<Group>, are_commands: bool) -> Result<(), Fault> {
 }
 
 impl Process {
-    /// Prints deliveries until the member ends.
-    fn print(&self, form: Form) -> Result<(), Fault> {
-        let mut out = std::io::stdout().lock();
-        let end = loop {
-            let delivery = match self.group.receive() {
-                Ok(delivery) => delivery,
-                Err(ReceiveError::Ended(end)) => break end,
-                Err(_) => continue,
-            };
-            let written = match form {
-                Form::Lines => writeln!(out, "{}", line(&delivery)),
-                Form::Json => writeln!(out, "{}", object(&delivery)),
-                Form::None => Ok(()),
-            };
-            written.and_then(|()| out.flush()).map_err(|error| {
-                Fault::of(
-                    IO,
-                    format_args!("standard output can't be written: {error}"),
-                )
-            })?;
+    /// Until the member ends. Its deliveries are printed, if no caller at the socket is given them.
+    fn go_on(&self, form: Form) -> Result<(), Fault> {
+        let end = match form {
+            Form::Socket => self.group.wait(),
+            _ => self.print(form)?,
         };
         by_end(&end)?;
         if self.is_void.load(Ordering::SeqCst) {
@@ -162,5 +151,28 @@ impl Process {
             return Err(Fault::of(VOID, line));
         }
         Ok(())
+    }
+
+    /// Prints deliveries until the member ends; how it ended.
+    fn print(&self, form: Form) -> Result<End, Fault> {
+        let mut out = std::io::stdout().lock();
+        loop {
+            let delivery = match self.group.receive() {
+                Ok(delivery) => delivery,
+                Err(ReceiveError::Ended(end)) => return Ok(end),
+                Err(_) => continue,
+            };
+            let written = match form {
+                Form::Lines => writeln!(out, "{}", line(&delivery)),
+                Form::Json => writeln!(out, "{}", object(&delivery)),
+                Form::Socket | Form::None => Ok(()),
+            };
+            written.and_then(|()| out.flush()).map_err(|error| {
+                Fault::of(
+                    IO,
+                    format_args!("standard output can't be written: {error}"),
+                )
+            })?;
+        }
     }
 }

@@ -14,6 +14,8 @@ pub enum Form {
     Lines,
     /// An object of JSON a line.
     Json,
+    /// Nothing is printed: deliveries are given to the caller at the socket that says `deliveries`.
+    Socket,
     /// Nothing is printed.
     None,
 }

@@ -1,9 +1,10 @@
 //! Members as processes, as an operator runs them.
 
 use std::fs;
-use std::io::{Read, Write};
+use std::io::{BufRead, BufReader, Read, Write};
 use std::net::TcpStream;
 use std::os::unix::fs::PermissionsExt;
+use std::os::unix::net::UnixStream;
 use std::path::{Path, PathBuf};
 use std::process::{Child, Command, Output, Stdio};
 use std::sync::atomic::{AtomicU16, Ordering};
@@ -188,6 +189,67 @@ fn a_group_of_processes_goes_on_without_one_and_takes_its_place_back() {
     assert_eq!(place.status(2), Some(0));
 }
 
+/// A caller that asks a member for its deliveries.
+fn listener(place: &Place, name: &str) -> BufReader<UnixStream> {
+    let mut stream = UnixStream::connect(place.socket(name)).unwrap();
+    stream.set_read_timeout(Some(SOON)).unwrap();
+    stream.write_all(b"deliveries\n").unwrap();
+    BufReader::new(stream)
+}
+
+/// What is said next to a caller.
+fn next(listener: &mut BufReader<UnixStream>) -> serde_json::Value {
+    let mut line = String::new();
+    listener.read_line(&mut line).unwrap();
+    serde_json::from_str(&line).unwrap()
+}
+
+#[test]
+fn deliveries_are_given_to_one_caller_at_the_socket() {
+    let mut place = Place::new("deliveries");
+    let gives = ["--input", "nothing", "--output", "socket"];
+    let child = place.start("0", &gives);
+    for name in ["1", "2"] {
+        place.start(name, &["--input", "nothing"]);
+    }
+    place.ask("1", &["send", "first"]);
+    until(|| Path::new(&place.socket("0")).exists());
+    // one by one: what nobody has taken yet waits
+    let mut one = listener(&place, "0");
+    assert_eq!(next(&mut one)["kind"], "view");
+    let first = next(&mut one);
+    let (text, at) = (first["text"].clone(), first["number"].clone());
+    assert_eq!((text, at), ("first".into(), 2.into()));
+    let refusal = next(&mut listener(&place, "0"));
+    assert!(refusal["error"].to_string().contains("to one caller"));
+    assert!(next(&mut listener(&place, "1"))["error"].is_string());
+    // after it is gone, another one is given what comes then
+    drop(one);
+    let mut other = until_some(|| {
+        let mut other = listener(&place, "0");
+        place.ask("1", &["send", "again"]);
+        (next(&mut other)["text"] == "again").then_some(other)
+    });
+    place.ask("2", &["leave"]);
+    while next(&mut other)["kind"] != "left" {}
+    place.signal(child, "-TERM");
+    let end = until_some(|| {
+        let said = next(&mut other);
+        said.get("ended").cloned()
+    });
+    assert_eq!(end, "it left the group");
+    assert_eq!(place.status(child), Some(0));
+}
+
+fn until_some<T>(mut finds: impl FnMut() -> Option<T>) -> T {
+    let mut found = None;
+    until(|| {
+        found = finds();
+        found.is_some()
+    });
+    found.unwrap()
+}
+
 #[test]
 fn lines_of_the_input_are_messages_or_commands() {
     let mut place = Place::new("input");
@@ -311,6 +373,28 @@ fn each_wrong_call_has_its_status_and_a_line() {
         &[&one[..], &["--config", &place.path("none")]].concat(),
         66,
         "No such file",
+    );
+    refused(
+        &[&one[..], &["--key", &key, "--output", "socket"]].concat(),
+        78,
+        "--output socket wants --socket",
+    );
+    let journal = place.path("journal");
+    refused(
+        &[
+            &one[..],
+            &["--key", &key, "--window", "0", "--journal", &journal],
+        ]
+        .concat(),
+        78,
+        "a window is 1 to 1,008",
+    );
+    assert!(!Path::new(&journal).exists());
+    fs::write(&journal, "").unwrap();
+    refused(
+        &[&one[..], &["--key", &key, "--journal", &journal]].concat(),
+        71,
+        "it is there, and a name never runs twice",
     );
     let config = place.path("config");
     fs::write(&config, "nmae = \"0\"\n").unwrap();

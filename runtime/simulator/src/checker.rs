@@ -11,8 +11,11 @@
 use muoswyld_member::{Delivery, Name, Position, Unsent, MOST_MESSAGE};
 use std::collections::{BTreeMap, BTreeSet};
 
-/// The longest message that goes in one body.
-const MOST_PACKED: usize = 1021;
+/// Whether a message may go in more than one body.
+fn may_go_in_parts(message: &[u8]) -> bool {
+    let is_reserved = matches!(message.first(), Some(b'P' | b'S' | b'C'));
+    message.len() > if is_reserved { 1021 } else { 1024 }
+}
 
 /// What a life's application did and saw.
 #[derive(Clone, Debug)]
@@ -148,13 +151,12 @@ fn is_gapless(app: &App, list: &List) -> Result<(), String> {
     let mut spoke = BTreeSet::new();
     for (at, delivery) in list.range(first.at()..=last.at()) {
         let from = match delivery {
-            Delivery::Message { from, message, .. } => Some((*from, message.len())),
+            Delivery::Message { from, message, .. } => Some((*from, may_go_in_parts(message))),
             _ => None,
         };
         if !had.contains(at) {
-            let may_miss = from.is_some_and(|(from, length)| {
-                is_joiner && length > MOST_PACKED && !spoke.contains(&from)
-            });
+            let may_miss = from
+                .is_some_and(|(from, in_parts)| is_joiner && in_parts && !spoke.contains(&from));
             if !may_miss {
                 return Err(format!("{} wasn't given {at:?}", app.name));
             }

@@ -15,4 +15,4 @@ mod process;
 mod world;
 
 pub use plan::Plan;
-pub use world::{run, Failure, Report};
+pub use world::{run, Failure, Report, SeenView};

@@ -136,6 +136,10 @@ impl World<'_> {
                 self.reset(place, more);
                 Ok(())
             }
+            Act::Cut { to, micros } => {
+                self.cuts.push((place, to, self.now + micros));
+                Ok(())
+            }
         }
     }
 
@@ -183,6 +187,7 @@ impl World<'_> {
             self.lawful = self.done.iter().chain(running).cloned().collect();
         }
         self.counts.crashes += 1;
+        self.crashes.push(self.now);
         self.stop(place, None)?;
         if let Some(back) = back {
             self.plan_at(self.now + back, Happening::Starts { place });
@@ -234,6 +239,7 @@ impl World<'_> {
                 );
             }
         }
+        self.counts.unwelcomed += u64::from(end == Some(End::Unwelcomed));
         if end == Some(End::Unwelcomed) && !self.is_calm {
             self.plan_at(self.now + 100_000, Happening::Starts { place });
         }
@@ -277,6 +283,7 @@ impl World<'_> {
     pub(crate) fn calm_down(&mut self) {
         self.is_calm = true;
         self.faults = Faults::NONE;
+        self.cuts.clear();
         for place in 0..16 {
             self.end_twin(place);
             if let Some(process) = &mut self.places[usize::from(place)] {
@@ -368,6 +375,10 @@ impl World<'_> {
             text,
             journals: std::mem::take(&mut self.journals),
             delivered,
+            crashes: std::mem::take(&mut self.crashes),
+            views: std::mem::take(&mut self.views),
+            stuck_resets: self.counts.stuck_resets,
+            unwelcomed: self.counts.unwelcomed,
         })
     }
 }

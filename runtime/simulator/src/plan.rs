@@ -49,6 +49,13 @@ pub enum Act {
     Join,
     /// It resets the group, with so much more resilience.
     Reset(u8),
+    /// What it sends to another place is lost for so many microseconds.
+    Cut {
+        /// The other place.
+        to: u8,
+        /// For how long.
+        micros: u64,
+    },
 }
 
 /// How messages are made.
@@ -89,6 +96,8 @@ pub struct Plan {
     pub ghosts: bool,
     /// Whether more may stop than the resilience.
     pub is_lawful: bool,
+    /// Whether members wait as long as they do by default, in place of shorter.
+    pub waits_long: bool,
     /// Whether journals are kept.
     pub journal: bool,
     /// A defect that a test plants in each member.
@@ -123,6 +132,7 @@ impl Plan {
             acts: Vec::new(),
             ghosts: draw.per_mille(250),
             is_lawful: !draw.per_mille(50),
+            waits_long: false,
             journal: draw.per_mille(200),
             plant: None,
         };

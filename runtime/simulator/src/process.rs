@@ -38,10 +38,11 @@ fn settings_of(plan: &Plan, name: Name, draw: &mut Draw, slow: Option<Slow>) -> 
     settings.seed = draw.word();
     settings.least = plan.least;
     settings.most_waiting = 200_000;
-    settings.slow_tick = 50_000;
-    settings.silent_after = 700_000;
-    settings.stuck_after = 1_500_000;
-    settings.reset_step = 100_000;
+    if !plan.waits_long {
+        settings.silent_after = 700_000;
+        settings.stuck_after = 1_500_000;
+        settings.reset_step = 100_000;
+    }
     settings.journal = plan.journal;
     settings.plant = plan.plant;
     settings.deliveries = slow.map_or(1000, |slow| 2 * slow.count);
@@ -130,7 +131,9 @@ impl Process {
 }
 
 fn length_of(sizes: Sizes, draw: &mut Draw) -> usize {
-    const EDGES: [usize; 10] = [0, 1, 1018, 1019, 1020, 1021, 1022, 1024, 2038, 2039];
+    const EDGES: [usize; 12] = [
+        0, 1, 1018, 1019, 1020, 1021, 1022, 1023, 1024, 1025, 2038, 2039,
+    ];
     let length = match sizes {
         Sizes::Small => draw.below(101),
         Sizes::Mixed if draw.per_mille(300) => {
@@ -146,6 +149,10 @@ fn length_of(sizes: Sizes, draw: &mut Draw) -> usize {
 /// A message that no other is, as far as its length allows.
 fn message_of(name: Name, ticket: u64, sizes: Sizes, draw: &mut Draw) -> Vec<u8> {
     let length = length_of(sizes, draw);
-    let head = [&[name.byte()][..], &ticket.to_be_bytes()[2..]].concat();
+    let mut head = [&[name.byte()][..], &ticket.to_be_bytes()[2..]].concat();
+    if draw.per_mille(100) {
+        // as a body of another kind begins
+        head.extend(draw.one_of(b"PSC"));
+    }
     head.iter().rev().cycle().take(length).copied().collect()
 }

@@ -4,7 +4,7 @@ use crate::checker::App;
 use crate::draw::Draw;
 use crate::plan::{Act, Faults, Plan};
 use crate::process::Process;
-use muoswyld_member::{Input, Name, Names, Output, Time};
+use muoswyld_member::{Delivery, Input, Name, Names, Notice, Output, Time};
 use std::cmp::Reverse;
 use std::collections::{BTreeMap, BTreeSet, BinaryHeap};
 use std::rc::Rc;
@@ -38,6 +38,25 @@ pub struct Report {
     pub journals: BTreeMap<Name, Vec<u8>>,
     /// How many deliveries the applications had.
     pub delivered: usize,
+    /// When processes crashed, in microseconds.
+    pub crashes: Vec<u64>,
+    /// The views that the applications were given, in the order of time.
+    pub views: Vec<SeenView>,
+    /// How often a member reset the group since what it waited for wasn't answered.
+    pub stuck_resets: u64,
+    /// How many lives ended since they stayed unwelcomed.
+    pub unwelcomed: u64,
+}
+
+/// A view that an application was given.
+#[derive(Clone, Copy, Debug, PartialEq, Eq)]
+pub struct SeenView {
+    /// When, in microseconds.
+    pub at: u64,
+    /// To which life.
+    pub name: Name,
+    /// Its members.
+    pub members: Names,
 }
 
 /// What may happen.
@@ -93,6 +112,8 @@ pub(crate) struct Counts {
     pub(crate) pauses: u64,
     pub(crate) resets: u64,
     pub(crate) leaves: u64,
+    pub(crate) stuck_resets: u64,
+    pub(crate) unwelcomed: u64,
 }
 
 /// A cluster.
@@ -106,6 +127,8 @@ pub(crate) struct World<'a> {
     pub(crate) lives: [u8; 16],
     pub(crate) number: u64,
     pub(crate) faults: Faults,
+    /// From which place to which one all is lost, and until when.
+    pub(crate) cuts: Vec<(u8, u8, u64)>,
     pub(crate) is_calm: bool,
     /// Whether more have stopped than the resilience, or fewer are left than a reset wants.
     pub(crate) is_void: bool,
@@ -116,6 +139,8 @@ pub(crate) struct World<'a> {
     pub(crate) journals: BTreeMap<Name, Vec<u8>>,
     pub(crate) captured: Vec<(u8, Rc<[u8]>)>,
     pub(crate) counts: Counts,
+    pub(crate) crashes: Vec<u64>,
+    pub(crate) views: Vec<SeenView>,
     pub(crate) hash: u64,
 }
 
@@ -141,6 +166,7 @@ impl<'a> World<'a> {
             lives: [0; 16],
             number: 0,
             faults: plan.faults,
+            cuts: Vec::new(),
             is_calm: false,
             is_void: false,
             stopped: BTreeSet::new(),
@@ -149,6 +175,8 @@ impl<'a> World<'a> {
             journals: BTreeMap::new(),
             captured: Vec::new(),
             counts: Counts::default(),
+            crashes: Vec::new(),
+            views: Vec::new(),
             hash: 0xcbf2_9ce4_8422_2325,
         }
     }
@@ -344,12 +372,13 @@ impl<'a> World<'a> {
         match output {
             Output::Datagram { to, payload } => {
                 self.fold(&payload);
-                self.carry(to, payload.into());
+                self.carry(place, to, payload.into());
             }
             Output::Journal(lines) => self.process(place)?.journal.extend(lines),
             Output::Deliver(delivery) => {
                 let at = delivery.at();
                 self.fold(&[at.number.to_be_bytes(), at.index.to_be_bytes()].concat());
+                self.see(place, &delivery);
                 let process = self.process(place)?;
                 process.backlog += 1;
                 process.app.deliver(delivery)?;
@@ -359,13 +388,24 @@ impl<'a> World<'a> {
                 self.process(place)?.app.settle(ticket, result)?;
             }
             Output::Ended(end) => self.process(place)?.ended = Some(end),
+            Output::Told(Notice::ResetsStuck) => self.counts.stuck_resets += 1,
             Output::ResetDone { .. } | Output::Told(_) => {}
         }
         Ok(())
     }
 
+    /// Remembers a view that an application is given.
+    fn see(&mut self, place: u8, delivery: &Delivery) {
+        let at = self.now;
+        let name = Name::new(place, self.lives[usize::from(place)]);
+        if let (Some(name), Delivery::View { members, .. }) = (name, delivery) {
+            let members = *members;
+            self.views.push(SeenView { at, name, members });
+        }
+    }
+
     /// Carries a datagram to each place of some names.
-    fn carry(&mut self, to: Names, payload: Rc<[u8]>) {
+    fn carry(&mut self, from: u8, to: Names, payload: Rc<[u8]>) {
         for name in to.iter() {
             self.counts.datagrams += 1;
             let place = name.place();
@@ -373,7 +413,9 @@ impl<'a> World<'a> {
                 self.captured.push((place, payload.clone()));
             }
             let faults = self.faults;
-            if self.draw.per_mille(faults.lost) {
+            let now = self.now;
+            let cuts = |cut: &(u8, u8, u64)| *cut == (from, place, cut.2) && now < cut.2;
+            if self.draw.per_mille(faults.lost) || self.cuts.iter().any(cuts) {
                 self.counts.lost += 1;
                 continue;
             }

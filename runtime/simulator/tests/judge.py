@@ -1,7 +1,7 @@
 #!/usr/bin/env python3
 """Judges runs of the simulator: merges the journals of each folder, and compares what `play` answers with what the members did.
 
-    judge.py PROGRAM FOLDER..
+    PYTHONPATH=net judge.py PROGRAM FOLDER..
 
 It ends with 1 if an answer differs, or journals can't be merged.
 """
@@ -11,9 +11,8 @@ import pathlib
 import subprocess
 import sys
 
-sys.path.insert(0, str(pathlib.Path(__file__).resolve().parents[3] / "net"))
-from cluster import MOST_EVENTS, judged  # noqa: E402
-from merge import Merged, Unmerged  # noqa: E402
+from cluster import MOST_EVENTS, judged
+from merge import Merged, Unmerged
 
 
 def judge(program: str, folder: pathlib.Path) -> int:

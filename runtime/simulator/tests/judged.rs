@@ -42,6 +42,7 @@ fn journals_of(seed: u64) -> BTreeMap<Name, Vec<u8>> {
 fn judged(folders: &[PathBuf]) -> (bool, String) {
     let script = Path::new(env!("CARGO_MANIFEST_DIR")).join("tests/judge.py");
     let said = Command::new("python3")
+        .env("PYTHONPATH", top().join("net"))
         .arg(script)
         .arg(judge())
         .args(folders)

@@ -58,12 +58,14 @@ fn a_ticket_that_is_settled_before_its_delivery() {
 fn a_letter_that_goes_out_before_its_line() {
     let (_, what) = found_with(Plant::LetterBeforeJournal, |plan| {
         plan.journal = true;
-        for (_, _, act) in &mut plan.acts {
-            *act = Act::Crash {
-                back: Some(200_000),
-                twin: false,
-            };
-        }
+        plan.send_every = 5_000;
+        let (back, twin) = (Some(100_000), false);
+        let places = plan.founding.founders.len() as u64;
+        let crash = |k: u64| {
+            let place = (k % places) as u8;
+            (300_000 + 150_000 * k, place, Act::Crash { back, twin })
+        };
+        plan.acts = (0..12).map(crash).collect();
     });
     assert!(what.contains("whose journal has"), "{what}");
 }
