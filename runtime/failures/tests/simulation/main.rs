@@ -1,0 +1,8 @@
+//! Cores are simulated: any pause, any clock within its bound, any loss.
+
+mod acts;
+mod draw;
+mod partitions;
+mod planted;
+mod timed;
+mod world;
