@@ -31,7 +31,8 @@ impl Failures {
         2 * self.settings.period + self.settings.delay
     }
 
-    fn fresh_peers(&self) -> impl Iterator<Item = (&Name, &Peer)> {
+    /// The others of which a heartbeat came lately.
+    pub(crate) fn fresh_peers(&self) -> impl Iterator<Item = (&Name, &Peer)> {
         let fresh = self.fresh();
         let now = self.now;
         self.peers
@@ -126,8 +127,7 @@ impl Failures {
     pub(crate) fn grant(&mut self) {
         let wanted = self.candidate.wants.and(&self.wanted_by_others());
         for name in wanted.without(&self.stopped).iter() {
-            let suspects = self.peers.suspects.has(name) && self.view.has(name);
-            if suspects && self.may_refuse_one_more(name) {
+            if self.peers.suspects.has(name) && self.may_refuse_one_more(name) {
                 self.refuse(name);
             }
         }
@@ -141,7 +141,7 @@ impl Failures {
         };
         let mut refused = voter.refused();
         refused.insert(name);
-        if !self.leaves_enough(&refused) {
+        if self.view.has(self.settings.name) && !self.leaves_enough(&refused) {
             return false;
         }
         let voters = self.settings.voters;

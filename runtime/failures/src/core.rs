@@ -221,6 +221,10 @@ impl Failures {
             asks,
             counter: voter.map(|voter| voter.counter),
             frozen_for: self.frozen_since().map(|since| self.now.since(since)),
+            members: match self.view.has(self.settings.name) {
+                true => self.view,
+                false => NameSet::default(),
+            },
             suspects: self.peers.suspects,
             wants: self.candidate.wants,
             refuses: voter.map_or(NameSet::default(), |voter| voter.told()),

@@ -2,7 +2,7 @@
 //!
 //! | kind | behind the kind's byte |
 //! |---|---|
-//! | `10`, heartbeat | id (16), name (1), process (8), sequence (8), flags (1: bit 0 asks, bit 1 votes, bit 2 frozen), counter (8), frozen for (8), five sets of names (32 each): suspects, wants, refuses, ripe, stopped; a count (1) and so many heard; a count (1) and so many counters |
+//! | `10`, heartbeat | id (16), name (1), process (8), sequence (8), flags (1: bit 0 asks, bit 1 votes, bit 2 frozen), counter (8), frozen for (8), six sets of names (32 each): members, suspects, wants, refuses, ripe, stopped; a count (1) and so many heard; a count (1) and so many counters |
 //! | `11`, echo | id (16), the voter's name (1), its counter (8), then one heard |
 //!
 //! A heard is a name (1), its process (8) and a sequence (8). A counter is a place (1) and a counter (8). A set of names has a bit for
@@ -43,6 +43,8 @@ pub struct Heartbeat {
     pub counter: Option<u64>,
     /// For how many microseconds it hasn't been allowed to act; None if it may.
     pub frozen_for: Option<u64>,
+    /// The members of its view, if it is one of them: so voters that aren't know whom to listen for.
+    pub members: NameSet,
     /// Whom it hasn't heard for too long. It takes that back.
     pub suspects: NameSet,
     /// Whom it wants to be refused, as a candidate.
@@ -137,6 +139,7 @@ impl Bytes<'_> {
             asks: flags & ASKS != 0,
             counter: flag_of(flags, VOTES, counter)?,
             frozen_for: flag_of(flags, FROZEN, frozen)?,
+            members: self.set()?,
             suspects: self.set()?,
             wants: self.set()?,
             refuses: self.set()?,
@@ -181,7 +184,13 @@ impl Heartbeat {
         bytes.push(flag(self.asks, ASKS) | votes | flag(self.frozen_for.is_some(), FROZEN));
         bytes.extend(self.counter.unwrap_or(0).to_be_bytes());
         bytes.extend(self.frozen_for.unwrap_or(0).to_be_bytes());
-        let sets = [self.suspects, self.wants, self.refuses, self.ripe];
+        let sets = [
+            self.members,
+            self.suspects,
+            self.wants,
+            self.refuses,
+            self.ripe,
+        ];
         for set in sets.iter().chain([&self.stopped]) {
             bytes.extend(set.bytes());
         }

@@ -22,6 +22,7 @@ pub(crate) struct Peer {
     /// Since when it says that it may not act, as it was seen here.
     pub(crate) frozen_since: Option<Time>,
     pub(crate) says_frozen_for: Option<u64>,
+    pub(crate) members: NameSet,
     pub(crate) suspects: NameSet,
     pub(crate) wants: NameSet,
     pub(crate) refuses: NameSet,
@@ -63,6 +64,7 @@ impl Failures {
                 .frozen_for
                 .map(|_| frozen_before.unwrap_or(self.now)),
             says_frozen_for: heartbeat.frozen_for,
+            members: heartbeat.members,
             suspects: heartbeat.suspects,
             wants: heartbeat.wants,
             refuses: heartbeat.refuses,
@@ -135,12 +137,22 @@ impl Failures {
         self.peers.hears_majority = hears;
     }
 
+    /// Whom it listens for: the members of its view. A place that votes and isn't a member (any more, or yet) listens for whom others
+    /// say that they are members.
+    pub(crate) fn watched(&self) -> NameSet {
+        if self.view.has(self.settings.name) {
+            return self.view;
+        }
+        let said = self.fresh_peers().map(|(_, peer)| peer.members);
+        said.fold(NameSet::default(), |all, members| all.and(&members))
+    }
+
     /// Whom it suspects now: who isn't heard, or says that it may not act, for the whole silence. A member that hears no majority but is
     /// heard by all would hold the group up for ever, so frozen counts as silent. It counts from when it was first seen here: after a
     /// failure of the whole network everybody truly says that it was frozen for long.
     pub(crate) fn suspect(&mut self) {
         let mut suspects = NameSet::default();
-        for name in self.view.without(&self.stopped).iter() {
+        for name in self.watched().without(&self.stopped).iter() {
             if name != self.settings.name && self.is_silent(name) {
                 suspects.insert(name);
             }

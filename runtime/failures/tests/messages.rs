@@ -49,6 +49,7 @@ impl Draw {
             asks: self.word().is_multiple_of(2),
             counter: self.word().is_multiple_of(2).then(|| self.word()),
             frozen_for: self.word().is_multiple_of(2).then(|| self.word()),
+            members: self.set(),
             suspects: self.set(),
             wants: self.set(),
             refuses: self.set(),

@@ -232,6 +232,67 @@ fn two_that_do_not_vote_may_stop_at_once() {
     }
 }
 
+/// Places crash in phases, and each comes back as its next life, with the disk that it synced: all go on in the end.
+#[test]
+fn all_go_on_once_all_are_back() {
+    let mut beyond = 0;
+    for (places, voters) in [(3, 0b111), (4, 0b0111), (5, 0b11111)] {
+        for seed in 1..=20 {
+            for shape in shapes(places, voters) {
+                let mut draw = Draw::new(seed ^ 0xc0ffee);
+                let mut timed = Timed::new(shape, seed);
+                let mut at = SECOND / 4;
+                for _ in 0..draw.between(1, 4) {
+                    let group = draw.word() as u16;
+                    let links = groups(places, &[group, !group]);
+                    timed.at(at, Event::Links(links));
+                    let place = draw.below(u64::from(places)) as u8;
+                    let crash = at + draw.between(0, 300_000);
+                    timed.at(crash, Event::Crash(place));
+                    timed.at(crash + draw.between(1, 600_000), Event::Restart(place));
+                    at += draw.one_of(&[100_000, 200_000, 300_000]);
+                    timed.at(at, Event::Links(all(places)));
+                    at += draw.one_of(&[0, 100_000, 500_000]);
+                }
+                timed.run(at + SECOND);
+                if timed.is_beyond() {
+                    right(&timed, seed);
+                    beyond += 1;
+                    continue;
+                }
+                goes_on(&mut timed, seed);
+                assert_eq!(timed.view.len(), usize::from(places), "seed {seed}");
+            }
+        }
+    }
+    println!("{beyond} of 120 runs have fewer members left than a reset goes on with");
+    assert!(beyond < 30);
+}
+
+/// A voter that came back and isn't a member yet helps to give up who stopped before it began.
+#[test]
+fn a_voter_that_is_no_member_listens_for_the_members() {
+    for seed in 1..=20 {
+        for shape in shapes(5, 0b00111) {
+            let mut timed = Timed::new(shape, seed);
+            timed.at(SECOND / 2, Event::Crash(1));
+            timed.at(SECOND / 2 + 1, Event::Restart(1));
+            timed.run(3 * SECOND);
+            assert_eq!(
+                timed.view.iter().map(|n| n.life()).max(),
+                Some(2),
+                "seed {seed}"
+            );
+            timed.at(3 * SECOND, Event::Crash(1));
+            timed.at(3 * SECOND, Event::Crash(2));
+            timed.at(3 * SECOND + 50_000, Event::Restart(2));
+            timed.run(4 * SECOND);
+            goes_on(&mut timed, seed);
+            assert_eq!(timed.view.places(), 0b11101, "seed {seed}");
+        }
+    }
+}
+
 /// Four places of which three vote, in two halves: two names more than may be are refused, if nothing bounds it.
 #[test]
 fn without_a_bound_too_many_are_given_up() {

@@ -38,7 +38,6 @@ pub struct Timed {
     wakes: Vec<u64>,
     draw: Draw,
     loss: u64,
-    pub crashes: usize,
 }
 
 /// Links between all.
@@ -76,7 +75,6 @@ impl Timed {
             wakes: vec![u64::MAX; usize::from(places)],
             loss: draw.one_of(&[0, 0, 1, 5]),
             draw,
-            crashes: 0,
             world,
         };
         for place in 0..places {
@@ -180,8 +178,11 @@ impl Timed {
             }
             Event::Links(links) => self.links = links,
             Event::Crash(place) => {
-                self.crashes += 1;
-                self.world.crash(place);
+                let others = self.living() & !(1 << place);
+                let least = self.least_of(&self.view);
+                if others.count_ones() >= u32::from(least) {
+                    self.world.crash(place);
+                }
             }
             Event::Restart(place) => self.restart(place),
             Event::Pause(place, micros) => {
@@ -259,6 +260,21 @@ impl Timed {
         names.iter().all(|name| {
             self.links[usize::from(name.place())] & places == places && self.may_act(name)
         })
+    }
+
+    /// The places of the view's members that run and that nobody gave up.
+    fn living(&self) -> u16 {
+        let running = self.world.processes.iter().flatten();
+        let running = running.filter(|process| {
+            let name = process.name;
+            self.view.has(name) && !self.world.given_up.contains_key(&name)
+        });
+        running.map(|process| 1 << process.name.place()).sum()
+    }
+
+    /// Whether fewer members are left than a reset goes on with: that is for an operator.
+    pub fn is_beyond(&self) -> bool {
+        self.living().count_ones() < u32::from(self.least_of(&self.view))
     }
 
     fn least_of(&self, view: &NameSet) -> u8 {
