@@ -5,7 +5,7 @@ use crate::echoes::Echoes;
 use crate::event::{Input, NoVoter, Notice, Output};
 use crate::fences::Fences;
 use crate::gate::Gate;
-use crate::message::{Echo, Heartbeat, Message, MOST_HEARD};
+use crate::message::{Echo, Heard, Heartbeat, Message, MOST_HEARD};
 use crate::names::{Name, NameSet};
 use crate::peers::Peers;
 use crate::settings::{Plant, Policy, Settings, StartError};
@@ -204,43 +204,45 @@ impl Failures {
             return;
         }
         let from = self.echoes.send(self.now);
-        let mut heard = Vec::new();
-        if let Some(voter) = &mut self.voter {
-            heard = voter.echoes();
-            // its own place votes too, for the same heartbeat
-            voter.hear(from, self.now);
-            self.echoes.hear(self.settings.name, from, self.now);
-        }
-        heard.retain(|one| one.name.place() != self.settings.name.place());
+        let me = self.settings.name;
+        let mut heard = self.voter.as_ref().map_or(Vec::new(), Voter::echoes);
+        heard.retain(|one| one.name.place() != me.place());
         let more = heard.len().saturating_sub(MOST_HEARD);
         heard.drain(..more);
+        if let Some(voter) = &mut self.voter {
+            // its own place votes too, for the same heartbeat
+            voter.hear(from, self.now);
+            self.echoes.hear(me, from, self.now);
+        }
+        let heartbeat = self.heartbeat(from, asks, heard);
+        self.outputs.push(Output::Send {
+            to: !(1 << me.place()),
+            payload: Message::Heartbeat(Box::new(heartbeat)).to_bytes(),
+        });
+        self.is_urgent = false;
+        self.next_heartbeat = self.now.after(self.settings.period);
+    }
+
+    fn heartbeat(&self, from: Heard, asks: bool, heard: Vec<Heard>) -> Heartbeat {
         let voter = self.voter.as_ref();
-        let heartbeat = Heartbeat {
+        let none = NameSet::default();
+        let is_member = self.view.has(self.settings.name);
+        let wait = self.settings.wait();
+        Heartbeat {
             id: self.settings.id,
             from,
             asks,
             counter: voter.map(|voter| voter.counter),
             frozen_for: self.frozen_since().map(|since| self.now.since(since)),
-            members: match self.view.has(self.settings.name) {
-                true => self.view,
-                false => NameSet::default(),
-            },
+            members: if is_member { self.view } else { none },
             suspects: self.peers.suspects,
             wants: self.candidate.wants,
-            refuses: voter.map_or(NameSet::default(), |voter| voter.told()),
-            ripe: voter.map_or(NameSet::default(), |voter| {
-                voter.ripe(self.now, self.settings.wait())
-            }),
+            refuses: voter.map_or(none, |voter| voter.told()),
+            ripe: voter.map_or(none, |voter| voter.ripe(self.now, wait)),
             stopped: self.stopped,
             heard,
             counters: self.peers.counters.iter().map(|(p, c)| (*p, *c)).collect(),
-        };
-        self.outputs.push(Output::Send {
-            to: !(1 << self.settings.name.place()),
-            payload: Message::Heartbeat(Box::new(heartbeat)).to_bytes(),
-        });
-        self.is_urgent = false;
-        self.next_heartbeat = self.now.after(self.settings.period);
+        }
     }
 
     /// The voters that count: those of the founding, whatever view stands.

@@ -12,7 +12,7 @@ pub enum Input<'a> {
     Written(u64),
     /// A write failed: this place is no voter any more.
     NotWritten,
-    /// Somebody outside says that a name has stopped for certain.
+    /// Somebody outside says that a name has stopped for certain. That is said of a process, so it holds in each group of its place.
     Told(Name),
     /// What became of a fence.
     Fenced {
@@ -58,7 +58,8 @@ pub enum Output {
     },
     /// A name has stopped for certain: tell the member so, as soon as it may be given anything.
     Stopped(Name),
-    /// This life was given up. Nothing more may be let out, and what is held is dropped. It ends.
+    /// This life was given up. Nothing more may be let out, and what is held is dropped. It ends. A life ends by itself for no other
+    /// cause: who is frozen, or refused by some, may still go on.
     Ended,
     /// Something for the log.
     Notice(Notice),

@@ -54,82 +54,54 @@ fn told_holds_nothing_and_passes_on_what_it_is_told() {
     assert_eq!(core.take(), [Output::Stopped(Name::first(1))]);
 }
 
+/// Some cores wake and hear each other, and others are silent; who asks for a fence of whom.
+fn fences(cores: &mut [Failures], now: Time) -> Vec<(Name, Name)> {
+    let mut fences = Vec::new();
+    for from in 0..cores.len() {
+        cores[from].handle(now, Input::Time);
+        for output in cores[from].take() {
+            match output {
+                Output::Send { payload, .. } => {
+                    for core in cores.iter_mut() {
+                        core.handle(now, Input::Datagram(&payload));
+                    }
+                }
+                Output::Fence { name, .. } => fences.push((cores[from].name(), name)),
+                _ => {}
+            }
+        }
+    }
+    fences
+}
+
 #[test]
 fn a_command_is_asked_for_a_fence_and_its_word_is_taken() {
     let mut cores: Vec<Failures> = (0..3)
         .map(|place| core(place, 0b111, Policy::Command))
         .collect();
-    let mut now = 0;
-    let fences = |core: &mut Failures| -> Vec<Name> {
-        let outputs = core.take().into_iter().filter_map(|output| match output {
-            Output::Fence { name, .. } => Some(name),
-            _ => None,
-        });
-        outputs.collect()
-    };
     exchange(&mut cores, Time(0));
-    let mut asked = Vec::new();
-    while asked.is_empty() && now < 10_000_000 {
-        now += 100_000;
-        // the third one is silent
-        let mut sent = Vec::new();
-        for core in &mut cores[..2] {
-            core.handle(Time(now), Input::Time);
-            let outputs = core.take();
-            for output in outputs {
-                match output {
-                    Output::Send { payload, .. } => sent.push(payload),
-                    Output::Fence { name, .. } => asked.push((core.name(), name)),
-                    _ => {}
-                }
-            }
-        }
-        for message in sent {
-            cores[0].handle(Time(now), Input::Datagram(&message));
-            cores[1].handle(Time(now), Input::Datagram(&message));
-        }
-        asked.extend(
-            fences(&mut cores[0])
-                .into_iter()
-                .map(|name| (Name::first(0), name)),
-        );
-    }
-    assert_eq!(asked, [(Name::first(0), Name::first(2))]);
     let gone = Name::first(2);
-    let failed = Input::Fenced {
-        name: gone,
-        done: false,
-    };
-    cores[0].handle(Time(now), failed);
-    assert!(!cores[0].take().contains(&Output::Stopped(gone)));
+    let running = &mut cores[..2];
+    let mut turns = (1..).map(|turn| Time(turn * 100_000));
+    let mut asked = Vec::new();
+    while asked.is_empty() {
+        let now = turns.next().filter(|now| *now < Time(5_000_000));
+        asked = fences(running, now.expect("nobody asks"));
+    }
+    assert_eq!(asked, [(Name::first(0), gone)]);
+    let fenced = |done| Input::Fenced { name: gone, done };
+    running[0].handle(Time(0), fenced(false));
+    assert!(!running[0].take().contains(&Output::Stopped(gone)));
     // it is tried again later
     let mut again = Vec::new();
-    for turn in 1..100 {
-        let now = Time(now + turn * 50_000);
-        let (first, rest) = cores.split_at_mut(1);
-        {
-            let (from, to) = (&mut rest[0], &mut first[0]);
-            from.handle(now, Input::Time);
-            for message in messages(from) {
-                to.handle(now, Input::Datagram(&message));
-            }
-            to.handle(now, Input::Time);
-            for output in to.take() {
-                match output {
-                    Output::Send { payload, .. } => from.handle(now, Input::Datagram(&payload)),
-                    Output::Fence { name, .. } => again.push(name),
-                    _ => {}
-                }
-            }
-        }
+    while again.is_empty() {
+        let now = turns.next().filter(|now| *now < Time(10_000_000));
+        let asked = fences(running, now.expect("nobody asks again"));
+        again.extend(asked.into_iter().filter(|(asker, _)| asker.place() == 0));
     }
-    assert_eq!(again.first(), Some(&gone));
-    let done = Input::Fenced {
-        name: gone,
-        done: true,
-    };
-    cores[0].handle(Time(now + 5_000_000), done);
-    assert!(cores[0].take().contains(&Output::Stopped(gone)));
+    assert_eq!(again, [(Name::first(0), gone)]);
+    running[0].handle(Time(0), fenced(true));
+    assert!(running[0].take().contains(&Output::Stopped(gone)));
 }
 
 #[test]

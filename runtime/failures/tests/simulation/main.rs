@@ -2,6 +2,7 @@
 
 mod acts;
 mod draw;
+mod drawing;
 mod partitions;
 mod planted;
 mod timed;

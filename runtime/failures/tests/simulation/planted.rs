@@ -1,6 +1,7 @@
 //! Defects that are planted are found, and without them nothing is.
 
-use crate::acts::{run, shrink, Kind, Part, Ran};
+use crate::acts::{replay, shrink, Kind, Part};
+use crate::drawing::{run, Ran};
 use muoswyld_failures::Plant;
 
 /// Within how many seeds a defect must be found.
@@ -102,12 +103,33 @@ fn half_of_an_even_number() {
     found("half of four", &kind);
 }
 
+/// Here the voter hears those who remember before it is asked for an echo: the same schedule finds nothing without the defect.
 #[test]
 fn an_older_file() {
     let mut kind = Kind::planted(Plant::GoesOnWithOlder);
     kind.older = true;
+    kind.remembered = true;
     kind.emphasis = &[Part::RestartsLast];
-    found("an older file", &kind);
+    let mut right = kind.clone();
+    right.plant = None;
+    let is_found = |seed: &u64| {
+        let mut ran = run(&kind, *seed);
+        let is_wrong = ran.violation.is_some();
+        ran.start.shape.plant = None;
+        is_wrong && replay(&right, &ran.start, &ran.acts).is_none()
+    };
+    let seed = (1..=SEEDS).find(is_found);
+    println!("GoesOnWithOlder: seed {seed:?}");
+    assert!(seed.is_some());
+}
+
+/// A disk that goes back in time is beyond what is assumed: the voter may hear the refused name before anybody who remembers.
+#[test]
+fn an_older_file_that_nobody_remembers_in_time() {
+    let mut kind = Kind::lawful();
+    kind.older = true;
+    kind.emphasis = &[Part::RestartsLast];
+    found("an older file that nobody remembers in time", &kind);
 }
 
 fn beyond(what: &str, change: impl Fn(&mut Kind)) {

@@ -135,13 +135,7 @@ impl Timed {
             }
         }
         match event {
-            Event::Wake(place) => {
-                if self.wakes[usize::from(place)] <= self.world.real {
-                    self.wakes[usize::from(place)] = u64::MAX;
-                }
-                self.world.handle(place, Input::Time);
-                self.go_on(place);
-            }
+            Event::Wake(place) => self.wake(place),
             Event::Arrive(place, bytes) => {
                 self.world.handle(place, Input::Datagram(&bytes));
                 self.look(place);
@@ -153,17 +147,7 @@ impl Timed {
                     self.go_on(place);
                 }
             }
-            Event::Batch(place) => {
-                if self.world.step(place) {
-                    let wait = self.draw.between(0, 500);
-                    self.after(wait, Event::Fixes(place));
-                } else {
-                    self.look(place);
-                }
-                if self.world.process(place).is_some_and(|p| !p.ended) {
-                    self.after(20_000, Event::Batch(place));
-                }
-            }
+            Event::Batch(place) => self.batch(place),
             Event::Fixes(place) => {
                 self.world.fix(place);
                 self.look(place);
@@ -177,17 +161,40 @@ impl Timed {
                 self.after(20_000, Event::Group);
             }
             Event::Links(links) => self.links = links,
-            Event::Crash(place) => {
-                let others = self.living() & !(1 << place);
-                let least = self.least_of(&self.view);
-                if others.count_ones() >= u32::from(least) {
-                    self.world.crash(place);
-                }
-            }
+            Event::Crash(place) => self.crash(place),
             Event::Restart(place) => self.restart(place),
             Event::Pause(place, micros) => {
                 self.paused[usize::from(place)] = self.world.real + micros;
             }
+        }
+    }
+
+    fn wake(&mut self, place: u8) {
+        if self.wakes[usize::from(place)] <= self.world.real {
+            self.wakes[usize::from(place)] = u64::MAX;
+        }
+        self.world.handle(place, Input::Time);
+        self.go_on(place);
+    }
+
+    fn batch(&mut self, place: u8) {
+        if self.world.step(place) {
+            let wait = self.draw.between(0, 500);
+            self.after(wait, Event::Fixes(place));
+        } else {
+            self.look(place);
+        }
+        if self.world.process(place).is_some_and(|p| !p.ended) {
+            self.after(20_000, Event::Batch(place));
+        }
+    }
+
+    /// A process crashes, if enough are left.
+    fn crash(&mut self, place: u8) {
+        let others = self.living() & !(1 << place);
+        let least = self.least_of(&self.view);
+        if others.count_ones() >= u32::from(least) {
+            self.world.crash(place);
         }
     }
 
