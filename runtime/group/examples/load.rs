@@ -65,6 +65,12 @@ impl Cell {
     }
 }
 
+/// For how long members look for more before they sleep: the environment's SPIN, in microseconds, else not at all.
+fn spin() -> Duration {
+    let said = std::env::var("SPIN").ok();
+    Duration::from_micros(said.and_then(|text| text.parse().ok()).unwrap_or(0))
+}
+
 /// The time of the system's monotonic clock, in nanoseconds.
 fn now() -> u64 {
     let mut time = libc::timespec {
@@ -129,6 +135,7 @@ impl Load {
         let mut config = Config::new(name, founders)
             .resilience(resilience)
             .most_waiting(MOST_WAITING)
+            .spin(spin())
             .start_within(Duration::from_secs(10));
         for (at, address) in addresses.iter().enumerate() {
             config = config.address(at as u8, address.parse()?)?;

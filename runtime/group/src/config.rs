@@ -53,6 +53,7 @@ pub struct Config {
     pub(crate) most_unreceived: usize,
     pub(crate) datagram: usize,
     pub(crate) tick: Duration,
+    pub(crate) spin: Duration,
     pub(crate) journal: Option<PathBuf>,
     pub(crate) start_within: Option<Duration>,
     pub(crate) on_notice: Option<Callback<Notice>>,
@@ -80,6 +81,7 @@ impl Config {
             most_unreceived: 4_096,
             datagram: 1_400,
             tick: Duration::from_millis(50),
+            spin: Duration::ZERO,
             journal: None,
             start_within: None,
             on_notice: None,
@@ -151,6 +153,13 @@ impl Config {
     /// The longest payload of a datagram, 1,232 to 65,000 bytes (1,400).
     pub fn datagram(mut self, bytes: usize) -> Config {
         self.datagram = bytes;
+        self
+    }
+
+    /// For how long the member's thread looks for more, before it sleeps, after it had something to do: 0 (the default) to 1 ms. This
+    /// takes a processor meanwhile, and saves the time of waking up at each hop of a message.
+    pub fn spin(mut self, spin: Duration) -> Config {
+        self.spin = spin.min(Duration::from_millis(1));
         self
     }
 

@@ -188,9 +188,7 @@ impl Shared {
         room: usize,
     ) -> bool {
         self.is_asleep.store(true, Ordering::SeqCst);
-        let has_work = lock(&self.commands).has_one_for(room)
-            || self.received.load(Ordering::SeqCst) * 4 >= self.most_unreceived;
-        let most = if has_work {
+        let most = if self.has_work(room) {
             std::time::Duration::ZERO
         } else {
             most
@@ -200,6 +198,32 @@ impl Shared {
             self.bell.hush();
         }
         can_read
+    }
+
+    /// Whether a caller wants something of the member's thread.
+    fn has_work(&self, room: usize) -> bool {
+        lock(&self.commands).has_one_for(room)
+            || self.received.load(Ordering::SeqCst) * 4 >= self.most_unreceived
+    }
+
+    /// Looks until then whether there is something to do, and doesn't sleep: whether the descriptor can be read, or None if there is
+    /// nothing.
+    pub(crate) fn look(
+        &self,
+        descriptor: std::os::fd::RawFd,
+        until: Instant,
+        room: usize,
+    ) -> Option<bool> {
+        while Instant::now() < until {
+            if self.bell.wait(descriptor, std::time::Duration::ZERO) {
+                return Some(true);
+            }
+            if self.has_work(room) {
+                return Some(false);
+            }
+            std::thread::yield_now();
+        }
+        None
     }
 
     /// Takes what is asked for: first what isn't a message, then messages in order, as long as the member has so many bytes of room.

@@ -73,6 +73,10 @@ struct Shell {
     dropped: u64,
     /// How many datagrams of each place's address weren't sealed by the key.
     unsealed: [u64; 16],
+    /// For how long the thread looks for more before it sleeps.
+    spin: Duration,
+    /// When it last had something to do.
+    busy: Instant,
 }
 
 /// The addresses of a member's group, with its own to bind.
@@ -176,6 +180,8 @@ pub(crate) fn start(config: Config) -> Result<(Arc<Shared>, JoinHandle<()>), Cre
                         datagram: Vec::new(),
                         dropped: 0,
                         unsealed: [0; 16],
+                        spin: config.spin,
+                        busy: Instant::now(),
                     };
                     let end = shell.run();
                     shell.close(&end);
@@ -208,12 +214,8 @@ impl Shell {
     /// Until the member ends.
     fn run(&mut self) -> End {
         loop {
-            let left = self.member.wake().0.saturating_sub(self.now().0);
-            let most = Duration::from_micros(left);
-            let can_read = self
-                .shared
-                .sleep(self.udp.descriptor(), most, self.member.free());
-            if can_read {
+            if self.rest() {
+                self.busy = Instant::now();
                 if let Err(error) = self.read() {
                     return End::Failed(format!("the socket can't be read: {error}"));
                 }
@@ -231,6 +233,18 @@ impl Shell {
             if let Some(end) = self.let_out() {
                 return end;
             }
+        }
+    }
+
+    /// Until there may be something to do; whether a datagram can be read.
+    fn rest(&mut self) -> bool {
+        let left = self.member.wake().0.saturating_sub(self.now().0);
+        let most = Duration::from_micros(left);
+        let (descriptor, room) = (self.udp.descriptor(), self.member.free());
+        let until = self.busy + self.spin.min(most);
+        match self.shared.look(descriptor, until, room) {
+            Some(can_read) => can_read,
+            None => self.shared.sleep(descriptor, most, room),
         }
     }
 
@@ -289,6 +303,9 @@ impl Shell {
     fn do_commands(&mut self) -> Option<End> {
         let mut commands = std::mem::take(&mut self.commands);
         self.shared.take_commands(self.member.free(), &mut commands);
+        if !commands.is_empty() {
+            self.busy = Instant::now();
+        }
         let mut end = None;
         for command in commands.drain(..) {
             match command {

@@ -135,6 +135,9 @@ pub struct Run {
     /// Milliseconds between two ticks of an idle member [default: 50]
     #[arg(long, value_name = "MILLISECONDS")]
     pub tick: Option<u64>,
+    /// For how many microseconds a busy member looks for more before it sleeps, 0 to 1000 [default: 0]
+    #[arg(long, value_name = "MICROSECONDS")]
+    pub spin: Option<u64>,
     /// The most bytes of a datagram's payload, 1232 to 65000 [default: 1400]
     #[arg(long, value_name = "BYTES")]
     pub datagram: Option<usize>,
@@ -236,6 +239,7 @@ impl Run {
             pb_up_to: self.pb_up_to.or(file.pb_up_to),
             least: self.least.or(file.least),
             tick: self.tick.or(file.tick),
+            spin: self.spin.or(file.spin),
             datagram: self.datagram.or(file.datagram),
             key: self.key.or(file.key),
             journal: self.journal.or(file.journal),
@@ -297,6 +301,9 @@ impl Run {
         }
         if let Some(tick) = self.tick {
             config = config.tick(Duration::from_millis(tick.max(1)));
+        }
+        if let Some(spin) = self.spin {
+            config = config.spin(Duration::from_micros(spin));
         }
         if let Some(file) = &self.journal {
             config = config.journal(file.clone());

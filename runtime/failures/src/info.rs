@@ -1,0 +1,81 @@
+//! What an operator may want to know.
+
+use crate::core::Failures;
+use crate::event::NoVoter;
+use crate::names::{Name, NameSet, Places};
+use crate::time::Time;
+
+/// A name that may not act, of which too few voters can say so: an operator ends its process, or resets with a lower `least`.
+#[derive(Clone, Copy, Debug, PartialEq, Eq)]
+pub struct Blocked {
+    /// The name.
+    pub name: Name,
+    /// The places that have refused it.
+    pub refused_by: Places,
+}
+
+/// How a value stands.
+#[derive(Clone, Debug, PartialEq, Eq)]
+pub struct Info {
+    /// Up to when it may act, by its own clock; None if no time says so.
+    pub may_act_until: Option<Time>,
+    /// Since when it may not act.
+    pub frozen_since: Option<Time>,
+    /// Whom it suspects.
+    pub suspects: NameSet,
+    /// Whom its place has refused.
+    pub refused: NameSet,
+    /// Who has stopped for certain.
+    pub stopped: NameSet,
+    /// Why its place isn't a voter, if it isn't.
+    pub no_voter: Option<NoVoter>,
+    /// Who is refused by some voters but not by a majority, and says that it is frozen.
+    pub blocked: Vec<Blocked>,
+}
+
+impl Failures {
+    /// How it stands.
+    pub fn info(&self) -> Info {
+        Info {
+            may_act_until: self.lease_end(),
+            frozen_since: self.frozen_since(),
+            suspects: self.peers.suspects,
+            refused: self
+                .voter
+                .as_ref()
+                .map_or(NameSet::default(), |v| v.refused()),
+            stopped: self.stopped,
+            no_voter: self.no_voter,
+            blocked: self.blocked(),
+        }
+    }
+
+    fn blocked(&self) -> Vec<Blocked> {
+        let frozen = self.peers.all.iter().filter(|(name, peer)| {
+            peer.frozen_since.is_some() && self.view.has(**name) && !self.stopped.has(**name)
+        });
+        let refused = frozen.map(|(name, _)| Blocked {
+            name: *name,
+            refused_by: self.refused_by(*name),
+        });
+        refused.filter(|blocked| blocked.refused_by != 0).collect()
+    }
+
+    /// The places that have refused a name, as they said last.
+    fn refused_by(&self, name: Name) -> Places {
+        let mut places = 0;
+        for (other, peer) in &self.peers.all {
+            if peer.refuses.has(name) {
+                places |= 1 << other.place();
+            }
+        }
+        if self
+            .voter
+            .as_ref()
+            .is_some_and(|voter| voter.has_refused(name))
+        {
+            places |= 1 << self.settings.name.place();
+        }
+        places
+    }
+}
