@@ -18,7 +18,7 @@ use Rattle.am_refinement.proofs.Words.{cases_lt}
 abbrev LeavesAsked : Group → Type 0
 LeavesAsked s = (a : List Entry) (j : ℕ) → Begins (a ++ Leave j ∷ []) (chain_of s.views) → (s.node j).leaving ≡ true
 
-data GoneBy (s : Group) (d : ℕ) : Type 0 where
+pub data GoneBy (s : Group) (d : ℕ) : Type 0 where
   accepted : (before : List Entry) → Begins (before ++ Leave d ∷ []) s.group → GoneBy s d
   last : (before : List Entry) → chain_of s.views ≡ before ++ Leave d ∷ [] → ((j : ℕ) → mem (chain_of s.views) j ≡ true → ⊥) → GoneBy s d
 
