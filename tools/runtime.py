@@ -24,6 +24,7 @@ PACKAGES = {
     "clap": "clap-derive",
     "hex": "hex",
     "libc": "libc",
+    "mio": "mio",
     "prometheus": "prometheus",
     "proptest": "proptest",
     "quick-error": "quick-error",

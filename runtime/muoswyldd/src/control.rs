@@ -148,8 +148,11 @@ impl Drop for Listening<'_> {
     }
 }
 
+/// What does a command, and gives its answer.
+pub type Does = fn(Command, &Group) -> Value;
+
 /// Serves commands at a path, each caller in a thread of its own.
-pub fn serve<'a>(path: &'a Path, group: &Arc<Group>) -> Result<Listening<'a>, Fault> {
+pub fn serve<'a>(path: &'a Path, group: &Arc<Group>, does: Does) -> Result<Listening<'a>, Fault> {
     if UnixStream::connect(path).is_err() {
         // a file that nobody listens at was left by a process that was ended
         let _removed = std::fs::remove_file(path);
@@ -171,7 +174,7 @@ pub fn serve<'a>(path: &'a Path, group: &Arc<Group>) -> Result<Listening<'a>, Fa
                 let (group, callers, busy) = (group.clone(), callers.clone(), answered.clone());
                 std::thread::spawn(move || {
                     // a caller that is gone hears nothing
-                    let _served = answer_all(&caller, &group, &busy);
+                    let _served = answer_all(&caller, &group, &busy, does);
                     callers.fetch_sub(1, Ordering::SeqCst);
                 });
             }
@@ -181,7 +184,12 @@ pub fn serve<'a>(path: &'a Path, group: &Arc<Group>) -> Result<Listening<'a>, Fa
 }
 
 /// Answers a caller's commands until it ends.
-fn answer_all(caller: &UnixStream, group: &Group, busy: &AtomicUsize) -> std::io::Result<()> {
+fn answer_all(
+    caller: &UnixStream,
+    group: &Group,
+    busy: &AtomicUsize,
+    does: Does,
+) -> std::io::Result<()> {
     let mut reader = BufReader::new(caller);
     let mut writer = caller;
     let mut line = Vec::new();
@@ -199,7 +207,7 @@ fn answer_all(caller: &UnixStream, group: &Group, busy: &AtomicUsize) -> std::io
         let is_too_long = whole.len() as u64 >= MOST_COMMAND;
         let answer = match Command::of(whole) {
             _ if is_too_long => json!({ "error": "the command is too long" }),
-            Ok(command) => command.done_by(group),
+            Ok(command) => does(command, group),
             Err(why) => json!({ "error": why }),
         };
         let written = writeln!(writer, "{answer}");
