@@ -164,8 +164,8 @@ def by_cli(stores: Stores, _: int) -> list[str]:
         said = run(*cli, *words_of.split()).strip()
         if said != answer:
             wrong.append(f"redis-cli {words_of}: {said}")
-    said = run(*cli, text="multi\nincr a\nget a\nexec\nquit\n")
-    if said.split() != "OK QUEUED QUEUED 3 3 OK".split():
+    said = run(*cli, text="multi\nincr a\nget a\nexec\n")
+    if said.split() != "OK QUEUED QUEUED 3 3".split():
         wrong.append(f"redis-cli: {said!r}")
     if run(*cli, "--scan").split() != ["a"] or "muoswyld_lag:" not in run(*cli, "info", "replication"):
         wrong.append("redis-cli --scan or info")

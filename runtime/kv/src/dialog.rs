@@ -116,11 +116,16 @@ impl Dialog {
             let what = match (asked(&words), self.multi.is_some()) {
                 (Ok(asked), true) => self.in_multi(asked),
                 (Ok(asked), false) => self.alone(asked),
-                (Err(wrong), _) => {
-                    if let Some(multi) = &mut self.multi {
-                        multi.is_spoilt = true;
-                    }
-                    self.say(reply::error(&wrong));
+                (Err(wrong), true) if wrong.spoils => {
+                    self.spoil(&wrong.text);
+                    None
+                }
+                (Err(wrong), true) => {
+                    self.collect(Op::Say(reply::error(&wrong.text)));
+                    None
+                }
+                (Err(wrong), false) => {
+                    self.say(reply::error(&wrong.text));
                     None
                 }
             };

@@ -91,8 +91,28 @@ pub const KNOWN: &[Known] = &[
     known("strlen", 2, READS, FIRST),
 ];
 
-/// Why a command isn't one: an error as Redis words it.
-pub type Wrong = String;
+/// Why a command isn't done.
+#[derive(Clone, Debug, PartialEq, Eq)]
+pub struct Wrong {
+    /// The error as Redis words it.
+    pub text: String,
+    /// Whether a transaction is spoilt by it: there is no such command, or it has too few or too many words. Any other error comes where
+    /// the command would be done.
+    pub spoils: bool,
+}
+
+impl From<&str> for Wrong {
+    fn from(text: &str) -> Wrong {
+        Wrong {
+            text: text.into(),
+            spoils: false,
+        }
+    }
+}
+
+fn spoils(text: String) -> Wrong {
+    Wrong { text, spoils: true }
+}
 
 const SYNTAX: &str = "ERR syntax error";
 const NO_INTEGER: &str = "ERR value is not an integer or out of range";
@@ -112,11 +132,15 @@ fn unknown(words: &[Vec<u8>]) -> Wrong {
         let word: String = shown(word).chars().take(room).collect();
         args.push_str(&format!("'{word}' "));
     }
-    format!("ERR unknown command '{name}', with args beginning with: {args}")
+    spoils(format!(
+        "ERR unknown command '{name}', with args beginning with: {args}"
+    ))
 }
 
 fn arity(name: &str) -> Wrong {
-    format!("ERR wrong number of arguments for '{name}' command")
+    spoils(format!(
+        "ERR wrong number of arguments for '{name}' command"
+    ))
 }
 
 /// What some words ask; there is one at least.
@@ -153,7 +177,7 @@ pub fn asked(words: &[Vec<u8>]) -> Result<Asked, Wrong> {
 fn of_store(name: &str, rest: &[Vec<u8>]) -> Result<Op, Wrong> {
     let key = || rest.first().cloned().unwrap_or_default();
     let second = || rest.get(1).cloned().unwrap_or_default();
-    let number = || integer(&second()).ok_or_else(|| NO_INTEGER.to_string());
+    let number = || integer(&second()).ok_or(NO_INTEGER);
     Ok(match name {
         "append" => Op::Append(key(), second()),
         "dbsize" => Op::Count,
@@ -249,10 +273,10 @@ fn config(rest: &[Vec<u8>]) -> Result<Asked, Wrong> {
             Ok(Asked::Config(patterns.to_vec()))
         }
         [verb] if is(verb, "get") => Err(arity("config|get")),
-        _ => Err(format!(
+        _ => Err(spoils(format!(
             "ERR unknown subcommand '{}'. Try CONFIG HELP.",
             shown(&rest[0])
-        )),
+        ))),
     }
 }
 
@@ -300,10 +324,10 @@ fn command(rest: &[Vec<u8>]) -> Result<Vec<u8>, Wrong> {
             let all = names.iter().map(|name| find(name).map_or_else(none, about));
             Ok(reply::array(&all.collect::<Vec<_>>()))
         }
-        () => Err(format!(
+        () => Err(spoils(format!(
             "ERR unknown subcommand '{}'. Try COMMAND HELP.",
             shown(verb)
-        )),
+        ))),
     }
 }
 
@@ -394,7 +418,7 @@ mod tests {
             ("command x", "ERR unknown subcommand 'x'. Try COMMAND HELP."),
             ("flushall now", "ERR syntax error"),
         ] {
-            assert_eq!(of(line), Err(error.into()), "{line}");
+            assert_eq!(of(line).unwrap_err().text, error, "{line}");
         }
     }
 
