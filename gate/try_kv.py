@@ -21,16 +21,14 @@ import tempfile
 import time
 from collections.abc import Callable
 
+import histories
+import linear
+from redis_lines import LINES, random_lines
+from resp import Client, Cut, Reply
+from stores import PLACES, Failed, Stores, free_port
+from words import end, words
+
 TOP = pathlib.Path(__file__).resolve().parent.parent
-sys.path.insert(0, str(TOP / "tools"))
-
-import histories  # noqa: E402
-import linear  # noqa: E402
-from redis_lines import LINES, random_lines  # noqa: E402
-from resp import Client, Cut, Reply  # noqa: E402
-from stores import PLACES, Failed, Stores, free_port  # noqa: E402
-from words import end, words  # noqa: E402
-
 PATIENCE = 60.0
 # the Python that Debian's packages are for
 PYTHON = "/usr/bin/python3"
