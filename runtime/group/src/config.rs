@@ -58,6 +58,7 @@ pub struct Config {
     pub(crate) start_within: Option<Duration>,
     pub(crate) on_notice: Option<Callback<Notice>>,
     pub(crate) on_delivery: Option<Callback<Delivery>>,
+    pub(crate) on_arrival: Option<Callback<()>>,
 }
 
 impl Config {
@@ -86,6 +87,7 @@ impl Config {
             start_within: None,
             on_notice: None,
             on_delivery: None,
+            on_arrival: None,
         }
     }
 
@@ -192,6 +194,13 @@ impl Config {
     /// the way to another one: it must not wait, and must not call this member.
     pub fn on_delivery(mut self, call: impl Fn(Delivery) + Send + Sync + 'static) -> Config {
         self.on_delivery = Some(Callback(Arc::new(call)));
+        self
+    }
+
+    /// Calls this when deliveries are there to be received, and once the member has ended: for a caller that waits for other things
+    /// too. It runs on the member's thread, and must not wait.
+    pub fn on_arrival(mut self, call: impl Fn() + Send + Sync + 'static) -> Config {
+        self.on_arrival = Some(Callback(Arc::new(move |()| call())));
         self
     }
 }

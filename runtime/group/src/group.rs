@@ -8,6 +8,7 @@ use crate::slot::{deadline, Slot};
 use crate::ticket::Ticket;
 use muoswyld::names::Name;
 use muoswyld_member::{Delivery, Info, Position, MOST_MESSAGE};
+use std::collections::VecDeque;
 use std::sync::Arc;
 use std::thread::JoinHandle;
 use std::time::{Duration, Instant};
@@ -121,6 +122,11 @@ impl Group {
             Err(ReceiveError::Timeout) => Err(ReceiveError::Empty),
             received => received,
         }
+    }
+
+    /// All deliveries that are there now, in order: none if there are none.
+    pub fn receive_all(&self) -> Result<impl Iterator<Item = Delivery>, ReceiveError> {
+        self.shared.receive_all().map(VecDeque::into_iter)
     }
 
     /// Deliveries one after the other, until the member ends.

@@ -149,7 +149,7 @@ impl Shared {
         loop {
             if let Some(delivery) = deliveries.pop_front() {
                 drop(deliveries);
-                self.count_received();
+                self.count_received(1);
                 return Ok(delivery);
             }
             if let Some(end) = self.ended.look() {
@@ -163,9 +163,22 @@ impl Shared {
         }
     }
 
-    /// Counts a delivery that was received, and wakes the thread where enough were.
-    fn count_received(&self) {
-        let received = self.received.fetch_add(1, Ordering::SeqCst) + 1;
+    /// All deliveries that are there; the end, if the member has ended and none is.
+    pub(crate) fn receive_all(&self) -> Result<VecDeque<Delivery>, ReceiveError> {
+        let received = std::mem::take(&mut *lock(&self.deliveries));
+        match (received.len(), self.ended.look()) {
+            (0, Some(end)) => Err(ReceiveError::Ended(end)),
+            (0, None) => Ok(received),
+            (count, _) => {
+                self.count_received(count);
+                Ok(received)
+            }
+        }
+    }
+
+    /// Counts deliveries that were received, and wakes the thread where enough were.
+    fn count_received(&self, count: usize) {
+        let received = self.received.fetch_add(count, Ordering::SeqCst) + count;
         if received * 4 >= self.most_unreceived {
             self.wake();
         }

@@ -65,6 +65,7 @@ struct Shell {
     journal: Option<File>,
     on_notice: Option<Callback<Notice>>,
     on_delivery: Option<Callback<Delivery>>,
+    on_arrival: Option<Callback<()>>,
     outputs: Vec<Output>,
     deliveries: Vec<Delivery>,
     commands: Vec<Command>,
@@ -174,6 +175,7 @@ pub(crate) fn start(config: Config) -> Result<(Arc<Shared>, JoinHandle<()>), Cre
                         journal,
                         on_notice: config.on_notice,
                         on_delivery: config.on_delivery,
+                        on_arrival: config.on_arrival,
                         outputs: Vec::new(),
                         deliveries: Vec::new(),
                         commands: Vec::new(),
@@ -400,8 +402,18 @@ impl Shell {
         }
         self.outputs = outputs;
         self.udp.flush();
+        let has_some = !self.deliveries.is_empty();
         self.shared.deliver(&mut self.deliveries);
+        if has_some {
+            self.tell_arrival();
+        }
         end
+    }
+
+    fn tell_arrival(&self) {
+        if let Some(call) = &self.on_arrival {
+            (call.0)(());
+        }
     }
 
     /// Gives a delivery to the application's call, or adds it to those that wait.
@@ -484,6 +496,7 @@ impl Shell {
                 Waiter::Reset(slot) => slot.fill(Err(ResetError::Ended(end.clone()))),
             }
         }
+        self.tell_arrival();
         tracing::info!("the member has ended: {end}");
     }
 }

@@ -149,8 +149,9 @@ struct Desk {
     callers: AtomicUsize,
     /// How many are being answered.
     busy: AtomicUsize,
-    /// Whether a caller is given deliveries, or they are printed.
+    /// Whether a caller is given deliveries, or something else receives them.
     is_given: AtomicBool,
+    does: Does,
 }
 
 impl Desk {
@@ -165,7 +166,7 @@ impl Desk {
                 self.is_given.store(false, Ordering::SeqCst);
                 return given.map(|()| false);
             }
-            Ok(command) => command.done_by(&self.group),
+            Ok(command) => (self.does)(command, &self.group),
             Err(why) => json!({ "error": why }),
         };
         let mut writer = caller;
@@ -207,8 +208,16 @@ impl Drop for Listening<'_> {
     }
 }
 
-/// Serves commands at a path, each caller in a thread of its own; deliveries too, if they aren't printed.
-pub fn serve<'a>(path: &'a Path, group: &Arc<Group>, gives: bool) -> Result<Listening<'a>, Fault> {
+/// What does a command, and gives its answer.
+pub type Does = fn(Command, &Group) -> Value;
+
+/// Serves commands at a path, each caller in a thread of its own, by what does them; deliveries too, if nothing else receives them.
+pub fn serve<'a>(
+    path: &'a Path,
+    group: &Arc<Group>,
+    gives: bool,
+    does: Does,
+) -> Result<Listening<'a>, Fault> {
     if UnixStream::connect(path).is_err() {
         // a file that nobody listens at was left by a process that was ended
         let _removed = std::fs::remove_file(path);
@@ -220,6 +229,7 @@ pub fn serve<'a>(path: &'a Path, group: &Arc<Group>, gives: bool) -> Result<List
         callers: AtomicUsize::new(0),
         busy: AtomicUsize::new(0),
         is_given: AtomicBool::new(!gives),
+        does,
     });
     let shared = desk.clone();
     std::thread::Builder::new()

@@ -43,9 +43,9 @@ impl Fault {
         }
     }
 
-    /// Says it, and gives the status.
-    pub fn say(&self) -> ExitCode {
-        eprintln!("muoswyldd: {}", self.line);
+    /// Says it as a program of this name, and gives the status.
+    pub fn say(&self, program: &str) -> ExitCode {
+        eprintln!("{program}: {}", self.line);
         ExitCode::from(self.status)
     }
 }

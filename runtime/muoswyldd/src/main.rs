@@ -1,18 +1,10 @@
-//! `muoswyldd`: a member of a group as a process (docs/NETWORK.md).
-
-mod control;
-mod exit;
-mod key;
-mod log;
-mod metrics;
-mod options;
-mod run;
-mod show;
+//! `muoswyldd`: a member of a group as a process (docs/MEMBER.md).
 
 use clap::Parser;
-use control::{ask, Command};
-use exit::Fault;
-use options::{Verb, Words};
+use muoswyldd::control::{ask, Command};
+use muoswyldd::exit::Fault;
+use muoswyldd::options::{Verb, Words};
+use muoswyldd::{key, run};
 use std::process::ExitCode;
 
 fn main() -> ExitCode {
@@ -27,7 +19,7 @@ fn main() -> ExitCode {
     };
     match done(words.verb) {
         Ok(()) => ExitCode::SUCCESS,
-        Err(fault) => fault.say(),
+        Err(fault) => fault.say("muoswyldd"),
     }
 }
 

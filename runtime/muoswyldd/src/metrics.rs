@@ -7,8 +7,15 @@ use std::net::SocketAddr;
 use std::sync::Arc;
 use tiny_http::{Header, Response, Server};
 
-/// Serves metrics at an address.
-pub fn serve(address: SocketAddr, group: &Arc<Group>) -> Result<(), Fault> {
+/// A metric: its name, what it is, and its value.
+pub type Value = (&'static str, &'static str, u64);
+
+/// Serves metrics at an address: those of the member, and more.
+pub fn serve(
+    address: SocketAddr,
+    group: &Arc<Group>,
+    more: impl Fn() -> Vec<Value> + Send + 'static,
+) -> Result<(), Fault> {
     let cannot =
         |error: &dyn std::fmt::Display| Fault::of(SYSTEM, format_args!("{address}: {error}"));
     let server = Server::http(address).map_err(|error| cannot(&error))?;
@@ -20,7 +27,7 @@ pub fn serve(address: SocketAddr, group: &Arc<Group>) -> Result<(), Fault> {
                 let is_known = matches!(request.url(), "/metrics" | "/");
                 let (status, text) = match (is_known, group.info()) {
                     (false, _) => (404, "metrics are at /metrics\n".into()),
-                    (true, Ok(info)) => (200, text_of(&info).unwrap_or_default()),
+                    (true, Ok(info)) => (200, text_of(&info, more()).unwrap_or_default()),
                     (true, Err(end)) => (503, format!("{end}\n")),
                 };
                 let mut response = Response::from_string(text).with_status_code(status);
@@ -37,7 +44,7 @@ pub fn serve(address: SocketAddr, group: &Arc<Group>) -> Result<(), Fault> {
 }
 
 /// What is told of a member: the metric, what it is, and its value.
-fn values(info: &Info) -> Vec<(&'static str, &'static str, u64)> {
+fn values(info: &Info) -> Vec<Value> {
     let (standing, counts) = (&info.standing, &info.counts);
     let is_in = standing.members.has(info.name);
     vec![
@@ -155,9 +162,9 @@ fn values(info: &Info) -> Vec<(&'static str, &'static str, u64)> {
 }
 
 /// The metrics as text.
-fn text_of(info: &Info) -> prometheus::Result<String> {
+fn text_of(info: &Info, more: Vec<Value>) -> prometheus::Result<String> {
     let registry = Registry::new();
-    for (name, help, value) in values(info) {
+    for (name, help, value) in values(info).into_iter().chain(more) {
         let gauge = IntGauge::new(name, help)?;
         gauge.set(i64::try_from(value).unwrap_or(i64::MAX));
         registry.register(Box::new(gauge))?;

@@ -32,6 +32,7 @@ pub enum Verb {
     },
     /// Sends a message by a member that runs, and prints its number
     Send {
+        /// The member
         #[command(flatten)]
         at: At,
         /// The message
@@ -39,11 +40,13 @@ pub enum Verb {
     },
     /// Has a member that runs leave its group
     Leave {
+        /// The member
         #[command(flatten)]
         at: At,
     },
     /// Has a member that runs reset its group
     Reset {
+        /// The member
         #[command(flatten)]
         at: At,
         /// The fewest members to go on with
@@ -51,6 +54,7 @@ pub enum Verb {
     },
     /// Tells a member that runs that another one has stopped for certain
     Stopped {
+        /// The member
         #[command(flatten)]
         at: At,
         /// The name that has stopped
@@ -58,6 +62,7 @@ pub enum Verb {
     },
     /// Prints how a member that runs stands, as JSON
     Status {
+        /// The member
         #[command(flatten)]
         at: At,
     },
@@ -210,12 +215,17 @@ impl Run {
         let Some(path) = &self.config else {
             return Ok(self);
         };
-        let file = read_file(path)?;
+        let shown = path.display();
+        let text = std::fs::read_to_string(path)
+            .map_err(|error| Fault::of(NO_INPUT, format_args!("{shown}: {error}")))?;
+        let table = toml::from_str(&text)
+            .map_err(|error| Fault::of(CONFIG, format_args!("{shown}: {error}")))?;
+        let file = of_table(table, path)?;
         Ok(self.over(file))
     }
 
     /// Each setting of these words, or else the file's.
-    fn over(mut self, file: Run) -> Run {
+    pub fn over(mut self, file: Run) -> Run {
         for (place, address) in file.addresses {
             let word = address_word(&format!("{place}={address}"));
             let is_new = |known: &[(u8, String)], place| !known.iter().any(|(it, _)| *it == place);
@@ -315,12 +325,11 @@ impl Run {
     }
 }
 
-/// The settings of a configuration file.
-fn read_file(path: &Path) -> Result<Run, Fault> {
+/// The settings of a configuration file's table; the path is for errors.
+pub fn of_table(table: toml::Value, path: &Path) -> Result<Run, Fault> {
     let shown = path.display();
-    let text = std::fs::read_to_string(path)
-        .map_err(|error| Fault::of(NO_INPUT, format_args!("{shown}: {error}")))?;
-    let file: Run = toml::from_str(&text)
+    let file: Run = table
+        .try_into()
         .map_err(|error| Fault::of(CONFIG, format_args!("{shown}: {error}")))?;
     for (place, address) in &file.addresses {
         address_word(&format!("{place}={address}")).map_err(|error| {

@@ -6,7 +6,7 @@ use crate::log::Log;
 use crate::metrics;
 use crate::options::{Reads, Run};
 use crate::show::{line, object, Form};
-use muoswyld_group::{End, Group, LeaveError, Notice, ReceiveError, Ticket};
+use muoswyld_group::{Config, End, Group, LeaveError, Notice, ReceiveError, Ticket};
 use signal_hook::consts::{SIGHUP, SIGINT, SIGTERM};
 use signal_hook::iterator::Signals;
 use std::io::{BufRead, Write};
@@ -17,9 +17,10 @@ use std::time::Duration;
 /// How long leaving may take where nothing else is said.
 const LEAVE_WITHIN: Duration = Duration::from_secs(10);
 
-/// What the threads of a process share.
-struct Process {
-    group: Arc<Group>,
+/// A member's process: what its threads share.
+pub struct Process {
+    /// The member.
+    pub group: Arc<Group>,
     leave_within: Duration,
     /// Whether more members stopped than the resilience.
     is_void: Arc<AtomicBool>,
@@ -32,40 +33,22 @@ pub fn run(words: Run) -> Result<(), Fault> {
     if form == Form::Socket && run.socket.is_none() {
         return Err(Fault::of(CONFIG, "--output socket wants --socket, too"));
     }
-    let log = Log::to(run.log.as_deref())?;
-    log.begin(run.log_form.unwrap_or_default());
-    let is_void = Arc::new(AtomicBool::new(false));
-    let found = is_void.clone();
-    let config = run.group()?.on_notice(move |notice| {
-        match notice {
-            Notice::Group(_) | Notice::Heard(_) => tracing::info!("{notice}"),
-            _ => tracing::warn!("{notice}"),
-        }
-        if matches!(notice, Notice::BeyondResilience(_)) {
-            found.store(true, Ordering::SeqCst);
-        }
-    });
-    let signals =
-        Signals::new([SIGTERM, SIGINT, SIGHUP]).map_err(|error| Fault::of(SYSTEM, error))?;
-    let group = Arc::new(Group::start(config)?);
-    let process = Process {
-        group: group.clone(),
-        leave_within: run.leave_within.map_or(LEAVE_WITHIN, Duration::from_secs),
-        is_void,
-    };
+    let process = Process::start(&run, |config| config)?;
+    let group = process.group.clone();
+    let gives = form == Form::Socket;
     let _listening = match &run.socket {
-        Some(path) => Some(control::serve(path, &group, form == Form::Socket)?),
+        Some(path) => Some(control::serve(path, &group, gives, Command::done_by)?),
         None => None,
     };
     if let Some(address) = run.metrics {
-        metrics::serve(address, &group)?;
+        metrics::serve(address, &group, Vec::new)?;
     }
-    heed(signals, &process, log)?;
     let input = run.input.unwrap_or_default();
     if input != Reads::Nothing {
         read_input(&group, input == Reads::Commands)?;
     }
-    process.go_on(form)
+    process.go_on(form)?;
+    process.is_lawful()
 }
 
 /// Leaves at SIGTERM and SIGINT, and ends at once at the second; opens the log again at SIGHUP.
@@ -139,18 +122,48 @@ fn read_input(group: &Arc<Group>, are_commands: bool) -> Result<(), Fault> {
 }
 
 impl Process {
+    /// Starts a member as the words say, and heeds signals: it leaves at SIGTERM and SIGINT, and opens the log again at SIGHUP.
+    pub fn start(run: &Run, change: impl FnOnce(Config) -> Config) -> Result<Process, Fault> {
+        let log = Log::to(run.log.as_deref())?;
+        log.begin(run.log_form.unwrap_or_default());
+        let is_void = Arc::new(AtomicBool::new(false));
+        let found = is_void.clone();
+        let config = run.group()?.on_notice(move |notice| {
+            match notice {
+                Notice::Group(_) | Notice::Heard(_) => tracing::info!("{notice}"),
+                _ => tracing::warn!("{notice}"),
+            }
+            if matches!(notice, Notice::BeyondResilience(_)) {
+                found.store(true, Ordering::SeqCst);
+            }
+        });
+        let signals =
+            Signals::new([SIGTERM, SIGINT, SIGHUP]).map_err(|error| Fault::of(SYSTEM, error))?;
+        let process = Process {
+            group: Arc::new(Group::start(change(config))?),
+            leave_within: run.leave_within.map_or(LEAVE_WITHIN, Duration::from_secs),
+            is_void,
+        };
+        heed(signals, &process, log)?;
+        Ok(process)
+    }
+
+    /// An error if more members stopped than the resilience.
+    pub fn is_lawful(&self) -> Result<(), Fault> {
+        if self.is_void.load(Ordering::SeqCst) {
+            let line = "more members stopped than the resilience, and nothing is claimed of this run from then on";
+            return Err(Fault::of(VOID, line));
+        }
+        Ok(())
+    }
+
     /// Until the member ends. Its deliveries are printed, if no caller at the socket is given them.
     fn go_on(&self, form: Form) -> Result<(), Fault> {
         let end = match form {
             Form::Socket => self.group.wait(),
             _ => self.print(form)?,
         };
-        by_end(&end)?;
-        if self.is_void.load(Ordering::SeqCst) {
-            let line = "more members stopped than the resilience, and nothing is claimed of this run from then on";
-            return Err(Fault::of(VOID, line));
-        }
-        Ok(())
+        by_end(&end)
     }
 
     /// Prints deliveries until the member ends; how it ended.

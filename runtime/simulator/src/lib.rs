@@ -12,7 +12,9 @@ pub mod journals;
 mod lifecycle;
 pub mod plan;
 mod process;
+mod services;
 mod world;
 
 pub use plan::Plan;
-pub use world::{run, Failure, Report, SeenView};
+pub use services::Services;
+pub use world::{run, run_with, Failure, Report, SeenView};

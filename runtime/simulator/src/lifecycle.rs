@@ -37,6 +37,9 @@ impl World<'_> {
         let process = begun.map_err(|error| format!("{name} doesn't start: {error}"))?;
         let slow = process.slow;
         self.places[usize::from(place)] = Some(process);
+        if let (Some(services), false) = (&mut self.services, is_twin) {
+            services.begins(name);
+        }
         self.release(place)?;
         let next = self.now + self.draw.below(2 * self.plan.send_every);
         self.plan_at(next, Happening::Sends { place, number });
@@ -143,7 +146,7 @@ impl World<'_> {
         }
     }
 
-    fn leave(&mut self, place: u8, anyway: bool) {
+    pub(crate) fn leave(&mut self, place: u8, anyway: bool) {
         let stays = |other: &&Process| !other.leaves && other.has_list();
         let staying = self.others(place).filter(stays).count();
         let may_leave = anyway || staying > 0;
@@ -224,6 +227,9 @@ impl World<'_> {
             self.journals.insert(name, process.journal);
         }
         self.done.push(process.app);
+        if let Some(services) = &mut self.services {
+            services.ended(name);
+        }
         for place in 0..16 {
             let within = if self.is_calm { 1_000 } else { TOLD_WITHIN };
             let at = self.now + self.draw.between(100, within);
@@ -306,19 +312,18 @@ impl World<'_> {
         self.plan.least.map_or(members.len() / 2 + 1, usize::from)
     }
 
+    /// Whether nothing more comes of the group: it is over, or nobody may reset it.
+    pub(crate) fn is_over(&self) -> bool {
+        let running = || self.places.iter().flatten();
+        let names: Vec<Name> = running().map(|process| process.name).collect();
+        // a group is over once nobody has its list
+        running().all(|process| !process.has_list() || self.is_too_small(process, &names))
+    }
+
     /// Whether all that run are members of one view with one list, of which all is taken, and nothing is under way.
     pub(crate) fn is_at_rest(&self) -> bool {
         let running: Vec<&Process> = self.places.iter().flatten().collect();
-        if !running.iter().any(|process| process.has_list()) {
-            return true; // the group is over
-        }
         let names: Vec<Name> = running.iter().map(|process| process.name).collect();
-        if running
-            .iter()
-            .all(|process| !process.has_list() || self.is_too_small(process, &names))
-        {
-            return true; // nobody may reset it
-        }
         let mut tops = BTreeSet::new();
         for process in &running {
             let info = process.member.info();
@@ -346,6 +351,7 @@ impl World<'_> {
 
     /// Checks all, and tells of it.
     pub(crate) fn finish(&mut self) -> Result<Report, String> {
+        let is_over = self.is_over();
         let processes: Vec<Process> = self.places.iter_mut().filter_map(Option::take).collect();
         for mut process in processes {
             if !self.is_void {
@@ -363,6 +369,9 @@ impl World<'_> {
             &self.done
         };
         checker::check(lawful)?;
+        if let (Some(services), false) = (&mut self.services, self.is_void) {
+            services.check(is_over)?;
+        }
         journals::heard_letters_stand(&self.journals)?;
         let delivered = self.done.iter().map(|app| app.log.len()).sum();
         let settled: usize = self.done.iter().map(|app| app.settled.len()).sum();

@@ -30,6 +30,8 @@ pub(crate) struct Process {
     pub(crate) backlog: usize,
     pub(crate) ended: Option<End>,
     pub(crate) leaves: bool,
+    /// A message of what runs over it, for which there was no room.
+    pub(crate) unsent: Option<Vec<u8>>,
 }
 
 /// The settings of a name in a plan.
@@ -77,6 +79,7 @@ impl Process {
             backlog: 0,
             ended: None,
             leaves: false,
+            unsent: None,
         })
     }
 

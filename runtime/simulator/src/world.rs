@@ -4,6 +4,7 @@ use crate::checker::App;
 use crate::draw::Draw;
 use crate::plan::{Act, Faults, Plan};
 use crate::process::Process;
+use crate::services::Services;
 use muoswyld_member::{Delivery, Input, Name, Names, Notice, Output, Time};
 use std::cmp::Reverse;
 use std::collections::{BTreeMap, BTreeSet, BinaryHeap};
@@ -119,6 +120,7 @@ pub(crate) struct Counts {
 /// A cluster.
 pub(crate) struct World<'a> {
     pub(crate) plan: &'a Plan,
+    pub(crate) services: Option<&'a mut dyn Services>,
     pub(crate) draw: Draw,
     pub(crate) now: u64,
     pub(crate) order: u64,
@@ -146,7 +148,18 @@ pub(crate) struct World<'a> {
 
 /// Runs a plan, and checks it.
 pub fn run(plan: &Plan) -> Result<Report, Failure> {
+    run_world(World::new(plan))
+}
+
+/// Runs a plan with something that runs over the members, and checks it.
+pub fn run_with<'a>(plan: &'a Plan, services: &'a mut dyn Services) -> Result<Report, Failure> {
     let mut world = World::new(plan);
+    world.services = Some(services);
+    run_world(world)
+}
+
+fn run_world(mut world: World) -> Result<Report, Failure> {
+    let plan = world.plan;
     world.run().map_err(|what| Failure {
         seed: plan.seed,
         at: world.now,
@@ -158,6 +171,7 @@ impl<'a> World<'a> {
     fn new(plan: &'a Plan) -> World<'a> {
         World {
             plan,
+            services: None,
             draw: Draw::new(plan.seed.wrapping_mul(31).wrapping_add(7)),
             now: 0,
             order: 0,
@@ -189,7 +203,7 @@ impl<'a> World<'a> {
         self.run_until(self.plan.ends)?;
         self.calm_down();
         let limit = self.now + REST;
-        while !self.is_void && !self.is_at_rest() {
+        while !(self.is_void || self.is_over() || self.is_at_rest() && self.services_rest()) {
             if self.now >= limit {
                 return Err(format!("it doesn't come to rest:\n{}", self.shown()));
             }
@@ -340,6 +354,7 @@ impl<'a> World<'a> {
         for output in outputs {
             self.output(place, output)?;
         }
+        self.serve_sends(place)?;
         let process = self.process(place)?;
         let taken = process.take_at_once();
         if taken > 0 {
@@ -381,7 +396,8 @@ impl<'a> World<'a> {
                 self.see(place, &delivery);
                 let process = self.process(place)?;
                 process.backlog += 1;
-                process.app.deliver(delivery)?;
+                process.app.deliver(delivery.clone())?;
+                self.serve_delivery(place, &delivery)?;
             }
             Output::Settled { ticket, result } => {
                 self.fold(&ticket.to_be_bytes());
@@ -436,6 +452,12 @@ impl<'a> World<'a> {
     }
 
     fn send(&mut self, place: u8) -> Result<(), String> {
+        if self.serve_act(place)? {
+            let number = self.process(place)?.number;
+            let next = self.now + self.draw.between(1, 2 * self.plan.send_every);
+            self.plan_at(next, Happening::Sends { place, number });
+            return Ok(());
+        }
         if self.is_calm {
             return Ok(());
         }

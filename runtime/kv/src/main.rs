@@ -1,0 +1,27 @@
+//! `muoswyld-kv`: a replicated key-value store with the Redis protocol (docs/KV.md).
+
+use clap::Parser;
+use muoswyld_kv::options::{Verb, Words};
+use muoswyld_kv::run;
+use muoswyldd::key;
+use std::process::ExitCode;
+
+fn main() -> ExitCode {
+    let words = match Words::try_parse() {
+        Ok(words) => words,
+        Err(error) => {
+            let is_help = !error.use_stderr();
+            // a closed standard error hears nothing
+            let _said = error.print();
+            return ExitCode::from(if is_help { 0 } else { 64 });
+        }
+    };
+    let done = match words.verb {
+        Verb::Run(run) => run::run(*run),
+        Verb::Keygen { file } => key::make(&file),
+    };
+    match done {
+        Ok(()) => ExitCode::SUCCESS,
+        Err(fault) => fault.say("muoswyld-kv"),
+    }
+}
