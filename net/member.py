@@ -201,6 +201,9 @@ def events(path: str, tick_seconds: float = 1) -> Iterator[Delivery | bytes | No
 
 def application(run: Callable[[str], None], page: str) -> int:
     """Runs an application of the member whose path the word of the command is; its status."""
+    if sys.argv[1:] in (["-h"], ["--help"]):
+        print(page.strip())
+        return 0
     if len(sys.argv) != 2 or sys.argv[1].startswith("-"):
         print(page.strip(), file=sys.stderr)
         return 2
