@@ -16,7 +16,7 @@ from typing import NamedTuple
 
 TOP = pathlib.Path(__file__).resolve().parent.parent
 PAGE = TOP / "docs" / "ARCHITECTURE.md"
-BEGIN = "<!-- The tables up to the next mark are written by gate/crates.py from crates.txt and the heads of the crates. -->"
+BEGIN = "<!-- gate/crates.py writes the tables up to the next mark, from crates.txt and the heads of crates. -->"
 END = "<!-- Up to here. -->"
 WIDTH = 140
 
