@@ -16,7 +16,7 @@ from typing import NamedTuple
 
 TOP = pathlib.Path(__file__).resolve().parent.parent
 PAGE = TOP / "docs" / "ARCHITECTURE.md"
-BEGIN = "<!-- gate/crates.py writes the tables up to the next mark, from crates.txt and the heads of crates. -->"
+BEGIN = "<!-- gate/crates.py writes the tables up to the next mark, from crates.txt and crates' heads. -->"
 END = "<!-- Up to here. -->"
 WIDTH = 140
 
