@@ -36,12 +36,14 @@ class Kind:
 
 @dataclass(frozen=True)
 class Place:
-    """Where groups run and how: the network, a folder, whether with realtime priority, and the client of Corosync, if there is one."""
+    """Where groups run and how: the network, a folder, whether with realtime priority, the client of Corosync and the program of bare
+    datagrams, if they are there."""
 
     network: Network
     folder: pathlib.Path
     is_realtime: bool
     cpg: pathlib.Path
+    bare: pathlib.Path
 
     def command(self, place: int, *words: str) -> list[str]:
         """A command at a place, which ends with this process."""
@@ -187,6 +189,17 @@ class Native(Group):
         return sequencer, at
 
 
+class Bare(Group):
+    """Processes that only pass datagrams on: what the machine itself takes."""
+
+    def start(self) -> None:
+        """Starts a process for each place."""
+        places = range(self.kind.members)
+        addresses = [self.place.network.address(place) for place in places]
+        for place in places:
+            self.members[place] = Process(self.place.command(place, str(self.place.bare), str(place), *addresses), self.errors)
+
+
 class Corosync(Group):
     """A closed process group: a daemon of Corosync and a client for each member."""
 
@@ -235,4 +248,5 @@ class Corosync(Group):
 
 def started(kind: Kind, place: Place) -> Group:
     """A group of a kind, once it runs."""
-    return (Corosync if kind.system == "Corosync" else Native)(kind, place)
+    systems: dict[str, type[Group]] = {"Corosync": Corosync, "bare": Bare, "Muoswyld": Native}
+    return systems[kind.system](kind, place)

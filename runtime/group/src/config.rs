@@ -158,10 +158,10 @@ impl Config {
         self
     }
 
-    /// For how long the member's thread looks for more, before it sleeps, after it had something to do: 0 (the default) to 1 ms. This
-    /// takes a processor meanwhile, and saves the time of waking up at each hop of a message.
+    /// For how long the member's thread looks for more, before it sleeps, after it had something to do: 0 (the default) to 100 ms.
+    /// This takes a processor meanwhile, and saves the time of waking up at each hop of a message.
     pub fn spin(mut self, spin: Duration) -> Config {
-        self.spin = spin.min(Duration::from_millis(1));
+        self.spin = spin.min(Duration::from_millis(100));
         self
     }
 

@@ -22,7 +22,7 @@ use std::thread::JoinHandle;
 use std::time::{Duration, Instant, SystemTime};
 
 /// How many batches of datagrams are read before anything else is done: what comes faster is lost, and stops nothing.
-const MOST_BATCHES: usize = 4;
+const MOST_BATCHES: usize = 6;
 
 /// Microseconds since 1970 as the system has them at a member's start, and from then on a clock that never goes back: the journals of
 /// members on one machine have one time.
@@ -243,7 +243,7 @@ impl Shell {
         let left = self.member.wake().0.saturating_sub(self.now().0);
         let most = Duration::from_micros(left);
         let (descriptor, room) = (self.udp.descriptor(), self.member.free());
-        let until = self.busy + self.spin.min(most);
+        let until = (self.busy + self.spin).min(Instant::now() + most);
         match self.shared.look(descriptor, until, room) {
             Some(can_read) => can_read,
             None => self.shared.sleep(descriptor, most, room),
@@ -273,7 +273,7 @@ impl Shell {
             for place in unsealed {
                 self.refuse(place);
             }
-            if brought.read < crate::socket::BATCH {
+            if !brought.has_more {
                 break;
             }
         }

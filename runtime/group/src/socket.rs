@@ -3,14 +3,16 @@
 use crate::addresses::Addresses;
 use socket2::{Domain, Protocol, SockAddr, Socket, Type};
 use std::io;
-use std::mem::{size_of, zeroed};
+use std::mem::{size_of, zeroed, MaybeUninit};
 use std::net::SocketAddr;
 use std::os::fd::{AsRawFd, FromRawFd, OwnedFd, RawFd};
 use std::ptr;
 use std::time::Duration;
 
 /// How many datagrams are read or written by one call of the system.
-pub(crate) const BATCH: usize = 64;
+const BATCH: usize = 64;
+/// How many datagrams are asked for at least.
+const LEAST_BATCH: usize = 4;
 /// How many bytes the system keeps of what came and isn't read, as far as it allows.
 const KEPT: usize = 1 << 22;
 
@@ -31,6 +33,8 @@ pub struct Brought {
     pub strangers: usize,
     /// How many of them were longer than a member's datagram can be.
     pub long: usize,
+    /// Whether more may wait: as many were read as were asked for.
+    pub has_more: bool,
 }
 
 /// A bound UDP socket that doesn't wait, with the buffers for batches.
@@ -40,6 +44,8 @@ pub struct Udp {
     places: Vec<(SocketAddr, u8)>,
     size: usize,
     buffers: Vec<u8>,
+    /// How many datagrams the next turn of reading asks for.
+    expected: usize,
     bytes: Vec<u8>,
     outgoing: Vec<Outgoing>,
     /// Datagrams that the system didn't take.
@@ -68,6 +74,7 @@ impl Udp {
                 .collect(),
             size: size + 1,
             buffers: vec![0; BATCH * (size + 1)],
+            expected: LEAST_BATCH,
             bytes: Vec::new(),
             outgoing: Vec::new(),
             unsent: 0,
@@ -81,29 +88,30 @@ impl Udp {
 
     /// Reads at most one batch: gives each datagram with the place from whose address it came.
     pub fn receive(&mut self, mut take: impl FnMut(u8, &mut [u8])) -> io::Result<Brought> {
-        // SAFETY: addresses and headers of sockets are plain data, for which zeros are a value.
-        let mut from: [libc::sockaddr_storage; BATCH] = unsafe { zeroed() };
-        // SAFETY: as above.
-        let mut parts: [libc::iovec; BATCH] = unsafe { zeroed() };
-        // SAFETY: as above.
-        let mut heads: [libc::mmsghdr; BATCH] = unsafe { zeroed() };
+        // what isn't asked for isn't touched either: a member that wakes finds little in its caches
+        let most = self.expected;
+        let mut from: [MaybeUninit<libc::sockaddr_storage>; BATCH] = [MaybeUninit::uninit(); BATCH];
+        let mut parts: [MaybeUninit<libc::iovec>; BATCH] = [MaybeUninit::uninit(); BATCH];
+        let mut heads: [MaybeUninit<libc::mmsghdr>; BATCH] = [MaybeUninit::uninit(); BATCH];
         let base = self.buffers.as_mut_ptr();
-        for k in 0..BATCH {
-            // in range: there are BATCH times `size` bytes
-            parts[k].iov_base = base.wrapping_add(k * self.size).cast();
-            parts[k].iov_len = self.size;
-            let head = &mut heads[k].msg_hdr;
-            head.msg_name = ptr::addr_of_mut!(from[k]).cast();
-            head.msg_namelen = size_of::<libc::sockaddr_storage>() as libc::socklen_t;
-            head.msg_iov = &mut parts[k];
-            head.msg_iovlen = 1;
+        for k in 0..most {
+            let part = parts[k].write(libc::iovec {
+                // in range: there are BATCH times `size` bytes
+                iov_base: base.wrapping_add(k * self.size).cast(),
+                iov_len: self.size,
+            });
+            // SAFETY: addresses of sockets are plain data, for which zeros are a value.
+            let from = from[k].write(unsafe { zeroed() });
+            let name = ptr::from_mut(from).cast();
+            let length = size_of::<libc::sockaddr_storage>() as libc::socklen_t;
+            heads[k].write(head(name, length, part));
         }
-        // SAFETY: each header points to an address, a part and a buffer of its own, all of which outlive the call.
+        // SAFETY: the first `most` headers are there. Each points to an address, a part and a buffer of its own, which all outlive the call.
         let read = unsafe {
             libc::recvmmsg(
                 self.descriptor(),
-                heads.as_mut_ptr(),
-                BATCH as libc::c_uint,
+                heads.as_mut_ptr().cast(),
+                most as libc::c_uint,
                 libc::MSG_DONTWAIT,
                 ptr::null_mut(),
             )
@@ -113,15 +121,18 @@ impl Udp {
         }
         let mut brought = Brought {
             read: read as usize,
+            has_more: read as usize == most,
             ..Brought::default()
         };
         for k in 0..brought.read {
-            let length = heads[k].msg_len as usize;
+            // SAFETY: as many as were read were written above, and by the system.
+            let (head, from) = unsafe { (heads[k].assume_init_ref(), from[k].assume_init_ref()) };
+            let length = head.msg_len as usize;
             if length >= self.size {
                 brought.long += 1;
                 continue;
             }
-            match self.place_of(&from[k], heads[k].msg_hdr.msg_namelen) {
+            match self.place_of(from, head.msg_hdr.msg_namelen) {
                 Some(place) => {
                     let start = k * self.size;
                     take(place, &mut self.buffers[start..start + length]);
@@ -129,6 +140,7 @@ impl Udp {
                 None => brought.strangers += 1,
             }
         }
+        self.expected = next_batch(most, brought.read);
         Ok(brought)
     }
 
@@ -168,10 +180,8 @@ impl Udp {
 
     /// Sends a batch that begins at one of the datagrams; how many the system took.
     fn send_batch(&mut self, at: usize) -> usize {
-        // SAFETY: headers of sockets are plain data, for which zeros are a value.
-        let mut parts: [libc::iovec; BATCH] = unsafe { zeroed() };
-        // SAFETY: as above.
-        let mut heads: [libc::mmsghdr; BATCH] = unsafe { zeroed() };
+        let mut parts: [MaybeUninit<libc::iovec>; BATCH] = [MaybeUninit::uninit(); BATCH];
+        let mut heads: [MaybeUninit<libc::mmsghdr>; BATCH] = [MaybeUninit::uninit(); BATCH];
         let mut many = 0;
         for outgoing in self.outgoing[at..].iter().take(BATCH) {
             let found = self
@@ -182,28 +192,47 @@ impl Udp {
                 break;
             };
             let datagram = &self.bytes[outgoing.from..outgoing.to];
-            parts[many].iov_base = datagram.as_ptr().cast_mut().cast();
-            parts[many].iov_len = datagram.len();
-            let head = &mut heads[many].msg_hdr;
-            head.msg_name = address.as_ptr().cast_mut().cast();
-            head.msg_namelen = address.len();
-            head.msg_iov = &mut parts[many];
-            head.msg_iovlen = 1;
+            let part = parts[many].write(libc::iovec {
+                iov_base: datagram.as_ptr().cast_mut().cast(),
+                iov_len: datagram.len(),
+            });
+            let name = address.as_ptr().cast_mut().cast();
+            heads[many].write(head(name, address.len(), part));
             many += 1;
         }
         if many == 0 {
             return 0;
         }
-        // SAFETY: each header points to an address and to bytes that outlive the call, which only reads them.
+        // SAFETY: the first `many` headers are there. Each points to an address and to bytes that outlive the call, which only reads them.
         let sent = unsafe {
             libc::sendmmsg(
                 self.descriptor(),
-                heads.as_mut_ptr(),
+                heads.as_mut_ptr().cast(),
                 many as libc::c_uint,
                 libc::MSG_DONTWAIT,
             )
         };
         usize::try_from(sent).unwrap_or(0)
+    }
+}
+
+/// The header of one datagram.
+fn head(name: *mut libc::c_void, length: libc::socklen_t, part: &mut libc::iovec) -> libc::mmsghdr {
+    // SAFETY: headers of sockets are plain data, for which zeros are a value.
+    let mut head: libc::mmsghdr = unsafe { zeroed() };
+    head.msg_hdr.msg_name = name;
+    head.msg_hdr.msg_namelen = length;
+    head.msg_hdr.msg_iov = part;
+    head.msg_hdr.msg_iovlen = 1;
+    head
+}
+
+/// How many datagrams are asked for after so many were asked for and read: twice as many if there were as many, half if there were few.
+fn next_batch(asked: usize, read: usize) -> usize {
+    match read {
+        _ if read == asked => (asked * 2).min(BATCH),
+        _ if read * 4 <= asked => (asked / 2).max(LEAST_BATCH),
+        _ => asked,
     }
 }
 
@@ -272,5 +301,59 @@ impl Bell {
         // SAFETY: both descriptors are open, and the call writes to `both` alone.
         let ready = unsafe { libc::ppoll(both.as_mut_ptr(), 2, &most, ptr::null()) };
         ready > 0 && both[0].revents != 0
+    }
+}
+
+#[cfg(test)]
+mod tests {
+    use super::*;
+
+    #[test]
+    fn a_batch_grows_to_what_comes_and_shrinks_again() {
+        let mut asked = LEAST_BATCH;
+        for _ in 0..10 {
+            asked = next_batch(asked, asked);
+        }
+        assert_eq!(asked, BATCH);
+        assert_eq!(next_batch(BATCH, BATCH - 1), BATCH);
+        for _ in 0..10 {
+            asked = next_batch(asked, 1);
+        }
+        assert_eq!(asked, LEAST_BATCH);
+    }
+
+    #[test]
+    fn all_that_was_sent_is_read_in_some_turns() {
+        let mut addresses = Addresses::new();
+        let bound = |place: u8, addresses: &mut Addresses| {
+            let socket = std::net::UdpSocket::bind("127.0.0.1:0").unwrap();
+            let address = socket.local_addr().unwrap();
+            drop(socket);
+            addresses.add(place, address).unwrap();
+            address
+        };
+        let first = bound(0, &mut addresses);
+        let second = bound(1, &mut addresses);
+        let mut from = Udp::bind(first, &addresses, 100).unwrap();
+        let mut to = Udp::bind(second, &addresses, 100).unwrap();
+        for k in 0..150u8 {
+            from.push(&[k; 3], std::iter::once(1));
+        }
+        // one is too long
+        from.push(&[0; 101], std::iter::once(1));
+        from.flush();
+        let (mut read, mut turns, mut long) = (Vec::new(), 0, 0);
+        loop {
+            let brought = to.receive(|place, bytes| read.push((place, bytes.to_vec())));
+            let brought = brought.unwrap();
+            long += brought.long;
+            turns += 1;
+            if !brought.has_more {
+                break;
+            }
+        }
+        let wanted: Vec<(u8, Vec<u8>)> = (0..150).map(|k| (0, vec![k; 3])).collect();
+        assert_eq!((read, long), (wanted, 1));
+        assert!(turns > 2);
     }
 }

@@ -32,10 +32,14 @@ impl Delivering {
 }
 
 impl Member {
+    /// Whether something is accepted that the application can be given now.
+    pub(crate) fn can_take(&self) -> bool {
+        self.standing.taken < self.standing.accepted && self.is_listed() && self.may_take()
+    }
+
     /// Takes what is accepted, and delivers it.
     pub(crate) fn take(&mut self) -> Option<()> {
-        let is_behind = |member: &Member| member.standing.taken < member.standing.accepted;
-        while is_behind(self) && self.is_listed() && self.may_take() {
+        while self.can_take() {
             let outcome = self.step(&Event::Take, None)?;
             let Outcome::Took { number, entry } = outcome else {
                 break;

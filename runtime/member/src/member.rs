@@ -157,6 +157,9 @@ impl Member {
         if self.hearing.group.is_none() {
             return self.hearing.ask_at;
         }
+        if self.can_take() {
+            return self.now;
+        }
         self.tick_at()
             .min(self.resets_at())
             .min(self.leave_at())
@@ -255,6 +258,12 @@ impl Member {
         Some(did.outcome)
     }
 
+    /// Whether what can be taken waits until the letters that wait are released: others wait for them. Who sends itself doesn't wait, since its
+    /// next body goes out once the last one was taken.
+    fn takes_later(&self) -> bool {
+        !self.outbox.is_empty() && self.sending.is_idle() && self.can_take()
+    }
+
     /// Does what can be done now, until nothing more comes of it.
     fn go_on(&mut self) -> Option<()> {
         if self.ended.is_some() {
@@ -264,7 +273,9 @@ impl Member {
         for _ in 0..MOST_LOOKS {
             let before = self.counts.steps;
             self.collect()?;
-            self.take()?;
+            if !self.takes_later() {
+                self.take()?;
+            }
             self.look_at_ballot()?;
             self.look_at_group()?;
             self.send_next()?;

@@ -44,13 +44,18 @@ fn send(member: &mut Member, now: u64, ticket: u64, message: &[u8]) {
     member.handle(Time(now), input).expect("it is taken");
 }
 
-/// Carries all datagrams between members until there are none; what else came out, of each.
+/// Carries all datagrams between members until there are none, and gives each the time that it wants; what else came out, of each.
 fn carried(members: &mut [&mut Member], now: u64) -> Vec<Vec<Output>> {
     let mut others: Vec<Vec<Output>> = members.iter().map(|_| Vec::new()).collect();
     for _ in 0..300 {
         let mut datagrams = Vec::new();
         for (member, other) in members.iter_mut().zip(&mut others) {
-            for output in released(member, now) {
+            let mut outputs = released(member, now);
+            if member.wake() <= Time(now) {
+                tick(member, now);
+                outputs.extend(released(member, now));
+            }
+            for output in outputs {
                 match output {
                     Output::Datagram { to, payload } => datagrams.push((to, payload)),
                     output => other.push(output),

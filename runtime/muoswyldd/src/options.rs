@@ -140,7 +140,7 @@ pub struct Run {
     /// Milliseconds between two ticks of an idle member [default: 50]
     #[arg(long, value_name = "MILLISECONDS")]
     pub tick: Option<u64>,
-    /// For how many microseconds a busy member looks for more before it sleeps, 0 to 1000 [default: 0]
+    /// For how many microseconds a busy member looks for more before it sleeps, 0 to 100000 [default: 0]
     #[arg(long, value_name = "MICROSECONDS")]
     pub spin: Option<u64>,
     /// The most bytes of a datagram's payload, 1232 to 65000 [default: 1400]
