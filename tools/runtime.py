@@ -3,6 +3,7 @@
 
     tools/runtime.py               builds runtime/target/release/muoswyldd
     tools/runtime.py test          runs the tests of the workspace too, and checks its form
+    tools/runtime.py load          builds a member under load too, which bench/peers measures
 
 If the node's library isn't there, it makes it first (tools/library.py). The other libraries come from Debian's packages. If some are missing,
 it installs them if root runs it, and otherwise names them in a line. With CRATES_IO=1 cargo takes them from crates.io. With MUOSWYLD_UNPROVED=1
@@ -68,7 +69,7 @@ def cargo(*given: str) -> int:
 def main() -> int:
     """Builds, and tests where that is said."""
     verb = words(__doc__, 0, 1)
-    if verb not in ([], ["test"]):
+    if verb not in ([], ["test"], ["load"]):
         raise SystemExit(__doc__)
     try:
         for needed in ("cargo", "cc"):
@@ -84,8 +85,8 @@ def main() -> int:
         return status
     if status := cargo("build", "--release"):
         return status
-    if not verb:
-        return 0
+    if verb != ["test"]:
+        return cargo("build", "--release", "--package", "muoswyld-group", "--example", "load") if verb else 0
     steps = (["fmt", "--check"], ["clippy", "--release", "--all-targets", "--", "-D", "warnings"], ["test", "--release"])
     return max(cargo(*step) for step in steps)
 

@@ -4,6 +4,7 @@ import math
 import statistics
 from collections import defaultdict
 from collections.abc import Callable, Sequence
+from dataclasses import asdict, is_dataclass
 
 
 class Results:
@@ -20,6 +21,13 @@ class Results:
     def add(self, cell: tuple, value: object) -> None:
         """Adds a value of a cell."""
         self.values[cell].append(value)
+
+    def plain(self) -> list[dict]:
+        """All values, as JSON has them."""
+        return [
+            {"cell": list(cell), "values": [asdict(value) if is_dataclass(value) else value for value in values]}
+            for cell, values in self.values.items()
+        ]
 
     def rows(self, measurement: str) -> list[tuple]:
         """What the cells of a measurement are of, in the order in which they were begun."""

@@ -2,6 +2,7 @@
 loopback."""
 
 import os
+import pathlib
 import shutil
 import socket
 import subprocess
@@ -32,6 +33,7 @@ class Network:
 
     def __init__(self, places: int) -> None:
         self.places = places
+        self.wire: subprocess.Popen[str] | None = None
         self.prefix = f"mw{os.getpid()}-"
         self.has_namespaces = can("ip", "netns", "add", self.prefix + "bridge")
         if self.has_namespaces:
@@ -90,8 +92,31 @@ class Network:
                 return False
         return True
 
+    def delay(self, wire: pathlib.Path, microseconds: int) -> bool:
+        """From now on each packet takes so long more; False where that can't be had. 0 takes it back."""
+        if not self.has_namespaces or (microseconds and shutil.which("ethtool") is None):
+            return False
+        if self.wire is not None:
+            self.wire.kill()
+            self.wire.wait()
+            self.wire = None
+        ends = [f"v{place}" for place in range(self.places)]
+        for place, end in enumerate(ends):
+            self.ip("bridge", "link", "set", end, *(["nomaster"] if microseconds else ["master", "bridge"]))
+            if microseconds:
+                # frames are whole, and have their checksums, where a program reads them
+                can(*self.within(place), "ethtool", "-K", "eth0", "tx", "off", "tso", "off", "gso", "off")
+        if microseconds:
+            words = ["ip", "netns", "exec", f"{self.prefix}bridge", "chrt", "-r", "2", str(wire), str(microseconds), *ends]
+            self.wire = subprocess.Popen(words, stdout=subprocess.PIPE, text=True)
+            return self.wire.stdout is not None and self.wire.stdout.readline() == "ready\n"
+        return True
+
     def close(self) -> None:
         """Removes it."""
+        if self.wire is not None:
+            self.wire.kill()
+            self.wire.wait()
         if self.has_namespaces:
             for place in ["bridge", *range(self.places)]:
                 can("ip", "netns", "del", f"{self.prefix}{place}")

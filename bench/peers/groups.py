@@ -1,5 +1,5 @@
-"""Groups under load: of members in native code, and of Corosync's closed process groups. A member is a process that does what lines on its
-standard input say, and answers each by a line of JSON."""
+"""Groups under load, and those of members in native code. A member is a process that does what lines on its standard input say, and answers
+each by a line of JSON."""
 
 import json
 import os
@@ -16,7 +16,6 @@ from network import Network
 
 TOP = pathlib.Path(__file__).resolve().parents[2]
 LOAD = TOP / "runtime" / "target" / "release" / "examples" / "load"
-TUNED = "  token: 200\n  token_coefficient: 0\n  consensus: 240\n"
 
 
 class Fault(Exception):
@@ -32,18 +31,16 @@ class Kind:
     is_sealed: bool
     resilience: int = 0
     is_tuned: bool = False
+    spin: int = 0
 
 
 @dataclass(frozen=True)
 class Place:
-    """Where groups run and how: the network, a folder, whether with realtime priority, the client of Corosync and the program of bare
-    datagrams, if they are there."""
+    """Where groups run and how: the network, a folder that has the programs built for the bench, and whether with realtime priority."""
 
     network: Network
     folder: pathlib.Path
     is_realtime: bool
-    cpg: pathlib.Path
-    bare: pathlib.Path
 
     def command(self, place: int, *words: str) -> list[str]:
         """A command at a place, which ends with this process."""
@@ -71,7 +68,7 @@ class Process:
     single BYTES MANY PAUSE UNTIL SENDS     sends one at a time; how long each took until its delivery here
     pace BYTES EVERY                        begins to send one each so many nanoseconds
     resumed UNTIL                           when the first message in a view with fewer members was delivered
-    sequencer; stopped NAME                 the sequencer's place; tells who has stopped (only in native code)
+    sequencer; stopped NAME                 the sequencer's place; tells who has stopped (not to Corosync)
     """
 
     def __init__(self, command: list[str], errors: IO[str]) -> None:
@@ -138,6 +135,12 @@ class Group:
             member.tell(line if isinstance(line, str) else line(place))
         return {place: member.hear(seconds) for place, member in self.members.items()}
 
+    def sequencer(self) -> int:
+        """The place of the sequencer, or of the leader."""
+        first = self.members[0]
+        first.tell("sequencer")
+        return int(first.hear(5)["sequencer"])
+
     def new_cell(self) -> None:
         """What was sent before isn't counted any more."""
         self.cells += 1
@@ -172,14 +175,12 @@ class Native(Group):
         addresses = [self.place.network.address(place) for place in places]
         seal = "sealed" if self.kind.is_sealed else "open"
         for place in places:
-            words = [str(LOAD), str(place), str(self.kind.resilience), seal, *addresses]
+            words = ["env", f"SPIN={self.kind.spin}", str(LOAD), str(place), str(self.kind.resilience), seal, *addresses]
             self.members[place] = Process(self.place.command(place, *words), self.errors)
 
     def kill(self) -> tuple[int, int]:
         """Kills the sequencer, and tells the others."""
-        first = self.members[0]
-        first.tell("sequencer")
-        sequencer = first.hear(5)["sequencer"]
+        sequencer = self.sequencer()
         victim = self.members.pop(sequencer)
         at = clock()
         victim.child.send_signal(signal.SIGKILL)
@@ -187,66 +188,3 @@ class Native(Group):
         self.ask(f"stopped {sequencer}")
         victim.close()
         return sequencer, at
-
-
-class Bare(Group):
-    """Processes that only pass datagrams on: what the machine itself takes."""
-
-    def start(self) -> None:
-        """Starts a process for each place."""
-        places = range(self.kind.members)
-        addresses = [self.place.network.address(place) for place in places]
-        for place in places:
-            self.members[place] = Process(self.place.command(place, str(self.place.bare), str(place), *addresses), self.errors)
-
-
-class Corosync(Group):
-    """A closed process group: a daemon of Corosync and a client for each member."""
-
-    def start(self) -> None:
-        """Starts the daemons, and then the clients."""
-        key = self.place.folder / "authkey"
-        if not key.exists():
-            key.touch(0o600)
-            key.write_bytes(os.urandom(256))
-        for place in range(self.kind.members):
-            file = self.place.folder / f"corosync-{place}.conf"
-            file.write_text(self.configuration(key), encoding="utf-8")
-            # a file system of its own for what each daemon keeps
-            own = "mount -t tmpfs tmpfs /run && mount -t tmpfs tmpfs /var/lib/corosync"
-            words = ["unshare", "--mount", "sh", "-c", f'{own} && exec corosync -f -c "$0"', str(file)]
-            self.daemons[place] = subprocess.Popen(self.place.command(place, *words), stdout=self.errors, stderr=self.errors)
-        for place in range(self.kind.members):
-            words = [str(self.place.cpg), str(self.kind.members)]
-            self.members[place] = Process(self.place.command(place, *words), self.errors)
-
-    def configuration(self, key: pathlib.Path) -> str:
-        """The configuration of each daemon."""
-        sealed = f"  crypto_cipher: aes256\n  crypto_hash: sha256\n  keyfile: {key}\n"
-        totem = sealed if self.kind.is_sealed else "  crypto_cipher: none\n  crypto_hash: none\n"
-        totem += TUNED if self.kind.is_tuned else ""
-        priority = "" if self.place.is_realtime else "  sched_rr: no\n  priority: 0\n"
-        nodes = "".join(
-            f"  node {{\n    name: n{place}\n    nodeid: {place + 1}\n    ring0_addr: {self.place.network.host(place)}\n  }}\n"
-            for place in range(self.kind.members)
-        )
-        return (
-            f"totem {{\n  version: 2\n  cluster_name: load\n{totem}}}\n"
-            "logging {\n  to_stderr: yes\n  to_syslog: no\n  to_logfile: no\n}\n"
-            f"quorum {{\n  provider: corosync_votequorum\n}}\nsystem {{\n  move_to_root_cgroup: no\n{priority}}}\nnodelist {{\n{nodes}}}\n"
-        )
-
-    def kill(self) -> tuple[int, int]:
-        """Kills the daemon of the lowest node; the others find out by themselves."""
-        victim, client = self.daemons.pop(0), self.members.pop(0)
-        at = clock()
-        victim.send_signal(signal.SIGKILL)
-        victim.wait()
-        client.close()
-        return 0, at
-
-
-def started(kind: Kind, place: Place) -> Group:
-    """A group of a kind, once it runs."""
-    systems: dict[str, type[Group]] = {"Corosync": Corosync, "bare": Bare, "Muoswyld": Native}
-    return systems[kind.system](kind, place)
