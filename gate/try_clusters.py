@@ -21,7 +21,7 @@ from typing import Any
 
 from member import Position
 from merge import Life, Step
-from programs import judge_of, member_of
+from programs import judge_of, long_judge_of, member_of
 from relay import HOST, Counts, Faults, Relay
 from seen import Seen, differences
 from words import end, words
@@ -105,7 +105,8 @@ def clusters(tried: Tried) -> list[str]:
         (["--least", 1, "--leave"], "messages "),
     ):
         status, said, told = tried.ran(*more)
-        judged = "\nlawful\n" in said and "answers again\n" in said and "are pieces of one list\n" in said
+        whole = re.search(r"\njudge: \d+ lives, \d+ events, \d+ letters, a list of \d+ entries: lawful\n", said)
+        judged = "\nlawful\n" in said and "answers again\n" in said and whole and "are pieces of one list\n" in said
         if (status, told) != (0, "") or not re.search(wanted, said) or not judged or "killed" in said:
             wrong.append(f"{more}: {status}, {said}{told}")
     return wrong
@@ -113,7 +114,7 @@ def clusters(tried: Tried) -> list[str]:
 
 def changes(tried: Tried) -> list[str]:
     """A member that prints another text, leaves one out or prints one twice is found. So is a play with another answer, one that is void without
-    more stops than the resilience, and one that is cut."""
+    more stops than the resilience, and one that is cut. What the judge finds is told, and so is a judge that can't judge."""
     wrong = []
     for change, said in (("text", "\nprinted: 1 was given "), ("gap", "\nprinted: 1 wasn't given "), ("twice", "\nprinted: 1 was given ")):
         found = tried.ran("--member", tried.python("member.py", CHANGED, change, tried.member))
@@ -129,6 +130,10 @@ def changes(tried: Tried) -> list[str]:
         found = tried.ran("--kill", 1, "--program", tried.python("judge.py", FILTER, change, tried.program))
         if found[0] != status or said not in found[1] or found[2]:
             wrong.append(f"with the change {change!r} of the text: {found}")
+    for ended, status, said in ((1, 1, "\njudge: a finding\n"), (66, 1, "judge ended with 66")):
+        found = tried.ran("--judge", shlex.join(["sh", "-c", f"echo a finding; exit {ended}"]))
+        if found[0] != status or said not in found[1] + found[2]:
+            wrong.append(f"with a judge that ends with {ended}: {found}")
     return wrong
 
 
@@ -150,12 +155,13 @@ def refusals(tried: Tried) -> list[str]:
         (["--program", tried.folder / "none"], 1, "isn't there, or can't be run"),
         (["--program", "x '"], 1, "No closing quotation"),
         (["--member", tried.folder / "none"], 1, "isn't there, or can't be run"),
+        (["--judge", tried.folder / "none"], 1, "isn't there, or can't be run"),
         (["--member", "/bin/false"], 1, "ended by itself with status 1: "),
     ):
         found = tried.ran(*given)
         if found[0] != status or said not in found[2] or "Traceback" in found[2]:
             wrong.append(f"{given}: {found}")
-    for of, builds in ((member_of, "tools/runtime.py"), (judge_of, "./muoswyld build")):
+    for of, builds in ((member_of, "tools/runtime.py"), (long_judge_of, "tools/runtime.py"), (judge_of, "./muoswyld build")):
         try:
             of(None)
         except OSError as error:

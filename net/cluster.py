@@ -7,9 +7,9 @@ Members are processes of muoswyldd, and a relay between them makes the faults. T
 datagrams so many are lost, repeated and overtaken by the next one, and each is delayed by up to so many milliseconds. `--kill` times one of
 them is killed by SIGKILL; the others are told once it has ended, and its place comes back as its next life. `--freeze` times one of them is
 stopped by SIGSTOP for a while. In the end their inputs end; whom that doesn't end within `--patience` seconds, as it has still much to send,
-is killed. After that the journals are merged to one script, `play` runs it, and each answer of each process is compared with its line; and
-what the members printed is compared with each other, with what was sent and answered, and with the journals. It ends with 1 where something
-differs, or where a member ended by itself.
+is killed. After that the journals are merged to one script, `play` runs it, and each answer of each process is compared with its line; the
+program `judge` judges the journals too, however long they are; and what the members printed is compared with each other, with what was sent
+and answered, and with the journals. It ends with 1 if something differs, or if a member ended by itself.
 """
 
 import argparse
@@ -25,7 +25,7 @@ from collections.abc import Callable, Iterator
 
 from members import START_SECONDS, Failed, Members
 from merge import Life, Merged, Unmerged, write_out
-from programs import judge_of
+from programs import judge_of, long_judge_of
 
 MOST_EVENTS = 100_000
 
@@ -201,6 +201,7 @@ def options() -> argparse.Namespace:
     parser.add_argument("--seed", type=int, default=1, help="whom is killed when, and what is lost (1)")
     parser.add_argument("--keep", help="a new or empty folder, in which journals, script.json and its text script.txt stay")
     parser.add_argument("--program", help="the command whose word play judges; else the one that is built here")
+    parser.add_argument("--judge", help="the command that judges journals of any length; else the one that is built here")
     parser.add_argument("--member", help="the command whose word run is a member; else the one that is built here")
     parser.add_argument("--least", type=number_of(int, 1, 16), help="the fewest members of a reset (a majority)")
     parser.add_argument("--leave", action="store_true", help="the members leave at the end, all at once")
@@ -217,9 +218,18 @@ def options() -> argparse.Namespace:
     return wanted
 
 
+def judged_whole(judge: list[str], journals: pathlib.Path) -> tuple[list[str], int]:
+    """What `judge` says of the journals, and 1 if it found something."""
+    done = subprocess.run([*judge, str(journals)], capture_output=True, text=True, errors="replace", check=False)
+    said = [*done.stdout.splitlines(), *done.stderr.splitlines()]
+    if done.returncode not in (0, 1):
+        raise Failed(f"judge ended with {done.returncode}: {' '.join(said)}")
+    return [f"judge: {line}" for line in said], done.returncode
+
+
 def ran(wanted: argparse.Namespace, made: pathlib.Path) -> int:
     """Runs, merges and judges."""
-    judge = judge_of(wanted.program)
+    judge, long_judge = judge_of(wanted.program), long_judge_of(wanted.judge)
     journals = pathlib.Path(wanted.keep) if wanted.keep else made / "journals"
     journals.mkdir(parents=True, exist_ok=True)
     cluster = Members(wanted, journals, made)
@@ -241,9 +251,10 @@ def ran(wanted: argparse.Namespace, made: pathlib.Path) -> int:
     if wanted.keep:
         (journals / "script.txt").write_text(text)
     said, status = judged(merged, wanted, text)
+    more, is_judged_wrong = judged_whole(long_judge, journals)
     seen, is_seen_wrong = cluster.compared(merged.lives, claimed_of(merged, text.splitlines()[-1]))
-    write_out("".join(f"{line}\n" for line in [*said, *seen]))
-    return max(status, is_seen_wrong)
+    write_out("".join(f"{line}\n" for line in [*said, *more, *seen]))
+    return max(status, is_judged_wrong, is_seen_wrong)
 
 
 def main() -> int:

@@ -1,4 +1,4 @@
-"""The commands that a cluster runs: a member, and the program whose word `play` judges."""
+"""The commands that a cluster runs: a member, the program whose word `play` judges, and the one that judges journals of any length."""
 
 import pathlib
 import shlex
@@ -7,6 +7,7 @@ import shutil
 TOP = pathlib.Path(__file__).resolve().parent.parent
 PROGRAM = TOP / "crates" / "am_sim" / "out" / "am_sim"
 MEMBER = TOP / "runtime" / "target" / "release" / "muoswyldd"
+JUDGE = TOP / "runtime" / "target" / "release" / "judge"
 
 
 class NoProgram(OSError):
@@ -33,3 +34,8 @@ def judge_of(words: str | None) -> list[str]:
 def member_of(words: str | None) -> list[str]:
     """The command whose word `run` is a member."""
     return command_of(words, MEMBER, "tools/runtime.py")
+
+
+def long_judge_of(words: str | None) -> list[str]:
+    """The command that judges journals of any length."""
+    return command_of(words, JUDGE, "tools/runtime.py")
