@@ -277,7 +277,7 @@ impl World<'_> {
             End::Left | End::Closed => process.leaves,
             End::Unwelcomed => true,
             End::LeftOut => self.is_void,
-            End::NoNumbersLeft | End::NodeFailed => false,
+            End::NoNumbersLeft | End::NodeFailed | End::Superseded | End::OtherVersion => false,
         };
         if !is_expected {
             return Err(format!("{name} ended, though it ran: {end:?}"));
