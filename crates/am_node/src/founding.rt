@@ -153,7 +153,7 @@ fn founder_core(log: History, name: Name, founding: &Founding) -> Core<History>
 }
 
 /// The parts of a founder.
-pub fn founder(room: Room, name: Name) -> Parts
+fn founder(room: Room, name: Name) -> Parts
     requires { has room.founders name ≡ true }
     ensures { node_of result ≡ founder room name }
 {
@@ -168,4 +168,15 @@ pub fn founder(room: Room, name: Name) -> Parts
         fronts,
         ballot: None,
     }
+}
+
+/// The parts of a name at its beginning: of a founder where it is one of the founders, and else of a name that no one has seen.
+pub fn first(room: Room, name: Name) -> Parts
+    ensures { node_of result ≡ (if has room.founders name then founder room name else
+        stranger room name) }
+{
+    if room.founding.founders().has(name) {
+        return founder(room, name);
+    }
+    stranger(room, name)
 }
