@@ -93,7 +93,8 @@ fn first_core(log: History, name: Name, founding: &Founding) -> Core<History>
     }
 }
 
-/// The parts of a name that no one has seen.
+/// The parts of a name that no one has seen. It stands apart from `founder`, so that no call has what both keep on its stack.
+#[inline(never)]
 pub fn stranger(room: Room, name: Name) -> Parts
     ensures { node_of result ≡ stranger room name }
 {
@@ -152,7 +153,8 @@ fn founder_core(log: History, name: Name, founding: &Founding) -> Core<History>
     core
 }
 
-/// The parts of a founder.
+/// The parts of a founder. It stands apart, too.
+#[inline(never)]
 fn founder(room: Room, name: Name) -> Parts
     requires { has room.founders name ≡ true }
     ensures { node_of result ≡ founder room name }
