@@ -72,8 +72,11 @@ impl muoswyld_group {
     }
 }
 
-/// Keeps a notice, in place of the oldest one where there are many.
+/// Keeps a notice, in place of the oldest one where there are many. The group's id is no news: the member's info has it.
 fn keep(notices: &Mutex<VecDeque<String>>, notice: Notice) {
+    if matches!(notice, Notice::Group(_)) {
+        return;
+    }
     let mut kept = notices.lock().unwrap_or_else(PoisonError::into_inner);
     if kept.len() == MOST_NOTICES {
         kept.pop_front();

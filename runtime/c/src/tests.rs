@@ -1,7 +1,6 @@
 //! The calls, made from Rust as C makes them: what they refuse, and that no panic leaves them.
 
 use crate::config::*;
-use crate::info::muoswyld_info;
 use crate::member::*;
 use crate::status::{muoswyld_end, muoswyld_status, muoswyld_status_text};
 use crate::types::*;
@@ -43,7 +42,7 @@ fn read(text: *const c_char) -> String {
 }
 
 /// A group of one on this machine, with its settings.
-fn alone(port: u32) -> (*mut muoswyld_config, *mut muoswyld_group) {
+fn alone(port: u32, resilience: u8) -> (*mut muoswyld_config, *mut muoswyld_group) {
     let made = config();
     let id = std::process::id();
     let address = format!(
@@ -66,6 +65,8 @@ fn alone(port: u32) -> (*mut muoswyld_config, *mut muoswyld_group) {
             muoswyld_config_key(made, [7; 32].as_ptr(), 32),
             muoswyld_status::Ok
         );
+        let status = muoswyld_config_resilience(made, resilience);
+        assert_eq!(status, muoswyld_status::Ok);
         let status = muoswyld_group_create(made, &mut group);
         assert_eq!(
             status,
@@ -231,7 +232,7 @@ fn null_pointers_are_refused() {
 
 #[test]
 fn a_panic_is_answered() {
-    let (config, group) = alone(0);
+    let (config, group) = alone(0, 0);
     let mut ticket = null_mut();
     let mut delivery = muoswyld_delivery::nothing();
     // SAFETY: open handles, a message and room
@@ -317,22 +318,16 @@ fn settings_are_refused_in_words() {
 
 #[test]
 fn a_notice_needs_its_room() {
-    let (made, group) = alone(1);
+    let (made, group) = alone(1, 1);
+    let said = "the group has fewer founders than twice its resilience and one more: a join while a member stops can stand still";
     let mut text: [c_char; 512] = [0; 512];
-    let mut info = std::mem::MaybeUninit::<muoswyld_info>::uninit();
     // SAFETY: open handles and room
     unsafe {
-        assert_eq!(
-            muoswyld_group_info(group, info.as_mut_ptr()),
-            muoswyld_status::Ok
-        );
-        let said = format!("the group's id is {:016x}", info.assume_init().group);
-        let too_few = said.len();
         let next =
             |text: &mut [c_char], room| muoswyld_group_notice(group, text.as_mut_ptr(), room);
-        assert_eq!(next(&mut text, too_few), muoswyld_status::NoRoom);
+        assert_eq!(next(&mut text, said.len()), muoswyld_status::NoRoom);
         assert_eq!(text, [0; 512]);
-        assert_eq!(next(&mut text, too_few + 1), muoswyld_status::Ok);
+        assert_eq!(next(&mut text, said.len() + 1), muoswyld_status::Ok);
         assert_eq!(read(text.as_ptr()), said);
         assert_eq!(next(&mut text, 512), muoswyld_status::Empty);
         muoswyld_group_free(group);
