@@ -32,7 +32,7 @@ def contents() -> dict[str, bytes]:
     library = pathlib.Path(os.environ.get("MUOSWYLD_LIBRARY", BUILT))
     if not library.exists():
         raise SystemExit(f"{library} isn't there: tools/runtime.py builds it")
-    package = HERE / "muoswyld"
+    package = HERE / "src" / "muoswyld"
     files = {f"muoswyld/{file.name}": file.read_bytes() for file in sorted(package.iterdir()) if file.suffix == ".py" or file.name == "py.typed"}
     return {**files, f"muoswyld/{LIBRARY}": library.read_bytes()}
 
