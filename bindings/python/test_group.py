@@ -113,6 +113,7 @@ class Groups(unittest.TestCase):
         groups = three(where)
         groups[2].stop()
         self.assertEqual(groups[2].wait(SOON), End.STOPPED)
+        self.assertEqual((groups[2].end_text, groups[1].end_text), ("it was stopped, and hasn't left", None))
         with self.assertRaisesRegex(Ended, "the member has ended: it was stopped, and hasn't left"):
             groups[2].reset()
         groups[2].close()
@@ -129,7 +130,7 @@ class Groups(unittest.TestCase):
                 back.reset(4, SOON)
             back.reset(timeout=SOON)
             back.send(b"bye", SOON)
-        self.assertEqual(back.ended, End.LEFT)
+        self.assertEqual((back.ended, back.end_text), (End.LEFT, "it left the group"))
         self.assertEqual(messages(groups[0], 1)[0].message, b"bye")
         self.assertEqual(until(groups[0], Left)[-1].name, Name(2, 2))
         for group in groups[:2]:

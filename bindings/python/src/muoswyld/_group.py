@@ -130,6 +130,7 @@ class Group:
         self._calls = threading.Condition()
         self._in_use = 0
         self._end: End | None = None
+        self._end_text: str | None = None
         self._held: deque[Delivery] = deque()
         self._waiting: Waiting | None = None
 
@@ -334,6 +335,15 @@ class Group:
         """How the member has ended; None while it runs."""
         return self._ended(0)
 
+    @property
+    def end_text(self) -> str | None:
+        """How the member has ended, in a sentence such as "it left the group"; None while it runs."""
+        if self._end_text is None:
+            with contextlib.suppress(Ended), self._used() as handle:
+                text = LIBRARY.muoswyld_group_end_text(handle)
+                self._end_text = text.decode() if text else None
+        return self._end_text
+
     def _ended(self, seconds: float) -> End | None:
         if self._end is None:
             with contextlib.suppress(Ended), self._used() as handle:
@@ -360,6 +370,7 @@ class Group:
             self._calls.wait_for(lambda: self._in_use == 0)
         self._log_notices(handle)
         self._end = self._end or End(LIBRARY.muoswyld_group_ended(handle, -1))
+        self._end_text = LIBRARY.muoswyld_group_end_text(handle).decode()
         if self._waiting is not None:
             self._waiting.tell()
         LIBRARY.muoswyld_group_free(handle)

@@ -22,6 +22,7 @@ class Waiting:
         self._group = group
         self._waiters: set[asyncio.Future[None]] = set()
         self._read: int | None = None
+        self._order = asyncio.Lock()
 
     def tell(self) -> None:
         """Wakes all who wait. It may be called in any thread."""
@@ -62,12 +63,13 @@ class Waiting:
             await self._rung()
 
     async def submit(self, message: bytes) -> "Ticket":
-        """Gives a message to the group, once there is room for it."""
-        while True:
-            try:
-                return self._group.submit(message, 0)
-            except Full:
-                await asyncio.sleep(_CROWDED)
+        """Gives a message to the group, once there is room for it: first who came first."""
+        async with self._order:
+            while True:
+                try:
+                    return self._group.submit(message, 0)
+                except Full:
+                    await asyncio.sleep(_CROWDED)
 
     async def settled(self, ticket: "Ticket") -> Position:
         """Where a message stands, once it is delivered. It holds the deliveries that come meanwhile, as the descriptor would stay loud else."""
