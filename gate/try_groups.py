@@ -1,4 +1,4 @@
-"""Tries examples/: a dictionary whose contents stay the same whoever joins, stops and comes back, and a chat.
+"""Tries examples/: a dictionary whose contents stay the same whoever joins, stops and comes back, and a chat; and applications at members' sockets.
 
     python3 gate/try_groups.py PROGRAM [MEMBER]
 
@@ -8,10 +8,11 @@ part ends by itself, within some seconds. It prints what fails, and how many par
 
 import random
 import sys
+import threading
 import time
 
 from contents import MOST_MESSAGE, MOST_PAIR, Dictionary, command_of, message_of, parts_of, size_of
-from member import Ended
+from member import Caller, Delivery, Ended, Refused
 from muoswyld import Joined, Message, Name, Position, View
 from processes import SOON, TOP, Process, Tried, try_parts
 from relay import Faults
@@ -292,5 +293,56 @@ def chat(tried: Tried) -> list[str]:
     return wrong + ([] if statuses == [0, 0, 0] else [f"they ended with {statuses}"])
 
 
+class Taker(threading.Thread):
+    """An application in another process than its member: it is given the deliveries at the socket."""
+
+    def __init__(self, tried: Tried, name: str) -> None:
+        super().__init__(daemon=True)
+        self.caller, self.given, self.end = tried.caller(name), list[Delivery](), ""
+        self.start()
+
+    def run(self) -> None:
+        """Takes what comes, and last how the member ended."""
+        try:
+            for delivery in self.caller.deliveries():
+                self.given.append(delivery)
+        except (Refused, Ended) as why:
+            self.end = str(why)
+
+    def has(self, kind: str, many: int) -> bool:
+        """Whether so many of a kind come."""
+        ends = time.monotonic() + SOON
+        while sum(delivery.kind == kind for delivery in self.given) < many and time.monotonic() < ends:
+            time.sleep(0.01)
+        return sum(delivery.kind == kind for delivery in self.given) == many
+
+
+def sockets(tried: Tried) -> list[str]:
+    """Applications send and are given the same at their members' sockets; who listens second is refused, and if no member listens, that is said."""
+    names = list("012")
+    for name in names:
+        tried.start(name, "--input", "nothing", "--output", "socket", "--least", "1")
+    takers = {name: Taker(tried, name) for name in names}
+    messages = [f"{name} \u00e9\n\0".encode() for name in names]
+    sent = [tried.caller(name).send(message) for name, message in zip(names, messages, strict=True)]
+    wrong = [f"{name} isn't given all" for name, taker in takers.items() if not taker.has("message", 3)]
+    wanted = [(sent[0], "0", messages[0]), (sent[1], "1", messages[1]), (sent[2], "2", messages[2])]
+    for name, taker in takers.items():
+        given = [(delivery.at, delivery.name, delivery.message) for delivery in taker.given if delivery.kind == "message"]
+        wrong += [] if given == wanted and taker.given[0].members == names else [f"{name} is given {taker.given}"]
+    second = Taker(tried, "0")
+    second.join(SOON)
+    wrong += [] if second.end == "--output socket gives deliveries to one caller at the socket" else [f"a second one isn't refused: {second.end}"]
+    try:
+        Caller(tried.folder / "none")
+        wrong.append("somebody listens where no member is")
+    except OSError as error:
+        wrong += [] if error.strerror == "no member listens here: No such file or directory" else [f"no member listens: {error}"]
+    tried.caller("2").ask("leave")
+    takers["2"].join(SOON)
+    wrong += [] if takers["2"].end == "it left the group" and takers["0"].has("left", 1) else [f"2 hasn't left: {takers['2'].end}"]
+    return wrong
+
+
 if __name__ == "__main__":
-    end(lambda: try_parts(__doc__, [*((Tried, part) for part in (sameness, bounds, dictionary, chat)), (Five, transfer)]))
+    end(lambda: try_parts(__doc__, [*((Tried, part) for part in (sameness, bounds, dictionary, chat, sockets)), (Five, transfer)]))
