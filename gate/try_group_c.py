@@ -5,8 +5,8 @@
     gate/try_group_c.py --write    writes the header anew, from the comments and the calls of runtime/c
 
 The header must be the one that cbindgen writes, and the shared library must have its calls and no others. bindings/c/group.c has three members in one
-process. It is built as C99 and as C++, without a warning, and runs as it is, with the static library, with the address and the undefined behaviour
-sanitizers, and under valgrind. What `make install-group` installs is used by docs/C.md's program. What is missing of Debian's packages is installed, if
+process, and bindings/c/counter.c a replicated counter. They are built as C99 and as C++, without a warning, and run as they are, with the static library,
+with the address and the undefined behaviour sanitizers, and under valgrind. What `make install-group` installs is used by docs/C.md's program. What is missing of Debian's packages is installed, if
 root runs this, and else named in a line. It prints what fails, and how many parts passed.
 """
 
@@ -70,13 +70,17 @@ def flags(folder: pathlib.Path, *more: str) -> list[str]:
 
 
 def three(folder: pathlib.Path, number: int, compiler: list[str], link: list[str], by: list[str]) -> list[str]:
-    """The program with three members is built, and runs to its end."""
-    program = folder / f"group-{number}"
-    out_of(*compiler, "-o", program, BINDINGS / "group.c", *link)
-    quiet = {**os.environ, "ASAN_OPTIONS": "detect_leaks=1:exitcode=86"}
-    done = run([*by, program, own_host(20 + number), str(FIRST_PORT)], seconds=200, env=quiet)
-    said = (done.stdout + done.stderr).decode(errors="replace")
-    return [] if (done.returncode, said) == (0, "done\n") else [f"{compiler[0]} {by[:1]}: group ended with {done.returncode}: {said[-3000:]}"]
+    """The programs with three members are built, and run to their end."""
+    wrong = []
+    for name in ("group", "counter"):
+        program = folder / f"{name}-{number}"
+        out_of(*compiler, "-o", program, BINDINGS / f"{name}.c", *link)
+        quiet = {**os.environ, "ASAN_OPTIONS": "detect_leaks=1:exitcode=86"}
+        done = run([*by, program, own_host(20 + number), str(FIRST_PORT)], seconds=200, env=quiet)
+        said = (done.stdout + done.stderr).decode(errors="replace")
+        if (done.returncode, said) != (0, "done\n"):
+            wrong.append(f"{compiler[0]} {by[:1]}: {name} ended with {done.returncode}: {said[-3000:]}")
+    return wrong
 
 
 def in_all_ways(folder: pathlib.Path) -> list[str]:

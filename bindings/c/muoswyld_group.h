@@ -15,7 +15,7 @@
    Rules for all calls:
 
    - A call answers a status. MUOSWYLD_STATUS_OK is 0. muoswyld_status_text has a sentence for each.
-   - Handles (config, group, ticket) are opaque. Each has a call that frees it, which also takes NULL. Each handle is freed
+   - Handles (config, group, ticket, service) are opaque. Each has a call that frees it, which also takes NULL. Each handle is freed
      once, and not while another call is using it.
    - Calls on one group, and on one ticket, may be made from any thread, several at once. Calls on one config come one after
      the other. No call is made from a signal handler, nor in a child after fork().
@@ -26,6 +26,9 @@
    - timeout_ms is in milliseconds. 0 doesn't wait at all, and a negative one waits without end.
    - If the library fails by a mistake of its own, a call answers MUOSWYLD_STATUS_PANICKED. Nothing unwinds into the caller.
    - There is no state beside the handles. The library installs no signal handlers, and prints nothing unless it panics.
+
+   muoswyld_service_new and what follows it make a replicated state machine of a member: all machines of a group apply the same
+   commands in the same order, and who joins is sent the state. Calls on one service come one after the other.
 
    Link with `pkg-config --cflags --libs muoswyld-group`. libmuoswyld_group.a can't be linked together with the library of
    muoswyld.h, which it contains; libmuoswyld_group.so can.
@@ -40,6 +43,28 @@
 #include <stdbool.h>
 #include <stddef.h>
 #include <stdint.h>
+
+/*
+ What an answer is.
+ */
+typedef enum {
+    /*
+     Nothing: an answer that was cleared, or never filled.
+     */
+    MUOSWYLD_ANSWERED_NOTHING = 0,
+    /*
+     The machine has the state from here on. It comes once, and has no token.
+     */
+    MUOSWYLD_ANSWERED_READY = 1,
+    /*
+     A command was applied: here is what the machine answered.
+     */
+    MUOSWYLD_ANSWERED_DONE = 2,
+    /*
+     A barrier was reached: the machine has applied all that anybody was answered before it was asked.
+     */
+    MUOSWYLD_ANSWERED_REACHED = 3,
+} muoswyld_answered;
 
 /*
  How a member has ended. It does nothing any more.
@@ -247,6 +272,14 @@ typedef enum {
      Another cause, which this version has no number for.
      */
     MUOSWYLD_STATUS_OTHER = 26,
+    /*
+     The replica of a service has ended: muoswyld_service_end_text says why.
+     */
+    MUOSWYLD_STATUS_SERVICE_ENDED = 27,
+    /*
+     A call of a service's machine answered false.
+     */
+    MUOSWYLD_STATUS_MACHINE_FAILED = 28,
 } muoswyld_status;
 
 /*
@@ -258,6 +291,16 @@ typedef struct muoswyld_config muoswyld_config;
  A member of a group.
  */
 typedef struct muoswyld_group muoswyld_group;
+
+/*
+ Where a call of a machine puts bytes.
+ */
+typedef struct muoswyld_records muoswyld_records;
+
+/*
+ A replicated state machine at a member.
+ */
+typedef struct muoswyld_service muoswyld_service;
 
 /*
  A message on its way.
@@ -484,6 +527,78 @@ typedef struct {
     muoswyld_counts counts;
 } muoswyld_info;
 
+/*
+ A state machine: what its calls do depends on its state and on what they are given alone. They read no clock, draw no random numbers, and make no call
+ on the service or its group. All are made in the thread that calls the service. If one answers false, it can't go on, and the service ends.
+ */
+typedef struct {
+    /*
+     What each call is given first. It may be NULL.
+     */
+    void *context;
+    /*
+     Applies the command of so many bytes that stands at this position, and adds its answer, if it has one, by muoswyld_records_add. A command that it
+     can't read changes nothing, and is no failure. The pointers end with the call.
+     */
+    bool (*apply)(void *context, const muoswyld_position *at, const uint8_t *command, size_t length, muoswyld_records *answer);
+    /*
+     Adds the state now as records, each by a muoswyld_records_add, in an order that is the same for equal states. Members compare digests of these.
+     */
+    bool (*snapshot)(void *context, muoswyld_records *records);
+    /*
+     Takes the next record of a snapshot. The machine is a new one before the first. False if it isn't a record of this machine.
+     */
+    bool (*restore)(void *context, const uint8_t *record, size_t length);
+} muoswyld_machine;
+
+/*
+ An answer of a service. muoswyld_answer_clear frees what it has; the struct itself is the caller's.
+ */
+typedef struct {
+    /*
+     What it is.
+     */
+    muoswyld_answered what;
+    /*
+     The caller's number for what was asked.
+     */
+    uint64_t token;
+    /*
+     Of a command: what the machine answered, which isn't changed. It stays until the answer is cleared. NULL if there is nothing.
+     */
+    const uint8_t *bytes;
+    /*
+     How many bytes that has.
+     */
+    size_t length;
+    /*
+     The library's own: what it frees. Don't touch it.
+     */
+    void *owner;
+} muoswyld_answer;
+
+/*
+ How a service stands.
+ */
+typedef struct {
+    /*
+     Whether its machine has the state.
+     */
+    bool is_ready;
+    /*
+     The position of the last delivery that it has applied; number 0 if none.
+     */
+    muoswyld_position applied;
+    /*
+     The members that have the state, if this one has.
+     */
+    muoswyld_names holders;
+    /*
+     How many messages wait since the member has no room for them. While this isn't 0, call muoswyld_service_next again within 5 ms.
+     */
+    uint64_t unsent;
+} muoswyld_service_info;
+
 #ifdef __cplusplus
 extern "C" {
 #endif // __cplusplus
@@ -616,6 +731,15 @@ muoswyld_status muoswyld_config_journal(muoswyld_config *config,
  */
 muoswyld_status muoswyld_config_start_within(muoswyld_config *config,
                                              int timeout_ms);
+
+/*
+ Adds a record of at most 1,048,576 bytes to a snapshot, or bytes to an answer. It is called within the machine's calls alone. The bytes are copied.
+
+ MUOSWYLD_STATUS_TOO_LONG if it has more; then the machine's call fails, whatever it answers.
+ */
+muoswyld_status muoswyld_records_add(muoswyld_records *records,
+                                     const uint8_t *record,
+                                     size_t length);
 
 /*
  CreateGroup: creates a group, or takes part in creating it; the member's name is one of the founders. It returns once the member is in the group:
@@ -798,6 +922,74 @@ const char *muoswyld_group_end_text(const muoswyld_group *group);
 muoswyld_status muoswyld_group_notice(const muoswyld_group *group,
                                       char *text,
                                       size_t room);
+
+/*
+ Makes a replicated state machine of a member that is in its group and of which nothing was received yet. From then on the service receives: don't
+ call muoswyld_group_receive. All members of the group have a service of the same kind of machine. A founder's begins as it is; who joins is sent the
+ state of the others (docs/REPLICAS.md).
+
+ The machine is copied; its context stays the caller's, and must stay until the service is freed. It puts the service, which muoswyld_service_free
+ frees, at `service`, or NULL if it fails: MUOSWYLD_STATUS_ENDED if the member has ended, _NULL_POINTER also if a call of the machine is NULL.
+
+ From any thread. All calls on one service come one after the other, and the machine's calls are made within them, in the same thread.
+ */
+muoswyld_status muoswyld_service_new(const muoswyld_group *group,
+                                     const muoswyld_machine *machine,
+                                     muoswyld_service **service);
+
+/*
+ Frees a service. Its member goes on: leave or stop it, as nobody receives its deliveries now. NULL is nothing.
+ */
+void muoswyld_service_free(muoswyld_service *service);
+
+/*
+ Asks for a command of at most 1,048,576 bytes, and doesn't wait: the answer has this token. The command is applied at most once. If the member or the
+ service ends before it is answered, nobody knows whether it is applied.
+
+ MUOSWYLD_STATUS_TOO_LONG, or what muoswyld_service_next answers once the service has ended.
+ */
+muoswyld_status muoswyld_service_submit(muoswyld_service *service,
+                                        uint64_t token,
+                                        const uint8_t *command,
+                                        size_t length);
+
+/*
+ Asks for a barrier, and doesn't wait: once it is answered with this token, the machine has applied all that anybody was answered before. A read of the
+ machine then, before the next call, is ordered among the commands. Any other read may be of an earlier state.
+
+ The errors are those of muoswyld_service_submit.
+ */
+muoswyld_status muoswyld_service_barrier(muoswyld_service *service,
+                                         uint64_t token);
+
+/*
+ Applies what was delivered, and puts the next answer at `answer`, once there is one. What the struct had before is overwritten: clear it first, by
+ muoswyld_answer_clear. A loop of your own waits for muoswyld_group_descriptor, at most 200 ms, and then calls this with a timeout of 0 until it answers
+ MUOSWYLD_STATUS_EMPTY. A service that isn't called holds its whole group back.
+
+ MUOSWYLD_STATUS_EMPTY if the timeout is 0 and nothing is there, _TIMEOUT if nothing came in time, _ENDED if the member has ended, _SERVICE_ENDED if the
+ replica has (muoswyld_service_end_text says why), _MACHINE_FAILED if a call of the machine answered false. After these three nothing is applied any more.
+ */
+muoswyld_status muoswyld_service_next(muoswyld_service *service,
+                                      int timeout_ms,
+                                      muoswyld_answer *answer);
+
+/*
+ Frees what an answer has, and makes it MUOSWYLD_ANSWERED_NOTHING. An answer that has nothing, or NULL, is left as it is.
+
+ From any thread, as the caller's own memory.
+ */
+void muoswyld_answer_clear(muoswyld_answer *answer);
+
+/*
+ Puts how the service stands at `info`. It answers also once the service has ended.
+ */
+muoswyld_status muoswyld_service_status(const muoswyld_service *service, muoswyld_service_info *info);
+
+/*
+ A sentence on how the service ended; NULL while it runs, or if `service` is NULL. The text is the service's, and stays until that is freed.
+ */
+const char *muoswyld_service_end_text(const muoswyld_service *service);
 
 /*
  A sentence for a status, in English, without a newline and without a full stop. "no such status" for a number that is none.

@@ -13,7 +13,9 @@ mod arrival;
 mod config;
 mod guard;
 mod info;
+mod machine;
 mod member;
+mod service;
 mod status;
 #[cfg(test)]
 mod tests;

@@ -17,7 +17,7 @@ const MOST_NOTICES: usize = 64;
 
 /// A member of a group.
 pub struct muoswyld_group {
-    group: Group,
+    group: Arc<Group>,
     arrival: Arc<Arrival>,
     notices: Arc<Mutex<VecDeque<String>>>,
     end_text: OnceLock<CString>,
@@ -25,6 +25,13 @@ pub struct muoswyld_group {
 
 /// A message on its way.
 pub struct muoswyld_ticket(Ticket);
+
+impl Drop for muoswyld_group {
+    fn drop(&mut self) {
+        // a service may still have it
+        self.group.stop();
+    }
+}
 
 /// A wait of that many milliseconds; without end for a negative number.
 fn wait_of(timeout_ms: c_int) -> Duration {
@@ -45,11 +52,16 @@ impl muoswyld_group {
         let config = config.on_arrival(move || rung.ring());
         let config = config.on_notice(move |notice| keep(&kept, notice));
         Ok(muoswyld_group {
-            group: how(config)?,
+            group: Arc::new(how(config)?),
             arrival,
             notices,
             end_text: OnceLock::new(),
         })
+    }
+
+    /// The member, and what tells of its deliveries.
+    pub(crate) fn parts(&self) -> (Arc<Group>, Arc<Arrival>) {
+        (self.group.clone(), self.arrival.clone())
     }
 
     /// The next delivery.

@@ -64,10 +64,14 @@ pub enum muoswyld_status {
     Panicked = 25,
     /// Another cause, which this version has no number for.
     Other = 26,
+    /// The replica of a service has ended: muoswyld_service_end_text says why.
+    ServiceEnded = 27,
+    /// A call of a service's machine answered false.
+    MachineFailed = 28,
 }
 
 /// Each status, in the order of their numbers, with a sentence that ends with a zero.
-const TEXTS: [(muoswyld_status, &str); 27] = {
+const TEXTS: [(muoswyld_status, &str); 29] = {
     use muoswyld_status::*;
     [
         (Ok, "it is done\0"),
@@ -112,6 +116,8 @@ const TEXTS: [(muoswyld_status, &str); 27] = {
         (NoRoom, "the text doesn't fit into its room\0"),
         (Panicked, "the library panicked\0"),
         (Other, "another cause\0"),
+        (ServiceEnded, "the service has ended\0"),
+        (MachineFailed, "a call of the machine failed\0"),
     ]
 };
 
@@ -257,7 +263,7 @@ mod tests {
         }
         for (number, wanted) in [
             (10, "the time passed"),
-            (27, "no such status"),
+            (29, "no such status"),
             (-1, "no such status"),
         ] {
             // SAFETY: the function answers a text that ends with a zero and stays

@@ -1,7 +1,9 @@
 //! The calls, made from Rust as C makes them: what they refuse, and that no panic leaves them.
 
 use crate::config::*;
+use crate::machine::muoswyld_records_add;
 use crate::member::*;
+use crate::service::*;
 use crate::status::{muoswyld_end, muoswyld_status, muoswyld_status_text};
 use crate::types::*;
 use std::cell::Cell;
@@ -177,12 +179,39 @@ fn statuses(
                 "muoswyld_group_notice",
                 muoswyld_group_notice(group, null_mut(), 9),
             ),
+            (
+                "muoswyld_records_add",
+                muoswyld_records_add(null_mut(), null(), 1),
+            ),
+            (
+                "muoswyld_service_new",
+                muoswyld_service_new(group, null(), null_mut()),
+            ),
+            (
+                "muoswyld_service_submit",
+                muoswyld_service_submit(null_mut(), 0, null(), 1),
+            ),
+            (
+                "muoswyld_service_barrier",
+                muoswyld_service_barrier(null_mut(), 0),
+            ),
+            (
+                "muoswyld_service_next",
+                muoswyld_service_next(null_mut(), 0, null_mut()),
+            ),
+            (
+                "muoswyld_service_status",
+                muoswyld_service_status(null(), null_mut()),
+            ),
         ]
     }
 }
 
 /// The calls that answer something else than a status.
-const OTHERS: [&str; 9] = [
+const OTHERS: [&str; 12] = [
+    "muoswyld_service_free",
+    "muoswyld_service_end_text",
+    "muoswyld_answer_clear",
     "muoswyld_config_free",
     "muoswyld_config_error",
     "muoswyld_group_free",
@@ -198,7 +227,9 @@ const OTHERS: [&str; 9] = [
 fn all_calls_are_tried_here() {
     let sources = [
         include_str!("config.rs"),
+        include_str!("machine.rs"),
         include_str!("member.rs"),
+        include_str!("service.rs"),
         include_str!("status.rs"),
         include_str!("types.rs"),
     ];
@@ -223,6 +254,9 @@ fn null_pointers_are_refused() {
         muoswyld_group_free(null_mut());
         muoswyld_ticket_free(null_mut());
         muoswyld_delivery_clear(null_mut());
+        muoswyld_service_free(null_mut());
+        muoswyld_answer_clear(null_mut());
+        assert!(muoswyld_service_end_text(null()).is_null());
         assert_eq!(read(muoswyld_config_error(null())), "");
         assert_eq!(muoswyld_group_descriptor(null()), -1);
         assert_eq!(muoswyld_group_ended(null(), 0), muoswyld_end::Running);
@@ -249,6 +283,9 @@ fn a_panic_is_answered() {
         assert_eq!(muoswyld_group_ended(group, 0), muoswyld_end::Running);
         assert!(muoswyld_group_end_text(group).is_null());
         muoswyld_delivery_clear(&mut delivery);
+        muoswyld_answer_clear(null_mut());
+        muoswyld_service_free(null_mut());
+        assert!(muoswyld_service_end_text(null()).is_null());
         muoswyld_ticket_free(ticket);
         muoswyld_group_free(group);
         muoswyld_config_free(config);
