@@ -87,6 +87,7 @@ def same_as_c(folder: pathlib.Path) -> list[str]:
     sys.path.insert(0, unpacked(folder)["PYTHONPATH"])
     library = importlib.import_module("muoswyld._library")
     kinds = {"name": library.CName, "names": library.CNames, "position": library.CPosition, "delivery": library.CDelivery, "counts": library.CCounts, "info": library.CInfo}
+    kinds |= {"machine": library.CMachine, "answer": library.CAnswer, "service_info": library.CServiceInfo}
     source, program = folder / "layouts.c", folder / "layouts"
     source.write_text(layouts(kinds))
     subprocess.run(["gcc", "-Wall", "-Werror", f"-I{HEADER.parent}", "-o", program, source], check=True)

@@ -16,6 +16,8 @@
 All members are given the same deliveries in the same order, though the network loses, repeats and reorders datagrams and members stop. In asyncio
 `async for delivery in group` and `await group.send_async(b"hello")` do the same.
 
+`Service` replicates a state machine of yours over a group: all members apply the same commands in the same order, and who joins is sent the state.
+
 Each error is an exception of its own, and a MuoswyldError. Times are in seconds. Notices for an operator go to the logger `muoswyld`.
 """
 
@@ -30,6 +32,7 @@ from ._errors import (
     IsFounder,
     Itself,
     Leaving,
+    MachineFailed,
     MaybeSent,
     MuoswyldError,
     NoAddress,
@@ -40,12 +43,14 @@ from ._errors import (
     NotSent,
     Overtaken,
     Panicked,
+    ServiceEnded,
     SystemRefused,
     Timeout,
     TooFew,
     TooLong,
 )
 from ._group import Group, Ticket
+from ._service import Machine, Service, ServiceInfo
 from ._types import Delivery, End, Info, Joined, Left, Message, Name, Position, Role, View
 
 __all__ = [
@@ -65,6 +70,8 @@ __all__ = [
     "Joined",
     "Leaving",
     "Left",
+    "Machine",
+    "MachineFailed",
     "MaybeSent",
     "Message",
     "MuoswyldError",
@@ -79,6 +86,9 @@ __all__ = [
     "Panicked",
     "Position",
     "Role",
+    "Service",
+    "ServiceEnded",
+    "ServiceInfo",
     "SystemRefused",
     "Ticket",
     "Timeout",

@@ -144,6 +144,18 @@ class Panicked(MuoswyldError):
     status = 25
 
 
+class ServiceEnded(MuoswyldError):
+    """The replica of a service has ended, for example as all that had the state are gone."""
+
+    status = 27
+
+
+class MachineFailed(MuoswyldError):
+    """A call of a service's machine raised something, which is the cause of this."""
+
+    status = 28
+
+
 # numbers of statuses that are no errors of Python callers
 OK, NULL_POINTER, TIMEOUT, EMPTY, FULL, ENDED = 0, 1, 10, 11, 12, 17
 

@@ -24,7 +24,8 @@ _SLICE = 0.2
 # how many deliveries are held for those who wait, before the group is held back
 _MOST_HELD = 4096
 
-_log = logging.getLogger("muoswyld")
+LOG = logging.getLogger("muoswyld")
+LOG.addHandler(logging.NullHandler())
 _T = TypeVar("_T")
 
 
@@ -236,7 +237,7 @@ class Group:
         """Logs what the member has for an operator."""
         text = ctypes.create_string_buffer(1024)
         while LIBRARY.muoswyld_group_notice(handle, text, len(text)) == OK:
-            _log.warning("%s: %s", self._name, text.value.decode())
+            LOG.warning("%s: %s", self._name, text.value.decode())
 
     def _hold(self) -> bool:
         """Takes what the library has, and tells those who wait for deliveries; whether it has nothing more, so that the descriptor is quiet."""

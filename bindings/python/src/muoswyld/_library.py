@@ -91,6 +91,30 @@ class CInfo(Structure):
     ]
 
 
+# the calls of a machine
+APPLY = ctypes.CFUNCTYPE(c_bool, c_void_p, POINTER(CPosition), c_void_p, c_size_t, c_void_p)
+SNAPSHOT = ctypes.CFUNCTYPE(c_bool, c_void_p, c_void_p)
+RESTORE = ctypes.CFUNCTYPE(c_bool, c_void_p, c_void_p, c_size_t)
+
+
+class CMachine(Structure):
+    """`muoswyld_machine`."""
+
+    _fields_ = [("context", c_void_p), ("apply", APPLY), ("snapshot", SNAPSHOT), ("restore", RESTORE)]
+
+
+class CAnswer(Structure):
+    """`muoswyld_answer`."""
+
+    _fields_ = [("what", c_int), ("token", c_uint64), ("bytes", c_void_p), ("length", c_size_t), ("owner", c_void_p)]
+
+
+class CServiceInfo(Structure):
+    """`muoswyld_service_info`."""
+
+    _fields_ = [("is_ready", c_bool), ("applied", CPosition), ("holders", CNames), ("unsent", c_uint64)]
+
+
 # each call: what it answers, and what it is given
 _CALLS = {
     "status_text": (c_char_p, c_int),
@@ -130,6 +154,15 @@ _CALLS = {
     "ticket_wait": (c_int, c_void_p, c_int, POINTER(CPosition)),
     "ticket_free": (None, c_void_p),
     "delivery_clear": (None, POINTER(CDelivery)),
+    "records_add": (c_int, c_void_p, c_char_p, c_size_t),
+    "service_new": (c_int, c_void_p, POINTER(CMachine), POINTER(c_void_p)),
+    "service_free": (None, c_void_p),
+    "service_submit": (c_int, c_void_p, c_uint64, c_char_p, c_size_t),
+    "service_barrier": (c_int, c_void_p, c_uint64),
+    "service_next": (c_int, c_void_p, c_int, POINTER(CAnswer)),
+    "service_status": (c_int, c_void_p, POINTER(CServiceInfo)),
+    "service_end_text": (c_char_p, c_void_p),
+    "answer_clear": (None, POINTER(CAnswer)),
 }
 
 
