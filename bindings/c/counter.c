@@ -194,10 +194,26 @@ static void failure(member *members) {
     IS(muoswyld_service_next(members[0].service, 1000 * SOON, &answer), MUOSWYLD_STATUS_MACHINE_FAILED);
 }
 
+/* Member 0 stops, the others are told and go on; its place comes back, and is sent the state. */
+static void stop_and_return(member *members) {
+    muoswyld_name stopped = {0, 1};
+    int k;
+    muoswyld_group_free(members[0].group);
+    muoswyld_service_free(members[0].service);
+    members[0].service = NULL;
+    for (k = 1; k < MEMBERS; k++)
+        OK(muoswyld_group_stopped(members[k].group, stopped));
+    add(members, 1, 100, 115);
+    members[0].group = started("0/2", muoswyld_group_join);
+    serve(&members[0]);
+    ready(members, 0);
+    add(members, 0, 1, 116);
+    reads(members, 2, 116, 4);
+}
+
 int main(int words, char **word) {
     static char name[MEMBERS][2] = {"0", "1", "2"};
     static member members[MEMBERS];
-    muoswyld_name stopped = {0, 1};
     pthread_t threads[MEMBERS];
     void *made;
     int k;
@@ -218,19 +234,7 @@ int main(int words, char **word) {
     add(members, 0, 5, 5);
     add(members, 1, 10, 15);
     reads(members, 2, 15, 2);
-    /* member 0 stops; the others are told, and go on */
-    muoswyld_group_free(members[0].group);
-    muoswyld_service_free(members[0].service);
-    members[0].service = NULL;
-    for (k = 1; k < MEMBERS; k++)
-        OK(muoswyld_group_stopped(members[k].group, stopped));
-    add(members, 1, 100, 115);
-    /* its place comes back, and is sent the state */
-    members[0].group = started("0/2", muoswyld_group_join);
-    serve(&members[0]);
-    ready(members, 0);
-    add(members, 0, 1, 116);
-    reads(members, 2, 116, 4);
+    stop_and_return(members);
     lengths(members, 116);
     reads(members, 0, 116, 5);
     failure(members);

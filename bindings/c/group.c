@@ -89,12 +89,12 @@ static muoswyld_delivery next_of(muoswyld_group *group) {
     return delivery;
 }
 
-/* whether the descriptor can be read now */
-static int is_rung(muoswyld_group *group) {
+/* whether the descriptor can be read within so many milliseconds */
+static int is_rung(muoswyld_group *group, int timeout_ms) {
     struct pollfd poll_for;
     poll_for.fd = muoswyld_group_descriptor(group);
     poll_for.events = POLLIN;
-    return poll(&poll_for, 1, 0);
+    return poll(&poll_for, 1, timeout_ms);
 }
 
 static int is_after(muoswyld_position one, muoswyld_position other) {
@@ -144,7 +144,7 @@ static void one_order(muoswyld_group *groups[MEMBERS]) {
             muoswyld_delivery_clear(&delivery);
         }
         IS(muoswyld_group_receive(groups[member], 0, &delivery), MUOSWYLD_STATUS_EMPTY);
-        WANT(!is_rung(groups[member]));
+        WANT(!is_rung(groups[member], 0));
         IS(muoswyld_group_receive(groups[member], 5, &delivery), MUOSWYLD_STATUS_TIMEOUT);
     }
     for (member = 0; member < MEMBERS; member++)
@@ -187,14 +187,11 @@ static void *receive(void *group) {
     return NULL;
 }
 
-/* A member stops, the others are told and reset, and its place comes back. */
-static void stop_and_return(muoswyld_group *groups[MEMBERS]) {
+/* A member stops: whoever waits is told, and so is each call from then on. */
+static void stop(muoswyld_group *groups[MEMBERS]) {
     pthread_t waits;
-    muoswyld_name name = {2, 1}, own = {0, 1}, none = {16, 1};
-    muoswyld_delivery delivery;
+    muoswyld_name own = {0, 1};
     muoswyld_info info;
-    uint32_t number;
-    int member;
     WANT(pthread_create(&waits, NULL, receive, groups[2]) == 0);
     WANT(muoswyld_group_end_text(groups[2]) == NULL);
     WANT(muoswyld_group_ended(groups[2], 5) == MUOSWYLD_END_RUNNING);
@@ -202,14 +199,32 @@ static void stop_and_return(muoswyld_group *groups[MEMBERS]) {
     WANT(pthread_join(waits, NULL) == 0);
     WANT(muoswyld_group_ended(groups[2], -1) == MUOSWYLD_END_STOPPED);
     WANT(strcmp(muoswyld_group_end_text(groups[2]), "it was stopped, and hasn't left") == 0);
-    WANT(is_rung(groups[2]));
+    WANT(is_rung(groups[2], SOON));
     IS(muoswyld_group_info(groups[2], &info), MUOSWYLD_STATUS_ENDED);
     IS(muoswyld_group_send(groups[2], NULL, 0, -1, NULL), MUOSWYLD_STATUS_NOT_SENT);
     IS(muoswyld_group_leave(groups[2], -1), MUOSWYLD_STATUS_ENDED);
     IS(muoswyld_group_reset(groups[2], 0, -1, NULL), MUOSWYLD_STATUS_ENDED);
     IS(muoswyld_group_stopped(groups[2], own), MUOSWYLD_STATUS_ENDED);
-    WANT(is_rung(groups[2]));
+    WANT(is_rung(groups[2], SOON));
     muoswyld_group_free(groups[2]);
+}
+
+/* What a member knows after its reset and the other one's return. */
+static void knows(muoswyld_group *group, uint32_t number) {
+    muoswyld_info info;
+    OK(muoswyld_group_info(group, &info));
+    WANT(info.name.place == 1 && info.name.life == 1 && info.knows_group && info.group != 0 && info.resilience == 1);
+    WANT(info.members.lives[0] == 1 && info.members.lives[2] == 2 && info.members.lives[3] == 0);
+    WANT(info.view_number >= number && info.top >= info.accepted && info.taken > number);
+    WANT(info.counts.deliveries >= 2 * SENDS && info.counts.datagrams_heard > 0);
+}
+
+/* The others are told that it has stopped, and reset; its place comes back. */
+static void reset_and_return(muoswyld_group *groups[MEMBERS]) {
+    muoswyld_name name = {2, 1}, own = {0, 1}, none = {16, 1};
+    muoswyld_delivery delivery;
+    uint32_t number;
+    int member;
     IS(muoswyld_group_stopped(groups[0], own), MUOSWYLD_STATUS_ITSELF);
     IS(muoswyld_group_stopped(groups[0], none), MUOSWYLD_STATUS_BAD_NAME);
     OK(muoswyld_group_stopped(groups[1], name));
@@ -231,11 +246,7 @@ static void stop_and_return(muoswyld_group *groups[MEMBERS]) {
         while (delivery.kind == MUOSWYLD_KIND_VIEW);
         WANT(delivery.kind == MUOSWYLD_KIND_JOINED && delivery.name.place == 2 && delivery.name.life == 2);
     }
-    OK(muoswyld_group_info(groups[1], &info));
-    WANT(info.name.place == 1 && info.name.life == 1 && info.knows_group && info.group != 0 && info.resilience == 1);
-    WANT(info.members.lives[0] == 1 && info.members.lives[2] == 2 && info.members.lives[3] == 0);
-    WANT(info.view_number >= number && info.top >= info.accepted && info.taken > number);
-    WANT(info.counts.deliveries >= 2 * SENDS && info.counts.datagrams_heard > 0);
+    knows(groups[1], number);
 }
 
 /* One leaves, and the others are told; what was delivered before can still be received. */
@@ -296,7 +307,8 @@ int main(int words, char **word) {
     }
     one_order(groups);
     tickets(groups);
-    stop_and_return(groups);
+    stop(groups);
+    reset_and_return(groups);
     leave(groups);
     for (member = 0; member < MEMBERS; member++)
         muoswyld_group_free(groups[member]);

@@ -41,6 +41,7 @@ def together(calls: list[Callable[[], object]]) -> list[object]:
     given: list[object] = [None] * len(calls)
 
     def run(k: int) -> None:
+        """Makes one of them."""
         try:
             given[k] = calls[k]()
         except Exception as error:
@@ -92,6 +93,7 @@ class Groups(unittest.TestCase):
         bodies = [b"", b"\0", b"a\0b", bytes(range(256)), b"x" * 65_535]
 
         def send(group: Group) -> list[Position]:
+            """Sends all of them; where they stand."""
             return [group.send(body) for body in bodies for _ in range(5)]
 
         sent = together([lambda group=group: send(group) for group in groups])
@@ -163,6 +165,10 @@ class Groups(unittest.TestCase):
             self.assertIsInstance(raised.exception, muoswyld.MuoswyldError)
         with self.assertRaisesRegex(muoswyld.IsFounder, "0 is one of the founders"):
             Group.join(config("0", where))
+
+    def test_errors_of_a_member(self) -> None:
+        """The same of the calls of a member, and after its end."""
+        where = addresses()
         with one(where, most_waiting=131_072) as group:
             for kind, call in (
                 (muoswyld.TooLong, lambda: group.send(b"x" * 65_536)),
@@ -218,6 +224,7 @@ class Groups(unittest.TestCase):
         """The descriptor tells of what is there to be received, and of the end."""
         with one(addresses()) as group:
             def is_rung(seconds: float = 0) -> bool:
+                """Whether it can be read in time."""
                 return bool(select.select([group], [], [], seconds)[0])
 
             self.assertIsInstance(group.receive(), View)
@@ -260,6 +267,7 @@ class Loops(unittest.IsolatedAsyncioTestCase):
         groups = await asyncio.gather(*(Group.create_async(config(name, where)) for name in "012"))
 
         async def take(group: Group) -> list[Delivery]:
+            """The deliveries of a member."""
             found: list[Delivery] = []
             async for delivery in group:
                 found.append(delivery)

@@ -76,6 +76,7 @@ def _interruptible(call: Callable[[], _T], drop: Callable[[_T], None]) -> _T:
     raised: list[Exception] = []
 
     def run() -> None:
+        """Makes the call."""
         try:
             given.append(call())
         except Exception as error:  # noqa: BLE001, it is raised by who waits
@@ -86,6 +87,7 @@ def _interruptible(call: Callable[[], _T], drop: Callable[[_T], None]) -> _T:
                 drop_all()
 
     def drop_all() -> None:
+        """Drops what it gave."""
         while given:
             drop(given.pop())
 
@@ -108,6 +110,7 @@ def _started(config: Config, call: Callable[..., int]) -> ctypes.c_void_p:
     """The handle of a member that is in its group."""
 
     def start() -> ctypes.c_void_p:
+        """Starts it."""
         group = ctypes.c_void_p()
         with opened(config) as handle:
             status = call(handle, ctypes.byref(group))
@@ -203,6 +206,7 @@ class Group:
         data = bytes(message)
 
         def attempt(seconds: float) -> Ticket | None:
+            """Gives it, if there is room in so many seconds."""
             with self._used() as handle:
                 ticket = ctypes.c_void_p()
                 status = LIBRARY.muoswyld_group_submit(handle, data, len(data), milliseconds(seconds), ctypes.byref(ticket))
@@ -268,6 +272,7 @@ class Group:
         it delivered was received. Receive at once what is delivered: a member that doesn't holds the whole group back."""
 
         def attempt(seconds: float) -> Delivery | None:
+            """Receives it, if it comes in so many seconds."""
             delivery = self._take()
             if delivery is None and seconds > 0:
                 with self._used() as handle:
@@ -294,6 +299,7 @@ class Group:
         least = 0 if least is None else least if 0 < least < 256 else 255
 
         def reset() -> int:
+            """Resets it."""
             with self._used() as handle:
                 number = ctypes.c_uint32()
                 self._check(handle, LIBRARY.muoswyld_group_reset(handle, least, milliseconds(timeout), ctypes.byref(number)))
@@ -313,6 +319,7 @@ class Group:
         Timeout if it hasn't left in time, and goes on leaving, or Ended."""
 
         def attempt(seconds: float) -> bool | None:
+            """Leaves, if it is done in so many seconds."""
             with self._used() as handle:
                 status = LIBRARY.muoswyld_group_leave(handle, milliseconds(seconds))
                 if status == TIMEOUT:

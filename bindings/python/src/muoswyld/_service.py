@@ -107,6 +107,7 @@ class Service(Generic[_M]):
 
     def _snapshot(self, _: int, records: int) -> bool:
         def call() -> None:
+            """Adds them all."""
             for record in self._machine.snapshot():
                 self._add(records, record)
 
