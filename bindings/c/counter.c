@@ -37,9 +37,10 @@ static void wanted(muoswyld_status status, muoswyld_status wish, int line) {
     }
 }
 
-/* the machine: a total, and how many commands made it */
+/* the machine: a total, how many commands made it, and its service, if it has one already */
 typedef struct {
     uint64_t total, commands;
+    muoswyld_service *service;
 } counter;
 
 /* A command is one byte, which is added; 0 makes the machine fail; anything else is passed over. The answer is the total. */
@@ -50,6 +51,9 @@ static bool apply(void *context, const muoswyld_position *at, const uint8_t *com
     if (length == 1 && at->number > 0)
         own->total += command[0];
     own->commands++;
+    /* a machine can't call its own service */
+    if (own->service != NULL)
+        IS(muoswyld_service_barrier(own->service, 1), MUOSWYLD_STATUS_BUSY);
     return muoswyld_records_add(answer, (const uint8_t *)&own->total, sizeof own->total) == MUOSWYLD_STATUS_OK;
 }
 
@@ -109,6 +113,7 @@ static void serve(member *one) {
     machine.snapshot = snapshot;
     machine.restore = restore;
     OK(muoswyld_service_new(one->group, &machine, &one->service));
+    one->own.service = one->service;
 }
 
 /* The next answer of a member, while all are served. */
@@ -223,6 +228,7 @@ int main(int words, char **word) {
     }
     host = word[1];
     first_port = atoi(word[2]);
+    WANT(strncmp(muoswyld_group_version(), "proved ", 7) == 0 || strncmp(muoswyld_group_version(), "unproved ", 9) == 0);
     for (k = 0; k < MEMBERS; k++)
         WANT(pthread_create(&threads[k], NULL, create, name[k]) == 0);
     for (k = 0; k < MEMBERS; k++) {

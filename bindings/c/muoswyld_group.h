@@ -280,6 +280,10 @@ typedef enum {
      A call of a service's machine answered false.
      */
     MUOSWYLD_STATUS_MACHINE_FAILED = 28,
+    /*
+     Another call uses the service, or its machine calls it. Nothing was done.
+     */
+    MUOSWYLD_STATUS_BUSY = 29,
 } muoswyld_status;
 
 /*
@@ -733,6 +737,14 @@ muoswyld_status muoswyld_config_start_within(muoswyld_config *config,
                                              int timeout_ms);
 
 /*
+ The node that is linked: "proved SOURCES TOOLCHAIN", or "unproved SOURCES TOOLCHAIN" if nothing is proved of it. SOURCES is the beginning of a sum of
+ its sources.
+
+ From any thread. The text is the library's for as long as it is loaded.
+ */
+const char *muoswyld_group_version(void);
+
+/*
  Adds a record of at most 1,048,576 bytes to a snapshot, or bytes to an answer. It is called within the machine's calls alone. The bytes are copied.
 
  MUOSWYLD_STATUS_TOO_LONG if it has more; then the machine's call fails, whatever it answers.
@@ -931,7 +943,8 @@ muoswyld_status muoswyld_group_notice(const muoswyld_group *group,
  The machine is copied; its context stays the caller's, and must stay until the service is freed. It puts the service, which muoswyld_service_free
  frees, at `service`, or NULL if it fails: MUOSWYLD_STATUS_ENDED if the member has ended, _NULL_POINTER also if a call of the machine is NULL.
 
- From any thread. All calls on one service come one after the other, and the machine's calls are made within them, in the same thread.
+ From any thread. All calls on one service come one after the other, and the machine's calls are made within them, in the same thread. A call that is
+ made while another one uses the service, and one that the machine makes, is answered MUOSWYLD_STATUS_BUSY, and does nothing.
  */
 muoswyld_status muoswyld_service_new(const muoswyld_group *group,
                                      const muoswyld_machine *machine,
@@ -948,7 +961,7 @@ void muoswyld_service_free(muoswyld_service *service);
 
  MUOSWYLD_STATUS_TOO_LONG, or what muoswyld_service_next answers once the service has ended.
  */
-muoswyld_status muoswyld_service_submit(muoswyld_service *service,
+muoswyld_status muoswyld_service_submit(const muoswyld_service *service,
                                         uint64_t token,
                                         const uint8_t *command,
                                         size_t length);
@@ -959,7 +972,7 @@ muoswyld_status muoswyld_service_submit(muoswyld_service *service,
 
  The errors are those of muoswyld_service_submit.
  */
-muoswyld_status muoswyld_service_barrier(muoswyld_service *service,
+muoswyld_status muoswyld_service_barrier(const muoswyld_service *service,
                                          uint64_t token);
 
 /*
@@ -970,7 +983,7 @@ muoswyld_status muoswyld_service_barrier(muoswyld_service *service,
  MUOSWYLD_STATUS_EMPTY if the timeout is 0 and nothing is there, _TIMEOUT if nothing came in time, _ENDED if the member has ended, _SERVICE_ENDED if the
  replica has (muoswyld_service_end_text says why), _MACHINE_FAILED if a call of the machine answered false. After these three nothing is applied any more.
  */
-muoswyld_status muoswyld_service_next(muoswyld_service *service,
+muoswyld_status muoswyld_service_next(const muoswyld_service *service,
                                       int timeout_ms,
                                       muoswyld_answer *answer);
 

@@ -488,6 +488,10 @@ class Values(unittest.TestCase):
             options = parser.parse_args([*given, "--address", more])
             self.assertRaises(muoswyld.BadAddress, muoswyld.config_of, options)
 
+    def test_version(self) -> None:
+        """The package says whether the node that is linked is proved."""
+        self.assertRegex(muoswyld.node_version(), r"^(un)?proved \w+ \S+")
+
     def test_documentation(self) -> None:
         """Everything that is public has a page, and the package has types."""
         for name in muoswyld.__all__:

@@ -1,7 +1,24 @@
 //! What a member knows of itself and of its group, as C has it.
 
+use crate::guard::{guard_or, nothing};
 use crate::types::{muoswyld_name, muoswyld_names};
 use group::{Info, Role};
+use std::ffi::c_char;
+
+extern "C" {
+    /// What tools/library.py puts into the node's library.
+    fn muoswyld_version() -> *const c_char;
+}
+
+/// The node that is linked: "proved SOURCES TOOLCHAIN", or "unproved SOURCES TOOLCHAIN" if nothing is proved of it. SOURCES is the beginning of a sum of
+/// its sources.
+///
+/// From any thread. The text is the library's for as long as it is loaded.
+#[no_mangle]
+pub extern "C" fn muoswyld_group_version() -> *const c_char {
+    // SAFETY: it is given nothing, and answers a text that stays
+    guard_or(nothing(), || unsafe { muoswyld_version() })
+}
 
 /// What a member is to its group.
 #[repr(C)]

@@ -13,7 +13,7 @@ use std::cell::Cell;
 use std::collections::VecDeque;
 use std::ffi::{c_char, c_int, c_void, CString};
 use std::rc::Rc;
-use std::sync::Arc;
+use std::sync::{Arc, Mutex, MutexGuard, OnceLock, TryLockError};
 use std::time::{Duration, Instant};
 
 /// How long a service waits at most for its descriptor; and while the member has no room for its messages.
@@ -22,13 +22,21 @@ const SHORT_SLEEP: Duration = Duration::from_millis(5);
 
 /// A replicated state machine at a member.
 pub struct muoswyld_service {
+    inner: Mutex<Inner>,
+    end_text: Arc<OnceLock<CString>>,
+}
+
+/// What one call at a time uses.
+struct Inner {
     service: Service<Machine>,
     arrival: Arc<Arrival>,
     /// Whether a call of the machine failed.
     failed: Rc<Cell<bool>>,
     answers: VecDeque<muoswyld_answer>,
-    /// Why it has ended, and in words.
-    over: Option<(muoswyld_status, CString)>,
+    /// Why it has ended.
+    over: Option<muoswyld_status>,
+    /// The same in words.
+    end_text: Arc<OnceLock<CString>>,
 }
 
 /// What an answer is.
@@ -109,7 +117,7 @@ impl muoswyld_answer {
     }
 }
 
-impl Drop for muoswyld_service {
+impl Drop for Inner {
     fn drop(&mut self) {
         for answer in self.answers.drain(..) {
             // SAFETY: nobody was given it, and it is there once
@@ -119,6 +127,18 @@ impl Drop for muoswyld_service {
 }
 
 impl muoswyld_service {
+    /// The service, if no other call uses it: neither one of another thread, nor one that is making a call of the machine.
+    fn open(&self) -> Result<MutexGuard<'_, Inner>, muoswyld_status> {
+        match self.inner.try_lock() {
+            Ok(inner) => Ok(inner),
+            // a panic was answered, and the service is as it was before or after a step
+            Err(TryLockError::Poisoned(inner)) => Ok(inner.into_inner()),
+            Err(TryLockError::WouldBlock) => Err(muoswyld_status::Busy),
+        }
+    }
+}
+
+impl Inner {
     /// Does what can be done now.
     fn turn(&mut self) {
         self.arrival.hush();
@@ -140,7 +160,9 @@ impl muoswyld_service {
             _ => "a call of the machine failed".into(),
         };
         let text = CString::new(text.replace('\0', " ")).unwrap_or_default();
-        self.over = Some((over, text));
+        // it ends once
+        let _kept = self.end_text.set(text);
+        self.over = Some(over);
     }
 
     /// The next answer.
@@ -153,8 +175,8 @@ impl muoswyld_service {
             if let Some(answer) = self.answers.pop_front() {
                 return Ok(answer);
             }
-            if let Some((status, _)) = &self.over {
-                return Err(*status);
+            if let Some(status) = self.over {
+                return Err(status);
             }
             let left = until.map(|until| until.saturating_duration_since(Instant::now()));
             if left.is_some_and(|left| left.is_zero()) {
@@ -172,8 +194,8 @@ impl muoswyld_service {
     }
 
     fn submit(&mut self, token: u64, request: Request) -> Result<(), muoswyld_status> {
-        if let Some((status, _)) = &self.over {
-            return Err(*status);
+        if let Some(status) = self.over {
+            return Err(status);
         }
         self.service
             .submit(token, request)
@@ -194,7 +216,8 @@ impl muoswyld_service {
 /// The machine is copied; its context stays the caller's, and must stay until the service is freed. It puts the service, which muoswyld_service_free
 /// frees, at `service`, or NULL if it fails: MUOSWYLD_STATUS_ENDED if the member has ended, _NULL_POINTER also if a call of the machine is NULL.
 ///
-/// From any thread. All calls on one service come one after the other, and the machine's calls are made within them, in the same thread.
+/// From any thread. All calls on one service come one after the other, and the machine's calls are made within them, in the same thread. A call that is
+/// made while another one uses the service, and one that the machine makes, is answered MUOSWYLD_STATUS_BUSY, and does nothing.
 #[no_mangle]
 pub unsafe extern "C" fn muoswyld_service_new(
     group: *const muoswyld_group,
@@ -211,12 +234,18 @@ pub unsafe extern "C" fn muoswyld_service_new(
         let machine = Machine::new(machine, failed.clone())?;
         let (member, arrival) = member.parts();
         let made = Service::new(member, machine, |_| ()).map_err(|_| muoswyld_status::Ended)?;
-        let made = muoswyld_service {
+        let end_text: Arc<OnceLock<CString>> = Arc::default();
+        let inner = Inner {
             service: made,
             arrival,
             failed,
             answers: VecDeque::new(),
             over: None,
+            end_text: end_text.clone(),
+        };
+        let made = muoswyld_service {
+            inner: Mutex::new(inner),
+            end_text,
         };
         // SAFETY: as above
         unsafe { put(service, Box::into_raw(Box::new(made))) }
@@ -236,15 +265,17 @@ pub unsafe extern "C" fn muoswyld_service_free(service: *mut muoswyld_service) {
 /// MUOSWYLD_STATUS_TOO_LONG, or what muoswyld_service_next answers once the service has ended.
 #[no_mangle]
 pub unsafe extern "C" fn muoswyld_service_submit(
-    service: *mut muoswyld_service,
+    service: *const muoswyld_service,
     token: u64,
     command: *const u8,
     length: usize,
 ) -> muoswyld_status {
     guard(|| {
         // SAFETY: the caller's handle and bytes, or NULL
-        let (service, command) = unsafe { (changing(service)?, bytes(command, length)?) };
-        service.submit(token, Request::Command(command.to_vec()))
+        let (service, command) = unsafe { (reading(service)?, bytes(command, length)?) };
+        service
+            .open()?
+            .submit(token, Request::Command(command.to_vec()))
     })
 }
 
@@ -254,12 +285,14 @@ pub unsafe extern "C" fn muoswyld_service_submit(
 /// The errors are those of muoswyld_service_submit.
 #[no_mangle]
 pub unsafe extern "C" fn muoswyld_service_barrier(
-    service: *mut muoswyld_service,
+    service: *const muoswyld_service,
     token: u64,
 ) -> muoswyld_status {
     guard(|| {
         // SAFETY: the caller's handle, or NULL
-        unsafe { changing(service) }?.submit(token, Request::Barrier)
+        unsafe { reading(service) }?
+            .open()?
+            .submit(token, Request::Barrier)
     })
 }
 
@@ -271,7 +304,7 @@ pub unsafe extern "C" fn muoswyld_service_barrier(
 /// replica has (muoswyld_service_end_text says why), _MACHINE_FAILED if a call of the machine answered false. After these three nothing is applied any more.
 #[no_mangle]
 pub unsafe extern "C" fn muoswyld_service_next(
-    service: *mut muoswyld_service,
+    service: *const muoswyld_service,
     timeout_ms: c_int,
     answer: *mut muoswyld_answer,
 ) -> muoswyld_status {
@@ -279,9 +312,9 @@ pub unsafe extern "C" fn muoswyld_service_next(
         // SAFETY: the caller's room for an answer, and its handle, or NULL
         let service = unsafe {
             put(answer, muoswyld_answer::nothing())?;
-            changing(service)?
+            reading(service)?
         };
-        let next = service.next(timeout_ms)?;
+        let next = service.open()?.next(timeout_ms)?;
         // SAFETY: as above
         unsafe { put(answer, next) }
     })
@@ -310,15 +343,15 @@ pub unsafe extern "C" fn muoswyld_service_status(
 ) -> muoswyld_status {
     guard(|| {
         // SAFETY: the caller's handle, or NULL
-        let service = unsafe { reading(service) }?;
-        let status = service.service.status();
+        let inner = unsafe { reading(service) }?.open()?;
+        let status = inner.service.status();
         let known = muoswyld_service_info {
             is_ready: status.is_ready,
             applied: status
                 .at
                 .map_or_else(Default::default, muoswyld_position::from),
             holders: status.holders.into(),
-            unsent: u64::try_from(service.service.unsent()).unwrap_or(u64::MAX),
+            unsent: u64::try_from(inner.service.unsent()).unwrap_or(u64::MAX),
         };
         // SAFETY: the caller's room, or NULL
         unsafe { put(info, known) }
@@ -332,9 +365,9 @@ pub unsafe extern "C" fn muoswyld_service_end_text(
 ) -> *const c_char {
     guard_or(std::ptr::null(), || {
         // SAFETY: the caller's handle, or NULL
-        let over = unsafe { reading(service) }
+        let text = unsafe { reading(service) }
             .ok()
-            .and_then(|it| it.over.as_ref());
-        over.map_or(std::ptr::null(), |(_, text)| text.as_ptr())
+            .and_then(|it| it.end_text.get());
+        text.map_or(std::ptr::null(), |text| text.as_ptr())
     })
 }

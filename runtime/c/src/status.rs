@@ -68,10 +68,12 @@ pub enum muoswyld_status {
     ServiceEnded = 27,
     /// A call of a service's machine answered false.
     MachineFailed = 28,
+    /// Another call uses the service, or its machine calls it. Nothing was done.
+    Busy = 29,
 }
 
 /// Each status, in the order of their numbers, with a sentence that ends with a zero.
-const TEXTS: [(muoswyld_status, &str); 29] = {
+const TEXTS: [(muoswyld_status, &str); 30] = {
     use muoswyld_status::*;
     [
         (Ok, "it is done\0"),
@@ -118,6 +120,10 @@ const TEXTS: [(muoswyld_status, &str); 29] = {
         (Other, "another cause\0"),
         (ServiceEnded, "the service has ended\0"),
         (MachineFailed, "a call of the machine failed\0"),
+        (
+            Busy,
+            "another call uses the service, or its machine calls it\0",
+        ),
     ]
 };
 
@@ -263,7 +269,7 @@ mod tests {
         }
         for (number, wanted) in [
             (10, "the time passed"),
-            (29, "no such status"),
+            (30, "no such status"),
             (-1, "no such status"),
         ] {
             // SAFETY: the function answers a text that ends with a zero and stays

@@ -1,6 +1,7 @@
 //! The calls, made from Rust as C makes them: what they refuse, and that no panic leaves them.
 
 use crate::config::*;
+use crate::info::muoswyld_group_version;
 use crate::machine::muoswyld_records_add;
 use crate::member::*;
 use crate::service::*;
@@ -208,7 +209,8 @@ fn statuses(
 }
 
 /// The calls that answer something else than a status.
-const OTHERS: [&str; 12] = [
+const OTHERS: [&str; 13] = [
+    "muoswyld_group_version",
     "muoswyld_service_free",
     "muoswyld_service_end_text",
     "muoswyld_answer_clear",
@@ -227,6 +229,7 @@ const OTHERS: [&str; 12] = [
 fn all_calls_are_tried_here() {
     let sources = [
         include_str!("config.rs"),
+        include_str!("info.rs"),
         include_str!("machine.rs"),
         include_str!("member.rs"),
         include_str!("service.rs"),
@@ -241,6 +244,15 @@ fn all_calls_are_tried_here() {
     let tried = statuses(null_mut(), null_mut(), null_mut()).into_iter();
     let tried: BTreeSet<&str> = tried.map(|(name, _)| name).chain(OTHERS).collect();
     assert_eq!(exported, tried);
+}
+
+#[test]
+fn the_version_says_whether_the_node_is_proved() {
+    let said = read(muoswyld_group_version());
+    let words: Vec<&str> = said.split(' ').collect();
+    let is_unproved = std::env::var_os("MUOSWYLD_UNPROVED").is_some_and(|wish| wish == "1");
+    assert_eq!(words[0], if is_unproved { "unproved" } else { "proved" });
+    assert!(words.len() >= 3, "{said}");
 }
 
 #[test]
@@ -279,6 +291,7 @@ fn a_panic_is_answered() {
         }
         assert_eq!(read(muoswyld_config_error(config)), "");
         assert_eq!(read(muoswyld_status_text(0)), "");
+        assert_eq!(read(muoswyld_group_version()), "");
         assert_eq!(muoswyld_group_descriptor(group), -1);
         assert_eq!(muoswyld_group_ended(group, 0), muoswyld_end::Running);
         assert!(muoswyld_group_end_text(group).is_null());

@@ -21,11 +21,12 @@ All members are given the same deliveries in the same order, though the network 
 Each error is an exception of its own, and a MuoswyldError. Times are in seconds. Notices for an operator go to the logger `muoswyld`.
 """
 
-from ._config import Config, add_options, config_of, new_key, read_key, write_key
+from ._config import Config, add_options, config_of, new_key, node_version, read_key, write_key
 from ._errors import (
     BadAddress,
     BadName,
     BadValue,
+    Busy,
     Crowded,
     Ended,
     Full,
@@ -57,6 +58,7 @@ __all__ = [
     "BadAddress",
     "BadName",
     "BadValue",
+    "Busy",
     "Config",
     "Crowded",
     "Delivery",
@@ -98,6 +100,7 @@ __all__ = [
     "add_options",
     "config_of",
     "new_key",
+    "node_version",
     "read_key",
     "write_key",
 ]

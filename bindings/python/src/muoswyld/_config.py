@@ -15,6 +15,12 @@ from ._library import LIBRARY
 from ._types import Name
 
 
+def node_version() -> str:
+    """The node that is linked: "proved SOURCES TOOLCHAIN", or "unproved SOURCES TOOLCHAIN" if nothing is proved of it."""
+    said: bytes = LIBRARY.muoswyld_group_version()
+    return said.decode()
+
+
 def new_key() -> bytes:
     """A new random key of 32 bytes. All members of a group are given the same one."""
     return secrets.token_bytes(32)

@@ -156,6 +156,12 @@ class MachineFailed(MuoswyldError):
     status = 28
 
 
+class Busy(MuoswyldError):
+    """Another call uses the service, or its machine calls it. Nothing was done."""
+
+    status = 29
+
+
 # numbers of statuses that are no errors of Python callers
 OK, NULL_POINTER, TIMEOUT, EMPTY, FULL, ENDED = 0, 1, 10, 11, 12, 17
 

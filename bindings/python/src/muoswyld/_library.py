@@ -118,6 +118,7 @@ class CServiceInfo(Structure):
 # each call: what it answers, and what it is given
 _CALLS = {
     "status_text": (c_char_p, c_int),
+    "group_version": (c_char_p,),
     "key_random": (c_int, c_void_p, c_size_t),
     "config_new": (c_int, c_char_p, c_char_p, POINTER(c_void_p)),
     "config_free": (None, c_void_p),
