@@ -10,17 +10,13 @@ said from then on. It needs the package muoswyld (docs/PYTHON.md).
 import argparse
 import asyncio
 import itertools
+import logging
 import sys
 import threading
 from collections.abc import AsyncIterator, Callable, Coroutine
 from typing import Any
 
 import muoswyld
-
-
-def complain(text: object) -> None:
-    """Says something on standard error."""
-    print(f"{sys.argv[0].rpartition('/')[2]}: {text}", file=sys.stderr, flush=True)
 
 
 def shown(message: bytes) -> str:
@@ -57,7 +53,7 @@ async def told(call: Coroutine[Any, Any, object]) -> None:
     try:
         await call
     except muoswyld.MuoswyldError as error:
-        complain(error)
+        logging.error(error)
 
 
 async def chat(group: muoswyld.Group) -> None:
@@ -84,13 +80,14 @@ async def application(page: str | None, run: Callable[[muoswyld.Group], Coroutin
     """Runs an application of the member that the words of the command name; its status."""
     parser, status = argparse.ArgumentParser(description=page, formatter_class=argparse.RawDescriptionHelpFormatter), 0
     muoswyld.add_options(parser)
+    logging.basicConfig(format=f"{parser.prog}: %(message)s")  # what the member has for an operator, too
     try:
         async with await muoswyld.Group.start_async(muoswyld.config_of(parser.parse_args())) as group:
             print(f"* {group.name} is in the group", flush=True)
             await run(group)
         print(f"* {group.end_text}", flush=True)
     except* (muoswyld.MuoswyldError, OSError) as errors:
-        complain(errors.exceptions[0])
+        logging.error(errors.exceptions[0])
         status = 1
     return status
 

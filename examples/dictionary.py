@@ -9,9 +9,10 @@ leaves. Who joins is sent the contents (examples/contents.py). It needs the pack
 
 import asyncio
 import contextlib
+import logging
 import sys
 
-from chat import application, complain, shown, told, typed
+from chat import application, shown, told, typed
 from contents import MOST_PAIR, Dictionary, is_pair, message_of
 
 import muoswyld
@@ -28,7 +29,7 @@ def do(line: str, dictionary: Dictionary, group: muoswyld.Group, tasks: asyncio.
         case ["delete", key] if is_pair(key, ""):
             dictionary.send(message_of("delete", key))
         case ["put", _, _] | ["delete", _]:
-            complain(f"not sent: a key and its value are UTF-8, and at most {MOST_PAIR} bytes as JSON")
+            logging.error(f"not sent: a key and its value are UTF-8, and at most {MOST_PAIR} bytes as JSON")
         case ["get", key]:
             print(shown(dictionary.get(key).encode(errors="surrogateescape")), flush=True)
         case ["keys"]:
@@ -38,7 +39,7 @@ def do(line: str, dictionary: Dictionary, group: muoswyld.Group, tasks: asyncio.
         case ["stopped", name]:
             tasks.create_task(told(asyncio.to_thread(group.stopped, name)))
         case _:
-            complain("a line is put KEY VALUE, delete KEY, get KEY, keys, leave or stopped NAME")
+            logging.error("a line is put KEY VALUE, delete KEY, get KEY, keys, leave or stopped NAME")
 
 
 async def keep(group: muoswyld.Group) -> None:

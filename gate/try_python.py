@@ -51,7 +51,7 @@ def wheels(folder: pathlib.Path) -> list[str]:
         names = set(file.namelist())
         record = file.read(next(name for name in names if name.endswith("/RECORD"))).decode()
     listed = {line.split(",")[0] for line in record.splitlines()}
-    wanted = {"muoswyld/__init__.py", "muoswyld/py.typed", "muoswyld/libmuoswyld_group.so"}
+    wanted = {"muoswyld/__init__.py", "muoswyld/py.typed", "muoswyld/libmuoswyld_group.so", "muoswyld-0.1.0.dist-info/licenses/LICENSE-MIT"}
     if listed != names or not wanted <= names or any(name.startswith("muoswyld/") != (".dist-info/" not in name) for name in names):
         wrong.append(f"the wheel has {sorted(names)}, and its record {sorted(listed)}")
     done = run([sys.executable, SOURCE / "wheel_file.py", folder], env={**os.environ, "MUOSWYLD_LIBRARY": "/nowhere/library.so"})

@@ -44,7 +44,8 @@ def about(version: str, tag: str) -> dict[str, bytes]:
     metadata += f"License: MIT OR Apache-2.0\nRequires-Python: {known['requires-python']}\n"
     wheel = f"Wheel-Version: 1.0\nGenerator: muoswyld\nRoot-Is-Purelib: false\nTag: {tag}\n"
     folder = f"muoswyld-{version}.dist-info"
-    return {f"{folder}/METADATA": metadata.encode(), f"{folder}/WHEEL": wheel.encode()}
+    licenses = {f"{folder}/licenses/{file.name}": file.read_bytes() for file in sorted(HERE.parent.parent.glob("LICENSE-*"))}
+    return {f"{folder}/METADATA": metadata.encode(), f"{folder}/WHEEL": wheel.encode(), **licenses}
 
 
 def make(folder: pathlib.Path) -> pathlib.Path:
