@@ -3,7 +3,7 @@
 
     examples/chat.py --name 0 --founders 0,1 --address 0=127.0.0.1:7000 --address 1=127.0.0.1:7001 --insecure
 
-Each line of standard input is said to all; `leave`, or its end, leaves; `stopped NAME` tells that a process has ended for sure. Who joins sees what is
+Each line of standard input is said to all; `leave`, Ctrl-C or its end leaves; `stopped NAME` tells that a process has ended for sure. Who joins sees what is
 said from then on. It needs the package muoswyld (docs/PYTHON.md).
 """
 
@@ -11,6 +11,7 @@ import argparse
 import asyncio
 import itertools
 import logging
+import signal
 import sys
 import threading
 from collections.abc import AsyncIterator, Callable, Coroutine
@@ -36,13 +37,14 @@ def line_of(delivery: muoswyld.Delivery) -> str:
 
 
 async def typed() -> AsyncIterator[bytes]:
-    """The lines of standard input as they come, and `leave` at its end."""
+    """The lines of standard input as they come, and `leave` at its end and at Ctrl-C."""
     loop, came = asyncio.get_running_loop(), asyncio.Queue[bytes]()
 
     def read() -> None:
         for line in itertools.chain(open(0, "rb", closefd=False), (b"leave",)):
             loop.call_soon_threadsafe(came.put_nowait, line.removesuffix(b"\n"))
 
+    loop.add_signal_handler(signal.SIGINT, came.put_nowait, b"leave")
     threading.Thread(target=read, daemon=True).start()
     while True:
         yield await came.get()

@@ -3,8 +3,8 @@
 
     examples/dictionary.py --name 0 --founders 0,1 --address 0=127.0.0.1:7000 --address 1=127.0.0.1:7001 --insecure
 
-Standard input: `put KEY VALUE`, `delete KEY`, `get KEY` (of what this member has taken so far), `keys`, `leave`, `stopped NAME`. At its end the member
-leaves. Who joins is sent the contents (examples/contents.py). It needs the package muoswyld (docs/PYTHON.md).
+Standard input: `put KEY VALUE`, `delete KEY`, `get KEY` (of what this member has taken so far), `keys`, `leave`, `stopped NAME`. At its end, and at
+Ctrl-C, the member leaves. Who joins is sent the contents (examples/contents.py). It needs the package muoswyld (docs/PYTHON.md).
 """
 
 import asyncio

@@ -247,6 +247,10 @@ class Groups(unittest.TestCase):
         begin += "config = lambda name, founders: muoswyld.Config(name, founders=founders, addresses=where, key=b'k' * 32)\n"
         lone = "group = muoswyld.Group.create(config('0', '0'))\n"
         waits = ["muoswyld.Group.create(config('1', '0,1'))", f"{lone}list(group)", f"{lone}group.wait()"]
+        waits += [f"import asyncio\n{each}" for each in (
+            "asyncio.run(muoswyld.Group.create_async(config('1', '0,1')))",
+            f"{lone}async def take():\n    async with group:\n        [0 async for _ in group]\nasyncio.run(take())",
+        )]
         for code in waits:
             child = subprocess.Popen([sys.executable, "-c", f"{begin}print('ready', flush=True)\n{code}"], stdout=subprocess.PIPE, stderr=subprocess.PIPE)
             assert child.stdout is not None

@@ -13,14 +13,13 @@ from collections.abc import AsyncIterator, Callable, Iterator
 from types import TracebackType
 from typing import Self, TypeVar
 
+from ._away import SLICE, wait_for, wait_in_loop
 from ._config import Config, milliseconds, opened, said_of
-from ._errors import EMPTY, ENDED, FULL, OK, TIMEOUT, Ended, MuoswyldError, Timeout, check, error_of
+from ._errors import EMPTY, ENDED, FULL, OK, TIMEOUT, Ended, Timeout, check, error_of
 from ._library import LIBRARY, CDelivery, CInfo, CName, CPosition
 from ._types import Delivery, End, Info, Name, Position, delivery_of, info_of, position_of
 from ._waiting import Waiting
 
-# a call waits at most so long in the library, so that Ctrl-C and `close` come through
-_SLICE = 0.2
 # how many deliveries are held for those who wait, before the group is held back
 _MOST_HELD = 4096
 
@@ -61,63 +60,26 @@ def _until(timeout: float | None, attempt: Callable[[float], _T | None]) -> _T:
     """What an attempt of some seconds gives, once it gives something; Timeout if the time passes."""
     ends = None if timeout is None else time.monotonic() + timeout
     while True:
-        left = _SLICE if ends is None else ends - time.monotonic()
-        found = attempt(max(0.0, min(left, _SLICE)))
+        left = SLICE if ends is None else ends - time.monotonic()
+        found = attempt(max(0.0, min(left, SLICE)))
         if found is not None:
             return found
         if left <= 0:
             raise Timeout("the time passed")
 
 
-def _interruptible(call: Callable[[], _T], drop: Callable[[_T], None]) -> _T:
-    """What a call gives that waits in the library. It is made in a thread of its own, so that Ctrl-C comes through: then what it gives is dropped."""
-    lock, done, is_wanted = threading.Lock(), threading.Event(), True
-    given: list[_T] = []
-    raised: list[Exception] = []
-
-    def run() -> None:
-        """Makes the call."""
-        try:
-            given.append(call())
-        except Exception as error:  # noqa: BLE001, it is raised by who waits
-            raised.append(error)
-        with lock:
-            done.set()
-            if not is_wanted:
-                drop_all()
-
-    def drop_all() -> None:
-        """Drops what it gave."""
-        while given:
-            drop(given.pop())
-
-    threading.Thread(target=run, name="muoswyld", daemon=True).start()
-    try:
-        while not done.wait(_SLICE):
-            pass
-    except BaseException:
-        with lock:
-            is_wanted = False
-            if done.is_set():
-                drop_all()
-        raise
-    if raised:
-        raise raised[0]
-    return given[0]
+def _is_founder(config: Config) -> bool:
+    """Whether a member is one of the founders."""
+    return str(config.name) in config.founders.split(",")
 
 
 def _started(config: Config, call: Callable[..., int]) -> ctypes.c_void_p:
-    """The handle of a member that is in its group."""
-
-    def start() -> ctypes.c_void_p:
-        """Starts it."""
-        group = ctypes.c_void_p()
-        with opened(config) as handle:
-            status = call(handle, ctypes.byref(group))
-            check(status, said_of(handle) if status else "")
-        return group
-
-    return _interruptible(start, LIBRARY.muoswyld_group_free)
+    """The handle of a member, once it is in its group."""
+    group = ctypes.c_void_p()
+    with opened(config) as handle:
+        status = call(handle, ctypes.byref(group))
+        check(status, said_of(handle) if status else "")
+    return group
 
 
 class Group:
@@ -142,19 +104,20 @@ class Group:
     def create(cls, config: Config) -> Self:
         """Creates a group, or takes part in creating it: the member's name is one of the founders. It returns once the member is in the group.
         It raises NoFounder, NoAddress, NoKey, BadName, BadAddress, BadValue, SystemRefused, Timeout or Ended."""
-        return cls(_started(config, LIBRARY.muoswyld_group_create), Name.of(config.name))
+        handle = wait_for(lambda: _started(config, LIBRARY.muoswyld_group_create), LIBRARY.muoswyld_group_free)
+        return cls(handle, Name.of(config.name))
 
     @classmethod
     def join(cls, config: Config) -> Self:
         """Joins a group: the member's name is none of the founders, or a later life of a founder's place. It is given what comes from its own
         join on. It raises IsFounder, and what `create` raises."""
-        return cls(_started(config, LIBRARY.muoswyld_group_join), Name.of(config.name))
+        handle = wait_for(lambda: _started(config, LIBRARY.muoswyld_group_join), LIBRARY.muoswyld_group_free)
+        return cls(handle, Name.of(config.name))
 
     @classmethod
     def start(cls, config: Config) -> Self:
         """Creates a group or joins one, as the name says: a founder's first life creates, any other name joins."""
-        is_founder = str(config.name) in config.founders.split(",")
-        return cls.create(config) if is_founder else cls.join(config)
+        return cls.create(config) if _is_founder(config) else cls.join(config)
 
     @contextlib.contextmanager
     def _used(self) -> Iterator[ctypes.c_void_p]:
@@ -296,16 +259,14 @@ class Group:
         """Resets the group: a new view without the names of which this member was told that they have stopped. `least` is the fewest members that it
         goes on with, 1 to 16, or that of the config. It gives the number of the new view, which is a delivery too. It raises BadValue, TooFew, Crowded,
         Overtaken, NotIn, NotMember, Timeout if it isn't decided in time and goes on, or Ended."""
-        least = 0 if least is None else least if 0 < least < 256 else 255
+        return wait_for(lambda: self._reset(least, timeout))
 
-        def reset() -> int:
-            """Resets it."""
-            with self._used() as handle:
-                number = ctypes.c_uint32()
-                self._check(handle, LIBRARY.muoswyld_group_reset(handle, least, milliseconds(timeout), ctypes.byref(number)))
-                return number.value
-
-        return _interruptible(reset, lambda _: None)
+    def _reset(self, least: int | None, timeout: float | None) -> int:
+        fewest = 0 if least is None else least if 0 < least < 256 else 255
+        with self._used() as handle:
+            number = ctypes.c_uint32()
+            self._check(handle, LIBRARY.muoswyld_group_reset(handle, fewest, milliseconds(timeout), ctypes.byref(number)))
+            return number.value
 
     def stopped(self, name: Name | str) -> None:
         """Tells that a name has stopped for certain: its process has ended, or can't act any more. Tell each running member: the group is then reset
@@ -405,18 +366,20 @@ class Group:
 
     @classmethod
     async def create_async(cls, config: Config) -> Self:
-        """As `create`."""
-        return await asyncio.to_thread(cls.create, config)
+        """As `create`. If it is cancelled, the member is stopped."""
+        handle = await wait_in_loop(lambda: _started(config, LIBRARY.muoswyld_group_create), LIBRARY.muoswyld_group_free)
+        return cls(handle, Name.of(config.name))
 
     @classmethod
     async def join_async(cls, config: Config) -> Self:
-        """As `join`."""
-        return await asyncio.to_thread(cls.join, config)
+        """As `join`. If it is cancelled, the member is stopped."""
+        handle = await wait_in_loop(lambda: _started(config, LIBRARY.muoswyld_group_join), LIBRARY.muoswyld_group_free)
+        return cls(handle, Name.of(config.name))
 
     @classmethod
     async def start_async(cls, config: Config) -> Self:
         """As `start`."""
-        return await asyncio.to_thread(cls.start, config)
+        return await (cls.create_async(config) if _is_founder(config) else cls.join_async(config))
 
     async def send_async(self, message: bytes) -> Position:
         """As `send`. For a limit in time use `asyncio.timeout`: the message may still be sent after it. Several may be under way; they are sent in the
@@ -430,11 +393,11 @@ class Group:
 
     async def reset_async(self, least: int | None = None, timeout: float | None = None) -> int:
         """As `reset`."""
-        return await asyncio.to_thread(self.reset, least, timeout)
+        return await wait_in_loop(lambda: self._reset(least, timeout))
 
     async def leave_async(self, timeout: float | None = None) -> None:
         """As `leave`."""
-        await asyncio.to_thread(self.leave, timeout)
+        await wait_in_loop(lambda: self.leave(timeout))
 
     async def __aiter__(self) -> AsyncIterator[Delivery]:
         """Deliveries one after the other, until the member ends."""
@@ -448,7 +411,7 @@ class Group:
         return self
 
     async def __aexit__(self, kind: type[BaseException] | None, error: BaseException | None, trace: TracebackType | None) -> None:
-        await asyncio.to_thread(self.__exit__, kind, error, trace)
+        await wait_in_loop(lambda: self.__exit__(kind, error, trace))
 
     def __del__(self) -> None:
         if getattr(self, "_handle", None) is not None:
