@@ -2,10 +2,12 @@
 
 import argparse
 import asyncio
+import contextlib
 import inspect
 import itertools
 import os
 import pathlib
+import resource
 import select
 import signal
 import subprocess
@@ -240,6 +242,22 @@ class Groups(unittest.TestCase):
             for _ in range(2):
                 self.assertRaises(Ended, group.receive)
                 self.assertTrue(is_rung())
+
+    def test_many_descriptors(self) -> None:
+        """A process may have more descriptors than select takes."""
+        least, most = resource.getrlimit(resource.RLIMIT_NOFILE)
+        if most < 1_200:
+            self.skipTest("the system allows fewer")
+        resource.setrlimit(resource.RLIMIT_NOFILE, (max(least, 1_200), most))
+        with contextlib.ExitStack() as files:
+            for _ in range(1_100):
+                files.enter_context(open(os.devnull, "rb"))
+            with one(addresses()) as group, Service(group, Counter()) as service:
+                self.assertGreater(group.fileno(), 1_023)
+                self.assertEqual(service.call(b"1", SOON), b"1")
+            with one(addresses()) as group:
+                self.assertIsInstance(group.receive(SOON), View)
+                self.assertRaises(muoswyld.Timeout, group.receive, 0.01)
 
     def test_ctrl_c(self) -> None:
         """Ctrl-C ends what waits: a founder that waits for the lowest one, one that receives, and a reset that isn't decided."""

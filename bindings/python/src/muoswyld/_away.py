@@ -2,6 +2,7 @@
 
 import asyncio
 import contextlib
+import select
 import threading
 from collections.abc import Callable
 from typing import Generic, TypeVar
@@ -10,6 +11,14 @@ from typing import Generic, TypeVar
 SLICE = 0.2
 
 _T = TypeVar("_T")
+
+
+def wait_readable(seconds: float, *descriptors: int) -> None:
+    """Waits until one of some descriptors can be read, at most so long."""
+    poll = select.poll()  # takes descriptors above 1,023, too
+    for descriptor in descriptors:
+        poll.register(descriptor, select.POLLIN)
+    poll.poll(seconds * 1000)
 
 
 class _Away(Generic[_T]):

@@ -4,7 +4,6 @@ import asyncio
 import contextlib
 import ctypes
 import logging
-import select
 import threading
 import time
 import warnings
@@ -13,7 +12,7 @@ from collections.abc import AsyncIterator, Callable, Iterator
 from types import TracebackType
 from typing import Self, TypeVar
 
-from ._away import SLICE, wait_for, wait_in_loop
+from ._away import SLICE, wait_for, wait_in_loop, wait_readable
 from ._config import Config, milliseconds, opened, said_of
 from ._errors import EMPTY, ENDED, FULL, OK, TIMEOUT, Ended, Timeout, check, error_of
 from ._library import LIBRARY, CDelivery, CInfo, CName, CPosition
@@ -239,7 +238,7 @@ class Group:
             delivery = self._take()
             if delivery is None and seconds > 0:
                 with self._used() as handle:
-                    select.select([LIBRARY.muoswyld_group_descriptor(handle)], [], [], seconds)
+                    wait_readable(seconds, LIBRARY.muoswyld_group_descriptor(handle))
                 delivery = self._take()
             return delivery
 

@@ -6,13 +6,13 @@ import concurrent.futures
 import contextlib
 import ctypes
 import os
-import select
 import threading
 from collections.abc import Callable, Iterable, Iterator
 from dataclasses import dataclass
 from types import TracebackType
 from typing import Any, Generic, Protocol, Self, TypeVar
 
+from ._away import wait_readable
 from ._errors import EMPTY, OK, Ended, MuoswyldError, Timeout, check, error_of
 from ._group import LOG, Group
 from ._library import APPLY, LIBRARY, RESTORE, SNAPSHOT, CAnswer, CMachine, CServiceInfo
@@ -124,7 +124,7 @@ class Service(Generic[_M]):
             with self._group._used() as group:
                 descriptor = LIBRARY.muoswyld_group_descriptor(group)
                 while (sleep := self._turn(group)) is not None:
-                    select.select([descriptor, self._bell], [], [], sleep)
+                    wait_readable(sleep, descriptor, self._bell)
                     with contextlib.suppress(BlockingIOError):
                         os.eventfd_read(self._bell)
         except Ended:
