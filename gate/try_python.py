@@ -3,7 +3,7 @@
 
     gate/try_python.py
 
-pip installs it into a new environment without a network, and there its tests run (bindings/python/test_group.py). The wheel is the same each time it
+pip installs it into a new environment without a network, and there its tests run (bindings/python/test_*.py). The wheel is the same each time it
 is made. Its structs lie in memory as those of bindings/c/muoswyld_group.h, and its calls have as many parameters. It prints what fails, and how many
 parts passed.
 """
@@ -29,17 +29,22 @@ from words import end, words
 # exceptions of other names than their statuses have, as those are Python's; and what is no error of a Python caller, or no end
 OTHERWISE = {"IsFounder": "Founder", "SystemRefused": "System"}
 WITHOUT = {*(f"STATUS_{name}" for name in ("OK", "NULL_POINTER", "EMPTY", "NO_ROOM", "OTHER")), "END_RUNNING"}
+# files of tests, and how many each has at least
+TESTS = {"test_group.py": 16, "test_service.py": 5}
 HEADER = TOP / "bindings" / "c" / "muoswyld_group.h"
 
 
 def tests(folder: pathlib.Path) -> list[str]:
     """The package is installed, and passes its tests, with every warning as an error."""
-    python = environment(folder)
+    python, wrong = environment(folder), []
     alone = {name: value for name, value in os.environ.items() if not name.startswith(("PYTHON", "MUOSWYLD_LIBRARY"))}
-    done = run([python, "-X", "dev", "-W", "error", SOURCE / "test_group.py"], cwd=folder, env=alone, seconds=600)
-    said = done.stderr.decode(errors="replace")
-    passed = re.search(r"^Ran (\d+) tests in .*\n\nOK$", said, re.MULTILINE)
-    return [] if done.returncode == 0 and passed and int(passed[1]) >= 15 else [f"the tests ended with {done.returncode}: {said[-5000:]}"]
+    for name, least in TESTS.items():
+        done = run([python, "-X", "dev", "-W", "error", SOURCE / name], cwd=folder, env=alone, seconds=600)
+        said = done.stderr.decode(errors="replace")
+        passed = re.search(r"^Ran (\d+) tests in .*\n\nOK$", said, re.MULTILINE)
+        if done.returncode or not passed or int(passed[1]) < least:
+            wrong.append(f"{name} ended with {done.returncode}: {said[-5000:]}")
+    return wrong
 
 
 def wheels(folder: pathlib.Path) -> list[str]:
