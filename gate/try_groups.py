@@ -7,6 +7,7 @@ part ends by itself, within some seconds. It prints what fails, and how many par
 """
 
 import random
+import subprocess
 import sys
 import threading
 import time
@@ -184,6 +185,13 @@ class Application:
         return self.own.end()
 
 
+def judged(tried: Tried) -> list[str]:
+    """What isn't right by the journals of all members that ran."""
+    done = subprocess.run([TOP / "runtime" / "target" / "release" / "judge", tried.folder], capture_output=True, text=True, check=False)
+    is_lawful = done.returncode == 0 and done.stdout.rstrip().endswith(": lawful")
+    return [] if is_lawful else [f"the journals are judged: {(done.stdout + done.stderr)[-500:]}"]
+
+
 def dictionary(tried: Tried) -> list[str]:
     """A member is killed, the group goes on without it, and its place comes back to the same contents."""
     members = started(tried, "dictionary.py", "0", "1", "2")
@@ -216,7 +224,7 @@ def dictionary(tried: Tried) -> list[str]:
         lines = members["2"].own.until("no line is this", 0.5)
         wrong += [] if any(said in each for each in lines) else [f"{line[:9]!r} is answered {lines}"]
     statuses = [member.end() for member in members.values()]
-    return wrong + ([] if statuses == [0, 0, 0] else [f"they ended with {statuses}"])
+    return wrong + ([] if statuses == [0, 0, 0] else [f"they ended with {statuses}"]) + judged(tried)
 
 
 def started(tried: Tried, script: str, *names: str) -> dict[str, Application]:
@@ -269,7 +277,7 @@ def transfer(tried: Tried) -> list[str]:
         if not member.gets("keys", keys) or not member.gets("get now", "2") or not member.gets("get 1-7", "v" * 900):
             wrong.append(f"{name} hasn't the contents")
     statuses += [member.end() for member in members.values()]
-    return wrong + ([] if set(statuses) == {0} else [f"they ended with {statuses}"])
+    return wrong + ([] if set(statuses) == {0} else [f"they ended with {statuses}"]) + judged(tried)
 
 
 def chat(tried: Tried) -> list[str]:
@@ -290,7 +298,7 @@ def chat(tried: Tried) -> list[str]:
     if not members["0"].wants("<2> bye") or not members["0"].wants("* 2 leaves") or not members["2"].wants("* it left the group"):
         wrong.append("nobody said bye and left")
     statuses = [member.end() for member in members.values()]
-    return wrong + ([] if statuses == [0, 0, 0] else [f"they ended with {statuses}"])
+    return wrong + ([] if statuses == [0, 0, 0] else [f"they ended with {statuses}"]) + judged(tried)
 
 
 class Taker(threading.Thread):
