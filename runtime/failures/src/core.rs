@@ -30,6 +30,7 @@ pub struct Failures {
     pub(crate) is_urgent: bool,
     pub(crate) ended: bool,
     pub(crate) was_frozen: bool,
+    other_ids: NameSet,
     started: Time,
     next_heartbeat: Time,
     promised: Time,
@@ -64,6 +65,7 @@ impl Failures {
             is_urgent: false,
             ended: false,
             was_frozen: false,
+            other_ids: NameSet::default(),
             started: now,
             next_heartbeat: now,
             promised: now,
@@ -119,6 +121,16 @@ impl Failures {
         self.settings.name
     }
 
+    /// What makes it certain that a name has stopped.
+    pub fn policy(&self) -> Policy {
+        self.settings.policy
+    }
+
+    /// Whether this life was given up.
+    pub fn is_ended(&self) -> bool {
+        self.ended
+    }
+
     pub(crate) fn has(&self, plant: Plant) -> bool {
         self.settings.plant == Some(plant)
     }
@@ -139,6 +151,9 @@ impl Failures {
             }
             Some(Message::Echo(echo)) if echo.id == self.settings.id => {
                 self.echoes.hear(echo.voter, echo.heard, self.now);
+            }
+            Some(Message::Heartbeat(heartbeat)) if self.other_ids.insert(heartbeat.from.name) => {
+                self.note(Notice::OtherId(heartbeat.from.name));
             }
             _ => {}
         }

@@ -4,11 +4,16 @@
 use crate::addresses::Addresses;
 use crate::config::{Callback, Config};
 use crate::error::{CreateError, End, ResetError, SendError, ToldError};
+use crate::failures::{FailuresInfo, Policy};
+use crate::fencing::{self, Fencing};
 use crate::seal::{fill, Seal};
 use crate::shared::{Command, Reset, Sent, Shared, Told};
 use crate::slot::Slot;
-use crate::socket::Udp;
+use crate::socket::{boottime, Udp};
+use crate::state::State;
 use muoswyld::names::{Name, Names};
+use muoswyld_failures::Failures;
+use muoswyld_guarded::{Deed, Guarded};
 use muoswyld_member::{
     Delivery, HandleError, Info, Input, Member, NotReset, Notice, Output, Position, Settings, Time,
     Unsent,
@@ -24,10 +29,10 @@ use std::time::{Duration, Instant, SystemTime};
 /// How many batches of datagrams are read before anything else is done: what comes faster is lost, and stops nothing.
 const MOST_BATCHES: usize = 6;
 
-/// Microseconds since 1970 as the system has them at a member's start, and from then on a clock that never goes back: the journals of
-/// members on one machine have one time.
+/// Microseconds since 1970 as the system has them at a member's start, and from then on a clock that never goes back, that nobody sets,
+/// and that runs while the machine sleeps: the journals of members on one machine have one time, and a lease ends in time.
 struct Clock {
-    began: Instant,
+    began: Duration,
     epoch: Duration,
 }
 
@@ -35,14 +40,15 @@ impl Clock {
     fn new() -> Clock {
         let epoch = SystemTime::UNIX_EPOCH.elapsed();
         Clock {
-            began: Instant::now(),
+            began: boottime(),
             // a system that is set to a time before 1970 counts from 0
             epoch: epoch.unwrap_or_default(),
         }
     }
 
     fn now(&self) -> Time {
-        let now = self.epoch.saturating_add(self.began.elapsed());
+        let elapsed = boottime().saturating_sub(self.began);
+        let now = self.epoch.saturating_add(elapsed);
         Time(u64::try_from(now.as_micros()).unwrap_or(u64::MAX))
     }
 }
@@ -55,7 +61,8 @@ enum Waiter {
 
 /// A member with its network and its callers.
 struct Shell {
-    member: Member,
+    member: Guarded,
+    fencing: Fencing,
     udp: Udp,
     seal: Seal,
     shared: Arc<Shared>,
@@ -70,6 +77,8 @@ struct Shell {
     deliveries: Vec<Delivery>,
     commands: Vec<Command>,
     datagram: Vec<u8>,
+    /// How many deliveries the application's call has taken of the batch that goes out.
+    consumed: usize,
     /// Datagrams that no member sealed, came from no member's address, or are too long.
     dropped: u64,
     /// How many datagrams of each place's address weren't sealed by the key.
@@ -90,7 +99,7 @@ fn checked(config: &Config) -> Result<(), CreateError> {
     if config.key.is_none() && !config.insecure {
         return Err(CreateError::NoKey);
     }
-    Ok(())
+    config.check_failures()
 }
 
 /// Sixty-four random bits.
@@ -131,14 +140,36 @@ fn journal_of(config: &Config) -> std::io::Result<Option<File>> {
     opened.map(Some)
 }
 
-/// A member that begins, and its journal. A name that doesn't begin has none.
+/// A member that begins, what guards its place, and its journal. A name that doesn't begin has none. The place's folder is locked, and
+/// that the life begins is on disk, before anything of it can be seen.
 fn begun(
     settings: Settings,
     now: Time,
     config: &Config,
-) -> Result<(Member, Option<File>), CreateError> {
-    let member = Member::new(settings, now)?;
-    Ok((member, journal_of(config)?))
+    shared: Arc<Shared>,
+) -> Result<(Guarded, Fencing, Option<File>), CreateError> {
+    let core = config.failure_settings(settings.process)?;
+    let member = Member::new(settings.clone(), now)?;
+    let mut state = match &config.failures.state {
+        Some(folder) => Some(State::take(folder, config.name.place())?),
+        None => None,
+    };
+    let voter = match &state {
+        Some(state) => state.voter()?,
+        None => None,
+    };
+    let failures = Failures::new(core, voter.as_deref(), muoswyld_failures::Time(now.0))?;
+    if let Some(state) = &mut state {
+        state.begin(config.name)?;
+    }
+    fencing::tell_start(&failures);
+    let program = match config.failures.policy() {
+        Policy::Command { program, .. } => Some(program),
+        _ => None,
+    };
+    let fencing = Fencing::new(shared, state, program)?;
+    let guarded = Guarded::new(member, failures, &settings);
+    Ok((guarded, fencing, journal_of(config)?))
 }
 
 /// Starts a member's thread.
@@ -160,12 +191,13 @@ pub(crate) fn start(config: Config) -> Result<(Arc<Shared>, JoinHandle<()>), Cre
         .spawn(move || {
             // a node stays on the thread that opened it, so the member is made here
             let clock = Clock::new();
-            match begun(settings, clock.now(), &config) {
-                Ok((member, journal)) => {
+            match begun(settings, clock.now(), &config, callers.clone()) {
+                Ok((member, fencing, journal)) => {
                     // whoever started this waits for it
                     let _heard = starts.send(Ok(()));
                     let mut shell = Shell {
                         member,
+                        fencing,
                         udp,
                         seal,
                         shared: callers,
@@ -180,6 +212,7 @@ pub(crate) fn start(config: Config) -> Result<(Arc<Shared>, JoinHandle<()>), Cre
                         deliveries: Vec::new(),
                         commands: Vec::new(),
                         datagram: Vec::new(),
+                        consumed: 0,
                         dropped: 0,
                         unsealed: [0; 16],
                         spin: config.spin,
@@ -229,8 +262,9 @@ impl Shell {
             if received > 0 {
                 self.handle(Input::Consumed(received));
             }
-            if self.member.wake() <= self.now() {
-                self.handle(Input::Time);
+            let now = self.now();
+            if self.member.wake() <= now {
+                self.member.tick(now);
             }
             if let Some(end) = self.let_out() {
                 return end;
@@ -259,13 +293,14 @@ impl Shell {
     /// Reads what came, a bounded number of datagrams.
     fn read(&mut self) -> std::io::Result<()> {
         for _ in 0..MOST_BATCHES {
-            let now = self.now();
             let (member, seal, udp) = (&mut self.member, &mut self.seal, &mut self.udp);
+            let (clock, mut read) = (&self.clock, None);
             let mut unsealed = Vec::new();
             let brought = udp.receive(|place, datagram| match seal.open(datagram) {
                 Some(payload) => {
-                    // only messages can be refused
-                    let _taken = member.handle(now, Input::Datagram(payload));
+                    // read after the datagrams were received
+                    let now = *read.get_or_insert_with(|| clock.now());
+                    member.hear(now, payload);
                 }
                 None => unsealed.push(place),
             })?;
@@ -315,6 +350,11 @@ impl Shell {
                 Command::Leave => self.handle(Input::Leave),
                 Command::Stopped { name, slot } => slot.fill(self.stopped(name)),
                 Command::Info(slot) => slot.fill(self.info()),
+                Command::Failures(slot) => slot.fill(self.failures()),
+                Command::Written(number) => self.member.written(self.clock.now(), number),
+                Command::Fenced { name, done } => {
+                    self.member.fenced(self.clock.now(), name, done);
+                }
                 Command::Stop => end = Some(End::Stopped),
                 Command::Reset {
                     least,
@@ -363,19 +403,68 @@ impl Shell {
     }
 
     fn stopped(&mut self, name: Name) -> Told {
-        match self.member.handle(self.now(), Input::Stopped(name)) {
+        match self.member.told(self.now(), name) {
             Err(HandleError::Itself) => Err(ToldError::Itself),
             // nothing else is refused while the member runs
             _ => Ok(()),
         }
     }
 
-    /// Lets out what came of all that: the journal's lines first, then datagrams, then deliveries and answers. The end, if the
-    /// member has ended.
-    fn let_out(&mut self) -> Option<End> {
-        let mut outputs = std::mem::take(&mut self.outputs);
+    /// How it stands with who has stopped.
+    fn failures(&self) -> FailuresInfo {
+        FailuresInfo::of(self.member.policy(), &self.member.failures(), self.now().0)
+    }
+
+    /// Does what is to be done for what says who has stopped; the end, if this life was given up.
+    fn do_deeds(&mut self) -> Option<End> {
         let now = self.now();
-        self.member.release(now, &mut outputs);
+        for deed in self.member.deeds(now) {
+            match deed {
+                Deed::Send { to, payload } => {
+                    if self.seal.seal(&payload, &mut self.datagram) {
+                        let places = (0..16).filter(|place| to >> place & 1 == 1);
+                        self.udp.push_known(&self.datagram, places);
+                    }
+                }
+                Deed::Write { number, bytes } => self.fencing.write(number, bytes),
+                Deed::Fence { name, until } => {
+                    let within = Duration::from_micros(until.since(now));
+                    self.fencing.fence(name, within);
+                }
+                // what is held is dropped
+                Deed::Ended => return Some(End::LeftOut),
+                Deed::Told(notice) => fencing::tell(notice, &self.member.failures()),
+            }
+        }
+        None
+    }
+
+    /// Lets out what came of all that, or holds it: all or nothing. The end, if the member has ended.
+    fn let_out(&mut self) -> Option<End> {
+        self.member.fix(self.now());
+        if let Some(end) = self.do_deeds() {
+            return Some(end);
+        }
+        // read after the batch was complete
+        if !self.member.look(self.now()) {
+            self.udp.flush();
+            return None;
+        }
+        let end = self.emit();
+        let now = self.now();
+        self.member.emitted(now);
+        let consumed = std::mem::take(&mut self.consumed);
+        if consumed > 0 {
+            self.handle(Input::Consumed(consumed));
+        }
+        end
+    }
+
+    /// Lets all of a batch out: the journal's lines first, then datagrams, then deliveries and answers. Meanwhile the member is given
+    /// nothing. The end, if it has ended.
+    fn emit(&mut self) -> Option<End> {
+        let mut outputs = std::mem::take(&mut self.outputs);
+        self.member.batch(self.now(), &mut outputs);
         let mut end = None;
         for output in outputs.drain(..) {
             match output {
@@ -421,7 +510,7 @@ impl Shell {
         match &self.on_delivery {
             Some(call) => {
                 (call.0)(delivery);
-                self.handle(Input::Consumed(1));
+                self.consumed += 1;
             }
             None => self.deliveries.push(delivery),
         }
@@ -450,7 +539,10 @@ impl Shell {
 
     /// A message was delivered, or won't be.
     fn settle(&mut self, ticket: u64, result: Result<Position, Unsent>) {
-        let ended = || self.member.info().ended.map_or(End::Stopped, End::from);
+        let ended = || {
+            let ended = self.member.member().info().ended;
+            ended.map_or(End::Stopped, End::from)
+        };
         let result = result.map_err(|why| match why {
             Unsent::NotSent => SendError::NotSent(ended()),
             Unsent::Unknown => SendError::Ended(ended()),
@@ -485,8 +577,9 @@ impl Shell {
                 Command::Send { slot, .. } => slot.fill(Err(SendError::NotSent(end.clone()))),
                 Command::Reset { slot, .. } => slot.fill(Err(ResetError::Ended(end.clone()))),
                 Command::Info(slot) => slot.fill(self.info()),
+                Command::Failures(slot) => slot.fill(self.failures()),
                 Command::Stopped { slot, .. } => slot.fill(Err(ToldError::Ended(end.clone()))),
-                Command::Leave | Command::Stop => {}
+                Command::Leave | Command::Stop | Command::Written(_) | Command::Fenced { .. } => {}
             }
         }
         for (_, waiter) in self.waiters.drain() {

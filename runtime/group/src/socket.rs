@@ -164,6 +164,12 @@ impl Udp {
         self.outgoing.extend(many);
     }
 
+    /// As [`push`](Udp::push), for those of the places that have an address.
+    pub fn push_known(&mut self, datagram: &[u8], places: impl Iterator<Item = u8>) {
+        let known: Vec<u8> = self.addresses.iter().map(|(place, _)| *place).collect();
+        self.push(datagram, places.filter(|place| known.contains(place)));
+    }
+
     /// Sends all that was added. What the system doesn't take is lost, as a network loses it, and counted.
     pub fn flush(&mut self) {
         let mut at = 0;
@@ -248,6 +254,18 @@ fn nothing_yet(error: io::Error) -> io::Result<Brought> {
             _ => Err(error),
         },
     }
+}
+
+/// The time since the machine began: a clock that runs while the machine sleeps, and that nobody sets.
+pub fn boottime() -> Duration {
+    let mut time = libc::timespec {
+        tv_sec: 0,
+        tv_nsec: 0,
+    };
+    // SAFETY: the call writes to `time` alone. It fails for no clock that the system has, and Linux has this one.
+    unsafe { libc::clock_gettime(libc::CLOCK_BOOTTIME, &mut time) };
+    let seconds = u64::try_from(time.tv_sec).unwrap_or(0);
+    Duration::new(seconds, u32::try_from(time.tv_nsec).unwrap_or(0))
 }
 
 /// What ends a member's wait from another thread.
