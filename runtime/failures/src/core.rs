@@ -5,7 +5,7 @@ use crate::echoes::Echoes;
 use crate::event::{Input, NoVoter, Notice, Output};
 use crate::fences::Fences;
 use crate::gate::Gate;
-use crate::message::{Echo, Heard, Heartbeat, Message, MOST_HEARD};
+use crate::message::{Echo, Heard, Heartbeat, Message};
 use crate::names::{Name, NameSet};
 use crate::peers::Peers;
 use crate::settings::{Plant, Policy, Settings, StartError};
@@ -180,11 +180,19 @@ impl Failures {
         }
     }
 
+    /// A view stands from now on, or a member came or went. Where somebody went, or this name came, all silences begin anew; else only
+    /// those of who came: a place that comes again and again mustn't hide that another one is silent.
     fn view_stands(&mut self, members: NameSet, least: u8) {
-        self.view = members;
+        let before = std::mem::replace(&mut self.view, members);
         self.settings.least = least;
-        self.candidate = Candidate::default();
-        self.peers.since = self.now;
+        let came = members.without(&before);
+        for name in came.iter() {
+            self.peers.came.insert(name, self.now);
+        }
+        if came.has(self.settings.name) || !before.without(&members).is_empty() {
+            self.candidate = Candidate::default();
+            self.peers.since = self.now;
+        }
     }
 
     /// Its place is no voter of this group any more: it echoes nobody and refuses nobody. It comes back with the next group.
@@ -222,8 +230,6 @@ impl Failures {
         let me = self.settings.name;
         let mut heard = self.voter.as_ref().map_or(Vec::new(), Voter::echoes);
         heard.retain(|one| one.name.place() != me.place());
-        let more = heard.len().saturating_sub(MOST_HEARD);
-        heard.drain(..more);
         if let Some(voter) = &mut self.voter {
             // its own place votes too, for the same heartbeat
             voter.hear(from, self.now);

@@ -431,6 +431,7 @@ impl Shell {
                     let within = Duration::from_micros(until.since(now));
                     self.fencing.fence(name, within);
                 }
+                Deed::Stopped(name) => tracing::warn!("{name} has stopped for certain"),
                 // what is held is dropped
                 Deed::Ended => return Some(End::LeftOut),
                 Deed::Told(notice) => fencing::tell(notice, &self.member.failures()),

@@ -40,6 +40,8 @@ pub enum Deed {
         /// Up to when it may take.
         until: Time,
     },
+    /// A name has stopped for certain; the member is told so.
+    Stopped(Name),
     /// This life was given up. Nothing more is let out, what is held is dropped, and the life ends.
     Ended,
     /// Something for the log.
@@ -243,6 +245,7 @@ impl Guarded {
                 failures::Output::Stopped(name) => {
                     // the own name isn't among them, and nothing else is refused
                     let _taken = self.handle(now, Input::Stopped(name_of(name)));
+                    deeds.push(Deed::Stopped(name_of(name)));
                 }
                 failures::Output::Ended => deeds.push(Deed::Ended),
                 failures::Output::Notice(notice) => deeds.push(Deed::Told(notice)),
@@ -311,7 +314,8 @@ impl Guarded {
         self.shown = Some(info);
         let standing = info.standing;
         let view = (standing.view_number, standing.members);
-        if standing.accepted >= standing.view_number && self.view != Some(view) {
+        let stands = standing.taken >= standing.view_number && info.group.is_some();
+        if stands && self.view != Some(view) {
             self.view = Some(view);
             let majority = standing.members.len() / 2 + 1;
             let input = failures::Input::View {
@@ -368,6 +372,11 @@ impl Guarded {
     /// How many outputs the batch has.
     pub fn held(&self) -> usize {
         self.held.len()
+    }
+
+    /// Whether a batch is complete and not out.
+    pub fn is_held(&self) -> bool {
+        self.is_held
     }
 
     /// Whether this life was given up.

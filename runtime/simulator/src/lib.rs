@@ -7,7 +7,9 @@
 #![warn(missing_docs)]
 
 pub mod checker;
+mod clock;
 pub mod draw;
+mod fenced;
 pub mod journals;
 mod lifecycle;
 pub mod plan;
@@ -17,4 +19,4 @@ mod world;
 
 pub use plan::Plan;
 pub use services::Services;
-pub use world::{run, run_with, Failure, Report, SeenView};
+pub use world::{run, run_with, Failure, Fenced, Report, SeenView};
