@@ -98,6 +98,11 @@ impl Failures {
         self.go_on(was_paused);
     }
 
+    /// A name has run: something else than a message of this crate came of it. A founder that never ran isn't suspected.
+    pub fn note_ran(&mut self, name: Name) {
+        self.peers.ran.insert(name);
+    }
+
     /// What is to be done, in this order.
     pub fn take(&mut self) -> Vec<Output> {
         std::mem::take(&mut self.outputs)
@@ -180,8 +185,8 @@ impl Failures {
         }
     }
 
-    /// A view stands from now on, or a member came or went. Where somebody went, or this name came, all silences begin anew; else only
-    /// those of who came: a place that comes again and again mustn't hide that another one is silent.
+    /// A view stands from now on, or a member came or went. If this name came all silences begin anew; else only those of who came: a
+    /// place that comes and goes again and again mustn't hide that another one is silent.
     fn view_stands(&mut self, members: NameSet, least: u8) {
         let before = std::mem::replace(&mut self.view, members);
         self.settings.least = least;
@@ -189,8 +194,8 @@ impl Failures {
         for name in came.iter() {
             self.peers.came.insert(name, self.now);
         }
-        if came.has(self.settings.name) || !before.without(&members).is_empty() {
-            self.candidate = Candidate::default();
+        self.candidate = Candidate::default();
+        if came.has(self.settings.name) {
             self.peers.since = self.now;
         }
     }

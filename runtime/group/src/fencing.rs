@@ -4,7 +4,7 @@
 use crate::shared::{Command, Shared};
 use crate::state::State;
 use muoswyld::names::Name;
-use muoswyld_failures::{Failures, NoVoter, Notice};
+use muoswyld_failures::{Failures, NoVoter, Notice, Policy};
 use std::io::{BufRead, BufReader, Read};
 use std::os::unix::process::CommandExt;
 use std::path::{Path, PathBuf};
@@ -175,7 +175,9 @@ fn log_lines(name: Name, from: Option<impl Read + Send + 'static>) {
 pub(crate) fn tell(notice: Notice, failures: &muoswyld_failures::Info) {
     match notice {
         Notice::Suspects(name) => {
-            tracing::warn!("{name} is suspected: it wasn't heard for too long")
+            tracing::warn!(
+                "{name} is suspected: it wasn't heard, or says that it is frozen, for too long"
+            )
         }
         Notice::Hears(name) => tracing::info!("{name} isn't suspected any more"),
         Notice::Wants(name) => tracing::warn!("the voters are asked to refuse {name}"),
@@ -205,9 +207,12 @@ pub(crate) fn why_no_voter(cause: NoVoter) -> &'static str {
 
 /// Tells the log at the start why the place of a named voter doesn't vote.
 pub(crate) fn tell_start(failures: &Failures) {
+    let rests_on_votes = matches!(failures.policy(), Policy::Echo | Policy::Lease(_));
     match failures.info().no_voter {
-        None | Some(NoVoter::NotNamed) => {}
-        Some(cause) => tracing::error!("{}", why_no_voter(cause)),
+        Some(cause) if rests_on_votes && cause != NoVoter::NotNamed => {
+            tracing::error!("{}", why_no_voter(cause));
+        }
+        _ => {}
     }
 }
 

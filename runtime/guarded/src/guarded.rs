@@ -124,10 +124,18 @@ impl Guarded {
 
     /// Takes a datagram's payload. The time was read after it was received.
     pub fn hear(&mut self, now: Time, payload: &[u8]) {
-        let is_for_failures = matches!(payload.first(), Some(0x10 | 0x11));
-        if is_for_failures && self.policy != Policy::Told {
-            let input = failures::Input::Datagram(payload);
-            return self.failures.handle(at(now), input);
+        if self.policy != Policy::Told {
+            match payload {
+                [0x10 | 0x11, ..] => {
+                    let input = failures::Input::Datagram(payload);
+                    return self.failures.handle(at(now), input);
+                }
+                // letters, a question for the group's id, or its refusal: the name stands after eight bytes
+                [0x01 | 0x02 | 0x04, _, _, _, _, _, _, _, _, name, ..] => {
+                    self.failures.note_ran(failures::Name::of_byte(*name));
+                }
+                _ => {}
+            }
         }
         // only messages can be refused
         let _taken = self.handle(now, Input::Datagram(payload));

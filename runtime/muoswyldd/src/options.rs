@@ -1,6 +1,7 @@
 //! The words of the command, and the configuration file that may stand in their place.
 
 use crate::exit::{Fault, CONFIG, NO_INPUT};
+use crate::failing::By;
 use crate::key;
 use crate::show::Form;
 use clap::{Args, Parser, Subcommand, ValueEnum};
@@ -25,6 +26,8 @@ pub struct Words {
 pub enum Verb {
     /// Runs a member
     Run(Box<Run>),
+    /// Makes a place's folder of state, once, when the group is founded; the words are those of `run`
+    Found(Box<Run>),
     /// Writes a new key file, for all members of a group
     Keygen {
         /// The file to make
@@ -173,6 +176,40 @@ pub struct Run {
     /// How logs are written [default: text]
     #[arg(long, value_enum)]
     pub log_form: Option<LogForm>,
+    /// What makes it certain that a name has stopped [default: echo if --voters and --state are said, else told]
+    #[arg(long, value_enum)]
+    pub failures: Option<By>,
+    /// The places that vote who has stopped: founders, odd in number, as 0,1,2 [default: the founders]
+    #[arg(long, value_name = "PLACES")]
+    #[serde(deserialize_with = "by_text")]
+    pub voters: Option<Names>,
+    /// This place's folder of state on a local disk, which `muoswyldd found` makes
+    #[arg(long, value_name = "FOLDER")]
+    pub state: Option<PathBuf>,
+    /// Runs the next life of the place that was never begun, as the folder of state says
+    #[arg(long)]
+    pub next_life: bool,
+    /// For --failures command: the program that ends the name which is its one argument, and ends with 0 once that is done
+    #[arg(long, value_name = "PROGRAM")]
+    pub fence: Option<PathBuf>,
+    /// Seconds that this program may take; then it is killed [default: 30]
+    #[arg(long, value_name = "SECONDS")]
+    pub fence_within: Option<u64>,
+    /// For --failures lease: milliseconds that a lease lasts [default: 1000]
+    #[arg(long, value_name = "MILLISECONDS")]
+    pub lease: Option<u64>,
+    /// For --failures lease: by how many thousandths the rate of a machine's clock may be off [default: 100]
+    #[arg(long, value_name = "THOUSANDTHS")]
+    pub drift: Option<u64>,
+    /// Milliseconds between two heartbeats [default: 100]
+    #[arg(long, value_name = "MILLISECONDS")]
+    pub heartbeat: Option<u64>,
+    /// Milliseconds by which the time differs that datagrams take, usually [default: 50]
+    #[arg(long, value_name = "MILLISECONDS")]
+    pub delay: Option<u64>,
+    /// Milliseconds of silence after which a name is suspected [default: as few as may be]
+    #[arg(long, value_name = "MILLISECONDS")]
+    pub silence: Option<u64>,
     /// Seconds that the member may take to come into the group [default: without end]
     #[arg(long, value_name = "SECONDS")]
     pub start_within: Option<u64>,
@@ -259,6 +296,17 @@ impl Run {
             output: self.output.or(file.output),
             log: self.log.or(file.log),
             log_form: self.log_form.or(file.log_form),
+            failures: self.failures.or(file.failures),
+            voters: self.voters.or(file.voters),
+            state: self.state.or(file.state),
+            next_life: self.next_life || file.next_life,
+            fence: self.fence.or(file.fence),
+            fence_within: self.fence_within.or(file.fence_within),
+            lease: self.lease.or(file.lease),
+            drift: self.drift.or(file.drift),
+            heartbeat: self.heartbeat.or(file.heartbeat),
+            delay: self.delay.or(file.delay),
+            silence: self.silence.or(file.silence),
             start_within: self.start_within.or(file.start_within),
             leave_within: self.leave_within.or(file.leave_within),
         }
@@ -272,7 +320,7 @@ impl Run {
                 format_args!("--{what} isn't said: --help says more"),
             )
         };
-        let name = self.name.ok_or_else(|| missing("name"))?;
+        let name = self.name_to_run()?;
         let founders = self.founders.ok_or_else(|| missing("founders"))?;
         let mut config = Config::new(name, founders);
         for (place, text) in &self.address {
@@ -289,7 +337,7 @@ impl Run {
             (None, true) => config.insecure(),
             (None, false) => config,
         };
-        Ok(self.numbers(config))
+        self.failing(self.numbers(config))
     }
 
     /// With the numbers that are said.
