@@ -26,6 +26,7 @@
 //! (`muoswyld-member`), is tested and not proved.
 
 mod addresses;
+mod clock;
 mod config;
 mod error;
 mod failures;

@@ -1,22 +1,21 @@
 //! A member's thread: it carries datagrams, time and commands to the member, and what the member answers to the network and to
 //! the callers.
 
+mod guarding;
+
 use crate::addresses::Addresses;
+use crate::clock::Clock;
 use crate::config::{Callback, Config};
 use crate::error::{CreateError, End, ResetError, SendError, ToldError};
-use crate::failures::{FailuresInfo, Policy};
-use crate::fencing::{self, Fencing};
+use crate::fencing::Fencing;
 use crate::seal::{fill, Seal};
 use crate::shared::{Command, Reset, Sent, Shared, Told};
 use crate::slot::Slot;
-use crate::socket::{boottime, Udp};
-use crate::state::State;
+use crate::socket::Udp;
 use muoswyld::names::{Name, Names};
-use muoswyld_failures::Failures;
-use muoswyld_guarded::{Deed, Guarded};
+use muoswyld_guarded::Guarded;
 use muoswyld_member::{
-    Delivery, HandleError, Info, Input, Member, NotReset, Notice, Output, Position, Settings, Time,
-    Unsent,
+    Delivery, HandleError, Info, Input, NotReset, Notice, Output, Position, Settings, Time, Unsent,
 };
 use std::collections::HashMap;
 use std::fs::{File, OpenOptions};
@@ -24,34 +23,10 @@ use std::io::{ErrorKind, Write};
 use std::os::unix::fs::OpenOptionsExt;
 use std::sync::Arc;
 use std::thread::JoinHandle;
-use std::time::{Duration, Instant, SystemTime};
+use std::time::{Duration, Instant};
 
 /// How many batches of datagrams are read before anything else is done: what comes faster is lost, and stops nothing.
 const MOST_BATCHES: usize = 6;
-
-/// Microseconds since 1970 as the system has them at a member's start, and from then on a clock that never goes back, that nobody sets,
-/// and that runs while the machine sleeps: the journals of members on one machine have one time, and a lease ends in time.
-struct Clock {
-    began: Duration,
-    epoch: Duration,
-}
-
-impl Clock {
-    fn new() -> Clock {
-        let epoch = SystemTime::UNIX_EPOCH.elapsed();
-        Clock {
-            began: boottime(),
-            // a system that is set to a time before 1970 counts from 0
-            epoch: epoch.unwrap_or_default(),
-        }
-    }
-
-    fn now(&self) -> Time {
-        let elapsed = boottime().saturating_sub(self.began);
-        let now = self.epoch.saturating_add(elapsed);
-        Time(u64::try_from(now.as_micros()).unwrap_or(u64::MAX))
-    }
-}
 
 /// Who waits for a ticket.
 enum Waiter {
@@ -140,38 +115,6 @@ fn journal_of(config: &Config) -> std::io::Result<Option<File>> {
     opened.map(Some)
 }
 
-/// A member that begins, what guards its place, and its journal. A name that doesn't begin has none. The place's folder is locked, and
-/// that the life begins is on disk, before anything of it can be seen.
-fn begun(
-    settings: Settings,
-    now: Time,
-    config: &Config,
-    shared: Arc<Shared>,
-) -> Result<(Guarded, Fencing, Option<File>), CreateError> {
-    let core = config.failure_settings(settings.process)?;
-    let member = Member::new(settings.clone(), now)?;
-    let mut state = match &config.failures.state {
-        Some(folder) => Some(State::take(folder, config.name.place())?),
-        None => None,
-    };
-    let voter = match &state {
-        Some(state) => state.voter()?,
-        None => None,
-    };
-    let failures = Failures::new(core, voter.as_deref(), muoswyld_failures::Time(now.0))?;
-    if let Some(state) = &mut state {
-        state.begin(config.name)?;
-    }
-    fencing::tell_start(&failures);
-    let program = match config.failures.policy() {
-        Policy::Command { program, .. } => Some(program),
-        _ => None,
-    };
-    let fencing = Fencing::new(shared, state, program)?;
-    let guarded = Guarded::new(member, failures, &settings);
-    Ok((guarded, fencing, journal_of(config)?))
-}
-
 /// Starts a member's thread.
 pub(crate) fn start(config: Config) -> Result<(Arc<Shared>, JoinHandle<()>), CreateError> {
     checked(&config)?;
@@ -191,7 +134,7 @@ pub(crate) fn start(config: Config) -> Result<(Arc<Shared>, JoinHandle<()>), Cre
         .spawn(move || {
             // a node stays on the thread that opened it, so the member is made here
             let clock = Clock::new();
-            match begun(settings, clock.now(), &config, callers.clone()) {
+            match guarding::begun(settings, clock.now(), &config, callers.clone()) {
                 Ok((member, fencing, journal)) => {
                     // whoever started this waits for it
                     let _heard = starts.send(Ok(()));
@@ -408,36 +351,6 @@ impl Shell {
             // nothing else is refused while the member runs
             _ => Ok(()),
         }
-    }
-
-    /// How it stands with who has stopped.
-    fn failures(&self) -> FailuresInfo {
-        FailuresInfo::of(self.member.policy(), &self.member.failures(), self.now().0)
-    }
-
-    /// Does what is to be done for what says who has stopped; the end, if this life was given up.
-    fn do_deeds(&mut self) -> Option<End> {
-        let now = self.now();
-        for deed in self.member.deeds(now) {
-            match deed {
-                Deed::Send { to, payload } => {
-                    if self.seal.seal(&payload, &mut self.datagram) {
-                        let places = (0..16).filter(|place| to >> place & 1 == 1);
-                        self.udp.push_known(&self.datagram, places);
-                    }
-                }
-                Deed::Write { number, bytes } => self.fencing.write(number, bytes),
-                Deed::Fence { name, until } => {
-                    let within = Duration::from_micros(until.since(now));
-                    self.fencing.fence(name, within);
-                }
-                Deed::Stopped(name) => tracing::warn!("{name} has stopped for certain"),
-                // what is held is dropped
-                Deed::Ended => return Some(End::LeftOut),
-                Deed::Told(notice) => fencing::tell(notice, &self.member.failures()),
-            }
-        }
-        None
     }
 
     /// Lets out what came of all that, or holds it: all or nothing. The end, if the member has ended.

@@ -256,18 +256,6 @@ fn nothing_yet(error: io::Error) -> io::Result<Brought> {
     }
 }
 
-/// The time since the machine began: a clock that runs while the machine sleeps, and that nobody sets.
-pub fn boottime() -> Duration {
-    let mut time = libc::timespec {
-        tv_sec: 0,
-        tv_nsec: 0,
-    };
-    // SAFETY: the call writes to `time` alone. It fails for no clock that the system has, and Linux has this one.
-    unsafe { libc::clock_gettime(libc::CLOCK_BOOTTIME, &mut time) };
-    let seconds = u64::try_from(time.tv_sec).unwrap_or(0);
-    Duration::new(seconds, u32::try_from(time.tv_nsec).unwrap_or(0))
-}
-
 /// What ends a member's wait from another thread.
 pub struct Bell {
     descriptor: OwnedFd,

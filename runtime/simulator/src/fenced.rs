@@ -7,7 +7,8 @@
 use crate::clock::Clock;
 use crate::draw::Draw;
 use crate::plan::{DriverPlant, FencedPlan, Plan};
-use crate::world::{Fenced, Happening, World};
+use crate::report::Fenced;
+use crate::world::{Happening, World};
 use muoswyld_failures::{self as failures, places_of, Failures, Policy};
 use muoswyld_guarded::Deed;
 use muoswyld_member::{End, Name, StartError, Time};

@@ -14,9 +14,11 @@ pub mod journals;
 mod lifecycle;
 pub mod plan;
 mod process;
+mod report;
 mod services;
 mod world;
 
 pub use plan::Plan;
+pub use report::{Failure, Fenced, Report, SeenView};
 pub use services::Services;
-pub use world::{run, run_with, Failure, Fenced, Report, SeenView};
+pub use world::{run, run_with};
