@@ -282,6 +282,10 @@ impl Shell {
     /// Does what callers asked for; the end, if one of them asked for it.
     fn do_commands(&mut self) -> Option<End> {
         let mut commands = std::mem::take(&mut self.commands);
+        if self.member.is_gated() {
+            // what is taken now is given in this turn
+            self.member.open(self.now());
+        }
         self.shared.take_commands(self.member.free(), &mut commands);
         if !commands.is_empty() {
             self.busy = Instant::now();

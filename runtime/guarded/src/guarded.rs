@@ -64,6 +64,8 @@ pub struct Guarded {
     is_gated: bool,
     /// Whether the member might be given something when that was asked last.
     is_open: bool,
+    /// Whether it was given something since the last batch was complete: so it may be given more, and the look decides about all of it.
+    is_begun: bool,
     /// Whether a batch is complete and not out.
     is_held: bool,
     held: Vec<Output>,
@@ -103,6 +105,7 @@ impl Guarded {
             policy,
             least: settings.least,
             is_open: true,
+            is_begun: false,
             is_held: false,
             held: Vec::new(),
             waiting: Waiting::default(),
@@ -144,10 +147,15 @@ impl Guarded {
     /// Gives the member an input. Where it may not be given anything the input waits; but a message is refused as one for which
     /// there is no room. An input that is refused changes nothing.
     pub fn handle(&mut self, now: Time, input: Input<'_>) -> Result<(), HandleError> {
-        match self.begin(now) {
+        match self.open(now) {
             true => self.member.handle(now, input),
             false => self.waiting.put(input),
         }
+    }
+
+    /// Whether the member may be given something now. If so, it may until the next [`fix`](Guarded::fix).
+    pub fn open(&mut self, now: Time) -> bool {
+        !self.is_gated || self.is_begun || self.begin(now)
     }
 
     /// Somebody outside says that a name has stopped for certain.
@@ -187,13 +195,11 @@ impl Guarded {
         }
     }
 
-    /// Whether the member may be given something now. What waited is given first.
+    /// Whether the member may be given something now, asked anew. What waited is given first.
     fn begin(&mut self, now: Time) -> bool {
-        if !self.is_gated {
-            return true;
-        }
         let reads = self.is_held && self.plant == Some(Plant::ReadsAfterLook);
         self.is_open = self.failures.begin(at(now)) || reads && self.failures.is_out();
+        self.is_begun = self.is_open && !self.is_held;
         if self.is_open && !self.waiting.is_empty() {
             self.catch_up(now);
         }
@@ -270,6 +276,7 @@ impl Guarded {
         if self.is_held || !self.begin(now) {
             return;
         }
+        self.is_begun = false;
         self.member.release(now, &mut self.held);
         if self.held.is_empty() {
             return self.failures.forget();
@@ -375,6 +382,11 @@ impl Guarded {
     /// What makes it certain that a name has stopped.
     pub fn policy(&self) -> Policy {
         self.policy
+    }
+
+    /// Whether what comes of inputs waits for a look.
+    pub fn is_gated(&self) -> bool {
+        self.is_gated
     }
 
     /// How many outputs the batch has.
