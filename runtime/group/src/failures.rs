@@ -239,3 +239,88 @@ impl FailuresInfo {
         }
     }
 }
+
+#[cfg(test)]
+mod tests {
+    use super::*;
+    use crate::seal::Key;
+
+    fn config() -> Config {
+        let founders = "0,1,2".parse().unwrap();
+        Config::new("1".parse().unwrap(), founders).key(Key::of([7; 32]))
+    }
+
+    fn lease(milliseconds: u64, drift: u64) -> Policy {
+        Policy::Lease {
+            length: Duration::from_millis(milliseconds),
+            drift,
+        }
+    }
+
+    #[test]
+    fn it_is_echo_with_voters_and_a_folder_and_told_without() {
+        let voters: Names = "0,1,2".parse().unwrap();
+        let policy = |config: Config| config.failures.policy();
+        assert_eq!(policy(config()), Policy::Told);
+        assert_eq!(policy(config().voters(voters)), Policy::Told);
+        assert_eq!(policy(config().state("s".into())), Policy::Told);
+        let both = config().voters(voters).state("s".into());
+        assert_eq!(policy(both.clone()), Policy::Echo);
+        assert_eq!(policy(both.policy(Policy::Told)), Policy::Told);
+    }
+
+    #[test]
+    fn whatever_a_refusal_rests_on_is_in_the_id() {
+        let id = |config: Config| config.failure_settings(1).unwrap().id;
+        let echo = || config().policy(Policy::Echo);
+        let usual = id(echo());
+        assert_eq!(id(echo().heartbeat(Duration::from_millis(7))), usual);
+        let others = [
+            echo().key(Key::of([8; 32])),
+            echo().resilience(1),
+            echo().window(8),
+            echo().pb_up_to(8),
+            echo().voters("0".parse().unwrap()),
+            config().policy(lease(500, 100)),
+            config().policy(lease(501, 100)),
+            config().policy(lease(500, 99)),
+        ];
+        let mut ids: Vec<[u8; 16]> = others.into_iter().map(id).collect();
+        ids.push(usual);
+        ids.sort_unstable();
+        ids.dedup();
+        assert_eq!(ids.len(), 9);
+    }
+
+    #[test]
+    fn voters_are_founders_and_votes_want_a_folder() {
+        let echo = config().policy(Policy::Echo);
+        let refused = echo.check_failures().unwrap_err();
+        assert!(matches!(refused, CreateError::NoState));
+        let stranger = echo.clone().voters("3".parse().unwrap());
+        let refused = stranger.check_failures().unwrap_err();
+        assert!(matches!(refused, CreateError::Voter(voter) if voter.place() == 3));
+        assert!(echo.state("s".into()).check_failures().is_ok());
+    }
+
+    #[test]
+    fn a_lease_is_told_as_it_stands() {
+        let policy = config().policy(lease(500, 100)).failures.core_policy();
+        let settings = config()
+            .policy(lease(500, 100))
+            .failure_settings(1)
+            .unwrap();
+        // the longer one of 500 + 2 * 100 + 50 and 500 * 1.1 / 0.9 + 100, in microseconds
+        assert_eq!(settings.silence, 750_000);
+        let time = failures::Time(5_000_000);
+        let core = failures::Failures::new(settings, None, time).unwrap();
+        let mut info = core.info();
+        info.may_act_until = Some(failures::Time(5_200_000));
+        info.frozen_since = Some(failures::Time(4_900_000));
+        let shown = FailuresInfo::of(policy, &info, 5_000_000);
+        assert_eq!(shown.policy, "lease");
+        assert_eq!(shown.may_act_for, Some(Duration::from_millis(200)));
+        assert_eq!(shown.frozen_for, Some(Duration::from_millis(100)));
+        assert!(!shown.votes && shown.why_no_vote.is_some());
+    }
+}

@@ -128,20 +128,26 @@ impl Guarded {
     /// Takes a datagram's payload. The time was read after it was received.
     pub fn hear(&mut self, now: Time, payload: &[u8]) {
         if self.policy != Policy::Told {
-            match payload {
-                [0x10 | 0x11, ..] => {
-                    let input = failures::Input::Datagram(payload);
-                    return self.failures.handle(at(now), input);
-                }
-                // letters, a question for the group's id, or its refusal: the name stands after eight bytes
-                [0x01 | 0x02 | 0x04, _, _, _, _, _, _, _, _, name, ..] => {
-                    self.failures.note_ran(failures::Name::of_byte(*name));
-                }
-                _ => {}
+            if let Some(0x10 | 0x11) = payload.first() {
+                let input = failures::Input::Datagram(payload);
+                return self.failures.handle(at(now), input);
             }
+            self.note_ran(payload);
         }
         // only messages can be refused
         let _taken = self.handle(now, Input::Datagram(payload));
+    }
+
+    /// Letters of this run's group say that their sender has run. Others may have been recorded in an earlier run.
+    fn note_ran(&mut self, payload: &[u8]) {
+        let group = self.shown.and_then(|shown| shown.group);
+        if let ([0x01, rest @ ..], Some(group)) = (payload, group) {
+            if let Some((id, [name, ..])) = rest.split_first_chunk::<8>() {
+                if u64::from_be_bytes(*id) == group {
+                    self.failures.note_ran(failures::Name::of_byte(*name));
+                }
+            }
+        }
     }
 
     /// Gives the member an input. Where it may not be given anything the input waits; but a message is refused as one for which
@@ -361,11 +367,16 @@ impl Guarded {
         }
     }
 
-    /// How the member stood when a batch went out the last time: of what is held nobody is told.
+    /// How the member stands. Its list and its members are those of when a batch went out the last time: of what is held nobody is told.
     pub fn info(&self) -> Info {
+        let info = self.member.info();
         match self.shown {
-            Some(shown) if self.is_gated => shown,
-            _ => self.member.info(),
+            Some(shown) if self.is_gated => Info {
+                standing: shown.standing,
+                ended: shown.ended,
+                ..info
+            },
+            _ => info,
         }
     }
 
