@@ -420,6 +420,24 @@ mod tests {
     }
 
     #[test]
+    fn who_has_stopped_is_said_by_words_or_the_file() {
+        let file: Run = toml::from_str(
+            "failures = \"lease\"\nvoters = \"0,1,2\"\nstate = \"s\"\nnext-life = true\nlease = 400\ndrift = 50\nheartbeat = 20\ndelay = 10\nsilence = 900\nfence = \"f\"\nfence-within = 3\n",
+        )
+        .unwrap();
+        let run = run_of(&["--failures", "command", "--drift", "7"]).over(file);
+        assert_eq!(run.failures, Some(By::Command));
+        assert_eq!(run.voters.unwrap().to_string(), "0,1,2");
+        assert_eq!(run.state, Some(PathBuf::from("s")));
+        assert!(run.next_life);
+        let times = [run.lease, run.drift, run.heartbeat, run.delay, run.silence];
+        assert_eq!(times, [400, 7, 20, 10, 900].map(Some));
+        assert_eq!(run.fence, Some(PathBuf::from("f")));
+        assert_eq!(run.fence_within, Some(3));
+        assert!(toml::from_str::<Run>("failures = \"guess\"").is_err());
+    }
+
+    #[test]
     fn unknown_keys_and_bad_names_are_refused() {
         for text in [
             "nmae = \"1\"",

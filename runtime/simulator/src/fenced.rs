@@ -24,6 +24,8 @@ pub(crate) struct Machine {
     pub(crate) clock: Option<Clock>,
     /// The life that is about to begin, and is being written.
     pub(crate) begins: Option<u8>,
+    /// Whether its disk was lost.
+    pub(crate) is_lost: bool,
 }
 
 /// What is known of a process's batch, by the order of happenings.
@@ -133,6 +135,22 @@ impl World<'_> {
         match self.drives_with(DriverPlant::BeginsBeforeSync) {
             true => self.begin_life(place, life),
             false => Ok(()),
+        }
+    }
+
+    /// A machine crashes: what it didn't sync is lost, and at times all of its disk. Then an operator says which life was never begun.
+    pub(crate) fn crash_machine(&mut self, place: u8) {
+        let life = self.lives[usize::from(place)];
+        let has_lost = self.machines.iter().any(|machine| machine.is_lost);
+        let Some(lost) = self.fenced().map(|it| it.lost_disks) else {
+            return;
+        };
+        let is_lost = !has_lost && self.draw.below(100) < lost;
+        let machine = &mut self.machines[usize::from(place)];
+        machine.begins = None;
+        if is_lost {
+            (machine.voter, machine.life, machine.is_lost) = (None, life, true);
+            self.counts.lost_disks += 1;
         }
     }
 
@@ -409,6 +427,7 @@ impl World<'_> {
             given_up: counts.given_up,
             ended: counts.ended,
             operated: counts.operated,
+            lost_disks: counts.lost_disks,
             is_void: self.is_void,
         }
     }

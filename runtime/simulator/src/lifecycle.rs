@@ -218,7 +218,7 @@ impl World<'_> {
         if !is_lawful {
             self.is_void_from_here();
         }
-        self.machines[usize::from(place)].begins = None;
+        self.crash_machine(place);
         self.counts.crashes += 1;
         self.crashes.push(self.now);
         self.stop(place, None)?;

@@ -90,6 +90,8 @@ pub struct FencedPlan {
     pub at_bounds: bool,
     /// Of a hundred thousand steps so many are followed by a pause: between an input and what comes of it, before a look, or after it.
     pub stalls: u64,
+    /// Of a hundred crashes so many lose the machine's disk, as long as no other one did.
+    pub lost_disks: u64,
     /// A defect in how members are guarded.
     pub plant: Option<muoswyld_guarded::Plant>,
     /// A defect in what says who has stopped.
@@ -107,6 +109,7 @@ impl FencedPlan {
             drift: 100,
             at_bounds: false,
             stalls: 100,
+            lost_disks: 10,
             plant: None,
             core_plant: None,
             driver_plant: None,

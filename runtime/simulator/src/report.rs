@@ -56,6 +56,8 @@ pub struct Fenced {
     pub ended: u64,
     /// How often an operator had to end a name that was blocked.
     pub operated: u64,
+    /// How many machines lost their disks.
+    pub lost_disks: u64,
     /// Whether more stopped than the resilience.
     pub is_void: bool,
 }
@@ -93,4 +95,5 @@ pub(crate) struct Counts {
     pub(crate) given_up: u64,
     pub(crate) ended: u64,
     pub(crate) operated: u64,
+    pub(crate) lost_disks: u64,
 }

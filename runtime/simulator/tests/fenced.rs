@@ -46,6 +46,7 @@ fn sum(reports: &[Report]) -> Fenced {
         all.given_up += one.given_up;
         all.ended += one.ended;
         all.operated += one.operated;
+        all.lost_disks += one.lost_disks;
     }
     all
 }
