@@ -97,7 +97,7 @@ impl FailureSettings {
 
 impl Config {
     /// The voters: the founders, where none are named.
-    fn voting(&self) -> Names {
+    pub(crate) fn voting(&self) -> Names {
         self.failures.voters.unwrap_or(self.founding.founders)
     }
 

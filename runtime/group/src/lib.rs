@@ -26,6 +26,7 @@
 //! (`muoswyld-member`), is tested and not proved.
 
 mod addresses;
+mod asking;
 mod clock;
 mod config;
 mod error;
@@ -41,6 +42,7 @@ mod state;
 mod ticket;
 
 pub use addresses::{Addresses, BadAddress};
+pub use asking::Facts;
 pub use config::Config;
 pub use error::{CreateError, End, LeaveError, ReceiveError, ResetError, SendError, ToldError};
 pub use failures::{Blocked, FailuresInfo, Policy};

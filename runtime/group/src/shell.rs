@@ -4,6 +4,7 @@
 mod guarding;
 
 use crate::addresses::Addresses;
+use crate::asking;
 use crate::clock::Clock;
 use crate::config::{Callback, Config};
 use crate::error::{CreateError, End, ResetError, SendError, ToldError};
@@ -38,6 +39,9 @@ enum Waiter {
 struct Shell {
     member: Guarded,
     fencing: Fencing,
+    founders: Names,
+    /// What is told to whoever asks how the group was founded.
+    known: String,
     udp: Udp,
     seal: Seal,
     shared: Arc<Shared>,
@@ -141,6 +145,8 @@ pub(crate) fn start(config: Config) -> Result<(Arc<Shared>, JoinHandle<()>), Cre
                     let mut shell = Shell {
                         member,
                         fencing,
+                        founders: config.founding.founders,
+                        known: asking::known(&config),
                         udp,
                         seal,
                         shared: callers,
@@ -238,9 +244,12 @@ impl Shell {
         for _ in 0..MOST_BATCHES {
             let (member, seal, udp) = (&mut self.member, &mut self.seal, &mut self.udp);
             let (clock, mut read) = (&self.clock, None);
-            let mut unsealed = Vec::new();
+            let (mut unsealed, mut asked) = (Vec::new(), Vec::new());
             let brought = udp.receive(|place, datagram| match seal.open(datagram) {
                 Some(payload) => {
+                    if let Some(nonce) = asking::nonce_of(payload) {
+                        return asked.push((place, nonce));
+                    }
                     // read after the datagrams were received
                     let now = *read.get_or_insert_with(|| clock.now());
                     member.hear(now, payload);
@@ -250,6 +259,9 @@ impl Shell {
             self.dropped += (unsealed.len() + brought.strangers + brought.long) as u64;
             for place in unsealed {
                 self.refuse(place);
+            }
+            for (place, nonce) in asked {
+                self.answer(place, nonce);
             }
             if !brought.has_more {
                 break;
@@ -268,6 +280,15 @@ impl Shell {
             self.tell(Notice::OtherKey(place));
         }
         if count.is_power_of_two() && self.seal.seal(&[], &mut self.datagram) {
+            self.udp.push(&self.datagram, std::iter::once(place));
+        }
+    }
+
+    /// Tells a place how the group was founded.
+    fn answer(&mut self, place: u8, nonce: asking::Nonce) {
+        let info = self.info();
+        let answer = asking::answer(&self.known, self.founders, &info, place, nonce);
+        if self.seal.seal(&answer, &mut self.datagram) {
             self.udp.push(&self.datagram, std::iter::once(place));
         }
     }

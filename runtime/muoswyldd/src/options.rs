@@ -1,7 +1,7 @@
 //! The words of the command, and the configuration file that may stand in their place.
 
 use crate::exit::{Fault, CONFIG, NO_INPUT};
-use crate::failing::By;
+use crate::failing::{missing, By};
 use crate::key;
 use crate::show::Form;
 use clap::{Args, Parser, Subcommand, ValueEnum};
@@ -125,6 +125,10 @@ pub struct Run {
     pub address: Vec<(u8, String)>,
     #[arg(skip)]
     addresses: BTreeMap<String, String>,
+    /// An address of a member of the group, as host:7000, at which this one asks for founders, numbers, policy, voters and addresses that
+    /// aren't said here; may be said several times
+    #[arg(long, value_name = "HOST:PORT")]
+    pub seed: Vec<String>,
     /// The address to bind, if it isn't the one at which others reach this member
     #[arg(long, value_name = "ADDRESS:PORT")]
     pub bind: Option<SocketAddr>,
@@ -237,7 +241,7 @@ fn address_word(word: &str) -> Result<(u8, String), String> {
 }
 
 /// The address of a host and a port.
-fn resolve(text: &str) -> Result<SocketAddr, Fault> {
+pub(crate) fn resolve(text: &str) -> Result<SocketAddr, Fault> {
     let found = text.to_socket_addrs().map(|mut found| found.next());
     match found {
         Ok(Some(address)) => Ok(address),
@@ -277,6 +281,10 @@ impl Run {
             config: self.config,
             address: self.address,
             addresses: BTreeMap::new(),
+            seed: match self.seed.is_empty() {
+                true => file.seed,
+                false => self.seed,
+            },
             insecure: self.insecure || file.insecure,
             name: self.name.or(file.name),
             founders: self.founders.or(file.founders),
@@ -314,20 +322,19 @@ impl Run {
 
     /// The group's configuration that they say.
     pub fn group(&self) -> Result<Config, Fault> {
-        let missing = |what| {
-            Fault::of(
-                CONFIG,
-                format_args!("--{what} isn't said: --help says more"),
-            )
+        let facts = self.asked()?;
+        let name = self.name_to_run(facts.as_ref())?;
+        let wrong = |error| Fault::of(CONFIG, error);
+        let mut config = match (&facts, self.founders) {
+            (Some(facts), _) => facts.config(name).map_err(wrong)?,
+            (None, Some(founders)) => Config::new(name, founders),
+            (None, None) => return Err(missing("founders")),
         };
-        let name = self.name_to_run()?;
-        let founders = self.founders.ok_or_else(|| missing("founders"))?;
-        let mut config = Config::new(name, founders);
         for (place, text) in &self.address {
-            let address = resolve(text)?;
-            config = config
-                .address(*place, address)
-                .map_err(|error| Fault::of(CONFIG, error))?;
+            let known = facts.iter().flat_map(|facts| &facts.addresses);
+            if !known.into_iter().any(|(known, _)| known == place) {
+                config = config.address(*place, resolve(text)?).map_err(wrong)?;
+            }
         }
         if let Some(address) = self.bind {
             config = config.bind(address);
@@ -337,7 +344,7 @@ impl Run {
             (None, true) => config.insecure(),
             (None, false) => config,
         };
-        self.failing(self.numbers(config))
+        self.failing(self.numbers(config), facts.as_ref())
     }
 
     /// With the numbers that are said.

@@ -402,3 +402,85 @@ fn a_member_of_another_policy_counts_for_nothing() {
     });
     until(|| cluster.log("2").contains("this place doesn't vote"));
 }
+
+/// A place that knows one member's address, its own, the key and its folder is told all else.
+#[test]
+fn a_place_joins_by_one_address() {
+    let mut cluster = Cluster::new("seeds", &[&LEASE[..], &["--window", "64"]].concat());
+    cluster.start_all();
+    let words: Vec<String> = [
+        "--name",
+        "3",
+        "--key",
+        &cluster.path("key"),
+        "--state",
+        &cluster.path("state3"),
+        "--seed",
+        &cluster.addresses[1],
+        "--address",
+        &format!("3={}", cluster.addresses[3]),
+    ]
+    .map(String::from)
+    .to_vec();
+    let made = Command::new(PROGRAM)
+        .arg("found")
+        .args(&words)
+        .output()
+        .unwrap();
+    assert!(made.status.success(), "{made:?}");
+    cluster.start_by("3", &words, &["--next-life"]);
+    cluster.ask("3", "send by an address");
+    let status = cluster.ask("3", "status");
+    assert_eq!(
+        (&status["name"], &status["resilience"]),
+        (&"3".into(), &1.into())
+    );
+    assert_eq!(status["failures"]["policy"], "lease");
+    // a founder's place that comes back, too; it forgets all but its name, its key and its folder
+    cluster.signal("0", "-KILL");
+    assert_eq!(cluster.status("0"), None);
+    until(|| cluster.view("3") == ["1", "2", "3"]);
+    let own = format!("0={}", cluster.addresses[0]);
+    let back: Vec<String> = [
+        "--name",
+        "0",
+        "--key",
+        &cluster.path("key"),
+        "--state",
+        &cluster.path("state0"),
+        "--seed",
+        &cluster.addresses[3],
+        "--address",
+        &own,
+        "--next-life",
+    ]
+    .map(String::from)
+    .to_vec();
+    cluster.start_by("0", &back, &[]);
+    cluster.ask("0", "send back");
+    assert_eq!(cluster.ask("0", "status")["name"], "0/2");
+    assert_eq!(cluster.failures("0")["votes"], true);
+}
+
+#[test]
+fn nobody_answers_who_has_another_key() {
+    let mut cluster = Cluster::new("strange-seed", &ECHO);
+    cluster.start_all();
+    assert!(run(&["keygen", &cluster.path("other")]).status.success());
+    let done = run(&[
+        "run",
+        "--name",
+        "3",
+        "--key",
+        &cluster.path("other"),
+        "--seed",
+        &cluster.addresses[0],
+        "--address",
+        &format!("3={}", cluster.addresses[3]),
+        "--start-within",
+        "1",
+    ]);
+    let said = String::from_utf8_lossy(&done.stderr).into_owned();
+    assert_eq!(done.status.code(), Some(75), "{said}");
+    assert!(said.contains("no member of the group answers at"), "{said}");
+}

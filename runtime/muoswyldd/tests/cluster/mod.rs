@@ -13,10 +13,10 @@ use std::time::{Duration, Instant};
 pub const PROGRAM: &str = env!("CARGO_BIN_EXE_muoswyldd");
 const SOON: Duration = Duration::from_secs(30);
 
-/// A folder with a key, addresses and folders of state for three founders, which is gone with it.
+/// A folder with a key, addresses of four places, and folders of state for three founders, which is gone with it.
 pub struct Cluster {
     folder: PathBuf,
-    addresses: Vec<String>,
+    pub addresses: Vec<String>,
     more: Vec<String>,
     children: Vec<(String, Child)>,
 }
@@ -29,7 +29,7 @@ impl Cluster {
         fs::create_dir_all(&folder).unwrap();
         let cluster = Cluster {
             folder,
-            addresses: (0..3).map(|_| own_address()).collect(),
+            addresses: (0..4).map(|_| own_address()).collect(),
             more: more.iter().map(|word| word.to_string()).collect(),
             children: Vec::new(),
         };
@@ -72,10 +72,15 @@ impl Cluster {
 
     /// Starts a member. Its deliveries, its log and its socket are files with its name.
     pub fn start(&mut self, name: &str, more: &[&str]) {
+        self.start_by(name, &self.words(name), more);
+    }
+
+    /// Starts a member with these words in place of the cluster's.
+    pub fn start_by(&mut self, name: &str, words: &[String], more: &[&str]) {
         let create = |kind: &str| fs::File::create(self.file(kind, name)).unwrap();
         let child = Command::new(PROGRAM)
             .arg("run")
-            .args(self.words(name))
+            .args(words)
             .args(["--socket", &self.file("socket", name)])
             .args(["--input", "nothing", "--output", "json"])
             .args(more)
@@ -157,7 +162,10 @@ impl Cluster {
     pub fn view(&self, name: &str) -> Vec<String> {
         let mut views = self.deliveries(name).into_iter();
         let last = views.rfind(|it| it["kind"] == "view");
-        let members = last.unwrap()["members"].as_array().unwrap().clone();
+        let Some(last) = last else {
+            return Vec::new();
+        };
+        let members = last["members"].as_array().unwrap().clone();
         let name = |it: &Value| it.as_str().unwrap().to_string();
         members.iter().map(name).collect()
     }
