@@ -2,26 +2,25 @@
 //! the callers.
 
 mod guarding;
+mod starting;
 
-use crate::addresses::Addresses;
 use crate::asking;
 use crate::clock::Clock;
 use crate::config::{Callback, Config};
 use crate::error::{CreateError, End, ResetError, SendError, ToldError};
 use crate::fencing::Fencing;
-use crate::seal::{fill, Seal};
+use crate::seal::Seal;
 use crate::shared::{Command, Reset, Sent, Shared, Told};
 use crate::slot::Slot;
 use crate::socket::Udp;
 use muoswyld::names::{Name, Names};
 use muoswyld_guarded::Guarded;
 use muoswyld_member::{
-    Delivery, HandleError, Info, Input, NotReset, Notice, Output, Position, Settings, Time, Unsent,
+    Delivery, HandleError, Info, Input, NotReset, Notice, Output, Position, Time, Unsent,
 };
 use std::collections::HashMap;
-use std::fs::{File, OpenOptions};
-use std::io::{ErrorKind, Write};
-use std::os::unix::fs::OpenOptionsExt;
+use std::fs::File;
+use std::io::Write;
 use std::sync::Arc;
 use std::thread::JoinHandle;
 use std::time::{Duration, Instant};
@@ -68,67 +67,16 @@ struct Shell {
     busy: Instant,
 }
 
-/// The addresses of a member's group, with its own to bind.
-fn checked(config: &Config) -> Result<(), CreateError> {
-    for name in config.founding.founders.with(config.name).iter() {
-        if config.addresses.of(name.place()).is_none() {
-            return Err(CreateError::NoAddress(name.place()));
-        }
-    }
-    if config.key.is_none() && !config.insecure {
-        return Err(CreateError::NoKey);
-    }
-    config.check_failures()
-}
-
-/// Sixty-four random bits.
-fn random_word() -> std::io::Result<u64> {
-    let mut bytes = [0; 8];
-    fill(&mut bytes)?;
-    Ok(u64::from_be_bytes(bytes))
-}
-
-fn settings_of(config: &Config) -> std::io::Result<Settings> {
-    let mut settings = Settings::new(config.name, config.founding, random_word()?);
-    settings.seed = random_word()?;
-    settings.least = config.least;
-    settings.most_waiting = config.most_waiting.max(1 << 17);
-    settings.deliveries = config.most_unreceived;
-    settings.datagram = config.datagram;
-    settings.slow_tick = u64::try_from(config.tick.as_micros()).unwrap_or(u64::MAX);
-    settings.journal = config.journal.is_some();
-    Ok(settings)
-}
-
-/// A new file that others can't read.
-fn journal_of(config: &Config) -> std::io::Result<Option<File>> {
-    let Some(path) = &config.journal else {
-        return Ok(None);
-    };
-    let mut options = OpenOptions::new();
-    options.write(true).create_new(true).mode(0o600);
-    let cannot = |error: std::io::Error| match error.kind() {
-        ErrorKind::AlreadyExists => "it is there, and a name never runs twice".to_string(),
-        _ => error.to_string(),
-    };
-    let opened = options.open(path);
-    let opened = opened.map_err(|error| {
-        let why = format!("the journal {}: {}", path.display(), cannot(error));
-        std::io::Error::other(why)
-    });
-    opened.map(Some)
-}
-
 /// Starts a member's thread.
 pub(crate) fn start(config: Config) -> Result<(Arc<Shared>, JoinHandle<()>), CreateError> {
-    checked(&config)?;
+    starting::checked(&config)?;
     let shared = Arc::new(Shared::new(config.most_waiting, config.most_unreceived)?);
-    let settings = settings_of(&config)?;
+    let settings = starting::settings_of(&config)?;
     let seal = match &config.key {
         Some(key) => Seal::by(key)?,
         None => Seal::none(),
     };
-    let own = own_address(&config)?;
+    let own = starting::own_address(&config)?;
     let size = config.datagram + seal.overhead();
     let udp = Udp::bind(own, &config.addresses, size)?;
     let (starts, opened) = std::sync::mpsc::channel();
@@ -138,7 +86,7 @@ pub(crate) fn start(config: Config) -> Result<(Arc<Shared>, JoinHandle<()>), Cre
         .spawn(move || {
             // a node stays on the thread that opened it, so the member is made here
             let clock = Clock::new();
-            match guarding::begun(settings, clock.now(), &config, callers.clone()) {
+            match starting::begun(settings, clock.now(), &config, callers.clone()) {
                 Ok((member, fencing, journal)) => {
                     // whoever started this waits for it
                     let _heard = starts.send(Ok(()));
@@ -181,13 +129,6 @@ pub(crate) fn start(config: Config) -> Result<(Arc<Shared>, JoinHandle<()>), Cre
         // the thread ended before it said anything
         Err(_) => Err(CreateError::Ended(End::Failed("its thread ended".into()))),
     }
-}
-
-fn own_address(config: &Config) -> Result<std::net::SocketAddr, CreateError> {
-    let place = config.name.place();
-    let addresses: &Addresses = &config.addresses;
-    let own = config.bind.or_else(|| addresses.of(place));
-    own.ok_or(CreateError::NoAddress(place))
 }
 
 impl Shell {

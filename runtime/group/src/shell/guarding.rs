@@ -1,50 +1,11 @@
 //! What a member's thread does for what says who has stopped.
 
-use super::{journal_of, Shell};
-use crate::config::Config;
-use crate::error::{CreateError, End};
-use crate::failures::{FailuresInfo, Policy};
-use crate::fencing::{self, Fencing};
-use crate::shared::Shared;
-use crate::state::State;
-use muoswyld_failures::Failures;
-use muoswyld_guarded::{Deed, Guarded};
-use muoswyld_member::{Member, Settings, Time};
-use std::fs::File;
-use std::sync::Arc;
+use super::Shell;
+use crate::error::End;
+use crate::failures::FailuresInfo;
+use crate::fencing;
+use muoswyld_guarded::Deed;
 use std::time::Duration;
-
-/// A member that begins, what guards its place, and its journal. A name that doesn't begin has none. The place's folder is locked, and
-/// that the life begins is on disk, before anything of it can be seen.
-pub(super) fn begun(
-    settings: Settings,
-    now: Time,
-    config: &Config,
-    shared: Arc<Shared>,
-) -> Result<(Guarded, Fencing, Option<File>), CreateError> {
-    let core = config.failure_settings(settings.process)?;
-    let member = Member::new(settings.clone(), now)?;
-    let mut state = match &config.failures.state {
-        Some(folder) => Some(State::take(folder, config.name.place())?),
-        None => None,
-    };
-    let voter = match &state {
-        Some(state) => state.voter()?,
-        None => None,
-    };
-    let failures = Failures::new(core, voter.as_deref(), muoswyld_failures::Time(now.0))?;
-    if let Some(state) = &mut state {
-        state.begin(config.name)?;
-    }
-    fencing::tell_start(&failures);
-    let program = match config.failures.policy() {
-        Policy::Command { program, .. } => Some(program),
-        _ => None,
-    };
-    let fencing = Fencing::new(shared, state, program)?;
-    let guarded = Guarded::new(member, failures, &settings);
-    Ok((guarded, fencing, journal_of(config)?))
-}
 
 impl Shell {
     /// How it stands with who has stopped.
