@@ -70,6 +70,8 @@ pub struct Guarded {
     is_held: bool,
     held: Vec<Output>,
     waiting: Waiting,
+    /// What is to be done for what says who has stopped.
+    deeds: Vec<Deed>,
     shown: Option<Info>,
     view: Option<(u32, Names)>,
     plant: Option<Plant>,
@@ -109,6 +111,7 @@ impl Guarded {
             is_held: false,
             held: Vec::new(),
             waiting: Waiting::default(),
+            deeds: Vec::new(),
             view: None,
             plant: None,
             is_part: false,
@@ -129,8 +132,7 @@ impl Guarded {
     pub fn hear(&mut self, now: Time, payload: &[u8]) {
         if self.policy != Policy::Told {
             if let Some(0x10 | 0x11) = payload.first() {
-                let input = failures::Input::Datagram(payload);
-                return self.failures.handle(at(now), input);
+                return self.heed(now, failures::Input::Datagram(payload));
             }
             self.note_ran(payload);
         }
@@ -170,7 +172,7 @@ impl Guarded {
             return Err(HandleError::Itself);
         }
         let input = failures::Input::Told(failures::Name::of_byte(name.byte()));
-        self.failures.handle(at(now), input);
+        self.heed(now, input);
         Ok(())
     }
 
@@ -180,20 +182,19 @@ impl Guarded {
             Some(number) => failures::Input::Written(number),
             None => failures::Input::NotWritten,
         };
-        self.failures.handle(at(now), input);
+        self.heed(now, input);
     }
 
     /// What became of a fence: whether the program ended with 0.
     pub fn fenced(&mut self, now: Time, name: Name, done: bool) {
         let name = failures::Name::of_byte(name.byte());
-        self.failures
-            .handle(at(now), failures::Input::Fenced { name, done });
+        self.heed(now, failures::Input::Fenced { name, done });
     }
 
     /// Time passed.
     pub fn tick(&mut self, now: Time) {
         if self.failures.wake() <= at(now) {
-            self.failures.handle(at(now), failures::Input::Time);
+            self.heed(now, failures::Input::Time);
         }
         if self.is_open && !self.is_held && self.member.wake() <= now {
             // only messages can be refused
@@ -248,30 +249,38 @@ impl Guarded {
 
     // ---- what is to be done
 
-    /// What is to be done for what says who has stopped, in this order. Who has stopped is given to the member as soon as it may be
-    /// given anything.
+    /// What is to be done for what says who has stopped, in this order.
     pub fn deeds(&mut self, now: Time) -> Vec<Deed> {
-        let mut deeds = Vec::new();
+        self.collect(now);
+        std::mem::take(&mut self.deeds)
+    }
+
+    /// Gives what says who has stopped an input.
+    fn heed(&mut self, now: Time, input: failures::Input<'_>) {
+        self.failures.handle(at(now), input);
+        self.collect(now);
+    }
+
+    /// Notes what is to be done. Who has stopped is given to the member at once, or as soon as it may be given anything.
+    fn collect(&mut self, now: Time) {
         for output in self.failures.take() {
-            match output {
-                failures::Output::Send { to, payload } => deeds.push(Deed::Send { to, payload }),
-                failures::Output::Write { number, bytes } => {
-                    deeds.push(Deed::Write { number, bytes });
-                }
-                failures::Output::Fence { name, until } => deeds.push(Deed::Fence {
+            let deed = match output {
+                failures::Output::Send { to, payload } => Deed::Send { to, payload },
+                failures::Output::Write { number, bytes } => Deed::Write { number, bytes },
+                failures::Output::Fence { name, until } => Deed::Fence {
                     name: name_of(name),
                     until: Time(until.0),
-                }),
+                },
                 failures::Output::Stopped(name) => {
                     // the own name isn't among them, and nothing else is refused
                     let _taken = self.handle(now, Input::Stopped(name_of(name)));
-                    deeds.push(Deed::Stopped(name_of(name)));
+                    Deed::Stopped(name_of(name))
                 }
-                failures::Output::Ended => deeds.push(Deed::Ended),
-                failures::Output::Notice(notice) => deeds.push(Deed::Told(notice)),
-            }
+                failures::Output::Ended => Deed::Ended,
+                failures::Output::Notice(notice) => Deed::Told(notice),
+            };
+            self.deeds.push(deed);
         }
-        deeds
     }
 
     /// All that came of the inputs is complete: it is the batch from now on, if there is some of it and none is held.
@@ -343,7 +352,7 @@ impl Guarded {
                 members: set_of(standing.members),
                 least: self.least.unwrap_or(majority.min(16) as u8),
             };
-            self.failures.handle(at(now), input);
+            self.heed(now, input);
         }
     }
 
