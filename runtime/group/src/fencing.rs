@@ -221,9 +221,18 @@ mod tests {
     use super::*;
     use std::fs;
     use std::os::unix::fs::PermissionsExt;
+    use std::sync::{Mutex, MutexGuard, PoisonError};
+
+    /// Programs are run one at a time: one that begins while another one's script is written has that open for a moment, and a file that
+    /// is open for writing can't be run.
+    fn alone() -> MutexGuard<'static, ()> {
+        static ONE: Mutex<()> = Mutex::new(());
+        ONE.lock().unwrap_or_else(PoisonError::into_inner)
+    }
 
     /// Runs a script as a fence of a name; whether it is done, and how long it took.
     fn fenced(test: &str, script: &str, within: Duration) -> (bool, Duration) {
+        let _alone = alone();
         let path = std::env::temp_dir().join(format!("fence-{test}-{}", std::process::id()));
         fs::write(&path, format!("#!/bin/sh\n{script}\n")).unwrap();
         fs::set_permissions(&path, fs::Permissions::from_mode(0o700)).unwrap();
@@ -240,11 +249,8 @@ mod tests {
         assert!(fenced("name", "test \"$1\" = 2/3 && test $# = 1", LONG).0);
         assert!(!fenced("one", "exit 1", LONG).0);
         assert!(!fenced("killed", "kill -9 $$", LONG).0);
-        assert!(!is_fenced(
-            Path::new("/nonexistent"),
-            "2".parse().unwrap(),
-            LONG
-        ));
+        let (_alone, none) = (alone(), Path::new("/nonexistent"));
+        assert!(!is_fenced(none, "2".parse().unwrap(), LONG));
     }
 
     #[test]
