@@ -3,8 +3,8 @@
 
     try_explain.py PROGRAM FOLDER COMMAND
 
-FOLDER has scripts NAME.json. Beside each is NAME.cause, the line that `PROGRAM WORD < NAME.json` must write on standard error, with status 2
-and nothing on standard output. WORD is `race` for names that begin with race_, and otherwise `play`. sentences.txt has a line
+FOLDER has folders with scripts NAME.json. Beside each is NAME.cause, the line that `PROGRAM WORD < NAME.json` must write on standard error, with
+status 2 and nothing on standard output. WORD is `race` for names that begin with race_, and otherwise `play`. FOLDER/sentences.txt has a line
 `NAME: SENTENCE` for each, which tools/explain.py must say. Each cause must be there, and for each key every cause that it can have.
 FOLDER/rows.list has more, a line each: WORD NUMBER PLACE TEXT. `PROGRAM WORD` must refuse TEXT, a JSON string, for the cause of this number at
 this place. COMMAND, which is ./muoswyld, must write the line. Below it, it must write the sentence if standard error is a terminal, and
@@ -133,7 +133,7 @@ def main() -> None:
     folder = pathlib.Path(named)
     lines = (folder / "sentences.txt").read_text().splitlines()
     sentences = dict(line.split(": ", 1) for line in lines)
-    scripts = sorted(folder.glob("*.json"))
+    scripts = sorted(folder.glob("*/*.json"), key=lambda script: script.stem)
     passed, failed, seen = 0, 0, set()
     for script in scripts:
         wrong = list(faults(program, script, sentences))

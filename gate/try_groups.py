@@ -1,4 +1,4 @@
-"""Tries examples/: a dictionary whose contents stay the same whoever joins, stops and comes back, and a chat.
+"""Tries examples/: a dictionary whose contents stay the same whoever joins, stops and comes back, and a chat; and applications at members' sockets.
 
     python3 gate/try_groups.py PROGRAM [MEMBER]
 
@@ -7,11 +7,14 @@ part ends by itself, within some seconds. It prints what fails, and how many par
 """
 
 import random
+import subprocess
 import sys
+import threading
 import time
 
-from dictionary import MOST_MESSAGE, MOST_PAIR, Dictionary, command_of, message_of, parts_of, size_of
-from member import Delivery, Position
+from contents import MOST_MESSAGE, MOST_PAIR, Dictionary, command_of, message_of, parts_of, size_of
+from member import Caller, Delivery, Ended, Refused
+from muoswyld import Joined, Message, Name, Position, View
 from processes import SOON, TOP, Process, Tried, try_parts
 from relay import Faults
 from words import end
@@ -26,28 +29,26 @@ class Listed:
     def __init__(self, group: "Group", name: str, front: int) -> None:
         self.group, self.name, self.front = group, name, front
         self.messages: list[bytes] = []
-        self.parts: list[bytes] = []
-        self.dictionary = Dictionary(name, self.messages.append, self.parts.append, self.others)
+        self.dictionary = Dictionary(name, self.messages.append, self.others)
         if front == 0:
-            self.dictionary.take(Delivery(Position(1, 0), "view", "", b"", list("012")))
+            self.dictionary.take(View(Position(1, 0), (Name(0), Name(1), Name(2)), 1))
 
     def others(self) -> list[str]:
         """The other members that run."""
         return [name for name in self.group.running if name != self.name]
 
     def send_one(self) -> None:
-        """Lets the first of what it sends into the list: of both ways alike."""
-        ways = [way for way in (self.messages, self.parts) if way]
-        if ways:
-            self.group.entries.append((self.name, self.group.draw.choice(ways).pop(0)))
+        """Lets the first of what it sends into the list."""
+        if self.messages:
+            self.group.entries.append((self.name, self.messages.pop(0)))
 
     def take_one(self) -> None:
         """Is given the next entry."""
         if self.front < len(self.group.entries):
             self.front += 1
             name, message = self.group.entries[self.front - 1]
-            kind = "message" if message else "joined"
-            self.dictionary.take(Delivery(Position(self.front + 1, 0), kind, name, message, []))
+            at, sender = Position(self.front + 1, 0), Name.of(name)
+            self.dictionary.take(Message(at, sender, message) if message else Joined(at, sender))
 
 
 class Group:
@@ -137,14 +138,26 @@ def bounds(_: Tried) -> list[str]:
     return wrong + ([] if len(parts) < 12 else [f"{len(parts)} parts"])
 
 
+def options(tried: Tried, name: str) -> list[str]:
+    """The options of a member that is an application: those of muoswyldd, without its input."""
+    words = tried.words(name, "--journal", str(tried.journal(name)), "--least", "1")
+    words = words[words.index("run") + 1 :]
+    at = words.index("--input")
+    return [*words[:at], *words[at + 2 :]]
+
+
 class Application:
-    """An application with its member."""
+    """An application, which is a member of its group."""
 
     def __init__(self, tried: Tried, script: str, name: str) -> None:
-        self.member = tried.start(name, "--input", "nothing", "--output", "socket", "--least", "1")
-        tried.caller(name).close()
-        self.own = Process([sys.executable, str(TOP / "examples" / script), str(tried.socket(name))])
+        self.name = name
+        self.own = Process([sys.executable, str(TOP / "examples" / script), *options(tried, name)])
         tried.started.append(self.own)
+
+    def begins(self) -> None:
+        """Waits until it is in the group."""
+        if not self.wants(f"* {self.name} is in the group"):
+            raise Ended(f"{self.name} isn't in the group")
 
     def tell(self, line: str) -> None:
         """Gives it a line."""
@@ -164,13 +177,19 @@ class Application:
         return False
 
     def kill(self) -> None:
-        """Kills both."""
-        self.member.kill()
+        """Kills it."""
         self.own.kill()
 
     def end(self) -> int:
         """Ends the application's input, and gives its status."""
         return self.own.end()
+
+
+def judged(tried: Tried) -> list[str]:
+    """What isn't right by the journals of all members that ran."""
+    done = subprocess.run([TOP / "runtime" / "target" / "release" / "judge", tried.folder], capture_output=True, text=True, check=False)
+    is_lawful = done.returncode == 0 and done.stdout.rstrip().endswith(": lawful")
+    return [] if is_lawful else [f"the journals are judged: {(done.stdout + done.stderr)[-500:]}"]
 
 
 def dictionary(tried: Tried) -> list[str]:
@@ -193,7 +212,7 @@ def dictionary(tried: Tried) -> list[str]:
         member.tell("stopped 0")
     members["2"].tell("put colour red")
     gets("1", "colour", "red")
-    members["0/2"] = Application(tried, "dictionary.py", "0/2")
+    members |= started(tried, "dictionary.py", "0/2")
     members["0/2"].tell("stopped 0")
     members["1"].tell("delete size")
     gets("0/2", "colour", "red")
@@ -205,12 +224,19 @@ def dictionary(tried: Tried) -> list[str]:
         lines = members["2"].own.until("no line is this", 0.5)
         wrong += [] if any(said in each for each in lines) else [f"{line[:9]!r} is answered {lines}"]
     statuses = [member.end() for member in members.values()]
-    return wrong + ([] if statuses == [0, 0, 0] else [f"they ended with {statuses}"])
+    return wrong + ([] if statuses == [0, 0, 0] else [f"they ended with {statuses}"]) + judged(tried)
 
 
 def started(tried: Tried, script: str, *names: str) -> dict[str, Application]:
-    """Applications with their members, all of whom are in the group."""
-    return {name: Application(tried, script, name) for name in names}
+    """Applications, all of whom are in the group."""
+    return all_in({name: Application(tried, script, name) for name in names})
+
+
+def all_in(members: dict[str, Application]) -> dict[str, Application]:
+    """Waits until all are in the group."""
+    for member in members.values():
+        member.begins()
+    return members
 
 
 class Five(Tried):
@@ -223,8 +249,8 @@ class Five(Tried):
 def transfer(tried: Tried) -> list[str]:
     """A chat in the group says what is no command; who joins is sent the contents, whom it asked is killed amid that and comes back, and
     another one joins meanwhile."""
-    members = started(tried, "dictionary.py", "0", "1")
-    members["2"] = Application(tried, "chat.py", "2")
+    scripts = {"0": "dictionary.py", "1": "dictionary.py", "2": "chat.py"}
+    members = all_in({name: Application(tried, script, name) for name, script in scripts.items()})
     for name in ("0", "1"):
         for number in range(PAIRS):
             members[name].tell(f"put {name}-{number} {'v' * 900}")
@@ -251,26 +277,80 @@ def transfer(tried: Tried) -> list[str]:
         if not member.gets("keys", keys) or not member.gets("get now", "2") or not member.gets("get 1-7", "v" * 900):
             wrong.append(f"{name} hasn't the contents")
     statuses += [member.end() for member in members.values()]
-    return wrong + ([] if set(statuses) == {0} else [f"they ended with {statuses}"])
+    return wrong + ([] if set(statuses) == {0} else [f"they ended with {statuses}"]) + judged(tried)
 
 
 def chat(tried: Tried) -> list[str]:
-    """Two say something, one leaves; who listens second at a member is refused, and where none is, that is said."""
+    """Two say something, one leaves; a second member of an address is refused, and where there is no key, that is said."""
     members = started(tried, "chat.py", "0", "1", "2")
     members["0"].tell("hello")
     wrong = [f"{name} didn't see it" for name, member in members.items() if not member.wants("<0> hello")]
     members["1"].tell("a\x1b[2J\u202eb")
     wrong += [] if members["0"].wants("<1> a\ufffd[2J\ufffdb") else ["what can't be shown isn't replaced"]
-    only = "chat.py: --output socket gives deliveries to one caller at the socket"
-    for path, said in ((tried.socket("0"), only), (tried.folder / "none", f"chat.py: [Errno 2] no member listens here: No such file or directory: '{tried.folder}/none'")):
-        other = Process([sys.executable, str(TOP / "examples" / "chat.py"), str(path)])
+    address = f"{tried.address(0)[0]}:{tried.address(0)[1]}"
+    taken = "chat.py: the member can't start: Address already in use (os error 98)"
+    none = f"chat.py: [Errno 2] No such file or directory: '{tried.folder}/none'"
+    for more, said in ((["--key", str(tried.folder / "key")], taken), (["--key", str(tried.folder / "none")], none)):
+        words = ["--name", "0", "--founders", "0", "--address", f"0={address}", *more]
+        other = Process([sys.executable, str(TOP / "examples" / "chat.py"), *words])
         wrong += [] if other.wants(said) and other.status() == 1 else [f"a second chat isn't refused: {said}"]
     members["2"].tell("bye\nleave")  # it is said before, so it is sent before
     if not members["0"].wants("<2> bye") or not members["0"].wants("* 2 leaves") or not members["2"].wants("* it left the group"):
         wrong.append("nobody said bye and left")
     statuses = [member.end() for member in members.values()]
-    return wrong + ([] if statuses == [0, 0, 0] and members["2"].member.status() == 0 else [f"they ended with {statuses}"])
+    return wrong + ([] if statuses == [0, 0, 0] else [f"they ended with {statuses}"]) + judged(tried)
+
+
+class Taker(threading.Thread):
+    """An application in another process than its member: it is given the deliveries at the socket."""
+
+    def __init__(self, tried: Tried, name: str) -> None:
+        super().__init__(daemon=True)
+        self.caller, self.given, self.end = tried.caller(name), list[Delivery](), ""
+        self.start()
+
+    def run(self) -> None:
+        """Takes what comes, and last how the member ended."""
+        try:
+            for delivery in self.caller.deliveries():
+                self.given.append(delivery)
+        except (Refused, Ended) as why:
+            self.end = str(why)
+
+    def has(self, kind: str, many: int) -> bool:
+        """Whether so many of a kind come."""
+        ends = time.monotonic() + SOON
+        while sum(delivery.kind == kind for delivery in self.given) < many and time.monotonic() < ends:
+            time.sleep(0.01)
+        return sum(delivery.kind == kind for delivery in self.given) == many
+
+
+def sockets(tried: Tried) -> list[str]:
+    """Applications send and are given the same at their members' sockets; who listens second is refused, and if no member listens, that is said."""
+    names = list("012")
+    for name in names:
+        tried.start(name, "--input", "nothing", "--output", "socket", "--least", "1")
+    takers = {name: Taker(tried, name) for name in names}
+    messages = [f"{name} \u00e9\n\0".encode() for name in names]
+    sent = [tried.caller(name).send(message) for name, message in zip(names, messages, strict=True)]
+    wrong = [f"{name} isn't given all" for name, taker in takers.items() if not taker.has("message", 3)]
+    wanted = [(sent[0], "0", messages[0]), (sent[1], "1", messages[1]), (sent[2], "2", messages[2])]
+    for name, taker in takers.items():
+        given = [(delivery.at, delivery.name, delivery.message) for delivery in taker.given if delivery.kind == "message"]
+        wrong += [] if given == wanted and taker.given[0].members == names else [f"{name} is given {taker.given}"]
+    second = Taker(tried, "0")
+    second.join(SOON)
+    wrong += [] if second.end == "--output socket gives deliveries to one caller at the socket" else [f"a second one isn't refused: {second.end}"]
+    try:
+        Caller(tried.folder / "none")
+        wrong.append("somebody listens where no member is")
+    except OSError as error:
+        wrong += [] if error.strerror == "no member listens here: No such file or directory" else [f"no member listens: {error}"]
+    tried.caller("2").ask("leave")
+    takers["2"].join(SOON)
+    wrong += [] if takers["2"].end == "it left the group" and takers["0"].has("left", 1) else [f"2 hasn't left: {takers['2'].end}"]
+    return wrong
 
 
 if __name__ == "__main__":
-    end(lambda: try_parts(__doc__, [*((Tried, part) for part in (sameness, bounds, dictionary, chat)), (Five, transfer)]))
+    end(lambda: try_parts(__doc__, [*((Tried, part) for part in (sameness, bounds, dictionary, chat, sockets)), (Five, transfer)]))

@@ -5,18 +5,13 @@
     for delivery in Caller("member.socket").deliveries():
         print(delivery.at.number, delivery.kind)    # wants a member with `--output socket`
 
-A caller gives one command at a time. Who wants more under way opens more of them. An application of a user is a loop over `events`, with a
-`Sender` or two.
+A caller gives one command at a time. Who wants more under way opens more of them.
 """
 
 import json
 import os
-import queue
 import socket
-import sys
-import threading
-import time
-from collections.abc import Callable, Iterator
+from collections.abc import Iterator
 from dataclasses import dataclass
 from typing import Any, NamedTuple
 
@@ -52,11 +47,6 @@ def delivery_of(said: dict[str, Any]) -> Delivery:
     message = said["text"].encode() if "text" in said else bytes.fromhex(said.get("hex", ""))
     name = said.get("from", said.get("name", ""))
     return Delivery(Position(said["number"], said["index"]), said["kind"], name, message, said.get("members", []))
-
-
-def shown(message: bytes) -> str:
-    """A message in one line: what can't be shown is replaced."""
-    return "".join(letter if letter.isprintable() else "\ufffd" for letter in message.decode(errors="replace"))
 
 
 class Caller:
@@ -114,104 +104,3 @@ class Caller:
         except OSError:
             pass  # the member has ended
         self.socket.close()
-
-
-def complain(text: str) -> None:
-    """Says something on standard error."""
-    print(f"{os.path.basename(sys.argv[0])}: {text}", file=sys.stderr, flush=True)
-
-
-class Sender(threading.Thread):
-    """Gives a member commands, one after the other, while others go on. What the member refuses is said on standard error."""
-
-    def __init__(self, path: str) -> None:
-        super().__init__(daemon=True)
-        self.caller = Caller(path)
-        self.commands: queue.Queue[bytes] = queue.Queue()
-        self.start()
-
-    def give(self, command: bytes) -> None:
-        """Has a command done after those before it."""
-        self.commands.put(command)
-
-    def send(self, message: bytes) -> None:
-        """Has a message sent after the commands before it."""
-        self.give(b"send-hex " + message.hex().encode())
-
-    def wait(self) -> None:
-        """Waits until all is done, or the member has ended."""
-        self.commands.join()
-
-    def run(self) -> None:
-        """Does commands as they come."""
-        while True:
-            command = self.commands.get()
-            try:
-                self.caller.ask(command)
-            except Refused as error:
-                complain(str(error))
-            except Ended:
-                pass  # which `events` tells
-            self.commands.task_done()
-
-
-def events(path: str, tick_seconds: float = 1) -> Iterator[Delivery | bytes | None]:
-    """The deliveries of a member and the lines of standard input, as they come, and a None at each tick of a clock. It ends with the input; at
-    the member's end it raises how that ended."""
-    heard = Caller(path)
-    came: queue.Queue[Delivery | bytes | Exception] = queue.Queue()
-
-    def hear() -> None:
-        """Hands over deliveries, and last how the member ended."""
-        try:
-            for delivery in heard.deliveries():
-                came.put(delivery)
-        except (Refused, Ended) as end:
-            came.put(end)
-
-    def read() -> None:
-        """Hands over lines of standard input, and last its end."""
-        rest = b""
-        while data := os.read(0, 1 << 16):
-            *lines, rest = (rest + data).split(b"\n")
-            for line in lines:
-                came.put(line)
-        if rest:
-            came.put(rest)
-        came.put(EOFError())
-
-    for each in (hear, read):
-        threading.Thread(target=each, daemon=True).start()
-    due = time.monotonic() + tick_seconds
-    while True:
-        if (left := due - time.monotonic()) <= 0:
-            due = time.monotonic() + tick_seconds
-            yield None
-            continue
-        try:
-            event = came.get(timeout=left)
-        except queue.Empty:
-            continue
-        if isinstance(event, EOFError):
-            return
-        if isinstance(event, Exception):
-            raise event
-        yield event
-
-
-def application(run: Callable[[str], None], page: str) -> int:
-    """Runs an application of the member whose path the word of the command is; its status."""
-    if sys.argv[1:] in (["-h"], ["--help"]):
-        print(page.strip())
-        return 0
-    if len(sys.argv) != 2 or sys.argv[1].startswith("-"):
-        print(page.strip(), file=sys.stderr)
-        return 2
-    try:
-        run(sys.argv[1])
-    except Ended as end:
-        print(f"* {end}", flush=True)
-    except (Refused, OSError) as error:
-        complain(str(error))
-        return 1
-    return 0

@@ -1,7 +1,7 @@
 #!/usr/bin/env python3
 """Builds the member in native code and the program muoswyldd, with the proved library of a node.
 
-    tools/runtime.py               builds runtime/target/release/muoswyldd
+    tools/runtime.py               builds runtime/target/release/muoswyldd, and beside it the libraries for C (docs/C.md)
     tools/runtime.py test          runs the tests of the workspace too, and checks its form
     tools/runtime.py load          builds a member under load too, which bench/peers measures
 

@@ -4,7 +4,7 @@
     tools/schema.py SCRIPT..                  says what is wrong with each script
     tools/schema.py --cases PROGRAM FOLDER..  tries the schema
 
-With --cases, each script of the folders that has a text must be valid, and so must the schema's own examples. Each script with a NAME.cause
+With --cases, each script in the folders that has a text must be valid, and so must the schema's own examples. Each script with a NAME.cause
 must not be, except for those of UNSAID: a schema can't say their causes, or their word isn't their key's. The least and the greatest value of
 each number of a play's keys and of a race's must be valid, and `PROGRAM play` or `PROGRAM race` must take them. Values beyond these must not
 be valid, and the program must refuse them.
@@ -224,7 +224,7 @@ def try_cases(schema: Schema, program: str, folders: list[str]) -> Iterator[str]
     """What is wrong with the schema."""
     for example in schema.whole["examples"]:
         yield from (f"an example: {wrong}" for wrong in schema.faults(example))
-    scripts = [script for folder in folders for script in sorted(pathlib.Path(folder).glob("*.json"))]
+    scripts = sorted({script for folder in folders for script in pathlib.Path(folder).rglob("*.json")})
     for script in scripts:
         wrong = faults_of(schema, script.read_bytes())
         wanted = not script.with_suffix(".cause").exists() or script.stem in UNSAID

@@ -28,11 +28,7 @@ fn box_of<N: Racing>(
     requires its { (place < 16) × (pass ≡ fresh N.wire (terms_of N.plan) (Place place)) }
 {
     let name = Name::of_byte(place as u8);
-    let node = if founding.founders().has(name) {
-        Node::founder(alloc, name, founding)?
-    } else {
-        Node::stranger(alloc, name, founding)?
-    };
+    let node = Node::begin(alloc, name, founding)?;
     Ok(NodeBox::new(name, node, pass))
 }
 
@@ -74,7 +70,7 @@ pub fn callers_of<N: Racing>(
     Ok(callers)
 }
 
-/// The pass of a box, which is that of this place.
+/// The pass of a box, which is that of this place. It is looked at for the same reason as `Kernels::box_at` looks, and never again.
 fn pass_of<R: Wait, N: Racing>(rt: &R, node_box: NodeBox<N>, place: u8) -> Pass
     ensures own { result.wire ≡ N.wire }
     ensures keys { result.keys ≡ Place place ∷ [] }

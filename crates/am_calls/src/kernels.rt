@@ -41,7 +41,7 @@ use am_race_laws::call::{Came, Looked, Tag};
 use am_shared_journal::wire::Wire;
 use am_shared_journal_defs::terms::WireRefusal;
 use std::alloc::Global;
-use std::sync::{Mutex, Wait};
+use std::sync::{Mutex, MutexGuard, Wait};
 
 /// How often a call without a turn to make looks at its node: as often as a journal has records.
 const MOST_RESTS: u32 = 100_000;
@@ -115,6 +115,20 @@ impl<'g, N: Racing, G: TestHook> Kernels<'g, N, G> {
         }
     }
 
+    /// The box of a node's place, under its lock. Each box stands at its own place, but of what a lock guards nothing is known when
+    /// it is taken. So no proof says which box this is: it is looked at, and never a second time.
+    fn box_at<R: Wait>(&self, rt: &R, node: Name) -> MutexGuard<'_, NodeBox<N>>
+        ensures { result.value.name ≡ place_of node }
+    {
+        for _ in rt.forever() {
+            let guard = self.boxes[usize::from(node.place())].lock(rt);
+            if guard.name().place() == node.place() {
+                return guard;
+            }
+        }
+        unreachable!()
+    }
+
     /// The first look of a call that is no receive: its own act.
     fn begin<R: Wait>(&self, rt: &R, hand: &mut Hand, call: &Call) -> Result<Came, CallAnswer>
         requires hand { IsHand N.wire N.plan call.now.tag.caller hand.old.share hand.old.chooser }
@@ -126,15 +140,10 @@ impl<'g, N: Racing, G: TestHook> Kernels<'g, N, G> {
         ensures err { IfErr result (WasRefused (place_of call.now.node) call.now.tag.caller
             hand.old.share.seen hand.new.share.seen) }
     {
-        for _ in rt.forever() {
-            let mut guard = self.boxes[usize::from(call.node.place())].lock(rt);
-            if guard.name().place() == call.node.place() {
-                let begun = guard.begin(&self.visit(rt, call), hand);
-                self.crowd.stir();
-                return begun;
-            }
-        }
-        unreachable!()
+        let mut guard = self.box_at(rt, call.node);
+        let begun = guard.begin(&self.visit(rt, call), hand);
+        self.crowd.stir();
+        begun
     }
 
     /// A further look of a call. Where it has a turn left and its node would only tick, it lets other callers go first: until there
@@ -157,18 +166,17 @@ impl<'g, N: Racing, G: TestHook> Kernels<'g, N, G> {
     {
         let due = self.crowd.due(call.tag.caller);
         let mut rests = if has_turn { MOST_RESTS } else { 0 };
+        // Each round leaves fewer rests, and the one without any is the last.
         for _ in rt.forever() {
             let round = self.crowd.round();
             if self.crowd.due(call.tag.caller) != due {
                 rests = 0;
             }
-            let mut guard = self.boxes[usize::from(call.node.place())].lock(rt);
-            if guard.name().place() == call.node.place() {
-                if rests == 0 || guard.has_to_do(rt, &self.wire, call.act, came) {
-                    let looked = guard.look(&self.visit(rt, call), hand, came, has_turn);
-                    self.crowd.stir();
-                    return looked;
-                }
+            let mut guard = self.box_at(rt, call.node);
+            if rests == 0 || guard.has_to_do(rt, &self.wire, call.act, came) {
+                let looked = guard.look(&self.visit(rt, call), hand, came, has_turn);
+                self.crowd.stir();
+                return looked;
             }
             drop(guard);
             rests = rests.saturating_sub(1);
@@ -328,13 +336,7 @@ impl<'g, N: Racing, G: TestHook> Kernels<'g, N, G> {
         ensures spent { IfErr result (λ refusal. refusal ≡ refusals.Spent
             → length hand.new.share.seen ≡ most_events) }
     {
-        for _ in rt.forever() {
-            let mut guard = self.boxes[usize::from(node.place())].lock(rt);
-            if guard.name().place() == node.place() {
-                return guard.info(&self.wire, hand);
-            }
-        }
-        unreachable!()
+        self.box_at(rt, node).info(&self.wire, hand)
     }
 
     /// What a node knows of itself and of its group, by what the caller has then seen; a node that stopped, what it knew then. It

@@ -1,5 +1,5 @@
 -- A step of what is kept is one of the whole node.
-use Rattle.std.proofs.Common.{◌≡◌, List, sym, ◌∙◌}
+use Rattle.std.proofs.Common.{List, sym, ◌∙◌}
 use Rattle.am_base.specs.declared.event.NodeEvent.{NodeEvent}
 use Rattle.am_base.specs.declared.outcome.Outcome.{Outcome}
 use Rattle.am_packet.specs.Boxes.{Letter}
@@ -10,9 +10,9 @@ use Rattle.am_model.specs.Ends.{Does}
 use Rattle.am_model.proofs.Hearing.{ends_step_alike}
 use Rattle.am_examples.specs.Members.{StepsBy}
 
-pub step_of_equal_outcome : (event : NodeEvent) (old new : Node) (outcome : Outcome) (out letters : List Letter) → IsInOrder old.core → Does (λ m. row m event) old outcome out new
-    → letters ≡ out → StepsBy event old outcome letters new
+pub step_of_equal_outcome : (event : NodeEvent) (old new : Node) (outcome : Outcome) (letters : List Letter) → IsInOrder old.core → Does (λ m. row m event) old outcome letters new
+    → StepsBy event old outcome letters new
 unfolding step
-step_of_equal_outcome event old new outcome out letters order does same = λ all end.
+step_of_equal_outcome event old new outcome letters order does = λ all end.
     let alike = ends_step_alike all old event end order in
-    (does.answer ∙ sym alike.answer, same ∙ does.sent ∙ sym alike.sent, alike.node new does.node)
+    (does.answer ∙ sym alike.answer, does.sent ∙ sym alike.sent, alike.node new does.node)

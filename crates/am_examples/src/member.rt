@@ -1,6 +1,6 @@
 //! A node in a user's own loop: bytes come in, letters go out, time passes, and its numbers may come to an end.
 
-ghost use Rattle.std.specs.Prelude.{◌≡◌, ◌≢◌, ◌++◌, [], List, IfOk, IfErr, OnErr, OnOk, IsTrue, ◌↔◌, Ok, true};
+ghost use Rattle.std.specs.Prelude.{◌≡◌, ◌≢◌, ◌++◌, List, IfOk, IfErr, OnErr, OnOk, IsTrue, ◌↔◌, Ok, true};
 ghost use Rattle.am_base.specs.declared.event.NodeEvent.TheVariants as does;
 ghost use Rattle.am_model.specs.Nodes.{HasNumbersLeft};
 ghost use Rattle.am_group_defs.specs.World.{first_node};
@@ -15,9 +15,8 @@ use am_base::outcome::Outcome;
 use am_node::node::Node;
 use am_packet::letter::Letter;
 use am_packet_reader::reader::decode;
-use am_packet_writer::out_box::{OutBox, Rooms};
+use am_packet_writer::out_box::Rooms;
 use std::alloc::Global;
-use std::mem;
 
 /// Why a member did nothing.
 #[derive(Clone, Copy, PartialEq, Eq, Debug)]
@@ -49,26 +48,13 @@ pub fn is_packet(bytes: &[u8]) -> bool
     decode(bytes).is_ok()
 }
 
-/// An empty box for the letters of a step, over the rooms that earlier ones left.
-fn empty_box(alloc: Global, rooms: &mut Rooms) -> Result<OutBox, NoMemory>
-    ensures { IfOk result (λ b. b ≡ []) }
-{
-    let left = mem::replace(rooms, Rooms::new());
-    OutBox::over(alloc, left)
-}
-
 impl Member {
     /// A founder where the name is one of the founders, and else a name that nobody has seen, which asks to join.
     pub fn new(alloc: Global, name: Name, founding: &Founding) -> Result<Member, NoMemory>
         ensures { IfOk result (λ m. kept_by m ≡ first_node founding.now name) }
     {
-        let node = if founding.founders().has(name) {
-            Node::founder(alloc, name, founding)?
-        } else {
-            Node::stranger(alloc, name, founding)?
-        };
         Ok(Member {
-            node,
+            node: Node::begin(alloc, name, founding)?,
             rooms: Rooms::new(),
         })
     }
@@ -84,17 +70,10 @@ impl Member {
         if !self.node.has_numbers_left() {
             return Err(Idle::Spent);
         }
-        let Ok(spare) = self.node.room_for(alloc, event) else {
-            return Err(Idle::NoMemory);
-        };
-        let Ok(mut out) = empty_box(alloc, &mut self.rooms) else {
-            return Err(Idle::NoMemory);
-        };
-        let _order = self.node.accept_front();
-        let outcome = self.node.step(event, spare, &mut out);
-        let (letters, rooms) = out.into_letters(alloc);
-        self.rooms = rooms;
-        Ok(Did { outcome, letters })
+        match self.node.act(alloc, event, &mut self.rooms) {
+            Ok((outcome, letters)) => Ok(Did { outcome, letters }),
+            Err(_) => Err(Idle::NoMemory),
+        }
     }
 
     /// Hears a datagram, whoever sent it and whatever is in it.

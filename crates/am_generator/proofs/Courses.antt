@@ -1,6 +1,6 @@
 -- A run of which no records are kept goes on as its run.
-use Rattle.am_world.proofs.Words.{◌≡◌, ℕ, ◌+◌, ◌<◌, ◌≤◌, Bool, true, false, if◌then◌else◌, List, [], ◌∷◌, ◌++◌, length, Option, Some, None, Result, Ok, Err}
-use Rattle.am_world.proofs.Words.{max, refl, append-nil, sym, ap, ◌∙◌, subst, arith, length-append, OnOk, most_events, Outcome, NodeEvent, Rules, MayFound, place_of}
+use Rattle.am_world.proofs.Words.{◌≡◌, ℕ, ◌+◌, ◌<◌, ◌≤◌, Bool, true, false, if◌then◌else◌, List, [], ◌∷◌, ◌++◌, length, Option, Some, None}
+use Rattle.am_world.proofs.Words.{max, refl, append-nil, sym, ap, ◌∙◌, subst, arith, length-append, Asked, OnStep, most_events, Outcome, NodeEvent, Rules, MayFound, place_of}
 use Rattle.am_world.proofs.Words.{name_at, Letter, Act, Event, Record, letter_at, letters_of_pushed_record, is_for, happens, current, with_record, record_of}
 use Rattle.am_world.proofs.Words.{Node, watching_of, Play, replay, play_after, IsRun, play_of, EventIsAnswered, comes, flag_of, if_running, event_or_answer, SpellsPacket}
 use Rattle.am_world.proofs.Words.{after_answer, IsWatched, IsReadyAt, first_watching, pass, idle_event_is_watched, happen}
@@ -8,6 +8,7 @@ use Rattle.std.proofs.Common.{sum_by, cond}
 use Rattle.std.proofs.lemmas.List.Sums.{sum_by-append, count_by-le-length}
 use Rattle.am_base.specs.Outcomes.{is_took, is_sent, has_no_room}
 use Rattle.am_base.specs.declared.outcome.Outcome.TheVariants as said
+use Rattle.am_journal.specs.declared.asked.Asked.TheVariants as asked
 use Rattle.am_group.specs.declared.event.Act.TheVariants as act
 use Rattle.am_group_defs.specs.World as model
 use Rattle.am_group_defs.specs.Play.{count_outcomes}
@@ -58,7 +59,7 @@ first_name p places watcher place s within =
 
 -- its node is ready for a step
 pub places_are_ready_for_event : (p : Play) (e : Event) (places : Places) (watcher : Watcher) (name events : ℕ) (what : NodeEvent) → CourseStands p places watcher
-    → length p.events < most_events → name ≡ current (replay p) (place_of e.node) → happens (replay p) e ≡ comes (replay p) e (Ok what) → events ≡ length p.events
+    → length p.events < most_events → name ≡ current (replay p) (place_of e.node) → happens (replay p) e ≡ comes (replay p) e (asked.Step what) → events ≡ length p.events
     → IsReadyAt places.nodes.items (place_of name) what (length places.group.items) (max (events + 2) (length places.group.items))
 places_are_ready_for_event p e places watcher name events what s few here is many =
     node_is_ready_at_place p p.rules places.nodes.items first_lives no_flags (replay p).records places.group.items e what name (length places.group.items)
@@ -92,7 +93,7 @@ gone p e outcome letters places new watcher s runs answers =
 
 -- a name's node did a step
 pub course_gone_by_step : (p : Play) (e : Event) (places new : Places) (watcher : Watcher) (name : ℕ) (what : NodeEvent) (outcome : Outcome) → CourseStands p places watcher
-    → length p.events < most_events → name ≡ current (replay p) (place_of e.node) → happens (replay p) e ≡ comes (replay p) e (Ok what)
+    → length p.events < most_events → name ≡ current (replay p) (place_of e.node) → happens (replay p) e ≡ comes (replay p) e (asked.Step what)
     → (moves : PlaceMoves places new (place_of name) what outcome) → CourseGoneByEvent p e outcome moves.sent new
 course_gone_by_step p e places new watcher name what outcome s few here is moves =
     let old = (replay p).records in
@@ -146,9 +147,9 @@ calm_asks letters flags gone name act.Tick calm = refl
 calm_asks letters flags gone name (act.Hear number) calm = refl
 calm_asks letters flags gone name _ calm = absurd calm
 
-calm_comes : (p : Play) (e : Event) (places : Places) (watcher : Watcher) (name : ℕ) (r : Result NodeEvent Outcome) → CourseStands p places watcher
+calm_comes : (p : Play) (e : Event) (places : Places) (watcher : Watcher) (name : ℕ) (r : Asked) → CourseStands p places watcher
     → name ≡ current (replay p) (place_of e.node) → IsCalmAct e.act → r ≡ event_or_answer places.letters.items no_flags false name e.act
-    → OnOk r (SpellsPacket places.letters.items e.act) → happens (replay p) e ≡ comes (replay p) e r
+    → OnStep r (SpellsPacket places.letters.items e.act) → happens (replay p) e ≡ comes (replay p) e r
 calm_comes p e places watcher name r s here calm is spells =
     let w = replay p in
     let place = place_of e.node in
@@ -156,20 +157,20 @@ calm_comes p e places watcher name r s here calm is spells =
     let was = s.runs.shows in
     let now : r ≡ event_or_answer w.letters no_flags (has_actor_gone_now w e) (current w place) e.act =
     is ∙ (λ i. event_or_answer (s.sent i) no_flags false (here i) e.act) ∙ calm_asks w.letters no_flags (has_actor_gone_now w e) (current w place) e.act calm in
-    let packets : OnOk r (SpellsPacket w.letters e.act) = subst (λ ls. OnOk r (SpellsPacket ls e.act)) s.sent spells in
-    event_comes_to_asked w e no_flags was.stopped.each within (was.living.within place within).0 (subst (λ q. OnOk q (SpellsPacket w.letters e.act)) now packets)
+    let packets : OnStep r (SpellsPacket w.letters e.act) = subst (λ ls. OnStep r (SpellsPacket ls e.act)) s.sent spells in
+    event_comes_to_asked w e no_flags was.stopped.each within (was.living.within place within).0 (subst (λ q. OnStep q (SpellsPacket w.letters e.act)) now packets)
     ∙ ap (comes w e) (sym now)
 
 -- an answer that stops nobody
-abbrev Passes : Result NodeEvent Outcome → Type 0
-Passes (Ok what) = Unit {0}
-Passes (Err outcome) = (w : model.World) (e : Event) → after_answer w e outcome ≡ with_record w e outcome
+abbrev Passes : Asked → Type 0
+Passes (asked.Step what) = Unit {0}
+Passes (asked.Answer outcome) = (w : model.World) (e : Event) → after_answer w e outcome ≡ with_record w e outcome
 
 run_passes : (stopped : Bool) (what : NodeEvent) → Passes (if_running stopped what)
 run_passes true what = λ w e. refl
 run_passes false what = tt
 
-addressed_passes : (addressed stopped : Bool) (what : NodeEvent) → Passes (if addressed then if_running stopped what else Err said.NotAddressed)
+addressed_passes : (addressed stopped : Bool) (what : NodeEvent) → Passes (if addressed then if_running stopped what else asked.Answer said.NotAddressed)
 addressed_passes true stopped what = run_passes stopped what
 addressed_passes false stopped what = λ w e. refl
 
@@ -186,7 +187,7 @@ calm_passes letters flags gone name (act.Hear number) calm = hears_passes name (
 calm_passes letters flags gone name _ calm = absurd calm
 
 calm_answer : (w : model.World) (e : Event) (letters : List Letter) (name : ℕ) (outcome : Outcome) → IsCalmAct e.act
-    → Err outcome ≡ event_or_answer letters no_flags false name e.act → after_answer w e outcome ≡ with_record w e outcome
+    → asked.Answer outcome ≡ event_or_answer letters no_flags false name e.act → after_answer w e outcome ≡ with_record w e outcome
 calm_answer w e letters name outcome calm is = subst Passes (sym is) (calm_passes letters no_flags false name e.act calm) w e
 
 -- ---- counts
@@ -263,7 +264,7 @@ placed_at p e places watcher name s here =
 
 pub step_of_course_is_watched : (p : Play) (e : Event) (outcome : Outcome) (letters : List Letter) (places new : Places) (watcher reserved next : Watcher) (name : ℕ)
     (what : NodeEvent) (n : Node) (known : ℕ) (group : List Entry) → CourseStands p places watcher → CourseGoneByEvent p e outcome letters new
-    → name ≡ current (replay p) (place_of e.node) → happens (replay p) e ≡ comes (replay p) e (Ok what)
+    → name ≡ current (replay p) (place_of e.node) → happens (replay p) e ≡ comes (replay p) e (asked.Step what)
     → watching_of reserved ≡ watching_of watcher → known ≡ length places.group.items → group ≡ new.group.items
     → slice_get new.nodes.items (place_of name) ≡ Some n
     → watching_of next ≡ told_step (watching_of reserved) name (shown_of (state_of n)) what (known + 1) (drop known group) → IsWatched (play_after p e) (watching_of next)
@@ -275,22 +276,22 @@ step_of_course_is_watched p e outcome letters places new watcher reserved next n
 
 -- ---- what was asked of a name
 
-pub asked_call_comes_in_replay : (p : Play) (e : Event) (places : Places) (watcher : Watcher) (name placed : ℕ) (letters : List Letter) (r : Result NodeEvent Outcome)
+pub asked_call_comes_in_replay : (p : Play) (e : Event) (places : Places) (watcher : Watcher) (name placed : ℕ) (letters : List Letter) (r : Asked)
     → CourseStands p places watcher → name ≡ placed → placed ≡ place_of e.node → IsCalmAct e.act → letters ≡ places.letters.items
-    → r ≡ event_or_answer letters no_flags false name e.act → OnOk r (SpellsPacket letters e.act)
+    → r ≡ event_or_answer letters no_flags false name e.act → OnStep r (SpellsPacket letters e.act)
     → (name ≡ current (replay p) (place_of e.node)) × (happens (replay p) e ≡ comes (replay p) e r)
 asked_call_comes_in_replay p e places watcher name placed letters r s at here calm same is spells =
     let within : place_of e.node < 16 = omega arith in
     let named : name ≡ current (replay p) (place_of e.node) = at ∙ here ∙ first_name p places watcher (place_of e.node) s within in (
       named,
       calm_comes p e places watcher name r s named calm (is ∙ ap (λ ls. event_or_answer ls no_flags false name e.act) same)
-          (subst (λ ls. OnOk r (SpellsPacket ls e.act)) same spells),
+          (subst (λ ls. OnStep r (SpellsPacket ls e.act)) same spells),
     )
 
 -- an answer without a step stops nobody
-pub course_passed_by_answer : (p : Play) (e : Event) (places : Places) (watcher next : Watcher) (name : ℕ) (letters : List Letter) (r : Result NodeEvent Outcome)
+pub course_passed_by_answer : (p : Play) (e : Event) (places : Places) (watcher next : Watcher) (name : ℕ) (letters : List Letter) (r : Asked)
     (outcome : Outcome) → CourseStands p places watcher → length p.events < most_events → IsCalmAct e.act
-    → r ≡ event_or_answer letters no_flags false name e.act → r ≡ Err outcome → happens (replay p) e ≡ comes (replay p) e r
+    → r ≡ event_or_answer letters no_flags false name e.act → r ≡ asked.Answer outcome → happens (replay p) e ≡ comes (replay p) e r
     → watching_of next ≡ pass (watching_of watcher) → CourseStands (play_after p e) places next × EventIsAnswered p e outcome
 course_passed_by_answer p e places watcher next name letters r outcome s few calm is err comes_ passed =
     stands_pass p e places watcher next outcome s few

@@ -1,5 +1,5 @@
 -- A run of which no records are kept.
-use Rattle.std.specs.Prelude.{◌≡◌, ℕ, ◌+◌, ◌*◌, ◌<◌, ◌≤◌, List, length, replicate, cond, Bool, false, Ok}
+use Rattle.std.specs.Prelude.{◌≡◌, ℕ, ◌+◌, ◌*◌, ◌<◌, ◌≤◌, List, length, replicate, cond, Bool, false}
 use Rattle.am_base.specs.Most.{most_events}
 use Rattle.am_base.specs.Names.{place_of}
 use Rattle.am_base.specs.Outcomes.{is_took, is_sent, has_no_room}
@@ -15,6 +15,7 @@ use Rattle.am_generator.specs.declared.course.Course.{Course}
 use Rattle.am_generator.specs.declared.course.Counts.{Counts}
 use Rattle.am_generator.specs.declared.places.Places.{Places}
 use Rattle.am_lawful_watch.specs.declared.watcher.Watcher.{Watcher}
+use Rattle.am_journal.specs.declared.asked.Asked.TheVariants as asked
 use Rattle.am_world.specs.Asked.{comes}
 use Rattle.am_world.specs.Runs.{Play, replay, play_of, IsRun}
 use Rattle.am_lawful_watch.specs.Watchers.{watching_of}
@@ -89,4 +90,4 @@ pub record Acts (p : Play) (e : Event) (c : Course) (name : ℕ) (what : NodeEve
   pub course : IsCourse p c
   pub few : length p.events < most_events
   pub named : name ≡ current (replay p) (place_of e.node)
-  pub comes_ : happens (replay p) e ≡ comes (replay p) e (Ok what)
+  pub comes_ : happens (replay p) e ≡ comes (replay p) e (asked.Step what)

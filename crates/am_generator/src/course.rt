@@ -1,4 +1,4 @@
-ghost use Rattle.std.specs.Prelude.{◌≡◌, ◌↔◌, ◌*◌, ◌<◌, ◌≤◌, [], length, false, IfOk, OnErr, OnOk, Err};
+ghost use Rattle.std.specs.Prelude.{◌≡◌, ◌↔◌, ◌*◌, ◌<◌, ◌≤◌, [], length, false, IfOk, OnErr, Err};
 ghost use Rattle.std.specs.Option.{option_copied};
 ghost use Rattle.am_base.specs.Most.{most_events};
 ghost use Rattle.am_base.specs.Outcomes.{is_took, is_sent, has_no_room};
@@ -8,7 +8,7 @@ ghost use Rattle.am_group.specs.Addressed.{next_for};
 ghost use Rattle.am_group.specs.Journals.{letter_at};
 ghost use Rattle.am_group_defs.specs.Lawful.{broken_at};
 ghost use Rattle.am_journal.specs.Asked as asks;
-ghost use Rattle.am_journal.specs.Asked.{SpellsPacket};
+ghost use Rattle.am_journal.specs.Asked.{OnStep, SpellsPacket};
 ghost use Rattle.am_world.specs.Runs.{Play, play_after, replay, EventIsAnswered};
 ghost use Rattle.am_generator.specs.Courses.{no_flags, counts_after, Acts, IsCalmAct, IsCourse, CountsAreBelow, course_entries, events_done, letters_sent};
 
@@ -22,7 +22,7 @@ use am_base::name::Name;
 use am_base::outcome::Outcome;
 use am_group::event::{Act, Event};
 use am_journal::addressed::is_for;
-use am_journal::asked::keep_room;
+use am_journal::asked::{Asked, keep_room};
 use am_lawful_watch::watcher::Watcher;
 use am_packet::letter::Letter;
 use am_world::watching::shown_by;
@@ -99,49 +99,45 @@ fn letter_at(letters: &[Letter], number: u32) -> Option<&Letter>
 
 /// What hearing a letter asks of the node of a name that hasn't stopped, or how it is answered without one. The bytes stand in the
 /// room that there is for them.
-fn hears(
-    letters: &[Letter],
-    room: &mut Vec<u8>,
-    name: Name,
-    number: u32,
-) -> Result<Result<NodeEvent, Outcome>, NoMemory>
+fn hears(letters: &[Letter], room: &mut Vec<u8>, name: Name, number: u32) -> Result<Asked, NoMemory>
     ensures asks { IfOk result (λ r. r
         ≡ asks.event_or_answer letters.now no_flags false name (acts.Hear number)) }
-    ensures spells { IfOk result (λ r. OnOk r (SpellsPacket letters.now (acts.Hear number))) }
+    ensures spells { IfOk result (λ r. OnStep r (SpellsPacket letters.now (acts.Hear number))) }
 {
     let Some(letter) = letter_at(letters, number) else {
-        return Ok(Err(Outcome::NoPacket));
+        return Ok(Asked::Answer(Outcome::NoPacket));
     };
     if !is_for(letter, name) {
-        return Ok(Err(Outcome::NotAddressed));
+        return Ok(Asked::Answer(Outcome::NotAddressed));
     }
     let empty = Vec::new(*room.allocator());
     let mut bytes = mem::replace(room, empty);
     bytes.clear();
     bytes.extend_from_slice(letter.bytes())?;
-    Ok(Ok(NodeEvent::Hear(Items::of(bytes))))
+    Ok(Asked::Step(NodeEvent::Hear(Items::of(bytes))))
 }
 
 /// What a calm act asks of the node of a name that hasn't stopped, or how it is answered without one.
-fn asked(
+fn event_or_answer(
     letters: &[Letter],
     room: &mut Vec<u8>,
     name: Name,
     act: Act,
-) -> Result<Result<NodeEvent, Outcome>, NoMemory>
+) -> Result<Asked, NoMemory>
     requires { IsCalmAct act }
     ensures asks { IfOk result (λ r. r
         ≡ asks.event_or_answer letters.now no_flags false name act) }
-    ensures spells { IfOk result (λ r. OnOk r (SpellsPacket letters.now act)) }
+    ensures spells { IfOk result (λ r. OnStep r (SpellsPacket letters.now act)) }
 {
-    Ok(match act {
-        Act::Send(body) => Ok(NodeEvent::Send(body)),
-        Act::Done(req) => Ok(NodeEvent::Done(req)),
-        Act::Take => Ok(NodeEvent::Take),
-        Act::Tick => Ok(NodeEvent::Tick),
+    let what = match act {
+        Act::Send(body) => NodeEvent::Send(body),
+        Act::Done(req) => NodeEvent::Done(req),
+        Act::Take => NodeEvent::Take,
+        Act::Tick => NodeEvent::Tick,
         Act::Hear(number) => return hears(letters, room, name, number),
         _ => unreachable!(),
-    })
+    };
+    Ok(Asked::Step(what))
 }
 
 /// A run of a group, on its way, in which nobody stops, joins or leaves, and of which no records are kept: only the nodes, their
@@ -243,9 +239,9 @@ impl Course {
         }
         let name = Name::of_byte(event.node.place());
         let letters = self.places.letters();
-        match asked(letters, &mut self.heard, name, event.act)? {
-            Ok(what) => Ok(self.act(name, what)?),
-            Err(outcome) => {
+        match event_or_answer(letters, &mut self.heard, name, event.act)? {
+            Asked::Step(what) => Ok(self.act(name, what)?),
+            Asked::Answer(outcome) => {
                 self.watcher.pass();
                 self.counts.add(&outcome);
                 Ok(outcome)

@@ -8,7 +8,7 @@ use am_node::founding::founders_view;
 use am_node::node::Node;
 use am_packet::letter::Letter;
 use am_packet_writer::out_box::Rooms;
-use am_world::nodes::{grow, make_room, room_at};
+use am_world::nodes::{grow, make_room};
 use am_world::run::sixteen;
 use std::alloc::Global;
 
@@ -82,16 +82,8 @@ impl Places {
     {
         make_room(&mut self.group, events + 2)?;
         self.letters.reserve(MOST_SENT)?;
-        let (spare, mut out) = room_at(
-            self.alloc,
-            self.nodes.as_slice(),
-            name,
-            what,
-            &mut self.rooms,
-        )?;
         let node = &mut self.nodes[usize::from(name.place())];
-        let outcome = node.step(what, spare, &mut out);
-        let _accepted = node.accept_front();
+        let (outcome, out) = node.act_in_box(self.alloc, what, &mut self.rooms)?;
         grow(&mut self.group, node);
         self.rooms = out.append_to(&mut self.letters);
         Ok(outcome)

@@ -1,4 +1,4 @@
-ghost use Rattle.std.specs.Prelude.{◌≡◌, ◌||◌, ℕ, List, [], Some, None, IfOk, length, take, Ok, Err};
+ghost use Rattle.std.specs.Prelude.{◌≡◌, ◌||◌, ℕ, List, [], Some, None, IfOk, length, take};
 ghost use Rattle.am_base.specs.declared.event.NodeEvent.TheVariants as does;
 ghost use Rattle.am_base.specs.Names.{life_of};
 ghost use Rattle.am_journal.specs.Asked as asks;
@@ -12,6 +12,15 @@ use am_base::outcome::Outcome;
 use am_group::event::Act;
 use std::alloc::Global;
 
+/// What an event asks of its name's node, or how it is answered without one.
+#[derive(Drop)]
+pub enum Asked {
+    /// The node is to do this step.
+    Step(NodeEvent),
+    /// No node does anything, and this is the event's outcome.
+    Answer(Outcome),
+}
+
 /// Whether a name has stopped.
 pub fn is_stopped(stopped: &[bool; 256], name: Name) -> bool
     ensures { result ≡ flag_of stopped.now name }
@@ -19,13 +28,13 @@ pub fn is_stopped(stopped: &[bool; 256], name: Name) -> bool
     stopped[usize::from(name.get())]
 }
 
-fn if_running(stopped: bool, what: NodeEvent) -> Result<NodeEvent, Outcome>
+fn if_running(stopped: bool, what: NodeEvent) -> Asked
     ensures { result ≡ if_running stopped what }
 {
     if stopped {
-        return Err(Outcome::IsStopped);
+        return Asked::Answer(Outcome::IsStopped);
     }
-    Ok(what)
+    Asked::Step(what)
 }
 
 /// The bytes, or only so many of the first of them.
@@ -79,27 +88,23 @@ pub fn keep_room(room: &mut Vec<u8>, what: NodeEvent)
 
 /// A name sends a body.
 #[inline(never)]
-fn sends(
-    alloc: Global,
-    body: &SentBody,
-    stopped: bool,
-) -> Result<Result<NodeEvent, Outcome>, NoMemory>
+fn sends(alloc: Global, body: &SentBody, stopped: bool) -> Result<Asked, NoMemory>
     ensures { IfOk result (λ r. r ≡ if_running stopped (does.Send body.now)) }
 {
     let body = SentBody::of_bytes(alloc, body.bytes())?;
     Ok(if_running(stopped, NodeEvent::Send(body)))
 }
 
-fn gives_up(stopped: &[bool; 256], name: Name, other: Name) -> Result<NodeEvent, Outcome>
+fn gives_up(stopped: &[bool; 256], name: Name, other: Name) -> Asked
     ensures { result ≡ asks.give_up_or_answer (flag_of stopped.now name) (flag_of stopped.now other) other }
 {
     if is_stopped(stopped, name) {
-        return Err(Outcome::IsStopped);
+        return Asked::Answer(Outcome::IsStopped);
     }
     if is_stopped(stopped, other) {
-        return Ok(NodeEvent::GiveUp(other));
+        return Asked::Step(NodeEvent::GiveUp(other));
     }
-    Err(Outcome::NotStopped)
+    Asked::Answer(Outcome::NotStopped)
 }
 
 fn stops(stopped: bool) -> Outcome
@@ -131,7 +136,7 @@ pub fn call_or_answer(
     has_departed: bool,
     name: Name,
     act: &Act,
-) -> Result<Result<NodeEvent, Outcome>, NoMemory>
+) -> Result<Asked, NoMemory>
     requires { heard_of act.now ≡ None }
     ensures { IfOk result (λ r. r ≡ asks.event_or_answer [] stopped.now has_departed name act.now) }
 {
@@ -152,9 +157,9 @@ pub fn call_or_answer(
         ),
         Act::Ask(round) => if_running(is_stopped, NodeEvent::Ask(*round)),
         Act::GiveUp(other) => gives_up(stopped, name, *other),
-        Act::Stop => Err(stops(is_stopped)),
+        Act::Stop => Asked::Answer(stops(is_stopped)),
         Act::Tick => if_running(is_stopped, NodeEvent::Tick),
-        Act::Return => Err(returns(is_stopped || has_departed, name)),
+        Act::Return => Asked::Answer(returns(is_stopped || has_departed, name)),
         Act::Hear(_) | Act::Cut { .. } => unreachable!(),
     })
 }

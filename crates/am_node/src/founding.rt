@@ -93,7 +93,8 @@ fn first_core(log: History, name: Name, founding: &Founding) -> Core<History>
     }
 }
 
-/// The parts of a name that no one has seen.
+/// The parts of a name that no one has seen. It stands apart from `founder`, so that no call has what both keep on its stack.
+#[inline(never)]
 pub fn stranger(room: Room, name: Name) -> Parts
     ensures { node_of result ≡ stranger room name }
 {
@@ -152,8 +153,9 @@ fn founder_core(log: History, name: Name, founding: &Founding) -> Core<History>
     core
 }
 
-/// The parts of a founder.
-pub fn founder(room: Room, name: Name) -> Parts
+/// The parts of a founder. It stands apart, too.
+#[inline(never)]
+fn founder(room: Room, name: Name) -> Parts
     requires { has room.founders name ≡ true }
     ensures { node_of result ≡ founder room name }
 {
@@ -168,4 +170,15 @@ pub fn founder(room: Room, name: Name) -> Parts
         fronts,
         ballot: None,
     }
+}
+
+/// The parts of a name at its beginning: of a founder where it is one of the founders, and else of a name that no one has seen.
+pub fn first(room: Room, name: Name) -> Parts
+    ensures { node_of result ≡ (if has room.founders name then founder room name else
+        stranger room name) }
+{
+    if room.founding.founders().has(name) {
+        return founder(room, name);
+    }
+    stranger(room, name)
 }

@@ -7,6 +7,7 @@ use crate::{founding, info};
 use am_base::entry::Entry;
 use am_base::event::NodeEvent;
 use am_base::founding::Founding;
+use am_base::items::Items;
 use am_base::limits::MOST_NUMBER;
 use am_base::name::{Name, Stamp};
 use am_base::names::Names;
@@ -16,9 +17,11 @@ use am_model::info::{BallotEnd, Info};
 use am_model::status::Status;
 use am_node_parts::parts::Parts;
 use am_node_storage::log::Log;
-use am_packet_writer::out_box::OutBox;
+use am_packet::letter::Letter;
+use am_packet_writer::out_box::{OutBox, Rooms};
 use am_step_end::ending::finish;
 use std::alloc::{AllocError, Global};
+use std::mem;
 
 /// One node of a group. Its state is that of the protocol's node, but that it keeps only the end of its list, from the
 /// base on (docs/PROTOCOL.md, "A node").
@@ -28,7 +31,7 @@ pub struct Node {
 }
 
 impl Node {
-    ghost use Rattle.std.specs.Prelude.{◌≡◌, ◌==◌, ◌≤◌, ◌↔◌, [], length, nat_lt, not, true, IfOk, IsTrue};
+    ghost use Rattle.std.specs.Prelude.{◌≡◌, ◌==◌, ◌≤◌, ◌↔◌, [], length, nat_lt, not, IfOk, OnErr, IsTrue, if◌then◌else◌};
     ghost use Rattle.std.specs.Option.{option_copied};
     ghost use Rattle.am_node_parts.specs.Prelude.{entry_at, has, IsInOrder, members, image_of, top, view, Does, Tells};
     ghost use Rattle.am_model.specs.Node.{founder, stranger, node_unsettled_count};
@@ -64,34 +67,72 @@ impl Node {
             && self.parts.sender.last() < MOST_NUMBER
     }
 
-    /// A founder of the group. It is an error where there is no memory.
-    pub fn founder(alloc: Global, name: Name, founding: &Founding) -> Result<Node, AllocError>
-        requires { has founding.now.founders name ≡ true }
-        ensures { IfOk result (λ n. state_of n ≡ founder founding.now name) }
+    /// Does one step, as `step` does, and takes the memory for it first: room for an entry that is taken, and a box for the letters
+    /// over the rooms that earlier steps left. It gives the answer and the letters in order, and leaves the rooms that they don't
+    /// take for the next step. It is an error only where there is no memory, and then no step is done, and it may be asked again.
+    pub fn act(
+        &mut self,
+        alloc: Global,
+        event: &NodeEvent,
+        rooms: &mut Rooms,
+    ) -> Result<(Outcome, Items<Letter>), AllocError>
+        requires numbers { HasNumbersLeft (state_of self.old) }
+        ensures does { IfOk result (λ did. Does (λ m. row m event.now) (state_of self.old) did.0 did.1
+            (state_of self.new)) }
+        ensures few { IfOk result (λ did. length did.1 ≤ 9) }
+        ensures order { IsInOrder (state_of self.old).core × IsInOrder (state_of self.new).core }
+        ensures err { OnErr result (self.new ≡ self.old) }
+    {
+        let (outcome, out) = self.act_in_box(alloc, event, rooms)?;
+        let (letters, left) = out.into_letters(alloc);
+        *rooms = left;
+        Ok((outcome, letters))
+    }
+
+    /// The same, with the letters in their box, which takes the rooms.
+    pub fn act_in_box(
+        &mut self,
+        alloc: Global,
+        event: &NodeEvent,
+        rooms: &mut Rooms,
+    ) -> Result<(Outcome, OutBox), AllocError>
+        requires numbers { HasNumbersLeft (state_of self.old) }
+        ensures does { IfOk result (λ did. Does (λ m. row m event.now) (state_of self.old) did.0 did.1
+            (state_of self.new)) }
+        ensures few { IfOk result (λ did. length did.1 ≤ 9) }
+        ensures order { IsInOrder (state_of self.old).core × IsInOrder (state_of self.new).core }
+        ensures err { OnErr result (self.new ≡ self.old) }
+    {
+        let _before = self.accept_front();
+        let spare = self.room_for(alloc, event)?;
+        let left = mem::replace(rooms, Rooms::new());
+        let mut out = OutBox::over(alloc, left)?;
+        let outcome = self.step(event, spare, &mut out);
+        let _after = self.accept_front();
+        Ok((outcome, out))
+    }
+
+    /// A name's node at its beginning: a founder where it is one of the founders, and else a name that no one has seen, which may
+    /// ask to join. It is an error where there is no memory.
+    pub fn begin(alloc: Global, name: Name, founding: &Founding) -> Result<Node, AllocError>
+        ensures { IfOk result (λ n. state_of n ≡ (if has founding.now.founders name
+            then founder founding.now name else stranger founding.now name)) }
     {
         let room = Room::new(alloc, founding)?;
-        Ok(Node::founder_in(room, name))
+        Ok(Node::begin_in(room, name))
     }
 
     /// The same in room that is there. It takes no memory.
-    pub fn founder_in(room: Room, name: Name) -> Node
-        requires { has room.founders name ≡ true }
-        ensures { state_of result ≡ founder room name }
+    pub fn begin_in(room: Room, name: Name) -> Node
+        ensures { state_of result ≡ (if has room.founders name
+            then founder room name else stranger room name) }
     {
         Node {
-            parts: founding::founder(room, name),
+            parts: founding::first(room, name),
         }
     }
 
-    /// A name that no one has seen. It is an error where there is no memory.
-    pub fn stranger(alloc: Global, name: Name, founding: &Founding) -> Result<Node, AllocError>
-        ensures { IfOk result (λ n. state_of n ≡ stranger founding.now name) }
-    {
-        let room = Room::new(alloc, founding)?;
-        Ok(Node::stranger_in(room, name))
-    }
-
-    /// The same in room that is there. It takes no memory.
+    /// A name that no one has seen, in room that is there. It takes no memory.
     pub fn stranger_in(room: Room, name: Name) -> Node
         ensures { state_of result ≡ stranger room name }
     {

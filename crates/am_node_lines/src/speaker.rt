@@ -1,6 +1,5 @@
 ghost use Rattle.std.specs.Prelude.{◌≡◌, true, false, OnOk, OnErr, IfOk, IsErr, string_bytes};
-ghost use Rattle.am_base.specs.Names.{has};
-ghost use Rattle.am_model.specs.Node.{founder, stranger};
+ghost use Rattle.am_group_defs.specs.World.{first_node};
 ghost use Rattle.am_model.specs.Nodes.{HasNumbersLeft};
 ghost use Rattle.am_node.specs.Stands.{state_of};
 ghost use Rattle.am_node_lines.specs.Answers.{is_addressed, is_info};
@@ -18,9 +17,8 @@ use am_base::names::Names;
 use am_base::outcome::Outcome;
 use am_node::founding::Room;
 use am_node::node::Node;
-use am_packet_writer::out_box::{OutBox, Rooms};
+use am_packet_writer::out_box::Rooms;
 use std::alloc::Global;
-use std::mem;
 
 /// A node that speaks lines. Contracts see it as its group's founding, its node, of which it keeps the end of the list, and
 /// whether there was no memory for an answer. The node is large, so it stands apart, and no call has it on its stack.
@@ -52,28 +50,17 @@ fn is_info(line: &Line) -> bool
     }
 }
 
-/// A founder's node, in a place apart. It is an error where there is no memory.
+/// A name's node at its beginning, in a place apart. It is an error where there is no memory.
 #[inline(never)]
-fn founder_of(alloc: Global, name: Name, founding: &Founding) -> Result<Box<Node>, NoMemory>
-    requires { has founding.now.founders name ≡ true }
-    ensures { IfOk result (λ n. state_of n.value ≡ founder founding.now name) }
+fn node_apart(alloc: Global, name: Name, founding: &Founding) -> Result<Box<Node>, NoMemory>
+    ensures { IfOk result (λ n. state_of n.value ≡ first_node founding.now name) }
 {
     let room = Room::new(alloc, founding)?;
-    Ok(Box::new(alloc, Node::founder_in(room, name))?)
-}
-
-/// The node of a name that no one has seen, in a place apart. It is an error where there is no memory.
-#[inline(never)]
-fn stranger_of(alloc: Global, name: Name, founding: &Founding) -> Result<Box<Node>, NoMemory>
-    ensures { IfOk result (λ n. state_of n.value ≡ stranger founding.now name) }
-{
-    let room = Room::new(alloc, founding)?;
-    Ok(Box::new(alloc, Node::stranger_in(room, name))?)
+    Ok(Box::new(alloc, Node::begin_in(room, name))?)
 }
 
 impl Speaker {
     ghost use Rattle.am_model.specs.Step.{step};
-    ghost use Rattle.am_group_defs.specs.World.{first_node};
     ghost use Rattle.am_base.specs.declared.event.NodeEvent.TheVariants as does;
     ghost use Rattle.am_node_lines.specs.declared.line.Line.TheVariants as said;
     ghost use Rattle.am_node_lines.specs.Answers.{stepped, reply_by, reply_to, line_answer};
@@ -86,14 +73,9 @@ impl Speaker {
         ensures rules { IfOk result (λ s. (speaking s).rules ≡ founding.now) }
         ensures ready { IfOk result (λ s. (speaking s).failed ≡ false) }
     {
-        let node = if founding.founders().has(name) {
-            founder_of(alloc, name, founding)?
-        } else {
-            stranger_of(alloc, name, founding)?
-        };
         Ok(Speaker {
             founding: *founding,
-            node,
+            node: node_apart(alloc, name, founding)?,
             rooms: Rooms::new(),
             failed: false,
         })
@@ -116,13 +98,7 @@ impl Speaker {
         ensures flag { (speaking self.new).failed ≡ (speaking self.old).failed }
     {
         let node = &mut *self.node;
-        let spare = node.room_for(alloc, event)?;
-        let left = mem::replace(&mut self.rooms, Rooms::new());
-        let mut out = OutBox::over(alloc, left)?;
-        let _order = node.accept_front();
-        let outcome = node.step(event, spare, &mut out);
-        let (letters, rooms) = out.into_letters(alloc);
-        self.rooms = rooms;
+        let (outcome, letters) = node.act(alloc, event, &mut self.rooms)?;
         Ok(LineReply::Did { outcome, letters })
     }
 

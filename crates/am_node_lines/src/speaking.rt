@@ -140,6 +140,7 @@ pub fn speak<R: Wait, S: Source, K: Sink>(
         return SpokenEnd::NoMemory;
     };
     let mut chunk = [0u8; CHUNK];
+    // It goes on as long as there are lines: whoever speaks to the node ends the source.
     'reads: for _ in rt.forever() {
         match source.read(&mut chunk) {
             Got::End => {

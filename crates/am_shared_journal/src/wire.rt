@@ -115,6 +115,8 @@ impl<L: Law> Wire<L> {
         ensures same { seat.new.table_id ≡ seat.old.table_id }
         ensures takes { SeatTakes L.next seat.old.me seat.new.me }
     {
+        // It waits as long as another thread has the turn. Each gives it back after one record or one look, but no proof says that it
+        // runs, so there is no bound.
         for _ in rt.forever() {
             if self.table.shared.compare_exchange::<Take<L>>(seat, 0, 0, 1) == 0 {
                 return;

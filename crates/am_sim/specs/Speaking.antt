@@ -1,5 +1,5 @@
 -- What a call for a node did.
-use Rattle.std.specs.Prelude.{◌≡◌, ℕ, List, Option, Some, None}
+use Rattle.std.specs.Prelude.{◌≡◌, ℕ, List, Option, Some}
 use Rattle.am_cli_words.specs.declared.form.Form.{Form}
 use Rattle.am_cli_words.specs.declared.form.Form.TheVariants as form
 use Rattle.am_cli_words.specs.declared.node.NodeWords.{NodeWords}
@@ -8,11 +8,6 @@ use Rattle.am_node_lines.specs.declared.ending.SpokenEnd.TheVariants as ends
 use Rattle.am_node_lines.specs.Speaking.{Spoke}
 use Rattle.am_player.specs.declared.status.ExitStatus.{ExitStatus}
 use Rattle.am_player.specs.declared.status.ExitStatus.TheVariants.{Done, ReadFault, WriteFault, NoMemory}
-
--- the node that words of a form ask for
-abbrev pub node_in : Option Form → Option NodeWords
-node_in (Some (form.Node node)) = Some node
-node_in _ = None
 
 -- how a node's speaking ended, as a status
 abbrev pub status_of : SpokenEnd → ExitStatus

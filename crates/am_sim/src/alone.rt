@@ -1,6 +1,6 @@
 ghost use Rattle.std.specs.Prelude.{◌≡◌, ◌↔◌, ℕ, List, None, Some, Err, IfOk, IfSome, string_bytes};
 ghost use Rattle.am_io.specs.Outside.{ReadToEnd};
-ghost use Rattle.am_cli_words.specs.Forms.{IsGen, Generates};
+ghost use Rattle.am_cli_words.specs.Forms.{IsGen, Generates, ScriptIsShort};
 ghost use Rattle.am_cli_words.specs.declared.form.Form.TheVariants as form;
 ghost use Rattle.am_audit_defs.specs.Lines.{read_text};
 ghost use Rattle.am_player.specs.Plays.{IsSpent};
@@ -12,7 +12,7 @@ use crate::generating::{generate_script, summary_of_run};
 use crate::parting::write_parts;
 use crate::playing::ShownRun;
 use am_base::NoMemory;
-use am_cli_words::form::{Form, form_of};
+use am_cli_words::form::Form;
 use am_cli_words::options::gen_numbers;
 use am_io::outside::{Sink, Source};
 use am_io::whole::write_all;
@@ -20,15 +20,18 @@ use am_player::play::play;
 use am_player::status::ExitStatus;
 use std::alloc::Global;
 
-/// Does what the words ask for, as `simulate` does, but for the one word `race` and for `node`, and waits for nobody. None exactly
-/// where the words are these; then nothing is read or written.
+/// Does what the words of a form ask for, as `simulate` does, but for the one word `race` and for `node`, and waits for nobody. None
+/// exactly where the words are these; then nothing is read or written.
 #[tactic(auto, using(crate::proofs::Answered::gen_took_nothing))]
 pub fn simulate_alone<S: Source, K: Sink>(
     alloc: Global,
+    asked: Option<Form>,
     words: &[&str],
     source: &mut S,
     sink: &mut K,
 ) -> Option<ExitStatus>
+    requires form_ { asked ≡ form_of_words words.now }
+    requires few { IfSome asked ScriptIsShort }
     ensures variant { (result ≡ None) ↔ Waits (form_of_words words.now) }
     ensures untouched_source { result ≡ None → source.new ≡ source.old }
     ensures untouched_sink { result ≡ None → sink.new ≡ sink.old }
@@ -57,7 +60,7 @@ pub fn simulate_alone<S: Source, K: Sink>(
     ensures audits { IfSome result (λ status. IsOfAudit status
         → form_of_words words.now ≡ Some form.Audit) }
 {
-    match form_of(words) {
+    match asked {
         Some(Form::Play(shown)) => Some(play(alloc, &ShownRun { alloc, shown }, source, sink)),
         Some(Form::Gen(_)) => Some(generate_run(alloc, words, sink)),
         Some(Form::Script(numbers)) => Some(generate_script(alloc, numbers, sink)),

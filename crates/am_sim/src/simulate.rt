@@ -1,4 +1,4 @@
-ghost use Rattle.std.specs.Prelude.{◌≡◌, ◌≢◌, ◌↔◌, ℕ, List, None, Some, Err, IfOk, IfErr, OnOk, OnErr, Ok, true};
+ghost use Rattle.std.specs.Prelude.{◌≡◌, ◌≢◌, ◌↔◌, ℕ, List, None, Some, Err, IfOk, IfErr, OnOk, OnErr, Ok};
 ghost use Rattle.std.specs.Io.KnownBytes.{Appends};
 ghost use Rattle.am_io.specs.Buffers.{Goes};
 ghost use Rattle.am_io.specs.Outside.{ReadToEnd, GaveMore, GaveAtMost};
@@ -13,7 +13,7 @@ ghost use Rattle.am_sim.specs.Simulation.{form_of_words, most_bytes_of, Plays, F
 
 use crate::alone::simulate_alone;
 use crate::racing::write_race;
-use crate::speaking::{node_in, speak_node};
+use crate::speaking::speak_node;
 use am_calls::gate::TestHook;
 use am_cli_words::form::{Form, form_of};
 use am_io::buffered::Buffered;
@@ -75,31 +75,16 @@ pub fn simulate<R: Threads + Wait + Sync, S: Source, K: Sink, G: TestHook + Sync
         (Judges result (S.left source.old) (S.left source.new)) }
     ensures audits { IsOfAudit result → form_of_words words.now ≡ Some form.Audit }
 {
-    if is_race(words) {
+    let asked = form_of(words);
+    if let Some(Form::Race) = asked {
         return race_script(rt, alloc, gate, source, sink);
     }
-    if let Some(node) = node_in(words) {
+    if let Some(Form::Node(node)) = asked {
         return speak_node(rt, alloc, &node, source, sink);
     }
-    match simulate_alone(alloc, words, source, sink) {
+    match simulate_alone(alloc, asked, words, source, sink) {
         Some(status) => status,
         None => unreachable!(),
-    }
-}
-
-/// Whether words are the one word `race`.
-fn is_race(words: &[&str]) -> bool
-    ensures { (result ≡ true) ↔ (form_of_words words.now ≡ Some form.Race) }
-{
-    match form_of(words) {
-        Some(Form::Race) => true,
-        Some(Form::Play(_)) => false,
-        Some(Form::Gen(_)) => false,
-        Some(Form::Script(_)) => false,
-        Some(Form::Audit) => false,
-        Some(Form::Parts) => false,
-        Some(Form::Node(_)) => false,
-        None => false,
     }
 }
 

@@ -1,9 +1,7 @@
 ghost use Rattle.std.specs.Prelude.{◌≡◌};
 ghost use Rattle.am_player.specs.Statuses.{source_reads_after, sink_writes_after};
-ghost use Rattle.am_sim.specs.Simulation.{form_of_words};
-ghost use Rattle.am_sim.specs.Speaking.{node_in, status_of, Spoken};
+ghost use Rattle.am_sim.specs.Speaking.{status_of, Spoken};
 
-use am_cli_words::form::{Form, form_of};
 use am_cli_words::node::NodeWords;
 use am_io::outside::{Sink, Source};
 use am_node_lines::ending::SpokenEnd;
@@ -11,22 +9,6 @@ use am_node_lines::speaking::speak;
 use am_player::status::ExitStatus;
 use std::alloc::Global;
 use std::sync::Wait;
-
-/// The node that words ask for.
-pub fn node_in(words: &[&str]) -> Option<NodeWords>
-    ensures { result ≡ node_in (form_of_words words.now) }
-{
-    match form_of(words) {
-        Some(Form::Node(node)) => Some(node),
-        Some(Form::Play(_)) => None,
-        Some(Form::Race) => None,
-        Some(Form::Gen(_)) => None,
-        Some(Form::Script(_)) => None,
-        Some(Form::Audit) => None,
-        Some(Form::Parts) => None,
-        None => None,
-    }
-}
 
 /// The status of how a node's speaking ended.
 fn status_of(end: SpokenEnd) -> ExitStatus

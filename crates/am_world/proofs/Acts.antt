@@ -1,5 +1,5 @@
 -- A name's node does a step.
-use Rattle.am_world.proofs.Words.{◌≡◌, ℕ, ◌+◌, ◌-◌, ◌<◌, ◌≤◌, ◌==◌, max, Bool, true, false, if◌then◌else◌, List, [], ◌∷◌, ◌++◌, length, take, drop, Ok, Some}
+use Rattle.am_world.proofs.Words.{◌≡◌, ℕ, ◌+◌, ◌-◌, ◌<◌, ◌≤◌, ◌==◌, max, Bool, true, false, if◌then◌else◌, List, [], ◌∷◌, ◌++◌, length, take, drop, Some}
 use Rattle.am_world.proofs.Words.{slice_get, slice_set, refl, sym, ap, ◌∙◌, subst, arith, length-append, length-drop, length-take, length-set, drop-drop}
 use Rattle.am_world.proofs.Words.{nat_tests, most_events, Entry, Image, Stamp, Outcome, NodeEvent, Rules, place_of, Letter, CoreState, IsInOrder, told_by_end_is_told}
 use Rattle.am_world.proofs.Words.{Event, Record, view, step, happens, current, with_step, group_with, group_after, record_of, IsEndOf, Node, state_of}
@@ -10,6 +10,7 @@ use Rattle.am_group_defs.specs.World as model
 use Rattle.am_step_laws.proofs.Watching.Fresh.{place_of_name_at}
 use Rattle.am_world.proofs.{Numbers.node_numbers_le_run_length, Numbers.base_le_group_length, Spots.slice_get_where_set, Spots.slice_get_beside_set, Begins.NodeKeepsEndInOrder, Goes.EventIsRecorded}
 use Rattle.am_world.proofs.{Goes.WorldFollowsEvent, Goes.world_that_follows_carries_on, Goes.play_shows_its_replay, Goes.replay_with_next_event}
+use Rattle.am_journal.specs.declared.asked.Asked.TheVariants as asked
 
 -- ---- the end of a node
 
@@ -59,7 +60,7 @@ group_short group m most g a = go ((view m).by == m.core.who)
 
 -- the world after it
 abbrev pub world_after_node_event : model.World → Event → NodeEvent → model.World
-world_after_node_event w e what = comes w e (Ok what)
+world_after_node_event w e what = comes w e (asked.Step what)
 
 next_node : (w : model.World) (e : Event) (what : NodeEvent)
     → (world_after_node_event w e what).nodes (current w (place_of e.node)) ≡ (step (w.nodes (current w (place_of e.node))) what).node

@@ -1,14 +1,20 @@
 -- What an event asks of a node, or its answer without one, comes to what the run makes of it.
-use Rattle.am_world.proofs.Words.{◌≡◌, ℕ, ◌+◌, ◌<◌, ◌==◌, ◌||◌, not, Bool, true, false, if◌then◌else◌, List, [], ◌∷◌, ◌++◌, Option, Some, None, Result, Err}
-use Rattle.am_world.proofs.Words.{refl, sym, ap, ◌∙◌, subst, arith, OnOk, on_ok_weaker, place_of, life_of, name_at, Outcome, NodeEvent, Packet, Letter}
+use Rattle.am_world.proofs.Words.{◌≡◌, ℕ, ◌+◌, ◌<◌, ◌==◌, ◌||◌, not, Bool, true, false, if◌then◌else◌, List, [], ◌∷◌, ◌++◌, Option, Some, None}
+use Rattle.am_world.proofs.Words.{refl, sym, ap, ◌∙◌, subst, place_of, life_of, NodeEvent, Packet, Letter}
 use Rattle.am_world.proofs.Words.{IsPacket, spelling, Act, Event, letter_at, is_for, Step, step, hear, World, current, is_stopped, with_record, with_step}
 use Rattle.am_world.proofs.Words.{hears_letter, hear_cut, comes_back, lives_on, acts_as, happens, has_departed, spelled_packet_is_heard, cut_packet_whole_or_refused, flag_of}
-use Rattle.am_world.proofs.Words.{if_running, first_bytes, give_up_or_answer, stops_node, returns, event_or_answer, SpellsPacket, after_answer, comes}
+use Rattle.am_world.proofs.Words.{Asked, OnStep, if_running, first_bytes, give_up_or_answer, stops_node, returns, event_or_answer, SpellsPacket, after_answer, comes}
 use Rattle.am_step_laws.proofs.Watching.Fresh.{place_of_name_at, life_of_name_at}
 use Rattle.am_journal.specs.Asked.{hears}
 use Rattle.am_base.specs.declared.outcome.Outcome.TheVariants as said
+use Rattle.am_journal.specs.declared.asked.Asked.TheVariants as asked
 use Rattle.am_base.specs.declared.event.NodeEvent.TheVariants as does
 use Rattle.am_group.specs.declared.event.Act.TheVariants as act
+
+-- what holds where a node is to do a step, by what held there
+pub on_step_weaker : {P Q : Type 0} (r : Asked) → (P → Q) → OnStep r P → OnStep r Q
+on_step_weaker (asked.Step what) f p = f p
+on_step_weaker (asked.Answer outcome) f p = tt
 
 -- ---- acts
 
@@ -41,16 +47,16 @@ return_case w e true false life = refl
 return_case w e false sixteen life = refl
 
 letter_case : (w : World) (e : Event) (addressed stopped : Bool) (what : NodeEvent) (s : Step)
-    → OnOk (if addressed then if_running stopped what else Err said.NotAddressed) (step (w.nodes (name_of w e)) what ≡ s)
+    → OnStep (if addressed then if_running stopped what else asked.Answer said.NotAddressed) (step (w.nodes (name_of w e)) what ≡ s)
     → (if not addressed then with_record w e said.NotAddressed else if stopped then with_record w e said.IsStopped else with_step w e (name_of w e) s)
-    ≡ comes w e (if addressed then if_running stopped what else Err said.NotAddressed)
+    ≡ comes w e (if addressed then if_running stopped what else asked.Answer said.NotAddressed)
 letter_case w e false stopped what s h = refl
 letter_case w e true true what s h = refl
 letter_case w e true false what s h = ap (with_step w e (name_of w e)) (sym h)
 
 hear_case : (w : World) (e : Event) (keep : Option ℕ) (stopped : Bool) (hearing : Packet → Step) (found : Option Letter)
     → ((p : Packet) → IsPacket p → step (w.nodes (name_of w e)) (does.Hear (first_bytes keep (spelling p))) ≡ hearing p)
-    → OnOk (hears keep (name_of w e) stopped found) ((l : Letter) → found ≡ Some l → IsPacket l.packet) → is_stopped w (name_of w e) ≡ stopped
+    → OnStep (hears keep (name_of w e) stopped found) ((l : Letter) → found ≡ Some l → IsPacket l.packet) → is_stopped w (name_of w e) ≡ stopped
     → hears_letter w e (name_of w e) hearing found ≡ comes w e (hears keep (name_of w e) stopped found)
 hear_case w e keep stopped hearing None same h is = refl
 hear_case w e keep stopped hearing (Some letter) same h is =
@@ -58,13 +64,13 @@ hear_case w e keep stopped hearing (Some letter) same h is =
     let what = does.Hear (first_bytes keep (spelling letter.packet)) in
     rw is
     (letter_case w e addressed stopped what (hearing letter.packet)
-    (on_ok_weaker (if addressed then if_running stopped what else Err said.NotAddressed) (λ (all : (l : Letter) → Some letter ≡ Some l
+    (on_step_weaker (if addressed then if_running stopped what else asked.Answer said.NotAddressed) (λ (all : (l : Letter) → Some letter ≡ Some l
     → IsPacket l.packet). same letter.packet (all letter refl)) h))
 
 abbrev pub has_actor_gone_now : World → Event → Bool
 has_actor_gone_now w e = has_departed (w.nodes (name_of w e)).status
 
-abbrev asked_now : World → Event → List Bool → Act → Result NodeEvent Outcome
+abbrev asked_now : World → Event → List Bool → Act → Asked
 asked_now w e flags a = event_or_answer w.letters flags (has_actor_gone_now w e) (name_of w e) a
 
 runs : (w : World) (e : Event) (flags : List Bool) (what : NodeEvent) → flag_of flags (name_of w e) ≡ is_stopped w (name_of w e)
@@ -95,28 +101,28 @@ return_now w e flags agree within lives =
     ∙ ap (λ l. after_answer w e (returns (flag_of flags (name_of w e) || gone) l)) (sym (life_of_name_at place (w.lives place) within lives))
 
 heard_now : (w : World) (e : Event) (flags : List Bool) (number : ℕ) → ((name : ℕ) → flag_of flags name ≡ is_stopped w name)
-    → OnOk (asked_now w e flags (act.Hear number)) (SpellsPacket w.letters (act.Hear number))
+    → OnStep (asked_now w e flags (act.Hear number)) (SpellsPacket w.letters (act.Hear number))
     → acts_as w e (name_of w e) (act.Hear number) ≡ comes w e (asked_now w e flags (act.Hear number))
 heard_now w e flags number agree spells =
     let found = letter_at w.letters number in
     hear_case w e None (flag_of flags (name_of w e)) (hear (w.nodes (name_of w e))) found (λ p is. spelled_packet_is_heard (w.nodes (name_of w e)) p is)
-    (on_ok_weaker (asked_now w e flags (act.Hear number)) (λ (all : SpellsPacket w.letters (act.Hear number)).
+    (on_step_weaker (asked_now w e flags (act.Hear number)) (λ (all : SpellsPacket w.letters (act.Hear number)).
     λ l is. all (record { packet = number; keep = None }) l refl is) spells)
     (sym (agree (name_of w e)))
 
 cut_now : (w : World) (e : Event) (flags : List Bool) (number keep : ℕ) → ((name : ℕ) → flag_of flags name ≡ is_stopped w name)
-    → OnOk (asked_now w e flags (act.Cut number keep)) (SpellsPacket w.letters (act.Cut number keep))
+    → OnStep (asked_now w e flags (act.Cut number keep)) (SpellsPacket w.letters (act.Cut number keep))
     → acts_as w e (name_of w e) (act.Cut number keep) ≡ comes w e (asked_now w e flags (act.Cut number keep))
 cut_now w e flags number keep agree spells =
     let found = letter_at w.letters number in
     hear_case w e (Some keep) (flag_of flags (name_of w e)) (hear_cut (w.nodes (name_of w e)) keep) found
     (λ p is. cut_packet_whole_or_refused (w.nodes (name_of w e)) p keep is)
-    (on_ok_weaker (asked_now w e flags (act.Cut number keep)) (λ (all : SpellsPacket w.letters (act.Cut number keep)).
+    (on_step_weaker (asked_now w e flags (act.Cut number keep)) (λ (all : SpellsPacket w.letters (act.Cut number keep)).
     λ l is. all (record { packet = number; keep = Some keep }) l refl is) spells)
     (sym (agree (name_of w e)))
 
 by_act : (w : World) (e : Event) (flags : List Bool) (a : Act) → ((name : ℕ) → flag_of flags name ≡ is_stopped w name) → place_of e.node < 16
-    → 0 < w.lives (place_of e.node) → OnOk (asked_now w e flags a) (SpellsPacket w.letters a) → acts_as w e (name_of w e) a ≡ comes w e (asked_now w e flags a)
+    → 0 < w.lives (place_of e.node) → OnStep (asked_now w e flags a) (SpellsPacket w.letters a) → acts_as w e (name_of w e) a ≡ comes w e (asked_now w e flags a)
 by_act w e flags (act.Send body) agree within lives h = runs w e flags (does.Send body) (agree (name_of w e))
 by_act w e flags (act.Done req) agree within lives h = runs w e flags (does.Done req) (agree (name_of w e))
 by_act w e flags act.Take agree within lives h = runs w e flags does.Take (agree (name_of w e))
@@ -134,6 +140,6 @@ by_act w e flags act.Return agree within lives h = return_now w e flags agree wi
 
 -- what the run makes of an event
 pub event_comes_to_asked : (w : World) (e : Event) (flags : List Bool) → ((name : ℕ) → flag_of flags name ≡ is_stopped w name) → place_of e.node < 16
-    → 0 < w.lives (place_of e.node) → OnOk (asked_now w e flags e.act) (SpellsPacket w.letters e.act) → happens w e ≡ comes w e (asked_now w e flags e.act)
+    → 0 < w.lives (place_of e.node) → OnStep (asked_now w e flags e.act) (SpellsPacket w.letters e.act) → happens w e ≡ comes w e (asked_now w e flags e.act)
 unfolding happens
 event_comes_to_asked w e flags agree within lives spells = by_act w e flags e.act agree within lives spells

@@ -1,8 +1,8 @@
 -- A world goes on as its run.
 use Rattle.am_world.proofs.Words.{◌≡◌, ℕ, ◌+◌, ◌<◌, ◌≤◌, Bool, List, [], ◌∷◌, ◌++◌, length, map, refl, sym, ap, ◌∙◌, subst, arith, length-append, append-nil}
 use Rattle.am_world.proofs.Words.{map_push, length-map, most_events, Entry, Outcome, Rules, MayFound, place_of, life_of, Letter, Event, Record, letters_of}
-use Rattle.am_world.proofs.Words.{letters_of_pushed_record, happens, happen, record_of, current, start, with_record, has_departed, IsEndOf, Status, NodeEvent, Result, Ok}
-use Rattle.am_world.proofs.Words.{Err, OnOk, IfOk, runs_go_on, Node, Play, replay, play_after, AreNodes, AreLives, AreFlags, Shows, IsRun, play_of, the_record}
+use Rattle.am_world.proofs.Words.{letters_of_pushed_record, happens, happen, record_of, current, start, with_record, has_departed, IsEndOf, Status, Result, Ok}
+use Rattle.am_world.proofs.Words.{Err, Asked, OnStep, IfOk, runs_go_on, Node, Play, replay, play_after, AreNodes, AreLives, AreFlags, Shows, IsRun, play_of, the_record}
 use Rattle.am_world.proofs.Words.{EventIsAnswered, event_or_answer, comes, SpellsPacket}
 use Rattle.am_group_defs.specs.World as model
 use Rattle.am_model.specs.Node as protocol
@@ -130,11 +130,11 @@ lives_of_replay_are_kept p first nodes lives flags records group view ok = (play
 
 -- what was asked comes to what the run makes of it
 pub asked_event_comes_in_replay : (p : Play) (first : Rules) (nodes : List Node) (lives : List ℕ) (flags : List Bool) (records : List Record) (group : List Entry) (e : Event)
-    (m : protocol.Node) (status : Status) (departed : Bool) (name : ℕ) (r : Result NodeEvent Outcome)
+    (m : protocol.Node) (status : Status) (departed : Bool) (name : ℕ) (r : Asked)
     → play_of first records ≡ p → IsRun (play_of first records) nodes lives flags records group
     → name ≡ current (replay p) (place_of e.node) → IsEndOf ((replay p).nodes (current (replay p) (place_of e.node))) m → status ≡ m.status
     → departed ≡ has_departed status
-    → r ≡ event_or_answer (letters_of records) flags departed name e.act → OnOk r (SpellsPacket (letters_of records) e.act)
+    → r ≡ event_or_answer (letters_of records) flags departed name e.act → OnStep r (SpellsPacket (letters_of records) e.act)
     → happens (replay p) e ≡ comes (replay p) e r
 asked_event_comes_in_replay p first nodes lives flags records group e m status departed name r view ok here end stands gone is spells =
     let w = replay p in
@@ -146,8 +146,8 @@ asked_event_comes_in_replay p first nodes lives flags records group e m status d
     let now : r ≡ event_or_answer w.letters flags (has_departed (w.nodes (current w place)).status) (current w place) e.act =
     is ∙ ap (λ ls. event_or_answer ls flags departed name e.act) was.sent ∙ ap (λ d. event_or_answer w.letters flags d name e.act) gone_is
     ∙ ap (λ k. event_or_answer w.letters flags (has_departed (w.nodes (current w place)).status) k e.act) here in
-    let packets : OnOk r (SpellsPacket w.letters e.act) = subst (λ ls. OnOk r (SpellsPacket ls e.act)) was.sent spells in
-    event_comes_to_asked w e flags was.stopped.each within (was.living.within place within).0 (subst (λ q. OnOk q (SpellsPacket w.letters e.act)) now packets)
+    let packets : OnStep r (SpellsPacket w.letters e.act) = subst (λ ls. OnStep r (SpellsPacket ls e.act)) was.sent spells in
+    event_comes_to_asked w e flags was.stopped.each within (was.living.within place within).0 (subst (λ q. OnStep q (SpellsPacket w.letters e.act)) now packets)
     ∙ ap (comes w e) (sym now)
 
 counted : (records : List Record) → length (map (λ (r : Record). r.event) records) ≡ length records

@@ -1,6 +1,6 @@
 -- A world's watcher keeps what is watched of its run.
 use Rattle.am_world.proofs.Words.{watch_all_with_one_more, number_equals_itself, ◌≡◌, ℕ, ◌+◌, ◌<◌, ◌≤◌, not, Bool, true, false, if◌then◌else◌, List, [], ◌∷◌, ◌++◌, length, drop}
-use Rattle.am_world.proofs.Words.{Ok, refl, sym, ap, ◌∙◌, subst, arith, length-append, Entry, Image, Outcome, NodeEvent, Rules, MayFound, place_of, Event}
+use Rattle.am_world.proofs.Words.{refl, sym, ap, ◌∙◌, subst, arith, length-append, Entry, Image, Outcome, NodeEvent, Rules, MayFound, place_of, Event}
 use Rattle.am_world.proofs.Words.{members_of, told_by_end_is_told, view, set_at, step, run, happens, with_step, current, is_stopped, Watch, watch_start, watch, watch_all}
 use Rattle.am_world.proofs.Words.{watch_run, IsEndOf, watched_is_run, NameStanding, Watching, first_watching, standing, watched_step, stop, pass, watch_accepts, Watches}
 use Rattle.am_world.proofs.Words.{NameSteps, SteppedTo, standing_of, view_of, additions, StampIsNew, watch_is_after_event, world_stepped_to_node, steps_are_watched, stop_is_watched}
@@ -14,6 +14,7 @@ use Rattle.am_group_defs.specs.World as model
 use Rattle.am_world.specs.Runs as runs
 use Rattle.am_step_laws.proofs.Watching.Stored.{each_step_keeps_own_facts, log_start_after_step, stored_views_after_step}
 use Rattle.am_world.proofs.{Goes.replay_with_next_event, Acts.base_of_node_end}
+use Rattle.am_journal.specs.declared.asked.Asked.TheVariants as asked
 
 -- ---- how many events there were
 
@@ -70,12 +71,12 @@ told_as k name what m n number count group more before was stands ends counted g
     ∙ ap (λ c. watch_accepts (watched_step k name (standing_of n) (view_of n) (stored_of name before (standing_of n) (view_of n) what)) c group) counted
     ∙ ap (λ g. watch_accepts (watched_step k name (standing_of n) (view_of n) (stored_of name before (standing_of n) (view_of n) what)) count g) grown
 
-lives_stay : (w : model.World) (e : Event) (what : NodeEvent) → current (comes w e (Ok what)) (place_of e.node) ≡ current w (place_of e.node)
+lives_stay : (w : model.World) (e : Event) (what : NodeEvent) → current (comes w e (asked.Step what)) (place_of e.node) ≡ current w (place_of e.node)
 unfolding with_step
 lives_stay w e what = refl
 
 act_at : (p : Play) (k : Watching) (e : Event) (what : NodeEvent) (m : protocol.Node) (known : ℕ) (group : List Entry)
-    → MayFound p.rules → IsWatched p k → actor (replay p) e < 256 → happens (replay p) e ≡ comes (replay p) e (Ok what)
+    → MayFound p.rules → IsWatched p k → actor (replay p) e < 256 → happens (replay p) e ≡ comes (replay p) e (asked.Step what)
     → IsEndOf ((replay (runs.play_after p e)).nodes (actor (replay p) e)) m → known ≡ length (replay p).group → group ≡ (replay (runs.play_after p e)).group
     → IsWatched (runs.play_after p e) (told_step k (actor (replay p) e) (shown_of m) what (known + 1) (drop known group))
 act_at p k e what m known group may kept within is end known_is group_is =
@@ -115,12 +116,12 @@ act_at p k e what m known group may kept within is end known_is group_is =
     (next_watched p.rules p.events e v is) (subst P (sym same) watches))
 
 pub act_is_watched : (p : Play) (k : Watching) (e : Event) (name : ℕ) (what : NodeEvent) (m : protocol.Node) (known : ℕ) (group : List Entry)
-    → MayFound p.rules → IsWatched p k → name ≡ current (replay p) (place_of e.node) → happens (replay p) e ≡ comes (replay p) e (Ok what)
+    → MayFound p.rules → IsWatched p k → name ≡ current (replay p) (place_of e.node) → happens (replay p) e ≡ comes (replay p) e (asked.Step what)
     → IsEndOf ((replay (runs.play_after p e)).nodes (current (replay (runs.play_after p e)) (place_of e.node))) m → known ≡ length (replay p).group
     → group ≡ (replay (runs.play_after p e)).group → IsWatched (runs.play_after p e) (told_step k name (shown_of m) what (known + 1) (drop known group))
 act_is_watched p k e name what m known group may kept here is end known_is group_is =
     let w = replay p in
-    let now : replay (runs.play_after p e) ≡ comes w e (Ok what) = replay_with_next_event p e ∙ is in
+    let now : replay (runs.play_after p e) ≡ comes w e (asked.Step what) = replay_with_next_event p e ∙ is in
     let stays : current (replay (runs.play_after p e)) (place_of e.node) ≡ actor w e = ap (λ (x : model.World). current x (place_of e.node)) now
     ∙ lives_stay w e what in
     let end_at : IsEndOf ((replay (runs.play_after p e)).nodes (actor w e)) m = subst (λ j. IsEndOf ((replay (runs.play_after p e)).nodes j) m) stays end in
@@ -150,7 +151,7 @@ answer_is_watched p k e name outcome stops kept here is which =
     let now = answer_at p k e outcome kept is in
     rw which (subst (λ j. IsWatched (runs.play_after p e) (if stops_by (is_stopped (replay p) j) outcome then stop k j else pass k)) (sym here) now)
 
-pub group_grows_by_event : (p : Play) (e : Event) (what : NodeEvent) → happens (replay p) e ≡ comes (replay p) e (Ok what)
+pub group_grows_by_event : (p : Play) (e : Event) (what : NodeEvent) → happens (replay p) e ≡ comes (replay p) e (asked.Step what)
     → length (replay p).group ≤ length (replay (runs.play_after p e)).group
 group_grows_by_event p e what is =
     let w = replay p in

@@ -24,7 +24,7 @@ pub use Rattle.am_node_defs.proofs.{Ends.told_by_end_is_told, Ends.entry_at_is_s
 pub use Rattle.am_group.specs.{declared.event.Record.Record, Journals.letters_of, Journals.the_record}
 pub use Rattle.am_group.proofs.Places.{slice_get_some_below_length, letters_of_pushed_record}
 pub use Rattle.am_model.specs.{Node.has_departed, Ends.IsEndOf}
-pub use Rattle.am_model.specs.Nodes.{HasNumbersLeft, HasPlace}
+pub use Rattle.am_model.specs.Nodes.{HasNumbersLeft}
 pub use Rattle.am_group_defs.specs.{World.record_of, World.comes_back, Lawful.Watch, Lawful.watch_start, Lawful.watch_run}
 pub use Rattle.am_group_defs.proofs.Runs.{runs_go_on, watched_is_run}
 unfoldable pub use Rattle.am_group_defs.specs.Lawful.{watch, watch_all}
@@ -42,10 +42,10 @@ pub use Rattle.am_step_laws.proofs.Numbers.RunCounts.{bounds_after_events, run_h
 pub use Rattle.am_step_laws.proofs.Numbers.RunCounts.{number_bounds_hold_in_runs}
 pub use Rattle.am_step_laws.proofs.Watching.Watched.{watch_all_with_one_more, stop_is_watched, idle_event_is_watched, return_is_watched, first_watching_is_kept}
 pub use Rattle.am_lawful_watch.specs.Watchers.{watching_of}
-pub use Rattle.am_journal.specs.declared.asked.Heard.{Heard}
-pub use Rattle.am_world.specs.Moves.{IsReadyAt, StepsAt, HasPlaceAt, WorldIsReady}
+pub use Rattle.am_journal.specs.declared.asked.{Asked.Asked, Heard.Heard}
+pub use Rattle.am_world.specs.Moves.{IsReadyAt, StepsAt, WorldIsReady}
 pub use Rattle.am_world.specs.Runs.{Play, replay, play_after, AreNodes, AreLives, AreFlags, IsRun, play_of, EventIsAnswered, AreFirst, Shows}
-pub use Rattle.am_journal.specs.Asked.{flag_of, if_running, first_bytes, give_up_or_answer, stops_node, returns, event_or_answer, SpellsPacket, heard_of}
+pub use Rattle.am_journal.specs.Asked.{OnStep, flag_of, if_running, first_bytes, give_up_or_answer, stops_node, returns, event_or_answer, SpellsPacket, heard_of}
 pub use Rattle.am_world.specs.Asked.{comes, after_answer}
 pub use Rattle.am_lawful_defs.specs.Telling.{shown_of, begins, standing_after, stored_of, stops_by}
 unfoldable pub use Rattle.am_lawful_defs.specs.Telling.{told_step}

@@ -1,5 +1,5 @@
 -- What comes of what an event asks of its name's node, or of its answer without one.
-use Rattle.std.specs.Prelude.{◌≡◌, ℕ, ◌+◌, ◌<◌, ◌≤◌, [], ◌∷◌, ◌++◌, length, Result, Ok, Err}
+use Rattle.std.specs.Prelude.{◌≡◌, ℕ, ◌+◌, ◌<◌, ◌≤◌, [], ◌∷◌, ◌++◌, length}
 use Rattle.am_base.specs.Most.{most_events}
 use Rattle.am_base.specs.declared.outcome.Outcome.{Outcome}
 use Rattle.am_base.specs.declared.outcome.Outcome.TheVariants as said
@@ -8,6 +8,8 @@ use Rattle.am_base.specs.Names.{place_of, life_of}
 use Rattle.am_group.specs.declared.event.Event.{Event}
 use Rattle.am_model.specs.Step.{step}
 use Rattle.am_group_defs.specs.World.{World, current, with_record, with_step, lives_on, happens}
+use Rattle.am_journal.specs.declared.asked.Asked.{Asked}
+use Rattle.am_journal.specs.declared.asked.Asked.TheVariants as asked
 use Rattle.am_world.specs.Runs.{Play, replay}
 
 -- what comes of it
@@ -16,9 +18,9 @@ after_answer w e said.Stopped = with_record (record w { stopped = w.stopped ++ c
 after_answer w e (said.Returned life) = lives_on (with_record w e (said.Returned life)) (place_of e.node)
 after_answer w e outcome = with_record w e outcome
 
-abbrev pub comes : World → Event → Result NodeEvent Outcome → World
-comes w e (Ok what) = with_step w e (current w (place_of e.node)) (step (w.nodes (current w (place_of e.node))) what)
-comes w e (Err outcome) = after_answer w e outcome
+abbrev pub comes : World → Event → Asked → World
+comes w e (asked.Step what) = with_step w e (current w (place_of e.node)) (step (w.nodes (current w (place_of e.node))) what)
+comes w e (asked.Answer outcome) = after_answer w e outcome
 
 -- a place that returns has the next of its sixteen lives
 abbrev pub IsNextLife : ℕ → Outcome → Type 0

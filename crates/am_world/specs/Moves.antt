@@ -1,5 +1,5 @@
 -- What one event does to the nodes.
-use Rattle.std.specs.Prelude.{◌≡◌, ℕ, ◌≤◌, max, List, Option, Some, slice_get, slice_set}
+use Rattle.std.specs.Prelude.{◌≡◌, ℕ, ◌≤◌, max, List, Some, slice_get, slice_set}
 use Rattle.am_base.specs.declared.entry.Entry.{Entry}
 use Rattle.am_base.specs.declared.outcome.Outcome.{Outcome}
 use Rattle.am_base.specs.declared.event.NodeEvent.{NodeEvent}
@@ -11,7 +11,7 @@ use Rattle.am_group_defs.specs.World.{group_after}
 use Rattle.am_model.specs.Ends.{Does}
 use Rattle.am_node.specs.declared.node.Node.{Node}
 use Rattle.am_node.specs.Stands.{state_of}
-use Rattle.am_model.specs.Nodes.{HasNumbersLeft, HasPlace}
+use Rattle.am_model.specs.Nodes.{HasNumbersLeft}
 
 -- whatever a step comes to, the node has trimmed nothing that the group list lacks, and knows no more to be accepted than
 -- there is room for
@@ -26,10 +26,6 @@ pub record WorldIsReady (m : model.Node) (what : NodeEvent) (stored room : ℕ) 
 
 abbrev pub IsReadyAt : List Node → ℕ → NodeEvent → ℕ → ℕ → Type 0
 IsReadyAt nodes place what stored room = (n : Node) → slice_get nodes place ≡ Some n → WorldIsReady (state_of n) what stored room
-
--- there is room for what the node of this place takes
-abbrev pub HasPlaceAt : List Node → ℕ → NodeEvent → Option ℕ → Type 0
-HasPlaceAt nodes place what spare = (n : Node) → slice_get nodes place ≡ Some n → HasPlace (state_of n) what spare
 
 -- the node of this place does a step of the table, the others stay, and the group list grows by it
 pub record StepsAt (old new : List Node) (group longer : List Entry) (place : ℕ) (what : NodeEvent) (outcome : Outcome) (letters : List Letter) : Type 0 where

@@ -10,7 +10,7 @@ ghost use Rattle.am_node.specs.Stands.{state_of};
 ghost use Rattle.am_group.specs.Journals.{the_record};
 ghost use Rattle.am_world.specs.Runs.{AreNodes, AreFirst};
 
-use crate::nodes::{grow, make_room, packets_of, room_at};
+use crate::nodes::{grow, make_room};
 use am_base::NoMemory;
 use am_base::entry::Entry;
 use am_base::event::NodeEvent;
@@ -21,7 +21,7 @@ use am_base::name::Name;
 use am_base::outcome::Outcome;
 use am_group::event::{Event, Record};
 use am_journal::addressed::is_for;
-use am_journal::asked::{call_or_answer, first_bytes, heard_by, is_stopped};
+use am_journal::asked::{Asked, call_or_answer, first_bytes, heard_by, is_stopped};
 use am_journal::journal::{Journal, record_of};
 use am_model::status::Status;
 use am_node::founding::{Room, founders_view};
@@ -32,17 +32,6 @@ use std::alloc::Global;
 use std::marker::Model;
 use std::mem;
 
-/// A life's first node: a founder's, or one that no one has seen.
-fn first_node(room: Room, name: Name, founding: &Founding) -> Node
-    requires { room ≡ founding.now }
-    ensures { state_of result ≡ first_node founding.now name }
-{
-    if founding.founders().has(name) {
-        return Node::founder_in(room, name);
-    }
-    Node::stranger_in(room, name)
-}
-
 /// The sixteen nodes of a group to which nothing has happened. Each goes where it stays: nodes are large.
 #[tactic(auto, using(crate::proofs::Begins::world_begin_rules))]
 pub fn sixteen(alloc: Global, founding: &Founding) -> Result<Vec<Node>, NoMemory>
@@ -51,7 +40,7 @@ pub fn sixteen(alloc: Global, founding: &Founding) -> Result<Vec<Node>, NoMemory
     let mut nodes = Vec::with_capacity(alloc, 16)?;
     for place in 0..16u8 {
         let room = Room::new(alloc, founding)?;
-        let node = first_node(room, Name::of_byte(place), founding);
+        let node = Node::begin_in(room, Name::of_byte(place));
         nodes.push_reserved(node);
     }
     Ok(nodes)
@@ -111,11 +100,13 @@ impl Model for Run {
 }
 
 impl Run {
-    ghost use Rattle.std.specs.Prelude.{OnErr, IfErr, Ok};
+    ghost use Rattle.std.specs.Prelude.{OnErr};
     ghost use Rattle.am_base.specs.Names.{place_of};
     ghost use Rattle.am_group.specs.Journals.{letters_of};
     ghost use Rattle.am_group_defs.specs.World.{current, is_stopped, with_record, happens};
     ghost use Rattle.am_world.specs.Runs.{play_after, replay, IsOneMore};
+    ghost use Rattle.am_journal.specs.Asked.{IfAnswer};
+    ghost use Rattle.am_journal.specs.declared.asked.Asked.TheVariants as asked;
     ghost use Rattle.am_world.specs.Asked.{comes, IsNextLife, MayAnswer};
 
     /// The group of a founding, to which nothing has happened, with room for the records of so many events, of no more than a
@@ -258,19 +249,16 @@ impl Run {
         requires few { length self.old.events < most_events }
         requires name { name ≡ current (replay self.old) (place_of event.now.node) }
         requires comes { happens (replay self.old) event.now
-            ≡ comes (replay self.old) event.now (Ok what.now) }
+            ≡ comes (replay self.old) event.now (asked.Step what.now) }
         ensures ok { OnOk result (self.new ≡ play_after self.old event.now) }
         ensures one { OnOk result (IsOneMore self.old event.now) }
         ensures err { OnErr result (self.new ≡ self.old) }
     {
         make_room(&mut self.group, self.journal.records().len() + 2)?;
         let done = self.journal.copy_for(event)?;
-        let (spare, mut out) = room_at(self.alloc, &self.nodes, name, what, &mut self.rooms)?;
         let node = &mut self.nodes[usize::from(name.place())];
-        let outcome = node.step(what, spare, &mut out);
-        let _accepted = node.accept_front();
+        let (outcome, packets) = node.act(self.alloc, what, &mut self.rooms)?;
         grow(&mut self.group, node);
-        let packets = packets_of(self.alloc, out, &mut self.rooms);
         self.journal
             .push(record_of(done, name.life(), outcome, packets));
         Ok(())
@@ -278,14 +266,10 @@ impl Run {
 
     /// What an event asks of its name's node, or how it is answered without one. Bytes that are heard stand in the room that
     /// there is for them.
-    pub fn event_or_answer(
-        &self,
-        room: &mut Vec<u8>,
-        event: &Event,
-    ) -> Result<Result<NodeEvent, Outcome>, NoMemory>
+    pub fn event_or_answer(&self, room: &mut Vec<u8>, event: &Event) -> Result<Asked, NoMemory>
         ensures comes { IfOk result (λ r. happens (replay self.now) event.now
             ≡ comes (replay self.now) event.now r) }
-        ensures next { IfOk result (λ r. IfErr r
+        ensures next { IfOk result (λ r. IfAnswer r
             (λ o. IsNextLife (current (replay self.now) (place_of event.now.node)) o)) }
     {
         let name = self.name_at(event.node);
@@ -294,18 +278,18 @@ impl Run {
             return call_or_answer(self.alloc, &self.stopped, has_departed, name, &event.act);
         };
         let Some(letter) = self.journal.packet(heard.packet) else {
-            return Ok(Err(Outcome::NoPacket));
+            return Ok(Asked::Answer(Outcome::NoPacket));
         };
         if !is_for(letter, name) {
-            return Ok(Err(Outcome::NotAddressed));
+            return Ok(Asked::Answer(Outcome::NotAddressed));
         }
         if is_stopped(&self.stopped, name) {
-            return Ok(Err(Outcome::IsStopped));
+            return Ok(Asked::Answer(Outcome::IsStopped));
         }
         let mut bytes = mem::replace(room, Vec::new(self.alloc));
         bytes.clear();
         bytes.extend_from_slice(first_bytes(letter.bytes(), heard.keep))?;
-        Ok(Ok(NodeEvent::Hear(Items::of(bytes))))
+        Ok(Asked::Step(NodeEvent::Hear(Items::of(bytes))))
     }
 
     /// Whether a name has stopped, by a Stop or because its place has a greater life.

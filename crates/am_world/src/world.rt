@@ -13,7 +13,7 @@ use am_base::limits::MOST_EVENTS;
 use am_base::name::Name;
 use am_base::outcome::Outcome;
 use am_group::event::Event;
-use am_journal::asked::keep_room;
+use am_journal::asked::{Asked, keep_room};
 use am_journal::journal::Journal;
 use am_lawful_watch::telling::{has_log, stops_by};
 use am_lawful_watch::watcher::Watcher;
@@ -200,7 +200,7 @@ impl World {
         }
         let name = self.run.name_at(event.node);
         match self.run.event_or_answer(&mut self.heard, event)? {
-            Ok(what) => {
+            Asked::Step(what) => {
                 self.watcher.reserve()?;
                 let known = self.run.group().len();
                 self.run.act(event, name, &what)?;
@@ -209,7 +209,7 @@ impl World {
                     .note_step(name, &shown, &what, self.run.group(), known);
                 keep_room(&mut self.heard, what);
             }
-            Err(outcome) => self.answer(event, name, outcome)?,
+            Asked::Answer(outcome) => self.answer(event, name, outcome)?,
         }
         Ok(())
     }

@@ -22,6 +22,12 @@ pub enum End {
     /// It asked to join, and nobody welcomed it. Its place comes back as its next life.
     #[error("nobody welcomed it; its place comes back as its next life")]
     Unwelcomed,
+    /// It joined after the end of its list, which another one follows. Its place can come back in that one.
+    #[error("its list has ended, and another one follows it; its place can come back in that")]
+    Superseded,
+    /// The list has something that only a later version of this program understands.
+    #[error("the list has something that only a later version of this program understands")]
+    OtherVersion,
     /// Its caller ended it, and it hasn't left.
     #[error("it was stopped, and hasn't left")]
     Stopped,
@@ -40,6 +46,8 @@ impl From<muoswyld_member::End> for End {
             muoswyld_member::End::Closed => End::Closed,
             muoswyld_member::End::LeftOut => End::LeftOut,
             muoswyld_member::End::Unwelcomed => End::Unwelcomed,
+            muoswyld_member::End::Superseded => End::Superseded,
+            muoswyld_member::End::OtherVersion => End::OtherVersion,
             muoswyld_member::End::NoNumbersLeft => End::NoNumbersLeft,
             muoswyld_member::End::NodeFailed => End::Failed("its node gave no answer".into()),
         }

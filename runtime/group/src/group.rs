@@ -99,6 +99,15 @@ impl Group {
         self.push(message.into(), None)
     }
 
+    /// As [`Group::submit`], at most so long: [`SendError::Full`] if too many messages wait until then.
+    pub fn submit_timeout(
+        &self,
+        message: impl Into<Vec<u8>>,
+        most: Duration,
+    ) -> Result<Ticket, SendError> {
+        self.push(message.into(), deadline(Some(most)))
+    }
+
     /// As [`Group::submit`], and [`SendError::Full`] if too many messages wait.
     pub fn try_submit(&self, message: impl Into<Vec<u8>>) -> Result<Ticket, SendError> {
         self.push(message.into(), Some(Instant::now()))
@@ -181,6 +190,11 @@ impl Group {
     /// Waits until the member ends, and gives how.
     pub fn wait(&self) -> End {
         self.shared.ended.wait(None).unwrap_or(End::Stopped)
+    }
+
+    /// As [`Group::wait`], at most so long; None if the member still runs then.
+    pub fn wait_timeout(&self, most: Duration) -> Option<End> {
+        self.shared.ended.wait(deadline(Some(most)))
     }
 
     /// Leaves the group once all that was sent before is delivered. After it, only what is delivered and not received can be

@@ -366,6 +366,7 @@ impl Shell {
                     self.was_reset(ticket, result.map_err(ResetError::NotReset));
                 }
                 Output::Told(notice) => self.tell(notice),
+                Output::Succeeded(_) => end = Some(End::Superseded),
                 Output::Ended(ended) => end = Some(ended.into()),
             }
         }

@@ -289,3 +289,16 @@ fn a_journal_has_the_times_of_the_system_and_the_end_of_a_stopped_member() {
         "{before} {times:?} {after}"
     );
 }
+
+#[test]
+fn a_wait_for_room_or_for_the_end_is_over_in_time() {
+    let own = addresses(1, "127.0.0.1");
+    let little = config("0", "0", &own).most_unreceived(1).window(8);
+    let group = Group::create(little.most_waiting(1 << 17)).unwrap();
+    let short = Duration::from_millis(100);
+    assert_eq!(group.wait_timeout(short), None);
+    let full = (0..1_000).find_map(|_| group.submit_timeout(vec![1; 60_000], short).err());
+    assert_eq!(full, Some(SendError::Full));
+    group.stop();
+    assert_eq!(group.wait_timeout(SOON), Some(End::Stopped));
+}

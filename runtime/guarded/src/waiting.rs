@@ -58,6 +58,8 @@ impl Waiting {
                 resilience,
             }),
             Input::Stopped(name) => self.late.push_back(Late::Stopped(name)),
+            // who may not act doesn't end a list
+            Input::Succeed(_) => return Err(HandleError::NotNow),
             Input::Consumed(count) => self.consumed += count,
             Input::Time => {}
         }

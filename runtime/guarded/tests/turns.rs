@@ -123,6 +123,7 @@ fn a_batch_is_held_until_it_is_echoed_and_nobody_is_told_of_it() {
     assert!(outs[0].contains(&Output::Settled {
         ticket: 1,
         result: Ok(muoswyld_member::Position {
+            generation: 0,
             number: 2,
             index: 0
         }),

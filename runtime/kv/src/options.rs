@@ -61,6 +61,7 @@ pub struct Store {
 
 /// All settings.
 #[derive(Debug, Default, Args)]
+#[group(id = "store")]
 pub struct Run {
     /// The store's.
     #[command(flatten)]

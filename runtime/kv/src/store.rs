@@ -350,6 +350,7 @@ mod tests {
 
     fn at() -> Position {
         Position {
+            generation: 0,
             number: 1,
             index: 0,
         }

@@ -4,7 +4,7 @@
 //! |---|---|
 //! | `P` | messages, each its length (2 bytes) and its bytes: one at least, and nothing behind the last one |
 //! | `S` | a part of a message |
-//! | `C` | control, which no application is given |
+//! | `C` | control, which no application is given: its kind (1), and what that has. A member that doesn't know a kind of 128 or more ends |
 //!
 //! Any other body, and one that isn't of its form, is a message as it is. So a message goes out that fits into a body, but not with the
 //! head of a packed one: a kilobyte is one body, if it doesn't begin as one of these.
@@ -28,7 +28,7 @@ pub(crate) const MOST_PACKED: usize = MOST_BODY - 1 - LENGTH;
 
 const PACKED: u8 = b'P';
 const PART: u8 = b'S';
-const CONTROL: u8 = b'C';
+pub(crate) const CONTROL: u8 = b'C';
 
 /// A body of packed messages that takes more.
 #[derive(Debug)]
@@ -86,7 +86,7 @@ pub(crate) enum Body<'a> {
         count: usize,
         share: &'a [u8],
     },
-    Control,
+    Control(&'a [u8]),
     Plain,
 }
 
@@ -145,7 +145,7 @@ pub(crate) fn read(body: &[u8]) -> Body<'_> {
             },
             None => Body::Plain,
         },
-        Some((&CONTROL, _)) => Body::Control,
+        Some((&CONTROL, rest)) => Body::Control(rest),
         _ => Body::Plain,
     }
 }
@@ -301,7 +301,7 @@ mod tests {
             assert_eq!(read(body), Body::Plain, "{body:?}");
         }
         assert_eq!(read(b"S\0\x01\0\x02"), Body::Plain, "an empty last share");
-        assert_eq!(read(b"C anything"), Body::Control);
+        assert_eq!(read(b"C anything"), Body::Control(b" anything"));
     }
 
     #[test]
@@ -352,7 +352,7 @@ mod tests {
                 Body::Part { index, count, share } => {
                     prop_assert!(index < count && share.len() <= SHARE);
                 }
-                Body::Control => prop_assert_eq!(first, b'C'),
+                Body::Control(_) => prop_assert_eq!(first, b'C'),
                 Body::Plain => {}
             }
         }

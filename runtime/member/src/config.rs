@@ -55,10 +55,10 @@ impl Founding {
         self.founders.iter().next()
     }
 
-    /// Eight bytes that differ between foundings, but for an accident: the 64-bit FNV-1a of its numbers.
-    pub fn digest(&self) -> u64 {
+    /// Eight bytes that differ between foundings and generations, but for an accident: the 64-bit FNV-1a of their numbers.
+    pub fn digest(&self, generation: u32) -> u64 {
         let text = format!(
-            "{} {} {} {}",
+            "{} {} {} {} {generation}",
             self.founders, self.resilience, self.window, self.pb_up_to
         );
         text.bytes().fold(0xcbf2_9ce4_8422_2325, |hash, byte| {
@@ -66,7 +66,7 @@ impl Founding {
         })
     }
 
-    fn check(&self) -> Result<(), StartError> {
+    pub(crate) fn check(&self) -> Result<(), StartError> {
         match () {
             _ if self.founders.is_empty() => Err(StartError::NoFounders),
             _ if self.founders.iter().any(|name| name.life() > 1) => Err(StartError::LaterLife),
@@ -92,6 +92,10 @@ pub enum Plant {
     TakesAnyGroup,
     TakesAnyProcess,
     SkipsDelivery,
+    EndsListLate,
+    SendsAllAnew,
+    TakesUnconfirmed,
+    FoundersAtTop,
 }
 
 /// What a member is told at its start.
@@ -101,6 +105,10 @@ pub struct Settings {
     pub name: Name,
     /// Its group's founding.
     pub founding: Founding,
+    /// How many lists of the group came before this founding's.
+    pub generation: u32,
+    /// The group's id, if it is known: of a list that follows another one. Else the lowest founder draws it, and the others ask for it.
+    pub group: Option<u64>,
     /// A random word of this process. Two processes of one name have different ones.
     pub process: u64,
     /// What chance the member needs, its group's id among it, comes from this alone.
@@ -141,6 +149,8 @@ impl Settings {
         Settings {
             name,
             founding,
+            generation: 0,
+            group: None,
             process,
             seed: process,
             least: None,

@@ -2,7 +2,7 @@
 
 use crate::body::{self, Assembler, Body};
 use crate::config::Plant;
-use crate::event::{Delivery, Output, Position};
+use crate::event::{Delivery, Output};
 use crate::member::Member;
 use muoswyld::answer::{Entry, Outcome, Role};
 use muoswyld::event::Event;
@@ -57,7 +57,8 @@ impl Member {
     }
 
     fn may_take(&self) -> bool {
-        self.delivering.room > 0 || self.has(Plant::SkipsDelivery)
+        let has_room = self.delivering.room > 0 || self.has(Plant::SkipsDelivery);
+        self.ending.is_confirmed() && (has_room || self.ending.has_ended())
     }
 
     fn deliver(&mut self, delivery: Delivery) {
@@ -70,7 +71,11 @@ impl Member {
     }
 
     fn deliver_entry(&mut self, number: u32, entry: Entry) -> Option<()> {
-        let at = Position { number, index: 0 };
+        if !self.is_in_list(number) {
+            return Some(());
+        }
+        self.note_entry(number, &entry);
+        let at = self.at(number, 0);
         match entry {
             Entry::Data {
                 from,
@@ -78,7 +83,7 @@ impl Member {
                 body,
             } => {
                 self.deliver_body(number, from, &body);
-                if from == self.me() {
+                if from == self.me() && !self.ending.has_ended() {
                     self.settle(number, request)?;
                 }
             }
@@ -120,9 +125,9 @@ impl Member {
                 let whole = assembler.part(from, index, count, share);
                 whole.into_iter().collect()
             }
-            Body::Control => {
+            Body::Control(_) => {
                 self.delivering.assembler.give_up(place);
-                self.counts.controls += 1;
+                self.take_control(number, from, body);
                 return;
             }
             Body::Packed(messages) => {
@@ -138,7 +143,7 @@ impl Member {
             messages.extend(messages.clone());
         }
         for (index, message) in (0..).zip(messages) {
-            let at = Position { number, index };
+            let at = self.at(number, index);
             self.deliver(Delivery::Message { at, from, message });
         }
     }

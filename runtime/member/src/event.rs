@@ -1,5 +1,6 @@
 //! What a member is given, and what it answers.
 
+use crate::config::Founding;
 use muoswyld::answer::Standing;
 use muoswyld::names::{Name, Names};
 use thiserror::Error;
@@ -29,6 +30,8 @@ pub enum Input<'a> {
     },
     /// This name has stopped for certain: it can't act any more.
     Stopped(Name),
+    /// The group's list is to end, and another one to follow it, with these numbers.
+    Succeed(Next),
     /// The application has taken so many deliveries: there is room for as many more.
     Consumed(usize),
     /// Nothing but time.
@@ -70,6 +73,16 @@ pub enum HandleError {
     /// The name is the member's own.
     #[error("the member itself hasn't stopped")]
     Itself,
+    /// The list can't be followed by another one now: somebody has stopped, is silent, leaves or joins, or the member doesn't know yet who was
+    /// a member before it joined.
+    #[error("the group has members that have stopped, are silent, leave or join: not now")]
+    NotNow,
+    /// The list has ended: the message is to be sent in the one that follows.
+    #[error("the list has ended")]
+    Succeeded {
+        /// The message, given back.
+        message: Vec<u8>,
+    },
     /// The member has ended.
     #[error("the member has ended")]
     Ended,
@@ -78,6 +91,8 @@ pub enum HandleError {
 /// Where something stands in the group's list: the number of the entry, and its index within that.
 #[derive(Clone, Copy, Debug, PartialEq, Eq, PartialOrd, Ord, Hash)]
 pub struct Position {
+    /// How many lists of the group came before this one (docs/MEMBER.md, "Generations").
+    pub generation: u32,
     /// The number of the entry, from 1. Of a message of several parts it is the last one's.
     pub number: u32,
     /// The index among the messages of one entry, from 0.
@@ -133,6 +148,32 @@ impl Delivery {
     }
 }
 
+/// What the next list of a group has otherwise. Its founders are the members at the end of this one.
+#[derive(Clone, Copy, Debug, PartialEq, Eq)]
+pub struct Next {
+    /// How many members may stop between two resets, 0 to 15.
+    pub resilience: u8,
+    /// How many entries wait for the slowest member, 1 to 1,008.
+    pub window: u16,
+    /// Up to how many bytes a body goes by the sequencer, 0 to 1,024.
+    pub pb_up_to: u16,
+}
+
+/// The list that follows a member's own one.
+#[derive(Clone, Debug, PartialEq, Eq)]
+pub struct Successor {
+    /// The id of its group.
+    pub group: u64,
+    /// Its founding. The member's name in it is the first life of its place.
+    pub founding: Founding,
+    /// The members of the old list at its end, who are its founders.
+    pub members: Names,
+    /// The last entry of the old list: nothing after it is delivered.
+    pub at: Position,
+    /// What the member was given to send and hasn't delivered, with the tickets, in order.
+    pub unsent: Vec<(u64, Vec<u8>)>,
+}
+
 /// Why a message wasn't delivered by its own member before that ended.
 #[derive(Clone, Copy, Debug, PartialEq, Eq, Error)]
 pub enum Unsent {
@@ -178,8 +219,12 @@ pub enum End {
     Closed,
     /// The group goes on without it. Its place can come back as its next life.
     LeftOut,
-    /// It asked to join, and stayed unwelcomed over two resets. Its place can come back as its next life.
+    /// It asked to join, and stayed unwelcomed over two resets, or nobody confirmed its join. Its place can come back as its next life.
     Unwelcomed,
+    /// It joined after the end of its list, which another one follows. Its place can come back in that.
+    Superseded,
+    /// The list has something that only a later version of this program understands.
+    OtherVersion,
     /// The node's numbers are used up.
     NoNumbersLeft,
     /// The node gave no answer, as without memory.
@@ -224,6 +269,8 @@ pub enum Notice {
     OtherKey(u8),
     /// A leave waits: for sends, for a reset, or until another leaver has left.
     LeaveWaits,
+    /// The list was to end at an entry, but somebody joined, left, or a view began meanwhile: it goes on.
+    NotSucceeded,
 }
 
 /// What a member answers.
@@ -252,6 +299,8 @@ pub enum Output {
         /// The number of the view's entry.
         result: Result<u32, NotReset>,
     },
+    /// The list has ended, and another one follows it.
+    Succeeded(Successor),
     /// Lines of the journal, to be written before the datagrams that follow go out.
     Journal(Vec<u8>),
     /// Something for logs.

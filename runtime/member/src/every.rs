@@ -49,6 +49,11 @@ impl Processes {
         self.0[usize::from(name.byte())].is_none_or(|known| known == process)
     }
 
+    /// Whether a name was heard.
+    pub(crate) fn is_known(&self, name: Name) -> bool {
+        self.0[usize::from(name.byte())].is_some()
+    }
+
     /// Whether a name was heard with this process.
     pub(crate) fn is_of(&self, name: Name, process: u64) -> bool {
         self.0[usize::from(name.byte())] == Some(process)

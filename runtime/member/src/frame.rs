@@ -6,6 +6,9 @@
 //! | 2, asks for the group's id | digest of the founding (8), name (1), process word (8), nonce (8) |
 //! | 3, tells it | nonce (8), group id (8), name (1), process word (8) |
 //! | 4, refuses it, since the founding is another one | nonce (8), name (1), process word (8) |
+//! | 5, a joiner asks whether the entry of its join stands; of number 0, who is there | group id (8), name (1), process word (8), number (4) |
+//! | 6, confirms it | group id (8), name (1), process word (8), number (4) |
+//! | 7, says that the list ended before it | group id (8), name (1), process word (8), number (4) |
 //!
 //! A letter is its number (4), flags (1: bit 0 any life of the places, bit 1 lives follow), the mask of the places (2), the lives
 //! (8, if they follow), a length (2), and so many bytes of a packet, 12 to 1,152.
@@ -26,6 +29,9 @@ const LETTERS: u8 = 1;
 const ASK: u8 = 2;
 const TELL: u8 = 3;
 const REFUSE: u8 = 4;
+const CONFIRM: u8 = 5;
+const CONFIRMED: u8 = 6;
+const ENDED: u8 = 7;
 const ANY: u8 = 1;
 const LIVES: u8 = 2;
 
@@ -66,6 +72,30 @@ pub(crate) enum Frame<'a> {
         nonce: u64,
         from: Speaker,
     },
+    /// Something about an entry of a group's list.
+    Entry {
+        group: u64,
+        from: Speaker,
+        number: u32,
+        said: Said,
+    },
+}
+
+/// What is said about the entry of a joiner's join.
+#[derive(Clone, Copy, Debug, PartialEq, Eq)]
+pub(crate) enum Said {
+    /// The joiner asks whether it stands.
+    Asked,
+    /// Somebody delivered it.
+    Stands,
+    /// The list ended before it.
+    IsAbove,
+}
+
+/// The group that a payload is of, if it says one.
+pub(crate) fn group_of(payload: &[u8]) -> Option<u64> {
+    let mut bytes = Bytes(payload);
+    matches!(bytes.u8()?, LETTERS | CONFIRM | CONFIRMED | ENDED).then(|| bytes.u64())?
 }
 
 /// Bytes that are read from the front.
@@ -139,7 +169,7 @@ impl<'a> Iterator for Letters<'a> {
     }
 }
 
-/// What a payload is; None if it is none of the four kinds by its form.
+/// What a payload is; None if it is none of the kinds by its form.
 pub(crate) fn read(payload: &[u8]) -> Option<Frame<'_>> {
     let mut bytes = Bytes(payload);
     let frame = match bytes.u8()? {
@@ -161,6 +191,16 @@ pub(crate) fn read(payload: &[u8]) -> Option<Frame<'_>> {
         REFUSE => Frame::Refuse {
             nonce: bytes.u64()?,
             from: bytes.speaker()?,
+        },
+        kind @ (CONFIRM | CONFIRMED | ENDED) => Frame::Entry {
+            group: bytes.u64()?,
+            from: bytes.speaker()?,
+            number: bytes.u32()?,
+            said: match kind {
+                CONFIRM => Said::Asked,
+                CONFIRMED => Said::Stands,
+                _ => Said::IsAbove,
+            },
         },
         _ => return None,
     };
@@ -235,6 +275,19 @@ pub(crate) fn refuse(nonce: u64, from: Speaker) -> Vec<u8> {
     let mut payload = vec![REFUSE];
     payload.extend(nonce.to_be_bytes());
     push_speaker(&mut payload, from);
+    payload
+}
+
+/// The payload that says something about an entry of a group's list.
+pub(crate) fn entry(group: u64, from: Speaker, number: u32, said: Said) -> Vec<u8> {
+    let mut payload = vec![match said {
+        Said::Asked => CONFIRM,
+        Said::Stands => CONFIRMED,
+        Said::IsAbove => ENDED,
+    }];
+    payload.extend(group.to_be_bytes());
+    push_speaker(&mut payload, from);
+    payload.extend(number.to_be_bytes());
     payload
 }
 

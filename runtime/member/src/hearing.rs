@@ -33,6 +33,11 @@ pub(crate) struct Hearing {
 }
 
 impl Hearing {
+    /// Whether a name was ever heard.
+    pub(crate) fn was_heard(&self, name: Name) -> bool {
+        self.processes.is_known(name)
+    }
+
     pub(crate) fn new(now: Time, processes: Processes) -> Hearing {
         Hearing {
             group: None,
@@ -61,6 +66,9 @@ impl Member {
     /// Begins: the lowest founder draws the group's id, and everybody else asks for it.
     pub(crate) fn begin(&mut self) -> Option<()> {
         self.hearing.nonce = self.chance.word();
+        if let Some(group) = self.settings.group {
+            return self.found(group);
+        }
         if self.settings.founding.lowest() == Some(self.me()) {
             let group = self.chance.word();
             self.found(group)?;
@@ -77,7 +85,7 @@ impl Member {
             let wait = Time::doubled(self.settings.first_resend, self.hearing.asks);
             self.hearing.asks = self.hearing.asks.saturating_add(1);
             self.hearing.ask_at = self.now.after(wait.min(self.settings.most_resend));
-            let digest = self.settings.founding.digest();
+            let digest = self.settings.founding.digest(self.settings.generation);
             let ask = frame::ask(digest, self.speaker(), self.hearing.nonce);
             self.send_direct(others(self.me().place()), ask);
         }
@@ -116,6 +124,19 @@ impl Member {
             Some(Frame::Tell { nonce, group, from }) => self.told(nonce, group, from),
             Some(Frame::Refuse { nonce, from }) => {
                 self.refused(nonce, from);
+                Some(())
+            }
+            Some(Frame::Entry {
+                group,
+                from,
+                number,
+                said,
+            }) => {
+                if self.may_hear(group, from) {
+                    self.hearing.processes.remember(from.name, from.process);
+                    self.is_heard(from.name);
+                    self.hear_entry(from, number, said);
+                }
                 Some(())
             }
             None => {
@@ -159,7 +180,7 @@ impl Member {
         let Some(group) = self.hearing.group else {
             return;
         };
-        let is_of_group = digest == self.settings.founding.digest();
+        let is_of_group = digest == self.settings.founding.digest(self.settings.generation);
         if !is_of_group {
             self.drop_other_group(from);
         } else if !self.may_speak(from) {
@@ -192,15 +213,20 @@ impl Member {
         self.found(group)
     }
 
-    fn hear_letters(&mut self, group: u64, from: Speaker, letters: Letters) -> Option<()> {
+    /// Whether what a process says is of this group, and may come of it.
+    fn may_hear(&mut self, group: u64, from: Speaker) -> bool {
         let Some(own) = self.hearing.group else {
-            return Some(()); // it may be of this group or not
+            return false; // it may be of this group or not
         };
         if group != own && !self.has(Plant::TakesAnyGroup) {
             self.drop_other_group(from);
-            return Some(());
+            return false;
         }
-        if !self.may_speak(from) {
+        self.may_speak(from)
+    }
+
+    fn hear_letters(&mut self, group: u64, from: Speaker, letters: Letters) -> Option<()> {
+        if !self.may_hear(group, from) {
             return Some(());
         }
         self.hearing.processes.remember(from.name, from.process);
@@ -225,7 +251,9 @@ impl Member {
             self.counts.not_addressed += 1;
             return Some(());
         }
-        if kind == Some(Kind::JoinAsk) && self.puts_off(from) {
+        // whoever isn't a member at a list's end joins the next one
+        let is_late = self.has_succeeded() && !self.standing.members.has(from);
+        if kind == Some(Kind::JoinAsk) && (is_late || self.puts_off(from)) {
             self.counts.askers_put_off += 1;
             return Some(());
         }

@@ -52,6 +52,11 @@ impl Leaving {
 }
 
 impl Member {
+    /// Whether another member was just heard to ask for its leave.
+    pub(crate) fn another_leaves(&self) -> bool {
+        self.now < self.leaving.another_until()
+    }
+
     /// Whether nobody else is a member.
     fn is_alone(&self) -> bool {
         self.is_member() && self.standing.members == Names::nobody().with(self.me())
@@ -59,6 +64,9 @@ impl Member {
 
     /// When the next step of a leave may be due; the ticks look after an answer to it.
     pub(crate) fn leave_at(&self) -> Time {
+        if self.has_succeeded() {
+            return Time::NEVER;
+        }
         if self.leaving.is_asked() {
             return self.gives_up_leaving_at();
         }
@@ -82,10 +90,11 @@ impl Member {
             // who left before it hears of that no more, and nobody else is left to lose anything
             return asked.max(self.timers.stands_since).after(long);
         }
-        // strangers that ask to join don't count, nor a later life of one that has stopped
+        // strangers that ask to join don't count, nor one whose join isn't accepted, nor a later life of one that has stopped
         let others = self.running().without(self.me());
         let heard = |name: Name| self.hearing.heard[usize::from(name.place())];
-        let heard = others.iter().map(heard).max();
+        let is_in = |name: &Name| self.is_taken_in(*name);
+        let heard = others.iter().filter(is_in).map(heard).max();
         heard
             .unwrap_or_default()
             .max(asked)
@@ -108,7 +117,8 @@ impl Member {
 
     /// Goes on with a leave.
     pub(crate) fn leave(&mut self) -> Option<()> {
-        if !self.leaving.is_wanted {
+        // whoever has come to the end of the list leaves the one that follows
+        if !self.leaving.is_wanted || self.has_succeeded() {
             return Some(());
         }
         if self.leaving.is_asked() {

@@ -28,9 +28,11 @@ mod body;
 mod chance;
 mod config;
 mod delivering;
+mod ending_list;
 mod event;
 mod every;
 mod frame;
+mod generations;
 mod hearing;
 mod info;
 mod journal;
@@ -47,9 +49,11 @@ mod timers;
 pub use body::MOST_MESSAGE;
 pub use config::{Founding, Plant, Settings, StartError, Time, MESSAGE_HEAD};
 pub use event::{
-    Counts, Delivery, End, HandleError, Info, Input, NotReset, Notice, Output, Position, Unsent,
+    Counts, Delivery, End, HandleError, Info, Input, Next, NotReset, Notice, Output, Position,
+    Successor, Unsent,
 };
 pub use frame::LEAST_DATAGRAM;
+pub use generations::{Generations, Released};
 pub use member::Member;
 pub use muoswyld::answer::{Role, Standing};
 pub use muoswyld::names::{Name, Names, Stamp};

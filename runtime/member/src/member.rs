@@ -4,6 +4,7 @@ use crate::body::{Assembler, MOST_MESSAGE};
 use crate::chance::Chance;
 use crate::config::{Plant, Settings, StartError, Time};
 use crate::delivering::Delivering;
+use crate::ending_list::EndingList;
 use crate::event::{Counts, End, HandleError, Input, Notice, Output};
 use crate::every::{Every, Processes};
 use crate::frame::Speaker;
@@ -39,6 +40,7 @@ pub struct Member {
     pub(crate) hearing: Hearing,
     pub(crate) sending: Sending,
     pub(crate) delivering: Delivering,
+    pub(crate) ending: EndingList,
     pub(crate) timers: Timers,
     pub(crate) resetting: Resetting,
     pub(crate) leaving: Leaving,
@@ -72,6 +74,7 @@ impl Member {
             hearing: Hearing::new(now, Processes::new()),
             sending: Sending::new(Queue::new(settings.most_waiting)),
             delivering: Delivering::new(settings.deliveries, Assembler::default()),
+            ending: EndingList::new(&settings),
             timers: Timers::new(now),
             resetting: Resetting::default(),
             leaving: Leaving::default(),
@@ -110,6 +113,7 @@ impl Member {
                 resilience,
             } => self.asked_to_reset(ticket, least, resilience)?,
             Input::Stopped(name) => self.told_stopped(name)?,
+            Input::Succeed(next) => self.succeed(next)?,
             Input::Consumed(count) => self.delivering.consumed(count),
             Input::Time => {}
         }
@@ -163,6 +167,8 @@ impl Member {
         self.tick_at()
             .min(self.resets_at())
             .min(self.leave_at())
+            .min(self.confirms_at())
+            .min(self.greets_at())
             .min(self.paced_until())
     }
 
@@ -270,11 +276,14 @@ impl Member {
             return None;
         }
         self.find()?;
+        self.confirm();
+        self.greet();
         for _ in 0..MOST_LOOKS {
             let before = self.counts.steps;
             self.collect()?;
             if !self.takes_later() {
                 self.take()?;
+                self.note_members();
             }
             self.look_at_ballot()?;
             self.look_at_group()?;

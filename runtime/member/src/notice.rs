@@ -44,6 +44,9 @@ impl fmt::Display for Notice {
                 f,
                 "what comes of place {place} is dropped: it isn't sealed by this member's key"
             ),
+            Notice::NotSucceeded => {
+                write!(f, "the list goes on: somebody joined or left, or a view began, before its end")
+            }
             Notice::LeaveWaits => {
                 f.write_str("leaving waits for messages on their way, for a reset, or for another member that leaves")
             }

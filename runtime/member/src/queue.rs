@@ -1,6 +1,6 @@
 //! Messages that wait to be sent, and the bodies that they go out in.
 
-use crate::body::{is_whole_body, part_count, part_of, Packing, MOST_PACKED};
+use crate::body::{is_whole_body, part_count, part_of, read, Body, Packing, MOST_PACKED};
 use crate::config::MESSAGE_HEAD;
 use std::collections::VecDeque;
 
@@ -17,6 +17,31 @@ pub(crate) struct Load {
     pub(crate) body: Vec<u8>,
     /// The tickets of the messages that end in it, in their order.
     pub(crate) tickets: Vec<u64>,
+    /// The message whose last part it is.
+    pub(crate) whole: Option<Vec<u8>>,
+}
+
+impl Load {
+    /// A control body.
+    pub(crate) fn of_control(body: Vec<u8>) -> Load {
+        Load {
+            body,
+            tickets: Vec::new(),
+            whole: None,
+        }
+    }
+
+    /// The messages that end in it, with their tickets.
+    pub(crate) fn into_messages(self) -> Vec<(u64, Vec<u8>)> {
+        let messages = match (self.whole, read(&self.body)) {
+            (Some(whole), _) => vec![whole],
+            (None, Body::Packed(messages)) => messages.map(<[u8]>::to_vec).collect(),
+            (None, Body::Plain) => vec![self.body],
+            // a part that isn't the last one, or control
+            (None, Body::Part { .. } | Body::Control(_)) => Vec::new(),
+        };
+        self.tickets.into_iter().zip(messages).collect()
+    }
 }
 
 /// Messages that wait, at most so many bytes of them.
@@ -59,6 +84,11 @@ impl Queue {
         self.messages.len()
     }
 
+    /// Whether a message went out in part.
+    pub(crate) fn is_amid_message(&self) -> bool {
+        self.parts > 0
+    }
+
     pub(crate) fn is_empty(&self) -> bool {
         self.messages.is_empty()
     }
@@ -66,12 +96,18 @@ impl Queue {
     /// Adds a message; gives it back if it doesn't fit.
     pub(crate) fn push(&mut self, ticket: u64, bytes: Vec<u8>) -> Result<(), Vec<u8>> {
         let size = bytes.len() + MESSAGE_HEAD;
-        if size > self.most - self.waiting {
+        if size > self.free() {
             return Err(bytes);
         }
         self.waiting += size;
         self.messages.push_back(Message { ticket, bytes });
         Ok(())
+    }
+
+    /// Adds a message that was taken before, by another queue.
+    pub(crate) fn push_again(&mut self, ticket: u64, bytes: Vec<u8>) {
+        self.waiting += bytes.len() + MESSAGE_HEAD;
+        self.messages.push_back(Message { ticket, bytes });
     }
 
     /// The next body: as many small messages as fit, one that fills a body, or a part of a long one.
@@ -95,6 +131,7 @@ impl Queue {
         Some(Load {
             body: message.bytes,
             tickets: vec![message.ticket],
+            whole: None,
         })
     }
 
@@ -102,12 +139,18 @@ impl Queue {
         let first = self.messages.front()?;
         let body = part_of(&first.bytes, self.parts);
         self.parts += 1;
-        let mut tickets = Vec::new();
+        let (mut tickets, mut whole) = (Vec::new(), None);
         if self.parts == part_count(first.bytes.len()) {
             self.parts = 0;
-            tickets.push(self.pop()?.ticket);
+            let message = self.pop()?;
+            tickets.push(message.ticket);
+            whole = Some(message.bytes);
         }
-        Some(Load { body, tickets })
+        Some(Load {
+            body,
+            tickets,
+            whole,
+        })
     }
 
     fn next_packed(&mut self) -> Load {
@@ -126,21 +169,23 @@ impl Queue {
         Load {
             body: packing.into_body(),
             tickets,
+            whole: None,
         }
     }
 
-    /// Takes all messages out; their tickets.
-    pub(crate) fn clear(&mut self) -> impl Iterator<Item = u64> + '_ {
+    /// Takes all messages out, with their tickets. One of which some parts went out is among them.
+    pub(crate) fn clear(&mut self) -> impl Iterator<Item = (u64, Vec<u8>)> + '_ {
         self.waiting = 0;
         self.parts = 0;
-        self.messages.drain(..).map(|message| message.ticket)
+        let messages = self.messages.drain(..);
+        messages.map(|message| (message.ticket, message.bytes))
     }
 }
 
 #[cfg(test)]
 mod tests {
     use super::*;
-    use crate::body::{read, Assembler, Body};
+    use crate::body::Assembler;
     use muoswyld::names::Name;
     use proptest::prelude::*;
 
@@ -235,7 +280,7 @@ mod tests {
             match read(&load.body) {
                 Body::Packed(messages) => found.extend(messages.map(<[u8]>::to_vec)),
                 Body::Plain => found.push(load.body),
-                Body::Control => panic!("a message became control"),
+                Body::Control(_) => panic!("a message became control"),
                 Body::Part {
                     index,
                     count,
@@ -322,7 +367,12 @@ mod tests {
     fn a_queue_that_is_cleared_tells_all_tickets() {
         let mut queue = queue_of(&[3000, 1, 2]);
         queue.next();
-        assert_eq!(queue.clear().collect::<Vec<_>>(), [0, 1, 2]);
+        let messages: Vec<_> = queue.clear().collect();
+        let lengths: Vec<_> = messages
+            .iter()
+            .map(|(t, bytes)| (*t, bytes.len()))
+            .collect();
+        assert_eq!(lengths, [(0, 3000), (1, 1), (2, 2)]);
         assert_eq!((queue.waiting(), queue.is_empty()), (0, true));
     }
 }

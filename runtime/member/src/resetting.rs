@@ -266,7 +266,8 @@ impl Member {
             true => self.stuck_at(),
             false => Time::NEVER,
         };
-        stopped.min(stuck).min(self.unwelcomed_at())
+        let unwelcomed = self.unwelcomed_at().min(self.unconfirmed_at());
+        stopped.min(stuck).min(unwelcomed)
     }
 
     fn may_reset(&self) -> bool {
@@ -276,7 +277,7 @@ impl Member {
     /// Looks whether the group goes on without this member, or is to be reset by it.
     pub(crate) fn look_at_group(&mut self) -> Option<()> {
         self.look_whether_left_out()?;
-        if self.now >= self.unwelcomed_at() {
+        if self.now >= self.unwelcomed_at().min(self.unconfirmed_at()) {
             self.end(crate::event::End::Unwelcomed);
             return None;
         }

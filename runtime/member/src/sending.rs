@@ -2,7 +2,7 @@
 
 use crate::body::MOST_MESSAGE;
 use crate::config::{Plant, Time};
-use crate::event::{HandleError, Output, Position, Unsent};
+use crate::event::{HandleError, Output, Unsent};
 use crate::member::Member;
 use crate::queue::{Load, Queue};
 use muoswyld::answer::Outcome;
@@ -30,8 +30,10 @@ pub(crate) struct Sending {
     ready: Option<Load>,
     /// The body that isn't known to be accepted.
     pub(crate) under_way: Option<UnderWay>,
-    /// Bodies that are accepted, and that the application wasn't given yet: their requests and tickets.
-    accepted: VecDeque<(u32, Vec<u64>)>,
+    /// What is to end the list, and didn't go out yet.
+    pub(crate) control: Option<Load>,
+    /// Bodies that are accepted, and that the application wasn't given yet, with their requests.
+    accepted: VecDeque<(u32, Load)>,
     /// Up to where the list was accepted when the node was last asked for the body under way.
     asked_at: u32,
     /// Whether the sequencer had no room for the body under way.
@@ -48,6 +50,7 @@ impl Sending {
             queue,
             ready: None,
             under_way: None,
+            control: None,
             accepted: VecDeque::new(),
             asked_at: 0,
             put_off: false,
@@ -63,13 +66,14 @@ impl Sending {
 
     /// Whether something waits to be sent, or is under way.
     pub(crate) fn is_idle(&self) -> bool {
-        self.queue.is_empty() && self.ready.is_none() && self.under_way.is_none()
+        let none_waits = self.queue.is_empty() && self.control.is_none();
+        none_waits && self.ready.is_none() && self.under_way.is_none()
     }
 
     /// How many messages aren't delivered yet.
     pub(crate) fn unsettled(&self) -> usize {
         let tickets = |load: &Load| load.tickets.len();
-        let accepted: usize = self.accepted.iter().map(|(_, those)| those.len()).sum();
+        let accepted: usize = self.accepted.iter().map(|(_, own)| tickets(own)).sum();
         self.queue.len()
             + self.ready.as_ref().map_or(0, tickets)
             + self.under_way.as_ref().map_or(0, |own| tickets(&own.load))
@@ -85,6 +89,9 @@ impl Member {
         }
         if self.leaving.is_wanted() {
             return Err(HandleError::Leaving { message });
+        }
+        if self.has_succeeded() {
+            return Err(HandleError::Succeeded { message });
         }
         let room = self.room();
         let put = self.sending.queue.push(ticket, message);
@@ -121,14 +128,12 @@ impl Member {
         self.sending.put_off = false;
         if self.has(Plant::SettlesEarly) {
             for (index, ticket) in (0..).zip(own.load.tickets) {
-                let result = Ok(Position { number, index });
+                let result = Ok(self.at(number, index));
                 self.give(Output::Settled { ticket, result });
             }
             return;
         }
-        self.sending
-            .accepted
-            .push_back((own.request, own.load.tickets));
+        self.sending.accepted.push_back((own.request, own.load));
     }
 
     /// Gives the node the next body, if none is under way.
@@ -138,13 +143,16 @@ impl Member {
             return Some(());
         }
         if self.sending.ready.is_none() {
-            if self.sending.queue.is_empty() {
+            if self.sending.is_idle() {
                 return Some(());
             }
             if self.is_sequencer() && self.is_too_fast() {
                 return Some(());
             }
-            self.sending.ready = self.sending.queue.next();
+            // between two parts it would end their message
+            let is_amid = self.sending.queue.is_amid_message();
+            let control = self.sending.control.take_if(|_| !is_amid);
+            self.sending.ready = control.or_else(|| self.sending.queue.next());
         }
         let Some(load) = self.sending.ready.take() else {
             return Some(());
@@ -204,13 +212,13 @@ impl Member {
             self.sending.asked_at = 0;
             self.collect()?;
         }
-        let is_next = |own: &(u32, Vec<u64>)| own.0 == request;
+        let is_next = |own: &(u32, Load)| own.0 == request;
         let tickets = match self.sending.accepted.front() {
-            Some(own) if is_next(own) => self.sending.accepted.pop_front().map(|own| own.1),
+            Some(own) if is_next(own) => self.sending.accepted.pop_front().map(|own| own.1.tickets),
             _ => None,
         };
         for (index, ticket) in (0..).zip(tickets.unwrap_or_default()) {
-            let result = Ok(Position { number, index });
+            let result = Ok(self.at(number, index));
             self.give(Output::Settled { ticket, result });
         }
         Some(())
@@ -225,14 +233,40 @@ impl Member {
         Some(())
     }
 
+    /// Takes messages that were taken in the list before.
+    pub(crate) fn put_again(&mut self, messages: Vec<(u64, Vec<u8>)>) {
+        for (ticket, message) in messages {
+            self.counts.messages_sent += 1;
+            self.sending.queue.push_again(ticket, message);
+        }
+    }
+
+    /// Takes out what the member was given to send and hasn't delivered, in order, since its list has ended. What is under way goes on, and nobody
+    /// is given it.
+    pub(crate) fn take_unsent(&mut self) -> Vec<(u64, Vec<u8>)> {
+        let sending = &mut self.sending;
+        let accepted = sending.accepted.drain(..).map(|own| own.1);
+        let mut loads: Vec<Load> = accepted.collect();
+        if let Some(own) = &mut sending.under_way {
+            loads.push(own.load.clone());
+            own.load.tickets.clear();
+        }
+        loads.extend(sending.ready.take());
+        sending.control = None;
+        let mut unsent: Vec<(u64, Vec<u8>)> =
+            loads.into_iter().flat_map(Load::into_messages).collect();
+        unsent.extend(sending.queue.clear());
+        unsent
+    }
+
     /// Settles all that wasn't delivered, since the member ends.
     pub(crate) fn settle_all(&mut self) {
         let own = self.sending.under_way.take().map(|own| own.load.tickets);
-        let accepted = self.sending.accepted.drain(..).map(|own| own.1);
+        let accepted = self.sending.accepted.drain(..).map(|own| own.1.tickets);
         let unknown: Vec<u64> = accepted.chain(own).flatten().collect();
         let ready = self.sending.ready.take().map(|load| load.tickets);
         let mut unsent = ready.unwrap_or_default();
-        unsent.extend(self.sending.queue.clear());
+        unsent.extend(self.sending.queue.clear().map(|(ticket, _)| ticket));
         let give = |result| move |ticket| Output::Settled { ticket, result };
         let unknown = unknown.into_iter().map(give(Err(Unsent::Unknown)));
         let unsent = unsent.into_iter().map(give(Err(Unsent::NotSent)));

@@ -134,7 +134,11 @@ fn messages_are_delivered_in_order_and_settled_behind() {
         send(&mut second, 10, ticket, message);
     }
     let outputs = carried(&mut [&mut first, &mut second], 20);
-    let at = |number, index| Position { number, index };
+    let at = |number, index| Position {
+        generation: 0,
+        number,
+        index,
+    };
     let message = |number, index, text: &[u8]| {
         Output::Deliver(Delivery::Message {
             at: at(number, index),

@@ -66,7 +66,7 @@ impl From<CreateError> for Fault {
 pub fn by_end(end: &End) -> Result<(), Fault> {
     let status = match end {
         End::Left | End::Closed | End::Stopped => return Ok(()),
-        End::LeftOut | End::Unwelcomed => UNAVAILABLE,
+        End::LeftOut | End::Unwelcomed | End::Superseded => UNAVAILABLE,
         End::Failed(_) => IO,
         _ => SOFTWARE,
     };

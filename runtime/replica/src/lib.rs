@@ -32,7 +32,7 @@
 //! # fn main() -> Result<(), Box<dyn std::error::Error>> {
 //! let settings = Settings::new("0".parse()?, 7);
 //! let mut replica = Replica::new(Counter(0), settings);
-//! let at = Position { number: 1, index: 0 };
+//! let at = Position { generation: 0, number: 1, index: 0 };
 //! replica.deliver(Delivery::View { at, members: "0".parse()?, resilience: 0 });
 //! replica.submit(1, Request::Command(b"more".to_vec()))?;
 //! let mut answers = Vec::new();
@@ -40,7 +40,7 @@
 //!     match output {
 //!         // a group sends it, and delivers it to all members
 //!         Output::Send(message) => {
-//!             let at = Position { number: 2, index: 0 };
+//!             let at = Position { generation: 0, number: 2, index: 0 };
 //!             replica.deliver(Delivery::Message { at, from: "0".parse()?, message });
 //!         }
 //!         Output::Answered { token, answer } => answers.push((token, answer)),

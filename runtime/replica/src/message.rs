@@ -114,8 +114,12 @@ impl<'a> Reader<'a> {
     }
 
     pub(crate) fn position(&mut self) -> Option<Position> {
-        let (number, index) = (self.u32()?, self.u32()?);
-        Some(Position { number, index })
+        let (generation, number, index) = (self.u32()?, self.u32()?, self.u32()?);
+        Some(Position {
+            generation,
+            number,
+            index,
+        })
     }
 
     pub(crate) fn bytes(&mut self, length: usize) -> Option<&'a [u8]> {
@@ -183,6 +187,7 @@ fn read_short(kind: u8, mut rest: Reader) -> Option<Message> {
 
 /// Adds a position to bytes.
 pub(crate) fn put_position(to: &mut Vec<u8>, at: Position) {
+    to.extend(at.generation.to_be_bytes());
     to.extend(at.number.to_be_bytes());
     to.extend(at.index.to_be_bytes());
 }
@@ -260,6 +265,7 @@ mod tests {
     #[test]
     fn messages_have_the_bytes_that_the_page_says() {
         let at = Position {
+            generation: 6,
             number: 0x0102_0304,
             index: 5,
         };
@@ -273,7 +279,8 @@ mod tests {
                     answered: 1,
                     command: b"x",
                 },
-                b"C\x01\x02\x03\x04\0\0\0\x05\0\0\0\0\0\0\0\x02\0\0\0\0\0\0\0\x01x".to_vec(),
+                b"C\0\0\0\x06\x01\x02\x03\x04\0\0\0\x05\0\0\0\0\0\0\0\x02\0\0\0\0\0\0\0\x01x"
+                    .to_vec(),
             ),
             (
                 Message::Digest {
@@ -282,7 +289,10 @@ mod tests {
                 },
                 b"D\0\0\0\x09\0\0\0\0\0\0\x0a\x0b".to_vec(),
             ),
-            (Message::Close(at), b"E\x01\x02\x03\x04\0\0\0\x05".to_vec()),
+            (
+                Message::Close(at),
+                b"E\0\0\0\x06\x01\x02\x03\x04\0\0\0\x05".to_vec(),
+            ),
             (Message::Waiting, b"N".to_vec()),
             (Message::Open, b"O".to_vec()),
             (

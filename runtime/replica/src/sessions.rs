@@ -216,7 +216,11 @@ mod tests {
     use super::*;
 
     fn at(number: u32) -> Position {
-        Position { number, index: 0 }
+        Position {
+            generation: 0,
+            number,
+            index: 0,
+        }
     }
 
     fn limits() -> Limits {

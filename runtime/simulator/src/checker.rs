@@ -222,6 +222,7 @@ mod tests {
     fn view() -> Delivery {
         Delivery::View {
             at: Position {
+                generation: 0,
                 number: 1,
                 index: 0,
             },
@@ -232,7 +233,11 @@ mod tests {
 
     fn message(number: u32, index: u32, from: &str, text: &str) -> Delivery {
         Delivery::Message {
-            at: Position { number, index },
+            at: Position {
+                generation: 0,
+                number,
+                index,
+            },
             from: name(from),
             message: text.into(),
         }
@@ -252,6 +257,7 @@ mod tests {
         let log = vec![view(), message(2, 0, "0", "a"), message(2, 1, "0", "b")];
         let joined = Delivery::Joined {
             at: Position {
+                generation: 0,
                 number: 3,
                 index: 0,
             },
@@ -280,6 +286,7 @@ mod tests {
         assert!(check(&[app("0", &["b", "a"], one())]).is_err());
         let mut early = app("0", &["a"], vec![view()]);
         let at = Position {
+            generation: 0,
             number: 2,
             index: 0,
         };

@@ -328,7 +328,7 @@ impl World<'_> {
             End::Left | End::Closed => process.leaves,
             End::Unwelcomed => true,
             End::LeftOut => self.is_void || self.given_up.contains_key(&name),
-            End::NoNumbersLeft | End::NodeFailed => false,
+            End::NoNumbersLeft | End::NodeFailed | End::Superseded | End::OtherVersion => false,
         };
         if !is_expected {
             return Err(format!("{name} ended, though it ran: {end:?}"));

@@ -396,6 +396,7 @@ impl<'a> World<'a> {
                 self.process(place)?.app.settle(ticket, result)?;
             }
             Output::Ended(end) => self.process(place)?.ended = Some(end),
+            Output::Succeeded(_) => return Err("a list ended, which nobody asked for".into()),
             Output::Told(Notice::ResetsStuck) => self.counts.stuck_resets += 1,
             Output::ResetDone { .. } | Output::Told(_) => {}
         }

@@ -10,7 +10,7 @@ use Rattle.am_sim.proofs.alone.simulate_alone.Given.{Over}
 use Rattle.am_sim.proofs.alone.simulate_alone.Goals as goal
 
 same : (g : Over) (c : goal.After-play g) → Some (form.Play c.in-Some-Play.shown) ≡ form_of_words c.args.words.now
-same g c = search (rules, c.form_of.ensures.value, c.in-Some-Play.is, c.in-Some-Play.field-0-is, c.in-Some-Play.shown-is)
+same g c = search (rules, c.requires.form_, c.in-Some-Play.is, c.in-Some-Play.field-0-is, c.in-Some-Play.shown-is)
 
 pub returns-in-Some-Play-clause-bad_script : goal.returns-in-Some-Play-clause-bad_script
 returns-in-Some-Play-clause-bad_script g c =

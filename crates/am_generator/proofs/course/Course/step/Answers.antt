@@ -33,7 +33,7 @@ act-requires c =
             course = record { stands = course.stands; counted = course.counted };
             few = fewer p s course less;
             named = came.0;
-            comes_ = came.1 ∙ ap (comes (replay p) e) c.in-Ok.is;
+            comes_ = came.1 ∙ ap (comes (replay p) e) c.in-Step.is;
           },
         ),
       );
@@ -55,32 +55,32 @@ add-requires c =
     let less : s.counts.events < most_events = low p s course (grind (arith, nat_tests, c.if-self-eq-MOST_EVENTS.false)) in
     events_below_most_counts p s.counts most_events course.counted less
 
-pub returns-in_ok-act-in-Ok-clause-ok : goal.returns-in_ok-act-in-Ok-clause-ok
-returns-in_ok-act-in-Ok-clause-ok c = λ p course.
+pub returns-in_ok-act-in-Step-clause-ok : goal.returns-in_ok-act-in-Step-clause-ok
+returns-in_ok-act-in-Step-clause-ok c = λ p course.
     let s = c.args.self.now in
     let e = c.args.event in
     let less : s.counts.events < most_events = low p s course (grind (arith, nat_tests, c.if-self-eq-MOST_EVENTS.false)) in
     let came = asked_call_comes_in_replay p e s.places s.watcher c.of_byte-name.result c.place.result c.letters-letters.result.now c.in_ok-what.field-0 course.stands
     c.of_byte-name.ensures c.place.ensures.value c.requires.calm c.letters-letters.ensures c.in_ok-what.ensures.asks c.in_ok-what.ensures.spells in
-    c.in_ok-act-in-Ok.ensures.ok p e (record {
+    c.in_ok-act-in-Step.ensures.ok p e (record {
       course = record { stands = course.stands; counted = course.counted };
       few = fewer p s course less;
       named = came.0;
-      comes_ = came.1 ∙ ap (comes (replay p) e) c.in-Ok.is;
+      comes_ = came.1 ∙ ap (comes (replay p) e) c.in-Step.is;
     })
 
-pub returns-in-Err-clause-ok : goal.returns-in-Err-clause-ok
-returns-in-Err-clause-ok c = λ p course.
+pub returns-in-Answer-clause-ok : goal.returns-in-Answer-clause-ok
+returns-in-Answer-clause-ok c = λ p course.
     let s = c.args.self.now in
     let e = c.args.event in
     let less : s.counts.events < most_events = low p s course (grind (arith, nat_tests, c.if-self-eq-MOST_EVENTS.false)) in
     let came = asked_call_comes_in_replay p e s.places s.watcher c.of_byte-name.result c.place.result c.letters-letters.result.now c.in_ok-what.field-0 course.stands
     c.of_byte-name.ensures c.place.ensures.value c.requires.calm c.letters-letters.ensures c.in_ok-what.ensures.asks c.in_ok-what.ensures.spells in
-    let done = course_passed_by_answer p e s.places s.watcher c.pass.new.self c.of_byte-name.result c.letters-letters.result.now c.in_ok-what.field-0 c.in-Err.outcome
-    course.stands (fewer p s course less) c.requires.calm c.in_ok-what.ensures.asks c.in-Err.is came.1 c.pass.ensures in (
+    let done = course_passed_by_answer p e s.places s.watcher c.pass.new.self c.of_byte-name.result c.letters-letters.result.now c.in_ok-what.field-0 c.in-Answer.outcome
+    course.stands (fewer p s course less) c.requires.calm c.in_ok-what.ensures.asks c.in-Answer.is came.1 c.pass.ensures in (
       record {
         stands = done.0;
-        counted = subst (Counted (play_after p e)) (sym c.add.ensures) (counts_after_answer p e s.counts c.in-Err.outcome course.counted done.1);
+        counted = subst (Counted (play_after p e)) (sym c.add.ensures) (counts_after_answer p e s.counts c.in-Answer.outcome course.counted done.1);
       },
       done.1,
     )

@@ -1,0 +1,421 @@
+//! The end of a list, which another one follows (docs/MEMBER.md, "Generations").
+//!
+//! A control body, at number N of the list, names an earlier entry M, the members there, and the numbers of the next founding. It counts if
+//! between M and N nobody joins or leaves and no view begins. Whoever takes N has taken all of these entries, so all members judge alike. Of two
+//! that count the first one does. After N a member delivers nothing more of the list. It begins the next one as a founder, the first life of its
+//! place, and sends there again what it hasn't delivered of its own. Its node goes on, for those that haven't come to N.
+//!
+//! A joiner may have joined after N, and doesn't know. So it delivers nothing until somebody confirms that the entry of its join stands: a
+//! founder, or a joiner that was confirmed itself and began before, that has delivered that entry. If nobody does for long, it ends.
+
+use crate::body::CONTROL;
+use crate::config::{Founding, Plant, Settings, Time};
+use crate::event::{End, HandleError, Next, Notice, Output, Position, Successor};
+use crate::frame::{self, Said, Speaker};
+use crate::member::Member;
+use crate::queue::Load;
+use muoswyld::answer::{Entry, Role};
+use muoswyld::names::{Name, Names, PLACES};
+use ring::digest::{Context, SHA256};
+
+/// The kind of control that ends a list. Who doesn't know it must not go on, so it is above 127.
+const ENDS_LIST: u8 = 129;
+
+/// What a member knows about the end of its list.
+#[derive(Debug)]
+pub(crate) struct EndingList {
+    /// The members after the last entry that was taken, if they are known.
+    members: Option<Names>,
+    /// The last entry taken at which somebody joined or left, or a view began.
+    changed_at: u32,
+    /// The first entry that this member was given: the one of its join, and 1 at a founder.
+    begins_at: Option<u32>,
+    /// Whether it is known that its first entry stands.
+    is_confirmed: bool,
+    /// When it asks for that next.
+    ask_at: Time,
+    /// When it first asked for that.
+    asked_since: Option<Time>,
+    /// When it asks next which founders are there.
+    greet_at: Time,
+    /// The last entry that is delivered, once that is known.
+    last: Option<u32>,
+    /// With the planted defect: how many entries more are delivered.
+    late: u32,
+}
+
+impl EndingList {
+    pub(crate) fn new(settings: &Settings) -> EndingList {
+        let is_founder = settings.founding.founders.has(settings.name);
+        EndingList {
+            members: None,
+            changed_at: 0,
+            begins_at: is_founder.then_some(1),
+            is_confirmed: is_founder || settings.plant == Some(Plant::TakesUnconfirmed),
+            ask_at: Time(0),
+            asked_since: None,
+            greet_at: Time(0),
+            last: None,
+            late: 0,
+        }
+    }
+
+    /// Whether the list has ended here.
+    pub(crate) fn has_ended(&self) -> bool {
+        self.last.is_some() && self.late == 0
+    }
+
+    /// Whether what is accepted may be delivered.
+    pub(crate) fn is_confirmed(&self) -> bool {
+        self.is_confirmed
+    }
+}
+
+/// What a control body says that ends a list.
+#[derive(Clone, Copy, Debug, PartialEq, Eq)]
+struct Ends {
+    group: u64,
+    at: u32,
+    members: Names,
+    next: Next,
+}
+
+impl Ends {
+    fn body(&self) -> Vec<u8> {
+        let mut body = vec![CONTROL, ENDS_LIST];
+        let (mask, lives) = self.members.parts();
+        body.extend(self.group.to_be_bytes());
+        body.extend(self.at.to_be_bytes());
+        body.extend(mask.to_be_bytes());
+        body.extend(lives.to_be_bytes());
+        body.push(self.next.resilience);
+        body.extend(self.next.window.to_be_bytes());
+        body.extend(self.next.pb_up_to.to_be_bytes());
+        body
+    }
+
+    /// What stands behind the kind; None if it has another form.
+    fn read(mut bytes: &[u8]) -> Option<Ends> {
+        fn number<const N: usize>(bytes: &mut &[u8]) -> Option<[u8; N]> {
+            let (number, rest) = bytes.split_first_chunk::<N>()?;
+            *bytes = rest;
+            Some(*number)
+        }
+        let group = u64::from_be_bytes(number(&mut bytes)?);
+        let at = u32::from_be_bytes(number(&mut bytes)?);
+        let mask = u16::from_be_bytes(number(&mut bytes)?);
+        let members = Names::of_parts(mask, u64::from_be_bytes(number(&mut bytes)?))?;
+        let next = Next {
+            resilience: u8::from_be_bytes(number(&mut bytes)?),
+            window: u16::from_be_bytes(number(&mut bytes)?),
+            pb_up_to: u16::from_be_bytes(number(&mut bytes)?),
+        };
+        bytes.is_empty().then_some(Ends {
+            group,
+            at,
+            members,
+            next,
+        })
+    }
+
+    /// The founding that follows.
+    fn founding(&self) -> Founding {
+        Founding {
+            founders: firsts_of(self.members),
+            resilience: self.next.resilience,
+            window: self.next.window,
+            pb_up_to: self.next.pb_up_to,
+        }
+    }
+}
+
+/// The first lives of the places of some names.
+fn firsts_of(names: Names) -> Names {
+    let places = (0..PLACES).filter(|place| names.at(*place).is_some());
+    places.filter_map(Name::first).collect()
+}
+
+/// The id of the group whose list follows one of another id, at an entry with this body. No other entry gives the same one.
+fn id_after(group: u64, number: u32, body: &[u8]) -> u64 {
+    let mut context = Context::new(&SHA256);
+    context.update(&group.to_be_bytes());
+    context.update(&number.to_be_bytes());
+    context.update(body);
+    let digest = context.finish();
+    let (first, _) = digest
+        .as_ref()
+        .split_first_chunk()
+        .unwrap_or((&[0; 8], &[]));
+    u64::from_be_bytes(*first)
+}
+
+impl Member {
+    /// A position in this member's list.
+    pub(crate) fn at(&self, number: u32, index: u32) -> Position {
+        Position {
+            generation: self.settings.generation,
+            number,
+            index,
+        }
+    }
+
+    /// Whether the list has ended here: nothing more of it is delivered, and nothing more is sent.
+    pub fn has_succeeded(&self) -> bool {
+        self.ending.has_ended()
+    }
+
+    /// The founders that weren't heard in this list, and are members of it and haven't stopped.
+    fn unheard(&self) -> Names {
+        let others = self.settings.founding.founders.without(self.me()).iter();
+        let is_there = |name: &Name| !self.stopped.has(*name) && self.standing.members.has(*name);
+        others
+            .filter(is_there)
+            .filter(|name| !self.hearing.was_heard(*name))
+            .collect()
+    }
+
+    /// Whether all founders were heard in this list, or have left it or stopped: nobody wants anything of the list before it.
+    pub(crate) fn knows_all_founders(&self) -> bool {
+        self.unheard().is_empty()
+    }
+
+    /// When a founder of a list that follows another one asks next who is there.
+    pub(crate) fn greets_at(&self) -> Time {
+        match self.settings.generation == 0 || self.knows_all_founders() {
+            true => Time::NEVER,
+            false => self.ending.greet_at,
+        }
+    }
+
+    /// Asks the founders that weren't heard whether they are there, if it is time.
+    pub(crate) fn greet(&mut self) {
+        if self.now < self.greets_at() {
+            return;
+        }
+        let Some(group) = self.hearing.group else {
+            return;
+        };
+        self.ending.greet_at = self.now.after(self.settings.first_resend);
+        let ask = frame::entry(group, self.speaker(), 0, Said::Asked);
+        self.send_direct(self.unheard(), ask);
+    }
+
+    /// Looks at an entry that was taken, before it is delivered.
+    pub(crate) fn note_entry(&mut self, number: u32, entry: &Entry) {
+        let ending = &mut self.ending;
+        ending.begins_at.get_or_insert(number);
+        let members = match entry {
+            Entry::Data { .. } => return,
+            Entry::Join(name) => ending.members.map(|members| members.with(*name)),
+            Entry::Leave(name) => ending.members.map(|members| members.without(*name)),
+            Entry::View { members, .. } => Some(*members),
+        };
+        ending.members = members;
+        ending.changed_at = number;
+    }
+
+    /// Whether a name is a member after the last entry that was taken, as far as that is known.
+    pub(crate) fn is_taken_in(&self, name: Name) -> bool {
+        self.ending.members.is_none_or(|members| members.has(name))
+    }
+
+    /// Learns who is a member, if that isn't known and all of the list was taken.
+    pub(crate) fn note_members(&mut self) {
+        let standing = &self.standing;
+        let is_whole = standing.taken == standing.top && self.standing.members.has(self.me());
+        if self.ending.members.is_none() && is_whole {
+            self.ending.members = Some(standing.members);
+        }
+    }
+
+    /// Sends what ends the list.
+    pub(crate) fn succeed(&mut self, next: Next) -> Result<(), HandleError> {
+        let quiet = self.stopped.among(self.standing.members).is_empty()
+            && self.hearing.silent.iter().all(|is_silent| !is_silent)
+            && self.standing.role != Role::Coordinator
+            && self.is_member()
+            && self.ending.is_confirmed
+            && !self.leaving.is_wanted()
+            && !self.another_leaves();
+        let founders = match self.ending.members {
+            _ if self.has(Plant::FoundersAtTop) => Some(self.standing.members),
+            members => members,
+        };
+        let (Some(members), Some(group), true) = (founders, self.hearing.group, quiet) else {
+            return Err(HandleError::NotNow);
+        };
+        let ends = Ends {
+            group,
+            at: self.standing.taken,
+            members,
+            next,
+        };
+        if ends.founding().check().is_err() {
+            return Err(HandleError::OutOfRange);
+        }
+        self.sending.control = Some(Load::of_control(ends.body()));
+        Ok(())
+    }
+
+    /// Takes control: what ends the list does so, if it counts.
+    pub(crate) fn take_control(&mut self, number: u32, from: Name, body: &[u8]) {
+        self.counts.controls += 1;
+        let Some((kind, said)) = body.get(1..).and_then(<[u8]>::split_first) else {
+            return;
+        };
+        if *kind != ENDS_LIST {
+            if *kind > 127 {
+                self.end(End::OtherVersion);
+            }
+            return;
+        }
+        let Some(ends) = Ends::read(said) else {
+            self.end(End::OtherVersion);
+            return;
+        };
+        let is_after = ends.at < number && self.ending.changed_at <= ends.at;
+        let counts = is_after || self.has(Plant::FoundersAtTop);
+        if Some(ends.group) == self.hearing.group && counts && ends.founding().check().is_ok() {
+            self.end_list(number, &ends, body);
+        } else if from == self.me() {
+            self.tell(Notice::NotSucceeded);
+        }
+    }
+
+    fn end_list(&mut self, number: u32, ends: &Ends, body: &[u8]) {
+        let group = id_after(ends.group, number, body);
+        self.ending.last = Some(number);
+        self.ending.late = u32::from(self.has(Plant::EndsListLate));
+        let unsent = self.take_unsent();
+        self.give(Output::Succeeded(Successor {
+            group,
+            founding: ends.founding(),
+            members: ends.members,
+            at: self.at(number, 0),
+            unsent,
+        }));
+    }
+
+    /// Whether an entry is delivered, by the end of the list.
+    pub(crate) fn is_in_list(&mut self, number: u32) -> bool {
+        match self.ending.last {
+            Some(last) if number > last => std::mem::take(&mut self.ending.late) > 0,
+            _ => true,
+        }
+    }
+
+    /// When a joiner asks next whether its first entry stands.
+    pub(crate) fn confirms_at(&self) -> Time {
+        match self.ending.is_confirmed || !self.is_member() {
+            true => Time::NEVER,
+            false => self.ending.ask_at,
+        }
+    }
+
+    /// When a joiner ends whose first entry nobody confirms: all that could have left or stopped.
+    pub(crate) fn unconfirmed_at(&self) -> Time {
+        let wait = self.settings.stuck_after.saturating_mul(4);
+        let since = self
+            .ending
+            .asked_since
+            .filter(|_| !self.ending.is_confirmed);
+        since.map_or(Time::NEVER, |since| since.after(wait))
+    }
+
+    /// Asks whether the entry of the own join stands, if that isn't known and it is time.
+    pub(crate) fn confirm(&mut self) {
+        if self.now < self.confirms_at() {
+            return;
+        }
+        let Some(group) = self.hearing.group else {
+            return;
+        };
+        self.ending.ask_at = self.now.after(self.settings.first_resend);
+        self.ending.asked_since.get_or_insert(self.now);
+        let number = self.first_entry();
+        let ask = frame::entry(group, self.speaker(), number, Said::Asked);
+        self.send_direct(self.standing.members.without(self.me()), ask);
+    }
+
+    /// The first entry that this member is given.
+    fn first_entry(&self) -> u32 {
+        self.ending.begins_at.unwrap_or(self.standing.taken + 1)
+    }
+
+    /// Hears something about an entry.
+    pub(crate) fn hear_entry(&mut self, from: Speaker, number: u32, said: Said) {
+        match said {
+            Said::Asked => self.answer_entry(from, number),
+            Said::Stands if number == self.first_entry() => self.ending.is_confirmed = true,
+            Said::IsAbove if number == self.first_entry() && !self.ending.is_confirmed => {
+                self.end(End::Superseded);
+            }
+            Said::Stands | Said::IsAbove => {}
+        }
+    }
+
+    fn answer_entry(&mut self, from: Speaker, number: u32) {
+        let Some(group) = self.hearing.group else {
+            return;
+        };
+        if number == 0 {
+            let answer = frame::entry(group, self.speaker(), 0, Said::Stands);
+            self.send_direct(Names::nobody().with(from.name), answer);
+            return;
+        }
+        let has_it = self.ending.is_confirmed
+            && self.ending.begins_at.is_some_and(|first| first <= number)
+            && number <= self.standing.taken;
+        if !has_it {
+            return;
+        }
+        let said = match self.ending.last {
+            Some(last) if last < number => Said::IsAbove,
+            _ => Said::Stands,
+        };
+        let answer = frame::entry(group, self.speaker(), number, said);
+        self.send_direct(Names::nobody().with(from.name), answer);
+    }
+}
+
+#[cfg(test)]
+mod tests {
+    use super::*;
+
+    #[test]
+    fn what_ends_a_list_is_read_as_it_was_written() {
+        let ends = Ends {
+            group: 7,
+            at: 9,
+            members: "0,2/3,15".parse().expect("names"),
+            next: Next {
+                resilience: 2,
+                window: 1008,
+                pb_up_to: 0,
+            },
+        };
+        let body = ends.body();
+        assert_eq!(body[..2], [CONTROL, ENDS_LIST]);
+        assert_eq!(Ends::read(&body[2..]), Some(ends));
+        for length in 2..body.len() {
+            assert_eq!(Ends::read(&body[2..length]), None);
+        }
+        assert_eq!(ends.founding().founders.to_string(), "0,2,15");
+        let longer = [&body[2..], &[0]].concat();
+        assert_eq!(Ends::read(&longer), None);
+    }
+
+    #[test]
+    fn each_entry_gives_another_id() {
+        let ids = [
+            id_after(1, 2, b"a"),
+            id_after(2, 2, b"a"),
+            id_after(1, 3, b"a"),
+            id_after(1, 2, b"b"),
+        ];
+        for (k, id) in ids.iter().enumerate() {
+            assert!(!ids[..k].contains(id));
+        }
+        assert_eq!(ids[0], id_after(1, 2, b"a"));
+    }
+}
