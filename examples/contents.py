@@ -78,9 +78,9 @@ class Dictionary:
     def take(self, delivery: muoswyld.Delivery) -> None:
         """Takes what the group gives. A founder's first is the first view."""
         if isinstance(delivery, muoswyld.View):
-            self.is_ready |= delivery.at.number == 1
+            self.is_ready |= delivery.at == muoswyld.Position(0, 1)
         elif isinstance(delivery, muoswyld.Message) and (command := command_of(delivery.message)):
-            self.do(delivery.at.number, str(delivery.sender), *command)
+            self.do(delivery.at.generation << 32 | delivery.at.number, str(delivery.sender), *command)
 
     def do(self, number: int, sender: str, word: str, *given: Any) -> None:
         """Does a command, or holds it."""

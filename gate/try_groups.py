@@ -31,7 +31,7 @@ class Listed:
         self.messages: list[bytes] = []
         self.dictionary = Dictionary(name, self.messages.append, self.others)
         if front == 0:
-            self.dictionary.take(View(Position(1, 0), (Name(0), Name(1), Name(2)), 1))
+            self.dictionary.take(View(Position(0, 1), (Name(0), Name(1), Name(2)), 1))
 
     def others(self) -> list[str]:
         """The other members that run."""
@@ -47,7 +47,7 @@ class Listed:
         if self.front < len(self.group.entries):
             self.front += 1
             name, message = self.group.entries[self.front - 1]
-            at, sender = Position(self.front + 1, 0), Name.of(name)
+            at, sender = Position(0, self.front + 1), Name.of(name)
             self.dictionary.take(Message(at, sender, message) if message else Joined(at, sender))
 
 

@@ -98,13 +98,15 @@ static int is_rung(muoswyld_group *group, int timeout_ms) {
 }
 
 static int is_after(muoswyld_position one, muoswyld_position other) {
+    if (one.generation != other.generation)
+        return one.generation > other.generation;
     return one.number > other.number || (one.number == other.number && one.index > other.index);
 }
 
 /* a sender of its own thread: each message is longer than the one before */
 static void *send_all(void *group) {
     uint8_t message[SENDS];
-    muoswyld_position at, before = {0, 0};
+    muoswyld_position at, before = {0, 0, 0};
     int k;
     for (k = 0; k < SENDS; k++) {
         memset(message, k, sizeof message);

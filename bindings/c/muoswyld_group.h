@@ -102,6 +102,14 @@ typedef enum {
      It could not go on: muoswyld_group_end_text says why.
      */
     MUOSWYLD_END_FAILED = 7,
+    /*
+     It joined after the end of its list, which another one follows. Its place can come back in that one.
+     */
+    MUOSWYLD_END_SUPERSEDED = 8,
+    /*
+     The list has something that only a later version of this library understands.
+     */
+    MUOSWYLD_END_OTHER_VERSION = 9,
 } muoswyld_end;
 
 /*
@@ -312,9 +320,13 @@ typedef struct muoswyld_service muoswyld_service;
 typedef struct muoswyld_ticket muoswyld_ticket;
 
 /*
- Where something stands in the one order of its group. Compare the number first, then the index.
+ Where something stands in the one order of its group. Compare the generation first, then the number, then the index.
  */
 typedef struct {
+    /*
+     How many lists of the group came before this one, from 0.
+     */
+    uint32_t generation;
     /*
      The number of the entry, from 1.
      */

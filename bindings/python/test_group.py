@@ -101,7 +101,7 @@ class Groups(unittest.TestCase):
         self.assertEqual(given[0], given[1])
         self.assertEqual(given[0], given[2])
         names = (Name(0), Name(1), Name(2))
-        self.assertEqual(given[0][0], View(Position(1, 0), names, 1))
+        self.assertEqual(given[0][0], View(Position(0, 1, 0), names, 1))
         for name, positions in zip(names, sent, strict=True):
             own = [delivery for delivery in given[0] if isinstance(delivery, Message) and delivery.sender == name]
             self.assertEqual([delivery.at for delivery in own], positions)
@@ -122,7 +122,7 @@ class Groups(unittest.TestCase):
         for group in groups[:2]:
             group.stopped("2")
             self.assertEqual(until(group, View)[-1].at.number, 1)
-            self.assertEqual(until(group, View)[-1], View(Position(2, 0), (Name(0), Name(1)), 1))
+            self.assertEqual(until(group, View)[-1], View(Position(0, 2, 0), (Name(0), Name(1)), 1))
         self.assertEqual(groups[0].reset(2, SOON), 3)
         with Group.join(config("2/2", where)) as back:
             self.assertEqual(back.receive(SOON), until(groups[0], Joined)[-1])

@@ -93,8 +93,7 @@ fn first_core(log: History, name: Name, founding: &Founding) -> Core<History>
     }
 }
 
-/// The parts of a name that no one has seen. It stands apart from `founder`, so that no call has what both keep on its stack.
-#[inline(never)]
+/// The parts of a name that no one has seen.
 pub fn stranger(room: Room, name: Name) -> Parts
     ensures { node_of result ≡ stranger room name }
 {
@@ -153,9 +152,8 @@ fn founder_core(log: History, name: Name, founding: &Founding) -> Core<History>
     core
 }
 
-/// The parts of a founder. It stands apart, too.
-#[inline(never)]
-fn founder(room: Room, name: Name) -> Parts
+/// The parts of a founder.
+pub fn founder(room: Room, name: Name) -> Parts
     requires { has room.founders name ≡ true }
     ensures { node_of result ≡ founder room name }
 {

@@ -31,7 +31,7 @@ pub struct Node {
 }
 
 impl Node {
-    ghost use Rattle.std.specs.Prelude.{◌≡◌, ◌==◌, ◌≤◌, ◌↔◌, [], length, nat_lt, not, IfOk, OnErr, IsTrue, if◌then◌else◌};
+    ghost use Rattle.std.specs.Prelude.{◌≡◌, ◌==◌, ◌≤◌, ◌↔◌, [], length, nat_lt, not, true, IfOk, OnErr, IsTrue, if◌then◌else◌};
     ghost use Rattle.std.specs.Option.{option_copied};
     ghost use Rattle.am_node_parts.specs.Prelude.{entry_at, has, IsInOrder, members, image_of, top, view, Does, Tells};
     ghost use Rattle.am_model.specs.Node.{founder, stranger, node_unsettled_count};
@@ -132,7 +132,17 @@ impl Node {
         }
     }
 
-    /// A name that no one has seen, in room that is there. It takes no memory.
+    /// A founder, in room that is there. It takes no memory, and less stack than `begin_in`.
+    pub fn founder_in(room: Room, name: Name) -> Node
+        requires { has room.founders name ≡ true }
+        ensures { state_of result ≡ founder room name }
+    {
+        Node {
+            parts: founding::founder(room, name),
+        }
+    }
+
+    /// A name that no one has seen, in room that is there. It takes no memory, and less stack than `begin_in`.
     pub fn stranger_in(room: Room, name: Name) -> Node
         ensures { state_of result ≡ stranger room name }
     {

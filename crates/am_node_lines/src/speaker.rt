@@ -1,5 +1,6 @@
 ghost use Rattle.std.specs.Prelude.{◌≡◌, true, false, OnOk, OnErr, IfOk, IsErr, string_bytes};
-ghost use Rattle.am_group_defs.specs.World.{first_node};
+ghost use Rattle.am_base.specs.Names.{has};
+ghost use Rattle.am_model.specs.Node.{founder, stranger};
 ghost use Rattle.am_model.specs.Nodes.{HasNumbersLeft};
 ghost use Rattle.am_node.specs.Stands.{state_of};
 ghost use Rattle.am_node_lines.specs.Answers.{is_addressed, is_info};
@@ -50,17 +51,29 @@ fn is_info(line: &Line) -> bool
     }
 }
 
-/// A name's node at its beginning, in a place apart. It is an error where there is no memory.
+/// A founder's node, in a place apart. It is an error where there is no memory. This and `stranger_of` don't share a frame: a caller in C
+/// has little stack (bindings/c/muoswyld.h).
 #[inline(never)]
-fn node_apart(alloc: Global, name: Name, founding: &Founding) -> Result<Box<Node>, NoMemory>
-    ensures { IfOk result (λ n. state_of n.value ≡ first_node founding.now name) }
+fn founder_of(alloc: Global, name: Name, founding: &Founding) -> Result<Box<Node>, NoMemory>
+    requires { has founding.now.founders name ≡ true }
+    ensures { IfOk result (λ n. state_of n.value ≡ founder founding.now name) }
 {
     let room = Room::new(alloc, founding)?;
-    Ok(Box::new(alloc, Node::begin_in(room, name))?)
+    Ok(Box::new(alloc, Node::founder_in(room, name))?)
+}
+
+/// The node of a name that no one has seen, in a place apart. It is an error where there is no memory.
+#[inline(never)]
+fn stranger_of(alloc: Global, name: Name, founding: &Founding) -> Result<Box<Node>, NoMemory>
+    ensures { IfOk result (λ n. state_of n.value ≡ stranger founding.now name) }
+{
+    let room = Room::new(alloc, founding)?;
+    Ok(Box::new(alloc, Node::stranger_in(room, name))?)
 }
 
 impl Speaker {
     ghost use Rattle.am_model.specs.Step.{step};
+    ghost use Rattle.am_group_defs.specs.World.{first_node};
     ghost use Rattle.am_base.specs.declared.event.NodeEvent.TheVariants as does;
     ghost use Rattle.am_node_lines.specs.declared.line.Line.TheVariants as said;
     ghost use Rattle.am_node_lines.specs.Answers.{stepped, reply_by, reply_to, line_answer};
@@ -73,9 +86,14 @@ impl Speaker {
         ensures rules { IfOk result (λ s. (speaking s).rules ≡ founding.now) }
         ensures ready { IfOk result (λ s. (speaking s).failed ≡ false) }
     {
+        let node = if founding.founders().has(name) {
+            founder_of(alloc, name, founding)?
+        } else {
+            stranger_of(alloc, name, founding)?
+        };
         Ok(Speaker {
             founding: *founding,
-            node: node_apart(alloc, name, founding)?,
+            node,
             rooms: Rooms::new(),
             failed: false,
         })

@@ -147,6 +147,10 @@ pub enum muoswyld_end {
     NoNumbersLeft = 6,
     /// It could not go on: muoswyld_group_end_text says why.
     Failed = 7,
+    /// It joined after the end of its list, which another one follows. Its place can come back in that one.
+    Superseded = 8,
+    /// The list has something that only a later version of this library understands.
+    OtherVersion = 9,
 }
 
 /// A sentence for a status, in English, without a newline and without a full stop. "no such status" for a number that is none.
@@ -172,6 +176,8 @@ impl From<&End> for muoswyld_end {
             End::Unwelcomed => muoswyld_end::Unwelcomed,
             End::Stopped => muoswyld_end::Stopped,
             End::NoNumbersLeft => muoswyld_end::NoNumbersLeft,
+            End::Superseded => muoswyld_end::Superseded,
+            End::OtherVersion => muoswyld_end::OtherVersion,
             _ => muoswyld_end::Failed,
         }
     }

@@ -23,10 +23,12 @@ pub struct muoswyld_names {
     pub lives: [u8; 16],
 }
 
-/// Where something stands in the one order of its group. Compare the number first, then the index.
+/// Where something stands in the one order of its group. Compare the generation first, then the number, then the index.
 #[repr(C)]
 #[derive(Clone, Copy, Debug, Default, PartialEq, Eq)]
 pub struct muoswyld_position {
+    /// How many lists of the group came before this one, from 0.
+    pub generation: u32,
     /// The number of the entry, from 1.
     pub number: u32,
     /// The index among the messages of one entry, from 0.
@@ -115,6 +117,7 @@ impl From<Names> for muoswyld_names {
 impl From<Position> for muoswyld_position {
     fn from(at: Position) -> muoswyld_position {
         muoswyld_position {
+            generation: at.generation,
             number: at.number,
             index: at.index,
         }

@@ -3,7 +3,7 @@
 //!
 //!     cargo run --release --example load -- PLACE RESILIENCE open|sealed ADDRESS..
 //!
-//! `bench/runtime/run` starts one for each address, and has the lines (`Process` in its groups.py). Times are nanoseconds of
+//! `bench/peers/run` starts one for each address, and has the lines (`Process` in its groups.py). Times are nanoseconds of
 //! the system's monotonic clock, which all processes of a machine share.
 
 use muoswyld_group::{Config, Delivery, Group, Key, Name};

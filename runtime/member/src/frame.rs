@@ -373,6 +373,31 @@ mod tests {
     }
 
     #[test]
+    fn what_is_said_of_an_entry_has_the_bytes_that_the_page_says() {
+        for (kind, said) in [(5, Said::Asked), (6, Said::Stands), (7, Said::IsAbove)] {
+            let bytes = [
+                kind, 0, 0, 0, 0, 0, 0, 0, 9, 0x21, 1, 2, 3, 4, 5, 6, 7, 8, 0, 0, 1, 2,
+            ];
+            assert_eq!(entry(9, ME, 258, said), bytes);
+            let (group, from, number) = (9, ME, 258);
+            let wanted = Frame::Entry {
+                group,
+                from,
+                number,
+                said,
+            };
+            assert_eq!(read(&bytes), Some(wanted));
+            assert_eq!(group_of(&bytes), Some(9));
+            for length in 0..bytes.len() {
+                assert_eq!(read(&bytes[..length]), None);
+            }
+        }
+        assert_eq!(group_of(&begin(7, ME, 0)), Some(7));
+        assert_eq!(group_of(&ask(3, ME, 4)), None);
+        assert_eq!(group_of(&[5, 1]), None);
+    }
+
+    #[test]
     fn wrong_forms_are_refused() {
         let packet = [0; 12];
         let letter = Letter {

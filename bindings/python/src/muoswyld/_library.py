@@ -23,7 +23,7 @@ class CNames(Structure):
 class CPosition(Structure):
     """`muoswyld_position`."""
 
-    _fields_ = [("number", c_uint32), ("index", c_uint32)]
+    _fields_ = [("generation", c_uint32), ("number", c_uint32), ("index", c_uint32)]
 
 
 class CDelivery(Structure):

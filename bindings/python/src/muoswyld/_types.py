@@ -41,6 +41,8 @@ class Name:
 class Position:
     """Where something stands in the one order of its group."""
 
+    generation: int
+    """How many lists of the group came before this one, from 0."""
     number: int
     """The number of the entry, from 1."""
     index: int = 0
@@ -102,6 +104,10 @@ class End(enum.Enum):
     """Its numbers are used up."""
     FAILED = 7
     """It could not go on."""
+    SUPERSEDED = 8
+    """It joined after the end of its list, which another one follows. Its place can come back in that one."""
+    OTHER_VERSION = 9
+    """The list has something that only a later version of this library understands."""
 
 
 class Role(enum.Enum):
@@ -174,7 +180,7 @@ def names_of(names: CNames) -> tuple[Name, ...]:
 
 def position_of(at: CPosition) -> Position:
     """The position that the library gave."""
-    return Position(at.number, at.index)
+    return Position(at.generation, at.number, at.index)
 
 
 def delivery_of(delivery: CDelivery, message: bytes) -> Delivery:
