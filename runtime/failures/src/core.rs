@@ -5,7 +5,7 @@ use crate::echoes::Echoes;
 use crate::event::{Input, NoVoter, Notice, Output};
 use crate::fences::Fences;
 use crate::gate::Gate;
-use crate::message::{Echo, Heard, Heartbeat, Message, MOST_HEARD};
+use crate::message::{Echo, Heard, Heartbeat, Message};
 use crate::names::{Name, NameSet};
 use crate::peers::Peers;
 use crate::settings::{Plant, Policy, Settings, StartError};
@@ -30,6 +30,7 @@ pub struct Failures {
     pub(crate) is_urgent: bool,
     pub(crate) ended: bool,
     pub(crate) was_frozen: bool,
+    other_ids: NameSet,
     started: Time,
     next_heartbeat: Time,
     promised: Time,
@@ -64,6 +65,7 @@ impl Failures {
             is_urgent: false,
             ended: false,
             was_frozen: false,
+            other_ids: NameSet::default(),
             started: now,
             next_heartbeat: now,
             promised: now,
@@ -96,6 +98,11 @@ impl Failures {
         self.go_on(was_paused);
     }
 
+    /// A name has run: something else than a message of this crate came of it. A founder that never ran isn't suspected.
+    pub fn note_ran(&mut self, name: Name) {
+        self.peers.ran.insert(name);
+    }
+
     /// What is to be done, in this order.
     pub fn take(&mut self) -> Vec<Output> {
         std::mem::take(&mut self.outputs)
@@ -119,6 +126,16 @@ impl Failures {
         self.settings.name
     }
 
+    /// What makes it certain that a name has stopped.
+    pub fn policy(&self) -> Policy {
+        self.settings.policy
+    }
+
+    /// Whether this life was given up.
+    pub fn is_ended(&self) -> bool {
+        self.ended
+    }
+
     pub(crate) fn has(&self, plant: Plant) -> bool {
         self.settings.plant == Some(plant)
     }
@@ -139,6 +156,9 @@ impl Failures {
             }
             Some(Message::Echo(echo)) if echo.id == self.settings.id => {
                 self.echoes.hear(echo.voter, echo.heard, self.now);
+            }
+            Some(Message::Heartbeat(heartbeat)) if self.other_ids.insert(heartbeat.from.name) => {
+                self.note(Notice::OtherId(heartbeat.from.name));
             }
             _ => {}
         }
@@ -165,11 +185,19 @@ impl Failures {
         }
     }
 
+    /// A view stands from now on, or a member came or went. If this name came all silences begin anew; else only those of who came: a
+    /// place that comes and goes again and again mustn't hide that another one is silent.
     fn view_stands(&mut self, members: NameSet, least: u8) {
-        self.view = members;
+        let before = std::mem::replace(&mut self.view, members);
         self.settings.least = least;
+        let came = members.without(&before);
+        for name in came.iter() {
+            self.peers.came.insert(name, self.now);
+        }
         self.candidate = Candidate::default();
-        self.peers.since = self.now;
+        if came.has(self.settings.name) {
+            self.peers.since = self.now;
+        }
     }
 
     /// Its place is no voter of this group any more: it echoes nobody and refuses nobody. It comes back with the next group.
@@ -207,8 +235,6 @@ impl Failures {
         let me = self.settings.name;
         let mut heard = self.voter.as_ref().map_or(Vec::new(), Voter::echoes);
         heard.retain(|one| one.name.place() != me.place());
-        let more = heard.len().saturating_sub(MOST_HEARD);
-        heard.drain(..more);
         if let Some(voter) = &mut self.voter {
             // its own place votes too, for the same heartbeat
             voter.hear(from, self.now);

@@ -76,6 +76,8 @@ pub enum Notice {
     Wants(Name),
     /// It refuses a name for ever.
     Refuses(Name),
+    /// What comes of a name has another id, and counts for nothing.
+    OtherId(Name),
     /// It may not act until a majority of the voters echoes.
     Frozen,
     /// It may act again.

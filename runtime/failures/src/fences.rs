@@ -7,7 +7,7 @@ use crate::settings::Policy;
 use crate::time::Time;
 use std::collections::BTreeMap;
 
-/// How many silences a fence may take.
+/// How many silences a fence may take, where nothing else is said.
 const MOST_SILENCES: u64 = 20;
 
 /// A fence of a name.
@@ -46,15 +46,18 @@ impl Failures {
             until: self.now.after(self.rank() * silence),
             failed: 0,
         };
+        let usual = silence.saturating_mul(MOST_SILENCES);
+        let within = self.settings.fence_within.unwrap_or(usual);
         let now = self.now;
         let fence = self.fences.0.entry(name).or_insert(first);
-        if fence.is_running && now >= fence.until {
+        // whoever runs it says at its limit that it isn't done, and a silence later nothing is waited for
+        if fence.is_running && now >= fence.until.after(silence) {
             fence.is_running = false;
             fence.failed += 1;
         }
         if !fence.is_running && now >= fence.until {
             fence.is_running = true;
-            fence.until = now.after(silence.saturating_mul(MOST_SILENCES));
+            fence.until = now.after(within);
             let until = fence.until;
             self.outputs.push(Output::Fence { name, until });
         }

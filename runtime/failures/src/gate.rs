@@ -151,6 +151,11 @@ impl Failures {
         matches!(self.gate, Gate::Fixed { .. })
     }
 
+    /// Whether a look said that the batch may go out, and it isn't out yet.
+    pub fn is_out(&self) -> bool {
+        self.gate == Gate::Out
+    }
+
     /// Tells when it freezes and when it thaws.
     pub(crate) fn note_freeze(&mut self) {
         let is_frozen = self.frozen_since().is_some();

@@ -37,6 +37,10 @@ pub(crate) struct Peers {
     /// Whether a majority of the voters was heard.
     pub(crate) hears_majority: bool,
     pub(crate) suspects: NameSet,
+    /// Since when a member that came later is one.
+    pub(crate) came: BTreeMap<Name, Time>,
+    /// Who was heard, ever, by this process or by a voter.
+    pub(crate) ran: NameSet,
     /// Which voters said, ever, that their refusal of a name is ripe. Old statements are true for ever.
     pub(crate) ripe: BTreeMap<Name, NameSet>,
     /// When the first refusal of a name was heard.
@@ -70,6 +74,10 @@ impl Failures {
             refuses: heartbeat.refuses,
         };
         self.peers.all.insert(from.name, peer);
+        self.peers.ran.insert(from.name);
+        for heard in &heartbeat.heard {
+            self.peers.ran.insert(heard.name);
+        }
         for name in earlier_lives(from.name) {
             self.stop(name);
         }
@@ -170,9 +178,19 @@ impl Failures {
         self.peers.suspects = suspects;
     }
 
+    /// Whether a founder hasn't begun yet, as far as a founder knows that has been there from the beginning.
+    fn is_awaited(&self, name: Name) -> bool {
+        let founders = self.settings.members;
+        founders.has(self.settings.name) && founders.has(name) && !self.peers.ran.has(name)
+    }
+
     fn is_silent(&self, name: Name) -> bool {
+        if self.is_awaited(name) {
+            return false;
+        }
         let silence = self.settings.silence;
-        let since = self.peers.since;
+        let came = self.peers.came.get(&name).copied();
+        let since = self.peers.since.max(came.unwrap_or_default());
         let peer = self.peers.all.get(&name);
         let heard_at = peer.map_or(since, |peer| peer.heard_at.max(since));
         if self.now.since(heard_at) >= silence {

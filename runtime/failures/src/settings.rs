@@ -102,6 +102,8 @@ pub struct Settings {
     pub delay: u64,
     /// After how many microseconds of silence a name is suspected.
     pub silence: u64,
+    /// How many microseconds a fence may take; None: twenty silences.
+    pub fence_within: Option<u64>,
     #[doc(hidden)]
     pub plant: Option<Plant>,
     /// As a test wants it: times and voters of any kind. What is let out is right whatever the times are.
@@ -134,6 +136,7 @@ impl Settings {
             period: 100_000,
             delay: 50_000,
             silence: 0,
+            fence_within: None,
             plant: None,
             unchecked: false,
         };

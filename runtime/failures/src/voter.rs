@@ -140,10 +140,15 @@ impl Voter {
         true
     }
 
-    /// The echoes for a heartbeat of its own.
+    /// The echoes for a heartbeat of its own: of each place's latest life, so that a heartbeat fits in a datagram.
     pub(crate) fn echoes(&self) -> Vec<Heard> {
-        let refused = |heard: &&Heard| !self.refused.has(heard.name);
-        self.heard.values().filter(refused).copied().collect()
+        let mut latest: BTreeMap<u8, Heard> = BTreeMap::new();
+        // lives of a place stand in their order
+        for heard in self.heard.values() {
+            latest.insert(heard.name.place(), *heard);
+        }
+        let refused = |heard: &Heard| !self.refused.has(heard.name);
+        latest.into_values().filter(refused).collect()
     }
 
     /// Whether it has refused a name.

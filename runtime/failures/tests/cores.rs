@@ -244,3 +244,58 @@ fn a_failed_write_ends_the_vote() {
     core.handle(Time(1), Input::NotWritten);
     assert_eq!(core.info().no_voter, Some(NoVoter::NotWritten));
 }
+
+/// Founders that begin one after the other don't give up who hasn't begun; but who has run is suspected once it is silent.
+#[test]
+fn a_founder_that_never_ran_is_waited_for() {
+    /// Whom the first of some cores suspects after ten seconds in which all hear each other.
+    fn suspects(cores: &mut [Failures]) -> NameSet {
+        for turn in 0..100 {
+            exchange(cores, Time(turn * 100_000));
+        }
+        cores[0].info().suspects
+    }
+    let echo = |place| core(place, 0b111, Policy::Echo);
+    let mut founders = [echo(0), echo(1)];
+    assert!(suspects(&mut founders).is_empty());
+    founders[0].note_ran(Name::first(2));
+    founders[0].handle(Time(10_000_000), Input::Time);
+    assert!(founders[0].info().suspects.has(Name::first(2)));
+    // a later life hasn't been there from the beginning, and may have missed it
+    let later = Name::first(0).next_life().expect("a life");
+    let mut settings = Settings::new(ID, later, 9, 0b111, Policy::Echo);
+    settings.silence = settings.least_silence();
+    let back = Failures::new(settings, None, Time(0)).expect("settings");
+    let found = suspects(&mut [back.clone(), echo(1)]);
+    assert!(found.has(Name::first(2)), "{found:?}");
+    let found = suspects(&mut [back, echo(1), echo(2)]);
+    assert!(!found.has(Name::first(2)), "{found:?}");
+}
+
+/// Who comes again and again doesn't hide that another one is silent.
+#[test]
+fn a_member_that_comes_begins_its_own_silence_alone() {
+    let mut cores: Vec<Failures> = (0..3)
+        .map(|place| core(place, 0b111, Policy::Echo))
+        .collect();
+    exchange(&mut cores, Time(0));
+    let mut gone = None;
+    let mut name = Name::first(5);
+    for turn in 1..40 {
+        let now = Time(turn * 50_000);
+        let running = &mut cores[..2];
+        exchange(running, now);
+        let members = [Name::first(0), Name::first(1), Name::first(2), name];
+        name = match turn % 2 {
+            0 => name.next_life().unwrap_or(name),
+            _ => name,
+        };
+        let members: NameSet = members.into_iter().collect();
+        running[0].handle(now, Input::View { members, least: 2 });
+        if running[0].info().suspects.has(Name::first(2)) {
+            gone = gone.or(Some(now));
+        }
+    }
+    println!("suspected at {gone:?}");
+    assert!(gone.is_some());
+}

@@ -140,3 +140,53 @@ fn no_bytes_make_a_core_panic() {
     }
     assert!(read > 10_000);
 }
+
+/// The longest heartbeat of a process fits in the smallest datagram of a member, whatever it has heard.
+#[test]
+fn the_longest_heartbeat_fits_in_a_datagram() {
+    let id = [1; 16];
+    let settings = Settings::new(id, Name::first(0), 1, 0x7fff, Policy::Echo);
+    let file = new_file(id, 0);
+    let mut core = Failures::new(settings, Some(&file), Time(0)).expect("settings");
+    for byte in 0..=255u8 {
+        let name = Name::of_byte(byte);
+        let mut heartbeat = heartbeat_of(id, name);
+        heartbeat.counter = Some(0);
+        let message = Message::Heartbeat(Box::new(heartbeat)).to_bytes();
+        core.handle(Time(1), Input::Datagram(&message));
+    }
+    core.handle(Time(10_000_000), Input::Time);
+    let sent = core.take().into_iter().filter_map(|output| match output {
+        muoswyld_failures::Output::Send { payload, .. } => Some(payload),
+        _ => None,
+    });
+    let longest = sent.max_by_key(Vec::len).expect("a heartbeat");
+    let Some(Message::Heartbeat(heartbeat)) = Message::read(&longest) else {
+        panic!("it is no heartbeat");
+    };
+    assert_eq!(heartbeat.heard.len(), 15);
+    assert!(longest.len() <= 700, "{}", longest.len());
+}
+
+fn heartbeat_of(id: [u8; 16], name: Name) -> Heartbeat {
+    let none = NameSet::default();
+    Heartbeat {
+        id,
+        from: Heard {
+            name,
+            process: 1,
+            sequence: 1,
+        },
+        asks: false,
+        counter: None,
+        frozen_for: None,
+        members: none,
+        suspects: none,
+        wants: none,
+        refuses: none,
+        ripe: none,
+        stopped: none,
+        heard: Vec::new(),
+        counters: Vec::new(),
+    }
+}

@@ -1,6 +1,7 @@
 //! What a member of a group is started with.
 
 use crate::addresses::{Addresses, BadAddress};
+use crate::failures::{FailureSettings, Policy};
 use crate::seal::Key;
 use muoswyld::names::{Name, Names};
 use muoswyld_member::{Delivery, Founding, Notice};
@@ -56,6 +57,7 @@ pub struct Config {
     pub(crate) spin: Duration,
     pub(crate) journal: Option<PathBuf>,
     pub(crate) start_within: Option<Duration>,
+    pub(crate) failures: FailureSettings,
     pub(crate) on_notice: Option<Callback<Notice>>,
     pub(crate) on_delivery: Option<Callback<Delivery>>,
     pub(crate) on_arrival: Option<Callback<()>>,
@@ -85,6 +87,7 @@ impl Config {
             spin: Duration::ZERO,
             journal: None,
             start_within: None,
+            failures: FailureSettings::default(),
             on_notice: None,
             on_delivery: None,
             on_arrival: None,
@@ -180,6 +183,44 @@ impl Config {
     /// How long `create` and `join` wait at most until the member is in the group; without end if it isn't set.
     pub fn start_within(mut self, time: Duration) -> Config {
         self.start_within = Some(time);
+        self
+    }
+
+    /// What makes it certain that a name has stopped. If it isn't set it is [`Policy::Echo`] if voters and a folder of state are set, and
+    /// else [`Policy::Told`].
+    pub fn policy(mut self, policy: Policy) -> Config {
+        self.failures.policy = Some(policy);
+        self
+    }
+
+    /// The places that vote who has stopped: some of the founders, odd in number; all founders if it isn't set.
+    pub fn voters(mut self, voters: Names) -> Config {
+        self.failures.voters = Some(voters);
+        self
+    }
+
+    /// The place's folder of state, on a local disk, as [`Group::found`](crate::Group::found) makes it: which life was begun last, and
+    /// whom the place has refused. With it no life runs twice, and no two processes of the place run at a time.
+    pub fn state(mut self, folder: PathBuf) -> Config {
+        self.failures.state = Some(folder);
+        self
+    }
+
+    /// Between two heartbeats (100 ms), where the policy has them.
+    pub fn heartbeat(mut self, every: Duration) -> Config {
+        self.failures.period = every;
+        self
+    }
+
+    /// How much the time differs that datagrams take, usually (50 ms).
+    pub fn delay(mut self, delay: Duration) -> Config {
+        self.failures.delay = delay;
+        self
+    }
+
+    /// After how long a silent name is suspected; the shortest time that may be if it isn't set.
+    pub fn silence(mut self, silence: Duration) -> Config {
+        self.failures.silence = Some(silence);
         self
     }
 

@@ -1,6 +1,7 @@
 //! Why a call has no result.
 
 use crate::addresses::BadAddress;
+use crate::state::StateError;
 use muoswyld::names::Name;
 use muoswyld_member::{NotReset, StartError};
 use thiserror::Error;
@@ -74,6 +75,18 @@ pub enum CreateError {
     /// The settings name no member of a group.
     #[error(transparent)]
     Member(#[from] StartError),
+    /// A voter is none of the founders.
+    #[error("{0} is to vote and is none of the founders")]
+    Voter(Name),
+    /// The policy rests on voters, and there is no folder of state.
+    #[error("this policy wants a folder of state")]
+    NoState,
+    /// The folder of state isn't made, or isn't taken.
+    #[error(transparent)]
+    State(#[from] StateError),
+    /// The settings of who has stopped can't work.
+    #[error(transparent)]
+    Failures(#[from] muoswyld_failures::StartError),
     /// There is no key, and `insecure` isn't set.
     #[error("there is no key: without one anybody who reaches a member's address can end the group; `insecure` allows it")]
     NoKey,

@@ -2,9 +2,11 @@
 
 use crate::config::Config;
 use crate::error::{CreateError, End, LeaveError, ReceiveError, ResetError, SendError, ToldError};
+use crate::failures::FailuresInfo;
 use crate::shared::{Command, Shared};
 use crate::shell;
 use crate::slot::{deadline, Slot};
+use crate::state::State;
 use crate::ticket::Ticket;
 use muoswyld::names::Name;
 use muoswyld_member::{Delivery, Info, Position, MOST_MESSAGE};
@@ -40,6 +42,15 @@ impl Group {
             true => Err(CreateError::Founder(config.name)),
             false => Group::start(config),
         }
+    }
+
+    /// Makes the folder of state of a name that runs for the first time: once for each place, when the group is founded. A founder's
+    /// place that votes has its voter's file in it. A place that lost its disk has a new folder made with a life that was never begun:
+    /// it votes no more.
+    pub fn found(config: &Config) -> Result<(), CreateError> {
+        config.check_failures()?;
+        let folder = config.failures.state.as_ref().ok_or(CreateError::NoState)?;
+        Ok(State::make(folder, config.name, config.voter_id()?)?)
     }
 
     /// Creates a group or joins one, as the name says: a founder's first life creates, any other name joins.
@@ -202,6 +213,17 @@ impl Group {
     pub fn info(&self) -> Result<Info, End> {
         let slot = Slot::new();
         let asked = self.shared.command(Command::Info(slot.clone()), None);
+        // a command that is taken is answered, also at the member's end
+        match asked.ok().and_then(|()| slot.wait(None)) {
+            Some(info) => Ok(info),
+            None => Err(self.wait()),
+        }
+    }
+
+    /// Whom the member suspects, whom its place has refused, who has stopped, and for how long it may act; an error if it has ended.
+    pub fn failures(&self) -> Result<FailuresInfo, End> {
+        let slot = Slot::new();
+        let asked = self.shared.command(Command::Failures(slot.clone()), None);
         // a command that is taken is answered, also at the member's end
         match asked.ok().and_then(|()| slot.wait(None)) {
             Some(info) => Ok(info),

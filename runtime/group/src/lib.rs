@@ -26,23 +26,31 @@
 //! (`muoswyld-member`), is tested and not proved.
 
 mod addresses;
+mod asking;
+mod clock;
 mod config;
 mod error;
+mod failures;
+mod fencing;
 mod group;
 mod seal;
 mod shared;
 mod shell;
 mod slot;
 mod socket;
+mod state;
 mod ticket;
 
 pub use addresses::{Addresses, BadAddress};
+pub use asking::Facts;
 pub use config::Config;
 pub use error::{CreateError, End, LeaveError, ReceiveError, ResetError, SendError, ToldError};
+pub use failures::{Blocked, FailuresInfo, Policy};
 pub use group::Group;
 pub use muoswyld::names::{BadName, Name, Names, Stamp};
 pub use muoswyld_member::{
     Counts, Delivery, Founding, Info, NotReset, Notice, Position, Role, Standing,
 };
 pub use seal::Key;
+pub use state::{next_life, StateError};
 pub use ticket::Ticket;

@@ -82,6 +82,29 @@ fn derived(key: &Key, word: &[u8; WORD]) -> Option<LessSafeKey> {
         .map(LessSafeKey::new)
 }
 
+/// The length of an id.
+struct IdLength;
+
+impl KeyType for IdLength {
+    fn len(&self) -> usize {
+        16
+    }
+}
+
+/// An id of a group's key and a text: who has another key or another text has another id.
+pub(crate) fn id_of(key: Option<&Key>, text: &[u8]) -> io::Result<[u8; 16]> {
+    let none = [0; KEY];
+    let secret = Salt::new(HKDF_SHA256, b"muoswyld failures 1");
+    let secret = secret.extract(key.map_or(&none, |key| &key.0));
+    let mut id = [0; 16];
+    let info = [text];
+    let filled = secret
+        .expand(&info, IdLength)
+        .and_then(|key| key.fill(&mut id));
+    filled.map_err(|_| io::Error::other("no id was derived"))?;
+    Ok(id)
+}
+
 fn nonce(counter: u64) -> Nonce {
     let mut bytes = [0; NONCE_LEN];
     bytes[NONCE_LEN - 8..].copy_from_slice(&counter.to_be_bytes());

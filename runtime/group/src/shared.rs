@@ -1,6 +1,7 @@
 //! What a member's thread and its callers share: commands in one direction, deliveries in the other.
 
 use crate::error::{End, ReceiveError, ResetError, SendError, ToldError};
+use crate::failures::FailuresInfo;
 use crate::slot::{lock, wait_until, Slot};
 use crate::socket::Bell;
 use muoswyld::names::Name;
@@ -36,6 +37,12 @@ pub(crate) enum Command {
     Stopped { name: Name, slot: Arc<Slot<Told>> },
     /// Tells how the member stands.
     Info(Arc<Slot<Info>>),
+    /// Tells who is suspected, refused and given up.
+    Failures(Arc<Slot<FailuresInfo>>),
+    /// The voter's file with this number is on disk; None: it can't be written.
+    Written(Option<u64>),
+    /// What became of a fence.
+    Fenced { name: Name, done: bool },
     /// Ends the member without leaving.
     Stop,
 }

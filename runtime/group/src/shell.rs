@@ -1,51 +1,32 @@
 //! A member's thread: it carries datagrams, time and commands to the member, and what the member answers to the network and to
 //! the callers.
 
-use crate::addresses::Addresses;
+mod guarding;
+mod starting;
+
+use crate::asking;
+use crate::clock::Clock;
 use crate::config::{Callback, Config};
 use crate::error::{CreateError, End, ResetError, SendError, ToldError};
-use crate::seal::{fill, Seal};
+use crate::fencing::Fencing;
+use crate::seal::Seal;
 use crate::shared::{Command, Reset, Sent, Shared, Told};
 use crate::slot::Slot;
 use crate::socket::Udp;
 use muoswyld::names::{Name, Names};
+use muoswyld_guarded::Guarded;
 use muoswyld_member::{
-    Delivery, HandleError, Info, Input, Member, NotReset, Notice, Output, Position, Settings, Time,
-    Unsent,
+    Delivery, HandleError, Info, Input, NotReset, Notice, Output, Position, Time, Unsent,
 };
 use std::collections::HashMap;
-use std::fs::{File, OpenOptions};
-use std::io::{ErrorKind, Write};
-use std::os::unix::fs::OpenOptionsExt;
+use std::fs::File;
+use std::io::Write;
 use std::sync::Arc;
 use std::thread::JoinHandle;
-use std::time::{Duration, Instant, SystemTime};
+use std::time::{Duration, Instant};
 
 /// How many batches of datagrams are read before anything else is done: what comes faster is lost, and stops nothing.
 const MOST_BATCHES: usize = 6;
-
-/// Microseconds since 1970 as the system has them at a member's start, and from then on a clock that never goes back: the journals of
-/// members on one machine have one time.
-struct Clock {
-    began: Instant,
-    epoch: Duration,
-}
-
-impl Clock {
-    fn new() -> Clock {
-        let epoch = SystemTime::UNIX_EPOCH.elapsed();
-        Clock {
-            began: Instant::now(),
-            // a system that is set to a time before 1970 counts from 0
-            epoch: epoch.unwrap_or_default(),
-        }
-    }
-
-    fn now(&self) -> Time {
-        let now = self.epoch.saturating_add(self.began.elapsed());
-        Time(u64::try_from(now.as_micros()).unwrap_or(u64::MAX))
-    }
-}
 
 /// Who waits for a ticket.
 enum Waiter {
@@ -55,7 +36,11 @@ enum Waiter {
 
 /// A member with its network and its callers.
 struct Shell {
-    member: Member,
+    member: Guarded,
+    fencing: Fencing,
+    founders: Names,
+    /// What is told to whoever asks how the group was founded.
+    known: String,
     udp: Udp,
     seal: Seal,
     shared: Arc<Shared>,
@@ -70,6 +55,8 @@ struct Shell {
     deliveries: Vec<Delivery>,
     commands: Vec<Command>,
     datagram: Vec<u8>,
+    /// How many deliveries the application's call has taken of the batch that goes out.
+    consumed: usize,
     /// Datagrams that no member sealed, came from no member's address, or are too long.
     dropped: u64,
     /// How many datagrams of each place's address weren't sealed by the key.
@@ -80,77 +67,16 @@ struct Shell {
     busy: Instant,
 }
 
-/// The addresses of a member's group, with its own to bind.
-fn checked(config: &Config) -> Result<(), CreateError> {
-    for name in config.founding.founders.with(config.name).iter() {
-        if config.addresses.of(name.place()).is_none() {
-            return Err(CreateError::NoAddress(name.place()));
-        }
-    }
-    if config.key.is_none() && !config.insecure {
-        return Err(CreateError::NoKey);
-    }
-    Ok(())
-}
-
-/// Sixty-four random bits.
-fn random_word() -> std::io::Result<u64> {
-    let mut bytes = [0; 8];
-    fill(&mut bytes)?;
-    Ok(u64::from_be_bytes(bytes))
-}
-
-fn settings_of(config: &Config) -> std::io::Result<Settings> {
-    let mut settings = Settings::new(config.name, config.founding, random_word()?);
-    settings.seed = random_word()?;
-    settings.least = config.least;
-    settings.most_waiting = config.most_waiting.max(1 << 17);
-    settings.deliveries = config.most_unreceived;
-    settings.datagram = config.datagram;
-    settings.slow_tick = u64::try_from(config.tick.as_micros()).unwrap_or(u64::MAX);
-    settings.journal = config.journal.is_some();
-    Ok(settings)
-}
-
-/// A new file that others can't read.
-fn journal_of(config: &Config) -> std::io::Result<Option<File>> {
-    let Some(path) = &config.journal else {
-        return Ok(None);
-    };
-    let mut options = OpenOptions::new();
-    options.write(true).create_new(true).mode(0o600);
-    let cannot = |error: std::io::Error| match error.kind() {
-        ErrorKind::AlreadyExists => "it is there, and a name never runs twice".to_string(),
-        _ => error.to_string(),
-    };
-    let opened = options.open(path);
-    let opened = opened.map_err(|error| {
-        let why = format!("the journal {}: {}", path.display(), cannot(error));
-        std::io::Error::other(why)
-    });
-    opened.map(Some)
-}
-
-/// A member that begins, and its journal. A name that doesn't begin has none.
-fn begun(
-    settings: Settings,
-    now: Time,
-    config: &Config,
-) -> Result<(Member, Option<File>), CreateError> {
-    let member = Member::new(settings, now)?;
-    Ok((member, journal_of(config)?))
-}
-
 /// Starts a member's thread.
 pub(crate) fn start(config: Config) -> Result<(Arc<Shared>, JoinHandle<()>), CreateError> {
-    checked(&config)?;
+    starting::checked(&config)?;
     let shared = Arc::new(Shared::new(config.most_waiting, config.most_unreceived)?);
-    let settings = settings_of(&config)?;
+    let settings = starting::settings_of(&config)?;
     let seal = match &config.key {
         Some(key) => Seal::by(key)?,
         None => Seal::none(),
     };
-    let own = own_address(&config)?;
+    let own = starting::own_address(&config)?;
     let size = config.datagram + seal.overhead();
     let udp = Udp::bind(own, &config.addresses, size)?;
     let (starts, opened) = std::sync::mpsc::channel();
@@ -160,12 +86,15 @@ pub(crate) fn start(config: Config) -> Result<(Arc<Shared>, JoinHandle<()>), Cre
         .spawn(move || {
             // a node stays on the thread that opened it, so the member is made here
             let clock = Clock::new();
-            match begun(settings, clock.now(), &config) {
-                Ok((member, journal)) => {
+            match starting::begun(settings, clock.now(), &config, callers.clone()) {
+                Ok((member, fencing, journal)) => {
                     // whoever started this waits for it
                     let _heard = starts.send(Ok(()));
                     let mut shell = Shell {
                         member,
+                        fencing,
+                        founders: config.founding.founders,
+                        known: asking::known(&config),
                         udp,
                         seal,
                         shared: callers,
@@ -180,6 +109,7 @@ pub(crate) fn start(config: Config) -> Result<(Arc<Shared>, JoinHandle<()>), Cre
                         deliveries: Vec::new(),
                         commands: Vec::new(),
                         datagram: Vec::new(),
+                        consumed: 0,
                         dropped: 0,
                         unsealed: [0; 16],
                         spin: config.spin,
@@ -199,13 +129,6 @@ pub(crate) fn start(config: Config) -> Result<(Arc<Shared>, JoinHandle<()>), Cre
         // the thread ended before it said anything
         Err(_) => Err(CreateError::Ended(End::Failed("its thread ended".into()))),
     }
-}
-
-fn own_address(config: &Config) -> Result<std::net::SocketAddr, CreateError> {
-    let place = config.name.place();
-    let addresses: &Addresses = &config.addresses;
-    let own = config.bind.or_else(|| addresses.of(place));
-    own.ok_or(CreateError::NoAddress(place))
 }
 
 impl Shell {
@@ -229,8 +152,9 @@ impl Shell {
             if received > 0 {
                 self.handle(Input::Consumed(received));
             }
-            if self.member.wake() <= self.now() {
-                self.handle(Input::Time);
+            let now = self.now();
+            if self.member.wake() <= now {
+                self.member.tick(now);
             }
             if let Some(end) = self.let_out() {
                 return end;
@@ -259,19 +183,26 @@ impl Shell {
     /// Reads what came, a bounded number of datagrams.
     fn read(&mut self) -> std::io::Result<()> {
         for _ in 0..MOST_BATCHES {
-            let now = self.now();
             let (member, seal, udp) = (&mut self.member, &mut self.seal, &mut self.udp);
-            let mut unsealed = Vec::new();
+            let (clock, mut read) = (&self.clock, None);
+            let (mut unsealed, mut asked) = (Vec::new(), Vec::new());
             let brought = udp.receive(|place, datagram| match seal.open(datagram) {
                 Some(payload) => {
-                    // only messages can be refused
-                    let _taken = member.handle(now, Input::Datagram(payload));
+                    if let Some(nonce) = asking::nonce_of(payload) {
+                        return asked.push((place, nonce));
+                    }
+                    // read after the datagrams were received
+                    let now = *read.get_or_insert_with(|| clock.now());
+                    member.hear(now, payload);
                 }
                 None => unsealed.push(place),
             })?;
             self.dropped += (unsealed.len() + brought.strangers + brought.long) as u64;
             for place in unsealed {
                 self.refuse(place);
+            }
+            for (place, nonce) in asked {
+                self.answer(place, nonce);
             }
             if !brought.has_more {
                 break;
@@ -294,6 +225,15 @@ impl Shell {
         }
     }
 
+    /// Tells a place how the group was founded.
+    fn answer(&mut self, place: u8, nonce: asking::Nonce) {
+        let info = self.info();
+        let answer = asking::answer(&self.known, self.founders, &info, place, nonce);
+        if self.seal.seal(&answer, &mut self.datagram) {
+            self.udp.push(&self.datagram, std::iter::once(place));
+        }
+    }
+
     /// How the member stands, with what its network dropped.
     fn info(&self) -> Info {
         let mut info = self.member.info();
@@ -304,6 +244,10 @@ impl Shell {
     /// Does what callers asked for; the end, if one of them asked for it.
     fn do_commands(&mut self) -> Option<End> {
         let mut commands = std::mem::take(&mut self.commands);
+        if self.member.is_gated() {
+            // what is taken now is given in this turn
+            self.member.open(self.now());
+        }
         self.shared.take_commands(self.member.free(), &mut commands);
         if !commands.is_empty() {
             self.busy = Instant::now();
@@ -315,6 +259,11 @@ impl Shell {
                 Command::Leave => self.handle(Input::Leave),
                 Command::Stopped { name, slot } => slot.fill(self.stopped(name)),
                 Command::Info(slot) => slot.fill(self.info()),
+                Command::Failures(slot) => slot.fill(self.failures()),
+                Command::Written(number) => self.member.written(self.clock.now(), number),
+                Command::Fenced { name, done } => {
+                    self.member.fenced(self.clock.now(), name, done);
+                }
                 Command::Stop => end = Some(End::Stopped),
                 Command::Reset {
                     least,
@@ -363,19 +312,39 @@ impl Shell {
     }
 
     fn stopped(&mut self, name: Name) -> Told {
-        match self.member.handle(self.now(), Input::Stopped(name)) {
+        match self.member.told(self.now(), name) {
             Err(HandleError::Itself) => Err(ToldError::Itself),
             // nothing else is refused while the member runs
             _ => Ok(()),
         }
     }
 
-    /// Lets out what came of all that: the journal's lines first, then datagrams, then deliveries and answers. The end, if the
-    /// member has ended.
+    /// Lets out what came of all that, or holds it: all or nothing. The end, if the member has ended.
     fn let_out(&mut self) -> Option<End> {
-        let mut outputs = std::mem::take(&mut self.outputs);
+        self.member.fix(self.now());
+        if let Some(end) = self.do_deeds() {
+            return Some(end);
+        }
+        // read after the batch was complete
+        if !self.member.look(self.now()) {
+            self.udp.flush();
+            return None;
+        }
+        let end = self.emit();
         let now = self.now();
-        self.member.release(now, &mut outputs);
+        self.member.emitted(now);
+        let consumed = std::mem::take(&mut self.consumed);
+        if consumed > 0 {
+            self.handle(Input::Consumed(consumed));
+        }
+        end
+    }
+
+    /// Lets all of a batch out: the journal's lines first, then datagrams, then deliveries and answers. Meanwhile the member is given
+    /// nothing. The end, if it has ended.
+    fn emit(&mut self) -> Option<End> {
+        let mut outputs = std::mem::take(&mut self.outputs);
+        self.member.batch(self.now(), &mut outputs);
         let mut end = None;
         for output in outputs.drain(..) {
             match output {
@@ -422,7 +391,7 @@ impl Shell {
         match &self.on_delivery {
             Some(call) => {
                 (call.0)(delivery);
-                self.handle(Input::Consumed(1));
+                self.consumed += 1;
             }
             None => self.deliveries.push(delivery),
         }
@@ -451,7 +420,10 @@ impl Shell {
 
     /// A message was delivered, or won't be.
     fn settle(&mut self, ticket: u64, result: Result<Position, Unsent>) {
-        let ended = || self.member.info().ended.map_or(End::Stopped, End::from);
+        let ended = || {
+            let ended = self.member.member().info().ended;
+            ended.map_or(End::Stopped, End::from)
+        };
         let result = result.map_err(|why| match why {
             Unsent::NotSent => SendError::NotSent(ended()),
             Unsent::Unknown => SendError::Ended(ended()),
@@ -486,8 +458,9 @@ impl Shell {
                 Command::Send { slot, .. } => slot.fill(Err(SendError::NotSent(end.clone()))),
                 Command::Reset { slot, .. } => slot.fill(Err(ResetError::Ended(end.clone()))),
                 Command::Info(slot) => slot.fill(self.info()),
+                Command::Failures(slot) => slot.fill(self.failures()),
                 Command::Stopped { slot, .. } => slot.fill(Err(ToldError::Ended(end.clone()))),
-                Command::Leave | Command::Stop => {}
+                Command::Leave | Command::Stop | Command::Written(_) | Command::Fenced { .. } => {}
             }
         }
         for (_, waiter) in self.waiters.drain() {

@@ -164,6 +164,12 @@ impl Udp {
         self.outgoing.extend(many);
     }
 
+    /// As [`push`](Udp::push), for those of the places that have an address.
+    pub fn push_known(&mut self, datagram: &[u8], places: impl Iterator<Item = u8>) {
+        let known: Vec<u8> = self.addresses.iter().map(|(place, _)| *place).collect();
+        self.push(datagram, places.filter(|place| known.contains(place)));
+    }
+
     /// Sends all that was added. What the system doesn't take is lost, as a network loses it, and counted.
     pub fn flush(&mut self) {
         let mut at = 0;

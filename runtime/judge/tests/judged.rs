@@ -3,6 +3,7 @@
 use muoswyld_judge::feed::Over;
 use muoswyld_judge::{judge, Asked, Cause, Finding, Judged};
 use muoswyld_member::Name;
+use muoswyld_simulator::plan::FencedPlan;
 use muoswyld_simulator::{journals, run, Plan};
 use std::collections::BTreeMap;
 use std::path::{Path, PathBuf};
@@ -94,6 +95,20 @@ fn simulated_runs_are_judged_as_play_does() {
     let folder = Folder::new("runs");
     for seed in 1..=SEEDS {
         void_from(&folder, &journals_of(seed), seed);
+    }
+}
+
+/// Members that find out by themselves who has stopped: what is held when a life was given up isn't in its journal.
+#[test]
+fn runs_without_a_word_from_outside_are_judged() {
+    let folder = Folder::new("fenced");
+    for seed in 1..=SEEDS {
+        for fenced in [FencedPlan::echo(), FencedPlan::lease(100)] {
+            let all = journals_by(Plan::fenced(seed, fenced));
+            let found = judged(&folder.0.join("run"), &all, None);
+            let judged = found.unwrap_or_else(|finding| panic!("seed {seed}: {finding}"));
+            assert_eq!(judged.lives, all.len() as u64);
+        }
     }
 }
 

@@ -3,7 +3,7 @@
 use clap::Parser;
 use muoswyld_kv::options::{Verb, Words};
 use muoswyld_kv::run;
-use muoswyldd::key;
+use muoswyldd::{failing, key};
 use std::process::ExitCode;
 
 fn main() -> ExitCode {
@@ -18,6 +18,9 @@ fn main() -> ExitCode {
     };
     let done = match words.verb {
         Verb::Run(run) => run::run(*run),
+        Verb::Found(run) => run
+            .with_file()
+            .and_then(|run| failing::make_state(&run.member)),
         Verb::Keygen { file } => key::make(&file),
     };
     match done {

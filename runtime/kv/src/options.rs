@@ -21,6 +21,8 @@ pub struct Words {
 pub enum Verb {
     /// Runs a store
     Run(Box<Run>),
+    /// Makes a place's folder of state, once, when the group is founded; the words are those of `run`
+    Found(Box<Run>),
     /// Writes a new key file, for all members of a group
     Keygen {
         /// The file to make

@@ -3,7 +3,7 @@
 
 use crate::exit::{Fault, CANT_CREATE, CONFIG, IO, UNAVAILABLE};
 use crate::show::object;
-use muoswyld_group::{Group, Name, ReceiveError};
+use muoswyld_group::{Blocked, FailuresInfo, Group, Info, Name, Names, ReceiveError};
 use serde_json::{json, Value};
 use std::io::{BufRead, BufReader, Read, Write};
 use std::os::unix::net::{UnixListener, UnixStream};
@@ -98,9 +98,9 @@ impl Command {
                 Ok(()) => json!({ "told": name.to_string() }),
                 Err(error) => refused(&error),
             },
-            Command::Status => match group.info() {
-                Ok(info) => status(&info),
-                Err(end) => refused(&end),
+            Command::Status => match (group.info(), group.failures()) {
+                (Ok(info), Ok(failures)) => status(&info, &failures),
+                (Err(end), _) | (_, Err(end)) => refused(&end),
             },
             Command::Deliveries => {
                 refused(&"--output socket gives deliveries to one caller at the socket")
@@ -110,10 +110,9 @@ impl Command {
 }
 
 /// How a member stands, as JSON.
-fn status(info: &muoswyld_group::Info) -> Value {
-    let names = |names: muoswyld_group::Names| -> Vec<String> {
-        names.iter().map(|name| name.to_string()).collect()
-    };
+fn status(info: &Info, failures: &FailuresInfo) -> Value {
+    let names =
+        |names: Names| -> Vec<String> { names.iter().map(|name| name.to_string()).collect() };
     let standing = &info.standing;
     json!({
         "name": info.name.to_string(),
@@ -133,6 +132,26 @@ fn status(info: &muoswyld_group::Info) -> Value {
         "stopped": names(info.stopped),
         "round-trip-microseconds": info.round_trip,
         "leaves": info.leaves,
+        "failures": failures_status(failures),
+    })
+}
+
+/// Who is suspected, refused, given up and frozen, as JSON.
+fn failures_status(info: &FailuresInfo) -> Value {
+    let names = |names: &[Name]| -> Vec<String> { names.iter().map(Name::to_string).collect() };
+    let milliseconds = |time: Option<Duration>| time.map(|time| time.as_millis() as u64);
+    let blocked =
+        |it: &Blocked| json!({ "name": it.name.to_string(), "refused-by": it.refused_by });
+    json!({
+        "policy": info.policy,
+        "suspected": names(&info.suspects),
+        "refused": names(&info.refused),
+        "stopped": names(&info.stopped),
+        "votes": info.votes,
+        "why-no-vote": info.why_no_vote,
+        "frozen-for-milliseconds": milliseconds(info.frozen_for),
+        "may-act-for-milliseconds": milliseconds(info.may_act_for),
+        "blocked": info.blocked.iter().map(blocked).collect::<Vec<Value>>(),
     })
 }
 

@@ -5,6 +5,7 @@
 
 pub mod control;
 pub mod exit;
+pub mod failing;
 pub mod key;
 pub mod log;
 pub mod metrics;

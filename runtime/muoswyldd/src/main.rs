@@ -4,7 +4,7 @@ use clap::Parser;
 use muoswyldd::control::{ask, Command};
 use muoswyldd::exit::Fault;
 use muoswyldd::options::{Verb, Words};
-use muoswyldd::{key, run};
+use muoswyldd::{failing, key, run};
 use std::process::ExitCode;
 
 fn main() -> ExitCode {
@@ -26,6 +26,7 @@ fn main() -> ExitCode {
 fn done(verb: Verb) -> Result<(), Fault> {
     let (at, command) = match verb {
         Verb::Run(run) => return run::run(*run),
+        Verb::Found(run) => return failing::found(*run),
         Verb::Keygen { file } => return key::make(&file),
         Verb::Send { at, message } => (at, Command::Send(message.into_bytes())),
         Verb::Leave { at } => (at, Command::Leave),

@@ -1,10 +1,11 @@
 //! Metrics for Prometheus, over HTTP.
 
 use crate::exit::{Fault, SYSTEM};
-use muoswyld_group::{Group, Info};
+use muoswyld_group::{End, FailuresInfo, Group, Info};
 use prometheus::{Encoder, IntGauge, Registry, TextEncoder};
 use std::net::SocketAddr;
 use std::sync::Arc;
+use std::time::Duration;
 use tiny_http::{Header, Response, Server};
 
 /// A metric: its name, what it is, and its value.
@@ -25,9 +26,9 @@ pub fn serve(
         .spawn(move || {
             for request in server.incoming_requests() {
                 let is_known = matches!(request.url(), "/metrics" | "/");
-                let (status, text) = match (is_known, group.info()) {
+                let (status, text) = match (is_known, all_of(&group)) {
                     (false, _) => (404, "metrics are at /metrics\n".into()),
-                    (true, Ok(info)) => (200, text_of(&info, more()).unwrap_or_default()),
+                    (true, Ok(values)) => (200, text_of(values, more()).unwrap_or_default()),
                     (true, Err(end)) => (503, format!("{end}\n")),
                 };
                 let mut response = Response::from_string(text).with_status_code(status);
@@ -161,10 +162,64 @@ fn values(info: &Info) -> Vec<Value> {
     ]
 }
 
+/// What is told of who has stopped.
+fn failure_values(info: &FailuresInfo) -> Vec<Value> {
+    let milliseconds = |time: Option<Duration>| time.map_or(0, |time| time.as_millis() as u64);
+    vec![
+        (
+            "muoswyld_suspected_members",
+            "members that weren't heard for too long",
+            info.suspects.len() as u64,
+        ),
+        (
+            "muoswyld_refused_names",
+            "names that this place has refused",
+            info.refused.len() as u64,
+        ),
+        (
+            "muoswyld_stopped_names",
+            "names that have stopped for certain",
+            info.stopped.len() as u64,
+        ),
+        (
+            "muoswyld_blocked_names",
+            "frozen names that too few voters have refused to give them up",
+            info.blocked.len() as u64,
+        ),
+        (
+            "muoswyld_votes",
+            "1 if this place votes who has stopped, else 0",
+            u64::from(info.votes),
+        ),
+        (
+            "muoswyld_frozen",
+            "1 if the member may not act until a majority of the voters echoes, else 0",
+            u64::from(info.frozen_for.is_some()),
+        ),
+        (
+            "muoswyld_frozen_milliseconds",
+            "for how long it has been frozen",
+            milliseconds(info.frozen_for),
+        ),
+        (
+            "muoswyld_may_act_milliseconds",
+            "for how long it may still act by what was echoed",
+            milliseconds(info.may_act_for),
+        ),
+    ]
+}
+
+/// All that is told of a member that runs.
+fn all_of(group: &Group) -> Result<Vec<Value>, End> {
+    let mut all = values(&group.info()?);
+    all.extend(failure_values(&group.failures()?));
+    Ok(all)
+}
+
 /// The metrics as text.
-fn text_of(info: &Info, more: Vec<Value>) -> prometheus::Result<String> {
+fn text_of(values: Vec<Value>, more: Vec<Value>) -> prometheus::Result<String> {
     let registry = Registry::new();
-    for (name, help, value) in values(info).into_iter().chain(more) {
+    for (name, help, value) in values.into_iter().chain(more) {
         let gauge = IntGauge::new(name, help)?;
         gauge.set(i64::try_from(value).unwrap_or(i64::MAX));
         registry.register(Box::new(gauge))?;

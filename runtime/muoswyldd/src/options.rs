@@ -1,6 +1,7 @@
 //! The words of the command, and the configuration file that may stand in their place.
 
 use crate::exit::{Fault, CONFIG, NO_INPUT};
+use crate::failing::{missing, By};
 use crate::key;
 use crate::show::Form;
 use clap::{Args, Parser, Subcommand, ValueEnum};
@@ -25,6 +26,8 @@ pub struct Words {
 pub enum Verb {
     /// Runs a member
     Run(Box<Run>),
+    /// Makes a place's folder of state, once, when the group is founded; the words are those of `run`
+    Found(Box<Run>),
     /// Writes a new key file, for all members of a group
     Keygen {
         /// The file to make
@@ -122,6 +125,10 @@ pub struct Run {
     pub address: Vec<(u8, String)>,
     #[arg(skip)]
     addresses: BTreeMap<String, String>,
+    /// An address of a member of the group, as host:7000, at which this one asks for founders, numbers, policy, voters and addresses that
+    /// aren't said here; may be said several times
+    #[arg(long, value_name = "HOST:PORT")]
+    pub seed: Vec<String>,
     /// The address to bind, if it isn't the one at which others reach this member
     #[arg(long, value_name = "ADDRESS:PORT")]
     pub bind: Option<SocketAddr>,
@@ -173,6 +180,40 @@ pub struct Run {
     /// How logs are written [default: text]
     #[arg(long, value_enum)]
     pub log_form: Option<LogForm>,
+    /// What makes it certain that a name has stopped [default: echo if --voters and --state are said, else told]
+    #[arg(long, value_enum)]
+    pub failures: Option<By>,
+    /// The places that vote who has stopped: founders, odd in number, as 0,1,2 [default: the founders]
+    #[arg(long, value_name = "PLACES")]
+    #[serde(deserialize_with = "by_text")]
+    pub voters: Option<Names>,
+    /// This place's folder of state on a local disk, which `muoswyldd found` makes
+    #[arg(long, value_name = "FOLDER")]
+    pub state: Option<PathBuf>,
+    /// Runs the next life of the place that was never begun, as the folder of state says
+    #[arg(long)]
+    pub next_life: bool,
+    /// For --failures command: the program that ends the name which is its one argument, and ends with 0 once that is done
+    #[arg(long, value_name = "PROGRAM")]
+    pub fence: Option<PathBuf>,
+    /// Seconds that this program may take; then it is killed [default: 30]
+    #[arg(long, value_name = "SECONDS")]
+    pub fence_within: Option<u64>,
+    /// For --failures lease: milliseconds that a lease lasts [default: 1000]
+    #[arg(long, value_name = "MILLISECONDS")]
+    pub lease: Option<u64>,
+    /// For --failures lease: by how many thousandths the rate of a machine's clock may be off [default: 100]
+    #[arg(long, value_name = "THOUSANDTHS")]
+    pub drift: Option<u64>,
+    /// Milliseconds between two heartbeats [default: 100]
+    #[arg(long, value_name = "MILLISECONDS")]
+    pub heartbeat: Option<u64>,
+    /// Milliseconds by which the time differs that datagrams take, usually [default: 50]
+    #[arg(long, value_name = "MILLISECONDS")]
+    pub delay: Option<u64>,
+    /// Milliseconds of silence after which a name is suspected [default: as few as may be]
+    #[arg(long, value_name = "MILLISECONDS")]
+    pub silence: Option<u64>,
     /// Seconds that the member may take to come into the group [default: without end]
     #[arg(long, value_name = "SECONDS")]
     pub start_within: Option<u64>,
@@ -200,7 +241,7 @@ fn address_word(word: &str) -> Result<(u8, String), String> {
 }
 
 /// The address of a host and a port.
-fn resolve(text: &str) -> Result<SocketAddr, Fault> {
+pub(crate) fn resolve(text: &str) -> Result<SocketAddr, Fault> {
     let found = text.to_socket_addrs().map(|mut found| found.next());
     match found {
         Ok(Some(address)) => Ok(address),
@@ -240,6 +281,10 @@ impl Run {
             config: self.config,
             address: self.address,
             addresses: BTreeMap::new(),
+            seed: match self.seed.is_empty() {
+                true => file.seed,
+                false => self.seed,
+            },
             insecure: self.insecure || file.insecure,
             name: self.name.or(file.name),
             founders: self.founders.or(file.founders),
@@ -259,6 +304,17 @@ impl Run {
             output: self.output.or(file.output),
             log: self.log.or(file.log),
             log_form: self.log_form.or(file.log_form),
+            failures: self.failures.or(file.failures),
+            voters: self.voters.or(file.voters),
+            state: self.state.or(file.state),
+            next_life: self.next_life || file.next_life,
+            fence: self.fence.or(file.fence),
+            fence_within: self.fence_within.or(file.fence_within),
+            lease: self.lease.or(file.lease),
+            drift: self.drift.or(file.drift),
+            heartbeat: self.heartbeat.or(file.heartbeat),
+            delay: self.delay.or(file.delay),
+            silence: self.silence.or(file.silence),
             start_within: self.start_within.or(file.start_within),
             leave_within: self.leave_within.or(file.leave_within),
         }
@@ -266,20 +322,19 @@ impl Run {
 
     /// The group's configuration that they say.
     pub fn group(&self) -> Result<Config, Fault> {
-        let missing = |what| {
-            Fault::of(
-                CONFIG,
-                format_args!("--{what} isn't said: --help says more"),
-            )
+        let facts = self.asked()?;
+        let name = self.name_to_run(facts.as_ref())?;
+        let wrong = |error| Fault::of(CONFIG, error);
+        let mut config = match (&facts, self.founders) {
+            (Some(facts), _) => facts.config(name).map_err(wrong)?,
+            (None, Some(founders)) => Config::new(name, founders),
+            (None, None) => return Err(missing("founders")),
         };
-        let name = self.name.ok_or_else(|| missing("name"))?;
-        let founders = self.founders.ok_or_else(|| missing("founders"))?;
-        let mut config = Config::new(name, founders);
         for (place, text) in &self.address {
-            let address = resolve(text)?;
-            config = config
-                .address(*place, address)
-                .map_err(|error| Fault::of(CONFIG, error))?;
+            let known = facts.iter().flat_map(|facts| &facts.addresses);
+            if !known.into_iter().any(|(known, _)| known == place) {
+                config = config.address(*place, resolve(text)?).map_err(wrong)?;
+            }
         }
         if let Some(address) = self.bind {
             config = config.bind(address);
@@ -289,7 +344,7 @@ impl Run {
             (None, true) => config.insecure(),
             (None, false) => config,
         };
-        Ok(self.numbers(config))
+        self.failing(self.numbers(config), facts.as_ref())
     }
 
     /// With the numbers that are said.
@@ -369,6 +424,24 @@ mod tests {
             (0, "127.0.0.1:1".to_string()),
         ];
         assert_eq!(run.address, addresses);
+    }
+
+    #[test]
+    fn who_has_stopped_is_said_by_words_or_the_file() {
+        let file: Run = toml::from_str(
+            "failures = \"lease\"\nvoters = \"0,1,2\"\nstate = \"s\"\nnext-life = true\nlease = 400\ndrift = 50\nheartbeat = 20\ndelay = 10\nsilence = 900\nfence = \"f\"\nfence-within = 3\n",
+        )
+        .unwrap();
+        let run = run_of(&["--failures", "command", "--drift", "7"]).over(file);
+        assert_eq!(run.failures, Some(By::Command));
+        assert_eq!(run.voters.unwrap().to_string(), "0,1,2");
+        assert_eq!(run.state, Some(PathBuf::from("s")));
+        assert!(run.next_life);
+        let times = [run.lease, run.drift, run.heartbeat, run.delay, run.silence];
+        assert_eq!(times, [400, 7, 20, 10, 900].map(Some));
+        assert_eq!(run.fence, Some(PathBuf::from("f")));
+        assert_eq!(run.fence_within, Some(3));
+        assert!(toml::from_str::<Run>("failures = \"guess\"").is_err());
     }
 
     #[test]

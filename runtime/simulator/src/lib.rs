@@ -7,14 +7,18 @@
 #![warn(missing_docs)]
 
 pub mod checker;
+mod clock;
 pub mod draw;
+mod fenced;
 pub mod journals;
 mod lifecycle;
 pub mod plan;
 mod process;
+mod report;
 mod services;
 mod world;
 
 pub use plan::Plan;
+pub use report::{Failure, Fenced, Report, SeenView};
 pub use services::Services;
-pub use world::{run, run_with, Failure, Report, SeenView};
+pub use world::{run, run_with};

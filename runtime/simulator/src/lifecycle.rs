@@ -4,7 +4,8 @@ use crate::checker::{self, App};
 use crate::journals;
 use crate::plan::{Act, Faults};
 use crate::process::Process;
-use crate::world::{Happening, Report, World, TOLD_WITHIN};
+use crate::report::Report;
+use crate::world::{Happening, World, TOLD_WITHIN};
 use muoswyld_member::{End, Input, Name, Names, Role};
 use std::collections::BTreeSet;
 use std::fmt::Write;
@@ -12,6 +13,9 @@ use std::fmt::Write;
 impl World<'_> {
     /// Begins the next life of a place. It is told who has stopped.
     pub(crate) fn start(&mut self, place: u8) -> Result<(), String> {
+        if self.plan.fenced.is_some() {
+            return self.start_fenced(place);
+        }
         self.end_twin(place);
         if self.places[usize::from(place)].is_some() {
             return Ok(());
@@ -29,11 +33,13 @@ impl World<'_> {
         Ok(())
     }
 
-    fn start_process(&mut self, name: Name, is_twin: bool) -> Result<(), String> {
+    pub(crate) fn start_process(&mut self, name: Name, is_twin: bool) -> Result<(), String> {
         self.number += 1;
         let number = self.number;
         let place = name.place();
-        let begun = Process::new(self.plan, name, number, is_twin, self.now, &mut self.draw);
+        let app = App::new(name, is_twin);
+        let machine = (&self.machines[usize::from(place)], self.now);
+        let begun = Process::new(self.plan, app, number, machine, &mut self.draw);
         let process = begun.map_err(|error| format!("{name} doesn't start: {error}"))?;
         let slow = process.slow;
         self.places[usize::from(place)] = Some(process);
@@ -87,7 +93,7 @@ impl World<'_> {
         let views = self.others(place).chain(Some(process));
         let mut members = BTreeSet::new();
         let mut resilience = u8::MAX;
-        for standing in views.map(|other| other.member.info().standing) {
+        for standing in views.map(|other| other.member.member().info().standing) {
             members.extend(standing.members.iter());
             if !standing.members.is_empty() {
                 resilience = resilience.min(standing.resilience);
@@ -107,7 +113,7 @@ impl World<'_> {
             .count();
         let is_known = self
             .others(place)
-            .any(|other| other.member.info().group.is_some());
+            .any(|other| other.member.member().info().group.is_some());
         let is_lawful = stopped < usize::from(resilience) || !members.contains(&process.name);
         process.counts() && is_known && is_lawful
     }
@@ -129,7 +135,11 @@ impl World<'_> {
                 Ok(())
             }
             Act::Join => {
-                let free = (0..16).find(|place| self.lives[usize::from(*place)] == 0);
+                let is_free = |place: &u8| {
+                    let place = usize::from(*place);
+                    self.lives[place] == 0 && self.machines[place].begins.is_none()
+                };
+                let free = (0..16).find(is_free);
                 match free.filter(|free| *free >= self.plan.founding.founders.len() as u8) {
                     Some(free) => self.start(free),
                     None => Ok(()),
@@ -139,9 +149,30 @@ impl World<'_> {
                 self.reset(place, more);
                 Ok(())
             }
+            Act::Split { places, micros } => {
+                self.split(
+                    |one, other| (places >> one ^ places >> other) & 1 == 1,
+                    micros,
+                );
+                Ok(())
+            }
+            Act::Outage(micros) => {
+                self.split(|_, _| true, micros);
+                Ok(())
+            }
             Act::Cut { to, micros } => {
                 self.cuts.push((place, to, self.now + micros));
                 Ok(())
+            }
+        }
+    }
+
+    /// Nothing goes between some pairs of places for a while.
+    fn split(&mut self, between: impl Fn(u8, u8) -> bool, micros: u64) {
+        let until = self.now + micros;
+        for one in 0..16 {
+            for other in (0..16).filter(|other| *other != one && between(one, *other)) {
+                self.cuts.push((one, other, until));
             }
         }
     }
@@ -163,7 +194,7 @@ impl World<'_> {
         let Some(process) = &self.places[usize::from(place)] else {
             return;
         };
-        let standing = process.member.info().standing;
+        let standing = process.member.member().info().standing;
         let most = (standing.members.len().saturating_sub(1) / 2) as u8;
         let resilience = (standing.resilience + more).min(most.max(standing.resilience));
         self.counts.resets += 1;
@@ -184,11 +215,10 @@ impl World<'_> {
             return Ok(());
         }
         self.die_amid_release(place)?;
-        if !is_lawful && !self.is_void {
-            self.is_void = true;
-            let running = self.places.iter().flatten().map(|process| &process.app);
-            self.lawful = self.done.iter().chain(running).cloned().collect();
+        if !is_lawful {
+            self.is_void_from_here();
         }
+        self.crash_machine(place);
         self.counts.crashes += 1;
         self.crashes.push(self.now);
         self.stop(place, None)?;
@@ -201,10 +231,24 @@ impl World<'_> {
         Ok(())
     }
 
+    /// More have stopped than the resilience: nothing is claimed of what comes after.
+    pub(crate) fn is_void_from_here(&mut self) {
+        if !self.is_void {
+            self.is_void = true;
+            let running = self.places.iter().flatten().map(|process| &process.app);
+            self.lawful = self.done.iter().chain(running).cloned().collect();
+        }
+    }
+
     /// Often the process dies with something unreleased, or amid a release: some of it is out, in its order.
     fn die_amid_release(&mut self, place: u8) -> Result<(), String> {
         if self.draw.per_mille(400) {
             return Ok(());
+        }
+        if self.plan.fenced.is_some() {
+            let size = self.process(place)?.batch.size as u64;
+            let most = self.draw.below(size + 1);
+            return self.emit(place, Some(most));
         }
         let now = self.now;
         let outputs = self.process(place)?.release(now);
@@ -215,8 +259,8 @@ impl World<'_> {
         Ok(())
     }
 
-    /// A process is no more; everybody is told, sooner or later.
-    fn stop(&mut self, place: u8, end: Option<End>) -> Result<(), String> {
+    /// A process is no more; everybody is told, sooner or later, or finds it out.
+    pub(crate) fn stop(&mut self, place: u8, end: Option<End>) -> Result<(), String> {
         let Some(process) = self.places[usize::from(place)].take() else {
             return Ok(());
         };
@@ -229,6 +273,14 @@ impl World<'_> {
         self.done.push(process.app);
         if let Some(services) = &mut self.services {
             services.ended(name);
+        }
+        self.counts.unwelcomed += u64::from(end == Some(End::Unwelcomed));
+        if self.plan.fenced.is_some() {
+            if matches!(end, Some(End::Unwelcomed | End::LeftOut)) {
+                let back = self.draw.between(1_000, 200_000);
+                self.plan_at(self.now + back, Happening::Starts { place });
+            }
+            return Ok(());
         }
         for place in 0..16 {
             let within = if self.is_calm { 1_000 } else { TOLD_WITHIN };
@@ -245,7 +297,6 @@ impl World<'_> {
                 );
             }
         }
-        self.counts.unwelcomed += u64::from(end == Some(End::Unwelcomed));
         if end == Some(End::Unwelcomed) && !self.is_calm {
             self.plan_at(self.now + 100_000, Happening::Starts { place });
         }
@@ -253,7 +304,7 @@ impl World<'_> {
     }
 
     fn look_at_suspects(&self, process: &Process) -> Result<(), String> {
-        let given_up = process.member.info().stopped;
+        let given_up = process.member.member().info().stopped;
         match given_up.iter().find(|name| !self.stopped.contains(name)) {
             Some(name) => Err(format!("{} gave up {name}, which runs", process.name)),
             None => Ok(()),
@@ -276,7 +327,7 @@ impl World<'_> {
         let is_expected = match end {
             End::Left | End::Closed => process.leaves,
             End::Unwelcomed => true,
-            End::LeftOut => self.is_void,
+            End::LeftOut => self.is_void || self.given_up.contains_key(&name),
             End::NoNumbersLeft | End::NodeFailed | End::Superseded | End::OtherVersion => false,
         };
         if !is_expected {
@@ -302,7 +353,7 @@ impl World<'_> {
 
     /// Whether fewer of a process's members run than a reset goes on with, so that it waits for good.
     fn is_too_small(&self, process: &Process, running: &[Name]) -> bool {
-        let members = process.member.info().standing.members;
+        let members = process.member.member().info().standing.members;
         let left = members.iter().filter(|name| running.contains(name)).count();
         left < members.len() && left < self.least(members)
     }
@@ -326,7 +377,7 @@ impl World<'_> {
         let names: Vec<Name> = running.iter().map(|process| process.name).collect();
         let mut tops = BTreeSet::new();
         for process in &running {
-            let info = process.member.info();
+            let info = process.member.member().info();
             let standing = info.standing;
             tops.insert(standing.top);
             let is_one = standing.members.iter().eq(names.iter().copied());
@@ -342,9 +393,13 @@ impl World<'_> {
     pub(crate) fn shown(&self) -> String {
         let mut text = String::new();
         for process in self.places.iter().flatten() {
-            let info = process.member.info();
+            let info = process.member.member().info();
             // writing to a string can't fail
             let _ = writeln!(text, "    leaves {} {info:?}", process.leaves);
+            if self.plan.fenced.is_some() {
+                let failures = process.member.failures();
+                let _ = writeln!(text, "        held {} {failures:?}", process.member.held());
+            }
         }
         text
     }
@@ -388,6 +443,7 @@ impl World<'_> {
             views: std::mem::take(&mut self.views),
             stuck_resets: self.counts.stuck_resets,
             unwelcomed: self.counts.unwelcomed,
+            fenced: self.fenced_report(),
         })
     }
 }

@@ -1,6 +1,7 @@
 //! What is to happen in a run, drawn from its seed.
 
 use crate::draw::Draw;
+use muoswyld_failures::{Lease, Policy};
 use muoswyld_member::{Founding, Name, Names, Plant};
 
 /// What the network does.
@@ -49,6 +50,15 @@ pub enum Act {
     Join,
     /// It resets the group, with so much more resilience.
     Reset(u8),
+    /// These places and all others don't hear each other for so many microseconds.
+    Split {
+        /// The places, as bits.
+        places: u16,
+        /// For how long.
+        micros: u64,
+    },
+    /// The whole network fails for so many microseconds.
+    Outage(u64),
     /// What it sends to another place is lost for so many microseconds.
     Cut {
         /// The other place.
@@ -56,6 +66,68 @@ pub enum Act {
         /// For how long.
         micros: u64,
     },
+}
+
+/// A defect that a test plants in what drives the members.
+#[derive(Clone, Copy, Debug, PartialEq, Eq)]
+pub enum DriverPlant {
+    /// It is told that a refusal is on disk before it is.
+    TellsBeforeSync,
+    /// A life begins before its beginning is on disk.
+    BeginsBeforeSync,
+}
+
+/// How members find out by themselves who has stopped.
+#[derive(Clone, Debug)]
+pub struct FencedPlan {
+    /// The policy.
+    pub policy: Policy,
+    /// The places that vote; None: all founders'.
+    pub voters: Option<u16>,
+    /// By how many thousandths clocks run off real time.
+    pub drift: u64,
+    /// Whether all clocks are as slow or as fast as that allows.
+    pub at_bounds: bool,
+    /// Of a hundred thousand steps so many are followed by a pause: between an input and what comes of it, before a look, or after it.
+    pub stalls: u64,
+    /// Of a hundred crashes so many lose the machine's disk, as long as no other one did.
+    pub lost_disks: u64,
+    /// A defect in how members are guarded.
+    pub plant: Option<muoswyld_guarded::Plant>,
+    /// A defect in what says who has stopped.
+    pub core_plant: Option<muoswyld_failures::Plant>,
+    /// A defect in what drives the members.
+    pub driver_plant: Option<DriverPlant>,
+}
+
+impl FencedPlan {
+    /// Without clocks.
+    pub fn echo() -> FencedPlan {
+        FencedPlan {
+            policy: Policy::Echo,
+            voters: None,
+            drift: 100,
+            at_bounds: false,
+            stalls: 100,
+            lost_disks: 10,
+            plant: None,
+            core_plant: None,
+            driver_plant: None,
+        }
+    }
+
+    /// With leases of 200 milliseconds, for clocks that drift by at most so many thousandths.
+    pub fn lease(drift: u64) -> FencedPlan {
+        FencedPlan {
+            policy: Policy::Lease(Lease {
+                length: 200_000,
+                drift,
+                granule: 1,
+            }),
+            drift,
+            ..FencedPlan::echo()
+        }
+    }
 }
 
 /// How messages are made.
@@ -102,6 +174,8 @@ pub struct Plan {
     pub journal: bool,
     /// A defect that a test plants in each member.
     pub plant: Option<Plant>,
+    /// How members find out by themselves who has stopped; None: everybody is told.
+    pub fenced: Option<FencedPlan>,
 }
 
 impl Plan {
@@ -135,6 +209,7 @@ impl Plan {
             waits_long: false,
             journal: draw.per_mille(200),
             plant: None,
+            fenced: None,
         };
         if plan.sizes == Sizes::Mixed {
             plan.most_sends = 40;
@@ -145,6 +220,56 @@ impl Plan {
         }
         plan.draw_acts(&mut draw);
         plan
+    }
+
+    /// The plan of a seed in which nobody is told who has stopped: members find it out by themselves, over networks that split and
+    /// fail, pauses, and machines that crash and come back. At most as many founders may stop as the resilience says.
+    pub fn fenced(seed: u64, fenced: FencedPlan) -> Plan {
+        let mut plan = Plan::of(seed);
+        let mut draw = Draw::new(seed ^ 0x0f3e_c0de);
+        let founders = draw.one_of(&[3, 3, 3, 5]).unwrap_or(3);
+        plan.founding.founders = (0..founders).filter_map(Name::first).collect::<Names>();
+        plan.founding.resilience = founders / 2;
+        plan.least = None;
+        plan.is_lawful = true;
+        plan.ends = draw.between(1_500_000, 4_000_000);
+        plan.faults.most_delay = plan.faults.most_delay.min(plan.faults.least_delay + 5_000);
+        plan.faults.late = plan.faults.late.min(5);
+        plan.fenced = Some(fenced);
+        plan.acts.clear();
+        plan.draw_fenced_acts(&mut draw, founders);
+        plan
+    }
+
+    fn draw_fenced_acts(&mut self, draw: &mut Draw, founders: u8) {
+        let crashes = draw.per_mille(600);
+        for _ in 0..draw.below(9) {
+            let at = draw.between(700_000, self.ends);
+            let place = draw.below(u64::from(founders)) as u8;
+            let micros = draw
+                .one_of(&[30_000, 150_000, 250_000, 400_000, 600_000, 1_200_000])
+                .unwrap_or(250_000);
+            let act = match draw.below(10) {
+                0..=1 if crashes => Act::Crash {
+                    back: Some(draw.between(1_000, 800_000)),
+                    twin: false,
+                },
+                0..=3 => Act::Pause(micros),
+                4..=5 => Act::Split {
+                    places: draw.word() as u16,
+                    micros,
+                },
+                6 => Act::Outage(micros),
+                7 => Act::Cut {
+                    to: draw.below(u64::from(founders)) as u8,
+                    micros,
+                },
+                8 => Act::Join,
+                _ => Act::Reset(0),
+            };
+            self.acts.push((at, place, act));
+        }
+        self.acts.sort_by_key(|(at, place, _)| (*at, *place));
     }
 
     fn draw_acts(&mut self, draw: &mut Draw) {

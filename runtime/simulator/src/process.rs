@@ -1,11 +1,12 @@
 //! A process of the cluster: a member, its application, and its journal.
 
 use crate::checker::App;
+use crate::clock::Clock;
 use crate::draw::Draw;
+use crate::fenced::{core_of, Batch, Machine};
 use crate::plan::{Plan, Sizes};
-use muoswyld_member::{
-    End, HandleError, Input, Member, Name, Output, Role, Settings, StartError, Time,
-};
+use muoswyld_guarded::Guarded;
+use muoswyld_member::{End, HandleError, Input, Member, Name, Output, Role, Settings, StartError};
 
 /// An application that takes slowly: so many deliveries in so many microseconds.
 #[derive(Clone, Copy, Debug)]
@@ -16,8 +17,10 @@ pub(crate) struct Slow {
 
 /// A process.
 pub(crate) struct Process {
-    pub(crate) member: Member,
+    pub(crate) member: Guarded,
     pub(crate) name: Name,
+    pub(crate) clock: Clock,
+    pub(crate) batch: Batch,
     pub(crate) app: App,
     pub(crate) journal: Vec<u8>,
     /// Which process this is: no two have the same number.
@@ -52,24 +55,32 @@ fn settings_of(plan: &Plan, name: Name, draw: &mut Draw, slow: Option<Slow>) -> 
 }
 
 impl Process {
-    /// A process that begins.
+    /// A process of an application's life that begins on a machine.
     pub(crate) fn new(
         plan: &Plan,
-        name: Name,
+        app: App,
         number: u64,
-        is_twin: bool,
-        now: u64,
+        (machine, now): (&Machine, u64),
         draw: &mut Draw,
     ) -> Result<Process, StartError> {
+        let name = app.name;
+        let clock = machine.clock.unwrap_or(Clock::REAL);
         let slow = draw.per_mille(plan.slow).then(|| Slow {
             every: draw.between(1_000, 30_000),
             count: draw.between(1, 10) as usize,
         });
         let settings = settings_of(plan, name, draw, slow);
+        let time = clock.time(now);
+        let file = machine.voter.as_deref();
+        let core = core_of(plan, name, settings.process, file, time)?;
+        let member = Member::new(settings.clone(), time)?;
+        let plant = plan.fenced.as_ref().and_then(|fenced| fenced.plant);
         Ok(Process {
-            member: Member::new(settings, Time(now))?,
+            member: Guarded::new(member, core, &settings).with_plant(plant),
             name,
-            app: App::new(name, is_twin),
+            clock,
+            batch: Batch::default(),
+            app,
             journal: Vec::new(),
             number,
             paused_until: 0,
@@ -90,7 +101,7 @@ impl Process {
 
     /// Whether it has a list.
     pub(crate) fn has_list(&self) -> bool {
-        let role = self.member.info().standing.role;
+        let role = self.member.member().info().standing.role;
         matches!(role, Role::Member | Role::Sequencer | Role::Coordinator)
     }
 
@@ -105,7 +116,7 @@ impl Process {
             ticket,
             message: message.clone(),
         };
-        match self.member.handle(Time(now), input) {
+        match self.member.handle(self.clock.time(now), input) {
             Ok(()) => {
                 self.app.sent.push(message);
                 Ok(true)
@@ -125,10 +136,14 @@ impl Process {
         }
     }
 
-    /// What comes of the inputs so far.
+    /// What comes of the inputs so far, where it may go out at once.
     pub(crate) fn release(&mut self, now: u64) -> Vec<Output> {
-        let mut out = Vec::new();
-        self.member.release(Time(now), &mut out);
+        let (mut out, now) = (Vec::new(), self.clock.time(now));
+        self.member.fix(now);
+        if self.member.look(now) {
+            self.member.batch(now, &mut out);
+            self.member.emitted(now);
+        }
         out
     }
 }

@@ -2,7 +2,7 @@
 
 use crate::draw::Draw;
 use crate::world::World;
-use muoswyld_member::{Delivery, HandleError, Info, Input, Name, Time};
+use muoswyld_member::{Delivery, HandleError, Info, Input, Name};
 
 /// What runs over the members of a run, in place of applications that send random messages: one value for all of them.
 pub trait Services {
@@ -44,7 +44,7 @@ impl World<'_> {
         let Some(name) = self.served(place) else {
             return Ok(());
         };
-        let info = self.process(place)?.member.info();
+        let info = self.process(place)?.member.member().info();
         match &mut self.services {
             Some(services) => services.delivered(name, delivery, &info),
             None => Ok(()),
@@ -68,7 +68,7 @@ impl World<'_> {
         let Some(name) = self.served(place) else {
             return Ok(());
         };
-        let now = Time(self.now);
+        let now = self.now;
         let mut has_sent = false;
         while let (Some(services), Some(process)) = (
             self.services.as_mut(),
@@ -83,7 +83,7 @@ impl World<'_> {
                 ticket,
                 message: message.clone(),
             };
-            match process.member.handle(now, input) {
+            match process.member.handle(process.clock.time(now), input) {
                 Ok(()) => process.app.sent.push(message),
                 Err(HandleError::Full { message, .. }) => {
                     process.unsent = Some(message);

@@ -2,63 +2,24 @@
 
 use crate::checker::App;
 use crate::draw::Draw;
+use crate::fenced::Machine;
 use crate::plan::{Act, Faults, Plan};
 use crate::process::Process;
+use crate::report::{Counts, Failure, Report, SeenView};
 use crate::services::Services;
-use muoswyld_member::{Delivery, Input, Name, Names, Notice, Output, Time};
+use muoswyld_member::{Delivery, Input, Name, Names, Notice, Output};
 use std::cmp::Reverse;
 use std::collections::{BTreeMap, BTreeSet, BinaryHeap};
 use std::rc::Rc;
-use thiserror::Error;
 
 /// How long the group may need to come to rest once the faults end, in microseconds.
 const REST: u64 = 60_000_000;
+/// How long members that find out by themselves who has stopped may need, before an operator ends whoever is blocked.
+const PATIENCE: u64 = 15_000_000;
 /// How often it is looked whether it has.
 const LOOK_EVERY: u64 = 20_000;
 /// Within which time everybody is told that a process has stopped.
 pub(crate) const TOLD_WITHIN: u64 = 500_000;
-
-/// What a run found.
-#[derive(Clone, Debug, Error)]
-#[error("seed {seed}, at {at} us: {what}\n    again: SEED={seed} cargo test -p muoswyld-simulator --test seeds one_seed -- --nocapture")]
-pub struct Failure {
-    /// The run's seed.
-    pub seed: u64,
-    /// When it was found.
-    pub at: u64,
-    /// What is wrong.
-    pub what: String,
-}
-
-/// What a run came to.
-#[derive(Clone, Debug, PartialEq, Eq)]
-pub struct Report {
-    /// Some lines that tell of it; a run of the same seed has the same ones.
-    pub text: String,
-    /// The journals of all lives, if they were kept.
-    pub journals: BTreeMap<Name, Vec<u8>>,
-    /// How many deliveries the applications had.
-    pub delivered: usize,
-    /// When processes crashed, in microseconds.
-    pub crashes: Vec<u64>,
-    /// The views that the applications were given, in the order of time.
-    pub views: Vec<SeenView>,
-    /// How often a member reset the group since what it waited for wasn't answered.
-    pub stuck_resets: u64,
-    /// How many lives ended since they stayed unwelcomed.
-    pub unwelcomed: u64,
-}
-
-/// A view that an application was given.
-#[derive(Clone, Copy, Debug, PartialEq, Eq)]
-pub struct SeenView {
-    /// When, in microseconds.
-    pub at: u64,
-    /// To which life.
-    pub name: Name,
-    /// Its members.
-    pub members: Names,
-}
 
 /// What may happen.
 #[derive(Clone, Debug)]
@@ -69,6 +30,11 @@ pub(crate) enum Happening {
     Sends { place: u8, number: u64 },
     Consumes { place: u8, number: u64 },
     IsTold { place: u8, number: u64, name: Name },
+    Looks { place: u8, number: u64 },
+    Emits { place: u8, number: u64 },
+    Synced { place: u8, number: u64 },
+    Written { place: u8, number: u64, write: u64 },
+    Begins { place: u8, life: u8 },
     Starts { place: u8 },
     StartsTwin { place: u8 },
     Acts { place: u8, act: Act },
@@ -101,22 +67,6 @@ impl Ord for Planned {
     }
 }
 
-/// How often something happened.
-#[derive(Clone, Copy, Debug, Default)]
-pub(crate) struct Counts {
-    pub(crate) events: u64,
-    pub(crate) datagrams: u64,
-    pub(crate) lost: u64,
-    pub(crate) crashes: u64,
-    pub(crate) lives: u64,
-    pub(crate) twins: u64,
-    pub(crate) pauses: u64,
-    pub(crate) resets: u64,
-    pub(crate) leaves: u64,
-    pub(crate) stuck_resets: u64,
-    pub(crate) unwelcomed: u64,
-}
-
 /// A cluster.
 pub(crate) struct World<'a> {
     pub(crate) plan: &'a Plan,
@@ -135,6 +85,11 @@ pub(crate) struct World<'a> {
     /// Whether more have stopped than the resilience, or fewer are left than a reset wants.
     pub(crate) is_void: bool,
     pub(crate) stopped: BTreeSet<Name>,
+    /// At which happening somebody first knew that a name has stopped, where members find it out by themselves.
+    pub(crate) given_up: BTreeMap<Name, u64>,
+    /// The lives that began.
+    pub(crate) begun: BTreeSet<Name>,
+    pub(crate) machines: [Machine; 16],
     pub(crate) done: Vec<App>,
     /// What the applications had seen when the run was lawful for the last time.
     pub(crate) lawful: Vec<App>,
@@ -184,6 +139,9 @@ impl<'a> World<'a> {
             is_calm: false,
             is_void: false,
             stopped: BTreeSet::new(),
+            given_up: BTreeMap::new(),
+            begun: BTreeSet::new(),
+            machines: Default::default(),
             done: Vec::new(),
             lawful: Vec::new(),
             journals: BTreeMap::new(),
@@ -203,9 +161,14 @@ impl<'a> World<'a> {
         self.run_until(self.plan.ends)?;
         self.calm_down();
         let limit = self.now + REST;
+        let mut operates = self.now + PATIENCE;
         while !(self.is_void || self.is_over() || self.is_at_rest() && self.services_rest()) {
             if self.now >= limit {
                 return Err(format!("it doesn't come to rest:\n{}", self.shown()));
+            }
+            if self.plan.fenced.is_some() && self.now >= operates {
+                self.operate()?;
+                operates += PATIENCE;
             }
             self.run_until(self.now + LOOK_EVERY)?;
         }
@@ -231,6 +194,7 @@ impl<'a> World<'a> {
     }
 
     fn begin(&mut self) {
+        self.found();
         for name in self.plan.founding.founders.iter() {
             let at = match self.draw.per_mille(700) {
                 true => self.draw.below(1_000),
@@ -276,6 +240,9 @@ impl<'a> World<'a> {
             Happening::Arrives { place, .. } => (*place, None),
             Happening::Wakes { place, number }
             | Happening::Releases { place, number }
+            | Happening::Looks { place, number }
+            | Happening::Emits { place, number }
+            | Happening::Written { place, number, .. }
             | Happening::Sends { place, number }
             | Happening::Consumes { place, number }
             | Happening::IsTold { place, number, .. } => (*place, Some(*number)),
@@ -298,18 +265,22 @@ impl<'a> World<'a> {
             Happening::Starts { place } => return self.start(place),
             Happening::StartsTwin { place } => return self.start_twin(place),
             Happening::Acts { place, act } => return self.act(place, act),
+            Happening::Begins { place, life } => return self.life_is_written(place, life),
+            Happening::Synced { place, number } => {
+                self.sync(place, number);
+                return Ok(());
+            }
             _ => {}
         }
         let Some(place) = self.running(&what) else {
             return Ok(());
         };
         match what {
-            Happening::Arrives { payload, .. } => self.give(place, Input::Datagram(&payload)),
-            Happening::Wakes { .. } => {
-                let process = self.process(place)?;
-                process.wake_at = u64::MAX;
-                self.give(place, Input::Time);
-            }
+            Happening::Arrives { payload, .. } => self.hear(place, &payload),
+            Happening::Wakes { .. } => self.tick(place)?,
+            Happening::Looks { .. } => self.look(place)?,
+            Happening::Emits { .. } => self.emit(place, None)?,
+            Happening::Written { write, .. } => self.written(place, write)?,
             Happening::Releases { .. } => self.release(place)?,
             Happening::Sends { .. } => self.send(place)?,
             Happening::Consumes { .. } => self.consume(place)?,
@@ -326,12 +297,29 @@ impl<'a> World<'a> {
 
     /// Gives a member an input. What comes of it is released a little later.
     pub(crate) fn give(&mut self, place: u8, input: Input) {
-        let now = Time(self.now);
+        let now = self.now;
         if let Some(process) = self.places[usize::from(place)].as_mut() {
             // what a member refuses changes nothing
-            let _ = process.member.handle(now, input);
+            let _ = process.member.handle(process.clock.time(now), input);
         }
         self.plan_release(place);
+    }
+
+    fn hear(&mut self, place: u8, payload: &[u8]) {
+        let now = self.now;
+        if let Some(process) = self.places[usize::from(place)].as_mut() {
+            process.member.hear(process.clock.time(now), payload);
+        }
+        self.plan_release(place);
+    }
+
+    fn tick(&mut self, place: u8) -> Result<(), String> {
+        let now = self.now;
+        let process = self.process(place)?;
+        process.wake_at = u64::MAX;
+        process.member.tick(process.clock.time(now));
+        self.plan_release(place);
+        Ok(())
     }
 
     pub(crate) fn plan_release(&mut self, place: u8) {
@@ -343,10 +331,14 @@ impl<'a> World<'a> {
             process.release_at = Some(at);
             let number = process.number;
             self.plan_at(at, Happening::Releases { place, number });
+            self.stall(place);
         }
     }
 
     pub(crate) fn release(&mut self, place: u8) -> Result<(), String> {
+        if self.plan.fenced.is_some() {
+            return self.release_fenced(place);
+        }
         let now = self.now;
         let process = self.process(place)?;
         process.release_at = None;
@@ -364,12 +356,12 @@ impl<'a> World<'a> {
         self.look_at_end(place)
     }
 
-    fn plan_wake(&mut self, place: u8) {
+    pub(crate) fn plan_wake(&mut self, place: u8) {
         let now = self.now;
         let Some(process) = self.places[usize::from(place)].as_mut() else {
             return;
         };
-        let wake = process.member.wake().0.max(now + 1);
+        let wake = process.clock.when(process.member.wake()).max(now + 1);
         if wake < process.wake_at {
             process.wake_at = wake;
             let number = process.number;
@@ -424,31 +416,35 @@ impl<'a> World<'a> {
     /// Carries a datagram to each place of some names.
     fn carry(&mut self, from: u8, to: Names, payload: Rc<[u8]>) {
         for name in to.iter() {
-            self.counts.datagrams += 1;
-            let place = name.place();
-            if self.captured.len() < 400 && !self.plan.ghosts {
-                self.captured.push((place, payload.clone()));
-            }
-            let faults = self.faults;
-            let now = self.now;
-            let cuts = |cut: &(u8, u8, u64)| *cut == (from, place, cut.2) && now < cut.2;
-            if self.draw.per_mille(faults.lost) || self.cuts.iter().any(cuts) {
-                self.counts.lost += 1;
-                continue;
-            }
-            let times = 1 + u64::from(self.draw.per_mille(faults.repeated));
-            for _ in 0..times {
-                let late = match self.draw.per_mille(faults.late) {
-                    true => self.draw.below(300_000),
-                    false => 0,
-                };
-                let delay = self.draw.between(faults.least_delay, faults.most_delay);
-                let payload = payload.clone();
-                self.plan_at(
-                    self.now + delay + late,
-                    Happening::Arrives { place, payload },
-                );
-            }
+            self.carry_to(from, name.place(), payload.clone());
+        }
+    }
+
+    /// Carries a datagram to a place.
+    pub(crate) fn carry_to(&mut self, from: u8, place: u8, payload: Rc<[u8]>) {
+        self.counts.datagrams += 1;
+        if self.captured.len() < 400 && !self.plan.ghosts {
+            self.captured.push((place, payload.clone()));
+        }
+        let faults = self.faults;
+        let now = self.now;
+        let cuts = |cut: &(u8, u8, u64)| *cut == (from, place, cut.2) && now < cut.2;
+        if self.draw.per_mille(faults.lost) || self.cuts.iter().any(cuts) {
+            self.counts.lost += 1;
+            return;
+        }
+        let times = 1 + u64::from(self.draw.per_mille(faults.repeated));
+        for _ in 0..times {
+            let late = match self.draw.per_mille(faults.late) {
+                true => self.draw.below(300_000),
+                false => 0,
+            };
+            let delay = self.draw.between(faults.least_delay, faults.most_delay);
+            let payload = payload.clone();
+            self.plan_at(
+                self.now + delay + late,
+                Happening::Arrives { place, payload },
+            );
         }
     }
 

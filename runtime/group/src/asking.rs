@@ -1,0 +1,285 @@
+//! Joining by address: who knows one address of a group asks there how the group was founded and where its members are.
+//!
+//! A question is the byte `20` and a nonce of eight random bytes. Its answer is the byte `21`, the nonce, and lines of text. Both are
+//! sealed as all datagrams are, and a question counts only from an address that a member has for a place. The nonce is drawn for each
+//! question, so a recorded answer counts for nothing.
+
+use crate::addresses::BadAddress;
+use crate::config::Config;
+use crate::failures::Policy;
+use crate::seal::{fill, Key, Seal};
+use muoswyld::names::{Name, Names};
+use muoswyld_member::{Founding, Info};
+use std::fmt::Write;
+use std::io::{self, ErrorKind};
+use std::net::{SocketAddr, UdpSocket};
+use std::time::{Duration, Instant};
+
+const ASKS: u8 = 0x20;
+const ANSWERS: u8 = 0x21;
+/// How many bytes a nonce has.
+const NONCE: usize = 8;
+/// How often a question is asked again.
+const AGAIN: Duration = Duration::from_millis(200);
+/// More bytes than a datagram with an answer has.
+const MOST_BYTES: usize = 4096;
+
+/// The number by which a question is known.
+pub(crate) type Nonce = [u8; NONCE];
+
+/// How a group was founded, and where its members are, as one of them says.
+#[derive(Clone, Debug, PartialEq, Eq)]
+#[non_exhaustive]
+pub struct Facts {
+    /// Its founding.
+    pub founding: Founding,
+    /// What makes it certain that a name has stopped. The program of [`Policy::Command`] isn't told.
+    pub policy: Policy,
+    /// The voters.
+    pub voters: Names,
+    /// The next life of the asker's place, as far as the member knows; None after life 16.
+    pub next: Option<Name>,
+    /// The addresses of places.
+    pub addresses: Vec<(u8, SocketAddr)>,
+}
+
+/// The nonce of a question; None if a payload is none.
+pub(crate) fn nonce_of(payload: &[u8]) -> Option<Nonce> {
+    match payload {
+        [ASKS, nonce @ ..] => nonce.try_into().ok(),
+        _ => None,
+    }
+}
+
+/// What a member of this configuration tells everybody.
+pub(crate) fn known(config: &Config) -> String {
+    let founding = &config.founding;
+    let mut text = format!(
+        "founding {} {} {} {}\nfailures {} ",
+        founding.founders,
+        founding.resilience,
+        founding.window,
+        founding.pb_up_to,
+        config.voting(),
+    );
+    match config.failures.policy() {
+        Policy::Told => text.push_str("told\n"),
+        Policy::Command { .. } => text.push_str("command\n"),
+        Policy::Echo => text.push_str("echo\n"),
+        // writing to a string can't fail
+        Policy::Lease { length, drift } => {
+            let _ = writeln!(text, "lease {} {drift}", length.as_micros());
+        }
+    }
+    for (place, address) in config.addresses.iter() {
+        let _ = writeln!(text, "address {place} {address}");
+    }
+    text
+}
+
+/// The payload of an answer to a place: what is known, and the last life of the place that the member knows.
+pub(crate) fn answer(
+    known: &str,
+    founders: Names,
+    info: &Info,
+    place: u8,
+    nonce: Nonce,
+) -> Vec<u8> {
+    let life = |names: Names| names.at(place).map_or(0, Name::life);
+    let members = info.standing.members;
+    let last = life(founders).max(life(members)).max(life(info.stopped));
+    let mut payload = vec![ANSWERS];
+    payload.extend(nonce);
+    payload.extend(format!("life {last}\n{known}").bytes());
+    payload
+}
+
+/// Reads an answer's lines for a place.
+fn read(text: &str, place: u8) -> Option<Facts> {
+    let mut lines = text.lines();
+    let life: u8 = lines.next()?.strip_prefix("life ")?.parse().ok()?;
+    let founding: Vec<&str> = lines
+        .next()?
+        .strip_prefix("founding ")?
+        .split(' ')
+        .collect();
+    let [founders, resilience, window, pb_up_to] = founding[..] else {
+        return None;
+    };
+    let failures: Vec<&str> = lines
+        .next()?
+        .strip_prefix("failures ")?
+        .split(' ')
+        .collect();
+    let (voters, policy) = match failures[..] {
+        [voters, "told"] => (voters, Policy::Told),
+        [voters, "echo"] => (voters, Policy::Echo),
+        [voters, "command"] => {
+            let (program, within) = (Default::default(), Duration::ZERO);
+            (voters, Policy::Command { program, within })
+        }
+        [voters, "lease", length, drift] => {
+            let length = Duration::from_micros(length.parse().ok()?);
+            let drift = drift.parse().ok()?;
+            (voters, Policy::Lease { length, drift })
+        }
+        _ => return None,
+    };
+    let address = |line: &str| -> Option<(u8, SocketAddr)> {
+        let (place, address) = line.strip_prefix("address ")?.split_once(' ')?;
+        let place = place.parse().ok().filter(|place| *place < 16)?;
+        Some((place, address.parse().ok()?))
+    };
+    Some(Facts {
+        founding: Founding {
+            founders: founders.parse().ok()?,
+            resilience: resilience.parse().ok()?,
+            window: window.parse().ok()?,
+            pb_up_to: pb_up_to.parse().ok()?,
+        },
+        policy,
+        voters: voters.parse().ok()?,
+        next: Name::new(place, life.checked_add(1)?),
+        addresses: lines.map(address).collect::<Option<_>>()?,
+    })
+}
+
+impl Facts {
+    /// Asks members at some addresses, until one answers: from the address that they have for this place. It is an error if none does
+    /// in time, or if the system refuses a socket.
+    pub fn ask(
+        seeds: &[SocketAddr],
+        (place, own): (u8, SocketAddr),
+        key: Option<&Key>,
+        most: Duration,
+    ) -> io::Result<Facts> {
+        let mut seal = match key {
+            Some(key) => Seal::by(key)?,
+            None => Seal::none(),
+        };
+        let mut nonce = [0; NONCE];
+        fill(&mut nonce)?;
+        let socket = UdpSocket::bind(own)?;
+        socket.set_read_timeout(Some(AGAIN / 4))?;
+        let (began, mut asked_at) = (Instant::now(), None::<Instant>);
+        let mut datagram = Vec::new();
+        let mut bytes = [0; MOST_BYTES];
+        while began.elapsed() < most {
+            if asked_at.is_none_or(|at| at.elapsed() >= AGAIN) {
+                asked_at = Some(Instant::now());
+                let question = [&[ASKS][..], &nonce].concat();
+                if seal.seal(&question, &mut datagram) {
+                    for seed in seeds {
+                        // one that can't be reached now may be later
+                        let _sent = socket.send_to(&datagram, seed);
+                    }
+                }
+            }
+            let length = match socket.recv_from(&mut bytes) {
+                Ok((length, _)) => length,
+                Err(_) => continue,
+            };
+            if let Some(facts) = opened(&mut seal, &mut bytes[..length], nonce, place) {
+                return Ok(facts);
+            }
+        }
+        let shown: Vec<String> = seeds.iter().map(SocketAddr::to_string).collect();
+        let line = format!("no member of the group answers at {}", shown.join(", "));
+        Err(io::Error::new(ErrorKind::TimedOut, line))
+    }
+
+    /// The configuration of a name in this group, with the addresses of all places. It is an error if two places have one address.
+    pub fn config(&self, name: Name) -> Result<Config, BadAddress> {
+        let mut config = Config::new(name, self.founding.founders)
+            .resilience(self.founding.resilience)
+            .window(self.founding.window)
+            .pb_up_to(self.founding.pb_up_to)
+            .voters(self.voters);
+        if !matches!(self.policy, Policy::Command { .. }) {
+            config = config.policy(self.policy.clone());
+        }
+        for (place, address) in &self.addresses {
+            config = config.address(*place, *address)?;
+        }
+        Ok(config)
+    }
+}
+
+/// The answer to a question in a datagram, if it is one.
+fn opened(seal: &mut Seal, datagram: &mut [u8], nonce: Nonce, place: u8) -> Option<Facts> {
+    let payload = seal.open(datagram)?;
+    let rest = payload.strip_prefix(&[ANSWERS])?;
+    let text = rest.strip_prefix(&nonce[..])?;
+    read(std::str::from_utf8(text).ok()?, place)
+}
+
+#[cfg(test)]
+mod tests {
+    use super::*;
+
+    fn config() -> Config {
+        let founders = "0,1,2".parse().unwrap();
+        Config::new("1".parse().unwrap(), founders)
+            .resilience(1)
+            .window(64)
+            .pb_up_to(7)
+            .address(0, "[2001:db8::2]:7000".parse().unwrap())
+            .unwrap()
+            .address(3, "[2001:db8::1]:7".parse().unwrap())
+            .unwrap()
+    }
+
+    #[test]
+    fn an_answer_is_read_as_it_was_written() {
+        let lease = Policy::Lease {
+            length: Duration::from_millis(400),
+            drift: 50,
+        };
+        for policy in [Policy::Told, Policy::Echo, lease] {
+            let voters = "0,1,2".parse().unwrap();
+            let config = config().policy(policy.clone()).voters(voters);
+            let text = format!("life 2\n{}", known(&config));
+            let facts = read(&text, 3).unwrap();
+            assert_eq!(facts.founding, config.founding);
+            assert_eq!((&facts.policy, facts.voters), (&policy, voters));
+            assert_eq!(facts.next, Some("3/3".parse().unwrap()));
+            let addresses: Vec<_> = config.addresses.iter().collect();
+            assert_eq!(facts.addresses, addresses);
+            let made = facts.config("3/3".parse().unwrap()).unwrap();
+            assert_eq!(known(&made), known(&config));
+        }
+    }
+
+    #[test]
+    fn what_is_no_answer_is_refused() {
+        let text = format!("life 16\n{}", known(&config()));
+        assert_eq!(read(&text, 3).unwrap().next, None);
+        for at in 0..text.len() - 1 {
+            // a beginning may be a whole answer with fewer addresses, and nothing panics
+            let _read = read(&text[..at], 3);
+        }
+        for (from, to) in [
+            ("life 16", "life x"),
+            ("founding", "foundling"),
+            ("founding 0,1,2 1 64 7", "founding 0,1,2 1 64"),
+            ("told", "guess"),
+            ("told", "lease 1"),
+            ("address 3", "address 16"),
+            ("[2001:db8::1]:7", "nowhere"),
+        ] {
+            assert!(text.contains(from));
+            assert_eq!(read(&text.replacen(from, to, 1), 3), None, "{to}");
+        }
+    }
+
+    #[test]
+    fn only_a_question_has_a_nonce() {
+        assert_eq!(
+            nonce_of(&[ASKS, 1, 2, 3, 4, 5, 6, 7, 8]),
+            Some([1, 2, 3, 4, 5, 6, 7, 8])
+        );
+        assert_eq!(nonce_of(&[ASKS, 1, 2, 3, 4, 5, 6, 7]), None);
+        assert_eq!(nonce_of(&[ANSWERS, 1, 2, 3, 4, 5, 6, 7, 8]), None);
+        assert_eq!(nonce_of(&[]), None);
+    }
+}

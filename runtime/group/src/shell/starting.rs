@@ -1,0 +1,107 @@
+//! What a member's thread is started with.
+
+use crate::addresses::Addresses;
+use crate::config::Config;
+use crate::error::CreateError;
+use crate::failures::Policy;
+use crate::fencing::{self, Fencing};
+use crate::seal::fill;
+use crate::shared::Shared;
+use crate::state::State;
+use muoswyld_failures::Failures;
+use muoswyld_guarded::Guarded;
+use muoswyld_member::{Member, Settings, Time};
+use std::fs::{File, OpenOptions};
+use std::io::ErrorKind;
+use std::os::unix::fs::OpenOptionsExt;
+use std::sync::Arc;
+
+/// The addresses of a member's group, with its own to bind.
+pub(super) fn checked(config: &Config) -> Result<(), CreateError> {
+    for name in config.founding.founders.with(config.name).iter() {
+        if config.addresses.of(name.place()).is_none() {
+            return Err(CreateError::NoAddress(name.place()));
+        }
+    }
+    if config.key.is_none() && !config.insecure {
+        return Err(CreateError::NoKey);
+    }
+    config.check_failures()
+}
+
+/// Sixty-four random bits.
+fn random_word() -> std::io::Result<u64> {
+    let mut bytes = [0; 8];
+    fill(&mut bytes)?;
+    Ok(u64::from_be_bytes(bytes))
+}
+
+pub(super) fn settings_of(config: &Config) -> std::io::Result<Settings> {
+    let mut settings = Settings::new(config.name, config.founding, random_word()?);
+    settings.seed = random_word()?;
+    settings.least = config.least;
+    settings.most_waiting = config.most_waiting.max(1 << 17);
+    settings.deliveries = config.most_unreceived;
+    settings.datagram = config.datagram;
+    settings.slow_tick = u64::try_from(config.tick.as_micros()).unwrap_or(u64::MAX);
+    settings.journal = config.journal.is_some();
+    Ok(settings)
+}
+
+/// A new file that others can't read.
+fn journal_of(config: &Config) -> std::io::Result<Option<File>> {
+    let Some(path) = &config.journal else {
+        return Ok(None);
+    };
+    let mut options = OpenOptions::new();
+    options.write(true).create_new(true).mode(0o600);
+    let cannot = |error: std::io::Error| match error.kind() {
+        ErrorKind::AlreadyExists => "it is there, and a name never runs twice".to_string(),
+        _ => error.to_string(),
+    };
+    let opened = options.open(path);
+    let opened = opened.map_err(|error| {
+        let why = format!("the journal {}: {}", path.display(), cannot(error));
+        std::io::Error::other(why)
+    });
+    opened.map(Some)
+}
+
+pub(super) fn own_address(config: &Config) -> Result<std::net::SocketAddr, CreateError> {
+    let place = config.name.place();
+    let addresses: &Addresses = &config.addresses;
+    let own = config.bind.or_else(|| addresses.of(place));
+    own.ok_or(CreateError::NoAddress(place))
+}
+
+/// A member that begins, what guards its place, and its journal. A name that doesn't begin has none. The place's folder is locked, and
+/// that the life begins is on disk, before anything of it can be seen.
+pub(super) fn begun(
+    settings: Settings,
+    now: Time,
+    config: &Config,
+    shared: Arc<Shared>,
+) -> Result<(Guarded, Fencing, Option<File>), CreateError> {
+    let core = config.failure_settings(settings.process)?;
+    let member = Member::new(settings.clone(), now)?;
+    let mut state = match &config.failures.state {
+        Some(folder) => Some(State::take(folder, config.name.place())?),
+        None => None,
+    };
+    let voter = match &state {
+        Some(state) => state.voter()?,
+        None => None,
+    };
+    let failures = Failures::new(core, voter.as_deref(), muoswyld_failures::Time(now.0))?;
+    if let Some(state) = &mut state {
+        state.begin(config.name)?;
+    }
+    fencing::tell_start(&failures);
+    let program = match config.failures.policy() {
+        Policy::Command { program, .. } => Some(program),
+        _ => None,
+    };
+    let fencing = Fencing::new(shared, state, program)?;
+    let guarded = Guarded::new(member, failures, &settings);
+    Ok((guarded, fencing, journal_of(config)?))
+}

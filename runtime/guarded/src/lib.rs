@@ -1,0 +1,12 @@
+//! A member and what says who has stopped, put together: a value without I/O, to be driven by a shell or by a simulator.
+//!
+//! Under the policies `echo` and `lease` a member may let out what came of its inputs only if it may act. So inputs wait where it may
+//! not, and what came of a batch of them is held until a look says that all of it may go out. Under `told` and `command` nothing waits
+//! and nothing is held.
+
+#![warn(missing_docs)]
+
+mod guarded;
+mod waiting;
+
+pub use guarded::{Deed, Guarded, Plant};

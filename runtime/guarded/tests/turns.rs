@@ -1,0 +1,131 @@
+//! Guarded members, turn by turn.
+
+use muoswyld_failures::{
+    new_file, places_of, Failures, Policy, Settings as Core, Time as CoreTime,
+};
+use muoswyld_guarded::{Deed, Guarded};
+use muoswyld_member::{
+    Delivery, Founding, HandleError, Input, Member, Name, Output, Settings, Time,
+};
+
+const ID: [u8; 16] = [4; 16];
+
+fn guarded(place: u8, policy: Policy) -> Guarded {
+    let name = Name::first(place).expect("a name");
+    let founding = Founding {
+        founders: (0..3).filter_map(Name::first).collect(),
+        resilience: 1,
+        window: 64,
+        pb_up_to: 1024,
+    };
+    let settings = Settings::new(name, founding, u64::from(place) + 1);
+    let member = Member::new(settings.clone(), Time(0)).expect("a member");
+    let own = muoswyld_failures::Name::first(place);
+    let core = Core::new(ID, own, settings.process, places_of(0..3), policy);
+    let file = new_file(ID, place);
+    let failures = Failures::new(core, Some(&file), CoreTime(0)).expect("settings");
+    Guarded::new(member, failures, &settings)
+}
+
+/// What a turn of one brought: datagrams with their places, and whether the batch went out.
+fn turn(one: &mut Guarded, now: Time) -> (Vec<(u16, Vec<u8>)>, Vec<Output>) {
+    one.tick(now);
+    one.fix(now);
+    let mut sent = Vec::new();
+    for deed in one.deeds(now) {
+        if let Deed::Send { to, payload } = deed {
+            sent.push((to, payload));
+        }
+    }
+    let mut out = Vec::new();
+    if one.look(now) {
+        one.batch(now, &mut out);
+        one.emitted(now);
+    }
+    for output in &out {
+        if let Output::Datagram { to, payload } = output {
+            let places = to.iter().fold(0, |all, name| all | 1 << name.place());
+            sent.push((places, payload.clone()));
+        }
+    }
+    (sent, out)
+}
+
+/// All turn and hear each other for a while, but who is left out; what each let out.
+fn run(all: &mut [Guarded], (from, to): (u64, u64), without: &[u8]) -> Vec<Vec<Output>> {
+    let mut outs: Vec<Vec<Output>> = all.iter().map(|_| Vec::new()).collect();
+    for step in from..to {
+        let now = Time(step * 1_000);
+        for place in (0..all.len()).filter(|place| !without.contains(&(*place as u8))) {
+            let (sent, out) = turn(&mut all[place], now);
+            outs[place].extend(out);
+            for (places, payload) in sent {
+                for other in (0..all.len()).filter(|other| places >> other & 1 == 1) {
+                    if other != place && !without.contains(&(other as u8)) {
+                        all[other].hear(now, &payload);
+                    }
+                }
+            }
+        }
+    }
+    outs
+}
+
+fn three(policy: Policy) -> Vec<Guarded> {
+    let mut all: Vec<Guarded> = (0..3).map(|place| guarded(place, policy)).collect();
+    run(&mut all, (0, 400), &[]);
+    for one in &all {
+        assert!(one.info().group.is_some(), "the group is known");
+    }
+    all
+}
+
+#[test]
+fn what_is_told_is_let_out_in_the_same_turn() {
+    let mut all = three(Policy::Told);
+    let now = Time(400_000);
+    let gone = Name::first(0).expect("a name");
+    assert_eq!(all[1].told(now, gone), Ok(()));
+    let itself = Name::first(1).expect("a name");
+    assert_eq!(all[1].told(now, itself), Err(HandleError::Itself));
+    let (sent, _) = turn(&mut all[1], now);
+    assert!(!sent.is_empty(), "the lowest running member resets at once");
+    let outs = run(&mut all, (401, 600), &[0]);
+    let is_view = |output: &Output| matches!(output, Output::Deliver(Delivery::View { members, .. }) if !members.has(gone));
+    assert!(outs[1].iter().any(is_view) && outs[2].iter().any(is_view));
+}
+
+#[test]
+fn a_batch_is_held_until_it_is_echoed_and_nobody_is_told_of_it() {
+    let mut all = three(Policy::Echo);
+    let send = |one: &mut Guarded, now: u64| {
+        let message = b"held".to_vec();
+        one.handle(Time(now), Input::Send { ticket: 1, message })
+    };
+    // the sequencer is cut off: what it does stays with it
+    assert_eq!(send(&mut all[0], 400_000), Ok(()));
+    let before = all[0].info().standing;
+    let outs = run(&mut all, (400, 450), &[1, 2]);
+    assert!(outs[0].is_empty() && all[0].is_held());
+    assert_eq!(all[0].info().standing, before);
+    assert!(all[0].member().info().standing.top > before.top);
+    assert_eq!(all[0].free(), 0);
+    assert!(
+        send(&mut all[0], 450_000).is_err(),
+        "there is no room meanwhile"
+    );
+    // once it is heard again all of it goes out, in order
+    let outs = run(&mut all, (451, 600), &[]);
+    for out in &outs {
+        let is_it = |output: &&Output| matches!(output, Output::Deliver(Delivery::Message { message, .. }) if message == b"held");
+        assert_eq!(out.iter().filter(is_it).count(), 1);
+    }
+    assert!(outs[0].contains(&Output::Settled {
+        ticket: 1,
+        result: Ok(muoswyld_member::Position {
+            generation: 0,
+            number: 2,
+            index: 0
+        }),
+    }));
+}
