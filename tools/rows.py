@@ -19,28 +19,28 @@ from typing import Any
 from words import words
 
 OPENED = """
-use Rattle.am_base.specs.Names.{by_place}
-use Rattle.am_base.specs.Lists.{after, fits, fold}
-use Rattle.am_base.specs.Fronts.{greatest}
-use Rattle.am_base.specs.Votes.{best_from}
-use Rattle.am_model.specs.Node.{those}
-use Rattle.am_node_defs.specs.Cores.{accept, pass_over, unions}
-use Rattle.am_node_defs.specs.Reports.{least_of}
-use Rattle.am_node_defs.specs.Refresh.{own_report, tell, go_on, let_go}
-use Rattle.am_model.specs.Refresh.{lead, refresh, settle, refresh_at_end}
-use Rattle.am_model.specs.Emit.{put_all, finish}
-use Rattle.am_model.specs.Ballots.{best_of, decide, begin, keep_vote, give_up}
-use Rattle.am_model.specs.Calls.{everywhere_else, send_row, done_row, take_row, join_row, state_row, leave_row, reset_row, ask_row, give_up_row}
+use Rattle.am_base.specs.Names.{list_by_place}
+use Rattle.am_base.specs.Lists.{after, fits, image_after_entries}
+use Rattle.am_base.specs.Fronts.{greatest_passing_number}
+use Rattle.am_base.specs.Votes.{best_vote_from}
+use Rattle.am_model.specs.Node.{names_that_pass}
+use Rattle.am_node_defs.specs.Cores.{raise_accepted_to_told, pass_over_below_join, union_of_members_at}
+use Rattle.am_node_defs.specs.Reports.{least_of_names}
+use Rattle.am_node_defs.specs.Refresh.{raise_own_report, tell_accept_front, advance_with_reports, trim_to_least_taken}
+use Rattle.am_model.specs.Refresh.{refresh_as_sequencer, refresh, settle_waiting_send, refresh_at_end}
+use Rattle.am_model.specs.Emit.{letters_of_entries, finish}
+use Rattle.am_model.specs.Ballots.{best_vote_for_ballot, decide, begin_ballot, keep_vote_in_ballot, give_up_in_ballot}
+use Rattle.am_model.specs.Calls.{first_lives_of_other_places, send_row, done_row, take_row, join_row, state_row, leave_row, reset_row, ask_row, give_up_row}
 use Rattle.am_model.specs.Ticks.{tick_row}
 use Rattle.am_model.specs.Sequencing.{request_row, ack_row, nack_row}
 use Rattle.am_model.specs.Receiving.{spread_row, bcast_row, order_row, accept_row, hold_row}
 use Rattle.am_model.specs.Joining.{join_ask_row, welcome_row, leave_ask_row, gone_row}
 use Rattle.am_model.specs.Resets.{invite_row, vote_row, fetch_row, piece_row, result_row}
 use Rattle.am_model.specs.Hearing.{hear_row}
-use Rattle.am_model.specs.Step.{row, step, hear, hear_refusal}
-use Rattle.am_group_defs.specs.World.{with_record, with_step, happens, happen}
-use Rattle.am_group_defs.specs.Lawful.{is_complete, is_lawful, greatest_complete, watch, watch_all}
-use Rattle.am_group_defs.specs.Settle.{running, hearings_from, waves, rounds, settle_events}
+use Rattle.am_model.specs.Step.{row, step, hear_packet, hear_refused_bytes}
+use Rattle.am_group_defs.specs.World.{world_with_record, world_with_step, happens, world_after_events}
+use Rattle.am_group_defs.specs.Lawful.{is_complete, is_lawful, greatest_complete, watch_event, watch_events}
+use Rattle.am_group_defs.specs.Settle.{running_places, hearings_from, settle_waves, settle_rounds, settle_events}
 use Rattle.am_group_defs.specs.Text.{name_text, stamp_text, names_text, body_text, resilience_text, entry_text, outcome_word, outcome_parts, outcome_text, act_word, act_parts, event_text, kind_word, addressees_text, letter_text, record_line, records_text, group_line, group_text, log_line, empty_log_line, log_text, logs_text, mark_line, play_text}
 use Rattle.std.specs.Fmt.{digits}
 use Rattle.am_computed_cases.specs.Scripts.{set_of}
@@ -125,7 +125,7 @@ def statement(title: str, script: dict[str, Any], text: str) -> str:
     events = ["on %d %s" % (e["node"], act(e, resilience)) for e in play["events"]]
     founding = "(rules_with %s %d %d %d)" % (name_list(play["founders"]), resilience, play.get("window", 64),
                                           play.get("pb_up_to", 256))
-    words = "settled_text_of" if play.get("settle") else "text_of"
+    words = "settled_play_text_of" if play.get("settle") else "play_text_of"
     run = fitted("%s = %s %s (" % (title, words, founding)) + "\n" + "".join(packed(events)) + "    [])"
     lines = "".join("    %s ∷\n" % codes(line) for line in text.splitlines())
     return "abbrev pub %s : Type 0\n%s ≡ lines (\n%s    [])\n" % (title, run, lines)
@@ -138,7 +138,7 @@ def titled(case: str) -> str:
 
 SPECS_HEAD = """use Rattle.std.specs.Prelude.{◌≡◌, [], ◌∷◌, ◌++◌, codes}
 use Rattle.am_group.specs.declared.event.Act.TheVariants as act
-use Rattle.am_group_defs.specs.Play.{text_of, settled_text_of}
+use Rattle.am_group_defs.specs.Play.{play_text_of, settled_play_text_of}
 use Rattle.am_computed_cases.specs.Scripts.{rules_with, on, lines}
 """
 

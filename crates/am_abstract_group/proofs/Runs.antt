@@ -1,24 +1,24 @@
 -- What every run keeps.
 use Rattle.am_abstract_group.proofs.Words.{◌≡◌, ℕ, zero, suc, ◌&&◌, not, Bool, true, false, List, [], ◌∷◌, ◌++◌, length, take, refl, sym, ◌∙◌, subst, arith, Entry}
-use Rattle.am_abstract_group.proofs.Words.{Leave, Begins, begins_refl, begins_trans, take_begins_list, shorter_beginning_begins_longer, length_take, count, ChainNode, opening, Group, chain_of}
-use Rattle.am_abstract_group.proofs.Words.{MayAccept, put, Move, numbers, stores, accepts, learns, begins, raises, shows, serves, fetches, decides, gives_over, welcomes}
-use Rattle.am_abstract_group.proofs.Words.{asks, departs, closes, stops, longer, GroupStep, IsLawful, group_start, Run, founded, more, Onward, here, onward, counts_for, GroupKeeps}
-use Rattle.am_abstract_group.proofs.Words.{RunsKeep, ChoicesKeep, CompleteViewsStand, begins_append}
+use Rattle.am_abstract_group.proofs.Words.{Leave, IsBeginningOf, list_begins_itself, begins_through_both, taken_front_begins_list, shorter_beginning_begins_longer, length_of_taken_list, count_of_passing_below, ChainNode, list_with_chosen_view, Group, chain_of}
+use Rattle.am_abstract_group.proofs.Words.{MayAccept, function_with_value, Move, numbers, stores, accepts, learns, begins, raises, shows, serves, fetches, decides, gives_over, welcomes}
+use Rattle.am_abstract_group.proofs.Words.{asks, departs, closes, stops, node_with_entry, GroupStep, IsLawful, group_start, Run, founded, more, Onward, here, onward, counts_for, GroupKeeps}
+use Rattle.am_abstract_group.proofs.Words.{RunsKeep, ChoicesKeep, CompleteViewsStand, front_begins_append}
 use Rattle.am_abstract_group.proofs.Decide.{decision_keeps_group, earlier_choice_stays, earlier_decision_stays, group_begins_deciding_list}
 use Rattle.am_abstract_group.proofs.{Start.start_group_is_kept, Steps.quiet_move_keeps_group, Marks.completed_view_keeps_group}
 
 -- what grows along a run
 record Grows (s t : Group) : Type 0 where
-  group : Begins s.group t.group
+  group : IsBeginningOf s.group t.group
   decided : (x : ℕ) → s.views.decided x ≡ true → t.views.decided x ≡ true
   chosen : (x : ℕ) → s.views.decided x ≡ true → t.views.chosen x ≡ s.views.chosen x
   complete : (x : ℕ) → s.views.complete x ≡ true → t.views.complete x ≡ true
 
-accept_grows : (node : ℕ → ChainNode) (group list chain : List Entry) (to : ℕ) → Begins group chain → Begins list chain → MayAccept node list (length group) to
-    → Begins group (take to list)
+accept_grows : (node : ℕ → ChainNode) (group list chain : List Entry) (to : ℕ) → IsBeginningOf group chain → IsBeginningOf list chain → MayAccept node list (length group) to
+    → IsBeginningOf group (take to list)
 accept_grows node group list chain to g l may =
-    let long = length_take to list may.within in
-    shorter_beginning_begins_longer g (begins_trans (take_begins_list to list) l) (omega arith)
+    let long = length_of_taken_list to list may.within in
+    shorter_beginning_begins_longer g (begins_through_both (taken_front_begins_list to list) l) (omega arith)
 
 -- a move leaves what is decided, and what was accepted
 grows_on : {s t : Group} → GroupKeeps s → IsLawful s → Move s t → Grows s t
@@ -26,20 +26,20 @@ grows_on k law (accepts {s = s} i n a b) = assumption (
     accept_grows s.node s.group (s.node i).list (chain_of s.views) n k.group ((k.each i).list a.up) b
     )
 grows_on k law (decides {s = s} i v a) = record {
-  group = begins_refl s.group;
+  group = list_begins_itself s.group;
   decided = earlier_decision_stays s k law i v a;
   chosen = earlier_choice_stays s k law i v a;
   complete = λ x h. h;
 }
 grows_on k law (closes {s = s} i n a b c d) =
     let o = (k.each i).leads a in
-    let whole = begins_append (s.node i).list (Leave i ∷ []) in
-    let up : Begins s.group ((s.node i).list ++ Leave i ∷ []) = begins_trans (subst (Begins s.group) (sym o.chain) k.group) whole in
+    let whole = front_begins_append (s.node i).list (Leave i ∷ []) in
+    let up : IsBeginningOf s.group ((s.node i).list ++ Leave i ∷ []) = begins_through_both (subst (IsBeginningOf s.group) (sym o.chain) k.group) whole in
     assumption (
-    accept_grows (put s.node i (longer (s.node i) (Leave i))) s.group ((s.node i).list ++ Leave i ∷ []) ((s.node i).list ++ Leave i ∷ []) n up
-    (begins_refl ((s.node i).list ++ Leave i ∷ [])) d
+    accept_grows (function_with_value s.node i (node_with_entry (s.node i) (Leave i))) s.group ((s.node i).list ++ Leave i ∷ []) ((s.node i).list ++ Leave i ∷ []) n up
+    (list_begins_itself ((s.node i).list ++ Leave i ∷ [])) d
     )
-grows_on {s} k law _ = record { group = begins_refl s.group; decided = λ x h. h; chosen = λ x h. refl; complete = λ x h. h }
+grows_on {s} k law _ = record { group = list_begins_itself s.group; decided = λ x h. h; chosen = λ x h. refl; complete = λ x h. h }
 
 move_keeps : {s t : Group} → GroupKeeps s → IsLawful s → Move s t → GroupKeeps t
 move_keeps k law (decides {s = s} i v a) = decision_keeps_group s k law i v a
@@ -68,8 +68,8 @@ step_grows s t k law step =
     let g = grows_on k law step.move in
     subst (Grows s) (sym step.is) (record { group = g.group; decided = g.decided; chosen = g.chosen; complete = λ x h. step.stay x (g.complete x h) })
 
-none_pass : (p : ℕ → Bool) (n : ℕ) → ((j : ℕ) → p j ≡ false) → count p n ≡ 0
-unfolding count
+none_pass : (p : ℕ → Bool) (n : ℕ) → ((j : ℕ) → p j ≡ false) → count_of_passing_below p n ≡ 0
+unfolding count_of_passing_below
 none_pass p zero h = refl
 none_pass p (suc n) h = let z = h n in let r = none_pass p n h in rw (z, r) refl
 
@@ -109,7 +109,7 @@ record Since (s t : Group) : Type 0 where
   grows : Grows s t
 
 since : {s t : Group} → GroupKeeps s → IsLawful s → Onward s t → Since s t
-since k law (here {s = s}) = assumption (begins_refl s.group)
+since k law (here {s = s}) = assumption (list_begins_itself s.group)
 since k law (onward {s = s} {t = t} {u = u} on step after) =
     let o = since k law on in
     let g = step_grows t u o.kept o.lawful step in
@@ -118,7 +118,7 @@ since k law (onward {s = s} {t = t} {u = u} on step after) =
       kept = step_keeps t u o.kept o.lawful step;
       lawful = after;
       grows = record {
-        group = begins_trans h.group g.group;
+        group = begins_through_both h.group g.group;
         decided = λ x d. g.decided x (h.decided x d);
         chosen = λ x d. g.chosen x (h.decided x d) ∙ h.chosen x d;
         complete = λ x d. g.complete x (h.complete x d);
@@ -132,6 +132,6 @@ complete_views_stand founders first resilience s t run on =
     let n = since k o.lawful on in
     record {
       group = n.grows.group;
-      views = λ x h. subst (λ ch. Begins (opening ch) (chain_of t.views)) (n.grows.chosen x (k.views.marked x h))
+      views = λ x h. subst (λ ch. IsBeginningOf (list_with_chosen_view ch) (chain_of t.views)) (n.grows.chosen x (k.views.marked x h))
           (n.kept.views.complete x (n.grows.complete x h));
     }

@@ -1,8 +1,8 @@
 -- What a group keeps at its start.
 use Rattle.am_abstract_group.proofs.Words.{◌≡◌, ℕ, ◌<◌, ◌≤◌, nat_le, if◌then◌else◌, Bool, true, false, List, [], length, refl, sym, subst, arith, nat_tests}
-use Rattle.am_abstract_group.proofs.Words.{Entry, View, has, no_stamp, blank, fits, fold, Begins, IsGood, mem, key, begins_refl, empty_list_begins_all, beginning_length_le, begins_not_longer_is_same}
-use Rattle.am_abstract_group.proofs.Words.{begins_push_or_is_push, begins_below_length_lt, empty_list_is_good, pushed_list_is_good, empty_list_has_no_member, member_of_pushed_view_members, name_in_view_is_member, view_after_pushed_view, opening, GroupMayBegin}
-use Rattle.am_abstract_group.proofs.Words.{first_stamp, first_choice, group_start, NodeOk, GroupKeeps}
+use Rattle.am_abstract_group.proofs.Words.{Entry, View, has, no_stamp, blank, fits, image_after_entries, IsBeginningOf, IsGoodList, is_member_at_end, key_of_stamp, list_begins_itself, empty_list_begins_all, beginning_is_no_longer, begins_not_longer_is_same}
+use Rattle.am_abstract_group.proofs.Words.{begins_push_or_is_push, proper_beginning_is_shorter, empty_list_is_good, pushed_list_is_good, empty_list_has_no_member, member_of_pushed_view_members, name_in_view_is_member, view_after_pushed_view, list_with_chosen_view, GroupMayBegin}
+use Rattle.am_abstract_group.proofs.Words.{first_stamp, first_choice, group_start, NodeIsSound, GroupKeeps}
 use Rattle.am_abstract_group.proofs.{Puts.either_of_two_gives}
 
 first_fits : (founders : List ℕ) (first resilience : ℕ) → has founders first ≡ true → fits blank (View (first_choice founders first resilience).view) ≡ true
@@ -10,25 +10,25 @@ unfolding fits
 first_fits founders first resilience h = let z : nat_le 0 resilience ≡ true = grind (arith, nat_tests) in rw (h, z) refl
 
 module _ (founders : List ℕ) (first resilience : ℕ) (may : GroupMayBegin founders first resilience) where
-  first_good : IsGood (opening (first_choice founders first resilience))
-  unfolding fold
+  first_good : IsGoodList (list_with_chosen_view (first_choice founders first resilience))
+  unfolding image_after_entries
   first_good = pushed_list_is_good [] (View (first_choice founders first resilience).view) empty_list_is_good (first_fits founders first resilience may.among) may.small
 
-  nobody : (a : List Entry) (j : ℕ) → length a ≤ 0 → mem a j ≡ true → ⊥
-  nobody a j short m = empty_list_has_no_member j (subst (λ l. mem l j ≡ true) (sym (begins_not_longer_is_same (empty_list_begins_all a) short)) m)
+  nobody : (a : List Entry) (j : ℕ) → length a ≤ 0 → is_member_at_end a j ≡ true → ⊥
+  nobody a j short m = empty_list_has_no_member j (subst (λ l. is_member_at_end l j ≡ true) (sym (begins_not_longer_is_same (empty_list_begins_all a) short)) m)
 
-  member_first : (a : List Entry) (j : ℕ) → Begins a (opening (first_choice founders first resilience)) → mem a j ≡ true → has founders j ≡ true
+  member_first : (a : List Entry) (j : ℕ) → IsBeginningOf a (list_with_chosen_view (first_choice founders first resilience)) → is_member_at_end a j ≡ true → has founders j ≡ true
   member_first a j h m = either_of_two_gives (begins_push_or_is_push {a = a} {b = []} (View (first_choice founders first resilience).view) h)
-      (λ x. absurd (nobody a j (beginning_length_le x) m))
+      (λ x. absurd (nobody a j (beginning_is_no_longer x) m))
       (λ x. member_of_pushed_view_members [] (first_choice founders first resilience).view j
-      (subst (λ l. mem l j ≡ true) x m))
+      (subst (λ l. is_member_at_end l j ≡ true) x m))
 
-  first_member : (j : ℕ) → has founders j ≡ true → mem (opening (first_choice founders first resilience)) j ≡ true
+  first_member : (j : ℕ) → has founders j ≡ true → is_member_at_end (list_with_chosen_view (first_choice founders first resilience)) j ≡ true
   first_member j h = name_in_view_is_member [] (first_choice founders first resilience).view j first_good h
 
-  first_ok : (b : Bool) (j : ℕ) → has founders j ≡ b → NodeOk (group_start founders first resilience).views (opening (first_choice founders first resilience)) j
+  first_ok : (b : Bool) (j : ℕ) → has founders j ≡ b → NodeIsSound (group_start founders first resilience).views (list_with_chosen_view (first_choice founders first resilience)) j
       (record {
-        list = if b then opening (first_choice founders first resilience) else [];
+        list = if b then list_with_chosen_view (first_choice founders first resilience) else [];
         has_log = b;
         stopped = false;
         departed = false;
@@ -41,17 +41,17 @@ module _ (founders : List ℕ) (first resilience : ℕ) (may : GroupMayBegin fou
       })
   first_ok true j h = record {
     small = may.small;
-    list = λ u. begins_refl (opening (first_choice founders first resilience));
+    list = λ u. list_begins_itself (list_with_chosen_view (first_choice founders first resilience));
     blank = λ z. absurd (cc);
-    fronts = record { told = omega arith; acc = omega arith; within = omega arith; delivered = empty_list_begins_all (opening (first_choice founders first resilience)) };
+    fronts = record { told = omega arith; acc = omega arith; within = omega arith; delivered = empty_list_begins_all (list_with_chosen_view (first_choice founders first resilience)) };
     leads = λ l. record { chain = refl; member = first_member j h };
     promised = λ t m. absurd (empty_list_has_no_member j m);
     stays = λ t l a b m. first_member j h;
     joined = λ l. record { accepted = omega arith; member = first_member j h };
-    own = λ u a d below b m. let x = begins_below_length_lt below in let y = beginning_length_le b in let z : length a ≤ 0 = omega arith in absurd (nobody a j z m);
+    own = λ u a d below b m. let x = proper_beginning_is_shorter below in let y = beginning_is_no_longer b in let z : length a ≤ 0 = omega arith in absurd (nobody a j z m);
     late = λ u l. absurd (omega arith);
     ballot = λ u b. absurd (cc);
-    complete = λ x c t m. begins_refl (opening (first_choice founders first resilience));
+    complete = λ x c t m. list_begins_itself (list_with_chosen_view (first_choice founders first resilience));
     heard = λ x d l. omega arith;
   }
   first_ok false j h =
@@ -64,7 +64,7 @@ module _ (founders : List ℕ) (first resilience : ℕ) (may : GroupMayBegin fou
           told = omega arith;
           acc = omega arith;
           within = omega arith;
-          delivered = empty_list_begins_all (opening (first_choice founders first resilience));
+          delivered = empty_list_begins_all (list_with_chosen_view (first_choice founders first resilience));
         };
         leads = λ l. let z = l.up.log in absurd (cc);
         promised = λ t m. absurd (empty_list_has_no_member j m);
@@ -85,12 +85,12 @@ module _ (founders : List ℕ) (first resilience : ℕ) (may : GroupMayBegin fou
       stamps = λ x d. grind (arith, nat_tests);
       good = first_good;
       view = view_after_pushed_view [] (first_choice founders first resilience).view;
-      opens = begins_refl (opening (first_choice founders first resilience));
-      complete = λ x d. begins_refl (opening (first_choice founders first resilience));
+      opens = list_begins_itself (list_with_chosen_view (first_choice founders first resilience));
+      complete = λ x d. list_begins_itself (list_with_chosen_view (first_choice founders first resilience));
       marked = λ x d. d;
-      some = (key (first_stamp first), grind (arith, nat_tests));
+      some = (key_of_stamp (first_stamp first), grind (arith, nat_tests));
     };
-    group = begins_refl (opening (first_choice founders first resilience));
+    group = list_begins_itself (list_with_chosen_view (first_choice founders first resilience));
     each = λ j. first_ok (has founders j) j refl;
     shown = λ x j l h. absurd (cc);
     still = λ v l h. absurd (cc);
@@ -99,5 +99,5 @@ module _ (founders : List ℕ) (first resilience : ℕ) (may : GroupMayBegin fou
     sent = λ x h e. absurd (cc);
     witness = λ n low high. absurd (omega arith);
     departed = λ d h. absurd (cc);
-    enough = λ x d holders counts stored much. begins_refl (opening (first_choice founders first resilience));
+    enough = λ x d holders counts stored much. list_begins_itself (list_with_chosen_view (first_choice founders first resilience));
   }

@@ -3,19 +3,19 @@ use Rattle.std.specs.Prelude.{◌≡◌, ◌⊎◌, ℕ, ◌+◌, ◌<◌, ◌�
 use Rattle.am_base.specs.declared.name.Stamp.{Stamp}
 use Rattle.am_base.specs.Names.{has}
 use Rattle.am_base.specs.Stamps.{no_stamp}
-use Rattle.am_base.specs.Whole.{Begins, stamp_of_list, key}
-use Rattle.am_abstract_group.specs.Group.{how_many, ChainNode, Chosen, opening, Group, IsThere}
+use Rattle.am_base.specs.Whole.{IsBeginningOf, stamp_of_list, key_of_stamp}
+use Rattle.am_abstract_group.specs.Group.{count_of_passing_names, ChainNode, Chosen, list_with_chosen_view, Group, IsThere}
 use Rattle.am_abstract_group.specs.Moves.{Move, decides}
 
 -- A view completes: as many of its members as an accepted entry needs have stored its View, and none of its members that is there
 -- lags behind it.
-pub record Completes (s : Group) (view : ℕ) : Type 0 where
+pub record ViewCompletes (s : Group) (view : ℕ) : Type 0 where
   pub decided : s.views.decided view ≡ true
   pub holders : ℕ → Bool
   pub counts : (h : ℕ) → holders h ≡ true → has (s.views.chosen view).members h ≡ true
-  pub stored : (h : ℕ) → holders h ≡ true → Begins (opening (s.views.chosen view)) (s.node h).list
-  pub enough : min ((s.views.chosen view).resilience + 1) (how_many (has (s.views.chosen view).members)) ≤ how_many holders
-  pub none_lags : (j : ℕ) → has (s.views.chosen view).members j ≡ true → IsThere (s.node j) → view ≤ key (stamp_of_list (s.node j).list)
+  pub stored : (h : ℕ) → holders h ≡ true → IsBeginningOf (list_with_chosen_view (s.views.chosen view)) (s.node h).list
+  pub enough : min ((s.views.chosen view).resilience + 1) (count_of_passing_names (has (s.views.chosen view).members)) ≤ count_of_passing_names holders
+  pub none_lags : (j : ℕ) → has (s.views.chosen view).members j ≡ true → IsThere (s.node j) → view ≤ key_of_stamp (stamp_of_list (s.node j).list)
 
 -- A move, and then views that complete are marked, and stay marked.
 pub record GroupStep (s t : Group) : Type 0 where
@@ -23,18 +23,18 @@ pub record GroupStep (s t : Group) : Type 0 where
   pub move : Move s moved
   pub complete : ℕ → Bool
   pub stay : (view : ℕ) → moved.views.complete view ≡ true → complete view ≡ true
-  pub marks : (view : ℕ) → complete view ≡ true → (moved.views.complete view ≡ true) ⊎ Completes moved view
+  pub marks : (view : ℕ) → complete view ≡ true → (moved.views.complete view ≡ true) ⊎ ViewCompletes moved view
   pub is : t ≡ record moved { views = record moved.views { complete = complete } }
 
 -- the names that count for a view: its members, and who joined since
 abbrev pub counts_for : Group → ℕ → ℕ → Bool
 counts_for s view name = has (s.views.chosen view).members name
-    || ((s.node name).has_log && nat_lt (length (opening (s.views.chosen view))) (s.node name).start)
+    || ((s.node name).has_log && nat_lt (length (list_with_chosen_view (s.views.chosen view))) (s.node name).start)
 
 -- of the names that count for the greatest complete view, no more are stopped undeparted than its resilience
 abbrev pub IsLawful : Group → Type 0
 IsLawful s = (view : ℕ) → s.views.complete view ≡ true → ((x : ℕ) → s.views.complete x ≡ true → x ≤ view)
-    → how_many (λ name. counts_for s view name && ((s.node name).stopped && not (s.node name).departed)) ≤ (s.views.chosen view).resilience
+    → count_of_passing_names (λ name. counts_for s view name && ((s.node name).stopped && not (s.node name).departed)) ≤ (s.views.chosen view).resilience
 
 -- how a group begins: its founders have their View, by one of them
 pub record GroupMayBegin (founders : List ℕ) (first resilience : ℕ) : Type 0 where
@@ -52,7 +52,7 @@ first_choice founders first resilience = record {
 
 abbrev pub chain_first_node : List ℕ → ℕ → ℕ → ℕ → ChainNode
 chain_first_node founders first resilience name = record {
-  list = if has founders name then opening (first_choice founders first resilience) else [];
+  list = if has founders name then list_with_chosen_view (first_choice founders first resilience) else [];
   has_log = has founders name;
   stopped = false;
   departed = false;
@@ -70,13 +70,13 @@ group_start founders first resilience = record {
   shown = λ x name. None;
   served = λ x name. false;
   views = record {
-    decided = λ x. x == key (first_stamp first);
+    decided = λ x. x == key_of_stamp (first_stamp first);
     chosen = λ x. first_choice founders first resilience;
-    line = λ x. opening (first_choice founders first resilience);
-    complete = λ x. x == key (first_stamp first);
+    line = λ x. list_with_chosen_view (first_choice founders first resilience);
+    complete = λ x. x == key_of_stamp (first_stamp first);
     current = first_stamp first;
   };
-  group = opening (first_choice founders first resilience);
+  group = list_with_chosen_view (first_choice founders first resilience);
 }
 
 -- what a lawful run comes to

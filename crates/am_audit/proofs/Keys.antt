@@ -3,7 +3,7 @@ use Rattle.std.proofs.Common.{◌≡◌, ℕ, ◌+◌, ◌*◌, ◌<◌, ◌≤�
 use Rattle.std.proofs.Common.{Result, Ok, Err, OnOk, false, cond, refl, sym, ap, ◌∙◌, arith, ⊎_elim}
 use Rattle.std.proofs.lemmas.Bool.{cases_eq, eq-eqb}
 use Rattle.std.proofs.lemmas.Bool.Decides.{nat_tests}
-use Rattle.am_base.specs.Most.{most_number}
+use Rattle.am_base.specs.Most.{greatest_number}
 use Rattle.am_text_defs.specs.declared.fault.FieldFault.{FieldFault}
 use Rattle.am_audit_defs.specs.Fields.{two_of, expect, data_parts, data_in, is_send}
 use Rattle.am_audit_defs.specs.Lines.{Line}
@@ -28,14 +28,14 @@ send_key_is_injective f r from req low low' = ⊎_elim
     ∙ sym (ap (λ b. b && (r == req)) (differs f from ne)))
     (cases_eq f from)
 
-data_within : (text : List ℕ) (parts : ℕ × ℕ × List ℕ) → data_in text ≡ Ok parts → parts.1 ≤ most_number
+data_within : (text : List ℕ) (parts : ℕ × ℕ × List ℕ) → data_in text ≡ Ok parts → parts.1 ≤ greatest_number
 unfolding data_in
 data_within text parts h =
     let first = chained_result_is_ok (two_of text) _ parts h in
     let checked = chained_result_is_ok (expect (codes "data") first.0.0) (λ c. data_parts first.0.1) parts first.2 in
     data_parts_read_within first.0.1 parts checked.2
 
-key_by : (from req : ℕ) (sent : Result (ℕ × ℕ × List ℕ) FieldFault) → req < 4294967296 → ((parts : ℕ × ℕ × List ℕ) → sent ≡ Ok parts → parts.1 ≤ most_number)
+key_by : (from req : ℕ) (sent : Result (ℕ × ℕ × List ℕ) FieldFault) → req < 4294967296 → ((parts : ℕ × ℕ × List ℕ) → sent ≡ Ok parts → parts.1 ≤ greatest_number)
     → has_send_key (send_key from req) sent ≡ is_send from req sent
 key_by from req (Ok parts) low within = send_key_is_injective parts.0 parts.1 from req (omega (arith, within parts refl)) low
 key_by from req (Err fault) low within = refl
@@ -50,7 +50,7 @@ first_is from req (line ∷ before) low =
     ap (λ o. or_else o (cond (has_send_key (send_key from req) (data_in line.text)) (Some line.number) None)) (first_is from req before low)
     ∙ ap (λ b. or_else (first_sent from req before) (cond b (Some line.number) None)) (key_is_send from req line.text low)
 
-twice_if : (before : List Line) (sent : Result (ℕ × ℕ × List ℕ) FieldFault) (number : ℕ) → ((parts : ℕ × ℕ × List ℕ) → sent ≡ Ok parts → parts.1 ≤ most_number)
+twice_if : (before : List Line) (sent : Result (ℕ × ℕ × List ℕ) FieldFault) (number : ℕ) → ((parts : ℕ × ℕ × List ℕ) → sent ≡ Ok parts → parts.1 ≤ greatest_number)
     → twice_by_key before sent number ≡ twice_at before sent number
 twice_if before (Ok sent) number within = ap (λ o. twice_by o sent.0 sent.1 number) (first_is sent.0 sent.1 before (omega (arith, within sent refl)))
 twice_if before (Err fault) number within = refl

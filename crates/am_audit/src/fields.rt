@@ -1,5 +1,5 @@
 ghost use Rattle.std.specs.Prelude.{◌≡◌, ◌≤◌, ◌<◌, IfOk, codes};
-ghost use Rattle.am_base.specs.Most.{most_number};
+ghost use Rattle.am_base.specs.Most.{greatest_number};
 ghost use Rattle.am_text_defs.specs.Fields.{same};
 ghost use Rattle.am_audit_defs.specs.Fields.{two_of, expect, is_body, data_parts, data_of, resilience_in_text, view_in_text, outline_of, data_in};
 ghost use Rattle.am_audit_defs.specs.Fields.{told_number, send_of, answer_fields_of, take_of, return_of};

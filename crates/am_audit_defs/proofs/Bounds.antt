@@ -4,8 +4,8 @@ use Rattle.std.proofs.Common.{subst, ap, arith, ◌⊎◌, ⊎_elim, inl, inr}
 use Rattle.std.specs.Prelude.{codes, slice_index}
 use Rattle.std.specs.Str.Parse.{digits_value}
 use Rattle.std.proofs.lemmas.Bool.{leb-true}
-use Rattle.am_base.specs.Most.{most_number}
-use Rattle.am_base.specs.Limits.{IsEntry}
+use Rattle.am_base.specs.Most.{greatest_number}
+use Rattle.am_base.specs.Limits.{EntryIsInRange}
 use Rattle.am_base.specs.declared.entry.GroupView.{GroupView}
 use Rattle.am_base.specs.declared.name.Stamp.{Stamp}
 use Rattle.am_text_defs.specs.declared.fault.FieldFault.{FieldFault}
@@ -54,11 +54,11 @@ stamp_round round (Some word) stamp h =
     let is : record { round = round; by = by.0 } ≡ stamp = same_result_same_value _ stamp (Ok (record { round = round; by = by.0 })) refl by.2 in
     ap (λ (s : Stamp). s.round) (sym is)
 
-stamp_within : (word : List ℕ) (stamp : Stamp) → stamp_in_text word ≡ Ok stamp → stamp.round ≤ most_number
+stamp_within : (word : List ℕ) (stamp : Stamp) → stamp_in_text word ≡ Ok stamp → stamp.round ≤ greatest_number
 unfolding stamp_in_text
 stamp_within word stamp h =
     let round = chained_result_is_ok (number_in_text (cut_of 46 word).0) (λ round. stamp_with round (cut_of 46 word).1) stamp h in
-    omega (arith, up_to most_number (cut_of 46 word).0 round.0 round.1, stamp_round round.0 (cut_of 46 word).1 stamp round.2)
+    omega (arith, up_to greatest_number (cut_of 46 word).0 round.0 round.1, stamp_round round.0 (cut_of 46 word).1 stamp round.2)
 
 resilience_within : (word : List ℕ) (resilience : ℕ) → resilience_in_text word ≡ Ok resilience → resilience ≤ 15
 unfolding resilience_in_text
@@ -74,7 +74,7 @@ resilience_in_within : (word : Option (List ℕ)) (resilience : ℕ) → resilie
 resilience_in_within None resilience h = let is : 0 ≡ resilience = same_result_same_value 0 resilience (Ok 0) refl h in omega (arith, is)
 resilience_in_within (Some word) resilience h = resilience_within word resilience h
 
-view_within : (text : List ℕ) (outline : Outline) → view_in_text text ≡ Ok outline → IsEntry (bare_entry outline)
+view_within : (text : List ℕ) (outline : Outline) → view_in_text text ≡ Ok outline → EntryIsInRange (bare_entry outline)
 unfolding view_in_text
 view_within text outline h =
     let first = chained_result_is_ok (two_of text) _ outline h in
@@ -83,10 +83,10 @@ view_within text outline h =
     let viewed : ℕ → GroupView = λ r. record { stamp = stamp.0; members = members.0; resilience = r } in
     let resilience = chained_result_is_ok (resilience_in (cut_of 32 first.0.1).1) (λ r. Ok (outlines.View (viewed r))) outline members.2 in
     let is : outlines.View (viewed resilience.0) ≡ outline = same_result_same_value _ outline (Ok (outlines.View (viewed resilience.0))) refl resilience.2 in
-    subst (λ (o : Outline). IsEntry (bare_entry o)) is
+    subst (λ (o : Outline). EntryIsInRange (bare_entry o)) is
     (stamp_within first.0.0 stamp.0 stamp.1, resilience_in_within (cut_of 32 first.0.1).1 resilience.0 resilience.1)
 
-pub data_parts_read_within : (text : List ℕ) (parts : ℕ × ℕ × List ℕ) → data_parts text ≡ Ok parts → parts.1 ≤ most_number
+pub data_parts_read_within : (text : List ℕ) (parts : ℕ × ℕ × List ℕ) → data_parts text ≡ Ok parts → parts.1 ≤ greatest_number
 unfolding data_parts
 data_parts_read_within text parts h =
     let first = chained_result_is_ok (two_of text) _ parts h in
@@ -94,30 +94,30 @@ data_parts_read_within text parts h =
     let second = chained_result_is_ok (two_of first.0.1) _ parts from.2 in
     let req = chained_result_is_ok (number_in_text second.0.0) (λ req. Ok (from.0, req, second.0.1)) parts second.2 in
     let is : (from.0, req.0, second.0.1) ≡ parts = same_result_same_value (from.0, req.0, second.0.1) parts (Ok (from.0, req.0, second.0.1)) refl req.2 in
-    omega (arith, up_to most_number second.0.0 req.0 req.1, ap (λ (p : ℕ × ℕ × List ℕ). p.1) is)
+    omega (arith, up_to greatest_number second.0.0 req.0 req.1, ap (λ (p : ℕ × ℕ × List ℕ). p.1) is)
 
-data_within : (text : List ℕ) (outline : Outline) → data_of text ≡ Ok outline → IsEntry (bare_entry outline)
+data_within : (text : List ℕ) (outline : Outline) → data_of text ≡ Ok outline → EntryIsInRange (bare_entry outline)
 unfolding data_of
 data_within text outline h =
     let parts = chained_result_is_ok (data_parts text) _ outline h in
     let checked = chained_result_is_ok (is_body parts.0.2) (λ c. Ok (outlines.Data parts.0.0 parts.0.1)) outline parts.2 in
     let is : outlines.Data parts.0.0 parts.0.1 ≡ outline = same_result_same_value _ outline (Ok (outlines.Data parts.0.0 parts.0.1)) refl checked.2 in
-    subst (λ (o : Outline). IsEntry (bare_entry o)) is (data_parts_read_within text parts.0 parts.1)
+    subst (λ (o : Outline). EntryIsInRange (bare_entry o)) is (data_parts_read_within text parts.0 parts.1)
 
-join_within : (word : List ℕ) (outline : Outline) → and_then (name_in_text word) (λ name. Ok (outlines.Join name)) ≡ Ok outline → IsEntry (bare_entry outline)
+join_within : (word : List ℕ) (outline : Outline) → and_then (name_in_text word) (λ name. Ok (outlines.Join name)) ≡ Ok outline → EntryIsInRange (bare_entry outline)
 join_within word outline h =
     let name = chained_result_is_ok (name_in_text word) (λ name. Ok (outlines.Join name)) outline h in
     let is : outlines.Join name.0 ≡ outline = same_result_same_value _ outline (Ok (outlines.Join name.0)) refl name.2 in
-    subst (λ (o : Outline). IsEntry (bare_entry o)) is tt
+    subst (λ (o : Outline). EntryIsInRange (bare_entry o)) is tt
 
-leave_within : (word : List ℕ) (outline : Outline) → and_then (name_in_text word) (λ name. Ok (outlines.Leave name)) ≡ Ok outline → IsEntry (bare_entry outline)
+leave_within : (word : List ℕ) (outline : Outline) → and_then (name_in_text word) (λ name. Ok (outlines.Leave name)) ≡ Ok outline → EntryIsInRange (bare_entry outline)
 leave_within word outline h =
     let name = chained_result_is_ok (name_in_text word) (λ name. Ok (outlines.Leave name)) outline h in
     let is : outlines.Leave name.0 ≡ outline = same_result_same_value _ outline (Ok (outlines.Leave name.0)) refl name.2 in
-    subst (λ (o : Outline). IsEntry (bare_entry o)) is tt
+    subst (λ (o : Outline). EntryIsInRange (bare_entry o)) is tt
 
 -- an entry's numbers are within their limits
-pub outline_read_is_entry : (text : List ℕ) (outline : Outline) → outline_of text ≡ Ok outline → IsEntry (bare_entry outline)
+pub outline_read_is_entry : (text : List ℕ) (outline : Outline) → outline_of text ≡ Ok outline → EntryIsInRange (bare_entry outline)
 unfolding outline_of
 outline_read_is_entry text outline h =
     let first = chained_result_is_ok (two_of text) _ outline h in

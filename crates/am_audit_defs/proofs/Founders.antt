@@ -5,7 +5,7 @@ use Rattle.std.specs.Prelude.{slice_index}
 use Rattle.std.specs.List.{list_all}
 use Rattle.std.proofs.lemmas.Bool.{eq-eqb, eqb-true}
 use Rattle.std.proofs.lemmas.Bool.Decides.{nat_tests}
-use Rattle.am_base.specs.Names.{first_of, names_from, lowest_of}
+use Rattle.am_base.specs.Names.{first_name_of, names_from, lowest_name_of}
 use Rattle.am_base.specs.declared.entry.GroupView.{GroupView}
 use Rattle.am_audit_defs.specs.declared.outline.Outline.{Outline}
 use Rattle.am_audit_defs.specs.declared.outline.Outline.TheVariants as outlines
@@ -45,7 +45,7 @@ below_more : (lives : List ℕ) (at : ℕ) → ((place : ℕ) → place < at →
 below_more lives at below zero within = refl
 below_more lives at below (suc place) within = below place (omega (arith, within))
 
-least_of : (from : ℕ) (lives : List ℕ) (name : ℕ) → ((place : ℕ) → slice_index lives place ≤ 1) → first_of (names_from from lives) ≡ Some name
+least_of : (from : ℕ) (lives : List ℕ) (name : ℕ) → ((place : ℕ) → slice_index lives place ≤ 1) → first_name_of (names_from from lives) ≡ Some name
     → IsLeast from lives name
 least_of from [] name low is = cc
 least_of from (zero ∷ lives) name low is =
@@ -58,7 +58,7 @@ least_of from (suc before ∷ lives) name low is =
     record { at = 0; is = omega (arith, same, none); there = omega (arith, none); below = λ place within. absurd (omega (arith, within)) }
 
 least_first : (from : ℕ) (lives : List ℕ) (at : ℕ) → slice_index lives at ≡ 1 → ((place : ℕ) → place < at → slice_index lives place ≡ 0)
-    → first_of (names_from from lives) ≡ Some (from + at)
+    → first_name_of (names_from from lives) ≡ Some (from + at)
 least_first from [] at there below = cc
 least_first from (zero ∷ lives) zero there below = cc
 least_first from (zero ∷ lives) (suc at) there below =
@@ -75,11 +75,11 @@ founding_outline_is_view (outlines.Data from req) is = cc
 founding_outline_is_view (outlines.Join name) is = cc
 founding_outline_is_view (outlines.Leave name) is = cc
 founding_outline_is_view (outlines.View v) is =
-    let halves = and_of ((v.stamp.round == 1) && is_lowest (lowest_of v.members) v.stamp.by) (list_all (λ life. nat_le life 1) v.members && (v.resilience == 0)) is in
-    let first = and_of (v.stamp.round == 1) (is_lowest (lowest_of v.members) v.stamp.by) halves.0 in
+    let halves = and_of ((v.stamp.round == 1) && is_lowest (lowest_name_of v.members) v.stamp.by) (list_all (λ life. nat_le life 1) v.members && (v.resilience == 0)) is in
+    let first = and_of (v.stamp.round == 1) (is_lowest (lowest_name_of v.members) v.stamp.by) halves.0 in
     let second = and_of (list_all (λ life. nat_le life 1) v.members) (v.resilience == 0) halves.1 in
     let low = low_lives v.members second.0 in
-    let least = least_of 0 v.members v.stamp.by low (by_lowest (lowest_of v.members) v.stamp.by first.1) in
+    let least = least_of 0 v.members v.stamp.by low (by_lowest (lowest_name_of v.members) v.stamp.by first.1) in
     let at : least.at ≡ v.stamp.by = omega (arith, least.is) in (
       v,
       refl,
@@ -94,9 +94,9 @@ founding_outline_is_view (outlines.View v) is =
 
 pub founding_view_founds : (v : GroupView) → IsFounding v → founds (outlines.View v) ≡ true
 founding_view_founds v is =
-    let lowest : lowest_of v.members ≡ Some v.stamp.by = least_first 0 v.members v.stamp.by is.founder is.lowest ∙ ap (λ (n : ℕ). Some n) (omega arith) in
-    let by : is_lowest (lowest_of v.members) v.stamp.by ≡ true
+    let lowest : lowest_name_of v.members ≡ Some v.stamp.by = least_first 0 v.members v.stamp.by is.founder is.lowest ∙ ap (λ (n : ℕ). Some n) (omega arith) in
+    let by : is_lowest (lowest_name_of v.members) v.stamp.by ≡ true
     = ap (λ o. is_lowest o v.stamp.by) lowest ∙ eq-eqb v.stamp.by v.stamp.by refl in
-    both ((v.stamp.round == 1) && is_lowest (lowest_of v.members) v.stamp.by) (list_all (λ life. nat_le life 1) v.members && (v.resilience == 0))
-    (both (v.stamp.round == 1) (is_lowest (lowest_of v.members) v.stamp.by) (eq-eqb v.stamp.round 1 is.round) by)
+    both ((v.stamp.round == 1) && is_lowest (lowest_name_of v.members) v.stamp.by) (list_all (λ life. nat_le life 1) v.members && (v.resilience == 0))
+    (both (v.stamp.round == 1) (is_lowest (lowest_name_of v.members) v.stamp.by) (eq-eqb v.stamp.round 1 is.round) by)
     (both (list_all (λ life. nat_le life 1) v.members) (v.resilience == 0) (all_low v.members is.lives) (eq-eqb v.resilience 0 is.resilience))

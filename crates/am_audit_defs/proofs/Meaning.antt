@@ -4,9 +4,9 @@ use Rattle.std.proofs.Common.{true, false, cond, refl, sym, subst, ap, ◌∙◌
 use Rattle.std.proofs.lemmas.Bool.{eq-eqb, eqb-true}
 use Rattle.std.proofs.lemmas.Bool.Decides.{nat_tests}
 use Rattle.std.proofs.lemmas.Slice.Eq.{bytes_eq-Decides}
-use Rattle.am_base.specs.Most.{most_number}
+use Rattle.am_base.specs.Most.{greatest_number}
 use Rattle.am_base.specs.Names.{has}
-use Rattle.am_base.specs.Lists.{blank, after, fits, AllFit}
+use Rattle.am_base.specs.Lists.{blank, after, fits, AllEntriesFit}
 use Rattle.am_base.specs.declared.image.Image.{Image}
 use Rattle.am_base.specs.declared.entry.GroupView.{GroupView}
 use Rattle.am_group.specs.Journals.{item_at}
@@ -226,13 +226,13 @@ fit_by : (number : ℕ) (image : Image) (r : Result Outline FieldFault) → 1 < 
 fit_by number image (Err fault) behind h = cc
 fit_by number image (Ok outline) behind h =
     let other : (number == 1) ≡ false = grind (arith, nat_tests) in
-    let rest : (nat_le number most_number && fits image (bare_entry outline)) ≡ true
-    = sym (ap (λ b. cond b (founds outline) (nat_le number most_number && fits image (bare_entry outline))) other) ∙ h in
-    (outline, refl, (both_conditions_of_and (nat_le number most_number) (fits image (bare_entry outline)) rest).1)
+    let rest : (nat_le number greatest_number && fits image (bare_entry outline)) ≡ true
+    = sym (ap (λ b. cond b (founds outline) (nat_le number greatest_number && fits image (bare_entry outline))) other) ∙ h in
+    (outline, refl, (both_conditions_of_and (nat_le number greatest_number) (fits image (bare_entry outline)) rest).1)
 
 fitting : (number : ℕ) (image : Image) (texts : List (List ℕ)) → 1 < number → first_misfit number image texts ≡ None
-    → (list : List Outline) × (map outline_of texts ≡ map Ok list) × AllFit image number (map bare_entry list)
-unfolding AllFit
+    → (list : List Outline) × (map outline_of texts ≡ map Ok list) × AllEntriesFit image number (map bare_entry list)
+unfolding AllEntriesFit
 fitting number image [] behind none = ([], refl, tt)
 fitting number image (text ∷ texts) behind none =
     let later = first_misfit (number + 1) (image_after number image (outline_of text)) texts in

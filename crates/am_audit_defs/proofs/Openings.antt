@@ -12,7 +12,7 @@ use Rattle.am_audit_defs.specs.Fields.{two_of, expect, outline_of, send_of, answ
 use Rattle.am_audit_defs.specs.Lines.{Reading, nothing_read, may_event, may_list, may_log, is_text_end}
 use Rattle.am_audit_defs.specs.Lines.{mark_cut, with_send, with_sent_answer, with_take, with_return, counted}
 use Rattle.am_audit_defs.specs.Lines.{with_event, add_event, add_entry, logged, add_log, add_end, add_void, add_line, read_on, read_lines, read_behind, read_text}
-use Rattle.am_audit_defs.specs.Agreement.{lines_and, HasNoNewline, AreLines}
+use Rattle.am_audit_defs.specs.Agreement.{lines_before_rest, HasNoNewline, AreLines}
 use Rattle.am_audit_defs.proofs.Bounds.{chained_result_is_ok, chosen_branch_of_value, guarded_result_is_ok, same_result_same_value}
 use Rattle.am_audit_defs.proofs.Beginnings.{cut_of_line_at_newline, first_byte_before_newline}
 use Rattle.am_audit_defs.proofs.Texts.{read_lines_takes_good_line, read_lines_at_bad_line}
@@ -153,16 +153,16 @@ passes_fresh s t [] passes fresh = subst IsFresh passes fresh
 passes_fresh s t (line ∷ lines) passes fresh = passes_fresh passes.0 t lines passes.2 (add_line_fresh s passes.0 line passes.1 fresh)
 
 passes_read : (number : ℕ) (s t : Reading) (lines : List (List ℕ)) (more : List ℕ) → AreLines lines → Passes s lines t
-    → read_lines number s (split_text 10 (lines_and lines more)) ≡ read_lines (number + length lines) t (split_text 10 more)
+    → read_lines number s (split_text 10 (lines_before_rest lines more)) ≡ read_lines (number + length lines) t (split_text 10 more)
 passes_read number s t [] more whole passes =
     ap (λ (u : Reading). read_lines number u (split_text 10 more)) passes ∙ ap (λ (n : ℕ). read_lines n t (split_text 10 more)) (omega arith)
 passes_read number s t (line ∷ lines) more whole passes =
-    read_lines_takes_good_line number s passes.0 (line ++ 10 ∷ lines_and lines more) line (lines_and lines more) (cut_of_line_at_newline line (lines_and lines more) whole.0) passes.1
+    read_lines_takes_good_line number s passes.0 (line ++ 10 ∷ lines_before_rest lines more) line (lines_before_rest lines more) (cut_of_line_at_newline line (lines_before_rest lines more) whole.0) passes.1
     ∙ passes_read (number + 1) passes.0 t lines more whole.1 passes.2
     ∙ ap (λ (n : ℕ). read_lines n t (split_text 10 more)) (omega arith)
 
 abbrev IsBad : ℕ → Reading → List (List ℕ) → Type 0
-IsBad number s lines = (line : ℕ) × (line < number + length lines) × (read_lines number s (split_text 10 (lines_and lines [])) ≡ Err line)
+IsBad number s lines = (line : ℕ) × (line < number + length lines) × (read_lines number s (split_text 10 (lines_before_rest lines [])) ≡ Err line)
 
 pass_by : (number : ℕ) (s : Reading) (line : List ℕ) (lines : List (List ℕ)) (r : Result Reading FieldFault) → add_line s line ≡ r → HasNoNewline line
     → ((u : Reading) → ((t : Reading) × Passes u lines t) ⊎ IsBad (number + 1) u lines)
@@ -172,13 +172,13 @@ pass_by number s line lines (Ok u) is whole later = ⊎_elim
     (λ bad. inr (
       bad.0,
       omega (arith, bad.1),
-      read_lines_takes_good_line number s u (line ++ 10 ∷ lines_and lines []) line (lines_and lines []) (cut_of_line_at_newline line (lines_and lines []) whole) is ∙ bad.2,
+      read_lines_takes_good_line number s u (line ++ 10 ∷ lines_before_rest lines []) line (lines_before_rest lines []) (cut_of_line_at_newline line (lines_before_rest lines []) whole) is ∙ bad.2,
     ))
     (later u)
 pass_by number s line lines (Err fault) is whole later = inr (
   number,
   omega arith,
-  read_lines_at_bad_line number s (line ++ 10 ∷ lines_and lines []) line (lines_and lines []) (cut_of_line_at_newline line (lines_and lines []) whole) (subst IsErr (sym is) refl),
+  read_lines_at_bad_line number s (line ++ 10 ∷ lines_before_rest lines []) line (lines_before_rest lines []) (cut_of_line_at_newline line (lines_before_rest lines []) whole) (subst IsErr (sym is) refl),
 )
 
 pass : (number : ℕ) (s : Reading) (lines : List (List ℕ)) → AreLines lines → ((t : Reading) × Passes s lines t) ⊎ IsBad number s lines
@@ -224,8 +224,8 @@ fresh_first is = refl
 
 -- lines of which none is bad go on to a text
 goes_on : (number : ℕ) (lines : List (List ℕ)) → AreLines lines → ((line : ℕ)
-    → read_lines number nothing_read (split_text 10 (lines_and lines [])) ≡ Err line → number + length lines ≤ line)
-    → (more : List ℕ) × (s : Reading) × (read_lines number nothing_read (split_text 10 (lines_and lines more)) ≡ Ok s)
+    → read_lines number nothing_read (split_text 10 (lines_before_rest lines [])) ≡ Err line → number + length lines ≤ line)
+    → (more : List ℕ) × (s : Reading) × (read_lines number nothing_read (split_text 10 (lines_before_rest lines more)) ≡ Ok s)
 goes_on number lines whole good = ⊎_elim
     (λ found.
     let end = ends_by (number + length lines) found.0 found.0.stage refl (passes_fresh nothing_read found.0 lines found.1 fresh_first) in
@@ -234,31 +234,31 @@ goes_on number lines whole good = ⊎_elim
     (pass number nothing_read lines whole)
 
 text_by : (first : List ℕ) (lines : List (List ℕ)) (b : Bool) → HasNoNewline first → AreLines lines
-    → ((line : ℕ) → cond b (read_behind (cut_of 10 (first ++ 10 ∷ lines_and lines [])).1) (read_lines 1 nothing_read (split_text 10
-    (first ++ 10 ∷ lines_and lines []))) ≡ Err line
+    → ((line : ℕ) → cond b (read_behind (cut_of 10 (first ++ 10 ∷ lines_before_rest lines [])).1) (read_lines 1 nothing_read (split_text 10
+    (first ++ 10 ∷ lines_before_rest lines []))) ≡ Err line
     → length lines + 1 < line)
     → (more : List ℕ) × (s : Reading)
-    × (cond b (read_behind (cut_of 10 (first ++ 10 ∷ lines_and lines more)).1) (read_lines 1 nothing_read (split_text 10
-    (first ++ 10 ∷ lines_and lines more))) ≡ Ok s)
+    × (cond b (read_behind (cut_of 10 (first ++ 10 ∷ lines_before_rest lines more)).1) (read_lines 1 nothing_read (split_text 10
+    (first ++ 10 ∷ lines_before_rest lines more))) ≡ Ok s)
 text_by first lines true one whole good =
     let rest = goes_on 2 lines whole (λ line bad. omega (
       arith,
       good line
-          (ap (λ (c : List ℕ × Option (List ℕ)). read_behind c.1) (cut_of_line_at_newline first (lines_and lines []) one) ∙ bad),
+          (ap (λ (c : List ℕ × Option (List ℕ)). read_behind c.1) (cut_of_line_at_newline first (lines_before_rest lines []) one) ∙ bad),
     )) in
-    (rest.0, rest.1, ap (λ (c : List ℕ × Option (List ℕ)). read_behind c.1) (cut_of_line_at_newline first (lines_and lines rest.0) one) ∙ rest.2)
+    (rest.0, rest.1, ap (λ (c : List ℕ × Option (List ℕ)). read_behind c.1) (cut_of_line_at_newline first (lines_before_rest lines rest.0) one) ∙ rest.2)
 text_by first lines false one whole good = goes_on 1 (first ∷ lines) (one, whole) (λ line bad. omega (arith, good line bad))
 
-pub good_lines_begin_text : (lines : List (List ℕ)) → AreLines lines → ((line : ℕ) → read_text (lines_and lines []) ≡ Err line → length lines < line)
-    → (more : List ℕ) × (s : Reading) × (read_text (lines_and lines more) ≡ Ok s)
+pub good_lines_begin_text : (lines : List (List ℕ)) → AreLines lines → ((line : ℕ) → read_text (lines_before_rest lines []) ≡ Err line → length lines < line)
+    → (more : List ℕ) × (s : Reading) × (read_text (lines_before_rest lines more) ≡ Ok s)
 good_lines_begin_text [] whole good =
     let end = ends_by 1 nothing_read stages.Events refl fresh_first in
     (ending stages.Events, end.0, end.1)
 good_lines_begin_text (first ∷ lines) whole good =
-    let found = text_by first lines (slice_index (first ++ 10 ∷ lines_and lines []) 0 == 123) whole.0 whole.1 (λ line bad. omega (arith, good line bad)) in (
+    let found = text_by first lines (slice_index (first ++ 10 ∷ lines_before_rest lines []) 0 == 123) whole.0 whole.1 (λ line bad. omega (arith, good line bad)) in (
       found.0,
       found.1,
-      ap (λ (n : ℕ). cond (n == 123) (read_behind (cut_of 10 (first ++ 10 ∷ lines_and lines found.0)).1)
-          (read_lines 1 nothing_read (split_text 10 (first ++ 10 ∷ lines_and lines found.0)))) (first_byte_before_newline first (lines_and lines found.0) (lines_and lines []))
+      ap (λ (n : ℕ). cond (n == 123) (read_behind (cut_of 10 (first ++ 10 ∷ lines_before_rest lines found.0)).1)
+          (read_lines 1 nothing_read (split_text 10 (first ++ 10 ∷ lines_before_rest lines found.0)))) (first_byte_before_newline first (lines_before_rest lines found.0) (lines_before_rest lines []))
           ∙ found.2,
     )

@@ -3,8 +3,8 @@ use Rattle.std.proofs.Common.{◌≡◌, ◌≢◌, ℕ, zero, suc, ◌+◌, ◌
 use Rattle.std.proofs.Common.{Bool, true, false, cond, refl, sym, subst, ap, ◌∙◌, arith, add-one, ⊎_elim}
 use Rattle.std.proofs.lemmas.Bool.{eq-eqb, eqb-true}
 use Rattle.std.proofs.lemmas.Option.{slice_get_within}
-use Rattle.am_base.specs.Most.{most_number}
-use Rattle.am_base.specs.Lists.{blank, after, fits, fold, AllFit}
+use Rattle.am_base.specs.Most.{greatest_number}
+use Rattle.am_base.specs.Lists.{blank, after, fits, image_after_entries, AllEntriesFit}
 use Rattle.am_base.specs.declared.image.Image.{Image}
 use Rattle.am_group.specs.Journals.{item_at}
 use Rattle.am_audit_defs.specs.declared.verdict.Verdict.{Verdict}
@@ -152,24 +152,24 @@ matched (t ∷ ts) (o ∷ os) (b ∷ bs) text all there read =
       begins = ap (λ (x : Outline). x ∷ take (length bs) os) alike ∙ ap (λ (xs : List Outline). b ∷ xs) found.begins;
     }
 
-fit_at : (image : Image) (number k : ℕ) (list : List Outline) (outline : Outline) → AllFit image number (map bare_entry list) → slice_get list k ≡ Some outline
-    → fits (fold image number (map bare_entry (take k list))) (bare_entry outline) ≡ true
-unfolding AllFit fold
+fit_at : (image : Image) (number k : ℕ) (list : List Outline) (outline : Outline) → AllEntriesFit image number (map bare_entry list) → slice_get list k ≡ Some outline
+    → fits (image_after_entries image number (map bare_entry (take k list))) (bare_entry outline) ≡ true
+unfolding AllEntriesFit image_after_entries
 fit_at image number k [] outline fit there = cc
 fit_at image number zero (o ∷ os) outline fit there =
     let alike : o ≡ outline = cc in ap (λ (x : Outline). fits image (bare_entry x)) (sym alike) ∙ fit.0
 fit_at image number (suc k) (o ∷ os) outline fit there = fit_at (after image number (bare_entry o)) (number + 1) k os outline fit.1 there
 
 stand_by : (list before : List Outline) (outline : Outline) → FitBehind list → take (length before) list ≡ before → slice_get list (length before) ≡ Some outline
-    → 0 < length before → fits (fold blank 1 (map bare_entry before)) (bare_entry outline) ≡ true
-unfolding fold
+    → 0 < length before → fits (image_after_entries blank 1 (map bare_entry before)) (bare_entry outline) ≡ true
+unfolding image_after_entries
 stand_by list [] outline fit begins there some = absurd (omega (arith, some))
 stand_by [] (b ∷ bs) outline fit begins there some = cc
 stand_by (o ∷ os) (b ∷ bs) outline fit begins there some =
     let is = fit_at (after blank 1 (bare_entry o)) (1 + 1) (length bs) os outline fit there in
-    ap (λ (xs : List Outline). fits (fold blank 1 (map bare_entry xs)) (bare_entry outline)) (sym begins) ∙ is
+    ap (λ (xs : List Outline). fits (image_after_entries blank 1 (map bare_entry xs)) (bare_entry outline)) (sym begins) ∙ is
 
-no_misfit : (s : Reading) (before : List Outline) (text : List ℕ) → Lists s → length s.group ≤ most_number → slice_get s.group (length before) ≡ Some text
+no_misfit : (s : Reading) (before : List Outline) (text : List ℕ) → Lists s → length s.group ≤ greatest_number → slice_get s.group (length before) ≡ Some text
     → map outline_of (take (length before) s.group) ≡ map Ok before → ((outline : Outline) → outline_of text ≡ Ok outline → MayStand before outline → ⊥) → ⊥
 no_misfit s [] text lists few there read none =
     let found = lists.founded text there in none (outlines.View found.0) found.1 found.2
@@ -184,7 +184,7 @@ no_misfit s (b ∷ bs) text lists few there read none =
 
 -- ---- each verdict
 
-right_by : (s : Reading) → length s.group ≤ most_number → StandOnce s.group → Agreed s → (v : Verdict) → VerdictSays s v → is_right v ≡ true
+right_by : (s : Reading) → length s.group ≤ greatest_number → StandOnce s.group → Agreed s → (v : Verdict) → VerdictSays s v → is_right v ≡ true
 right_by s few once agreed (verdicts.Gap node number) says =
     absurd (says.5 (no_gap s says.0 node number says.1 says.2 agreed.lists says.3 says.4))
 right_by s few once agreed (verdicts.Differs node_a node_b number) says =
@@ -252,5 +252,5 @@ right_by s few once agreed (verdicts.Untaken node number) says =
     absurd (omega (arith, above, same, says.1.3))
 right_by s few once agreed verdicts.Agrees says = refl
 
-pub agreed_reading_is_right : (s : Reading) → length s.group ≤ most_number → StandOnce s.group → Agreed s → is_right (verdict_of s) ≡ true
+pub agreed_reading_is_right : (s : Reading) → length s.group ≤ greatest_number → StandOnce s.group → Agreed s → is_right (verdict_of s) ≡ true
 agreed_reading_is_right s few once agreed = right_by s few once agreed (verdict_of s) (verdict_says_what_holds s)

@@ -6,9 +6,9 @@ use Rattle.std.specs.Prelude.{unwrap_or, option_map}
 use Rattle.std.proofs.lemmas.Bool.{eq-eqb, eqb-true}
 use Rattle.std.proofs.lemmas.Bool.Decides.{nat_tests}
 use Rattle.std.proofs.lemmas.Slice.Eq.{bytes_eq-Decides}
-use Rattle.am_base.specs.Most.{most_number}
+use Rattle.am_base.specs.Most.{greatest_number}
 use Rattle.am_base.specs.Names.{has}
-use Rattle.am_base.specs.Lists.{blank, after, fits, fold}
+use Rattle.am_base.specs.Lists.{blank, after, fits, image_after_entries}
 use Rattle.am_base.specs.declared.image.Image.{Image}
 use Rattle.am_group.specs.Journals.{item_at}
 use Rattle.am_text_defs.specs.declared.fault.FieldFault.{FieldFault}
@@ -211,7 +211,7 @@ both true b one two = two
 both false b one two = cc
 
 -- what may stand behind others fits there
-may_fit : (n : ℕ) (before : List Outline) (image : Image) (outline : Outline) → n ≡ length before → fold blank 1 (map bare_entry before) ≡ image
+may_fit : (n : ℕ) (before : List Outline) (image : Image) (outline : Outline) → n ≡ length before → image_after_entries blank 1 (map bare_entry before) ≡ image
     → MayStand before outline → fits_at (n + 1) image (Ok outline) ≡ true
 may_fit n [] image (outlines.Data from req) is told may = absurd may
 may_fit n [] image (outlines.Join name) is told may = absurd may
@@ -220,12 +220,12 @@ may_fit n [] image (outlines.View v) is told may =
     ap (λ (k : ℕ). fits_at (k + 1) image (Ok (outlines.View v))) is ∙ founding_view_founds v may
 may_fit n (first ∷ others) image outline is told may =
     let some : 0 < n = omega (arith, is) in
-    let below : n + 1 ≤ most_number = omega (arith, is, may.0) in
+    let below : n + 1 ≤ greatest_number = omega (arith, is, may.0) in
     let other : (n + 1 == 1) ≡ false = grind (arith, nat_tests) in
-    let low : nat_le (n + 1) most_number ≡ true = grind (arith, nat_tests) in
+    let low : nat_le (n + 1) greatest_number ≡ true = grind (arith, nat_tests) in
     let here : fits image (bare_entry outline) ≡ true = ap (λ (i : Image). fits i (bare_entry outline)) (sym told) ∙ may.1 in
-    ap (λ b. cond b (founds outline) (nat_le (n + 1) most_number && fits image (bare_entry outline))) other
-    ∙ both (nat_le (n + 1) most_number) (fits image (bare_entry outline)) low here
+    ap (λ b. cond b (founds outline) (nat_le (n + 1) greatest_number && fits image (bare_entry outline))) other
+    ∙ both (nat_le (n + 1) greatest_number) (fits image (bare_entry outline)) low here
 
 read_by : (n : ℕ) (image : Image) (r : Result Outline FieldFault) → fits_at n image r ≡ true → (outline : Outline) × (r ≡ Ok outline)
 read_by n image (Err fault) is = cc
@@ -235,18 +235,18 @@ true_if : {A : Type 0} (b : Bool) (x : A) → cond b None (Some x) ≡ None → 
 true_if true x none = refl
 true_if false x none = cc
 
-told_next : (n : ℕ) (before : List Outline) (image : Image) (outline : Outline) → n ≡ length before → fold blank 1 (map bare_entry before) ≡ image
-    → fold blank 1 (map bare_entry (before ++ outline ∷ [])) ≡ after image (n + 1) (bare_entry outline)
-unfolding fold
+told_next : (n : ℕ) (before : List Outline) (image : Image) (outline : Outline) → n ≡ length before → image_after_entries blank 1 (map bare_entry before) ≡ image
+    → image_after_entries blank 1 (map bare_entry (before ++ outline ∷ [])) ≡ after image (n + 1) (bare_entry outline)
+unfolding image_after_entries
 told_next n before image outline is told =
     let number : 1 + length (map bare_entry before) ≡ n + 1 = omega (arith, is, length-map before bare_entry) in
-    ap (fold blank 1) (map-append bare_entry before (outline ∷ []))
+    ap (image_after_entries blank 1) (map-append bare_entry before (outline ∷ []))
     ∙ fold_append blank 1 (map bare_entry before) (bare_entry outline ∷ [])
-    ∙ ap (λ (k : ℕ). after (fold blank 1 (map bare_entry before)) k (bare_entry outline)) number
+    ∙ ap (λ (k : ℕ). after (image_after_entries blank 1 (map bare_entry before)) k (bare_entry outline)) number
     ∙ ap (λ (i : Image). after i (n + 1) (bare_entry outline)) told
 
 misfit_found : (s : Reading) (n : ℕ) (before : List Outline) (image : Image) (texts : List (List ℕ)) → n ≡ length before
-    → fold blank 1 (map bare_entry before) ≡ image → map outline_of (take n s.group) ≡ map Ok before
+    → image_after_entries blank 1 (map bare_entry before) ≡ image → map outline_of (take n s.group) ≡ map Ok before
     → ((k : ℕ) → slice_get s.group (n + k) ≡ slice_get texts k) → Found s (first_misfit (n + 1) image texts)
 misfit_found s n before image [] is told read at = tt
 misfit_found s n before image (text ∷ texts) is told read at =
@@ -459,7 +459,7 @@ from_first : {A : Type 0} (xs : List A) (k : ℕ) → slice_get xs (0 + k) ≡ s
 from_first xs k = let equal : 0 + k ≡ k = omega arith in ap (slice_get xs) equal
 
 lists_found : (s : Reading) → Found s (wrong_lists s)
-unfolding wrong_lists fold
+unfolding wrong_lists image_after_entries
 lists_found s =
     found_or s (first_fault [] s.logs) _ (fault_found s 0 [] s.logs (no_line_is_before_first s.logs))
     (found_or s (first_astray s.group s.logs) _ (astray_found s 0 s.logs (from_first s.logs))

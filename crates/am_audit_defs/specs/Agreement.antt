@@ -2,7 +2,7 @@
 use Rattle.std.specs.Prelude.{◌≡◌, ◌≢◌, ℕ, ◌+◌, ◌<◌, ◌≤◌, ◌==◌, not, List, [], ◌∷◌, ◌++◌, length, map, slice_get, slice_index, Some, Ok, Err, true}
 use Rattle.std.specs.List.{list_all}
 use Rattle.am_base.specs.Names.{has}
-use Rattle.am_base.specs.Lists.{blank, after, AllFit}
+use Rattle.am_base.specs.Lists.{blank, after, AllEntriesFit}
 use Rattle.am_base.specs.declared.entry.GroupView.{GroupView}
 use Rattle.am_group.specs.Journals.{item_at}
 use Rattle.am_audit_defs.specs.declared.outline.Outline.{Outline}
@@ -52,7 +52,7 @@ IsFounded group = (text : List ℕ) → item_at group 1 ≡ Some text → (view 
 -- each entry behind the first fits those before it
 abbrev pub FitBehind : List Outline → Type 0
 FitBehind [] = Unit {0}
-FitBehind (first ∷ others) = AllFit (after blank 1 (bare_entry first)) 2 (map bare_entry others)
+FitBehind (first ∷ others) = AllEntriesFit (after blank 1 (bare_entry first)) 2 (map bare_entry others)
 
 abbrev pub AreFitting : List (List ℕ) → Type 0
 AreFitting group = (list : List Outline) × (map outline_of group ≡ map Ok list) × FitBehind list
@@ -82,9 +82,9 @@ ListsAgreeMeans = (s : Reading) → verdict_of s ≡ verdicts.ListsAgree → Lis
 -- ---- bad lines
 
 -- whole lines, each behind the one before, and what stands behind them
-abbrev pub lines_and : List (List ℕ) → List ℕ → List ℕ
-lines_and [] more = more
-lines_and (line ∷ lines) more = line ++ 10 ∷ lines_and lines more
+abbrev pub lines_before_rest : List (List ℕ) → List ℕ → List ℕ
+lines_before_rest [] more = more
+lines_before_rest (line ∷ lines) more = line ++ 10 ∷ lines_before_rest lines more
 
 -- nothing of a line is a newline
 abbrev pub HasNoNewline : List ℕ → Type 0
@@ -97,9 +97,9 @@ AreLines (line ∷ lines) = HasNoNewline line × AreLines lines
 -- no text begins with lines of which one is bad
 abbrev pub BadLinesStay : Type 0
 BadLinesStay = (lines : List (List ℕ)) (more : List ℕ) (line : ℕ) → AreLines lines → line ≤ length lines
-    → read_text (lines_and lines []) ≡ Err line → read_text (lines_and lines more) ≡ Err line
+    → read_text (lines_before_rest lines []) ≡ Err line → read_text (lines_before_rest lines more) ≡ Err line
 
 -- and lines of which none is bad go on to a text
 abbrev pub GoodLinesGoOn : Type 0
-GoodLinesGoOn = (lines : List (List ℕ)) → AreLines lines → ((line : ℕ) → read_text (lines_and lines []) ≡ Err line → length lines < line)
-    → (more : List ℕ) × (s : Reading) × (read_text (lines_and lines more) ≡ Ok s)
+GoodLinesGoOn = (lines : List (List ℕ)) → AreLines lines → ((line : ℕ) → read_text (lines_before_rest lines []) ≡ Err line → length lines < line)
+    → (more : List ℕ) × (s : Reading) × (read_text (lines_before_rest lines more) ≡ Ok s)

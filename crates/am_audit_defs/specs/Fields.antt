@@ -1,8 +1,8 @@
 -- What the words of a text's lines tell: entries, and events that count.
 use Rattle.std.specs.Prelude.{ℕ, List, length, drop, slice_index, Option, Some, None, Result, Ok, Err, Bool, false, not, ◌||◌, ◌&&◌, ◌==◌, if◌then◌else◌}
 use Rattle.std.specs.Prelude.{codes}
-use Rattle.am_base.specs.Most.{most_body}
-use Rattle.am_base.specs.Names.{name_at}
+use Rattle.am_base.specs.Most.{most_bytes_of_body}
+use Rattle.am_base.specs.Names.{name_of_place_and_life}
 use Rattle.am_text_defs.specs.declared.fault.FieldFault.{FieldFault}
 use Rattle.am_text_defs.specs.declared.fault.FieldFault.TheVariants.{Form}
 use Rattle.am_text_defs.specs.Fields.{cut_of, same, and_then, number_up_to, number_in_text, name_in_text, stamp_in_text, names_in_text, bytes_of}
@@ -25,7 +25,7 @@ expect word text = if same text word then Ok tt else Err Form
 
 -- a body within its limit
 abbrev pub is_body : List ℕ → Result (Unit {0}) FieldFault
-is_body word = and_then (bytes_of most_body word) (λ bytes. Ok tt)
+is_body word = and_then (bytes_of most_bytes_of_body word) (λ bytes. Ok tt)
 
 -- ---- entries
 
@@ -89,7 +89,7 @@ take_of rest outcome = and_then (number_up_to 15 rest) (λ place. and_then (two_
 -- a return: its place, and the name of its life, 1 to 16
 unfoldable pub return_of : List ℕ → List ℕ → Result (ℕ × ℕ) FieldFault
 return_of rest outcome = and_then (number_up_to 15 rest) (λ place. and_then (two_of outcome) (λ told. and_then (expect (codes "returned") told.0) (λ checked.
-    and_then (number_up_to 16 told.1) (λ life. if life == 0 then Err Form else Ok (place, name_at place life)))))
+    and_then (number_up_to 16 told.1) (λ life. if life == 0 then Err Form else Ok (place, name_of_place_and_life place life)))))
 
 -- whether data is this send
 abbrev pub is_send : ℕ → ℕ → Result (ℕ × ℕ × List ℕ) FieldFault → Bool

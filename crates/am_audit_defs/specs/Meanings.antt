@@ -1,7 +1,7 @@
 -- What each verdict says of what was read, in the words of docs/AUDIT.md.
 use Rattle.std.specs.Prelude.{◌≡◌, ◌≢◌, ◌⊎◌, ℕ, ◌+◌, ◌<◌, ◌≤◌, List, [], ◌∷◌, length, take, map, slice_get, Some, Ok, true}
-use Rattle.am_base.specs.Most.{most_number}
-use Rattle.am_base.specs.Lists.{blank, fits, fold}
+use Rattle.am_base.specs.Most.{greatest_number}
+use Rattle.am_base.specs.Lists.{blank, fits, image_after_entries}
 use Rattle.am_group.specs.Journals.{item_at}
 use Rattle.am_audit_defs.specs.declared.outline.Outline.{Outline}
 use Rattle.am_audit_defs.specs.declared.outline.Outline.TheVariants as outlines
@@ -53,8 +53,8 @@ LineHasSend from req line = (body : List ℕ) × (data_in line.text ≡ Ok (from
 abbrev pub MayStand : List Outline → Outline → Type 0
 MayStand [] (outlines.View v) = IsFounding v
 MayStand [] _ = ⊥
-MayStand (first ∷ others) outline = (length (first ∷ others) < most_number)
-    × (fits (fold blank 1 (map bare_entry (first ∷ others))) (bare_entry outline) ≡ true)
+MayStand (first ∷ others) outline = (length (first ∷ others) < greatest_number)
+    × (fits (image_after_entries blank 1 (map bare_entry (first ∷ others))) (bare_entry outline) ≡ true)
 
 -- ---- verdicts
 
@@ -93,4 +93,4 @@ StandOnce group = (from req j k : ℕ) → IsSentAt group j from req → IsSentA
 
 -- where a list of at most 2,000,000,000 entries has no send twice, what a verdict that agrees means is told by one that agrees
 abbrev pub AgreedAgrees : Type 0
-AgreedAgrees = (s : Reading) → length s.group ≤ most_number → StandOnce s.group → Agreed s → is_right (verdict_of s) ≡ true
+AgreedAgrees = (s : Reading) → length s.group ≤ greatest_number → StandOnce s.group → Agreed s → is_right (verdict_of s) ≡ true

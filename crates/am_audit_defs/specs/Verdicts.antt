@@ -2,8 +2,8 @@
 use Rattle.std.specs.Prelude.{ℕ, ◌+◌, ◌==◌, ◌&&◌, Bool, true, false, List, [], ◌∷◌, ◌++◌, filter, slice_get, option_map, unwrap_or, Option, Some, None, Result}
 use Rattle.std.specs.Prelude.{Ok, Err, if◌then◌else◌, nat_le, nat_lt, codes, decimal}
 use Rattle.std.specs.List.{list_all}
-use Rattle.am_base.specs.Most.{most_number}
-use Rattle.am_base.specs.Names.{has, lowest_of}
+use Rattle.am_base.specs.Most.{greatest_number}
+use Rattle.am_base.specs.Names.{has, lowest_name_of}
 use Rattle.am_base.specs.Lists.{blank, after, fits}
 use Rattle.am_base.specs.declared.image.Image.{Image}
 use Rattle.am_base.specs.declared.entry.Entry.{Entry}
@@ -136,13 +136,13 @@ is_lowest (Some lowest) name = lowest == name
 
 -- a founders' view: round 1, the lowest of its names, each of life 1, no resilience
 abbrev pub founds : Outline → Bool
-founds (outlines.View v) = ((v.stamp.round == 1) && is_lowest (lowest_of v.members) v.stamp.by)
+founds (outlines.View v) = ((v.stamp.round == 1) && is_lowest (lowest_name_of v.members) v.stamp.by)
     && (list_all (λ life. nat_le life 1) v.members && (v.resilience == 0))
 founds _ = false
 
 abbrev pub fits_at : ℕ → Image → Result Outline FieldFault → Bool
 fits_at number image (Err fault) = false
-fits_at number image (Ok outline) = if number == 1 then founds outline else nat_le number most_number && fits image (bare_entry outline)
+fits_at number image (Ok outline) = if number == 1 then founds outline else nat_le number greatest_number && fits image (bare_entry outline)
 
 abbrev pub image_after : ℕ → Image → Result Outline FieldFault → Image
 image_after number image (Err fault) = image

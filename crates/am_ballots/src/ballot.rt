@@ -1,7 +1,7 @@
 ghost use Rattle.std.specs.Prelude.{◌≡◌, ◌<◌, ◌≤◌, ◌+◌, Some, None, IfSome, true, not, nat_lt, if◌then◌else◌};
-ghost use Rattle.am_base.specs.Stamps.{stamp_lt};
-ghost use Rattle.am_base.specs.Votes.{vote_lt};
-ghost use Rattle.am_node_defs.specs.Reports.{lesser};
+ghost use Rattle.am_base.specs.Stamps.{stamp_is_less};
+ghost use Rattle.am_base.specs.Votes.{vote_is_less};
+ghost use Rattle.am_node_defs.specs.Reports.{lesser_of_options};
 
 use am_base::image::Vote;
 use am_base::name::{Name, Stamp};
@@ -12,7 +12,7 @@ use std::marker::Model;
 
 /// Whether a vote is below another: by view, then by top.
 fn is_below(vote: &Vote, other: &Vote) -> bool
-    ensures { result ≡ vote_lt vote.now other.now }
+    ensures { result ≡ vote_is_less vote.now other.now }
 {
     if vote.view.is_below(other.view) {
         return true;
@@ -50,9 +50,9 @@ pub struct Best {
 }
 
 impl Model for Best {
-    ghost use Rattle.am_base.specs.Votes.{Shown};
+    ghost use Rattle.am_base.specs.Votes.{NamedVote};
 
-    ghost Value = { Shown };
+    ghost Value = { NamedVote };
 
     ghost view = { λ b. record { by = b.by; vote = b.vote } };
 }
@@ -95,7 +95,7 @@ pub struct Ballot {
 
 impl Model for Ballot {
     ghost use Rattle.std.specs.Prelude.{◌≡◌, false};
-    ghost use Rattle.am_base.specs.Outcomes.{is_took};
+    ghost use Rattle.am_base.specs.Outcomes.{is_outcome_took};
     ghost use Rattle.am_ballots.specs.Kept.{KeptBallot};
 
     ghost Value = { KeptBallot };
@@ -110,18 +110,18 @@ impl Model for Ballot {
       is_over = b.is_over;
     } };
 
-    ghost invariant = { λ b. is_took b.answer ≡ false };
+    ghost invariant = { λ b. is_outcome_took b.answer ≡ false };
 }
 
 impl Ballot {
     ghost use Rattle.std.specs.Prelude.{false};
-    ghost use Rattle.am_base.specs.Names.{has, name_at, names_of, minus};
-    ghost use Rattle.am_base.specs.Outcomes.{is_took};
-    ghost use Rattle.am_base.specs.Votes.{better_of, best_vote};
-    ghost use Rattle.am_node_defs.specs.Reports.{least_of};
-    ghost use Rattle.am_model.specs.Node.{those, name_where};
-    ghost use Rattle.am_model.specs.Ballots.{overtake, has_voted, is_waited_for, left_in, taken_by, with_answer, with_end, new_ballot, with_vote, without_voter};
-    ghost use Rattle.am_model.specs.Resets.{is_open, fetches_from};
+    ghost use Rattle.am_base.specs.Names.{has, name_of_place_and_life, names_of, names_without};
+    ghost use Rattle.am_base.specs.Outcomes.{is_outcome_took};
+    ghost use Rattle.am_base.specs.Votes.{better_vote_of, best_vote};
+    ghost use Rattle.am_node_defs.specs.Reports.{least_of_names};
+    ghost use Rattle.am_model.specs.Node.{names_that_pass, life_where_name_passes};
+    ghost use Rattle.am_model.specs.Ballots.{overtake_lower_ballot, has_voted, is_waited_for, need_set_without_given_up, taken_number_of_voter, ballot_with_answer, ballot_with_end, new_ballot, ballot_with_vote, ballot_without_voter};
+    ghost use Rattle.am_model.specs.Resets.{is_open_ballot, fetches_from};
     ghost use Rattle.am_ballots.specs.Kept.{ballot_of};
 
     /// A ballot that begins: nobody voted or was given up.
@@ -163,7 +163,7 @@ impl Ballot {
     /// What was last decided on it, or how it ended; Asked where it was never looked at.
     pub fn answer(&self) -> &Outcome
         ensures value { result.now ≡ self.now.answer }
-        ensures plain { is_took result.now ≡ false }
+        ensures plain { is_outcome_took result.now ≡ false }
     {
         &self.answer
     }
@@ -177,14 +177,14 @@ impl Ballot {
 
     /// Whether it is an unfinished ballot of this stamp.
     pub fn is_open(&self, stamp: Stamp) -> bool
-        ensures { result ≡ is_open stamp (ballot_of self.now) }
+        ensures { result ≡ is_open_ballot stamp (ballot_of self.now) }
     {
         !self.is_over && self.stamp.round == stamp.round && self.stamp.by == stamp.by
     }
 
     /// A stamp is promised: an unfinished ballot of a lower stamp ends, overtaken by it.
     pub fn overtake(&mut self, by: Stamp)
-        ensures { Some (ballot_of self.new) ≡ overtake by (Some (ballot_of self.old)) }
+        ensures { Some (ballot_of self.new) ≡ overtake_lower_ballot by (Some (ballot_of self.old)) }
     {
         let (round, name) = (by.round, by.by);
         if !self.is_over && self.stamp.is_below(by) {
@@ -197,8 +197,8 @@ impl Ballot {
 
     /// The ballot goes on, and this was decided on it.
     pub fn go_on(&mut self, answer: &Outcome)
-        requires { is_took answer.now ≡ false }
-        ensures { ballot_of self.new ≡ with_answer (ballot_of self.old) answer.now }
+        requires { is_outcome_took answer.now ≡ false }
+        ensures { ballot_of self.new ≡ ballot_with_answer (ballot_of self.old) answer.now }
     {
         self.answer = answer.copy();
         self.is_over = false;
@@ -206,8 +206,8 @@ impl Ballot {
 
     /// The ballot ends with this.
     pub fn end(&mut self, answer: &Outcome)
-        requires { is_took answer.now ≡ false }
-        ensures { ballot_of self.new ≡ with_end (ballot_of self.old) answer.now }
+        requires { is_outcome_took answer.now ≡ false }
+        ensures { ballot_of self.new ≡ ballot_with_end (ballot_of self.old) answer.now }
     {
         self.answer = answer.copy();
         self.is_over = true;
@@ -215,14 +215,14 @@ impl Ballot {
 
     /// Keeps a vote, in place of an older one of this name.
     pub fn keep(&mut self, name: Name, vote: &Vote)
-        ensures { ballot_of self.new ≡ with_vote (ballot_of self.old) name vote.now }
+        ensures { ballot_of self.new ≡ ballot_with_vote (ballot_of self.old) name vote.now }
     {
         self.votes[usize::from(name.get())] = Some(copy_of(vote));
     }
 
     /// Gives up a name: its vote is dropped.
     pub fn give_up(&mut self, name: Name)
-        ensures { ballot_of self.new ≡ without_voter (ballot_of self.old) name }
+        ensures { ballot_of self.new ≡ ballot_without_voter (ballot_of self.old) name }
     {
         self.votes[usize::from(name.get())] = None;
         self.given_up[usize::from(name.get())] = true;
@@ -254,7 +254,7 @@ impl Ballot {
 
     /// The better of the best so far and a name's vote; the earlier where neither is greater.
     fn better(&self, best: Best, name: Name) -> Best
-        ensures { result ≡ better_of best name ((ballot_of self.now).votes name) }
+        ensures { result ≡ better_vote_of best name ((ballot_of self.now).votes name) }
     {
         match &self.votes[usize::from(name.get())] {
             None => best,
@@ -289,7 +289,7 @@ impl Ballot {
     /// A life of a place that isn't given up, else 0.
     fn left_life(&self, place: u8, life: u8) -> u8
         requires { (place < 16) × (life ≤ 16) }
-        ensures value { result ≡ name_where (λ name. not ((ballot_of self.now).given_up name)) place
+        ensures value { result ≡ life_where_name_passes (λ name. not ((ballot_of self.now).given_up name)) place
             life }
         ensures fits { result ≤ 16 }
     {
@@ -301,7 +301,7 @@ impl Ballot {
 
     /// The names of a set that weren't given up.
     pub fn left_in(&self, needed: Names) -> Names
-        ensures { result ≡ left_in (ballot_of self.now) needed }
+        ensures { result ≡ need_set_without_given_up (ballot_of self.now) needed }
     {
         let lives = needed.each_life();
         let mut left = [0; 16];
@@ -314,7 +314,7 @@ impl Ballot {
     /// A life of a place that hasn't voted, else 0.
     fn silent_life(&self, coordinator: Name, place: u8, life: u8) -> u8
         requires { (place < 16) × (life ≤ 16) }
-        ensures value { result ≡ name_where (λ name. not
+        ensures value { result ≡ life_where_name_passes (λ name. not
             (has_voted coordinator (ballot_of self.now) name)) place life }
         ensures fits { result ≤ 16 }
     {
@@ -326,7 +326,7 @@ impl Ballot {
 
     /// The names of a set that haven't voted.
     fn silent_in(&self, coordinator: Name, needed: Names) -> Names
-        ensures { result ≡ those (λ name. not (has_voted coordinator (ballot_of self.now) name))
+        ensures { result ≡ names_that_pass (λ name. not (has_voted coordinator (ballot_of self.now) name))
             needed }
     {
         let lives = needed.each_life();
@@ -343,22 +343,22 @@ impl Ballot {
 
     /// The names of a set that have neither voted nor been given up.
     pub fn waited_for(&self, coordinator: Name, needed: Names) -> Names
-        ensures { result ≡ those (is_waited_for coordinator (ballot_of self.now)) needed }
+        ensures { result ≡ names_that_pass (is_waited_for coordinator (ballot_of self.now)) needed }
     {
         self.left_in(self.silent_in(coordinator, needed))
     }
 
     /// The names of a set that another doesn't have, and that haven't voted.
     pub fn newly_needed(&self, coordinator: Name, needed: Names, before: Names) -> Names
-        ensures { result ≡ those (λ name. not (has_voted coordinator (ballot_of self.now) name))
-            (minus needed before) }
+        ensures { result ≡ names_that_pass (λ name. not (has_voted coordinator (ballot_of self.now) name))
+            (names_without needed before) }
     {
         self.silent_in(coordinator, needed.minus(before))
     }
 
     /// How far a voter has taken the list, the coordinator this far; 0 where it hasn't voted.
     fn taken_by(&self, coordinator: Name, taken: u32, name: Name) -> u32
-        ensures { result ≡ taken_by coordinator taken (ballot_of self.now) name }
+        ensures { result ≡ taken_number_of_voter coordinator taken (ballot_of self.now) name }
     {
         if name == coordinator {
             return taken;
@@ -373,7 +373,7 @@ impl Ballot {
     fn taken_at(&self, coordinator: Name, taken: u32, place: u8, life: u8) -> Option<u32>
         requires { (place < 16) × (life ≤ 16) }
         ensures { result ≡ (if nat_lt 0 life then Some
-            (taken_by coordinator taken (ballot_of self.now) (name_at place life)) else None) }
+            (taken_number_of_voter coordinator taken (ballot_of self.now) (name_of_place_and_life place life)) else None) }
     {
         match Name::of(place, life) {
             None => None,
@@ -384,7 +384,7 @@ impl Ballot {
     /// The least that the names of a set have taken, the coordinator this much; None exactly where the set is empty.
     #[tactic(auto, using(am_node_defs::proofs::ReportLaws::least_of_rules))]
     pub fn least_taken(&self, coordinator: Name, taken: u32, names: Names) -> Option<u32>
-        ensures value { result ≡ least_of (taken_by coordinator taken (ballot_of self.now))
+        ensures value { result ≡ least_of_names (taken_number_of_voter coordinator taken (ballot_of self.now))
             (names_of names) }
         ensures own { has names coordinator ≡ true → IfSome result (λ least. least ≤ taken) }
     {

@@ -2,7 +2,7 @@
 use Rattle.std.proofs.Common.{◌≡◌, ℕ, zero, suc, ◌+◌, ◌<◌, ◌≤◌, ◌⊎◌, Bool, true, false, ◌&&◌, refl, ap, ◌∙◌, inl, inr, arith}
 use Rattle.std.proofs.lemmas.Bool.{cases_lt}
 use Rattle.std.specs.List.{list_all, range_with_len}
-use Rattle.am_base.specs.Fronts.{greatest}
+use Rattle.am_base.specs.Fronts.{greatest_passing_number}
 
 -- by what a test says
 pub split_on_bool : {G : Type 0} (b : Bool) → (b ≡ true → G) → (b ≡ false → G) → G
@@ -47,9 +47,9 @@ lower passes from more g f h = record {
   ];
 }
 
-pub greatest_is_greatest_passing : (passes : ℕ → Bool) (from more : ℕ) → IsGreatestPassing passes from more (greatest passes from more)
-unfolding greatest
+pub greatest_is_greatest_passing : (passes : ℕ → Bool) (from more : ℕ) → IsGreatestPassing passes from more (greatest_passing_number passes from more)
+unfolding greatest_passing_number
 greatest_is_greatest_passing passes from zero = record { least = omega arith; most = omega arith; passed = inl refl; above = λ n low high. absurd (omega arith) }
 greatest_is_greatest_passing passes from (suc more) = split_on_bool (passes (from + suc more))
     (λ t. rw t (record { least = omega arith; most = omega arith; passed = inr t; above = λ n low high. absurd (omega arith) }))
-    (λ f. rw f (lower passes from more (greatest passes from more) f (greatest_is_greatest_passing passes from more)))
+    (λ f. rw f (lower passes from more (greatest_passing_number passes from more) f (greatest_is_greatest_passing passes from more)))

@@ -6,7 +6,7 @@ use Rattle.std.proofs.lemmas.Bool.Decides.{nat_tests}
 use Rattle.std.proofs.lemmas.List.{take_more_set, take_all, drop_all, drop_more, append-nil, get_or_past}
 use Rattle.std.proofs.Math.Nat.{pow-suc, mul-le-mul_right, pow-le-pow_right}
 use Rattle.std.specs.Prelude.{if◌then◌else◌, ◌==◌}
-use Rattle.am_base.specs.Names.{IsSet, mask_of, lives_of, places_by_mask, is_masked}
+use Rattle.am_base.specs.Names.{IsSetOfNames, mask_of_names, lives_of_names, places_by_mask, lives_are_within_mask}
 
 -- one place of a set of parts
 abbrev life_in : ℕ → ℕ → ℕ
@@ -39,8 +39,8 @@ mask_step : (mask life : ℕ) → (if (if mask % 2 == 0 then 0 else life + 1) ==
 mask_step mask life = grind arith
 
 -- the mask of the parts' set is the mask
-pub mask-places_of : (n mask lives : ℕ) → mask < 2 ^ n → mask_of (places_by_mask n mask lives) ≡ mask
-unfolding places_by_mask mask_of
+pub mask-places_of : (n mask lives : ℕ) → mask < 2 ^ n → mask_of_names (places_by_mask n mask lives) ≡ mask
+unfolding places_by_mask mask_of_names
 mask-places_of zero mask lives h = omega arith
 mask-places_of (suc n) mask lives h =
     let less : mask / 2 < 2 ^ n = omega (arith, pow-suc 2 n) in
@@ -51,8 +51,8 @@ lives_step : (mask lives : ℕ) → (if mask % 2 == 0 then lives % 16 == 0 else 
 lives_step mask lives h = grind (arith, nat_tests)
 
 -- the lives are those of the parts' set, where there is one
-pub lives-places_of : (n mask lives : ℕ) → lives < 16 ^ n → is_masked n mask lives ≡ true → lives_of (places_by_mask n mask lives) ≡ lives
-unfolding places_by_mask lives_of is_masked
+pub lives-places_of : (n mask lives : ℕ) → lives < 16 ^ n → lives_are_within_mask n mask lives ≡ true → lives_of_names (places_by_mask n mask lives) ≡ lives
+unfolding places_by_mask lives_of_names lives_are_within_mask
 lives-places_of zero mask lives h ok = omega arith
 lives-places_of (suc n) mask lives h ok =
     let less : lives / 16 < 16 ^ n = omega (arith, pow-suc 16 n) in
@@ -75,21 +75,21 @@ masked_step life mask lives h = grind (arith, nat_tests)
 
 -- a set is the set of its mask and lives, and has no life outside its mask
 of_set : (n : ℕ) (xs : List ℕ) → length xs ≡ n → ((k : ℕ) → get_or xs k 0 ≤ 16)
-    → (places_by_mask n (mask_of xs) (lives_of xs) ≡ xs) × (is_masked n (mask_of xs) (lives_of xs) ≡ true)
-unfolding places_by_mask is_masked mask_of lives_of
+    → (places_by_mask n (mask_of_names xs) (lives_of_names xs) ≡ xs) × (lives_are_within_mask n (mask_of_names xs) (lives_of_names xs) ≡ true)
+unfolding places_by_mask lives_are_within_mask mask_of_names lives_of_names
 of_set zero [] long fits = (refl, refl)
 of_set zero (x ∷ xs) long fits = absurd (omega (arith, long))
 of_set (suc n) [] long fits = absurd (omega (arith, long))
 of_set (suc n) (x ∷ xs) long fits =
     let rest = of_set n xs (omega (arith, long)) (λ k. fits (suc k)) in
-    let mask = mask_half x (mask_of xs) in
-    let lives = lives_rest x (lives_of xs) (fits 0) in
-    (rw (back_step x (mask_of xs) (lives_of xs) (fits 0), mask, lives, rest.0) refl, rw (masked_step x (mask_of xs) (lives_of xs) (fits 0), mask, lives) rest.1)
+    let mask = mask_half x (mask_of_names xs) in
+    let lives = lives_rest x (lives_of_names xs) (fits 0) in
+    (rw (back_step x (mask_of_names xs) (lives_of_names xs) (fits 0), mask, lives, rest.0) refl, rw (masked_step x (mask_of_names xs) (lives_of_names xs) (fits 0), mask, lives) rest.1)
 
-places_of-set : (n : ℕ) (xs : List ℕ) → length xs ≡ n → ((k : ℕ) → get_or xs k 0 ≤ 16) → places_by_mask n (mask_of xs) (lives_of xs) ≡ xs
+places_of-set : (n : ℕ) (xs : List ℕ) → length xs ≡ n → ((k : ℕ) → get_or xs k 0 ≤ 16) → places_by_mask n (mask_of_names xs) (lives_of_names xs) ≡ xs
 places_of-set n xs long fits = (of_set n xs long fits).0
 
-is_masked-set : (n : ℕ) (xs : List ℕ) → length xs ≡ n → ((k : ℕ) → get_or xs k 0 ≤ 16) → is_masked n (mask_of xs) (lives_of xs) ≡ true
+is_masked-set : (n : ℕ) (xs : List ℕ) → length xs ≡ n → ((k : ℕ) → get_or xs k 0 ≤ 16) → lives_are_within_mask n (mask_of_names xs) (lives_of_names xs) ≡ true
 is_masked-set n xs long fits = (of_set n xs long fits).1
 
 -- ---- the steps of the loops
@@ -102,22 +102,22 @@ earlier xs i pos le =
     drop_more xs (i - 1) 0 lt ∙ ap (λ j. get_or xs (i - 1) 0 ∷ drop j xs) k
 
 -- the rest of a set's mask, with one place more
-pub mask_of_drop_step : (xs : List ℕ) (i mask : ℕ) → 0 < i → i ≤ length xs → mask ≡ mask_of (drop i xs)
-    → (if get_or xs (i - 1) 0 == 0 then 0 else 1) + 2 * mask ≡ mask_of (drop (i - 1) xs)
-unfolding mask_of
+pub mask_of_drop_step : (xs : List ℕ) (i mask : ℕ) → 0 < i → i ≤ length xs → mask ≡ mask_of_names (drop i xs)
+    → (if get_or xs (i - 1) 0 == 0 then 0 else 1) + 2 * mask ≡ mask_of_names (drop (i - 1) xs)
+unfolding mask_of_names
 mask_of_drop_step xs i mask pos le e = rw (e, earlier xs i pos le) refl
 
-pub lives_of_drop_step : (xs : List ℕ) (i lives : ℕ) → 0 < i → i ≤ length xs → lives ≡ lives_of (drop i xs)
-    → (get_or xs (i - 1) 0 - 1) + 16 * lives ≡ lives_of (drop (i - 1) xs)
-unfolding lives_of
+pub lives_of_drop_step : (xs : List ℕ) (i lives : ℕ) → 0 < i → i ≤ length xs → lives ≡ lives_of_names (drop i xs)
+    → (get_or xs (i - 1) 0 - 1) + 16 * lives ≡ lives_of_names (drop (i - 1) xs)
+unfolding lives_of_names
 lives_of_drop_step xs i lives pos le e = rw (e, earlier xs i pos le) refl
 
-pub mask_of_drop_sixteen : (xs : List ℕ) → length xs ≤ 16 → 0 ≡ mask_of (drop 16 xs)
-unfolding mask_of
+pub mask_of_drop_sixteen : (xs : List ℕ) → length xs ≤ 16 → 0 ≡ mask_of_names (drop 16 xs)
+unfolding mask_of_names
 mask_of_drop_sixteen xs h = rw (drop_all 16 xs h) refl
 
-pub lives_of_drop_sixteen : (xs : List ℕ) → length xs ≤ 16 → 0 ≡ lives_of (drop 16 xs)
-unfolding lives_of
+pub lives_of_drop_sixteen : (xs : List ℕ) → length xs ≤ 16 → 0 ≡ lives_of_names (drop 16 xs)
+unfolding lives_of_names
 lives_of_drop_sixteen xs h = rw (drop_all 16 xs h) refl
 
 -- one digit more
@@ -145,52 +145,52 @@ place_left : (i : ℕ) → i < 16 → 16 - i ≡ suc (16 - (i + 1))
 place_left i h = omega arith
 
 -- a place outside the mask that has a life
-pub life_outside_mask_is_refused : (i mask lives : ℕ) (all : Bool) → i < 16 → life_in mask lives ≡ 0 → (lives % 16 ≡ 0 → ⊥) → is_masked (16 - i) mask lives ≡ all → false ≡ all
-unfolding is_masked
+pub life_outside_mask_is_refused : (i mask lives : ℕ) (all : Bool) → i < 16 → life_in mask lives ≡ 0 → (lives % 16 ≡ 0 → ⊥) → lives_are_within_mask (16 - i) mask lives ≡ all → false ≡ all
+unfolding lives_are_within_mask
 life_outside_mask_is_refused i mask lives all h none some e =
     let first : (if mask % 2 == 0 then lives % 16 == 0 else true) ≡ false = grind (arith, nat_tests) in
-    let one : is_masked (16 - i) mask lives ≡ false = rw (place_left i h, first) refl in
+    let one : lives_are_within_mask (16 - i) mask lives ≡ false = rw (place_left i h, first) refl in
     sym one ∙ e
 
 -- a place that is as it should be
-pub is_masked_goes_on : (i mask lives : ℕ) (all : Bool) → i < 16 → (life_in mask lives ≡ 0 → lives % 16 ≡ 0) → is_masked (16 - i) mask lives ≡ all
-    → is_masked (16 - (i + 1)) (mask / 2) (lives / 16) ≡ all
-unfolding is_masked
+pub is_masked_goes_on : (i mask lives : ℕ) (all : Bool) → i < 16 → (life_in mask lives ≡ 0 → lives % 16 ≡ 0) → lives_are_within_mask (16 - i) mask lives ≡ all
+    → lives_are_within_mask (16 - (i + 1)) (mask / 2) (lives / 16) ≡ all
+unfolding lives_are_within_mask
 is_masked_goes_on i mask lives all h ok e =
     let first : (if mask % 2 == 0 then lives % 16 == 0 else true) ≡ true = grind (arith, nat_tests) in
-    let one : is_masked (16 - i) mask lives ≡ is_masked (16 - (i + 1)) (mask / 2) (lives / 16) = rw (place_left i h, first) refl in
+    let one : lives_are_within_mask (16 - i) mask lives ≡ lives_are_within_mask (16 - (i + 1)) (mask / 2) (lives / 16) = rw (place_left i h, first) refl in
     sym one ∙ e
 
-pub is_masked_at_sixteen : (i mask lives : ℕ) (all : Bool) → 16 ≤ i → is_masked (16 - i) mask lives ≡ all → true ≡ all
-unfolding is_masked
+pub is_masked_at_sixteen : (i mask lives : ℕ) (all : Bool) → 16 ≤ i → lives_are_within_mask (16 - i) mask lives ≡ all → true ≡ all
+unfolding lives_are_within_mask
 is_masked_at_sixteen i mask lives all h e =
     let none : 16 - i ≡ 0 = omega arith in
-    ap (λ k. is_masked k mask lives) (sym none) ∙ e
+    ap (λ k. lives_are_within_mask k mask lives) (sym none) ∙ e
 
 -- ---- sets of all places
 
-pub places_of_is_set : (mask lives : ℕ) → IsSet (places_by_mask 16 mask lives)
+pub places_of_is_set : (mask lives : ℕ) → IsSetOfNames (places_by_mask 16 mask lives)
 places_of_is_set mask lives = record { places = length-places_of 16 mask lives; lives = λ k h. get_or-places_of 16 mask lives k }
 
-any_life : (xs : List ℕ) → IsSet xs → (k : ℕ) → get_or xs k 0 ≤ 16
+any_life : (xs : List ℕ) → IsSetOfNames xs → (k : ℕ) → get_or xs k 0 ≤ 16
 any_life xs set k = elim (cases_lt k (length xs)) [ inl lt ↦ set.lives k lt | inr le ↦ rw (get_or_past xs k 0 le) (omega arith) ]
 
-pub places_of_mask_and_lives : (xs : List ℕ) → IsSet xs → places_by_mask 16 (mask_of xs) (lives_of xs) ≡ xs
+pub places_of_mask_and_lives : (xs : List ℕ) → IsSetOfNames xs → places_by_mask 16 (mask_of_names xs) (lives_of_names xs) ≡ xs
 places_of_mask_and_lives xs set = places_of-set 16 xs set.places (any_life xs set)
 
-pub mask_and_lives_are_masked : (xs : List ℕ) → IsSet xs → is_masked 16 (mask_of xs) (lives_of xs) ≡ true
+pub mask_and_lives_are_masked : (xs : List ℕ) → IsSetOfNames xs → lives_are_within_mask 16 (mask_of_names xs) (lives_of_names xs) ≡ true
 mask_and_lives_are_masked xs set = is_masked-set 16 xs set.places (any_life xs set)
 
-pub mask_of-lt : (xs : List ℕ) → mask_of xs < 2 ^ length xs
-unfolding mask_of
+pub mask_of-lt : (xs : List ℕ) → mask_of_names xs < 2 ^ length xs
+unfolding mask_of_names
 mask_of-lt [] = omega arith
-mask_of-lt (x ∷ xs) = digit_and_number_below_power 2 (length xs) (suc (length xs)) (if x == 0 then 0 else 1) (mask_of xs) refl (grind (arith, nat_tests)) (mask_of-lt xs)
+mask_of-lt (x ∷ xs) = digit_and_number_below_power 2 (length xs) (suc (length xs)) (if x == 0 then 0 else 1) (mask_of_names xs) refl (grind (arith, nat_tests)) (mask_of-lt xs)
 
-lives_of-lt-each : (xs : List ℕ) → ((k : ℕ) → get_or xs k 0 ≤ 16) → lives_of xs < 16 ^ length xs
-unfolding lives_of
+lives_of-lt-each : (xs : List ℕ) → ((k : ℕ) → get_or xs k 0 ≤ 16) → lives_of_names xs < 16 ^ length xs
+unfolding lives_of_names
 lives_of-lt-each [] each = omega arith
-lives_of-lt-each (x ∷ xs) each = digit_and_number_below_power 16 (length xs) (suc (length xs)) (x - 1) (lives_of xs) refl (omega (arith, each 0))
+lives_of-lt-each (x ∷ xs) each = digit_and_number_below_power 16 (length xs) (suc (length xs)) (x - 1) (lives_of_names xs) refl (omega (arith, each 0))
     (lives_of-lt-each xs (λ k. each (suc k)))
 
-pub lives_of-lt : (xs : List ℕ) → IsSet xs → lives_of xs < 16 ^ length xs
+pub lives_of-lt : (xs : List ℕ) → IsSetOfNames xs → lives_of_names xs < 16 ^ length xs
 lives_of-lt xs set = lives_of-lt-each xs (any_life xs set)

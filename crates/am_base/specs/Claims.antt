@@ -1,14 +1,14 @@
 -- What is claimed of whole lists.
 use Rattle.std.specs.Prelude.{◌≡◌, ◌≤◌, ℕ, true, List}
 use Rattle.am_base.specs.declared.entry.Entry.{Entry}
-use Rattle.am_base.specs.Whole.{Begins, IsGood, mem, key, stamp_of_list, resilience_of}
+use Rattle.am_base.specs.Whole.{IsBeginningOf, IsGoodList, is_member_at_end, key_of_stamp, stamp_of_list, resilience_of_list}
 
 abbrev pub MembersStayBetween : Type 0
-MembersStayBetween = (a b c : List Entry) (name : ℕ) → IsGood c → Begins a b → Begins b c → mem a name ≡ true → mem c name ≡ true → mem b name ≡ true
+MembersStayBetween = (a b c : List Entry) (name : ℕ) → IsGoodList c → IsBeginningOf a b → IsBeginningOf b c → is_member_at_end a name ≡ true → is_member_at_end c name ≡ true → is_member_at_end b name ≡ true
 
-pub record IsNoGreater (a b : List Entry) : Type 0 where
-  pub view : key (stamp_of_list a) ≤ key (stamp_of_list b)
-  pub resilience : resilience_of a ≤ resilience_of b
+pub record ViewAndResilienceAreNoGreater (a b : List Entry) : Type 0 where
+  pub view : key_of_stamp (stamp_of_list a) ≤ key_of_stamp (stamp_of_list b)
+  pub resilience : resilience_of_list a ≤ resilience_of_list b
 
 abbrev pub ViewsRise : Type 0
-ViewsRise = (a b : List Entry) → IsGood b → Begins a b → IsNoGreater a b
+ViewsRise = (a b : List Entry) → IsGoodList b → IsBeginningOf a b → ViewAndResilienceAreNoGreater a b

@@ -7,31 +7,31 @@ use Rattle.am_base.specs.declared.entry.EntryParts.TheVariants.{Data, Join, Leav
 use Rattle.am_base.specs.declared.taken.TakenParts.{TakenParts}
 use Rattle.am_base.specs.declared.taken.TakenParts.TheVariants as taken
 
-abbrev pub entry_of : EntryParts → Entry
-entry_of (Data from req body) = entries.Data from req body
-entry_of (Join name) = entries.Join name
-entry_of (Leave name) = entries.Leave name
-entry_of (View v) = entries.View v
+abbrev pub entry_of_parts : EntryParts → Entry
+entry_of_parts (Data from req body) = entries.Data from req body
+entry_of_parts (Join name) = entries.Join name
+entry_of_parts (Leave name) = entries.Leave name
+entry_of_parts (View v) = entries.View v
 
-abbrev pub taken_of : TakenParts → Entry
-taken_of (taken.Data from req body) = entries.Data from req body
-taken_of (taken.Join name) = entries.Join name
-taken_of (taken.Leave name) = entries.Leave name
-taken_of (taken.View v) = entries.View v
+abbrev pub taken_entry_of_parts : TakenParts → Entry
+taken_entry_of_parts (taken.Data from req body) = entries.Data from req body
+taken_entry_of_parts (taken.Join name) = entries.Join name
+taken_entry_of_parts (taken.Leave name) = entries.Leave name
+taken_entry_of_parts (taken.View v) = entries.View v
 
 -- how many bytes its body has: none, where it has no body
-abbrev pub body_len : Entry → ℕ
-body_len (entries.Data from req body) = length body
-body_len (entries.Join name) = 0
-body_len (entries.Leave name) = 0
-body_len (entries.View v) = 0
+abbrev pub body_length : Entry → ℕ
+body_length (entries.Data from req body) = length body
+body_length (entries.Join name) = 0
+body_length (entries.Leave name) = 0
+body_length (entries.View v) = 0
 
 -- the same of an entry that may be there
-abbrev pub len_of : Option Entry → ℕ
-len_of None = 0
-len_of (Some e) = body_len e
+abbrev pub optional_body_length : Option Entry → ℕ
+optional_body_length None = 0
+optional_body_length (Some e) = body_length e
 
 -- there is room for a body of so many bytes
-abbrev pub HasRoom : ℕ → Option ℕ → Type 0
-HasRoom len None = ⊥
-HasRoom len (Some room) = len ≤ room
+abbrev pub HasRoomForBody : ℕ → Option ℕ → Type 0
+HasRoomForBody len None = ⊥
+HasRoomForBody len (Some room) = len ≤ room

@@ -1,5 +1,5 @@
 ghost use Rattle.std.specs.Prelude.{◌≡◌, ◌≤◌, ◌↔◌, ◌+◌, ◌++◌, [], length, vec_capacity, IsSome, IfSome, IfOk};
-ghost use Rattle.am_base.specs.Most.{most_body, most_packet};
+ghost use Rattle.am_base.specs.Most.{most_bytes_of_body, most_bytes_of_packet};
 
 use crate::limits::{MOST_BODY, MOST_PACKET};
 use arrayvec::ArrayVec;
@@ -12,13 +12,13 @@ pub struct Body(ArrayVec<u8, MOST_BODY>);
 
 impl Model for Body {
     ghost use Rattle.std.specs.Prelude.{ℕ, List, ◌≤◌, length};
-    ghost use Rattle.am_base.specs.Most.{most_body};
+    ghost use Rattle.am_base.specs.Most.{most_bytes_of_body};
 
     ghost Value = { List ℕ };
 
     ghost view = { λ b. b.0.items };
 
-    ghost invariant = { λ b. length b.0.items ≤ most_body };
+    ghost invariant = { λ b. length b.0.items ≤ most_bytes_of_body };
 }
 
 impl Default for Body {
@@ -32,7 +32,7 @@ impl Default for Body {
 impl Body {
     /// The body of these bytes; None exactly where there are more than 1,024.
     pub fn of(bytes: &[u8]) -> Option<Body>
-        ensures variant { IsSome result ↔ (length bytes.now ≤ most_body) }
+        ensures variant { IsSome result ↔ (length bytes.now ≤ most_bytes_of_body) }
         ensures value { IfSome result (λ b. b ≡ bytes.now) }
     {
         let mut body = ArrayVec::new();
@@ -45,7 +45,7 @@ impl Body {
     /// Its bytes.
     pub fn bytes(&self) -> &[u8]
         ensures value { result.now ≡ self.now }
-        ensures fits { length result.now ≤ most_body }
+        ensures fits { length result.now ≤ most_bytes_of_body }
     {
         self.0.as_slice()
     }
@@ -71,19 +71,19 @@ pub struct BodyRef<'a>(&'a [u8]);
 
 impl<'a> Model for BodyRef<'a> {
     ghost use Rattle.std.specs.Prelude.{ℕ, List, ◌≤◌, length};
-    ghost use Rattle.am_base.specs.Most.{most_body};
+    ghost use Rattle.am_base.specs.Most.{most_bytes_of_body};
 
     ghost Value = { List ℕ };
 
     ghost view = { λ b. b.0.now };
 
-    ghost invariant = { λ b. length b.0.now ≤ most_body };
+    ghost invariant = { λ b. length b.0.now ≤ most_bytes_of_body };
 }
 
 impl<'a> BodyRef<'a> {
     /// These bytes as a body; None exactly where there are more than 1,024.
     pub fn of(bytes: &'a [u8]) -> Option<BodyRef<'a>>
-        ensures variant { IsSome result ↔ (length bytes.now ≤ most_body) }
+        ensures variant { IsSome result ↔ (length bytes.now ≤ most_bytes_of_body) }
         ensures value { IfSome result (λ b. b ≡ bytes.now) }
     {
         if bytes.len() <= MOST_BODY {
@@ -95,7 +95,7 @@ impl<'a> BodyRef<'a> {
     /// Its bytes.
     pub fn bytes(&self) -> &'a [u8]
         ensures value { result.now ≡ self.now }
-        ensures fits { length result.now ≤ most_body }
+        ensures fits { length result.now ≤ most_bytes_of_body }
     {
         self.0
     }
@@ -125,13 +125,13 @@ pub struct SentBody(Vec<u8>);
 
 impl Model for SentBody {
     ghost use Rattle.std.specs.Prelude.{ℕ, List, ◌≤◌, length};
-    ghost use Rattle.am_base.specs.Most.{most_body};
+    ghost use Rattle.am_base.specs.Most.{most_bytes_of_body};
 
     ghost Value = { List ℕ };
 
     ghost view = { λ b. b.0.items };
 
-    ghost invariant = { λ b. length b.0.items ≤ most_body };
+    ghost invariant = { λ b. length b.0.items ≤ most_bytes_of_body };
 }
 
 impl SentBody {
@@ -144,7 +144,7 @@ impl SentBody {
 
     /// A body of these bytes. It is an error where there is no memory for it.
     pub fn of_bytes(alloc: Global, bytes: &[u8]) -> Result<SentBody, AllocError>
-        requires { length bytes.now ≤ most_body }
+        requires { length bytes.now ≤ most_bytes_of_body }
         ensures { IfOk result (λ b. b ≡ bytes.now) }
     {
         Ok(SentBody(Vec::from_slice(alloc, bytes)?))
@@ -165,7 +165,7 @@ impl SentBody {
     /// Its bytes.
     pub fn bytes(&self) -> &[u8]
         ensures value { result.now ≡ self.now }
-        ensures fits { length result.now ≤ most_body }
+        ensures fits { length result.now ≤ most_bytes_of_body }
     {
         self.0.as_slice()
     }
@@ -184,13 +184,13 @@ pub struct PacketBytes(Vec<u8>);
 
 impl Model for PacketBytes {
     ghost use Rattle.std.specs.Prelude.{ℕ, List, ◌≤◌, length, vec_capacity};
-    ghost use Rattle.am_base.specs.Most.{most_packet};
+    ghost use Rattle.am_base.specs.Most.{most_bytes_of_packet};
 
     ghost Value = { List ℕ };
 
     ghost view = { λ b. b.0.items };
 
-    ghost invariant = { λ b. (length b.0.items ≤ most_packet) × (most_packet ≤ vec_capacity b.0) };
+    ghost invariant = { λ b. (length b.0.items ≤ most_bytes_of_packet) × (most_bytes_of_packet ≤ vec_capacity b.0) };
 }
 
 impl PacketBytes {
@@ -204,7 +204,7 @@ impl PacketBytes {
     /// The bytes.
     pub fn bytes(&self) -> &[u8]
         ensures value { result.now ≡ self.now }
-        ensures fits { length result.now ≤ most_packet }
+        ensures fits { length result.now ≤ most_bytes_of_packet }
     {
         self.0.as_slice()
     }
@@ -218,7 +218,7 @@ impl PacketBytes {
 
     /// Adds bytes at the end.
     pub fn extend(&mut self, bytes: &[u8])
-        requires { length self.old + length bytes.now ≤ most_packet }
+        requires { length self.old + length bytes.now ≤ most_bytes_of_packet }
         ensures { self.new ≡ self.old ++ bytes.now }
     {
         let _ = self.0.extend_from_slice(bytes);

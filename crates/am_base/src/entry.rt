@@ -1,7 +1,7 @@
 ghost use Rattle.std.specs.Prelude.{◌≡◌, ◌≤◌};
 ghost use Rattle.am_base.specs.declared.entry.Entry.TheVariants as entries;
-ghost use Rattle.am_base.specs.Entries.{entry_of, body_len};
-ghost use Rattle.am_base.specs.Most.{most_body};
+ghost use Rattle.am_base.specs.Entries.{entry_of_parts, body_length};
+ghost use Rattle.am_base.specs.Most.{most_bytes_of_body};
 
 use crate::body::{Body, BodyRef};
 use crate::name::{Name, Stamp};
@@ -68,8 +68,8 @@ impl Entry {
 
     /// How many bytes its body has: none, where it has no body.
     pub fn body_len(&self) -> usize
-        ensures value { result ≡ body_len self.now }
-        ensures fits { result ≤ most_body }
+        ensures value { result ≡ body_length self.now }
+        ensures fits { result ≤ most_bytes_of_body }
     {
         self.as_ref().body_len()
     }
@@ -103,15 +103,15 @@ impl<'a> Model for EntryRef<'a> {
 
     ghost Value = { Entry };
 
-    ghost use Rattle.am_base.specs.Entries.{entry_of};
+    ghost use Rattle.am_base.specs.Entries.{entry_of_parts};
 
-    ghost view = { λ e. entry_of e.parts };
+    ghost view = { λ e. entry_of_parts e.parts };
 }
 
 impl<'a> EntryRef<'a> {
     /// The entry of these parts.
     pub fn of(parts: EntryParts<'a>) -> EntryRef<'a>
-        ensures { result ≡ entry_of parts.entry }
+        ensures { result ≡ entry_of_parts parts.entry }
     {
         EntryRef { parts }
     }
@@ -132,15 +132,15 @@ impl<'a> EntryRef<'a> {
 
     /// Its parts.
     pub fn parts(&self) -> &EntryParts<'a>
-        ensures { entry_of result.now ≡ self.now }
+        ensures { entry_of_parts result.now ≡ self.now }
     {
         &self.parts
     }
 
     /// How many bytes its body has: none, where it has no body.
     pub fn body_len(&self) -> usize
-        ensures value { result ≡ body_len self.now }
-        ensures fits { result ≤ most_body }
+        ensures value { result ≡ body_length self.now }
+        ensures fits { result ≤ most_bytes_of_body }
     {
         match &self.parts {
             EntryParts::Data { body, .. } => body.bytes().len(),

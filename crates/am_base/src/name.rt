@@ -1,5 +1,5 @@
 ghost use Rattle.std.specs.Prelude.{◌≡◌, ℕ, ◌+◌, ◌*◌, ◌/◌, ◌%◌, ◌<◌, ◌≤◌, ◌↔◌, IsSome, IfSome};
-ghost use Rattle.am_base.specs.Names.{place_of, life_of, name_at, name_lt};
+ghost use Rattle.am_base.specs.Names.{place_of_name, life_of_name, name_of_place_and_life, name_is_less};
 
 use std::cmp::Ordering;
 use std::marker::Model;
@@ -43,7 +43,7 @@ impl Name {
     /// A life of a place; None exactly where the place is above 15 or the life isn't 1 to 16.
     pub fn of(place: u8, life: u8) -> Option<Name>
         ensures variant { IsSome result ↔ ((place < 16) × (0 < life) × (life ≤ 16)) }
-        ensures value { IfSome result (λ name. name ≡ name_at place life) }
+        ensures value { IfSome result (λ name. name ≡ name_of_place_and_life place life) }
     {
         if place < 16 && 0 < life && life <= 16 {
             return Some(Name(place + 16 * (life - 1)));
@@ -67,7 +67,7 @@ impl Name {
 
     /// Whether this name is below another: by place, then by life.
     pub fn is_below(self, other: Name) -> bool
-        ensures { result ≡ name_lt self other }
+        ensures { result ≡ name_is_less self other }
     {
         if self.place() < other.place() {
             return true;
@@ -77,7 +77,7 @@ impl Name {
 
     /// Its place, 0 to 15.
     pub fn place(self) -> u8
-        ensures value { result ≡ place_of self }
+        ensures value { result ≡ place_of_name self }
         ensures fits { result < 16 }
     {
         self.0 % 16
@@ -85,7 +85,7 @@ impl Name {
 
     /// Its life, 1 to 16.
     pub fn life(self) -> u8
-        ensures value { result ≡ life_of self }
+        ensures value { result ≡ life_of_name self }
         ensures fits { (0 < result) × (result ≤ 16) }
     {
         self.0 / 16 + 1
@@ -95,9 +95,9 @@ impl Name {
 impl Ord for Name {
     ghost use Rattle.std.proofs.Common.{rules};
     ghost use Rattle.std.specs.Cmp.Rules.{comparing};
-    ghost use Rattle.am_base.specs.Names.{name_cmp};
+    ghost use Rattle.am_base.specs.Names.{compare_names};
 
-    ghost cmp = { name_cmp };
+    ghost cmp = { compare_names };
 
     ghost total = { Prim.search (comparing, rules) };
 
@@ -117,9 +117,9 @@ impl PartialOrd for Name {
     ghost use Rattle.std.specs.Cmp.{partial_order_from_own_ties};
     ghost use Rattle.std.specs.Cmp.Rules.{comparing};
     ghost use Rattle.std.specs.Ordering.{as_partial_cmp};
-    ghost use Rattle.am_base.specs.Names.{name_cmp};
+    ghost use Rattle.am_base.specs.Names.{compare_names};
 
-    ghost partial_cmp = { as_partial_cmp name_cmp };
+    ghost partial_cmp = { as_partial_cmp compare_names };
 
     ghost laws = { partial_order_from_own_ties (Prim.search (comparing, rules)) (Prim.search (comparing, rules)) };
 
@@ -136,11 +136,11 @@ pub struct Stamp {
 }
 
 impl Stamp {
-    ghost use Rattle.am_base.specs.Stamps.{stamp_lt};
+    ghost use Rattle.am_base.specs.Stamps.{stamp_is_less};
 
     /// Whether this stamp is below another: by round, then by name.
     pub fn is_below(self, other: Stamp) -> bool
-        ensures { result ≡ stamp_lt self other }
+        ensures { result ≡ stamp_is_less self other }
     {
         if self.round < other.round {
             return true;

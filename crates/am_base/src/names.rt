@@ -1,5 +1,5 @@
 ghost use Rattle.std.specs.Prelude.{◌≡◌, ◌==◌, if◌then◌else◌, ℕ, ◌+◌, ◌-◌, ◌*◌, ◌%◌, ◌<◌, ◌≤◌, ◌↔◌, List, IsTrue, IsSome, IfSome, Some, EachIndex, max, slice_index};
-ghost use Rattle.am_base.specs.Names.{IsSet, nobody, has, with_name, without_name, union_of, minus, size, lowest_of, of_mask, of_parts, are_parts, mask_of, lives_of};
+ghost use Rattle.am_base.specs.Names.{IsSetOfNames, empty_set_of_names, has, with_name, without_name, union_of_names, names_without, size, lowest_name_of, first_lives_of_mask, names_of_mask_and_lives, are_mask_and_lives, mask_of_names, lives_of_names};
 
 use crate::name::Name;
 use std::marker::Model;
@@ -25,7 +25,7 @@ fn bit_of(life: u8) -> u16
 #[tactic(auto, using(crate::proofs::Masks::places_are_filled_at_sixteen, crate::proofs::Masks::fill_next_place_of_mask))]
 /// The lives that a mask of places and their lives less one give.
 fn lives_in(mask: u16, lives: u64) -> [u8; 16]
-    ensures { result ≡ of_parts mask lives }
+    ensures { result ≡ names_of_mask_and_lives mask lives }
 {
     let mut set = [0; 16];
     let mut bits = mask;
@@ -41,7 +41,7 @@ fn lives_in(mask: u16, lives: u64) -> [u8; 16]
 #[tactic(auto, using(crate::proofs::Masks::life_outside_mask_is_refused, crate::proofs::Masks::is_masked_goes_on, crate::proofs::Masks::is_masked_at_sixteen))]
 /// Whether each place outside the mask has no life.
 fn are_parts(mask: u16, lives: u64) -> bool
-    ensures { result ≡ are_parts mask lives }
+    ensures { result ≡ are_mask_and_lives mask lives }
 {
     let mut bits = mask;
     let mut rest = lives;
@@ -64,22 +64,22 @@ pub struct Names {
 
 impl Model for Names {
     ghost use Rattle.std.specs.Prelude.{ℕ, List};
-    ghost use Rattle.am_base.specs.Names.{IsSet};
+    ghost use Rattle.am_base.specs.Names.{IsSetOfNames};
 
     ghost Value = { List ℕ };
 
     ghost view = { λ s. s.lives };
 
-    ghost invariant = { λ s. IsSet s.lives };
+    ghost invariant = { λ s. IsSetOfNames s.lives };
 
     ghost inverse = { λ xs. record { lives = xs } };
 }
 
 impl Default for Names {
     ghost use Rattle.std.specs.Prelude.{◌≡◌};
-    ghost use Rattle.am_base.specs.Names.{nobody};
+    ghost use Rattle.am_base.specs.Names.{empty_set_of_names};
 
-    ghost is_default = { λ names. names ≡ nobody };
+    ghost is_default = { λ names. names ≡ empty_set_of_names };
 
     fn default() -> Names {
         Names::empty()
@@ -89,7 +89,7 @@ impl Default for Names {
 impl Names {
     /// Nobody.
     pub fn empty() -> Names
-        ensures { result ≡ nobody }
+        ensures { result ≡ empty_set_of_names }
     {
         Names { lives: [0; 16] }
     }
@@ -97,7 +97,7 @@ impl Names {
     #[tactic(auto, using(crate::proofs::Masks::places_of_is_set))]
     /// Life 1 of each place of a mask, whose bit 0 is place 0's.
     pub fn of_mask(mask: u16) -> Names
-        ensures value { result ≡ of_mask mask }
+        ensures value { result ≡ first_lives_of_mask mask }
     {
         Names {
             lives: lives_in(mask, 0),
@@ -108,11 +108,11 @@ impl Names {
     /// The set with this mask of places and these lives less one, four bits for each place; None exactly where there is
     /// none, since a place outside the mask has such bits that aren't 0.
     pub fn of_parts(mask: u16, lives: u64) -> Option<Names>
-        ensures variant { IsSome result ↔ IsTrue (are_parts mask lives) }
-        ensures value { IfSome result (λ set. set ≡ of_parts mask lives) }
-        ensures only { (set : List ℕ) → IsSet set → mask ≡ mask_of set → lives ≡ lives_of set
+        ensures variant { IsSome result ↔ IsTrue (are_mask_and_lives mask lives) }
+        ensures value { IfSome result (λ set. set ≡ names_of_mask_and_lives mask lives) }
+        ensures only { (set : List ℕ) → IsSetOfNames set → mask ≡ mask_of_names set → lives ≡ lives_of_names set
             → result ≡ Some set }
-        ensures parts { IfSome result (λ set. (mask_of set ≡ mask) × (lives_of set ≡ lives)) }
+        ensures parts { IfSome result (λ set. (mask_of_names set ≡ mask) × (lives_of_names set ≡ lives)) }
     {
         if !are_parts(mask, lives) {
             return None;
@@ -124,7 +124,7 @@ impl Names {
 
     /// Its places, place 0 in bit 0.
     pub fn mask(self) -> u16
-        ensures value { result ≡ mask_of self }
+        ensures value { result ≡ mask_of_names self }
     {
         let mut mask = 0;
         for place in (0..16usize).rev() {
@@ -135,7 +135,7 @@ impl Names {
 
     /// The lives less one of its places, four bits for each place, place 0 in the lowest; 0 where a place isn't there.
     pub fn lives(self) -> u64
-        ensures value { result ≡ lives_of self }
+        ensures value { result ≡ lives_of_names self }
     {
         let mut lives = 0;
         for place in (0..16usize).rev() {
@@ -163,7 +163,7 @@ impl Names {
     /// The lives of the sixteen places, 0 where a place isn't there.
     pub fn each_life(self) -> [u8; 16]
         ensures value { result ≡ self }
-        ensures set { IsSet self }
+        ensures set { IsSetOfNames self }
     {
         self.lives
     }
@@ -199,7 +199,7 @@ impl Names {
 
     /// The names of both, with the greater life of each place.
     pub fn union(self, other: Names) -> Names
-        ensures { result ≡ union_of self other }
+        ensures { result ≡ union_of_names self other }
     {
         let mut lives = [0; 16];
         for place in 0..16usize {
@@ -210,7 +210,7 @@ impl Names {
 
     /// The names that the other set doesn't have.
     pub fn minus(self, other: Names) -> Names
-        ensures { result ≡ minus self other }
+        ensures { result ≡ names_without self other }
     {
         let mut lives = [0; 16];
         for place in 0..16usize {
@@ -233,7 +233,7 @@ impl Names {
 
     /// The lowest name; None exactly where there is nobody.
     pub fn lowest(self) -> Option<Name>
-        ensures value { result ≡ lowest_of self }
+        ensures value { result ≡ lowest_name_of self }
     {
         for place in 0..16u8 {
             if 0 < self.lives[usize::from(place)] {

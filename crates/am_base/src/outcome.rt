@@ -121,11 +121,11 @@ pub enum Outcome {
 
 impl Outcome {
     ghost use Rattle.std.specs.Prelude.{false};
-    ghost use Rattle.am_base.specs.Outcomes.{is_took};
+    ghost use Rattle.am_base.specs.Outcomes.{is_outcome_took};
 
     /// The same outcome. It takes no memory, so it is none that gives an entry.
     pub fn copy(&self) -> Outcome
-        requires { is_took self.now ≡ false }
+        requires { is_outcome_took self.now ≡ false }
         ensures { result ≡ self.now }
     {
         match *self {

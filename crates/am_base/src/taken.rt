@@ -1,5 +1,5 @@
 ghost use Rattle.std.specs.Prelude.{◌≡◌, ◌≤◌, IfOk};
-ghost use Rattle.am_base.specs.Entries.{body_len};
+ghost use Rattle.am_base.specs.Entries.{body_length};
 
 use crate::body::SentBody;
 use crate::entry::{EntryParts, EntryRef, GroupView};
@@ -36,9 +36,9 @@ impl Model for TakenEntry {
 
     ghost Value = { Entry };
 
-    ghost use Rattle.am_base.specs.Entries.{taken_of};
+    ghost use Rattle.am_base.specs.Entries.{taken_entry_of_parts};
 
-    ghost view = { λ e. taken_of e.parts };
+    ghost view = { λ e. taken_entry_of_parts e.parts };
 }
 
 impl fmt::Debug for TakenEntry {
@@ -89,7 +89,7 @@ impl EntryRoom {
 
     /// The entry in this room. It takes no memory, and gives back the room that the body leaves over.
     pub fn fill(self, entry: &EntryRef<'_>) -> TakenEntry
-        requires { body_len entry.now ≤ self }
+        requires { body_length entry.now ≤ self }
         ensures { result ≡ entry.now }
     {
         let parts = match entry.parts() {

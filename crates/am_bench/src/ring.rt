@@ -1,6 +1,6 @@
 ghost use Rattle.std.specs.Prelude.{◌≡◌, ◌+◌, ◌≤◌};
-ghost use Rattle.am_base.specs.Most.{most_window};
-ghost use Rattle.am_base.specs.Limits.{IsEntry};
+ghost use Rattle.am_base.specs.Most.{greatest_window};
+ghost use Rattle.am_base.specs.Limits.{EntryIsInRange};
 
 use am_base::body::Body;
 use am_base::entry::{Entry, GroupView};
@@ -34,7 +34,7 @@ fn all_places() -> Names {
 
 /// The View of sixteen founders, with a resilience of 15.
 fn founders_view() -> Entry
-    ensures { IsEntry result }
+    ensures { EntryIsInRange result }
 {
     Entry::View(GroupView {
         stamp: Stamp {
@@ -62,7 +62,7 @@ fn all_stored() -> Fronts {
 impl TimedHistory {
     /// The history of sixteen founders, full.
     pub fn new(alloc: Global, window: u16) -> Result<TimedHistory, AllocError>
-        requires { (1 ≤ window) × (window ≤ most_window) }
+        requires { (1 ≤ window) × (window ≤ greatest_window) }
     {
         let mut ring = TimedHistory {
             history: History::new(alloc, window)?,
@@ -82,7 +82,7 @@ impl TimedHistory {
 
     /// Adds an entry where there is room for it and it fits; whether it did.
     fn push(&mut self, entry: &Entry) -> bool
-        requires { IsEntry entry.now }
+        requires { EntryIsInRange entry.now }
     {
         let entry = entry.as_ref();
         let top = self.history.top();

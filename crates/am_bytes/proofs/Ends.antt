@@ -2,9 +2,9 @@
 use Rattle.std.proofs.Common.{◌≡◌, ℕ, List, ◌++◌, Result, Ok, Err, OnOk, ap, ◌∙◌, subst, append_assoc, ◌==◌, not}
 use Rattle.std.specs.Prelude.{nat_lt}
 use Rattle.am_base.specs.declared.image.Image.{Image}
-use Rattle.am_model.specs.Node.{Node, image_of, node_unsettled_count}
+use Rattle.am_model.specs.Node.{Node, image_of_node, node_unsettled_count}
 use Rattle.am_model.specs.Ends.{IsEndOf}
-use Rattle.am_model.specs.Info.{info_of, waited_for}
+use Rattle.am_model.specs.Info.{info_of_node, names_waited_for}
 use Rattle.am_model.specs.declared.info.Info.{Info}
 use Rattle.am_node_parts.proofs.Ends.{image_of_node_end}
 use Rattle.am_node.proofs.Told.{info_of_end_is_info}
@@ -30,14 +30,14 @@ standing_with i image m = record {
   taken = i.taken;
   accepted = i.accepted;
   top = i.top;
-  waits_for = waited_for m.ballot;
+  waits_for = names_waited_for m.ballot;
 }
 
 standing_end : (all m : Node) → IsEndOf all m → node_standing m ≡ node_standing all
 standing_end all m end =
-    ap (λ (i : Info). standing_with i (image_of m) m) (info_of_end_is_info all m end)
-    ∙ ap (λ (image : Image). standing_with (info_of all) image m) (image_of_node_end all m end)
-    ∙ ap (λ (n : Node). standing_with (info_of all) (image_of all) n) end.same
+    ap (λ (i : Info). standing_with i (image_of_node m) m) (info_of_end_is_info all m end)
+    ∙ ap (λ (image : Image). standing_with (info_of_node all) image m) (image_of_node_end all m end)
+    ∙ ap (λ (n : Node). standing_with (info_of_node all) (image_of_node all) n) end.same
 
 pub told_event_answers_bytes : {E : Type 0} (done : Result (Unit {0}) E) (m kept new : Node) (bytes : List ℕ) (event : Line) (told : LineReply) (stand : NodeStanding)
     (before standing after : List ℕ) → event ≡ event_of bytes → RepliesBy (λ n. reply_to n event) m told new → stand ≡ node_standing kept → kept ≡ new

@@ -7,7 +7,7 @@ use Rattle.std.proofs.lemmas.List.Elements.{recursion_from_All}
 use Rattle.std.proofs.lemmas.Bool.{le-leb, eq-eqb}
 use Rattle.byteorder.specs.Endian.{big_bytes, big_number}
 use Rattle.byteorder.specs.Numbers.{big_number-reads_back}
-use Rattle.am_base.specs.Names.{IsSet, mask_of, lives_of}
+use Rattle.am_base.specs.Names.{IsSetOfNames, mask_of_names, lives_of_names}
 use Rattle.am_base.proofs.Masks.{places_of_mask_and_lives, mask_and_lives_are_masked, mask_of-lt, lives_of-lt}
 use Rattle.am_base.specs.declared.name.Stamp.{Stamp}
 use Rattle.am_base.specs.declared.entry.Entry.{Entry}
@@ -58,16 +58,16 @@ stamp_back : (stamp : Stamp) (rest : List ℕ) → HasWords stamp → stamp_from
 unfolding stamp_from byte_from
 stamp_back stamp rest fits = rw (word_back stamp.round (stamp.by ∷ rest) fits) refl
 
-set_back : (set rest : List ℕ) → IsSet set → set_from (set_bytes set ++ rest) ≡ found set rest
+set_back : (set rest : List ℕ) → IsSetOfNames set → set_from (set_bytes set ++ rest) ≡ found set rest
 unfolding set_from
 set_back set rest is =
-    let mask_fits : mask_of set < 256 ^ 2 = let lt = mask_of-lt set in let lt2 : mask_of set < 2 ^ 16 = subst (λ (k : ℕ). mask_of set < 2 ^ k) is.places lt in
+    let mask_fits : mask_of_names set < 256 ^ 2 = let lt = mask_of-lt set in let lt2 : mask_of_names set < 2 ^ 16 = subst (λ (k : ℕ). mask_of_names set < 2 ^ k) is.places lt in
     lt2 in
-    let lives_fits : lives_of set < 256 ^ 8 = let lt = lives_of-lt set is in
-    let lt2 : lives_of set < 16 ^ 16 = subst (λ (k : ℕ). lives_of set < 16 ^ k) is.places lt in lt2 in
+    let lives_fits : lives_of_names set < 256 ^ 8 = let lt = lives_of-lt set is in
+    let lt2 : lives_of_names set < 16 ^ 16 = subst (λ (k : ℕ). lives_of_names set < 16 ^ k) is.places lt in lt2 in
     rw (
-      number_back 2 (mask_of set) (big_bytes 8 (lives_of set) ++ rest) refl mask_fits,
-      number_back 8 (lives_of set) rest refl lives_fits,
+      number_back 2 (mask_of_names set) (big_bytes 8 (lives_of_names set) ++ rest) refl mask_fits,
+      number_back 8 (lives_of_names set) rest refl lives_fits,
       mask_and_lives_are_masked set is,
       places_of_mask_and_lives set is,
     ) refl

@@ -8,8 +8,8 @@ use Rattle.am_base.specs.declared.outcome.Outcome.{Outcome}
 use Rattle.am_base.specs.declared.outcome.Outcome.TheVariants as said
 use Rattle.am_packet.specs.Boxes.{Letter}
 use Rattle.am_packet.specs.Spelling.{stamp_bytes, set_bytes, flag_byte, spelling}
-use Rattle.am_model.specs.Node.{Node, top, view, members, image_of, node_unsettled_count}
-use Rattle.am_model.specs.Info.{role_of, waited_for}
+use Rattle.am_model.specs.Node.{Node, top, view, members, image_of_node, node_unsettled_count}
+use Rattle.am_model.specs.Info.{role_of_node, names_waited_for}
 use Rattle.am_model.specs.declared.info.Role.{Role}
 use Rattle.am_model.specs.declared.info.Role.TheVariants as role
 use Rattle.am_node_lines.specs.declared.reply.LineReply.{LineReply}
@@ -23,19 +23,19 @@ use Rattle.am_bytes.specs.Events.{event_of}
 
 abbrev pub node_standing : Node → NodeStanding
 node_standing m = record {
-  role = role_of m;
+  role = role_of_node m;
   has_next = not (m.core.taken == m.core.acc);
   is_sending = nat_lt 0 (node_unsettled_count m);
   is_leaving = m.leaving;
   view = view m;
-  view_number = (image_of m).view_number;
+  view_number = (image_of_node m).view_number;
   members = members m;
-  resilience = (image_of m).resilience;
+  resilience = (image_of_node m).resilience;
   base = m.core.base;
   taken = m.core.taken;
   accepted = m.core.acc;
   top = top m;
-  waits_for = waited_for m.ballot;
+  waits_for = names_waited_for m.ballot;
 }
 
 abbrev pub role_number : Role → ℕ

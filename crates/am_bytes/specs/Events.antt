@@ -1,7 +1,7 @@
 -- What bytes ask of a node: events. A number of so many bytes has its most significant byte first.
 use Rattle.std.specs.Prelude.{ℕ, List, [], ◌∷◌, ◌++◌, drop, length, Option, Some, None, Result, Ok, Err, Bool, ◌==◌, ◌&&◌, nat_lt, nat_le, if◌then◌else◌, slice_index}
 use Rattle.byteorder.specs.Endian.{big_number, big_bytes}
-use Rattle.am_base.specs.Most.{most_number, most_body, most_packet}
+use Rattle.am_base.specs.Most.{greatest_number, most_bytes_of_body, most_bytes_of_packet}
 use Rattle.am_base.specs.declared.event.NodeEvent.TheVariants as does
 use Rattle.am_packet.specs.Spelling.{flag_byte, set_bytes}
 use Rattle.am_packet.specs.Reading.{Read, flag_at, read_set_at}
@@ -44,7 +44,7 @@ field_of (Err refusal) = Err faults.Form
 unfoldable pub count_in : List ℕ → Result ℕ FieldFault
 count_in fields =
     if length fields == 4
-    then (if nat_lt 0 (big_number 4 fields) && nat_le (big_number 4 fields) most_number then Ok (big_number 4 fields) else Err faults.Limit)
+    then (if nat_lt 0 (big_number 4 fields) && nat_le (big_number 4 fields) greatest_number then Ok (big_number 4 fields) else Err faults.Limit)
     else Err faults.Form
 
 -- a name alone
@@ -53,11 +53,11 @@ name_in fields = if length fields == 1 then Ok (slice_index fields 0) else Err f
 
 -- a body alone
 unfoldable pub body_in : List ℕ → Result (List ℕ) FieldFault
-body_in fields = if nat_le (length fields) most_body then Ok fields else Err faults.Limit
+body_in fields = if nat_le (length fields) most_bytes_of_body then Ok fields else Err faults.Limit
 
 -- a packet's bytes
 unfoldable pub packet_bytes_in : List ℕ → Result (List ℕ) FieldFault
-packet_bytes_in fields = if nat_le (length fields) most_packet then Ok fields else Err faults.Limit
+packet_bytes_in fields = if nat_le (length fields) most_bytes_of_packet then Ok fields else Err faults.Limit
 
 -- a least size of 1 to 16 and a resilience of at most 15
 abbrev pub are_sizes : ℕ → ℕ → Bool

@@ -1,9 +1,9 @@
 -- What holds of events and answers as bytes.
 use Rattle.std.specs.Prelude.{◌≡◌, ℕ, ◌<◌, ◌≤◌, ◌^◌, List, ◌++◌, length, All}
 use Rattle.am_base.specs.Founding.{Rules}
-use Rattle.am_base.specs.Limits.{IsNumber}
-use Rattle.am_base.specs.Most.{most_body, most_packet}
-use Rattle.am_base.specs.Names.{IsSet}
+use Rattle.am_base.specs.Limits.{NumberIsInRange}
+use Rattle.am_base.specs.Most.{most_bytes_of_body, most_bytes_of_packet}
+use Rattle.am_base.specs.Names.{IsSetOfNames}
 use Rattle.am_base.specs.declared.name.Stamp.{Stamp}
 use Rattle.am_base.specs.declared.entry.Entry.{Entry}
 use Rattle.am_base.specs.declared.entry.Entry.TheVariants as entries
@@ -28,18 +28,18 @@ use Rattle.am_bytes.specs.Reading.{found, answer_from}
 
 -- what a node may be asked by bytes
 abbrev pub IsEvent : Line → Type 0
-IsEvent (line.Does (does.Send body)) = length body ≤ most_body
-IsEvent (line.Does (does.Done req)) = (0 < req) × IsNumber req
+IsEvent (line.Does (does.Send body)) = length body ≤ most_bytes_of_body
+IsEvent (line.Does (does.Done req)) = (0 < req) × NumberIsInRange req
 IsEvent (line.Does does.Take) = Unit {0}
 IsEvent (line.Does does.Join) = Unit {0}
 IsEvent (line.Does does.State) = Unit {0}
 IsEvent (line.Does does.Leave) = Unit {0}
 IsEvent (line.Does (does.Reset least resilience)) = (0 < least) × (least ≤ 16) × (resilience ≤ 15)
-IsEvent (line.Does (does.Ask round)) = (0 < round) × IsNumber round
+IsEvent (line.Does (does.Ask round)) = (0 < round) × NumberIsInRange round
 IsEvent (line.Does (does.GiveUp name)) = Unit {0}
 IsEvent (line.Does does.Tick) = Unit {0}
 IsEvent (line.Does (does.Hear bytes)) = ⊥
-IsEvent (line.Hears any to bytes) = IsSet to × (length bytes ≤ most_packet)
+IsEvent (line.Hears any to bytes) = IsSetOfNames to × (length bytes ≤ most_bytes_of_packet)
 IsEvent line.Info = Unit {0}
 IsEvent (line.Bad cause) = ⊥
 
@@ -58,10 +58,10 @@ HasWords stamp = IsWord stamp.round
 
 -- what the types of an entry's fields keep
 abbrev pub FitsEntry : Entry → Type 0
-FitsEntry (entries.Data from req body) = IsWord req × (length body ≤ most_body)
+FitsEntry (entries.Data from req body) = IsWord req × (length body ≤ most_bytes_of_body)
 FitsEntry (entries.Join name) = Unit {0}
 FitsEntry (entries.Leave name) = Unit {0}
-FitsEntry (entries.View v) = HasWords v.stamp × IsSet v.members
+FitsEntry (entries.View v) = HasWords v.stamp × IsSetOfNames v.members
 
 -- what the types of an outcome's fields keep
 abbrev pub FitsOutcome : Outcome → Type 0
@@ -86,20 +86,20 @@ FitsOutcome (said.LetGo number) = IsWord number
 FitsOutcome (said.Refused cause) = IsWord cause
 FitsOutcome (said.Newer promise) = HasWords promise
 FitsOutcome (said.Catching want) = IsWord want
-FitsOutcome (said.Waiting names) = IsSet names
+FitsOutcome (said.Waiting names) = IsSetOfNames names
 FitsOutcome (said.Fetching from want) = IsWord want
 FitsOutcome (said.TooFew got least) = IsWord got × IsWord least
 FitsOutcome (said.Crowded base top) = IsWord base × IsWord top
 FitsOutcome (said.Overtaken by) = HasWords by
 FitsOutcome (said.NotIn best) = HasWords best
-FitsOutcome (said.Decided number members) = IsWord number × IsSet members
+FitsOutcome (said.Decided number members) = IsWord number × IsSetOfNames members
 FitsOutcome (said.Running life) = IsWord life
 FitsOutcome (said.Returned life) = IsWord life
 FitsOutcome _ = Unit {0}
 
 -- a letter of a packet that has a spelling
 abbrev pub FitsLetter : Letter → Type 0
-FitsLetter letter = IsSet letter.to × IsPacket letter.packet
+FitsLetter letter = IsSetOfNames letter.to × IsPacket letter.packet
 
 abbrev pub FitsReply : LineReply → Type 0
 FitsReply (replies.Did outcome letters) = FitsOutcome outcome × All FitsLetter letters
@@ -109,12 +109,12 @@ FitsReply _ = Unit {0}
 pub record FitsStanding (s : NodeStanding) : Type 0 where
   pub view : HasWords s.view
   pub view_number : IsWord s.view_number
-  pub members : IsSet s.members
+  pub members : IsSetOfNames s.members
   pub base : IsWord s.base
   pub taken : IsWord s.taken
   pub accepted : IsWord s.accepted
   pub top : IsWord s.top
-  pub waits_for : IsSet s.waits_for
+  pub waits_for : IsSetOfNames s.waits_for
 
 -- what an answer spells is read as that answer, whatever stands behind it
 abbrev pub AnswersAreRead : Type 0

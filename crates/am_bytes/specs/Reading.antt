@@ -1,7 +1,7 @@
 -- What answers say, read from their bytes.
 use Rattle.std.specs.Prelude.{ℕ, zero, suc, ◌/◌, ◌%◌, List, [], ◌∷◌, get_or, Option, Some, None, Bool, true, false, Ok, Err, Result, ◌==◌, if◌then◌else◌}
 use Rattle.byteorder.specs.Endian.{big_number}
-use Rattle.am_base.specs.Names.{of_parts, are_parts}
+use Rattle.am_base.specs.Names.{names_of_mask_and_lives, are_mask_and_lives}
 use Rattle.am_base.specs.declared.name.Stamp.{Stamp}
 use Rattle.am_base.specs.declared.entry.Entry.{Entry}
 use Rattle.am_base.specs.declared.entry.Entry.TheVariants as entries
@@ -62,7 +62,7 @@ unfoldable pub stamp_from : List ℕ → ReadFront Stamp
 stamp_from bytes = read_then (number_from 4 bytes) (λ round a. read_then (byte_from a) (λ by rest. found (record { round = round; by = by }) rest))
 
 abbrev pub set_by : ℕ → ℕ → List ℕ → ReadFront (List ℕ)
-set_by mask lives rest = if are_parts mask lives then found (of_parts mask lives) rest else None
+set_by mask lives rest = if are_mask_and_lives mask lives then found (names_of_mask_and_lives mask lives) rest else None
 
 unfoldable pub set_from : List ℕ → ReadFront (List ℕ)
 set_from bytes = read_then (number_from 2 bytes) (λ mask a. read_then (number_from 8 a) (set_by mask))

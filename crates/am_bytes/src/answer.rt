@@ -1,6 +1,6 @@
 ghost use Rattle.std.specs.Prelude.{◌≡◌, ◌≤◌, ◌++◌, length, OnOk};
 ghost use Rattle.am_node_lines.specs.Speakers.{speaking, AnswersBy, HasFewLetters};
-ghost use Rattle.am_base.specs.Most.{most_packet};
+ghost use Rattle.am_base.specs.Most.{most_bytes_of_packet};
 ghost use Rattle.am_bytes.specs.Answers.{to_bytes, counted_bytes, letter_bytes, letters_bytes, reply_bytes, event_answer};
 
 use crate::event::read_event;
@@ -33,7 +33,7 @@ fn put_to(out: &mut Vec<u8>, any: bool, to: Names) -> Result<(), NoMemory>
 /// Adds a packet's bytes, with their number before them.
 #[tactic(auto, unfolding(crate::specs::Answers::counted_bytes))]
 fn put_counted(out: &mut Vec<u8>, bytes: &[u8]) -> Result<(), NoMemory>
-    requires { length bytes.now ≤ most_packet }
+    requires { length bytes.now ≤ most_bytes_of_packet }
     ensures { OnOk result (out.new.items ≡ out.old.items ++ counted_bytes bytes.now) }
 {
     put_short(out, bytes.len() as u16)?;

@@ -1,8 +1,8 @@
 ghost use Rattle.std.specs.Prelude.{◌≡◌, ℕ, ◌||◌, ◌<◌, ◌≤◌, [], None, Some, length, max, IfOk, IfSome, IfNone, Option, true};
 ghost use Rattle.std.specs.Option.{option_copied};
-ghost use Rattle.am_base.specs.Most.{most_body};
+ghost use Rattle.am_base.specs.Most.{most_bytes_of_body};
 ghost use Rattle.am_base.specs.declared.outcome.Outcome.TheVariants as said;
-ghost use Rattle.am_group_defs.specs.Claims.{heard_by};
+ghost use Rattle.am_group_defs.specs.Claims.{packet_heard_by_act};
 ghost use Rattle.am_group.specs.declared.event.Record.{Record};
 ghost use Rattle.am_shared_journal_defs.specs.Stops.{is_stop};
 ghost use Rattle.am_race_laws.specs.Boxes.{what_of, IsLeastOf, InBoth};
@@ -57,7 +57,7 @@ fn what_of(
 
 /// The number of the letter that an act hears, or 0.
 pub fn heard_by(act: &Act) -> u32
-    ensures { result ≡ heard_by act.now }
+    ensures { result ≡ packet_heard_by_act act.now }
 {
     match act {
         Act::Hear(number) => *number,
@@ -141,8 +141,8 @@ pub fn room_for(
     letter: Option<&LetterCopy>,
 ) -> Result<ActRoom, NoMemory>
     ensures what { IfOk result (λ r. r.what ≡ what_of act.now (option_copied letter.entry)) }
-    ensures spare { IfOk result (λ r. most_body ≤ r.spare) }
-    ensures given { IfOk result (λ r. most_body ≤ r.given) }
+    ensures spare { IfOk result (λ r. most_bytes_of_body ≤ r.spare) }
+    ensures given { IfOk result (λ r. most_bytes_of_body ≤ r.given) }
     ensures out { IfOk result (λ r. r.out ≡ []) }
 {
     Ok(ActRoom {
@@ -155,7 +155,7 @@ pub fn room_for(
 
 /// The same outcome, with room for its entry.
 pub fn copy_into(outcome: &Outcome, room: EntryRoom) -> Outcome
-    requires { most_body ≤ room }
+    requires { most_bytes_of_body ≤ room }
     ensures { result ≡ outcome.now }
 {
     match outcome {

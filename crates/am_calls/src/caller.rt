@@ -1,5 +1,5 @@
 ghost use Rattle.std.specs.Prelude.{◌≡◌, ◌<◌, [], ◌∷◌, length, nat_lt};
-ghost use Rattle.am_base.specs.Most.{most_word};
+ghost use Rattle.am_base.specs.Most.{greatest_word};
 ghost use Rattle.am_shared_journal_defs.specs.declared.terms.SharerKey.TheVariants.{Caller as CallerKey};
 ghost use Rattle.am_shared_journal_defs.specs.Passes.{fresh};
 ghost use Rattle.am_race_laws.specs.Callings.{HasMade, caller_luck_after};
@@ -92,7 +92,7 @@ impl<N: Racing> Caller<N> {
 
     /// Whether it may make a further call: it has made fewer than 4,294,967,295.
     pub fn may_call(&self) -> bool
-        ensures { result ≡ nat_lt (length self.now.calls) most_word }
+        ensures { result ≡ nat_lt (length self.now.calls) greatest_word }
     {
         self.count < u32::MAX
     }

@@ -1,9 +1,9 @@
 ghost use Rattle.std.specs.Prelude.{◌≡◌, ◌<◌, [], ◌∷◌, IfOk, IfErr, true, false, vec_len, map, length, All};
 ghost use Rattle.std.specs.List.{range_with_len};
-ghost use Rattle.am_base.specs.Most.{most_events, most_word};
-ghost use Rattle.am_base.specs.Names.{place_of};
+ghost use Rattle.am_base.specs.Most.{most_events_of_run, greatest_word};
+ghost use Rattle.am_base.specs.Names.{place_of_name};
 ghost use Rattle.am_group.specs.declared.event.Act.TheVariants as acts;
-ghost use Rattle.am_model.specs.Info.{info_of};
+ghost use Rattle.am_model.specs.Info.{info_of_node};
 ghost use Rattle.am_shared_journal_defs.specs.declared.terms.SharerKey.TheVariants.{Caller as CallerKey};
 ghost use Rattle.am_shared_journal_defs.specs.Passes.{Sees};
 ghost use Rattle.am_shared_journal_defs.specs.Sights.{GoesOn};
@@ -118,7 +118,7 @@ impl<'g, N: Racing, G: TestHook> Kernels<'g, N, G> {
     /// The box of a node's place, under its lock. Each box stands at its own place, but of what a lock guards nothing is known when
     /// it is taken. So no proof says which box this is: it is looked at, and never a second time.
     fn box_at<R: Wait>(&self, rt: &R, node: Name) -> MutexGuard<'_, NodeBox<N>>
-        ensures { result.value.name ≡ place_of node }
+        ensures { result.value.name ≡ place_of_name node }
     {
         for _ in rt.forever() {
             let guard = self.boxes[usize::from(node.place())].lock(rt);
@@ -135,9 +135,9 @@ impl<'g, N: Racing, G: TestHook> Kernels<'g, N, G> {
         requires call { is_call call.now.act.now ≡ true }
         requires no_receive { is_take call.now.act.now ≡ false }
         ensures hand { IsHand N.wire N.plan call.now.tag.caller hand.new.share hand.new.chooser }
-        ensures ok { IfOk result (λ came. Began (place_of call.now.node) call.now.tag
+        ensures ok { IfOk result (λ came. Began (place_of_name call.now.node) call.now.tag
             call.now.act.now came hand.old.share.seen hand.new.share.seen) }
-        ensures err { IfErr result (WasRefused (place_of call.now.node) call.now.tag.caller
+        ensures err { IfErr result (WasRefused (place_of_name call.now.node) call.now.tag.caller
             hand.old.share.seen hand.new.share.seen) }
     {
         let mut guard = self.box_at(rt, call.node);
@@ -159,9 +159,9 @@ impl<'g, N: Racing, G: TestHook> Kernels<'g, N, G> {
         requires hand { IsHand N.wire N.plan call.now.tag.caller hand.old.share hand.old.chooser }
         requires may { CallerMayLook N.plan call.now.tag call.now.act.now came.now has_turn hand.old.share.seen }
         ensures hand { IsHand N.wire N.plan call.now.tag.caller hand.new.share hand.new.chooser }
-        ensures ok { IfOk result (HasLooked (place_of call.now.node) call.now.tag call.now.act.now
+        ensures ok { IfOk result (HasLooked (place_of_name call.now.node) call.now.tag call.now.act.now
             came.entry.now has_turn hand.old.share.seen hand.new.share.seen) }
-        ensures err { IfErr result (WasRefused (place_of call.now.node) call.now.tag.caller
+        ensures err { IfErr result (WasRefused (place_of_name call.now.node) call.now.tag.caller
             hand.old.share.seen hand.new.share.seen) }
     {
         let due = self.crowd.due(call.tag.caller);
@@ -245,7 +245,7 @@ impl<'g, N: Racing, G: TestHook> Kernels<'g, N, G> {
     /// Makes a call, and answers by its records (docs/PROTOCOL.md, "Races"). It ends after its own act, at most as many turns
     /// as the race says, and its check. `Caller::may_call` tells whether the caller may make it.
     pub fn make<R: Wait>(&self, rt: &R, caller: &mut Caller<N>, node: Name, act: &Act) -> CallAnswer
-        requires room { length caller.old.calls < most_word }
+        requires room { length caller.old.calls < greatest_word }
         requires call { is_call act.now ≡ true }
         ensures { Called N.plan node act.now caller.old caller.new result }
     {
@@ -264,7 +264,7 @@ impl<'g, N: Racing, G: TestHook> Kernels<'g, N, G> {
         node: Name,
         body: Body,
     ) -> CallAnswer
-        requires { length caller.old.calls < most_word }
+        requires { length caller.old.calls < greatest_word }
         ensures { Called N.plan node (acts.Send body) caller.old caller.new result }
     {
         match SentBody::of(self.alloc, &body) {
@@ -279,7 +279,7 @@ impl<'g, N: Racing, G: TestHook> Kernels<'g, N, G> {
 
     /// Takes the next accepted entry. Took with it; Late where its turns were used before there was one.
     pub fn receive<R: Wait>(&self, rt: &R, caller: &mut Caller<N>, node: Name) -> CallAnswer
-        requires { length caller.old.calls < most_word }
+        requires { length caller.old.calls < greatest_word }
         ensures { Called N.plan node acts.Take caller.old caller.new result }
     {
         self.make(rt, caller, node, &Act::Take)
@@ -287,7 +287,7 @@ impl<'g, N: Racing, G: TestHook> Kernels<'g, N, G> {
 
     /// Joins the group. Joined with the number of its Join; Late where its turns were used before.
     pub fn join<R: Wait>(&self, rt: &R, caller: &mut Caller<N>, node: Name) -> CallAnswer
-        requires { length caller.old.calls < most_word }
+        requires { length caller.old.calls < greatest_word }
         ensures { Called N.plan node acts.Join caller.old caller.new result }
     {
         self.make(rt, caller, node, &Act::Join)
@@ -295,7 +295,7 @@ impl<'g, N: Racing, G: TestHook> Kernels<'g, N, G> {
 
     /// Leaves the group. Left, or Late where its turns were used before.
     pub fn leave<R: Wait>(&self, rt: &R, caller: &mut Caller<N>, node: Name) -> CallAnswer
-        requires { length caller.old.calls < most_word }
+        requires { length caller.old.calls < greatest_word }
         ensures { Called N.plan node acts.Leave caller.old caller.new result }
     {
         self.make(rt, caller, node, &Act::Leave)
@@ -310,7 +310,7 @@ impl<'g, N: Racing, G: TestHook> Kernels<'g, N, G> {
         least: u8,
         resilience: u8,
     ) -> CallAnswer
-        requires { length caller.old.calls < most_word }
+        requires { length caller.old.calls < greatest_word }
         ensures { Called N.plan node (acts.Reset least resilience) caller.old caller.new result }
     {
         self.make(rt, caller, node, &Act::Reset { least, resilience })
@@ -318,7 +318,7 @@ impl<'g, N: Racing, G: TestHook> Kernels<'g, N, G> {
 
     /// Stops the node for good.
     pub fn stop<R: Wait>(&self, rt: &R, caller: &mut Caller<N>, node: Name) -> CallAnswer
-        requires { length caller.old.calls < most_word }
+        requires { length caller.old.calls < greatest_word }
         ensures { Called N.plan node acts.Stop caller.old caller.new result }
     {
         self.make(rt, caller, node, &Act::Stop)
@@ -332,9 +332,9 @@ impl<'g, N: Racing, G: TestHook> Kernels<'g, N, G> {
         ensures share { Sees hand.old.share hand.new.share }
         ensures chooser { hand.new.chooser ≡ hand.old.chooser }
         ensures ok { IfOk result (λ info. info
-            ≡ info_of (node_by N.plan hand.new.share.seen (place_of node))) }
+            ≡ info_of_node (node_by N.plan hand.new.share.seen (place_of_name node))) }
         ensures spent { IfErr result (λ refusal. refusal ≡ refusals.Spent
-            → length hand.new.share.seen ≡ most_events) }
+            → length hand.new.share.seen ≡ most_events_of_run) }
     {
         self.box_at(rt, node).info(&self.wire, hand)
     }
@@ -352,9 +352,9 @@ impl<'g, N: Racing, G: TestHook> Kernels<'g, N, G> {
         ensures calls { caller.new.calls ≡ caller.old.calls }
         ensures goes { GoesOn (CallerKey caller.old.number ∷ []) caller.old.seen caller.new.seen }
         ensures ok { IfOk result (λ info. info
-            ≡ info_of (node_by N.plan caller.new.seen (place_of node))) }
+            ≡ info_of_node (node_by N.plan caller.new.seen (place_of_name node))) }
         ensures spent { IfErr result (λ refusal. refusal ≡ refusals.Spent
-            → length caller.new.seen ≡ most_events) }
+            → length caller.new.seen ≡ most_events_of_run) }
     {
         self.info_at(rt, &mut caller.hand, node)
     }

@@ -1,8 +1,8 @@
 ghost use Rattle.std.specs.Prelude.{◌≡◌, ◌<◌, ◌≤◌, [], ◌∷◌, None, Some, length, IfOk, IfErr, OnOk, OnErr, Option, true, false};
 ghost use Rattle.std.specs.Option.{option_copied};
-ghost use Rattle.am_base.specs.Most.{most_events};
+ghost use Rattle.am_base.specs.Most.{most_events_of_run};
 ghost use Rattle.am_group_defs.specs.World.{first_node};
-ghost use Rattle.am_model.specs.Info.{info_of};
+ghost use Rattle.am_model.specs.Info.{info_of_node};
 ghost use Rattle.am_node.specs.Stands.{state_of};
 ghost use Rattle.am_group.specs.declared.event.Record.{Record};
 ghost use Rattle.am_shared_journal_defs.specs.declared.terms.SharerKey.TheVariants.{Place, Caller as CallerKey};
@@ -167,7 +167,7 @@ impl<N: Racing> NodeBox<N> {
         ensures looks { BoxLooks self.old self.new }
         ensures share { Sees share.old share.new }
         ensures both { share.new.seen ≡ self.new.seen }
-        ensures few { length self.new.seen ≤ most_events }
+        ensures few { length self.new.seen ≤ most_events_of_run }
         ensures open_ { OnOk result (self.new.closed ≡ None) }
         ensures runs { OnOk result (has_stopped self.new.seen self.new.name ≡ false) }
         ensures err { IfErr result (IsRefused self.new.seen self.new.name) }
@@ -192,10 +192,10 @@ impl<N: Racing> NodeBox<N> {
         ensures chooser { hand.new.chooser ≡ hand.old.chooser }
         ensures both { hand.new.share.seen ≡ self.new.seen }
         ensures ok { IfOk result (λ info. info
-            ≡ info_of (node_by N.plan self.new.seen self.new.name)) }
+            ≡ info_of_node (node_by N.plan self.new.seen self.new.name)) }
         ensures err { IfErr result (λ refusal. self.new.closed ≡ Some refusal) }
         ensures spent { IfErr result (λ refusal. refusal ≡ refusals.Spent
-            → length self.new.seen ≡ most_events) }
+            → length self.new.seen ≡ most_events_of_run) }
     {
         wire.meet(&mut self.pass, &mut hand.share);
         if let Some(refusal) = self.closed {
@@ -218,7 +218,7 @@ impl<N: Racing> NodeBox<N> {
         requires own { visit.now.wire.now.id ≡ N.wire }
         requires share { IsShareOf N.wire N.plan by.caller share.old }
         requires open_ { self.old.closed ≡ None }
-        requires few { length self.old.seen ≤ most_events }
+        requires few { length self.old.seen ≤ most_events_of_run }
         requires may { MayAct self.old.seen self.old.name act (option_copied letter) }
         requires met { share.old.seen ≡ self.old.seen }
         requires timely { IsTimely N.plan self.old.seen
@@ -233,7 +233,7 @@ impl<N: Racing> NodeBox<N> {
         ensures told { IfOk result (λ came. ToldBy (what_of act (option_copied letter.entry))
             (node_by N.plan self.old.seen self.old.name) came.outcome) }
         ensures spent { IfErr result (λ refusal. refusal ≡ refusals.Spent
-            → length self.new.seen ≡ most_events) }
+            → length self.new.seen ≡ most_events_of_run) }
     {
         let Ok(mut item) = blank(visit.alloc, self.name, &act, by) else {
             return Err(WireRefusal::NoMemory);

@@ -1,6 +1,6 @@
 ghost use Rattle.std.specs.Prelude.{◌≡◌, ◌↔◌, ◌≤◌, true, length, min, sum_by, map};
 ghost use Rattle.std.specs.List.{list_all};
-ghost use Rattle.am_base.specs.Most.{most_events};
+ghost use Rattle.am_base.specs.Most.{most_events_of_run};
 ghost use Rattle.am_race_laws.specs.Plans.{is_call, MayRace};
 
 use am_base::limits::MOST_EVENTS;
@@ -26,7 +26,7 @@ fn has_calls(thread: &ThreadPlan) -> bool
 
 /// How many calls threads make together, 100,000 at most.
 fn calls_in(threads: &[ThreadPlan]) -> u64
-    ensures { result ≡ min (sum_by (λ thread. length thread.calls) threads.now) most_events }
+    ensures { result ≡ min (sum_by (λ thread. length thread.calls) threads.now) most_events_of_run }
 {
     let mut sum = 0u64;
     for thread in threads {

@@ -1,6 +1,6 @@
 ghost use Rattle.std.specs.List.{list_all};
 ghost use Rattle.std.specs.Prelude.{◌≡◌, ◌≤◌, true, IfOk, Some, map, length, slice_get, All};
-ghost use Rattle.am_base.specs.Most.{most_events};
+ghost use Rattle.am_base.specs.Most.{most_events_of_run};
 ghost use Rattle.am_race_laws.specs.Legal.{IsLegalWithTags};
 ghost use Rattle.am_race_laws.specs.Plans.{calls_of, is_call, MayRace, ArePlayed};
 ghost use Rattle.am_race_laws.specs.Ran.{fresh_caller, fresh_callers, caller_numbers, HasRun, ends_thread, first_refusal};
@@ -53,7 +53,7 @@ fn play<R: Wait, N: Racing, G: TestHook>(
     requires fresh { caller ≡ fresh_caller caller.number }
     requires its { slice_get N.plan.threads caller.number ≡ Some thread.now }
     requires calls { list_all is_call thread.now.calls ≡ true }
-    requires few { length thread.now.calls ≤ most_events }
+    requires few { length thread.now.calls ≤ most_events_of_run }
     ensures number { result.caller.number ≡ caller.number }
     ensures ran { HasRun N.plan result.caller result.refusal }
 {

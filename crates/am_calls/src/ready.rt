@@ -1,5 +1,5 @@
 ghost use Rattle.std.specs.Prelude.{◌≡◌};
-ghost use Rattle.am_model.specs.Node.{has_log, has_departed};
+ghost use Rattle.am_model.specs.Node.{has_log_by_status, has_departed};
 ghost use Rattle.am_node.specs.Stands.{state_of};
 ghost use Rattle.am_race_laws.specs.Ready.{invite_round, round_in, is_ended, send_is_settled, is_ready_after, may_take};
 
@@ -37,7 +37,7 @@ pub fn round_in(letters: &[Letter]) -> u32
 }
 
 fn has_log(status: Status) -> bool
-    ensures { result ≡ has_log status }
+    ensures { result ≡ has_log_by_status status }
 {
     matches!(status, Status::Member | Status::Departed)
 }

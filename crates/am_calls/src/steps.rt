@@ -1,5 +1,5 @@
 ghost use Rattle.std.specs.Prelude.{◌≡◌, ◌≤◌, [], length};
-ghost use Rattle.am_base.specs.Most.{most_body};
+ghost use Rattle.am_base.specs.Most.{most_bytes_of_body};
 ghost use Rattle.am_model.specs.Nodes.{HasNumbersLeft};
 ghost use Rattle.am_node.specs.Stands.{state_of};
 ghost use Rattle.am_race_laws.specs.Boxes.{Steps};
@@ -18,7 +18,7 @@ pub fn step(
     spare: EntryRoom,
 ) -> Outcome
     requires numbers { HasNumbersLeft (state_of node.old) }
-    requires room { most_body ≤ spare }
+    requires room { most_bytes_of_body ≤ spare }
     requires empty { out.old ≡ [] }
     ensures steps { Steps what.now (state_of node.old) result out.new (state_of node.new) }
     ensures few { length out.new ≤ 9 }

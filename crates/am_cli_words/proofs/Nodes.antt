@@ -4,7 +4,7 @@ use Rattle.std.specs.List.{list_all}
 use Rattle.std.proofs.lemmas.List.Sums.{AllPass-from_list_all, list_all-from_AllPass}
 use Rattle.std.proofs.lemmas.List.Elements.{All-get_or, All-from_get_or}
 use Rattle.std.proofs.lemmas.Bool.Decides.{nat_tests}
-use Rattle.am_base.specs.Names.{IsSet}
+use Rattle.am_base.specs.Names.{IsSetOfNames}
 use Rattle.am_base.specs.Founding.{Rules, MayFound, rules_of}
 use Rattle.am_cli_words.specs.declared.node.Options.{Options}
 use Rattle.am_cli_words.specs.Nodes.{may_found, founding_of, put_option, options_from}
@@ -36,7 +36,7 @@ test_of r may =
     let d = may.pb_up_to_within in
     grind (arith, nat_tests)
 
-of_test : (r : Rules) → IsSet r.founders → may_found r ≡ true → MayFound r
+of_test : (r : Rules) → IsSetOfNames r.founders → may_found r ≡ true → MayFound r
 of_test r set is = record {
   names = set;
   somebody = grind (arith, nat_tests);
@@ -54,7 +54,7 @@ none_by false r other = refl
 is_none : IsSome {T = Rules} None → ⊥
 is_none is = cc
 
-pub founding_found_is_founding_of : (founders : List ℕ) (resilience window pb_up_to : ℕ) (found : Option Rules) → IsSet founders
+pub founding_found_is_founding_of : (founders : List ℕ) (resilience window pb_up_to : ℕ) (found : Option Rules) → IsSetOfNames founders
     → (IsSome found ↔ MayFound (rules_of founders resilience window pb_up_to)) → IfSome found (λ f. f ≡ rules_of founders resilience window pb_up_to)
     → found ≡ founding_of founders resilience window pb_up_to
 founding_found_is_founding_of founders resilience window pb_up_to (Some f) set variant value =

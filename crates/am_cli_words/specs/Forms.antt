@@ -4,7 +4,7 @@ use Rattle.std.specs.Cmp.Lexicographic.{pointwise}
 use Rattle.std.specs.List.{list_all}
 use Rattle.std.specs.Char.{is_ascii_digit}
 use Rattle.std.specs.Str.Parse.{digits_value}
-use Rattle.am_base.specs.Most.{most_events}
+use Rattle.am_base.specs.Most.{most_events_of_run}
 use Rattle.am_cli_words.specs.declared.form.Form.{Form}
 use Rattle.am_cli_words.specs.declared.form.Form.TheVariants as form
 use Rattle.am_cli_words.specs.declared.form.SeedAndCount.{SeedAndCount}
@@ -28,7 +28,7 @@ seed_of text = if is_short_numeral text && nat_lt (digits_value 10 text) (2 ^ 64
 
 -- two numbers, of which the second is 1 to 100,000
 abbrev pub with_numbers : Option ℕ → Option ℕ → Option SeedAndCount
-with_numbers (Some seed) (Some count) = if nat_le 1 count && nat_le count most_events then Some (record { seed = seed; count = count }) else None
+with_numbers (Some seed) (Some count) = if nat_le 1 count && nat_le count most_events_of_run then Some (record { seed = seed; count = count }) else None
 with_numbers _ _ = None
 
 abbrev pub numbers_of : List ℕ → List ℕ → Option SeedAndCount
@@ -103,5 +103,5 @@ Generates _ = ⊥
 
 -- a script of gen is of a run of at most 100,000 events
 abbrev pub ScriptIsShort : Form → Type 0
-ScriptIsShort (form.Script numbers) = numbers.count ≤ most_events
+ScriptIsShort (form.Script numbers) = numbers.count ≤ most_events_of_run
 ScriptIsShort _ = Unit {0}

@@ -3,7 +3,7 @@ use Rattle.std.specs.Prelude.{ℕ, List, [], ◌∷◌, codes, Option, Some, Non
 use Rattle.std.specs.Cmp.Lexicographic.{pointwise}
 use Rattle.std.specs.List.{list_all}
 use Rattle.std.specs.Result.{result_ok}
-use Rattle.am_base.specs.Most.{most_window, most_body}
+use Rattle.am_base.specs.Most.{greatest_window, most_bytes_of_body}
 use Rattle.am_base.specs.Founding.{Rules, rules_of}
 use Rattle.am_base.specs.Names.{size}
 use Rattle.am_text_defs.specs.Fields.{number_up_to, name_in_text, names_in_text}
@@ -34,10 +34,10 @@ abbrev pub put_resilience : Options → List ℕ → Option Options
 put_resilience options value = with_option (result_ok (number_up_to 15 value)) options.resilience (λ n. record options { resilience = n })
 
 abbrev pub put_window : Options → List ℕ → Option Options
-put_window options value = with_option (result_ok (number_up_to most_window value)) options.window (λ n. record options { window = n })
+put_window options value = with_option (result_ok (number_up_to greatest_window value)) options.window (λ n. record options { window = n })
 
 abbrev pub put_pb_up_to : Options → List ℕ → Option Options
-put_pb_up_to options value = with_option (result_ok (number_up_to most_body value)) options.pb_up_to (λ n. record options { pb_up_to = n })
+put_pb_up_to options value = with_option (result_ok (number_up_to most_bytes_of_body value)) options.pb_up_to (λ n. record options { pb_up_to = n })
 
 -- an option by its word
 abbrev pub put_option : Options → List ℕ → List ℕ → Option Options
@@ -64,7 +64,7 @@ no_options = record { name = None; founders = None; resilience = None; window = 
 -- there is somebody, everybody has life 1, and each number is within its limit
 abbrev pub may_found : Rules → Bool
 may_found r = nat_lt 0 (size r.founders) && (list_all (λ life. nat_le life 1) r.founders
-    && (nat_le r.resilience 15 && (nat_lt 0 r.window && (nat_le r.window most_window && nat_le r.pb_up_to most_body))))
+    && (nat_le r.resilience 15 && (nat_lt 0 r.window && (nat_le r.window greatest_window && nat_le r.pb_up_to most_bytes_of_body))))
 
 abbrev pub founding_of : List ℕ → ℕ → ℕ → ℕ → Option Rules
 founding_of founders resilience window pb_up_to =

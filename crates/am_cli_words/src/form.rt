@@ -1,7 +1,7 @@
 ghost use Rattle.std.specs.Prelude.{◌≡◌, ◌≤◌, [], ◌∷◌, length, map, IfSome};
 ghost use Rattle.std.specs.List.{list_all};
 ghost use Rattle.std.specs.Char.{is_ascii_digit};
-ghost use Rattle.am_base.specs.Most.{most_events};
+ghost use Rattle.am_base.specs.Most.{most_events_of_run};
 ghost use Rattle.am_cli_words.specs.Forms.{form_of, one_form, shown_by_word, other_form, gen_of, is_node, seed_of, numbers_of, has_options, ScriptIsShort};
 
 use crate::node::{NodeWords, node_of};
@@ -67,7 +67,7 @@ fn number_of(text: &str) -> Option<u64>
 /// The numbers that two texts write, of which the second is 1 to 100,000.
 pub(crate) fn numbers_of(seed: &str, count: &str) -> Option<SeedAndCount>
     ensures value { result ≡ numbers_of seed.now count.now }
-    ensures few { IfSome result (λ numbers. numbers.count ≤ most_events) }
+    ensures few { IfSome result (λ numbers. numbers.count ≤ most_events_of_run) }
 {
     let seed = number_of(seed)?;
     let count = number_of(count)?;
@@ -96,7 +96,7 @@ fn numbers_of_five(
     other: &str,
 ) -> Option<SeedAndCount>
     ensures value { result ≡ gen_of (word.now ∷ first.now ∷ one.now ∷ second.now ∷ other.now ∷ []) }
-    ensures few { IfSome result (λ numbers. numbers.count ≤ most_events) }
+    ensures few { IfSome result (λ numbers. numbers.count ≤ most_events_of_run) }
 {
     if has_options(word, first, second, "--seed", "--count") {
         return numbers_of(one, other);

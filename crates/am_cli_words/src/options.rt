@@ -1,5 +1,5 @@
 ghost use Rattle.std.specs.Prelude.{◌≡◌, ◌≢◌, ◌≤◌, map, option_map, None, Some, IfOk, IfErr};
-ghost use Rattle.am_base.specs.Most.{most_events};
+ghost use Rattle.am_base.specs.Most.{most_events_of_run};
 ghost use Rattle.clap.specs.Words.{kind_of};
 ghost use Rattle.am_cli_words.specs.declared.form.Form.TheVariants as form;
 ghost use Rattle.am_cli_words.specs.Forms.{form_of, gen_of, texts_of, IsGen};
@@ -40,7 +40,7 @@ pub fn gen_numbers(alloc: Global, words: &[&str]) -> Result<SeedAndCount, AllocE
     requires { IsGen (form_of (map (λ word. word.now) words.now)) }
     ensures numbers { IfOk result (λ numbers. form_of (map (λ word. word.now) words.now)
         ≡ Some (form.Gen numbers)) }
-    ensures count { IfOk result (λ numbers. numbers.count ≤ most_events) }
+    ensures count { IfOk result (λ numbers. numbers.count ≤ most_events_of_run) }
 {
     let Ok((seed, count)) = texts(alloc, words) else {
         return Err(AllocError);

@@ -1,11 +1,11 @@
 -- Scripts and their texts. Written by tools/rows.py from cases/asked.
 use Rattle.std.specs.Prelude.{◌≡◌, [], ◌∷◌, codes}
 use Rattle.am_group.specs.declared.event.Act.TheVariants as act
-use Rattle.am_group_defs.specs.Play.{text_of}
+use Rattle.am_group_defs.specs.Play.{play_text_of}
 use Rattle.am_computed_cases.specs.Scripts.{rules_with, on, lines}
 
 abbrev pub AskedAfterALeave : Type 0
-AskedAfterALeave = text_of (rules_with (0 ∷ 1 ∷ 2 ∷ []) 0 64 256) (
+AskedAfterALeave = play_text_of (rules_with (0 ∷ 1 ∷ 2 ∷ []) 0 64 256) (
     on 2 act.Leave ∷ on 0 (act.Reset 1 0) ∷ on 1 (act.Hear 2) ∷ on 2 (act.Hear 2) ∷ on 0 (act.Hear 3) ∷ on 0 (act.Hear 4) ∷ on 1 (act.Hear 6) ∷
     on 0 (act.Hear 1) ∷ on 0 (act.Ask 2) ∷ on 2 act.Stop ∷
     []) ≡ lines (
@@ -29,7 +29,7 @@ AskedAfterALeave = text_of (rules_with (0 ∷ 1 ∷ 2 ∷ []) 0 64 256) (
     [])
 
 abbrev pub AskedBeforeTwoStops : Type 0
-AskedBeforeTwoStops = text_of (rules_with (0 ∷ 1 ∷ 2 ∷ 3 ∷ []) 1 64 256) (
+AskedBeforeTwoStops = play_text_of (rules_with (0 ∷ 1 ∷ 2 ∷ 3 ∷ []) 1 64 256) (
     on 2 act.Leave ∷ on 0 (act.Reset 1 1) ∷ on 1 (act.Hear 2) ∷ on 2 (act.Hear 2) ∷ on 3 (act.Hear 2) ∷ on 0 (act.Hear 3) ∷ on 0 (act.Hear 4) ∷
     on 0 (act.Hear 5) ∷ on 1 (act.Hear 6) ∷ on 3 (act.Hear 6) ∷ on 0 (act.Hear 1) ∷ on 0 (act.Ask 2) ∷ on 2 (act.Hear 6) ∷ on 2 (act.Hear 9) ∷
     on 2 act.Tick ∷ on 0 (act.Hear 10) ∷ on 0 (act.Hear 11) ∷ on 0 act.Take ∷ on 0 act.Take ∷ on 0 act.Take ∷ on 2 act.Stop ∷ on 0 act.Stop ∷
@@ -83,7 +83,7 @@ AskedBeforeTwoStops = text_of (rules_with (0 ∷ 1 ∷ 2 ∷ 3 ∷ []) 1 64 256)
     [])
 
 abbrev pub AskedInAnotherView : Type 0
-AskedInAnotherView = text_of (rules_with (0 ∷ 1 ∷ 2 ∷ []) 0 64 256) (
+AskedInAnotherView = play_text_of (rules_with (0 ∷ 1 ∷ 2 ∷ []) 0 64 256) (
     on 2 act.Leave ∷ on 0 (act.Reset 1 0) ∷ on 1 (act.Hear 2) ∷ on 2 (act.Hear 2) ∷ on 0 (act.Hear 3) ∷ on 0 (act.Hear 4) ∷ on 1 (act.Hear 6) ∷
     on 1 (act.Reset 1 0) ∷ on 0 (act.Hear 8) ∷ on 2 (act.Hear 8) ∷ on 1 (act.Hear 9) ∷ on 1 (act.Hear 10) ∷ on 0 (act.Hear 12) ∷ on 1 (act.Hear 1) ∷
     on 0 (act.Hear 14) ∷ on 0 (act.Ask 2) ∷ on 2 act.Stop ∷
@@ -116,7 +116,7 @@ AskedInAnotherView = text_of (rules_with (0 ∷ 1 ∷ 2 ∷ []) 0 64 256) (
     [])
 
 abbrev pub DecidedByFetching : Type 0
-DecidedByFetching = text_of (rules_with (0 ∷ 1 ∷ 2 ∷ []) 0 64 256) (
+DecidedByFetching = play_text_of (rules_with (0 ∷ 1 ∷ 2 ∷ []) 0 64 256) (
     on 2 act.Leave ∷ on 0 (act.Send (97 ∷ [])) ∷ on 1 (act.Reset 1 0) ∷ on 0 (act.Hear 3) ∷ on 2 (act.Hear 3) ∷ on 1 (act.Hear 4) ∷ on 1 (act.Hear 5)
     ∷
     on 0 (act.Hear 6) ∷ on 1 (act.Hear 7) ∷ on 0 (act.Hear 9) ∷ on 1 (act.Hear 1) ∷ on 1 (act.Ask 2) ∷ on 2 act.Stop ∷
@@ -145,7 +145,7 @@ DecidedByFetching = text_of (rules_with (0 ∷ 1 ∷ 2 ∷ []) 0 64 256) (
     [])
 
 abbrev pub DecidedByGivingUp : Type 0
-DecidedByGivingUp = text_of (rules_with (0 ∷ 1 ∷ 2 ∷ 3 ∷ []) 1 64 256) (
+DecidedByGivingUp = play_text_of (rules_with (0 ∷ 1 ∷ 2 ∷ 3 ∷ []) 1 64 256) (
     on 2 act.Leave ∷ on 3 act.Stop ∷ on 0 (act.Reset 1 1) ∷ on 1 (act.Hear 2) ∷ on 2 (act.Hear 2) ∷ on 0 (act.Hear 3) ∷ on 0 (act.Hear 4) ∷
     on 0 (act.GiveUp 3) ∷ on 1 (act.Hear 5) ∷ on 0 (act.Hear 6) ∷ on 0 (act.Hear 1) ∷ on 0 (act.Ask 2) ∷ on 2 act.Stop ∷ on 1 act.Stop ∷
     []) ≡ lines (

@@ -1,11 +1,11 @@
 -- Scripts and their texts. Written by tools/rows.py from cases/directed.
 use Rattle.std.specs.Prelude.{◌≡◌, [], ◌∷◌, ◌++◌, codes}
 use Rattle.am_group.specs.declared.event.Act.TheVariants as act
-use Rattle.am_group_defs.specs.Play.{text_of}
+use Rattle.am_group_defs.specs.Play.{play_text_of}
 use Rattle.am_computed_cases.specs.Scripts.{rules_with, on, lines}
 
 abbrev pub CrowdedAtTheWindow : Type 0
-CrowdedAtTheWindow = text_of (rules_with (0 ∷ []) 0 1 256) (
+CrowdedAtTheWindow = play_text_of (rules_with (0 ∷ []) 0 1 256) (
     on 0 (act.Reset 1 0) ∷ on 0 (act.Reset 1 0) ∷ on 0 (act.Reset 1 0) ∷ on 0 (act.Reset 1 0) ∷ on 0 (act.Reset 1 0) ∷ on 0 (act.Reset 1 0) ∷
     on 0 (act.Reset 1 0) ∷ on 0 (act.Reset 1 0) ∷ on 0 (act.Reset 1 0) ∷ on 0 (act.Reset 1 0) ∷ on 0 (act.Reset 1 0) ∷ on 0 (act.Reset 1 0) ∷
     on 0 (act.Reset 1 0) ∷ on 0 (act.Reset 1 0) ∷ on 0 (act.Reset 1 0) ∷ on 0 (act.Reset 1 0) ∷ on 0 (act.Reset 1 0) ∷ on 0 (act.Reset 1 0) ∷
@@ -53,7 +53,7 @@ CrowdedAtTheWindow = text_of (rules_with (0 ∷ []) 0 1 256) (
     [])
 
 abbrev pub MemberLagsFirst : Type 0
-MemberLagsFirst = text_of (rules_with (0 ∷ 1 ∷ 2 ∷ 3 ∷ 4 ∷ 5 ∷ []) 1 3 256) (
+MemberLagsFirst = play_text_of (rules_with (0 ∷ 1 ∷ 2 ∷ 3 ∷ 4 ∷ 5 ∷ []) 1 3 256) (
     on 6 act.Leave ∷ on 3 act.Take ∷ on 3 act.Take ∷ on 1 (act.Reset 2 1) ∷ on 0 (act.Hear 1) ∷ on 3 (act.Hear 1) ∷ on 4 (act.Hear 1) ∷
     on 5 (act.Hear 1) ∷ on 1 (act.Hear 2) ∷ on 1 (act.Hear 3) ∷ on 1 (act.Hear 4) ∷ on 1 (act.Hear 5) ∷ on 2 (act.Hear 1) ∷ on 1 (act.Hear 6) ∷
     on 0 (act.Hear 7) ∷ on 3 (act.Hear 7) ∷ on 4 (act.Hear 7) ∷ on 5 (act.Hear 7) ∷ on 0 act.Take ∷ on 0 act.Take ∷ on 0 act.Take ∷ on 1 act.Take ∷
@@ -175,7 +175,7 @@ MemberLagsFirst = text_of (rules_with (0 ∷ 1 ∷ 2 ∷ 3 ∷ 4 ∷ 5 ∷ []) 1
     [])
 
 abbrev pub MemberLagsSecond : Type 0
-MemberLagsSecond = text_of (rules_with (0 ∷ 1 ∷ []) 2 3 256) (
+MemberLagsSecond = play_text_of (rules_with (0 ∷ 1 ∷ []) 2 3 256) (
     on 2 (act.Send (120 ∷ [])) ∷ on 1 (act.Send (120 ∷ [])) ∷ on 0 (act.Hear 1) ∷ on 2 act.Join ∷ on 1 (act.Hear 2) ∷ on 1 (act.Hear 3) ∷
     on 0 (act.Hear 3) ∷ on 0 (act.Hear 4) ∷ on 1 (act.Hear 5) ∷ on 1 (act.Hear 6) ∷ on 2 act.Leave ∷ on 1 (act.Reset 1 1) ∷ on 0 (act.Hear 8) ∷
     on 2 (act.Hear 8) ∷ on 1 (act.Hear 9) ∷ on 1 (act.Hear 10) ∷ on 1 act.Stop ∷ on 2 (act.Send (120 ∷ [])) ∷ on 2 act.Leave ∷ on 2 (act.Hear 11) ∷
@@ -232,7 +232,7 @@ MemberLagsSecond = text_of (rules_with (0 ∷ 1 ∷ []) 2 3 256) (
     [])
 
 abbrev pub MemberLagsThird : Type 0
-MemberLagsThird = text_of (rules_with (0 ∷ 1 ∷ 2 ∷ 3 ∷ []) 0 8 256) (
+MemberLagsThird = play_text_of (rules_with (0 ∷ 1 ∷ 2 ∷ 3 ∷ []) 0 8 256) (
     on 3 (act.Send (120 ∷ [])) ∷ on 0 (act.Hear 1) ∷ on 3 (act.Hear 2) ∷ on 2 (act.Hear 2) ∷ on 1 (act.Send (120 ∷ [])) ∷ on 1 (act.Hear 2) ∷
     on 0 act.Take ∷ on 0 act.Take ∷ on 0 (act.Reset 2 1) ∷ on 1 (act.Hear 4) ∷ on 2 (act.Hear 4) ∷ on 3 (act.Hear 4) ∷ on 0 (act.Hear 5) ∷
     on 0 (act.Hear 6) ∷ on 0 (act.Hear 7) ∷ on 3 (act.Hear 8) ∷ on 0 act.Take ∷ on 0 act.Take ∷ on 0 act.Take ∷ on 4 act.Take ∷ on 4 act.Take ∷
@@ -318,7 +318,7 @@ MemberLagsThird = text_of (rules_with (0 ∷ 1 ∷ 2 ∷ 3 ∷ []) 0 8 256) (
     [])
 
 abbrev pub SixteenLives : Type 0
-SixteenLives = text_of (rules_with (0 ∷ 1 ∷ []) 0 64 256) (
+SixteenLives = play_text_of (rules_with (0 ∷ 1 ∷ []) 0 64 256) (
     on 1 act.Stop ∷ on 1 act.Return ∷ on 1 act.Stop ∷ on 1 act.Return ∷ on 1 act.Stop ∷ on 1 act.Return ∷ on 1 act.Stop ∷ on 1 act.Return ∷
     on 1 act.Stop ∷ on 1 act.Return ∷ on 1 act.Stop ∷ on 1 act.Return ∷ on 1 act.Stop ∷ on 1 act.Return ∷ on 1 act.Stop ∷ on 1 act.Return ∷
     on 1 act.Stop ∷ on 1 act.Return ∷ on 1 act.Stop ∷ on 1 act.Return ∷ on 1 act.Stop ∷ on 1 act.Return ∷ on 1 act.Stop ∷ on 1 act.Return ∷
@@ -366,7 +366,7 @@ SixteenLives = text_of (rules_with (0 ∷ 1 ∷ []) 0 64 256) (
     [])
 
 abbrev pub SixteenMembers : Type 0
-SixteenMembers = text_of (rules_with (0 ∷ 1 ∷ 2 ∷ 3 ∷ 4 ∷ 5 ∷ 6 ∷ 7 ∷ 8 ∷ 9 ∷ 10 ∷ 11 ∷ 12 ∷ 13 ∷ 14 ∷ 15 ∷ []) 0 64 256) (
+SixteenMembers = play_text_of (rules_with (0 ∷ 1 ∷ 2 ∷ 3 ∷ 4 ∷ 5 ∷ 6 ∷ 7 ∷ 8 ∷ 9 ∷ 10 ∷ 11 ∷ 12 ∷ 13 ∷ 14 ∷ 15 ∷ []) 0 64 256) (
     on 15 act.Stop ∷ on 15 act.Return ∷ on 15 act.Join ∷ on 0 (act.Reset 1 0) ∷ on 1 (act.Hear 2) ∷ on 2 (act.Hear 2) ∷ on 3 (act.Hear 2) ∷
     on 4 (act.Hear 2) ∷ on 5 (act.Hear 2) ∷ on 6 (act.Hear 2) ∷ on 7 (act.Hear 2) ∷ on 8 (act.Hear 2) ∷ on 9 (act.Hear 2) ∷ on 10 (act.Hear 2) ∷
     on 11 (act.Hear 2) ∷ on 12 (act.Hear 2) ∷ on 13 (act.Hear 2) ∷ on 14 (act.Hear 2) ∷ on 0 (act.Hear 3) ∷ on 0 (act.Hear 4) ∷ on 0 (act.Hear 5) ∷

@@ -1,11 +1,11 @@
 -- Scripts and their texts. Written by tools/rows.py from cases/locks.
 use Rattle.std.specs.Prelude.{◌≡◌, [], ◌∷◌, codes}
 use Rattle.am_group.specs.declared.event.Act.TheVariants as act
-use Rattle.am_group_defs.specs.Play.{text_of}
+use Rattle.am_group_defs.specs.Play.{play_text_of}
 use Rattle.am_computed_cases.specs.Scripts.{rules_with, on, lines}
 
 abbrev pub JoinerGivenUp : Type 0
-JoinerGivenUp = text_of (rules_with (0 ∷ 1 ∷ []) 1 64 256) (
+JoinerGivenUp = play_text_of (rules_with (0 ∷ 1 ∷ []) 1 64 256) (
     on 1 act.Stop ∷ on 2 act.Join ∷ on 0 (act.Hear 1) ∷ on 0 (act.Reset 1 1) ∷ on 2 (act.Hear 3) ∷ on 0 (act.Hear 4) ∷ on 0 (act.GiveUp 1) ∷
     on 2 act.Tick ∷ on 0 (act.Hear 6) ∷ on 0 act.Take ∷ on 0 act.Take ∷ on 2 act.Stop ∷ on 0 (act.Reset 1 1) ∷ on 0 (act.GiveUp 2) ∷ on 0 act.Take ∷
     on 0 act.Take ∷ on 0 act.Take ∷ on 0 act.Take ∷ on 2 act.Return ∷ on 2 act.Join ∷ on 0 (act.Hear 8) ∷ on 2 (act.Hear 9) ∷ on 2 (act.Hear 10) ∷
@@ -53,7 +53,7 @@ JoinerGivenUp = text_of (rules_with (0 ∷ 1 ∷ []) 1 64 256) (
     [])
 
 abbrev pub JoinerNotWelcomed : Type 0
-JoinerNotWelcomed = text_of (rules_with (0 ∷ 1 ∷ []) 1 64 256) (
+JoinerNotWelcomed = play_text_of (rules_with (0 ∷ 1 ∷ []) 1 64 256) (
     on 1 act.Stop ∷ on 2 act.Join ∷ on 0 (act.Hear 1) ∷ on 0 (act.Reset 1 1) ∷ on 2 (act.Hear 3) ∷ on 0 (act.Hear 4) ∷ on 0 (act.GiveUp 1) ∷
     on 2 (act.Hear 5) ∷ on 0 act.Tick ∷ on 2 (act.Hear 6) ∷ on 2 (act.Hear 7) ∷ on 2 act.Tick ∷ on 0 (act.Hear 8) ∷ on 0 act.Take ∷ on 0 act.Take ∷
     on 2 act.State ∷
@@ -81,7 +81,7 @@ JoinerNotWelcomed = text_of (rules_with (0 ∷ 1 ∷ []) 1 64 256) (
     [])
 
 abbrev pub LastTwoLeaveAtOnce : Type 0
-LastTwoLeaveAtOnce = text_of (rules_with (0 ∷ 1 ∷ []) 1 64 256) (
+LastTwoLeaveAtOnce = play_text_of (rules_with (0 ∷ 1 ∷ []) 1 64 256) (
     on 0 act.Leave ∷ on 1 act.Leave ∷ on 1 (act.Hear 1) ∷ on 0 (act.Hear 2) ∷ on 1 (act.Hear 3) ∷ on 0 act.Tick ∷ on 1 act.Tick ∷ on 0 (act.Hear 4) ∷
     on 1 act.Take ∷ on 1 act.Take ∷ on 1 act.State ∷ on 1 (act.Reset 1 1) ∷
     []) ≡ lines (
@@ -104,7 +104,7 @@ LastTwoLeaveAtOnce = text_of (rules_with (0 ∷ 1 ∷ []) 1 64 256) (
     [])
 
 abbrev pub LeaveLost : Type 0
-LeaveLost = text_of (rules_with (0 ∷ 1 ∷ []) 1 64 256) (
+LeaveLost = play_text_of (rules_with (0 ∷ 1 ∷ []) 1 64 256) (
     on 1 act.Leave ∷ on 0 (act.Hear 1) ∷ on 0 (act.Send (97 ∷ [])) ∷ on 1 act.Tick ∷ on 0 (act.Hear 3) ∷ on 0 act.Tick ∷ on 1 act.Tick ∷
     on 0 (act.Hear 4) ∷ on 0 act.Take ∷ on 0 act.Take ∷ on 0 (act.Reset 1 1) ∷ on 0 act.Take ∷ on 0 act.Take ∷ on 0 act.Take ∷ on 0 (act.Done 1) ∷
     on 1 act.Tick ∷ on 0 (act.Hear 5) ∷ on 1 (act.Hear 6) ∷

@@ -1,11 +1,11 @@
 -- Scripts and their texts. Written by tools/rows.py from cases/repaired.
 use Rattle.std.specs.Prelude.{◌≡◌, [], ◌∷◌, codes}
 use Rattle.am_group.specs.declared.event.Act.TheVariants as act
-use Rattle.am_group_defs.specs.Play.{settled_text_of}
+use Rattle.am_group_defs.specs.Play.{settled_play_text_of}
 use Rattle.am_computed_cases.specs.Scripts.{rules_with, on, lines}
 
 abbrev pub LeaverStopsUnaccepted : Type 0
-LeaverStopsUnaccepted = settled_text_of (rules_with (0 ∷ 1 ∷ 2 ∷ []) 2 2 256) (
+LeaverStopsUnaccepted = settled_play_text_of (rules_with (0 ∷ 1 ∷ 2 ∷ []) 2 2 256) (
     on 2 act.Leave ∷ on 0 (act.Hear 1) ∷ on 1 (act.Hear 2) ∷ on 2 act.Stop ∷
     []) ≡ lines (
     codes "1 leave 2 : asked | 1 LeaveAsk to 0,1" ∷
@@ -110,7 +110,7 @@ LeaverStopsUnaccepted = settled_text_of (rules_with (0 ∷ 1 ∷ 2 ∷ []) 2 2 2
     [])
 
 abbrev pub MemberBehindACrash : Type 0
-MemberBehindACrash = settled_text_of (rules_with (0 ∷ 1 ∷ 2 ∷ 3 ∷ []) 1 4 256) (
+MemberBehindACrash = settled_play_text_of (rules_with (0 ∷ 1 ∷ 2 ∷ 3 ∷ []) 1 4 256) (
     on 1 (act.Send (170 ∷ [])) ∷ on 0 (act.Hear 1) ∷ on 1 (act.Hear 2) ∷ on 0 act.Stop ∷ on 1 (act.Reset 1 1) ∷ on 2 (act.Hear 4) ∷ on 3 (act.Hear 4)
     ∷
     on 1 (act.Hear 5) ∷ on 1 (act.Hear 6) ∷ on 1 (act.GiveUp 0) ∷ on 2 (act.Hear 7) ∷ on 3 (act.Hear 7) ∷ on 1 (act.Hear 8) ∷ on 1 (act.Hear 9) ∷

@@ -1,11 +1,11 @@
 -- Scripts and their texts. Written by tools/rows.py from cases/scenarios_all.
 use Rattle.std.specs.Prelude.{◌≡◌, [], ◌∷◌, ◌++◌, codes}
 use Rattle.am_group.specs.declared.event.Act.TheVariants as act
-use Rattle.am_group_defs.specs.Play.{text_of}
+use Rattle.am_group_defs.specs.Play.{play_text_of}
 use Rattle.am_computed_cases.specs.Scripts.{rules_with, on, lines}
 
 abbrev pub All1 : Type 0
-All1 = text_of (rules_with (1 ∷ []) 1 1 0) (
+All1 = play_text_of (rules_with (1 ∷ []) 1 1 0) (
     on 2 (act.Done 3) ∷ on 1 act.Take ∷ on 2 act.Take ∷ on 0 act.Tick ∷ on 0 act.Take ∷ on 2 act.Tick ∷ on 0 (act.Done 1) ∷ on 2 (act.Done 1) ∷
     on 2 (act.Ask 1) ∷ on 1 act.Join ∷ on 2 act.Take ∷ on 2 act.Join ∷ on 1 (act.Cut 1 24) ∷ on 2 (act.Hear 2) ∷ on 2 (act.Hear 2) ∷
     []) ≡ lines (
@@ -32,7 +32,7 @@ All1 = text_of (rules_with (1 ∷ []) 1 1 0) (
     [])
 
 abbrev pub All10 : Type 0
-All10 = text_of (rules_with (0 ∷ 1 ∷ 2 ∷ []) 1 16 0) (
+All10 = play_text_of (rules_with (0 ∷ 1 ∷ 2 ∷ []) 1 16 0) (
     on 1 act.Take ∷ on 0 act.Take ∷ on 2 act.Take ∷ on 0 (act.Ask 3) ∷ on 0 act.Leave ∷ on 1 (act.Hear 1) ∷ on 2 (act.Hear 2) ∷ on 0 (act.Hear 2) ∷
     on 1 (act.GiveUp 2) ∷ on 1 (act.GiveUp 2) ∷ on 1 (act.Hear 3) ∷ on 0 act.Take ∷ on 1 (act.Hear 4) ∷ on 0 (act.Cut 5 12) ∷ on 2 (act.Hear 5) ∷
     on 1 (act.Hear 6) ∷ on 2 (act.Hear 7) ∷ on 2 act.Take ∷ on 0 (act.Hear 7) ∷ on 1 act.Join ∷ on 1 act.Join ∷ on 0 act.Take ∷ on 2 act.Take ∷
@@ -78,7 +78,7 @@ All10 = text_of (rules_with (0 ∷ 1 ∷ 2 ∷ []) 1 16 0) (
     [])
 
 abbrev pub All2 : Type 0
-All2 = text_of (rules_with (1 ∷ 2 ∷ 3 ∷ 4 ∷ []) 1 64 0) (
+All2 = play_text_of (rules_with (1 ∷ 2 ∷ 3 ∷ 4 ∷ []) 1 64 0) (
     on 2 act.Tick ∷ on 0 act.Tick ∷ on 0 act.Tick ∷ on 1 (act.Hear 1) ∷ on 4 act.Tick ∷ on 3 (act.Send (250 ∷ [])) ∷ on 4 (act.Hear 3) ∷ on 2 act.Join
     ∷
     on 2 act.Tick ∷ on 4 (act.Send (64 ∷ 116 ∷ 145 ∷ 106 ∷ 239 ∷ [])) ∷ on 3 (act.Hear 5) ∷ on 0 act.Tick ∷ on 0 (act.Send (190 ∷ [])) ∷
@@ -108,7 +108,7 @@ All2 = text_of (rules_with (1 ∷ 2 ∷ 3 ∷ 4 ∷ []) 1 64 0) (
     [])
 
 abbrev pub All3 : Type 0
-All3 = text_of (rules_with (0 ∷ 1 ∷ 2 ∷ 3 ∷ []) 0 3 0) (
+All3 = play_text_of (rules_with (0 ∷ 1 ∷ 2 ∷ 3 ∷ []) 0 3 0) (
     on 0 act.Tick ∷ on 0 (act.Hear 1) ∷ on 1 (act.Hear 1) ∷ on 0 act.Join ∷ on 3 (act.Hear 1) ∷ on 0 (act.Ask 2) ∷ on 1 (act.Hear 1) ∷
     on 1 (act.Hear 1) ∷ on 0 (act.Hear 4) ∷ on 1 act.Take ∷ on 2 (act.Done 3) ∷ on 3 act.Join ∷ on 0 (act.Hear 2) ∷ on 2 (act.Hear 1) ∷
     on 0 (act.Hear 4) ∷
@@ -137,7 +137,7 @@ All3 = text_of (rules_with (0 ∷ 1 ∷ 2 ∷ 3 ∷ []) 0 3 0) (
     [])
 
 abbrev pub All4 : Type 0
-All4 = text_of (rules_with (0 ∷ 1 ∷ 2 ∷ 3 ∷ []) 0 64 0) (
+All4 = play_text_of (rules_with (0 ∷ 1 ∷ 2 ∷ 3 ∷ []) 0 64 0) (
     on 1 act.State ∷ on 0 (act.Send (210 ∷ [])) ∷ on 1 (act.Hear 1) ∷ on 2 (act.Hear 1) ∷ on 1 (act.Reset 3 0) ∷ on 1 act.Take ∷ on 3 (act.Hear 1) ∷
     on 1 (act.Hear 1) ∷ on 0 (act.Hear 2) ∷ on 3 (act.Hear 2) ∷ on 0 (act.Hear 2) ∷ on 2 act.Leave ∷ on 1 (act.Hear 1) ∷
     on 2 (act.Send (147 ∷ 19 ∷ 129 ∷ 146 ∷ 234 ∷ [])) ∷ on 1 act.Tick ∷
@@ -167,7 +167,7 @@ All4 = text_of (rules_with (0 ∷ 1 ∷ 2 ∷ 3 ∷ []) 0 64 0) (
     [])
 
 abbrev pub All5 : Type 0
-All5 = text_of (rules_with (0 ∷ 2 ∷ 3 ∷ []) 0 2 0) (
+All5 = play_text_of (rules_with (0 ∷ 2 ∷ 3 ∷ []) 0 2 0) (
     on 2 act.Tick ∷ on 0 (act.Hear 1) ∷
     on 3 (act.Send (172 ∷ 87 ∷ 48 ∷ 107 ∷ 131 ∷ 108 ∷ 239 ∷ 251 ∷ 143 ∷ 102 ∷ 76 ∷ 1 ∷ 204 ∷ 18 ∷ 248 ∷ 244 ∷ 211 ∷ 188 ∷ 62 ∷ 27 ∷ 94 ∷ 78 ∷ 135 ∷ 46
     ∷ 222 ∷ 214 ∷ 44 ∷ 139 ∷ 252 ∷ 131 ∷ 31 ∷ 3 ∷ 31 ∷ 161 ∷ 64 ∷ 200 ∷ 196 ∷ 220 ∷ 138 ∷ 222 ∷ [])) ∷
@@ -198,7 +198,7 @@ All5 = text_of (rules_with (0 ∷ 2 ∷ 3 ∷ []) 0 2 0) (
     [])
 
 abbrev pub All6 : Type 0
-All6 = text_of (rules_with (0 ∷ 1 ∷ 2 ∷ []) 0 64 0) (
+All6 = play_text_of (rules_with (0 ∷ 1 ∷ 2 ∷ []) 0 64 0) (
     on 0 act.Tick ∷ on 1 (act.Hear 1) ∷ on 0 (act.Hear 2) ∷ on 2 act.State ∷ on 0 (act.Hear 2) ∷ on 0 (act.Hear 2) ∷ on 0 (act.Hear 2) ∷
     on 1 (act.Hear 1) ∷ on 0 (act.Hear 3) ∷
     on 3 (act.Send (97 ∷ 68 ∷ 186 ∷ 140 ∷ 18 ∷ 136 ∷ 13 ∷ 246 ∷ 15 ∷ 199 ∷ 97 ∷ 227 ∷ 111 ∷ 22 ∷ 198 ∷ 0 ∷ 250 ∷ 78 ∷ 253 ∷ 246 ∷ 240 ∷ 70 ∷ 47 ∷ 93 ∷
@@ -240,7 +240,7 @@ All6 = text_of (rules_with (0 ∷ 1 ∷ 2 ∷ []) 0 64 0) (
     [])
 
 abbrev pub All7 : Type 0
-All7 = text_of (rules_with (0 ∷ 1 ∷ 2 ∷ []) 2 16 256) (
+All7 = play_text_of (rules_with (0 ∷ 1 ∷ 2 ∷ []) 2 16 256) (
     on 2 act.Tick ∷ on 0 (act.Hear 1) ∷ on 0 (act.Cut 1 40) ∷ on 2 (act.Send (29 ∷ [])) ∷ on 0 (act.Hear 2) ∷ on 0 act.Leave ∷ on 1 (act.Hear 3) ∷
     on 0 (act.Hear 5) ∷ on 1 (act.Hear 4) ∷ on 1 (act.Hear 3) ∷ on 0 (act.Hear 6) ∷ on 1 (act.Hear 4) ∷ on 2 (act.Hear 6) ∷ on 2 (act.Hear 6) ∷
     on 1 (act.Hear 4) ∷ on 1 (act.GiveUp 0) ∷ on 2 (act.Hear 3) ∷ on 0 (act.Hear 2) ∷ on 1 (act.Done 1) ∷ on 0 act.Take ∷ on 2 (act.Hear 6) ∷
@@ -285,7 +285,7 @@ All7 = text_of (rules_with (0 ∷ 1 ∷ 2 ∷ []) 2 16 256) (
     [])
 
 abbrev pub All8 : Type 0
-All8 = text_of (rules_with (0 ∷ 1 ∷ 3 ∷ []) 0 16 4) (
+All8 = play_text_of (rules_with (0 ∷ 1 ∷ 3 ∷ []) 0 16 4) (
     on 0 (act.Done 4) ∷ on 3 act.Tick ∷ on 0 (act.Hear 1) ∷ on 0 (act.Reset 1 0) ∷ on 1 (act.Hear 2) ∷ on 0 (act.Hear 3) ∷ on 1 (act.Hear 2) ∷
     on 1 (act.Hear 2) ∷ on 0 (act.GiveUp 3) ∷ on 0 (act.Hear 3) ∷ on 0 (act.Hear 5) ∷ on 1 (act.Done 2) ∷ on 0 (act.GiveUp 3) ∷ on 1 act.Take ∷
     on 2 (act.Hear 5) ∷ on 0 (act.GiveUp 3) ∷ on 1 (act.Done 3) ∷ on 2 (act.Done 2) ∷ on 3 (act.Hear 2) ∷ on 3 act.Take ∷ on 1 act.Take ∷
@@ -331,7 +331,7 @@ All8 = text_of (rules_with (0 ∷ 1 ∷ 3 ∷ []) 0 16 4) (
     [])
 
 abbrev pub All9 : Type 0
-All9 = text_of (rules_with (3 ∷ []) 1 3 4) (
+All9 = play_text_of (rules_with (3 ∷ []) 1 3 4) (
     on 2 act.Tick ∷ on 0 (act.Reset 1 1) ∷ on 0 act.Stop ∷ on 4 act.Stop ∷ on 1 act.Tick ∷ on 2 act.Join ∷ on 1 (act.Hear 1) ∷ on 1 (act.Hear 1) ∷
     on 2 (act.Send (148 ∷ 30 ∷ 194 ∷ 94 ∷ 100 ∷ 163 ∷ 70 ∷ 38 ∷ 31 ∷ 223 ∷ 38 ∷ 234 ∷ 244 ∷ 237 ∷ 203 ∷ 255 ∷ 111 ∷ 43 ∷ 23 ∷ 163 ∷ 229 ∷ 200 ∷ 52 ∷ 7
     ∷ 189 ∷ 227 ∷ 160 ∷ 80 ∷ 106 ∷ 62 ∷ 157 ∷ 33 ∷ 175 ∷ 237 ∷ 148 ∷ 15 ∷ 23 ∷ 174 ∷ 158 ∷ 209 ∷ [])) ∷

@@ -1,11 +1,11 @@
 -- Scripts and their texts. Written by tools/rows.py from cases/scenarios_first.
 use Rattle.std.specs.Prelude.{◌≡◌, [], ◌∷◌, codes}
 use Rattle.am_group.specs.declared.event.Act.TheVariants as act
-use Rattle.am_group_defs.specs.Play.{text_of}
+use Rattle.am_group_defs.specs.Play.{play_text_of}
 use Rattle.am_computed_cases.specs.Scripts.{rules_with, on, lines}
 
 abbrev pub First1 : Type 0
-First1 = text_of (rules_with (0 ∷ 1 ∷ []) 0 64 256) (
+First1 = play_text_of (rules_with (0 ∷ 1 ∷ []) 0 64 256) (
     on 1 act.Take ∷ on 1 (act.Done 2) ∷ on 0 act.Take ∷ on 0 (act.Done 1) ∷ on 1 (act.Done 2) ∷ on 0 (act.Done 5) ∷ on 0 (act.Done 1) ∷
     on 1 (act.Done 3) ∷ on 1 (act.Done 5) ∷ on 1 (act.Done 3) ∷ on 1 (act.Done 3) ∷ on 1 (act.Done 3) ∷ on 1 (act.Done 4) ∷ on 0 (act.Done 5) ∷
     on 0 (act.Done 1) ∷
@@ -32,7 +32,7 @@ First1 = text_of (rules_with (0 ∷ 1 ∷ []) 0 64 256) (
     [])
 
 abbrev pub First10 : Type 0
-First10 = text_of (rules_with (0 ∷ 1 ∷ 2 ∷ 3 ∷ 4 ∷ []) 0 64 256) (
+First10 = play_text_of (rules_with (0 ∷ 1 ∷ 2 ∷ 3 ∷ 4 ∷ []) 0 64 256) (
     on 4 (act.Send (150 ∷ [])) ∷ on 0 (act.Hear 1) ∷ on 2 (act.Hear 2) ∷ on 2 (act.Hear 2) ∷ on 3 (act.Hear 2) ∷ on 1 (act.Hear 2) ∷ on 1 (act.Hear 2)
     ∷
     on 4 (act.Hear 2) ∷ on 4 (act.Hear 2) ∷ on 3 (act.Hear 2) ∷ on 3 (act.Send []) ∷ on 4 act.Take ∷ on 1 act.Take ∷ on 2 (act.Hear 2) ∷
@@ -121,7 +121,7 @@ First10 = text_of (rules_with (0 ∷ 1 ∷ 2 ∷ 3 ∷ 4 ∷ []) 0 64 256) (
     [])
 
 abbrev pub First2 : Type 0
-First2 = text_of (rules_with (0 ∷ 1 ∷ []) 0 64 256) (
+First2 = play_text_of (rules_with (0 ∷ 1 ∷ []) 0 64 256) (
     on 0 act.Take ∷ on 1 act.Take ∷ on 1 (act.Done 1) ∷ on 0 act.Take ∷ on 1 act.Take ∷ on 1 (act.Done 2) ∷ on 0 (act.Done 3) ∷ on 1 (act.Done 4) ∷
     on 1 act.Take ∷ on 1 act.Take ∷ on 0 act.Take ∷ on 1 act.Take ∷ on 0 (act.Done 5) ∷ on 0 (act.Send (3 ∷ [])) ∷ on 1 (act.Hear 1) ∷
     []) ≡ lines (
@@ -148,7 +148,7 @@ First2 = text_of (rules_with (0 ∷ 1 ∷ []) 0 64 256) (
     [])
 
 abbrev pub First3 : Type 0
-First3 = text_of (rules_with (0 ∷ 1 ∷ 2 ∷ 3 ∷ []) 0 64 256) (
+First3 = play_text_of (rules_with (0 ∷ 1 ∷ 2 ∷ 3 ∷ []) 0 64 256) (
     on 3 act.Take ∷ on 1 act.Take ∷ on 3 act.Take ∷ on 3 act.Take ∷ on 0 act.Take ∷ on 0 (act.Send []) ∷ on 2 (act.Hear 1) ∷ on 2 (act.Done 3) ∷
     on 1 (act.Hear 1) ∷ on 1 (act.Hear 1) ∷ on 0 act.Take ∷ on 3 act.Take ∷ on 1 (act.Send []) ∷ on 2 (act.Hear 1) ∷ on 1 act.Take ∷
     []) ≡ lines (
@@ -179,7 +179,7 @@ First3 = text_of (rules_with (0 ∷ 1 ∷ 2 ∷ 3 ∷ []) 0 64 256) (
     [])
 
 abbrev pub First4 : Type 0
-First4 = text_of (rules_with (0 ∷ 1 ∷ 2 ∷ 3 ∷ []) 0 64 256) (
+First4 = play_text_of (rules_with (0 ∷ 1 ∷ 2 ∷ 3 ∷ []) 0 64 256) (
     on 0 act.Take ∷ on 3 (act.Send (19 ∷ 174 ∷ [])) ∷ on 0 (act.Hear 1) ∷ on 0 (act.Hear 1) ∷ on 0 (act.Hear 1) ∷ on 0 (act.Send (183 ∷ 153 ∷ [])) ∷
     on 3 (act.Send (55 ∷ [])) ∷ on 1 (act.Send (145 ∷ [])) ∷ on 0 (act.Done 1) ∷ on 1 (act.Done 1) ∷ on 0 (act.Send []) ∷ on 2 (act.Hear 3) ∷
     on 2 (act.Done 2) ∷ on 1 (act.Hear 2) ∷ on 1 (act.Done 1) ∷
@@ -211,7 +211,7 @@ First4 = text_of (rules_with (0 ∷ 1 ∷ 2 ∷ 3 ∷ []) 0 64 256) (
     [])
 
 abbrev pub First5 : Type 0
-First5 = text_of (rules_with (0 ∷ 1 ∷ 2 ∷ 3 ∷ []) 0 64 256) (
+First5 = play_text_of (rules_with (0 ∷ 1 ∷ 2 ∷ 3 ∷ []) 0 64 256) (
     on 0 act.Take ∷ on 3 act.Take ∷ on 3 (act.Send (37 ∷ 122 ∷ 253 ∷ 99 ∷ 125 ∷ [])) ∷ on 1 act.Take ∷ on 0 (act.Hear 1) ∷ on 1 (act.Hear 2) ∷
     on 2 (act.Hear 2) ∷ on 0 (act.Done 4) ∷ on 3 (act.Hear 2) ∷ on 0 (act.Send []) ∷ on 0 (act.Hear 1) ∷ on 2 (act.Hear 2) ∷ on 2 act.Take ∷
     on 2 (act.Hear 3) ∷ on 1 (act.Hear 2) ∷
@@ -242,7 +242,7 @@ First5 = text_of (rules_with (0 ∷ 1 ∷ 2 ∷ 3 ∷ []) 0 64 256) (
     [])
 
 abbrev pub First6 : Type 0
-First6 = text_of (rules_with (0 ∷ 1 ∷ 2 ∷ 3 ∷ 4 ∷ []) 0 64 256) (
+First6 = play_text_of (rules_with (0 ∷ 1 ∷ 2 ∷ 3 ∷ 4 ∷ []) 0 64 256) (
     on 4 act.Take ∷ on 3 act.Take ∷ on 4 (act.Done 2) ∷ on 4 (act.Send []) ∷ on 3 act.Take ∷ on 0 (act.Hear 1) ∷ on 3 (act.Hear 2) ∷ on 4 (act.Hear 2)
     ∷
     on 1 (act.Send (226 ∷ [])) ∷ on 2 (act.Done 3) ∷ on 3 (act.Hear 2) ∷ on 1 act.Take ∷ on 0 act.Take ∷ on 1 (act.Hear 2) ∷ on 0 (act.Hear 1) ∷
@@ -293,7 +293,7 @@ First6 = text_of (rules_with (0 ∷ 1 ∷ 2 ∷ 3 ∷ 4 ∷ []) 0 64 256) (
     [])
 
 abbrev pub First7 : Type 0
-First7 = text_of (rules_with (0 ∷ 1 ∷ 2 ∷ 3 ∷ []) 0 64 256) (
+First7 = play_text_of (rules_with (0 ∷ 1 ∷ 2 ∷ 3 ∷ []) 0 64 256) (
     on 3 (act.Send (106 ∷ [])) ∷ on 0 (act.Hear 1) ∷ on 3 (act.Hear 2) ∷ on 1 (act.Hear 2) ∷ on 0 act.Take ∷ on 1 act.Take ∷ on 3 act.Take ∷
     on 0 act.Take ∷ on 2 (act.Hear 2) ∷ on 2 act.Take ∷ on 0 act.Take ∷ on 0 (act.Send (88 ∷ 67 ∷ [])) ∷ on 2 (act.Hear 3) ∷ on 3 (act.Hear 3) ∷
     on 3 (act.Done 1) ∷ on 1 (act.Hear 3) ∷ on 3 (act.Done 5) ∷ on 0 act.Take ∷ on 0 act.Take ∷ on 2 act.Take ∷ on 1 act.Take ∷ on 1 act.Take ∷
@@ -349,7 +349,7 @@ First7 = text_of (rules_with (0 ∷ 1 ∷ 2 ∷ 3 ∷ []) 0 64 256) (
     [])
 
 abbrev pub First8 : Type 0
-First8 = text_of (rules_with (0 ∷ 1 ∷ 2 ∷ 3 ∷ []) 0 64 256) (
+First8 = play_text_of (rules_with (0 ∷ 1 ∷ 2 ∷ 3 ∷ []) 0 64 256) (
     on 1 act.Take ∷ on 2 (act.Send []) ∷ on 0 (act.Send (172 ∷ 243 ∷ [])) ∷ on 0 (act.Hear 1) ∷ on 1 act.Take ∷ on 2 (act.Hear 2) ∷ on 0 act.Take ∷
     on 3 (act.Hear 2) ∷ on 1 (act.Hear 3) ∷ on 1 (act.Send []) ∷ on 2 (act.Hear 2) ∷ on 1 (act.Hear 3) ∷ on 2 act.Take ∷ on 0 (act.Hear 4) ∷
     on 0 (act.Hear 4) ∷ on 2 (act.Hear 3) ∷ on 2 (act.Done 1) ∷ on 0 (act.Hear 4) ∷ on 1 (act.Hear 11) ∷ on 1 (act.Hear 8) ∷ on 0 (act.Hear 4) ∷
@@ -399,7 +399,7 @@ First8 = text_of (rules_with (0 ∷ 1 ∷ 2 ∷ 3 ∷ []) 0 64 256) (
     [])
 
 abbrev pub First9 : Type 0
-First9 = text_of (rules_with (0 ∷ 1 ∷ 2 ∷ []) 0 64 256) (
+First9 = play_text_of (rules_with (0 ∷ 1 ∷ 2 ∷ []) 0 64 256) (
     on 0 act.Take ∷ on 0 act.Take ∷ on 1 (act.Done 2) ∷ on 2 act.Take ∷ on 1 (act.Done 1) ∷ on 0 act.Take ∷ on 2 act.Take ∷ on 2 (act.Done 4) ∷
     on 1 act.Take ∷ on 2 act.Take ∷ on 1 act.Take ∷ on 1 (act.Done 5) ∷ on 2 act.Take ∷ on 1 (act.Send (197 ∷ [])) ∷ on 2 act.Take ∷ on 0 (act.Hear 1)
     ∷

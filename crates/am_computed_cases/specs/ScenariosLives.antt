@@ -1,11 +1,11 @@
 -- Scripts and their texts. Written by tools/rows.py from cases/scenarios_lives.
 use Rattle.std.specs.Prelude.{◌≡◌, [], ◌∷◌, ◌++◌, codes}
 use Rattle.am_group.specs.declared.event.Act.TheVariants as act
-use Rattle.am_group_defs.specs.Play.{text_of}
+use Rattle.am_group_defs.specs.Play.{play_text_of}
 use Rattle.am_computed_cases.specs.Scripts.{rules_with, on, lines}
 
 abbrev pub Lives1 : Type 0
-Lives1 = text_of (rules_with (1 ∷ 2 ∷ []) 1 2 0) (
+Lives1 = play_text_of (rules_with (1 ∷ 2 ∷ []) 1 2 0) (
     on 1 act.Tick ∷ on 2 (act.Hear 1) ∷ on 2 (act.Hear 1) ∷ on 1 act.Tick ∷ on 0 act.Tick ∷ on 1 act.Stop ∷ on 2 (act.Hear 4) ∷ on 0 (act.Send []) ∷
     on 2 (act.Hear 4) ∷ on 2 act.Take ∷ on 2 (act.Reset 3 1) ∷ on 2 (act.GiveUp 1) ∷ on 2 (act.Hear 4) ∷ on 2 (act.Hear 4) ∷ on 0 act.Take ∷
     []) ≡ lines (
@@ -31,7 +31,7 @@ Lives1 = text_of (rules_with (1 ∷ 2 ∷ []) 1 2 0) (
     [])
 
 abbrev pub Lives10 : Type 0
-Lives10 = text_of (rules_with (0 ∷ 1 ∷ []) 1 16 4) (
+Lives10 = play_text_of (rules_with (0 ∷ 1 ∷ []) 1 16 4) (
     on 0 act.Tick ∷ on 0 act.Tick ∷ on 1 act.Take ∷ on 1 (act.Hear 1) ∷ on 1 (act.Hear 2) ∷ on 0 (act.Reset 1 1) ∷ on 0 act.Join ∷ on 1 (act.Hear 5) ∷
     on 1 (act.Hear 2) ∷ on 0 (act.Hear 4) ∷ on 1 (act.Reset 1 1) ∷ on 0 (act.Hear 7) ∷ on 0 (act.Hear 4) ∷ on 1 act.Tick ∷ on 1 (act.GiveUp 0) ∷
     on 1 (act.Hear 8) ∷ on 0 act.Tick ∷ on 0 (act.Hear 6) ∷ on 1 act.Take ∷ on 0 act.Take ∷ on 0 (act.Hear 7) ∷ on 0 (act.Hear 7) ∷ on 0 act.Tick ∷
@@ -89,7 +89,7 @@ Lives10 = text_of (rules_with (0 ∷ 1 ∷ []) 1 16 4) (
     [])
 
 abbrev pub Lives2 : Type 0
-Lives2 = text_of (rules_with (0 ∷ 1 ∷ 2 ∷ 3 ∷ 4 ∷ []) 1 1 256) (
+Lives2 = play_text_of (rules_with (0 ∷ 1 ∷ 2 ∷ 3 ∷ 4 ∷ []) 1 1 256) (
     on 3 act.Take ∷ on 1 act.Return ∷ on 3 (act.Reset 3 0) ∷
     on 0 (act.Send (111 ∷ 207 ∷ 254 ∷ 209 ∷ 81 ∷ 223 ∷ 73 ∷ 206 ∷ 190 ∷ 216 ∷ 207 ∷ 113 ∷ 142 ∷ 65 ∷ 24 ∷ 88 ∷ 69 ∷ 108 ∷ 184 ∷ 152 ∷ 155 ∷ 4 ∷ 162 ∷
     191 ∷ 226 ∷ 180 ∷ 169 ∷ 255 ∷ 195 ∷ 33 ∷ 68 ∷ 122 ∷ 129 ∷ 127 ∷ 74 ∷ 112 ∷ 123 ∷ 61 ∷ 219 ∷ 122 ∷ [])) ∷
@@ -121,7 +121,7 @@ Lives2 = text_of (rules_with (0 ∷ 1 ∷ 2 ∷ 3 ∷ 4 ∷ []) 1 1 256) (
     [])
 
 abbrev pub Lives3 : Type 0
-Lives3 = text_of (rules_with (0 ∷ 2 ∷ []) 0 3 256) (
+Lives3 = play_text_of (rules_with (0 ∷ 2 ∷ []) 0 3 256) (
     on 1 act.Tick ∷ on 1 act.Tick ∷ on 1 act.Tick ∷ on 2 act.Tick ∷ on 0 act.Join ∷ on 0 (act.Hear 1) ∷ on 0 (act.Hear 1) ∷ on 2 (act.Hear 1) ∷
     on 2 act.Take ∷ on 2 act.Take ∷ on 0 act.Tick ∷ on 2 act.Tick ∷ on 2 (act.Hear 2) ∷ on 2 act.Take ∷ on 1 act.Tick ∷ on 0 (act.Hear 3) ∷
     on 1 act.Take ∷ on 0 act.Take ∷ on 2 (act.Hear 2) ∷ on 2 (act.Done 3) ∷ on 2 act.Take ∷ on 2 act.Stop ∷ on 0 act.Take ∷ on 2 act.Return ∷
@@ -164,7 +164,7 @@ Lives3 = text_of (rules_with (0 ∷ 2 ∷ []) 0 3 256) (
     [])
 
 abbrev pub Lives4 : Type 0
-Lives4 = text_of (rules_with (4 ∷ []) 2 64 256) (
+Lives4 = play_text_of (rules_with (4 ∷ []) 2 64 256) (
     on 1 act.Return ∷ on 0 act.Tick ∷ on 1 (act.Reset 1 2) ∷ on 0 act.Return ∷ on 3 act.Tick ∷ on 3 act.Tick ∷ on 4 act.Leave ∷ on 2 act.Tick ∷
     on 1 act.Tick ∷ on 3 act.Take ∷ on 1 act.Join ∷ on 4 act.Join ∷ on 2 (act.Hear 1) ∷ on 4 (act.Hear 1) ∷ on 4 (act.Hear 1) ∷ on 0 (act.Hear 1) ∷
     on 3 (act.Hear 1) ∷ on 2 act.Tick ∷
@@ -210,7 +210,7 @@ Lives4 = text_of (rules_with (4 ∷ []) 2 64 256) (
     [])
 
 abbrev pub Lives5 : Type 0
-Lives5 = text_of (rules_with (0 ∷ 4 ∷ []) 3 2 4) (
+Lives5 = play_text_of (rules_with (0 ∷ 4 ∷ []) 3 2 4) (
     on 4 (act.Send (254 ∷ 220 ∷ 35 ∷ 6 ∷ 1 ∷ [])) ∷ on 0 (act.Hear 1) ∷ on 4 (act.Hear 2) ∷ on 3 act.Leave ∷ on 0 (act.Hear 3) ∷ on 3 act.Take ∷
     on 5 act.Join ∷ on 4 act.Take ∷ on 1 act.Join ∷ on 0 (act.Hear 5) ∷ on 2 (act.Hear 5) ∷ on 1 act.Take ∷ on 0 (act.Hear 6) ∷ on 5 (act.Hear 6) ∷
     on 4 (act.Hear 4) ∷ on 3 (act.Hear 5) ∷ on 3 (act.Hear 6) ∷ on 2 (act.Hear 6) ∷ on 4 (act.Hear 5) ∷ on 4 (act.Hear 6) ∷ on 2 act.Join ∷
@@ -255,7 +255,7 @@ Lives5 = text_of (rules_with (0 ∷ 4 ∷ []) 3 2 4) (
     [])
 
 abbrev pub Lives6 : Type 0
-Lives6 = text_of (rules_with (2 ∷ []) 2 3 0) (
+Lives6 = play_text_of (rules_with (2 ∷ []) 2 3 0) (
     on 0 (act.Send (177 ∷ 1 ∷ 2 ∷ 44 ∷ 206 ∷ 40 ∷ 229 ∷ 65 ∷ 175 ∷ 4 ∷ 235 ∷ 61 ∷ 125 ∷ 9 ∷ 35 ∷ 246 ∷ 16 ∷ 148 ∷ 169 ∷ 89 ∷ 66 ∷ 126 ∷ 192 ∷ 60 ∷ 77
     ∷ 29 ∷ 40 ∷ 24 ∷ 105 ∷ 158 ∷ 79 ∷ 194 ∷ 31 ∷ 11 ∷ 196 ∷ 175 ∷ 71 ∷ 162 ∷ 247 ∷ 177 ∷ 45 ∷ 63 ∷ 40 ∷ 21 ∷ 105 ∷ 137 ∷ 12 ∷ 219 ∷ 68 ∷ 105 ∷ 199 ∷
     72 ∷ 116 ∷ 242 ∷ 157 ∷ 161 ∷ 205 ∷ 80 ∷ 34 ∷ 144 ∷ 183 ∷ 243 ∷ 124 ∷ 88 ∷ 18 ∷ 223 ∷ 107 ∷ 40 ∷ 112 ∷ 243 ∷ 125 ∷ 138 ∷ 58 ∷ 112 ∷ 13 ∷ 213 ∷ 162
@@ -296,7 +296,7 @@ Lives6 = text_of (rules_with (2 ∷ []) 2 3 0) (
     [])
 
 abbrev pub Lives7 : Type 0
-Lives7 = text_of (rules_with (2 ∷ []) 0 3 4) (
+Lives7 = play_text_of (rules_with (2 ∷ []) 0 3 4) (
     on 2 (act.Done 2) ∷ on 0 act.Stop ∷ on 2 (act.Send []) ∷ on 1 (act.Done 1) ∷ on 2 act.Tick ∷ on 2 act.Tick ∷ on 0 act.Return ∷ on 0 act.Join ∷
     on 2 (act.Hear 1) ∷ on 1 (act.Hear 1) ∷ on 2 (act.Hear 1) ∷
     on 1 (act.Send (222 ∷ 43 ∷ 64 ∷ 174 ∷ 47 ∷ 66 ∷ 224 ∷ 232 ∷ 177 ∷ 231 ∷ 210 ∷ 82 ∷ 210 ∷ 206 ∷ 28 ∷ 110 ∷ 169 ∷ 40 ∷ 121 ∷ 79 ∷ 138 ∷ 148 ∷ 219 ∷
@@ -339,7 +339,7 @@ Lives7 = text_of (rules_with (2 ∷ []) 0 3 4) (
     [])
 
 abbrev pub Lives8 : Type 0
-Lives8 = text_of (rules_with (0 ∷ 2 ∷ []) 2 5 0) (
+Lives8 = play_text_of (rules_with (0 ∷ 2 ∷ []) 2 5 0) (
     on 0 act.Take ∷ on 2 act.Take ∷ on 0 (act.Reset 1 2) ∷ on 1 act.Take ∷ on 2 (act.Hear 1) ∷ on 1 (act.Send []) ∷ on 1 act.Take ∷ on 1 (act.Hear 1)
     ∷
     on 1 act.Take ∷ on 0 (act.GiveUp 2) ∷ on 0 (act.Hear 2) ∷ on 2 (act.Hear 3) ∷
@@ -388,7 +388,7 @@ Lives8 = text_of (rules_with (0 ∷ 2 ∷ []) 2 5 0) (
     [])
 
 abbrev pub Lives9 : Type 0
-Lives9 = text_of (rules_with (0 ∷ 1 ∷ 2 ∷ 3 ∷ 4 ∷ []) 2 64 4) (
+Lives9 = play_text_of (rules_with (0 ∷ 1 ∷ 2 ∷ 3 ∷ 4 ∷ []) 2 64 4) (
     on 4 (act.Done 3) ∷ on 3 act.Leave ∷ on 2 (act.Hear 1) ∷ on 0 (act.Hear 1) ∷ on 1 (act.Hear 1) ∷
     on 2 (act.Send (1 ∷ 126 ∷ 223 ∷ 208 ∷ 1 ∷ 125 ∷ 19 ∷ 159 ∷ 189 ∷ 51 ∷ 215 ∷ 43 ∷ 138 ∷ 9 ∷ 60 ∷ 113 ∷ 113 ∷ 240 ∷ 95 ∷ 166 ∷ 214 ∷ 121 ∷ 28 ∷ 134
     ∷ 173 ∷ 209 ∷ 122 ∷ 60 ∷ 238 ∷ 20 ∷ 23 ∷ 71 ∷ 144 ∷ 40 ∷ 180 ∷ 49 ∷ 91 ∷ 186 ∷ 131 ∷ 14 ∷ 181 ∷ 213 ∷ 226 ∷ 159 ∷ 73 ∷ 52 ∷ 171 ∷ 14 ∷ 148 ∷ 5 ∷

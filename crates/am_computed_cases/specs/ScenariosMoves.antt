@@ -1,11 +1,11 @@
 -- Scripts and their texts. Written by tools/rows.py from cases/scenarios_moves.
 use Rattle.std.specs.Prelude.{◌≡◌, [], ◌∷◌, ◌++◌, codes}
 use Rattle.am_group.specs.declared.event.Act.TheVariants as act
-use Rattle.am_group_defs.specs.Play.{text_of}
+use Rattle.am_group_defs.specs.Play.{play_text_of}
 use Rattle.am_computed_cases.specs.Scripts.{rules_with, on, lines}
 
 abbrev pub Moves1 : Type 0
-Moves1 = text_of (rules_with (0 ∷ []) 1 16 256) (
+Moves1 = play_text_of (rules_with (0 ∷ []) 1 16 256) (
     on 0 act.Tick ∷ on 2 act.Tick ∷ on 0 act.Tick ∷ on 0 act.Take ∷ on 0 (act.Send (173 ∷ 24 ∷ 110 ∷ 98 ∷ 222 ∷ [])) ∷ on 0 act.Take ∷ on 0 act.Take ∷
     on 3 act.Tick ∷ on 0 act.Tick ∷ on 1 act.Take ∷ on 3 act.Take ∷ on 0 act.Take ∷ on 0 act.Tick ∷ on 3 act.Take ∷ on 1 act.Tick ∷
     []) ≡ lines (
@@ -32,7 +32,7 @@ Moves1 = text_of (rules_with (0 ∷ []) 1 16 256) (
     [])
 
 abbrev pub Moves10 : Type 0
-Moves10 = text_of (rules_with (0 ∷ 2 ∷ 3 ∷ 4 ∷ []) 1 16 0) (
+Moves10 = play_text_of (rules_with (0 ∷ 2 ∷ 3 ∷ 4 ∷ []) 1 16 0) (
     on 2 (act.Done 4) ∷ on 2 act.Tick ∷ on 0 (act.Hear 1) ∷ on 3 (act.Done 3) ∷ on 1 (act.Send (81 ∷ 156 ∷ [])) ∷ on 0 (act.Hear 1) ∷ on 3 act.Take ∷
     on 3 (act.Done 1) ∷ on 3 (act.Done 3) ∷ on 0 act.Take ∷ on 3 act.Join ∷ on 2 (act.Done 4) ∷ on 0 (act.Send []) ∷ on 2 (act.Send (101 ∷ [])) ∷
     on 0 act.Join ∷ on 4 (act.Hear 3) ∷ on 4 act.State ∷
@@ -93,7 +93,7 @@ Moves10 = text_of (rules_with (0 ∷ 2 ∷ 3 ∷ 4 ∷ []) 1 16 0) (
     [])
 
 abbrev pub Moves2 : Type 0
-Moves2 = text_of (rules_with (0 ∷ []) 1 3 0) (
+Moves2 = play_text_of (rules_with (0 ∷ []) 1 3 0) (
     on 2 act.Tick ∷ on 0 act.Tick ∷ on 0 act.Tick ∷ on 2 act.Join ∷ on 1 (act.Hear 1) ∷ on 1 act.Tick ∷ on 1 act.Tick ∷ on 0 act.Tick ∷
     on 2 (act.Done 3) ∷ on 1 act.Join ∷ on 0 (act.Hear 1) ∷ on 1 (act.Send (157 ∷ 11 ∷ 198 ∷ 79 ∷ 112 ∷ [])) ∷ on 2 act.Tick ∷ on 1 (act.Done 5) ∷
     on 1 (act.Hear 4) ∷
@@ -120,7 +120,7 @@ Moves2 = text_of (rules_with (0 ∷ []) 1 3 0) (
     [])
 
 abbrev pub Moves3 : Type 0
-Moves3 = text_of (rules_with (0 ∷ 1 ∷ []) 0 64 256) (
+Moves3 = play_text_of (rules_with (0 ∷ 1 ∷ []) 0 64 256) (
     on 3 act.Take ∷ on 0 act.Tick ∷ on 0 (act.Send (73 ∷ 116 ∷ 59 ∷ 85 ∷ 75 ∷ [])) ∷ on 3 act.Leave ∷ on 1 (act.Hear 1) ∷ on 0 (act.Hear 3) ∷
     on 1 (act.Hear 1) ∷ on 1 act.Join ∷ on 3 act.Tick ∷ on 5 act.Join ∷ on 4 (act.Hear 5) ∷ on 3 (act.Hear 5) ∷ on 2 (act.Hear 5) ∷ on 0 (act.Hear 4)
     ∷
@@ -149,7 +149,7 @@ Moves3 = text_of (rules_with (0 ∷ 1 ∷ []) 0 64 256) (
     [])
 
 abbrev pub Moves4 : Type 0
-Moves4 = text_of (rules_with (0 ∷ 2 ∷ 4 ∷ 5 ∷ []) 0 5 256) (
+Moves4 = play_text_of (rules_with (0 ∷ 2 ∷ 4 ∷ 5 ∷ []) 0 5 256) (
     on 4 act.Take ∷ on 4 (act.Done 1) ∷ on 5 act.Take ∷ on 1 (act.Done 3) ∷ on 4 act.Tick ∷ on 2 act.Tick ∷ on 3 act.Tick ∷ on 0 act.Tick ∷
     on 1 act.Leave ∷ on 5 act.Take ∷ on 4 act.Take ∷ on 0 (act.Hear 1) ∷ on 1 act.Tick ∷ on 3 act.Tick ∷ on 2 (act.Hear 3) ∷
     []) ≡ lines (
@@ -177,7 +177,7 @@ Moves4 = text_of (rules_with (0 ∷ 2 ∷ 4 ∷ 5 ∷ []) 0 5 256) (
     [])
 
 abbrev pub Moves5 : Type 0
-Moves5 = text_of (rules_with (0 ∷ 1 ∷ 2 ∷ 3 ∷ 4 ∷ []) 1 64 4) (
+Moves5 = play_text_of (rules_with (0 ∷ 1 ∷ 2 ∷ 3 ∷ 4 ∷ []) 1 64 4) (
     on 4 act.Tick ∷ on 0 (act.Hear 1) ∷ on 0 act.Tick ∷ on 1 act.Tick ∷ on 4 act.Tick ∷ on 4 act.Tick ∷ on 1 act.Tick ∷ on 3 (act.Hear 2) ∷
     on 2 (act.Hear 2) ∷ on 0 (act.Hear 3) ∷ on 1 act.State ∷ on 0 act.Tick ∷ on 3 act.Tick ∷ on 1 (act.Done 4) ∷ on 1 (act.Hear 9) ∷
     []) ≡ lines (
@@ -206,7 +206,7 @@ Moves5 = text_of (rules_with (0 ∷ 1 ∷ 2 ∷ 3 ∷ 4 ∷ []) 1 64 4) (
     [])
 
 abbrev pub Moves6 : Type 0
-Moves6 = text_of (rules_with (0 ∷ []) 1 16 0) (
+Moves6 = play_text_of (rules_with (0 ∷ []) 1 16 0) (
     on 0 act.Tick ∷ on 1 act.Tick ∷ on 1 act.Take ∷ on 0 act.Tick ∷ on 1 act.Take ∷ on 2 (act.Done 5) ∷ on 0 act.Tick ∷ on 1 (act.Done 1) ∷
     on 2 act.Take ∷ on 2 act.Tick ∷
     on 1 (act.Send (184 ∷ 193 ∷ 249 ∷ 205 ∷ 153 ∷ 166 ∷ 195 ∷ 38 ∷ 72 ∷ 141 ∷ 215 ∷ 169 ∷ 183 ∷ 137 ∷ 228 ∷ 163 ∷ 125 ∷ 138 ∷ 178 ∷ 151 ∷ 162 ∷ 241 ∷
@@ -253,7 +253,7 @@ Moves6 = text_of (rules_with (0 ∷ []) 1 16 0) (
     [])
 
 abbrev pub Moves7 : Type 0
-Moves7 = text_of (rules_with (0 ∷ []) 0 64 0) (
+Moves7 = play_text_of (rules_with (0 ∷ []) 0 64 0) (
     on 1 act.Tick ∷ on 0 act.State ∷ on 0 act.State ∷ on 0 act.Take ∷ on 2 act.Take ∷ on 2 act.Take ∷ on 2 act.Take ∷ on 0 act.Tick ∷ on 0 act.Join ∷
     on 1 act.Leave ∷ on 1 (act.Send (223 ∷ 50 ∷ 229 ∷ 154 ∷ 217 ∷ [])) ∷
     on 2 (act.Send (82 ∷ 184 ∷ 74 ∷ 207 ∷ 97 ∷ 37 ∷ 161 ∷ 95 ∷ 85 ∷ 18 ∷ 61 ∷ 66 ∷ 95 ∷ 213 ∷ 136 ∷ 241 ∷ 35 ∷ 104 ∷ 174 ∷ 232 ∷ 12 ∷ 200 ∷ 133 ∷ 77 ∷
@@ -293,7 +293,7 @@ Moves7 = text_of (rules_with (0 ∷ []) 0 64 0) (
     [])
 
 abbrev pub Moves8 : Type 0
-Moves8 = text_of (rules_with (0 ∷ 1 ∷ []) 0 64 256) (
+Moves8 = play_text_of (rules_with (0 ∷ 1 ∷ []) 0 64 256) (
     on 1 act.Join ∷ on 1 act.Take ∷ on 1 act.Tick ∷ on 1 act.Tick ∷ on 0 (act.Hear 2) ∷ on 1 act.Take ∷ on 1 act.Tick ∷ on 0 (act.Hear 3) ∷
     on 0 act.Take ∷ on 0 act.Tick ∷ on 0 act.Tick ∷ on 1 (act.Hear 4) ∷ on 1 (act.Hear 5) ∷
     on 0 (act.Send (138 ∷ 158 ∷ 146 ∷ 114 ∷ 146 ∷ 141 ∷ 254 ∷ 74 ∷ 93 ∷ 102 ∷ 224 ∷ 48 ∷ 144 ∷ 14 ∷ 145 ∷ 53 ∷ 171 ∷ 149 ∷ 142 ∷ 91 ∷ 133 ∷ 144 ∷ 114
@@ -341,7 +341,7 @@ Moves8 = text_of (rules_with (0 ∷ 1 ∷ []) 0 64 256) (
     [])
 
 abbrev pub Moves9 : Type 0
-Moves9 = text_of (rules_with (2 ∷ 3 ∷ 4 ∷ []) 0 2 0) (
+Moves9 = play_text_of (rules_with (2 ∷ 3 ∷ 4 ∷ []) 0 2 0) (
     on 0 act.Tick ∷ on 0 act.Take ∷ on 3 act.Take ∷ on 4 (act.Send (94 ∷ [])) ∷ on 2 (act.Hear 1) ∷ on 3 (act.Hear 1) ∷ on 3 (act.Hear 2) ∷
     on 4 (act.Hear 2) ∷ on 3 (act.Done 2) ∷ on 2 (act.Done 1) ∷ on 2 (act.Hear 1) ∷ on 2 act.Take ∷ on 2 (act.Hear 1) ∷ on 1 act.Tick ∷ on 1 act.State
     ∷

@@ -1,11 +1,11 @@
 -- Scripts and their texts. Written by tools/rows.py from cases/scenarios_resets.
 use Rattle.std.specs.Prelude.{◌≡◌, [], ◌∷◌, ◌++◌, codes}
 use Rattle.am_group.specs.declared.event.Act.TheVariants as act
-use Rattle.am_group_defs.specs.Play.{text_of}
+use Rattle.am_group_defs.specs.Play.{play_text_of}
 use Rattle.am_computed_cases.specs.Scripts.{rules_with, on, lines}
 
 abbrev pub Resets1 : Type 0
-Resets1 = text_of (rules_with (0 ∷ 1 ∷ 2 ∷ 3 ∷ []) 0 3 4) (
+Resets1 = play_text_of (rules_with (0 ∷ 1 ∷ 2 ∷ 3 ∷ []) 0 3 4) (
     on 3 act.Take ∷ on 3 act.Tick ∷ on 0 (act.Hear 1) ∷ on 1 act.Take ∷ on 0 (act.Hear 1) ∷ on 0 (act.Hear 1) ∷ on 2 act.Take ∷ on 3 act.Take ∷
     on 1 (act.Hear 3) ∷ on 3 act.Take ∷ on 0 act.Tick ∷ on 0 (act.Reset 1 0) ∷ on 3 (act.Hear 2) ∷ on 3 (act.Hear 3) ∷ on 2 (act.Hear 2) ∷
     []) ≡ lines (
@@ -33,7 +33,7 @@ Resets1 = text_of (rules_with (0 ∷ 1 ∷ 2 ∷ 3 ∷ []) 0 3 4) (
     [])
 
 abbrev pub Resets10 : Type 0
-Resets10 = text_of (rules_with (0 ∷ 1 ∷ 2 ∷ 3 ∷ []) 2 3 0) (
+Resets10 = play_text_of (rules_with (0 ∷ 1 ∷ 2 ∷ 3 ∷ []) 2 3 0) (
     on 1 act.Take ∷ on 2 act.Tick ∷ on 0 (act.Hear 1) ∷ on 1 (act.Reset 1 2) ∷ on 3 (act.Hear 2) ∷ on 0 (act.Hear 2) ∷ on 2 (act.Send []) ∷
     on 2 (act.Hear 2) ∷ on 0 act.Take ∷ on 3 act.Take ∷ on 3 (act.Reset 1 2) ∷ on 1 (act.Hear 3) ∷ on 1 act.Tick ∷ on 0 (act.Hear 7) ∷ on 0 act.Take ∷
     on 1 (act.Hear 4) ∷ on 3 (act.Hear 9) ∷ on 1 (act.Hear 6) ∷ on 2 (act.Hear 7) ∷ on 3 (act.Hear 10) ∷ on 2 (act.Hear 8) ∷ on 0 (act.Hear 8) ∷
@@ -79,7 +79,7 @@ Resets10 = text_of (rules_with (0 ∷ 1 ∷ 2 ∷ 3 ∷ []) 2 3 0) (
     [])
 
 abbrev pub Resets2 : Type 0
-Resets2 = text_of (rules_with (0 ∷ 1 ∷ 2 ∷ 3 ∷ 4 ∷ 5 ∷ []) 0 1 4) (
+Resets2 = play_text_of (rules_with (0 ∷ 1 ∷ 2 ∷ 3 ∷ 4 ∷ 5 ∷ []) 0 1 4) (
     on 0 (act.Done 4) ∷ on 3 act.Tick ∷ on 1 (act.Reset 1 0) ∷ on 5 (act.Hear 2) ∷ on 0 act.Tick ∷ on 1 (act.Hear 4) ∷
     on 5 (act.Send (142 ∷ 209 ∷ 115 ∷ 233 ∷ 55 ∷ [])) ∷ on 0 (act.Hear 2) ∷ on 1 (act.Hear 3) ∷ on 2 (act.Hear 2) ∷ on 4 (act.Hear 4) ∷
     on 2 (act.Hear 4) ∷ on 3 act.Take ∷ on 4 (act.Hear 4) ∷ on 4 (act.Hear 2) ∷
@@ -110,7 +110,7 @@ Resets2 = text_of (rules_with (0 ∷ 1 ∷ 2 ∷ 3 ∷ 4 ∷ 5 ∷ []) 0 1 4) (
     [])
 
 abbrev pub Resets3 : Type 0
-Resets3 = text_of (rules_with (0 ∷ 1 ∷ 2 ∷ 3 ∷ 4 ∷ 5 ∷ []) 3 3 256) (
+Resets3 = play_text_of (rules_with (0 ∷ 1 ∷ 2 ∷ 3 ∷ 4 ∷ 5 ∷ []) 3 3 256) (
     on 3 (act.Reset 1 3) ∷ on 0 (act.Hear 1) ∷ on 2 (act.Hear 1) ∷ on 3 (act.Hear 3) ∷ on 2 (act.Hear 1) ∷ on 5 (act.Done 4) ∷ on 2 (act.Hear 1) ∷
     on 4 (act.Hear 1) ∷ on 1 (act.Hear 1) ∷ on 5 (act.Hear 1) ∷ on 3 (act.GiveUp 4) ∷ on 5 (act.Hear 1) ∷ on 1 (act.Hear 1) ∷ on 2 act.Take ∷
     on 1 (act.Hear 1) ∷
@@ -141,7 +141,7 @@ Resets3 = text_of (rules_with (0 ∷ 1 ∷ 2 ∷ 3 ∷ 4 ∷ 5 ∷ []) 3 3 256) 
     [])
 
 abbrev pub Resets4 : Type 0
-Resets4 = text_of (rules_with (0 ∷ 1 ∷ 2 ∷ 3 ∷ 4 ∷ 5 ∷ []) 3 5 0) (
+Resets4 = play_text_of (rules_with (0 ∷ 1 ∷ 2 ∷ 3 ∷ 4 ∷ 5 ∷ []) 3 5 0) (
     on 4 act.Tick ∷ on 4 act.Tick ∷ on 1 (act.Reset 3 3) ∷ on 4 (act.Hear 3) ∷ on 0 (act.Hear 1) ∷ on 1 (act.Hear 4) ∷ on 5 (act.Hear 3) ∷
     on 0 (act.Hear 2) ∷ on 3 (act.Hear 3) ∷ on 0 (act.Hear 3) ∷ on 0 (act.Send (108 ∷ 76 ∷ [])) ∷ on 4 (act.Reset 1 3) ∷ on 5 (act.Reset 2 3) ∷
     on 2 (act.Hear 3) ∷ on 4 (act.Hear 3) ∷
@@ -172,7 +172,7 @@ Resets4 = text_of (rules_with (0 ∷ 1 ∷ 2 ∷ 3 ∷ 4 ∷ 5 ∷ []) 3 5 0) (
     [])
 
 abbrev pub Resets5 : Type 0
-Resets5 = text_of (rules_with (0 ∷ 1 ∷ 2 ∷ 3 ∷ 4 ∷ []) 2 64 4) (
+Resets5 = play_text_of (rules_with (0 ∷ 1 ∷ 2 ∷ 3 ∷ 4 ∷ []) 2 64 4) (
     on 1 act.Tick ∷ on 1 (act.Done 1) ∷ on 1 (act.Reset 3 2) ∷ on 4 (act.Send []) ∷ on 0 (act.Hear 1) ∷ on 2 (act.Hear 2) ∷ on 3 act.Take ∷
     on 0 (act.Hear 2) ∷
     on 0 (act.Send (114 ∷ 72 ∷ 88 ∷ 248 ∷ 169 ∷ 85 ∷ 237 ∷ 209 ∷ 72 ∷ 90 ∷ 158 ∷ 241 ∷ 241 ∷ 6 ∷ 221 ∷ 248 ∷ 107 ∷ 162 ∷ 75 ∷ 136 ∷ 60 ∷ 181 ∷ 55 ∷
@@ -205,7 +205,7 @@ Resets5 = text_of (rules_with (0 ∷ 1 ∷ 2 ∷ 3 ∷ 4 ∷ []) 2 64 4) (
     [])
 
 abbrev pub Resets6 : Type 0
-Resets6 = text_of (rules_with (0 ∷ 1 ∷ 2 ∷ 3 ∷ 4 ∷ []) 1 3 0) (
+Resets6 = play_text_of (rules_with (0 ∷ 1 ∷ 2 ∷ 3 ∷ 4 ∷ []) 1 3 0) (
     on 4 act.Tick ∷ on 0 (act.Send (111 ∷ 202 ∷ 249 ∷ 116 ∷ 22 ∷ [])) ∷ on 4 act.Take ∷ on 1 (act.Hear 2) ∷ on 4 (act.Hear 2) ∷ on 1 act.Take ∷
     on 3 (act.Reset 3 1) ∷ on 1 (act.Hear 4) ∷ on 0 (act.Reset 3 1) ∷ on 2 act.Tick ∷ on 1 (act.Hear 4) ∷ on 0 (act.GiveUp 1) ∷ on 3 act.Tick ∷
     on 3 (act.Hear 6) ∷ on 0 (act.GiveUp 3) ∷
@@ -235,7 +235,7 @@ Resets6 = text_of (rules_with (0 ∷ 1 ∷ 2 ∷ 3 ∷ 4 ∷ []) 1 3 0) (
     [])
 
 abbrev pub Resets7 : Type 0
-Resets7 = text_of (rules_with (0 ∷ 1 ∷ 2 ∷ 3 ∷ 4 ∷ 5 ∷ []) 0 3 0) (
+Resets7 = play_text_of (rules_with (0 ∷ 1 ∷ 2 ∷ 3 ∷ 4 ∷ 5 ∷ []) 0 3 0) (
     on 0 act.Tick ∷ on 2 act.Take ∷ on 5 act.Tick ∷ on 0 act.Take ∷ on 0 (act.Hear 2) ∷ on 3 act.Tick ∷ on 2 (act.Hear 1) ∷ on 5 (act.Hear 1) ∷
     on 4 (act.Send (212 ∷ [])) ∷ on 2 (act.Send (219 ∷ [])) ∷ on 5 act.Take ∷ on 1 (act.Hear 1) ∷
     on 0 (act.Send (13 ∷ 28 ∷ 123 ∷ 140 ∷ 79 ∷ 78 ∷ 195 ∷ 237 ∷ 61 ∷ 97 ∷ 46 ∷ 67 ∷ 26 ∷ 129 ∷ 197 ∷ 23 ∷ 150 ∷ 186 ∷ 183 ∷ 255 ∷ 90 ∷ 189 ∷ 254 ∷ 134
@@ -270,7 +270,7 @@ Resets7 = text_of (rules_with (0 ∷ 1 ∷ 2 ∷ 3 ∷ 4 ∷ 5 ∷ []) 0 3 0) (
     [])
 
 abbrev pub Resets8 : Type 0
-Resets8 = text_of (rules_with (0 ∷ 1 ∷ 2 ∷ []) 0 16 4) (
+Resets8 = play_text_of (rules_with (0 ∷ 1 ∷ 2 ∷ []) 0 16 4) (
     on 1 act.Tick ∷ on 0 (act.Hear 1) ∷ on 0 (act.Ask 4) ∷ on 1 act.Tick ∷ on 1 act.Tick ∷ on 0 (act.Hear 3) ∷ on 2 act.Take ∷ on 0 (act.Hear 3) ∷
     on 1 act.Tick ∷ on 2 (act.Hear 2) ∷ on 0 act.Take ∷ on 2 (act.Reset 1 0) ∷ on 0 (act.Hear 4) ∷ on 2 (act.GiveUp 0) ∷ on 1 (act.Hear 5) ∷
     on 2 (act.Hear 6) ∷ on 0 (act.Send (240 ∷ 157 ∷ [])) ∷ on 1 (act.Hear 7) ∷ on 2 act.Take ∷ on 0 (act.Hear 1) ∷ on 2 (act.Send (205 ∷ [])) ∷
@@ -317,7 +317,7 @@ Resets8 = text_of (rules_with (0 ∷ 1 ∷ 2 ∷ []) 0 16 4) (
     [])
 
 abbrev pub Resets9 : Type 0
-Resets9 = text_of (rules_with (0 ∷ 1 ∷ 2 ∷ []) 3 64 4) (
+Resets9 = play_text_of (rules_with (0 ∷ 1 ∷ 2 ∷ []) 3 64 4) (
     on 1 act.Tick ∷ on 0 (act.Hear 1) ∷ on 2 (act.Reset 1 3) ∷ on 1 (act.Hear 2) ∷ on 1 (act.Hear 2) ∷ on 2 act.Tick ∷ on 2 (act.GiveUp 1) ∷
     on 2 (act.Reset 2 3) ∷ on 2 (act.Hear 3) ∷ on 1 act.Tick ∷ on 1 (act.Hear 5) ∷ on 0 (act.Ask 1) ∷ on 1 (act.Hear 5) ∷ on 0 (act.Hear 1) ∷
     on 1 (act.Send (54 ∷ 71 ∷ 220 ∷ 64 ∷ 189 ∷ [])) ∷ on 0 act.Tick ∷ on 2 (act.Hear 3) ∷ on 1 (act.Hear 6) ∷ on 0 (act.Send (127 ∷ [])) ∷

@@ -1,11 +1,11 @@
 -- Scripts and their texts. Written by tools/rows.py from cases/scenarios_window.
 use Rattle.std.specs.Prelude.{◌≡◌, [], ◌∷◌, ◌++◌, codes}
 use Rattle.am_group.specs.declared.event.Act.TheVariants as act
-use Rattle.am_group_defs.specs.Play.{text_of}
+use Rattle.am_group_defs.specs.Play.{play_text_of}
 use Rattle.am_computed_cases.specs.Scripts.{rules_with, on, lines}
 
 abbrev pub Window1 : Type 0
-Window1 = text_of (rules_with (0 ∷ 1 ∷ 2 ∷ 3 ∷ []) 2 2 256) (
+Window1 = play_text_of (rules_with (0 ∷ 1 ∷ 2 ∷ 3 ∷ []) 2 2 256) (
     on 0 (act.Done 4) ∷ on 0 act.Take ∷ on 2 (act.Done 2) ∷ on 3 (act.Done 2) ∷ on 0 act.Take ∷ on 0 act.Take ∷ on 0 (act.Done 1) ∷ on 1 act.Take ∷
     on 2 (act.Send []) ∷ on 0 (act.Hear 1) ∷ on 2 (act.Hear 2) ∷ on 0 (act.Hear 3) ∷ on 0 act.Take ∷ on 3 (act.Hear 2) ∷ on 1 (act.Hear 2) ∷
     []) ≡ lines (
@@ -33,7 +33,7 @@ Window1 = text_of (rules_with (0 ∷ 1 ∷ 2 ∷ 3 ∷ []) 2 2 256) (
     [])
 
 abbrev pub Window10 : Type 0
-Window10 = text_of (rules_with (0 ∷ 1 ∷ 2 ∷ 3 ∷ 4 ∷ 5 ∷ []) 3 2 4) (
+Window10 = play_text_of (rules_with (0 ∷ 1 ∷ 2 ∷ 3 ∷ 4 ∷ 5 ∷ []) 3 2 4) (
     on 3 act.Take ∷ on 4 act.Take ∷
     on 4 (act.Send (224 ∷ 54 ∷ 96 ∷ 29 ∷ 240 ∷ 150 ∷ 180 ∷ 74 ∷ 9 ∷ 73 ∷ 121 ∷ 61 ∷ 179 ∷ 49 ∷ 34 ∷ 72 ∷ 179 ∷ 54 ∷ 177 ∷ 232 ∷ 205 ∷ 43 ∷ 148 ∷ 80 ∷
     60 ∷ 100 ∷ 108 ∷ 82 ∷ 59 ∷ 45 ∷ 61 ∷ 2 ∷ 33 ∷ 134 ∷ 85 ∷ 243 ∷ 196 ∷ 143 ∷ 146 ∷ 226 ∷ 209 ∷ 158 ∷ 120 ∷ 92 ∷ 207 ∷ 58 ∷ 172 ∷ 116 ∷ 224 ∷ 162 ∷
@@ -99,7 +99,7 @@ Window10 = text_of (rules_with (0 ∷ 1 ∷ 2 ∷ 3 ∷ 4 ∷ 5 ∷ []) 3 2 4) (
     [])
 
 abbrev pub Window2 : Type 0
-Window2 = text_of (rules_with (0 ∷ 1 ∷ 2 ∷ 3 ∷ 4 ∷ []) 1 16 0) (
+Window2 = play_text_of (rules_with (0 ∷ 1 ∷ 2 ∷ 3 ∷ 4 ∷ []) 1 16 0) (
     on 4 act.Tick ∷ on 1 act.Tick ∷ on 0 (act.Hear 2) ∷ on 1 act.Tick ∷ on 2 act.Tick ∷ on 3 (act.Done 1) ∷ on 2 (act.Done 1) ∷ on 1 act.Tick ∷
     on 0 act.Tick ∷ on 3 (act.Hear 6) ∷ on 2 (act.Hear 6) ∷ on 1 act.Take ∷ on 3 act.Tick ∷ on 4 (act.Hear 6) ∷ on 4 act.Tick ∷
     []) ≡ lines (
@@ -128,7 +128,7 @@ Window2 = text_of (rules_with (0 ∷ 1 ∷ 2 ∷ 3 ∷ 4 ∷ []) 1 16 0) (
     [])
 
 abbrev pub Window3 : Type 0
-Window3 = text_of (rules_with (0 ∷ 1 ∷ 2 ∷ []) 0 1 0) (
+Window3 = play_text_of (rules_with (0 ∷ 1 ∷ 2 ∷ []) 0 1 0) (
     on 1 act.Take ∷ on 0 (act.Send (213 ∷ 224 ∷ 230 ∷ 54 ∷ 174 ∷ [])) ∷ on 1 act.Take ∷ on 1 act.Take ∷
     on 2 (act.Send (113 ∷ 55 ∷ 207 ∷ 168 ∷ 13 ∷ [])) ∷ on 1 (act.Send (64 ∷ 142 ∷ [])) ∷ on 1 (act.Done 1) ∷ on 1 act.Take ∷ on 0 (act.Hear 2) ∷
     on 0 (act.Send (85 ∷ 206 ∷ 33 ∷ 113 ∷ 251 ∷ 18 ∷ 161 ∷ 19 ∷ 100 ∷ 252 ∷ 8 ∷ 218 ∷ 218 ∷ 110 ∷ 95 ∷ 191 ∷ 118 ∷ 66 ∷ 10 ∷ 202 ∷ 229 ∷ 92 ∷ 38 ∷ 230
@@ -158,7 +158,7 @@ Window3 = text_of (rules_with (0 ∷ 1 ∷ 2 ∷ []) 0 1 0) (
     [])
 
 abbrev pub Window4 : Type 0
-Window4 = text_of (rules_with (0 ∷ 1 ∷ 2 ∷ []) 1 16 256) (
+Window4 = play_text_of (rules_with (0 ∷ 1 ∷ 2 ∷ []) 1 16 256) (
     on 2 act.Take ∷ on 0 act.Take ∷ on 0 act.Take ∷ on 2 act.Take ∷
     on 2 (act.Send (96 ∷ 242 ∷ 130 ∷ 249 ∷ 195 ∷ 98 ∷ 95 ∷ 124 ∷ 241 ∷ 61 ∷ 208 ∷ 148 ∷ 149 ∷ 230 ∷ 46 ∷ 105 ∷ 243 ∷ 94 ∷ 103 ∷ 144 ∷ 174 ∷ 104 ∷ 170
     ∷ 156 ∷ 88 ∷ 93 ∷ 1 ∷ 137 ∷ 82 ∷ 129 ∷ 9 ∷ 156 ∷ 228 ∷ 202 ∷ 158 ∷ 19 ∷ 85 ∷ 221 ∷ 220 ∷ 212 ∷ [])) ∷
@@ -188,7 +188,7 @@ Window4 = text_of (rules_with (0 ∷ 1 ∷ 2 ∷ []) 1 16 256) (
     [])
 
 abbrev pub Window5 : Type 0
-Window5 = text_of (rules_with (0 ∷ 1 ∷ 2 ∷ []) 2 64 4) (
+Window5 = play_text_of (rules_with (0 ∷ 1 ∷ 2 ∷ []) 2 64 4) (
     on 0 (act.Send (37 ∷ [])) ∷ on 0 act.Tick ∷
     on 2 (act.Send (73 ∷ 36 ∷ 63 ∷ 215 ∷ 27 ∷ 166 ∷ 244 ∷ 71 ∷ 220 ∷ 230 ∷ 215 ∷ 198 ∷ 48 ∷ 125 ∷ 154 ∷ 214 ∷ 53 ∷ 193 ∷ 2 ∷ 221 ∷ 11 ∷ 135 ∷ 34 ∷ 235
     ∷ 80 ∷ 13 ∷ 135 ∷ 48 ∷ 110 ∷ 107 ∷ 39 ∷ 195 ∷ 117 ∷ 111 ∷ 194 ∷ 219 ∷ 87 ∷ 151 ∷ 20 ∷ 81 ∷ [])) ∷
@@ -218,7 +218,7 @@ Window5 = text_of (rules_with (0 ∷ 1 ∷ 2 ∷ []) 2 64 4) (
     [])
 
 abbrev pub Window6 : Type 0
-Window6 = text_of (rules_with (0 ∷ 1 ∷ []) 0 16 0) (
+Window6 = play_text_of (rules_with (0 ∷ 1 ∷ []) 0 16 0) (
     on 1 (act.Send (41 ∷ [])) ∷ on 1 (act.Done 1) ∷ on 0 (act.Hear 1) ∷ on 0 (act.Hear 1) ∷ on 1 (act.Hear 2) ∷ on 1 act.Tick ∷ on 0 (act.Hear 1) ∷
     on 0 (act.Send (35 ∷ 34 ∷ [])) ∷ on 0 (act.Send (43 ∷ 129 ∷ 190 ∷ 188 ∷ 234 ∷ [])) ∷ on 0 (act.Hear 3) ∷ on 1 (act.Hear 5) ∷ on 0 act.Take ∷
     on 0 (act.Hear 6) ∷
@@ -252,7 +252,7 @@ Window6 = text_of (rules_with (0 ∷ 1 ∷ []) 0 16 0) (
     [])
 
 abbrev pub Window7 : Type 0
-Window7 = text_of (rules_with (0 ∷ 1 ∷ 2 ∷ 3 ∷ []) 0 16 4) (
+Window7 = play_text_of (rules_with (0 ∷ 1 ∷ 2 ∷ 3 ∷ []) 0 16 4) (
     on 0 act.Tick ∷ on 1 (act.Hear 1) ∷ on 2 (act.Hear 1) ∷ on 3 (act.Hear 1) ∷ on 0 act.Take ∷ on 0 (act.Hear 2) ∷ on 0 act.Take ∷ on 1 (act.Hear 1)
     ∷
     on 0 (act.Hear 3) ∷ on 1 (act.Hear 1) ∷ on 0 (act.Hear 4) ∷ on 1 (act.Hear 1) ∷ on 0 (act.Hear 5) ∷ on 2 (act.Hear 1) ∷ on 0 act.Take ∷
@@ -299,7 +299,7 @@ Window7 = text_of (rules_with (0 ∷ 1 ∷ 2 ∷ 3 ∷ []) 0 16 4) (
     [])
 
 abbrev pub Window8 : Type 0
-Window8 = text_of (rules_with (0 ∷ 1 ∷ 2 ∷ []) 1 1 4) (
+Window8 = play_text_of (rules_with (0 ∷ 1 ∷ 2 ∷ []) 1 1 4) (
     on 2 (act.Send (17 ∷ 73 ∷ 130 ∷ 139 ∷ 193 ∷ 188 ∷ 168 ∷ 28 ∷ 48 ∷ 250 ∷ 219 ∷ 140 ∷ 196 ∷ 147 ∷ 193 ∷ 242 ∷ 157 ∷ 89 ∷ 74 ∷ 79 ∷ 38 ∷ 17 ∷ 35 ∷
     132 ∷ 222 ∷ 188 ∷ 100 ∷ 34 ∷ 184 ∷ 219 ∷ 7 ∷ 15 ∷ 76 ∷ 92 ∷ 27 ∷ 79 ∷ 46 ∷ 86 ∷ 186 ∷ 182 ∷ 241 ∷ 189 ∷ 39 ∷ 211 ∷ 100 ∷ 104 ∷ 45 ∷ 135 ∷ 246 ∷
     224 ∷ 60 ∷ 128 ∷ 116 ∷ 134 ∷ 244 ∷ 229 ∷ 133 ∷ 212 ∷ 216 ∷ 129 ∷ 114 ∷ 152 ∷ 161 ∷ 35 ∷ 71 ∷ 194 ∷ 207 ∷ 35 ∷ 79 ∷ 189 ∷ 150 ∷ 162 ∷ 54 ∷ 7 ∷ 67 ∷
@@ -340,7 +340,7 @@ Window8 = text_of (rules_with (0 ∷ 1 ∷ 2 ∷ []) 1 1 4) (
     [])
 
 abbrev pub Window9 : Type 0
-Window9 = text_of (rules_with (0 ∷ 1 ∷ 2 ∷ 3 ∷ 4 ∷ []) 3 2 0) (
+Window9 = play_text_of (rules_with (0 ∷ 1 ∷ 2 ∷ 3 ∷ 4 ∷ []) 3 2 0) (
     on 0 act.Tick ∷ on 3 act.Tick ∷ on 0 (act.Hear 2) ∷ on 1 act.Take ∷ on 3 act.Take ∷ on 1 (act.Done 1) ∷ on 2 (act.Hear 1) ∷ on 3 act.Take ∷
     on 1 act.Take ∷ on 3 (act.Hear 1) ∷ on 2 act.Take ∷ on 0 (act.Hear 3) ∷ on 3 act.Take ∷ on 2 (act.Send (31 ∷ [])) ∷ on 0 act.Take ∷
     on 2 (act.Done 1) ∷ on 4 (act.Hear 1) ∷ on 4 act.Take ∷ on 4 act.Take ∷ on 4 act.Take ∷ on 0 act.Take ∷ on 2 act.Take ∷ on 2 (act.Done 5) ∷

@@ -1,13 +1,13 @@
 -- Short forms for scripts and texts.
 use Rattle.std.specs.Prelude.{ℕ, List, [], ◌∷◌, ◌++◌}
 use Rattle.std.specs.List.{flat_map}
-use Rattle.am_base.specs.Names.{nobody, with_name}
+use Rattle.am_base.specs.Names.{empty_set_of_names, with_name}
 use Rattle.am_base.specs.Founding.{Rules}
 use Rattle.am_group.specs.declared.event.Act.{Act}
 use Rattle.am_group.specs.declared.event.Event.{Event}
 
 unfoldable pub set_of : List ℕ → List ℕ
-set_of [] = nobody
+set_of [] = empty_set_of_names
 set_of (name ∷ names) = with_name (set_of names) name
 
 -- a founding by its founders, resilience, window and greatest short body

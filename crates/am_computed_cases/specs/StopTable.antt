@@ -1,11 +1,11 @@
 -- Scripts and their texts. Written by tools/rows.py from cases/stop_table.
 use Rattle.std.specs.Prelude.{◌≡◌, [], ◌∷◌, codes}
 use Rattle.am_group.specs.declared.event.Act.TheVariants as act
-use Rattle.am_group_defs.specs.Play.{text_of}
+use Rattle.am_group_defs.specs.Play.{play_text_of}
 use Rattle.am_computed_cases.specs.Scripts.{rules_with, on, lines}
 
 abbrev pub StopsAfterTheAcknowledgment : Type 0
-StopsAfterTheAcknowledgment = text_of (rules_with (0 ∷ 1 ∷ 2 ∷ []) 1 64 256) (
+StopsAfterTheAcknowledgment = play_text_of (rules_with (0 ∷ 1 ∷ 2 ∷ []) 1 64 256) (
     on 0 (act.Send (97 ∷ [])) ∷ on 0 act.Take ∷ on 0 act.Take ∷ on 1 (act.Hear 1) ∷ on 0 (act.Hear 2) ∷ on 0 act.Stop ∷ on 1 (act.Reset 1 1) ∷
     on 2 (act.Hear 4) ∷ on 1 (act.Hear 5) ∷ on 1 (act.GiveUp 0) ∷
     []) ≡ lines (
@@ -28,7 +28,7 @@ StopsAfterTheAcknowledgment = text_of (rules_with (0 ∷ 1 ∷ 2 ∷ []) 1 64 25
     [])
 
 abbrev pub StopsAfterTheEmptyTake : Type 0
-StopsAfterTheEmptyTake = text_of (rules_with (0 ∷ 1 ∷ 2 ∷ []) 1 64 256) (
+StopsAfterTheEmptyTake = play_text_of (rules_with (0 ∷ 1 ∷ 2 ∷ []) 1 64 256) (
     on 0 (act.Send (97 ∷ [])) ∷ on 0 act.Take ∷ on 0 act.Take ∷ on 0 act.Stop ∷ on 1 (act.Reset 1 1) ∷ on 2 (act.Hear 2) ∷ on 1 (act.Hear 3) ∷
     on 1 (act.GiveUp 0) ∷
     []) ≡ lines (
@@ -48,7 +48,7 @@ StopsAfterTheEmptyTake = text_of (rules_with (0 ∷ 1 ∷ 2 ∷ []) 1 64 256) (
     [])
 
 abbrev pub StopsAfterTheFirstTake : Type 0
-StopsAfterTheFirstTake = text_of (rules_with (0 ∷ 1 ∷ 2 ∷ []) 1 64 256) (
+StopsAfterTheFirstTake = play_text_of (rules_with (0 ∷ 1 ∷ 2 ∷ []) 1 64 256) (
     on 0 (act.Send (97 ∷ [])) ∷ on 0 act.Take ∷ on 0 act.Stop ∷ on 1 (act.Reset 1 1) ∷ on 2 (act.Hear 2) ∷ on 1 (act.Hear 3) ∷ on 1 (act.GiveUp 0) ∷
     []) ≡ lines (
     codes "1 send 0 61 : queued 1 | 1 Bcast to 1,2" ∷
@@ -66,7 +66,7 @@ StopsAfterTheFirstTake = text_of (rules_with (0 ∷ 1 ∷ 2 ∷ []) 1 64 256) (
     [])
 
 abbrev pub StopsAfterTheSecondTake : Type 0
-StopsAfterTheSecondTake = text_of (rules_with (0 ∷ 1 ∷ 2 ∷ []) 1 64 256) (
+StopsAfterTheSecondTake = play_text_of (rules_with (0 ∷ 1 ∷ 2 ∷ []) 1 64 256) (
     on 0 (act.Send (97 ∷ [])) ∷ on 0 act.Take ∷ on 0 act.Take ∷ on 1 (act.Hear 1) ∷ on 0 (act.Hear 2) ∷ on 0 act.Take ∷ on 0 act.Stop ∷
     on 1 (act.Reset 1 1) ∷ on 2 (act.Hear 4) ∷ on 1 (act.Hear 5) ∷ on 1 (act.GiveUp 0) ∷
     []) ≡ lines (
@@ -91,7 +91,7 @@ StopsAfterTheSecondTake = text_of (rules_with (0 ∷ 1 ∷ 2 ∷ []) 1 64 256) (
     [])
 
 abbrev pub StopsAfterTheSend : Type 0
-StopsAfterTheSend = text_of (rules_with (0 ∷ 1 ∷ 2 ∷ []) 1 64 256) (
+StopsAfterTheSend = play_text_of (rules_with (0 ∷ 1 ∷ 2 ∷ []) 1 64 256) (
     on 0 (act.Send (97 ∷ [])) ∷ on 0 act.Stop ∷ on 1 (act.Reset 1 1) ∷ on 2 (act.Hear 2) ∷ on 1 (act.Hear 3) ∷ on 1 (act.GiveUp 0) ∷
     []) ≡ lines (
     codes "1 send 0 61 : queued 1 | 1 Bcast to 1,2" ∷
@@ -108,7 +108,7 @@ StopsAfterTheSend = text_of (rules_with (0 ∷ 1 ∷ 2 ∷ []) 1 64 256) (
     [])
 
 abbrev pub StopsAfterTheStoring : Type 0
-StopsAfterTheStoring = text_of (rules_with (0 ∷ 1 ∷ 2 ∷ []) 1 64 256) (
+StopsAfterTheStoring = play_text_of (rules_with (0 ∷ 1 ∷ 2 ∷ []) 1 64 256) (
     on 0 (act.Send (97 ∷ [])) ∷ on 0 act.Take ∷ on 0 act.Take ∷ on 1 (act.Hear 1) ∷ on 0 act.Stop ∷ on 1 (act.Reset 1 1) ∷ on 2 (act.Hear 3) ∷
     on 1 (act.Hear 4) ∷ on 1 (act.GiveUp 0) ∷
     []) ≡ lines (
@@ -129,7 +129,7 @@ StopsAfterTheStoring = text_of (rules_with (0 ∷ 1 ∷ 2 ∷ []) 1 64 256) (
     [])
 
 abbrev pub StopsBeforeAnything : Type 0
-StopsBeforeAnything = text_of (rules_with (0 ∷ 1 ∷ 2 ∷ []) 1 64 256) (
+StopsBeforeAnything = play_text_of (rules_with (0 ∷ 1 ∷ 2 ∷ []) 1 64 256) (
     on 0 act.Stop ∷ on 1 (act.Reset 1 1) ∷ on 2 (act.Hear 1) ∷ on 1 (act.Hear 2) ∷ on 1 (act.GiveUp 0) ∷
     []) ≡ lines (
     codes "1 stop 0 : stopped" ∷

@@ -1,11 +1,11 @@
 -- Scripts and their texts. Written by tools/rows.py from cases/worked.
 use Rattle.std.specs.Prelude.{◌≡◌, [], ◌∷◌, ◌++◌, codes}
 use Rattle.am_group.specs.declared.event.Act.TheVariants as act
-use Rattle.am_group_defs.specs.Play.{text_of, settled_text_of}
+use Rattle.am_group_defs.specs.Play.{play_text_of, settled_play_text_of}
 use Rattle.am_computed_cases.specs.Scripts.{rules_with, on, lines}
 
 abbrev pub Busy : Type 0
-Busy = text_of (rules_with (0 ∷ 1 ∷ []) 0 64 256) (
+Busy = play_text_of (rules_with (0 ∷ 1 ∷ []) 0 64 256) (
     on 1 (act.Send (97 ∷ [])) ∷ on 1 (act.Send (97 ∷ [])) ∷ on 1 (act.Send (97 ∷ [])) ∷ on 1 (act.Send (97 ∷ [])) ∷ on 1 (act.Send (97 ∷ [])) ∷
     []) ≡ lines (
     codes "1 send 1 61 : queued 1 | 1 Request to 0" ∷
@@ -20,7 +20,7 @@ Busy = text_of (rules_with (0 ∷ 1 ∷ []) 0 64 256) (
     [])
 
 abbrev pub Crowded : Type 0
-Crowded = text_of (rules_with (0 ∷ 1 ∷ 2 ∷ 3 ∷ 4 ∷ 5 ∷ 6 ∷ 7 ∷ 8 ∷ 9 ∷ 10 ∷ 11 ∷ 12 ∷ 13 ∷ 14 ∷ 15 ∷ []) 0 1 256) (
+Crowded = play_text_of (rules_with (0 ∷ 1 ∷ 2 ∷ 3 ∷ 4 ∷ 5 ∷ 6 ∷ 7 ∷ 8 ∷ 9 ∷ 10 ∷ 11 ∷ 12 ∷ 13 ∷ 14 ∷ 15 ∷ []) 0 1 256) (
     on 0 (act.Reset 1 0) ∷ on 1 (act.Hear 1) ∷ on 2 (act.Hear 1) ∷ on 3 (act.Hear 1) ∷ on 4 (act.Hear 1) ∷ on 5 (act.Hear 1) ∷ on 6 (act.Hear 1) ∷
     on 7 (act.Hear 1) ∷ on 8 (act.Hear 1) ∷ on 9 (act.Hear 1) ∷ on 10 (act.Hear 1) ∷ on 11 (act.Hear 1) ∷ on 12 (act.Hear 1) ∷ on 13 (act.Hear 1) ∷
     on 14 (act.Hear 1) ∷ on 15 (act.Hear 1) ∷ on 0 (act.Hear 2) ∷ on 0 (act.Hear 3) ∷ on 0 (act.Hear 4) ∷ on 0 (act.Hear 5) ∷ on 0 (act.Hear 6) ∷
@@ -79,7 +79,7 @@ Crowded = text_of (rules_with (0 ∷ 1 ∷ 2 ∷ 3 ∷ 4 ∷ 5 ∷ 6 ∷ 7 ∷ 8
     [])
 
 abbrev pub CrowdedGivenUp : Type 0
-CrowdedGivenUp = text_of (rules_with (0 ∷ 1 ∷ 2 ∷ 3 ∷ 4 ∷ 5 ∷ 6 ∷ 7 ∷ 8 ∷ 9 ∷ 10 ∷ 11 ∷ 12 ∷ 13 ∷ 14 ∷ 15 ∷ []) 0 1 256) (
+CrowdedGivenUp = play_text_of (rules_with (0 ∷ 1 ∷ 2 ∷ 3 ∷ 4 ∷ 5 ∷ 6 ∷ 7 ∷ 8 ∷ 9 ∷ 10 ∷ 11 ∷ 12 ∷ 13 ∷ 14 ∷ 15 ∷ []) 0 1 256) (
     on 15 act.Stop ∷ on 0 (act.Reset 1 0) ∷ on 1 (act.Hear 1) ∷ on 2 (act.Hear 1) ∷ on 3 (act.Hear 1) ∷ on 4 (act.Hear 1) ∷ on 5 (act.Hear 1) ∷
     on 6 (act.Hear 1) ∷ on 7 (act.Hear 1) ∷ on 8 (act.Hear 1) ∷ on 9 (act.Hear 1) ∷ on 10 (act.Hear 1) ∷ on 11 (act.Hear 1) ∷ on 12 (act.Hear 1) ∷
     on 13 (act.Hear 1) ∷ on 14 (act.Hear 1) ∷ on 0 (act.Hear 2) ∷ on 0 (act.Hear 3) ∷ on 0 (act.Hear 4) ∷ on 0 (act.Hear 5) ∷ on 0 (act.Hear 6) ∷
@@ -140,7 +140,7 @@ CrowdedGivenUp = text_of (rules_with (0 ∷ 1 ∷ 2 ∷ 3 ∷ 4 ∷ 5 ∷ 6 ∷ 
     [])
 
 abbrev pub CrowdedTaken : Type 0
-CrowdedTaken = text_of (rules_with (0 ∷ 1 ∷ 2 ∷ 3 ∷ 4 ∷ 5 ∷ 6 ∷ 7 ∷ 8 ∷ 9 ∷ 10 ∷ 11 ∷ 12 ∷ 13 ∷ 14 ∷ 15 ∷ []) 0 1 256) (
+CrowdedTaken = play_text_of (rules_with (0 ∷ 1 ∷ 2 ∷ 3 ∷ 4 ∷ 5 ∷ 6 ∷ 7 ∷ 8 ∷ 9 ∷ 10 ∷ 11 ∷ 12 ∷ 13 ∷ 14 ∷ 15 ∷ []) 0 1 256) (
     on 0 (act.Reset 1 0) ∷ on 1 (act.Hear 1) ∷ on 2 (act.Hear 1) ∷ on 3 (act.Hear 1) ∷ on 4 (act.Hear 1) ∷ on 5 (act.Hear 1) ∷ on 6 (act.Hear 1) ∷
     on 7 (act.Hear 1) ∷ on 8 (act.Hear 1) ∷ on 9 (act.Hear 1) ∷ on 10 (act.Hear 1) ∷ on 11 (act.Hear 1) ∷ on 12 (act.Hear 1) ∷ on 13 (act.Hear 1) ∷
     on 14 (act.Hear 1) ∷ on 15 (act.Hear 1) ∷ on 0 (act.Hear 2) ∷ on 0 (act.Hear 3) ∷ on 0 (act.Hear 4) ∷ on 0 (act.Hear 5) ∷ on 0 (act.Hear 6) ∷
@@ -255,7 +255,7 @@ CrowdedTaken = text_of (rules_with (0 ∷ 1 ∷ 2 ∷ 3 ∷ 4 ∷ 5 ∷ 6 ∷ 7 
     [])
 
 abbrev pub CutPackets : Type 0
-CutPackets = text_of (rules_with (0 ∷ 1 ∷ []) 0 64 256) (
+CutPackets = play_text_of (rules_with (0 ∷ 1 ∷ []) 0 64 256) (
     on 1 (act.Send (97 ∷ [])) ∷ on 0 (act.Cut 1 5) ∷ on 0 (act.Cut 1 20) ∷ on 0 (act.Hear 1) ∷
     []) ≡ lines (
     codes "1 send 1 61 : queued 1 | 1 Request to 0" ∷
@@ -270,7 +270,7 @@ CutPackets = text_of (rules_with (0 ∷ 1 ∷ []) 0 64 256) (
     [])
 
 abbrev pub EveryLife : Type 0
-EveryLife = text_of (rules_with (0 ∷ []) 1 64 256) (
+EveryLife = play_text_of (rules_with (0 ∷ []) 1 64 256) (
     on 0 act.Stop ∷ on 0 act.Return ∷ on 0 act.Stop ∷ on 0 act.Return ∷ on 0 act.Stop ∷ on 0 act.Return ∷ on 0 act.Stop ∷ on 0 act.Return ∷
     on 0 act.Stop ∷ on 0 act.Return ∷ on 0 act.Stop ∷ on 0 act.Return ∷ on 0 act.Stop ∷ on 0 act.Return ∷ on 0 act.Stop ∷ on 0 act.Return ∷
     on 0 act.Stop ∷ on 0 act.Return ∷ on 0 act.Stop ∷ on 0 act.Return ∷ on 0 act.Stop ∷ on 0 act.Return ∷ on 0 act.Stop ∷ on 0 act.Return ∷
@@ -314,7 +314,7 @@ EveryLife = text_of (rules_with (0 ∷ []) 1 64 256) (
     [])
 
 abbrev pub JoinAsked : Type 0
-JoinAsked = text_of (rules_with (0 ∷ 1 ∷ []) 0 64 256) (
+JoinAsked = play_text_of (rules_with (0 ∷ 1 ∷ []) 0 64 256) (
     on 2 act.Join ∷ on 0 (act.Hear 1) ∷ on 2 (act.Hear 3) ∷ on 0 (act.Hear 4) ∷ on 2 (act.Hear 5) ∷ on 2 (act.Hear 6) ∷ on 0 (act.Hear 7) ∷
     on 0 act.Tick ∷ on 2 (act.Hear 8) ∷ on 0 (act.Hear 9) ∷ on 2 (act.Hear 10) ∷ on 2 act.Take ∷
     []) ≡ lines (
@@ -339,7 +339,7 @@ JoinAsked = text_of (rules_with (0 ∷ 1 ∷ []) 0 64 256) (
     [])
 
 abbrev pub JoinWithLostWelcome : Type 0
-JoinWithLostWelcome = text_of (rules_with (0 ∷ 1 ∷ []) 0 64 256) (
+JoinWithLostWelcome = play_text_of (rules_with (0 ∷ 1 ∷ []) 0 64 256) (
     on 2 act.Join ∷ on 0 (act.Hear 1) ∷ on 1 (act.Hear 2) ∷ on 1 (act.Reset 1 0) ∷ on 0 (act.Hear 4) ∷ on 2 (act.Hear 4) ∷ on 1 (act.Hear 5) ∷
     on 1 (act.Hear 6) ∷ on 2 act.Tick ∷ on 1 (act.Hear 9) ∷ on 2 (act.Hear 3) ∷ on 2 (act.Hear 10) ∷ on 1 (act.Hear 11) ∷ on 2 (act.Hear 12) ∷
     on 2 (act.Hear 13) ∷ on 2 (act.Hear 14) ∷ on 1 (act.Hear 15) ∷ on 1 act.Tick ∷ on 2 (act.Hear 16) ∷ on 2 act.Take ∷
@@ -374,7 +374,7 @@ JoinWithLostWelcome = text_of (rules_with (0 ∷ 1 ∷ []) 0 64 256) (
     [])
 
 abbrev pub LeaveAsked : Type 0
-LeaveAsked = text_of (rules_with (0 ∷ 1 ∷ []) 0 64 256) (
+LeaveAsked = play_text_of (rules_with (0 ∷ 1 ∷ []) 0 64 256) (
     on 1 act.Leave ∷ on 0 (act.Hear 1) ∷ on 1 (act.Hear 3) ∷ on 0 (act.Hear 1) ∷ on 1 act.State ∷ on 1 (act.Send (97 ∷ [])) ∷
     []) ≡ lines (
     codes "1 leave 1 : asked | 1 LeaveAsk to 0" ∷
@@ -391,7 +391,7 @@ LeaveAsked = text_of (rules_with (0 ∷ 1 ∷ []) 0 64 256) (
     [])
 
 abbrev pub LongBody : Type 0
-LongBody = text_of (rules_with (0 ∷ 1 ∷ 2 ∷ []) 0 64 256) (
+LongBody = play_text_of (rules_with (0 ∷ 1 ∷ 2 ∷ []) 0 64 256) (
     on 1 (act.Send (97 ∷ 97 ∷ 97 ∷ 97 ∷ 97 ∷ 97 ∷ 97 ∷ 97 ∷ 97 ∷ 97 ∷ 97 ∷ 97 ∷ 97 ∷ 97 ∷ 97 ∷ 97 ∷ 97 ∷ 97 ∷ 97 ∷ 97 ∷ 97 ∷ 97 ∷ 97 ∷ 97 ∷ 97 ∷ 97 ∷
     97 ∷ 97 ∷ 97 ∷ 97 ∷ 97 ∷ 97 ∷ 97 ∷ 97 ∷ 97 ∷ 97 ∷ 97 ∷ 97 ∷ 97 ∷ 97 ∷ 97 ∷ 97 ∷ 97 ∷ 97 ∷ 97 ∷ 97 ∷ 97 ∷ 97 ∷ 97 ∷ 97 ∷ 97 ∷ 97 ∷ 97 ∷ 97 ∷ 97 ∷
     97 ∷ 97 ∷ 97 ∷ 97 ∷ 97 ∷ 97 ∷ 97 ∷ 97 ∷ 97 ∷ 97 ∷ 97 ∷ 97 ∷ 97 ∷ 97 ∷ 97 ∷ 97 ∷ 97 ∷ 97 ∷ 97 ∷ 97 ∷ 97 ∷ 97 ∷ 97 ∷ 97 ∷ 97 ∷ 97 ∷ 97 ∷ 97 ∷ 97 ∷
@@ -425,7 +425,7 @@ LongBody = text_of (rules_with (0 ∷ 1 ∷ 2 ∷ []) 0 64 256) (
     [])
 
 abbrev pub NoEvents : Type 0
-NoEvents = text_of (rules_with (0 ∷ 1 ∷ []) 0 64 256) (
+NoEvents = play_text_of (rules_with (0 ∷ 1 ∷ []) 0 64 256) (
     []) ≡ lines (
     codes "group 1 view 1.0 0,1" ∷
     codes "log 0 empty" ∷
@@ -434,7 +434,7 @@ NoEvents = text_of (rules_with (0 ∷ 1 ∷ []) 0 64 256) (
     [])
 
 abbrev pub OnlyFounderLeaves : Type 0
-OnlyFounderLeaves = text_of (rules_with (0 ∷ []) 0 64 256) (
+OnlyFounderLeaves = play_text_of (rules_with (0 ∷ []) 0 64 256) (
     on 0 act.Leave ∷
     []) ≡ lines (
     codes "1 leave 0 : departed" ∷
@@ -445,7 +445,7 @@ OnlyFounderLeaves = text_of (rules_with (0 ∷ []) 0 64 256) (
     [])
 
 abbrev pub Reordering : Type 0
-Reordering = text_of (rules_with (0 ∷ 1 ∷ []) 0 64 256) (
+Reordering = play_text_of (rules_with (0 ∷ 1 ∷ []) 0 64 256) (
     on 0 (act.Send (97 ∷ [])) ∷ on 0 (act.Send (98 ∷ [])) ∷ on 1 (act.Hear 2) ∷ on 0 (act.Hear 3) ∷ on 1 (act.Hear 4) ∷ on 1 (act.Hear 5) ∷
     on 1 (act.Hear 1) ∷
     []) ≡ lines (
@@ -465,7 +465,7 @@ Reordering = text_of (rules_with (0 ∷ 1 ∷ []) 0 64 256) (
     [])
 
 abbrev pub Repeat : Type 0
-Repeat = text_of (rules_with (0 ∷ 1 ∷ []) 0 64 256) (
+Repeat = play_text_of (rules_with (0 ∷ 1 ∷ []) 0 64 256) (
     on 1 (act.Send (97 ∷ [])) ∷ on 0 (act.Hear 1) ∷ on 0 (act.Hear 1) ∷
     []) ≡ lines (
     codes "1 send 1 61 : queued 1 | 1 Request to 0" ∷
@@ -479,7 +479,7 @@ Repeat = text_of (rules_with (0 ∷ 1 ∷ []) 0 64 256) (
     [])
 
 abbrev pub ReturnAfterLeave : Type 0
-ReturnAfterLeave = text_of (rules_with (0 ∷ 1 ∷ []) 0 64 256) (
+ReturnAfterLeave = play_text_of (rules_with (0 ∷ 1 ∷ []) 0 64 256) (
     on 1 act.Leave ∷ on 0 (act.Hear 1) ∷ on 1 (act.Hear 3) ∷ on 1 act.Return ∷ on 1 act.Join ∷ on 0 (act.Hear 4) ∷ on 1 (act.Hear 2) ∷
     on 1 (act.Hear 5) ∷ on 0 (act.Hear 1) ∷
     []) ≡ lines (
@@ -502,7 +502,7 @@ ReturnAfterLeave = text_of (rules_with (0 ∷ 1 ∷ []) 0 64 256) (
     [])
 
 abbrev pub ReturnAfterStop : Type 0
-ReturnAfterStop = text_of (rules_with (0 ∷ 1 ∷ []) 1 64 256) (
+ReturnAfterStop = play_text_of (rules_with (0 ∷ 1 ∷ []) 1 64 256) (
     on 1 act.Stop ∷ on 1 act.Return ∷ on 1 act.Join ∷ on 0 (act.Hear 1) ∷ on 0 (act.Reset 1 1) ∷ on 0 (act.GiveUp 1) ∷ on 0 (act.Hear 1) ∷
     on 0 act.Return ∷
     []) ≡ lines (
@@ -523,7 +523,7 @@ ReturnAfterStop = text_of (rules_with (0 ∷ 1 ∷ []) 1 64 256) (
     [])
 
 abbrev pub ReturnedLeaverStops : Type 0
-ReturnedLeaverStops = text_of (rules_with (0 ∷ 1 ∷ []) 0 64 256) (
+ReturnedLeaverStops = play_text_of (rules_with (0 ∷ 1 ∷ []) 0 64 256) (
     on 1 act.Leave ∷ on 0 (act.Hear 1) ∷ on 1 (act.Hear 3) ∷ on 1 act.Return ∷ on 1 act.Join ∷ on 0 (act.Hear 4) ∷ on 1 (act.Hear 5) ∷ on 1 act.Stop ∷
     on 0 (act.Reset 1 0) ∷ on 0 (act.GiveUp 1) ∷ on 0 (act.GiveUp 17) ∷ on 0 (act.GiveUp 33) ∷ on 1 act.Return ∷ on 1 act.Join ∷ on 0 (act.Hear 4) ∷
     on 0 (act.Hear 8) ∷
@@ -556,7 +556,7 @@ ReturnedLeaverStops = text_of (rules_with (0 ∷ 1 ∷ []) 0 64 256) (
     [])
 
 abbrev pub RunningMember : Type 0
-RunningMember = text_of (rules_with (0 ∷ 1 ∷ 2 ∷ []) 0 64 256) (
+RunningMember = play_text_of (rules_with (0 ∷ 1 ∷ 2 ∷ []) 0 64 256) (
     on 1 (act.Reset 1 0) ∷ on 1 (act.GiveUp 0) ∷
     []) ≡ lines (
     codes "1 reset 1 1 : waiting 0,2 | 1 Invite to 0,2" ∷
@@ -569,7 +569,7 @@ RunningMember = text_of (rules_with (0 ∷ 1 ∷ 2 ∷ []) 0 64 256) (
     [])
 
 abbrev pub Settled : Type 0
-Settled = settled_text_of (rules_with (0 ∷ 1 ∷ []) 0 8 256) (
+Settled = settled_play_text_of (rules_with (0 ∷ 1 ∷ []) 0 8 256) (
     on 0 (act.Send (97 ∷ [])) ∷
     []) ≡ lines (
     codes "1 send 0 61 : queued 1 | 1 Bcast to 1" ∷
@@ -677,7 +677,7 @@ Settled = settled_text_of (rules_with (0 ∷ 1 ∷ []) 0 8 256) (
     [])
 
 abbrev pub ShortBody : Type 0
-ShortBody = text_of (rules_with (0 ∷ 1 ∷ 2 ∷ []) 0 64 256) (
+ShortBody = play_text_of (rules_with (0 ∷ 1 ∷ 2 ∷ []) 0 64 256) (
     on 1 (act.Send (97 ∷ 97 ∷ 97 ∷ 97 ∷ 97 ∷ 97 ∷ 97 ∷ 97 ∷ 97 ∷ 97 ∷ 97 ∷ 97 ∷ 97 ∷ 97 ∷ 97 ∷ 97 ∷ 97 ∷ 97 ∷ 97 ∷ 97 ∷ 97 ∷ 97 ∷ 97 ∷ 97 ∷ 97 ∷ 97 ∷
     97 ∷ 97 ∷ 97 ∷ 97 ∷ 97 ∷ 97 ∷ 97 ∷ 97 ∷ 97 ∷ 97 ∷ 97 ∷ 97 ∷ 97 ∷ 97 ∷ 97 ∷ 97 ∷ 97 ∷ 97 ∷ 97 ∷ 97 ∷ 97 ∷ 97 ∷ 97 ∷ 97 ∷ 97 ∷ 97 ∷ 97 ∷ 97 ∷ 97 ∷
     97 ∷ 97 ∷ 97 ∷ 97 ∷ 97 ∷ 97 ∷ 97 ∷ 97 ∷ 97 ∷ 97 ∷ 97 ∷ 97 ∷ 97 ∷ 97 ∷ 97 ∷ 97 ∷ 97 ∷ 97 ∷ 97 ∷ 97 ∷ 97 ∷ 97 ∷ 97 ∷ 97 ∷ 97 ∷ 97 ∷ 97 ∷ 97 ∷ 97 ∷
@@ -701,7 +701,7 @@ ShortBody = text_of (rules_with (0 ∷ 1 ∷ 2 ∷ []) 0 64 256) (
     [])
 
 abbrev pub SmallestPath : Type 0
-SmallestPath = text_of (rules_with (0 ∷ 1 ∷ []) 0 64 256) (
+SmallestPath = play_text_of (rules_with (0 ∷ 1 ∷ []) 0 64 256) (
     on 1 (act.Send (97 ∷ [])) ∷ on 0 (act.Hear 1) ∷ on 1 (act.Hear 2) ∷ on 1 act.Take ∷ on 1 act.Take ∷ on 1 (act.Done 1) ∷
     []) ≡ lines (
     codes "1 send 1 61 : queued 1 | 1 Request to 0" ∷
@@ -719,7 +719,7 @@ SmallestPath = text_of (rules_with (0 ∷ 1 ∷ []) 0 64 256) (
     [])
 
 abbrev pub SpreadLost : Type 0
-SpreadLost = text_of (rules_with (0 ∷ 1 ∷ 2 ∷ []) 0 64 0) (
+SpreadLost = play_text_of (rules_with (0 ∷ 1 ∷ 2 ∷ []) 0 64 0) (
     on 1 (act.Send (97 ∷ [])) ∷ on 0 (act.Hear 1) ∷ on 2 (act.Hear 2) ∷ on 0 (act.Hear 3) ∷ on 2 (act.Hear 4) ∷
     []) ≡ lines (
     codes "1 send 1 61 : queued 1 | 1 Spread to 0,2" ∷
@@ -736,7 +736,7 @@ SpreadLost = text_of (rules_with (0 ∷ 1 ∷ 2 ∷ []) 0 64 0) (
     [])
 
 abbrev pub WindowOfOne : Type 0
-WindowOfOne = text_of (rules_with (0 ∷ 1 ∷ []) 0 1 256) (
+WindowOfOne = play_text_of (rules_with (0 ∷ 1 ∷ []) 0 1 256) (
     on 0 act.Take ∷ on 1 act.Take ∷ on 1 (act.Send (97 ∷ [])) ∷ on 0 (act.Hear 1) ∷ on 1 (act.Hear 2) ∷ on 1 (act.Send (98 ∷ [])) ∷ on 0 (act.Hear 3)
     ∷
     on 1 (act.Hear 5) ∷ on 0 act.Take ∷ on 1 act.Take ∷ on 1 (act.Hear 4) ∷ on 0 (act.Hear 6) ∷ on 1 act.Tick ∷ on 0 (act.Hear 7) ∷

@@ -1,11 +1,11 @@
 -- Scripts and their texts. Written by tools/rows.py from cases/worked_resets.
 use Rattle.std.specs.Prelude.{◌≡◌, [], ◌∷◌, codes}
 use Rattle.am_group.specs.declared.event.Act.TheVariants as act
-use Rattle.am_group_defs.specs.Play.{text_of}
+use Rattle.am_group_defs.specs.Play.{play_text_of}
 use Rattle.am_computed_cases.specs.Scripts.{rules_with, on, lines}
 
 abbrev pub CompleteBeforeAccepted : Type 0
-CompleteBeforeAccepted = text_of (rules_with (0 ∷ 1 ∷ 2 ∷ []) 0 64 256) (
+CompleteBeforeAccepted = play_text_of (rules_with (0 ∷ 1 ∷ 2 ∷ []) 0 64 256) (
     on 1 (act.Reset 1 2) ∷ on 0 (act.Hear 1) ∷ on 2 (act.Hear 1) ∷ on 1 (act.Hear 2) ∷ on 1 (act.Hear 3) ∷ on 0 (act.Hear 4) ∷ on 2 (act.Hear 4) ∷
     on 0 act.Stop ∷
     []) ≡ lines (
@@ -25,7 +25,7 @@ CompleteBeforeAccepted = text_of (rules_with (0 ∷ 1 ∷ 2 ∷ []) 0 64 256) (
     [])
 
 abbrev pub CoordinatorStopSurvived : Type 0
-CoordinatorStopSurvived = text_of (rules_with (0 ∷ 1 ∷ 2 ∷ []) 2 64 256) (
+CoordinatorStopSurvived = play_text_of (rules_with (0 ∷ 1 ∷ 2 ∷ []) 2 64 256) (
     on 0 act.Stop ∷ on 1 (act.Reset 1 2) ∷ on 1 (act.GiveUp 0) ∷ on 2 (act.Hear 1) ∷ on 1 (act.Hear 2) ∷ on 1 act.Stop ∷ on 2 (act.Reset 1 2) ∷
     on 2 (act.GiveUp 0) ∷ on 2 (act.GiveUp 1) ∷
     []) ≡ lines (
@@ -47,7 +47,7 @@ CoordinatorStopSurvived = text_of (rules_with (0 ∷ 1 ∷ 2 ∷ []) 2 64 256) (
     [])
 
 abbrev pub CoordinatorStopsToo : Type 0
-CoordinatorStopsToo = text_of (rules_with (0 ∷ 1 ∷ 2 ∷ []) 1 64 256) (
+CoordinatorStopsToo = play_text_of (rules_with (0 ∷ 1 ∷ 2 ∷ []) 1 64 256) (
     on 0 act.Stop ∷ on 1 (act.Reset 1 1) ∷ on 1 (act.GiveUp 0) ∷ on 2 (act.Hear 1) ∷ on 1 (act.Hear 2) ∷ on 1 act.Stop ∷ on 2 (act.Reset 1 1) ∷
     on 2 (act.GiveUp 0) ∷ on 2 (act.GiveUp 1) ∷
     []) ≡ lines (
@@ -69,7 +69,7 @@ CoordinatorStopsToo = text_of (rules_with (0 ∷ 1 ∷ 2 ∷ []) 1 64 256) (
     [])
 
 abbrev pub LeaverLetGoBehind : Type 0
-LeaverLetGoBehind = text_of (rules_with (0 ∷ 1 ∷ 2 ∷ []) 0 64 256) (
+LeaverLetGoBehind = play_text_of (rules_with (0 ∷ 1 ∷ 2 ∷ []) 0 64 256) (
     on 2 act.Leave ∷ on 0 (act.Reset 1 1) ∷ on 1 (act.Hear 2) ∷ on 2 (act.Hear 2) ∷ on 0 (act.Hear 3) ∷ on 0 (act.Hear 4) ∷ on 1 (act.Hear 5) ∷
     on 0 (act.Hear 6) ∷ on 0 (act.Hear 1) ∷ on 1 (act.Hear 8) ∷ on 0 (act.Hear 9) ∷ on 0 (act.Hear 1) ∷ on 2 (act.Hear 11) ∷ on 1 act.Stop ∷
     []) ≡ lines (
@@ -97,7 +97,7 @@ LeaverLetGoBehind = text_of (rules_with (0 ∷ 1 ∷ 2 ∷ []) 0 64 256) (
     [])
 
 abbrev pub LeaverStaysBehind : Type 0
-LeaverStaysBehind = text_of (rules_with (0 ∷ 1 ∷ 2 ∷ 3 ∷ 4 ∷ 5 ∷ 6 ∷ 7 ∷ []) 3 64 256) (
+LeaverStaysBehind = play_text_of (rules_with (0 ∷ 1 ∷ 2 ∷ 3 ∷ 4 ∷ 5 ∷ 6 ∷ 7 ∷ []) 3 64 256) (
     on 6 act.Leave ∷ on 0 (act.Hear 1) ∷ on 2 (act.Hear 2) ∷ on 3 (act.Hear 2) ∷ on 4 (act.Hear 2) ∷ on 5 (act.Hear 2) ∷ on 6 (act.Hear 2) ∷
     on 3 act.Leave ∷ on 0 (act.Hear 5) ∷ on 4 act.Leave ∷ on 0 (act.Hear 7) ∷ on 5 act.Leave ∷ on 0 (act.Hear 9) ∷ on 1 (act.Reset 1 3) ∷
     on 6 (act.Hear 11) ∷ on 0 (act.Hear 11) ∷ on 2 (act.Hear 11) ∷ on 7 (act.Hear 11) ∷ on 1 (act.Hear 13) ∷ on 1 (act.Hear 14) ∷ on 1 (act.Hear 15) ∷
@@ -197,7 +197,7 @@ LeaverStaysBehind = text_of (rules_with (0 ∷ 1 ∷ 2 ∷ 3 ∷ 4 ∷ 5 ∷ 6 �
     [])
 
 abbrev pub RaisedResilience : Type 0
-RaisedResilience = text_of (rules_with (0 ∷ 1 ∷ 2 ∷ []) 0 64 256) (
+RaisedResilience = play_text_of (rules_with (0 ∷ 1 ∷ 2 ∷ []) 0 64 256) (
     on 0 (act.Reset 1 1) ∷ on 1 (act.Hear 1) ∷ on 2 (act.Hear 1) ∷ on 0 (act.Hear 2) ∷ on 0 (act.Hear 3) ∷ on 0 act.Take ∷ on 0 act.Take ∷
     on 1 (act.Hear 4) ∷ on 0 (act.Hear 5) ∷ on 0 act.Take ∷
     []) ≡ lines (
@@ -221,7 +221,7 @@ RaisedResilience = text_of (rules_with (0 ∷ 1 ∷ 2 ∷ []) 0 64 256) (
     [])
 
 abbrev pub RaisedResilienceStays : Type 0
-RaisedResilienceStays = text_of (rules_with (0 ∷ 1 ∷ 2 ∷ []) 0 64 256) (
+RaisedResilienceStays = play_text_of (rules_with (0 ∷ 1 ∷ 2 ∷ []) 0 64 256) (
     on 0 (act.Reset 1 1) ∷ on 1 (act.Hear 1) ∷ on 2 (act.Hear 1) ∷ on 0 (act.Hear 2) ∷ on 0 (act.Hear 3) ∷ on 0 act.Take ∷ on 0 act.Take ∷
     on 1 (act.Hear 4) ∷ on 0 (act.Hear 5) ∷ on 0 act.Take ∷ on 2 (act.Hear 4) ∷ on 0 (act.Reset 1 0) ∷ on 1 (act.Hear 8) ∷ on 2 (act.Hear 8) ∷
     on 0 (act.Hear 9) ∷ on 0 (act.Hear 10) ∷ on 1 (act.Hear 11) ∷ on 0 (act.Hear 12) ∷ on 0 act.Take ∷
@@ -257,7 +257,7 @@ RaisedResilienceStays = text_of (rules_with (0 ∷ 1 ∷ 2 ∷ []) 0 64 256) (
     [])
 
 abbrev pub SequencerLeaves : Type 0
-SequencerLeaves = text_of (rules_with (0 ∷ 1 ∷ []) 0 64 256) (
+SequencerLeaves = play_text_of (rules_with (0 ∷ 1 ∷ []) 0 64 256) (
     on 0 act.Leave ∷ on 1 (act.Hear 1) ∷ on 0 (act.Hear 2) ∷ on 1 (act.Hear 3) ∷ on 0 (act.Hear 5) ∷ on 0 act.Tick ∷ on 1 (act.Hear 7) ∷
     on 0 (act.Hear 9) ∷ on 1 act.Leave ∷
     []) ≡ lines (
@@ -280,7 +280,7 @@ SequencerLeaves = text_of (rules_with (0 ∷ 1 ∷ []) 0 64 256) (
     [])
 
 abbrev pub SequencerStops : Type 0
-SequencerStops = text_of (rules_with (0 ∷ 1 ∷ 2 ∷ []) 1 64 256) (
+SequencerStops = play_text_of (rules_with (0 ∷ 1 ∷ 2 ∷ []) 1 64 256) (
     on 0 (act.Send (97 ∷ [])) ∷ on 0 act.Take ∷ on 0 act.Take ∷ on 1 (act.Hear 1) ∷ on 0 (act.Hear 2) ∷ on 0 act.Take ∷ on 0 act.Stop ∷
     on 1 (act.Reset 1 1) ∷ on 2 (act.Hear 4) ∷ on 1 (act.Hear 5) ∷ on 1 (act.GiveUp 0) ∷ on 2 (act.Hear 6) ∷ on 1 (act.Hear 7) ∷ on 2 (act.Hear 8) ∷
     on 2 (act.Hear 9) ∷ on 1 (act.Hear 10) ∷ on 2 (act.Hear 11) ∷ on 2 act.Take ∷ on 2 act.Take ∷ on 2 act.Take ∷
@@ -318,7 +318,7 @@ SequencerStops = text_of (rules_with (0 ∷ 1 ∷ 2 ∷ []) 1 64 256) (
     [])
 
 abbrev pub Tentative : Type 0
-Tentative = text_of (rules_with (0 ∷ 1 ∷ 2 ∷ []) 1 64 256) (
+Tentative = play_text_of (rules_with (0 ∷ 1 ∷ 2 ∷ []) 1 64 256) (
     on 0 (act.Send (97 ∷ [])) ∷ on 0 act.Take ∷ on 0 act.Take ∷ on 1 (act.Hear 1) ∷ on 0 (act.Hear 2) ∷ on 0 act.Take ∷ on 1 (act.Hear 3) ∷
     []) ≡ lines (
     codes "1 send 0 61 : queued 1 | 1 Bcast to 1,2" ∷
@@ -338,7 +338,7 @@ Tentative = text_of (rules_with (0 ∷ 1 ∷ 2 ∷ []) 1 64 256) (
     [])
 
 abbrev pub TooFew : Type 0
-TooFew = text_of (rules_with (0 ∷ 1 ∷ 2 ∷ []) 0 64 256) (
+TooFew = play_text_of (rules_with (0 ∷ 1 ∷ 2 ∷ []) 0 64 256) (
     on 0 act.Stop ∷ on 1 (act.Reset 3 0) ∷ on 2 (act.Hear 1) ∷ on 1 (act.Hear 2) ∷ on 1 (act.GiveUp 0) ∷ on 1 (act.Reset 2 0) ∷
     []) ≡ lines (
     codes "1 stop 0 : stopped" ∷
@@ -355,7 +355,7 @@ TooFew = text_of (rules_with (0 ∷ 1 ∷ 2 ∷ []) 0 64 256) (
     [])
 
 abbrev pub TwoCoordinators : Type 0
-TwoCoordinators = text_of (rules_with (0 ∷ 1 ∷ 2 ∷ []) 0 64 256) (
+TwoCoordinators = play_text_of (rules_with (0 ∷ 1 ∷ 2 ∷ []) 0 64 256) (
     on 1 (act.Reset 1 0) ∷ on 2 (act.Reset 1 0) ∷ on 1 (act.Hear 2) ∷ on 1 (act.Ask 2) ∷ on 2 (act.Hear 1) ∷ on 0 (act.Hear 2) ∷ on 2 (act.Hear 3) ∷
     on 2 (act.Hear 5) ∷
     []) ≡ lines (

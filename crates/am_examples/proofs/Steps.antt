@@ -6,12 +6,12 @@ use Rattle.am_packet.specs.Boxes.{Letter}
 use Rattle.am_node_defs.specs.Cores.{IsInOrder}
 use Rattle.am_model.specs.Node.{Node}
 use Rattle.am_model.specs.Step.{row, step}
-use Rattle.am_model.specs.Ends.{Does}
+use Rattle.am_model.specs.Ends.{DoesRow}
 use Rattle.am_model.proofs.Hearing.{ends_step_alike}
-use Rattle.am_examples.specs.Members.{StepsBy}
+use Rattle.am_examples.specs.Members.{StepIsOfWholeNode}
 
-pub step_of_equal_outcome : (event : NodeEvent) (old new : Node) (outcome : Outcome) (letters : List Letter) → IsInOrder old.core → Does (λ m. row m event) old outcome letters new
-    → StepsBy event old outcome letters new
+pub step_of_equal_outcome : (event : NodeEvent) (old new : Node) (outcome : Outcome) (letters : List Letter) → IsInOrder old.core → DoesRow (λ m. row m event) old outcome letters new
+    → StepIsOfWholeNode event old outcome letters new
 unfolding step
 step_of_equal_outcome event old new outcome letters order does = λ all end.
     let alike = ends_step_alike all old event end order in

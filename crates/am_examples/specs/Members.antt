@@ -19,6 +19,6 @@ abbrev pub is_read : List ℕ → Bool
 is_read bytes = is_ok (reading bytes)
 
 -- whatever node the kept one is the end of: the answer and the letters are those of its step, and what is kept then is the end of what it comes to
-abbrev pub StepsBy : NodeEvent → model.Node → Outcome → List Letter → model.Node → Type 0
-StepsBy event old outcome letters new = (all : model.Node) → IsEndOf all old
+abbrev pub StepIsOfWholeNode : NodeEvent → model.Node → Outcome → List Letter → model.Node → Type 0
+StepIsOfWholeNode event old outcome letters new = (all : model.Node) → IsEndOf all old
     → (outcome ≡ (step all event).outcome) × (letters ≡ (step all event).letters) × IsEndOf (step all event).node new

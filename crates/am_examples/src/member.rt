@@ -4,7 +4,7 @@ ghost use Rattle.std.specs.Prelude.{◌≡◌, ◌≢◌, ◌++◌, List, IfOk, 
 ghost use Rattle.am_base.specs.declared.event.NodeEvent.TheVariants as does;
 ghost use Rattle.am_model.specs.Nodes.{HasNumbersLeft};
 ghost use Rattle.am_group_defs.specs.World.{first_node};
-ghost use Rattle.am_examples.specs.Members.{kept_by, StepsBy, is_read};
+ghost use Rattle.am_examples.specs.Members.{kept_by, StepIsOfWholeNode, is_read};
 
 use am_base::NoMemory;
 use am_base::event::NodeEvent;
@@ -61,7 +61,7 @@ impl Member {
 
     /// Does one step: what the protocol's node does, whatever comes. Where it does none, nothing changes.
     pub fn step(&mut self, alloc: Global, event: &NodeEvent) -> Result<Did, Idle>
-        ensures does { IfOk result (λ did. StepsBy event.now (kept_by self.old) did.outcome
+        ensures does { IfOk result (λ did. StepIsOfWholeNode event.now (kept_by self.old) did.outcome
             did.letters (kept_by self.new)) }
         ensures same { OnErr result (kept_by self.new ≡ kept_by self.old) }
         ensures spent { IfErr result (λ idle. idle ≡ Idle.Spent
@@ -78,7 +78,7 @@ impl Member {
 
     /// Hears a datagram, whoever sent it and whatever is in it.
     pub fn hear(&mut self, alloc: Global, datagram: Items<u8>) -> Result<Did, Idle>
-        ensures { IfOk result (λ did. StepsBy (does.Hear datagram) (kept_by self.old) did.outcome
+        ensures { IfOk result (λ did. StepIsOfWholeNode (does.Hear datagram) (kept_by self.old) did.outcome
             did.letters (kept_by self.new)) }
     {
         self.step(alloc, &NodeEvent::Hear(datagram))
@@ -86,7 +86,7 @@ impl Member {
 
     /// Lets time pass.
     pub fn tick(&mut self, alloc: Global) -> Result<Did, Idle>
-        ensures { IfOk result (λ did. StepsBy does.Tick (kept_by self.old) did.outcome did.letters
+        ensures { IfOk result (λ did. StepIsOfWholeNode does.Tick (kept_by self.old) did.outcome did.letters
             (kept_by self.new)) }
     {
         self.step(alloc, &NodeEvent::Tick)

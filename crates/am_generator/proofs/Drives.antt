@@ -1,6 +1,6 @@
 -- Generated runs, event by event.
 use Rattle.am_generator.proofs.Words.{◌≡◌, ℕ, zero, suc, ◌+◌, ◌≤◌, ◌==◌, [], ◌∷◌, length, ◌&&◌, refl, ap, ◌∙◌, arith, length-append, count_by-le-length, Rules}
-use Rattle.am_generator.proofs.Words.{World, is_sent, play_after, GeneratedRun, generated_rules, sent_by, first_drive}
+use Rattle.am_generator.proofs.Words.{World, is_outcome_sent, play_after, GeneratedRun, generated_rules, sent_by, first_drive}
 use Rattle.am_generator.proofs.Words.{after_turn, drive_once, drive, events_of_seed, DrawnTurn}
 use Rattle.am_generator.proofs.Words.{◌++◌, sym, subst, Event, Choice, IsDriven, IsCalmAct, drawn, next_place, next_turn, next_event}
 use Rattle.am_shared_journal_defs.specs.declared.choice.Choice.TheVariants as choice
@@ -12,7 +12,7 @@ use Rattle.am_generator.specs.Generating.{act_at, choice_at}
 -- ---- how often a place was told that a send of its own stands in the list
 
 pub sends_by_place_le_records : (w : World) (place : ℕ) → sent_by w place ≤ length w.records
-sends_by_place_le_records w place = count_by-le-length (λ r. is_sent r.outcome && (r.event.node == place)) w.records
+sends_by_place_le_records w place = count_by-le-length (λ r. is_outcome_sent r.outcome && (r.event.node == place)) w.records
 
 -- ---- one event
 

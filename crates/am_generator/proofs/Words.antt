@@ -8,11 +8,11 @@ pub use Rattle.std.proofs.Common.{false, cond, sum_by, slice_get, subst, rules}
 pub use Rattle.std.proofs.lemmas.List.{length-take-le, get_or-take, length-append, take-append-le, drop-append-le, take-append-drop, take_all, drop_all}
 pub use Rattle.std.proofs.lemmas.List.{length-set, get_or-set_same, get_or-set_other}
 pub use mir.Val.{bool_byte}
-pub use Rattle.am_base.specs.{Founding.Rules, Founding.MayFound, Outcomes.is_sent, Names.size, Names.of_mask}
+pub use Rattle.am_base.specs.{Founding.Rules, Founding.MayFound, Outcomes.is_outcome_sent, Names.size, Names.first_lives_of_mask}
 unfoldable pub use Rattle.am_base.specs.Names.{places_by_mask}
 pub use Rattle.am_base.proofs.Greatest.{split_on_bool}
 pub use Rattle.am_packet.specs.Boxes.{Letter}
-pub use Rattle.am_group.specs.{declared.event.Event.Event, declared.event.Act.Act, Addressed.IsSeen, declared.event.Record.Record, Journals.letters_of}
+pub use Rattle.am_group.specs.{declared.event.Event.Event, declared.event.Act.Act, Addressed.IsSeen, declared.event.Record.Record, Journals.letters_of_records}
 unfoldable pub use Rattle.am_group.specs.Addressed.{next_for}
 pub use Rattle.am_group.proofs.Places.{letters_of_pushed_record}
 pub use Rattle.am_group.proofs.Seen.{letters_seen_of_append, letters_seen_up_to_number, letters_seen_without_next, next_for_le_length}
@@ -24,7 +24,7 @@ pub use Rattle.rand_pcg.specs.Lcg.{Lcg}
 pub use Rattle.am_generator.specs.{declared.generator.DrawnTurn.DrawnTurn, Counts.AreSeen, Counts.seen_after, Counts.AreSent, Counts.IsDriven}
 pub use Rattle.am_generator.specs.{Counts.Turned, Counts.Drew, Generating.drawn, Generating.next_place, Generating.next_turn, Generating.next_event}
 pub use Rattle.am_generator.specs.Courses.{IsCourse, IsCalmAct}
-pub use Rattle.am_base.specs.Most.{most_events}
+pub use Rattle.am_base.specs.Most.{most_events_of_run}
 pub use Rattle.am_generator.specs.Generating.{most_drawn, counting, GeneratedRun, generated_rules, sent_by, first_drive, turn_of, act_at, do_turn, no_progress}
 pub use Rattle.am_generator.specs.Generating.{progress_at}
 unfoldable pub use Rattle.am_generator.specs.Generating.{after_turn, drive_once, drive, events_of_seed}

@@ -1,8 +1,8 @@
 -- A run of which no records are kept.
 use Rattle.std.specs.Prelude.{◌≡◌, ℕ, ◌+◌, ◌*◌, ◌<◌, ◌≤◌, List, length, replicate, cond, Bool, false}
-use Rattle.am_base.specs.Most.{most_events}
-use Rattle.am_base.specs.Names.{place_of}
-use Rattle.am_base.specs.Outcomes.{is_took, is_sent, has_no_room}
+use Rattle.am_base.specs.Most.{most_events_of_run}
+use Rattle.am_base.specs.Names.{place_of_name}
+use Rattle.am_base.specs.Outcomes.{is_outcome_took, is_outcome_sent, is_outcome_without_room}
 use Rattle.am_base.specs.declared.event.NodeEvent.{NodeEvent}
 use Rattle.am_base.specs.declared.outcome.Outcome.{Outcome}
 use Rattle.am_packet.specs.Boxes.{Letter}
@@ -39,9 +39,9 @@ pub record CourseStands (p : Play) (places : Places) (watcher : Watcher) : Type 
 -- the counts are those of the run
 pub record Counted (p : Play) (counts : Counts) : Type 0 where
   pub events : counts.events ≡ length p.events
-  pub took : counts.took ≡ count_outcomes (replay p) is_took
-  pub sent : counts.sent ≡ count_outcomes (replay p) is_sent
-  pub held : counts.held ≡ count_outcomes (replay p) has_no_room
+  pub took : counts.took ≡ count_outcomes (replay p) is_outcome_took
+  pub sent : counts.sent ≡ count_outcomes (replay p) is_outcome_sent
+  pub held : counts.held ≡ count_outcomes (replay p) is_outcome_without_room
 
 -- which run a course is of
 pub record IsCourse (p : Play) (c : Course) : Type 0 where
@@ -73,9 +73,9 @@ bit b = cond b 1 0
 abbrev pub counts_after : Counts → Outcome → Counts
 counts_after k outcome = record {
   events = k.events + 1;
-  took = k.took + bit (is_took outcome);
-  sent = k.sent + bit (is_sent outcome);
-  held = k.held + bit (has_no_room outcome);
+  took = k.took + bit (is_outcome_took outcome);
+  sent = k.sent + bit (is_outcome_sent outcome);
+  held = k.held + bit (is_outcome_without_room outcome);
 }
 
 -- each count is below a number
@@ -88,6 +88,6 @@ pub record CountsAreBelow (most : ℕ) (k : Counts) : Type 0 where
 -- a name's node is to do a step, which is what an event of a run asks of it
 pub record Acts (p : Play) (e : Event) (c : Course) (name : ℕ) (what : NodeEvent) : Type 0 where
   pub course : IsCourse p c
-  pub few : length p.events < most_events
-  pub named : name ≡ current (replay p) (place_of e.node)
+  pub few : length p.events < most_events_of_run
+  pub named : name ≡ current (replay p) (place_of_name e.node)
   pub comes_ : happens (replay p) e ≡ comes (replay p) e (asked.Step what)

@@ -4,13 +4,13 @@ use Rattle.std.specs.Prelude.{slice_set}
 use Rattle.std.specs.List.{range_with_len}
 use Rattle.rand_pcg.specs.Lcg.{Lcg}
 use Rattle.am_base.specs.Founding.{Rules}
-use Rattle.am_base.specs.Names.{of_mask}
+use Rattle.am_base.specs.Names.{first_lives_of_mask}
 use Rattle.am_group.specs.declared.event.Act.{Act}
 use Rattle.am_group.specs.declared.event.Act.TheVariants as act
 use Rattle.am_group.specs.declared.event.Event.{Event}
 use Rattle.am_group.specs.Addressed.{next_for}
 use Rattle.am_group_defs.specs.World.{World}
-use Rattle.am_base.specs.Outcomes.{is_sent}
+use Rattle.am_base.specs.Outcomes.{is_outcome_sent}
 use Rattle.am_group_defs.specs.Settle.{event_at}
 use Rattle.am_world.specs.Runs.{Play, replay, play_after}
 use Rattle.am_shared_journal_defs.specs.Choices.{words_by_seed, draw, after_draw, Luck, choice_of, luck_after, act_of, progress_after}
@@ -21,7 +21,7 @@ use Rattle.am_shared_journal_defs.specs.declared.progress.Progress.{Progress}
 
 -- the founders of generated runs are places 0 to 3
 abbrev pub generated_rules : Rules
-generated_rules = record { founders = of_mask 15; resilience = 1; window = 16; pb_up_to = 256 }
+generated_rules = record { founders = first_lives_of_mask 15; resilience = 1; window = 16; pb_up_to = 256 }
 
 -- a run on its way: what was done, the words and the chooser from here on, and how far each place has come
 pub record GeneratedRun : Type 0 where
@@ -65,7 +65,7 @@ number_after w = length w.records + 1
 
 -- how often a place was told that a send of its own stands in the list
 abbrev pub sent_by : World → ℕ → ℕ
-sent_by w place = count_by (λ r. is_sent r.outcome && (r.event.node == place)) w.records
+sent_by w place = count_by (λ r. is_outcome_sent r.outcome && (r.event.node == place)) w.records
 
 abbrev pub progress_at : GeneratedRun → ℕ → Progress
 progress_at d place = slice_index_or d.progress place no_progress

@@ -1,7 +1,7 @@
 ghost use Rattle.std.specs.Prelude.{◌≡◌, ◌↔◌, ◌*◌, ◌<◌, ◌≤◌, [], length, false, IfOk, OnErr, Err};
 ghost use Rattle.std.specs.Option.{option_copied};
-ghost use Rattle.am_base.specs.Most.{most_events};
-ghost use Rattle.am_base.specs.Outcomes.{is_took, is_sent, has_no_room};
+ghost use Rattle.am_base.specs.Most.{most_events_of_run};
+ghost use Rattle.am_base.specs.Outcomes.{is_outcome_took, is_outcome_sent, is_outcome_without_room};
 ghost use Rattle.am_group.specs.declared.event.Act.TheVariants as acts;
 ghost use Rattle.am_group.specs.declared.event.Event.{Event};
 ghost use Rattle.am_group.specs.Addressed.{next_for};
@@ -44,20 +44,20 @@ pub struct Counts {
 }
 
 fn is_took(outcome: &Outcome) -> bool
-    ensures { result ≡ is_took outcome.now }
+    ensures { result ≡ is_outcome_took outcome.now }
 {
     matches!(outcome, Outcome::Took { .. })
 }
 
 /// Whether an outcome tells that a send stands in the list.
 pub fn is_sent(outcome: &Outcome) -> bool
-    ensures { result ≡ is_sent outcome.now }
+    ensures { result ≡ is_outcome_sent outcome.now }
 {
     matches!(outcome, Outcome::Sent { .. })
 }
 
 fn is_held(outcome: &Outcome) -> bool
-    ensures { result ≡ has_no_room outcome.now }
+    ensures { result ≡ is_outcome_without_room outcome.now }
 {
     matches!(outcome, Outcome::Held { .. })
 }
@@ -77,7 +77,7 @@ impl Counts {
 
     /// An event of this outcome was done.
     fn add(&mut self, outcome: &Outcome)
-        requires { CountsAreBelow most_events self.old }
+        requires { CountsAreBelow most_events_of_run self.old }
         ensures { self.new ≡ counts_after self.old outcome.now }
     {
         self.events += 1;
@@ -195,7 +195,7 @@ impl Course {
 
     /// The least number above another of a letter that is for this name; None exactly where there is none.
     pub fn next_for(&self, node: Name, after: u32) -> Option<u32>
-        requires { length (letters_sent self.now) ≤ 24 * most_events }
+        requires { length (letters_sent self.now) ≤ 24 * most_events_of_run }
         ensures { result ≡ next_for (letters_sent self.now) node after }
     {
         let letters = self.places.letters();
@@ -231,7 +231,7 @@ impl Course {
         requires calm { IsCalmAct event.act }
         ensures ok { (p : Play) → IsCourse p self.old → IfOk result (λ outcome.
             IsCourse (play_after p event) self.new × EventIsAnswered p event outcome) }
-        ensures spent { (result ≡ Err WorldRefusal.Spent) ↔ (events_done self.old ≡ most_events) }
+        ensures spent { (result ≡ Err WorldRefusal.Spent) ↔ (events_done self.old ≡ most_events_of_run) }
         ensures err { (p : Play) → IsCourse p self.old → OnErr result (IsCourse p self.new) }
     {
         if self.counts.events as usize == MOST_EVENTS {

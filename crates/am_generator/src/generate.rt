@@ -1,5 +1,5 @@
 ghost use Rattle.std.specs.Prelude.{◌≡◌, ◌<◌, IfOk, IfErr};
-ghost use Rattle.am_base.specs.Most.{most_events};
+ghost use Rattle.am_base.specs.Most.{most_events_of_run};
 ghost use Rattle.am_generator.specs.Generating.{generated_rules, events_of_seed};
 ghost use Rattle.am_generator.specs.Courses.{IsCourse};
 ghost use Rattle.am_world.specs.declared.world.WorldRefusal.TheVariants as refusals;
@@ -29,7 +29,7 @@ pub fn founding() -> Founding
 /// than 100,000.
 pub fn generate(alloc: Global, seed: u64, count: u32) -> Result<Course, WorldRefusal>
     ensures course { IfOk result (IsCourse (record { rules = generated_rules; events = events_of_seed seed count })) }
-    ensures spent { IfErr result (λ refusal. refusal ≡ refusals.Spent → most_events < count) }
+    ensures spent { IfErr result (λ refusal. refusal ≡ refusals.Spent → most_events_of_run < count) }
 {
     let mut generator = Generator::new(alloc, seed)?;
     for _done in 0..count {
@@ -43,7 +43,7 @@ pub fn generate(alloc: Global, seed: u64, count: u32) -> Result<Course, WorldRef
 /// `generate`.
 pub fn generate_events(alloc: Global, seed: u64, count: u32) -> Result<Items<Event>, WorldRefusal>
     ensures events { IfOk result (λ events. events ≡ events_of_seed seed count) }
-    ensures spent { IfErr result (λ refusal. refusal ≡ refusals.Spent → most_events < count) }
+    ensures spent { IfErr result (λ refusal. refusal ≡ refusals.Spent → most_events_of_run < count) }
 {
     let mut generator = Generator::new(alloc, seed)?;
     let mut events = Items::new(alloc);

@@ -1,5 +1,5 @@
 ghost use Rattle.std.specs.Prelude.{◌≡◌, ◌+◌, ◌<◌, ◌≤◌, length, IfOk};
-ghost use Rattle.am_base.specs.Most.{most_events};
+ghost use Rattle.am_base.specs.Most.{most_events_of_run};
 ghost use Rattle.am_shared_journal_defs.specs.Choices.{draw, after_draw};
 ghost use Rattle.am_generator.specs.Counts.{seen_after};
 ghost use Rattle.am_generator.specs.Generating.{most_drawn, turn_of, counting};
@@ -60,7 +60,7 @@ fn draw(words: &mut Lcg64Xsh32, bound: u32) -> u32
 
 /// A body whose bytes count on from a number.
 fn counting(alloc: Global, number: usize, size: usize) -> Result<SentBody, NoMemory>
-    requires number { number ≤ most_events + 1 }
+    requires number { number ≤ most_events_of_run + 1 }
     requires size { size ≤ most_drawn }
     ensures { IfOk result (λ body. body ≡ counting number size) }
 {
@@ -127,7 +127,7 @@ impl Generator {
         requires place { place < 4 }
         requires driven { (d : GeneratedRun) × IsDriven d self.now }
         ensures value { (d : GeneratedRun) → IsDriven d self.now → result ≡ sent_by (replay d.play) place }
-        ensures few { result ≤ most_events }
+        ensures few { result ≤ most_events_of_run }
     {
         self.sent[usize::from(place)]
     }
@@ -206,7 +206,7 @@ impl Generator {
         ensures ok { (d : GeneratedRun) → IsDriven d self.old
             → OnOk result (IsDriven (record d { play = play_after d.play event }) self.new) }
         ensures spent { (d : GeneratedRun) → IsDriven d self.old → IfErr result (λ refusal. refusal
-            ≡ refusals.Spent → length d.play.events ≡ most_events) }
+            ≡ refusals.Spent → length d.play.events ≡ most_events_of_run) }
     {
         let place = event.node.get();
         let sent = self.sent_by(place);

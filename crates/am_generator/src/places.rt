@@ -27,9 +27,9 @@ pub struct Places {
 
 impl Places {
     ghost use Rattle.std.specs.Prelude.{◌≡◌, ◌+◌, ◌<◌, ◌≤◌, ◌++◌, Some, max, length, slice_get, vec_len, vec_capacity, IfOk, OnErr};
-    ghost use Rattle.am_base.specs.Most.{most_events};
+    ghost use Rattle.am_base.specs.Most.{most_events_of_run};
     ghost use Rattle.am_base.specs.Founding.{MayFound};
-    ghost use Rattle.am_base.specs.Names.{place_of};
+    ghost use Rattle.am_base.specs.Names.{place_of_name};
     ghost use Rattle.am_world.specs.Moves.{IsReadyAt};
     ghost use Rattle.am_generator.specs.Places.{PlaceMoves, StaysAs, ArePlacesAtStart};
 
@@ -67,7 +67,7 @@ impl Places {
     /// The node of a name's place.
     pub fn node(&self, name: Name) -> &Node
         requires { length self.now.nodes.items ≡ 16 }
-        ensures { slice_get self.now.nodes.items (place_of name) ≡ Some result.now }
+        ensures { slice_get self.now.nodes.items (place_of_name name) ≡ Some result.now }
     {
         &self.nodes[usize::from(name.place())]
     }
@@ -75,9 +75,9 @@ impl Places {
     /// The node of a name's place does a step, behind so many events. Where there is no memory for it all stays as it was.
     pub fn act(&mut self, name: Name, what: &NodeEvent, events: usize) -> Result<Outcome, NoMemory>
         requires places { length self.old.nodes.items ≡ 16 }
-        requires few { events < most_events }
-        requires ready { IsReadyAt self.old.nodes.items (place_of name) what.now (length self.old.group.items) (max (events + 2) (length self.old.group.items)) }
-        ensures moves { IfOk result (PlaceMoves self.old self.new (place_of name) what.now) }
+        requires few { events < most_events_of_run }
+        requires ready { IsReadyAt self.old.nodes.items (place_of_name name) what.now (length self.old.group.items) (max (events + 2) (length self.old.group.items)) }
+        ensures moves { IfOk result (PlaceMoves self.old self.new (place_of_name name) what.now) }
         ensures err { OnErr result (StaysAs self.old self.new) }
     {
         make_room(&mut self.group, events + 2)?;

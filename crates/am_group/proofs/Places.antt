@@ -2,7 +2,7 @@
 use Rattle.std.proofs.Common.{◌≡◌, ℕ, zero, suc, ◌+◌, ◌<◌, List, [], ◌∷◌, ◌++◌, length, Some, slice_get, refl, ap, ◌∙◌, arith, append-nil}
 use Rattle.std.proofs.lemmas.List.Concat.{flat_map-append}
 use Rattle.am_group.specs.declared.event.Record.{Record}
-use Rattle.am_group.specs.Journals.{letters_of}
+use Rattle.am_group.specs.Journals.{letters_of_records}
 
 -- what is read below the length, and past it
 pub slice_get_of_append_front : {A : Type 0} (xs ys : List A) (k : ℕ) → k < length xs → slice_get (xs ++ ys) k ≡ slice_get xs k
@@ -20,5 +20,5 @@ slice_get_some_below_length (y ∷ ys) zero x h = omega arith
 slice_get_some_below_length (y ∷ ys) (suc k) x h = let l = slice_get_some_below_length ys k x h in omega arith
 
 -- the letters of one record more
-pub letters_of_pushed_record : (records : List Record) (r : Record) → letters_of (records ++ r ∷ []) ≡ letters_of records ++ r.packets
-letters_of_pushed_record records r = flat_map-append (λ (x : Record). x.packets) records (r ∷ []) ∙ ap (λ ls. letters_of records ++ ls) (append-nil r.packets)
+pub letters_of_pushed_record : (records : List Record) (r : Record) → letters_of_records (records ++ r ∷ []) ≡ letters_of_records records ++ r.packets
+letters_of_pushed_record records r = flat_map-append (λ (x : Record). x.packets) records (r ∷ []) ∙ ap (λ ls. letters_of_records records ++ ls) (append-nil r.packets)

@@ -1,11 +1,11 @@
 -- For whom a letter is.
 use Rattle.std.specs.Prelude.{◌≡◌, ℕ, ◌+◌, ◌≤◌, List, [], ◌∷◌, length, take, drop, Option, Some, None, Bool, nat_lt, if◌then◌else◌, slice_index}
-use Rattle.am_base.specs.Names.{place_of, has}
+use Rattle.am_base.specs.Names.{place_of_name, has}
 use Rattle.am_packet.specs.Boxes.{Letter}
 
 -- a letter is for the names in its set, or for every life of their places
 abbrev pub is_for : Letter → ℕ → Bool
-is_for letter name = if letter.any then nat_lt 0 (slice_index letter.to (place_of name)) else has letter.to name
+is_for letter name = if letter.any then nat_lt 0 (slice_index letter.to (place_of_name name)) else has letter.to name
 
 -- the number of the first letter that is for a name, where the letters are numbered from one on
 abbrev pub first_for : List Letter → ℕ → ℕ → Option ℕ

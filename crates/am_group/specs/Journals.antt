@@ -13,12 +13,12 @@ abbrev pub no_caller : By
 no_caller = record { caller = 0; call = 0; part = Call }
 
 -- the record of an event that no caller did
-abbrev pub the_record : Event → ℕ → Outcome → List Letter → Record
-the_record e life outcome letters = record { event = e; life = life; by = no_caller; outcome = outcome; packets = letters }
+abbrev pub record_without_caller : Event → ℕ → Outcome → List Letter → Record
+record_without_caller e life outcome letters = record { event = e; life = life; by = no_caller; outcome = outcome; packets = letters }
 
 -- all letters that the records sent, in order
-abbrev pub letters_of : List Record → List Letter
-letters_of records = flat_map (λ r. r.packets) records
+abbrev pub letters_of_records : List Record → List Letter
+letters_of_records records = flat_map (λ r. r.packets) records
 
 -- an item by its number, from 1
 abbrev pub item_at : {A : Type 0} → List A → ℕ → Option A

@@ -6,7 +6,7 @@ use Rattle.am_base.specs.declared.entry.Entry.{Entry}
 use Rattle.am_base.specs.Founding.{Rules}
 use Rattle.am_group.specs.declared.event.Event.{Event}
 use Rattle.am_model.specs.Node.{Node, view}
-use Rattle.am_group_defs.specs.World.{World, start, group_after, with_record, with_step, happens, happen, run}
+use Rattle.am_group_defs.specs.World.{World, start, list_after_step, world_with_record, world_with_step, happens, world_after_events, run}
 use Rattle.am_group_defs.specs.Claims.{WorldBegins}
 use Rattle.am_base.proofs.Greatest.{split_on_bool}
 use Rattle.am_group_defs.proofs.Events.{holds_after_event}
@@ -24,11 +24,11 @@ longer xs ys zs h k = (h.0 ++ k.0, k.1 ∙ ap (λ l. l ++ k.0) h.1 ∙ append_as
 
 -- ---- one event
 
-group_longer : (group : List Entry) (m : Node) → Longer group (group_after group m)
+group_longer : (group : List Entry) (m : Node) → Longer group (list_after_step group m)
 group_longer group m = split_on_bool ((view m).by == m.core.who) (λ t. rw t (_, refl)) (λ f. rw f (same group))
 
 pub world_begins_after_event : (w : World) (e : Event) → WorldBegins w (happens w e)
-unfolding with_record with_step
+unfolding world_with_record world_with_step
 world_begins_after_event w e = holds_after_event WorldBegins w e (record {
   as_it_was = λ e o. record { records = (_, refl); letters = same w.letters; group = same w.group };
   a_step = λ e name s. record { records = (_, refl); letters = (_, refl); group = group_longer w.group s.node };
@@ -48,14 +48,14 @@ begins_then u v w h k = record {
   group = longer u.group v.group w.group h.group k.group;
 }
 
-pub world_begins_after_events : (w : World) (es : List Event) → WorldBegins w (happen w es)
-unfolding happen
+pub world_begins_after_events : (w : World) (es : List Event) → WorldBegins w (world_after_events w es)
+unfolding world_after_events
 world_begins_after_events w [] = begins_same w
 world_begins_after_events w (e ∷ es) = begins_then w (happens w e) _ (world_begins_after_event w e) (world_begins_after_events (happens w e) es)
 
 -- a run up to some event begins the run
 pub run_begins_longer_run : (rules : Rules) (events : List Event) (k : ℕ) → WorldBegins (run rules (take k events)) (run rules events)
 run_begins_longer_run rules events k =
-    let whole : happen (start rules) events ≡ happen (run rules (take k events)) (drop k events) = ap (happen (start rules)) (sym (take-append-drop k events))
+    let whole : world_after_events (start rules) events ≡ world_after_events (run rules (take k events)) (drop k events) = ap (world_after_events (start rules)) (sym (take-append-drop k events))
     ∙ runs_go_on (start rules) (take k events) (drop k events) in
     rw whole (world_begins_after_events (run rules (take k events)) (drop k events))

@@ -8,8 +8,8 @@ use Rattle.am_base.specs.declared.entry.Entry.TheVariants.{Data, Join, View}
 use Rattle.am_base.specs.declared.outcome.Outcome.{Outcome}
 use Rattle.am_base.specs.declared.outcome.Outcome.TheVariants as said
 use Rattle.am_base.specs.Names.{has, size}
-use Rattle.am_base.specs.Lists.{members_at, requests_of}
-use Rattle.am_base.specs.Stamps.{stamp_lt}
+use Rattle.am_base.specs.Lists.{log_members_at, requests_of_sender}
+use Rattle.am_base.specs.Stamps.{stamp_is_less}
 use Rattle.am_base.specs.Founding.{Rules, MayFound}
 use Rattle.am_packet.specs.Kinds.{kind_of}
 use Rattle.am_packet.specs.Boxes.{Letter}
@@ -20,8 +20,8 @@ use Rattle.am_group.specs.declared.event.Record.{Record}
 use Rattle.am_model.specs.Node.{Node, top, view}
 use Rattle.am_group_defs.specs.World.{Decided, World, happens, run}
 use Rattle.am_group.specs.Journals.{letter_at, item_at}
-use Rattle.am_group.specs.Deliveries.{name_of, deliveries}
-use Rattle.am_group_defs.specs.Group.{Accepted, accepted_sends}
+use Rattle.am_group.specs.Deliveries.{acting_name_of_record, deliveries}
+use Rattle.am_group_defs.specs.Group.{AcceptedSend, accepted_sends}
 use Rattle.am_group_defs.specs.AbstractGroup.{EventMoves, group_of}
 use Rattle.am_group_defs.specs.Lawful.{whole, is_view_of, is_complete, lawful_front}
 use Rattle.am_model.specs.Receiving.{is_view}
@@ -29,27 +29,27 @@ use Rattle.am_model.specs.Receiving.{is_view}
 -- ---- segment: what a name is given is a gapless piece of the group list
 
 -- the packet that an act hears
-abbrev pub heard_by : Act → ℕ
-heard_by (act.Hear number) = number
-heard_by (act.Cut number keep) = number
-heard_by _ = 0
+abbrev pub packet_heard_by_act : Act → ℕ
+packet_heard_by_act (act.Hear number) = number
+packet_heard_by_act (act.Cut number keep) = number
+packet_heard_by_act _ = 0
 
 abbrev pub is_welcome : Option Letter → Bool
 is_welcome None = false
 is_welcome (Some letter) = kind_of letter.packet == 10
 
-abbrev pub welcomed_in : Outcome → List ℕ
-welcomed_in (said.Welcomed number) = number ∷ []
-welcomed_in _ = []
+abbrev pub welcome_number_of_outcome : Outcome → List ℕ
+welcome_number_of_outcome (said.Welcomed number) = number ∷ []
+welcome_number_of_outcome _ = []
 
 -- the numbers with which a name was welcomed
-abbrev pub welcomes : World → ℕ → List ℕ
-welcomes w name = flat_map (λ r. if (name_of r == name) && is_welcome (letter_at w.letters (heard_by r.event.act)) then welcomed_in r.outcome else []) w.records
+abbrev pub welcome_numbers_of : World → ℕ → List ℕ
+welcome_numbers_of w name = flat_map (λ r. if (acting_name_of_record r == name) && is_welcome (letter_at w.letters (packet_heard_by_act r.event.act)) then welcome_number_of_outcome r.outcome else []) w.records
 
 -- a founder begins at 1; a joiner where it was welcomed, once, which is its Join
 pub record BeginsAt (rules : Rules) (w : World) (name s : ℕ) : Type 0 where
   pub founder : has rules.founders name ≡ true → s ≡ 1
-  pub joiner : has rules.founders name ≡ false → (welcomes w name ≡ s ∷ []) × (item_at w.group s ≡ Some (Join name))
+  pub joiner : has rules.founders name ≡ false → (welcome_numbers_of w name ≡ s ∷ []) × (item_at w.group s ≡ Some (Join name))
 
 -- the deliveries are the list's entries from a number on, without a gap
 abbrev pub IsSegment : List (ℕ × Entry) → ℕ → List Entry → Type 0
@@ -66,7 +66,7 @@ pub record StandsOnce (list : List Entry) (name req number : ℕ) : Type 0 where
   pub only : (k : ℕ) (body : List ℕ) → item_at list k ≡ Some (Data name req body) → k ≡ number
 
 pub record Once (w : World) : Type 0 where
-  pub each : (k : ℕ) (s : Accepted) → slice_get (accepted_sends w.records) k ≡ Some s → StandsOnce w.group s.name s.req s.number
+  pub each : (k : ℕ) (s : AcceptedSend) → slice_get (accepted_sends w.records) k ≡ Some s → StandsOnce w.group s.name s.req s.number
 
 -- ---- kept: a complete view keeps what was given out before it
 
@@ -91,7 +91,7 @@ BecameComplete rules events v = (k : ℕ) × Contains (run rules (take k events)
 pub record KeepsView (rules : Rules) (events : List Event) (v : Decided) : Type 0 where
   -- an entry that a node took while its view was below v stands in the line of v, below its View
   pub taken : (k number : ℕ) (e : Entry) (r : Record) → slice_get (run rules events).records k ≡ Some r → r.outcome ≡ said.Took number e
-      → stamp_lt (view ((run rules (take k events)).nodes (name_of r))) v.stamp ≡ true
+      → stamp_is_less (view ((run rules (take k events)).nodes (acting_name_of_record r))) v.stamp ≡ true
       → (number < v.number) × (item_at (line_of (run rules events) v.stamp) number ≡ Some e)
   -- up to its View the group list is the line of v
   pub group : (number : ℕ) (e : Entry) → number ≤ v.number → item_at (run rules events).group number ≡ Some e
@@ -103,7 +103,7 @@ pub record Kept (rules : Rules) (events : List Event) : Type 0 where
 -- ---- sent: each Data was sent by its sender
 
 pub record IsSend (r : Record) (name req : ℕ) (body : List ℕ) : Type 0 where
-  pub by : name_of r ≡ name
+  pub by : acting_name_of_record r ≡ name
   pub asked : r.event.act ≡ act.Send body
   pub answered : r.outcome ≡ said.Queued req
 
@@ -116,7 +116,7 @@ pub record Sent (rules : Rules) (events : List Event) : Type 0 where
 
 -- the requests 1, 2, 3 and so on
 pub record SendersOrder (w : World) : Type 0 where
-  pub each : (name : ℕ) → requests_of name w.group ≡ range_with_len 1 (length (requests_of name w.group))
+  pub each : (name : ℕ) → requests_of_sender name w.group ≡ range_with_len 1 (length (requests_of_sender name w.group))
 
 -- ---- bounded: how much a node keeps
 
@@ -160,8 +160,8 @@ pub record HoldsUnballoted (rules : Rules) (events : List Event) : Type 0 where
   pub senders_order : SendersOrder (run rules events)
   pub bounded : Bounded rules events
 
-abbrev pub UnballotedHolds : Type 0
-UnballotedHolds = (rules : Rules) (events : List Event) → MayFound rules → NoBallot (run rules events) → HoldsUnballoted rules events
+abbrev pub RunsWithoutBallotHold : Type 0
+RunsWithoutBallotHold = (rules : Rules) (events : List Event) → MayFound rules → NoBallot (run rules events) → HoldsUnballoted rules events
 
 -- what an event makes of a run: its record, and moves of the group by that record
 pub record MovesOn (w v : World) : Type 0 where
@@ -176,7 +176,7 @@ UnballotedMoves = (rules : Rules) (events : List Event) (e : Event) → MayFound
 -- ---- up to where a run is lawful a View that leaves somebody out always fits
 
 pub record FitsView (rules : Rules) (m : Node) : Type 0 where
-  pub each : (number : ℕ) → m.core.base < number → number ≤ top m → number - m.core.base ≤ rules.window + 16 - size (members_at m.core.log number)
+  pub each : (number : ℕ) → m.core.base < number → number ≤ top m → number - m.core.base ≤ rules.window + 16 - size (log_members_at m.core.log number)
 
 abbrev pub ViewsFit : Type 0
 ViewsFit = (rules : Rules) (events : List Event) (name : ℕ) → MayFound rules → FitsView rules ((run rules (lawful_front rules events)).nodes name)

@@ -2,12 +2,12 @@
 use Rattle.std.specs.Prelude.{◌≡◌, List, ◌++◌, length, None}
 use Rattle.am_base.specs.Founding.{Rules}
 use Rattle.am_group.specs.declared.event.Event.{Event}
-use Rattle.am_group_defs.specs.World.{World, happen, run}
+use Rattle.am_group_defs.specs.World.{World, world_after_events, run}
 use Rattle.am_group_defs.specs.Lawful.{watch_run, broken_at, lawful_front}
 
 -- events in turn, and then more of them
 abbrev pub RunsGoOn : Type 0
-RunsGoOn = (w : World) (xs ys : List Event) → happen w (xs ++ ys) ≡ happen (happen w xs) ys
+RunsGoOn = (w : World) (xs ys : List Event) → world_after_events w (xs ++ ys) ≡ world_after_events (world_after_events w xs) ys
 
 -- watching a run changes nothing of it
 abbrev pub WatchedIsRun : Type 0

@@ -4,7 +4,7 @@ use Rattle.std.specs.Prelude.{decimal, slice_index}
 use Rattle.std.specs.List.{flat_map, list_all}
 use Rattle.std.specs.Fmt.{digit_glyph}
 use Rattle.am_base.specs.Founding.{Rules}
-use Rattle.am_base.specs.Names.{place_of, life_of, names_of, size}
+use Rattle.am_base.specs.Names.{place_of_name, life_of_name, names_of, size}
 use Rattle.am_base.specs.declared.name.Stamp.{Stamp}
 use Rattle.am_base.specs.declared.entry.Entry.{Entry}
 use Rattle.am_base.specs.declared.entry.Entry.TheVariants as entries
@@ -24,7 +24,7 @@ newline = 10 ∷ []
 
 -- a name: its place, and a life other than the first behind a slash
 unfoldable pub name_text : ℕ → List ℕ
-name_text name = if life_of name == 1 then decimal (place_of name) else decimal (place_of name) ++ (codes "/" ++ decimal (life_of name))
+name_text name = if life_of_name name == 1 then decimal (place_of_name name) else decimal (place_of_name name) ++ (codes "/" ++ decimal (life_of_name name))
 
 -- a stamp: its round and its name, with a dot between them
 unfoldable pub stamp_text : Stamp → List ℕ
@@ -199,7 +199,7 @@ act_parts rules acts.Return = []
 
 -- an event: its act's word, the place of its node, and the rest
 unfoldable pub event_text : Rules → Event → List ℕ
-event_text rules event = act_word event.act ++ (codes " " ++ (decimal (place_of event.node) ++ act_parts rules event.act))
+event_text rules event = act_word event.act ++ (codes " " ++ (decimal (place_of_name event.node) ++ act_parts rules event.act))
 
 -- the name of a packet's kind
 unfoldable pub kind_word : Packet → List ℕ
@@ -226,7 +226,7 @@ letters_text place number (letter ∷ letters) = letter_text place number letter
 unfoldable pub record_line : Rules → ℕ → ℕ → Record → List ℕ
 record_line rules number before happened = decimal number ++ (codes " "
     ++ (event_text rules happened.event ++ (codes " : " ++ (outcome_text rules happened.outcome
-    ++ (letters_text (place_of happened.event.node) (before + 1) happened.packets ++ newline)))))
+    ++ (letters_text (place_of_name happened.event.node) (before + 1) happened.packets ++ newline)))))
 
 -- the lines of events, the first of which has this number
 abbrev pub lines_from : Rules → ℕ → ℕ → List Record → List ℕ

@@ -6,8 +6,8 @@ use Rattle.am_base.specs.declared.entry.GroupView.{GroupView}
 use Rattle.am_base.specs.declared.entry.Entry.{Entry}
 use Rattle.am_base.specs.declared.outcome.Outcome.{Outcome}
 use Rattle.am_base.specs.declared.outcome.Outcome.TheVariants as said
-use Rattle.am_base.specs.Names.{place_of, name_at, has}
-use Rattle.am_base.specs.Stamps.{stamp_eq}
+use Rattle.am_base.specs.Names.{place_of_name, name_of_place_and_life, has}
+use Rattle.am_base.specs.Stamps.{stamps_are_equal}
 use Rattle.am_base.specs.Founding.{Rules}
 use Rattle.am_packet.specs.declared.packet.Packet.{Packet}
 use Rattle.am_packet.specs.Boxes.{Letter}
@@ -18,12 +18,12 @@ use Rattle.am_group.specs.declared.event.Act.TheVariants as act
 use Rattle.am_group.specs.declared.event.Event.{Event}
 use Rattle.am_group.specs.declared.event.Record.{Record}
 use Rattle.am_node_defs.specs.Cores.{CoreState}
-use Rattle.am_group.specs.Journals.{letter_at, the_record}
+use Rattle.am_group.specs.Journals.{letter_at, record_without_caller}
 pub use Rattle.am_group.specs.Journals.{no_caller}
 use Rattle.am_group.specs.Addressed.{is_for}
-use Rattle.am_model.specs.Node.{Node, is_member, has_departed, image_of, view, members, set_at, founder, stranger, founding_view, founders_entry}
-use Rattle.am_model.specs.Emit.{Step}
-use Rattle.am_model.specs.Step.{step, hear, hear_refusal}
+use Rattle.am_model.specs.Node.{Node, is_member, has_departed, image_of_node, view, members, map_with_value, founder, stranger_node, founding_view, founders_entry}
+use Rattle.am_model.specs.Emit.{StepResult}
+use Rattle.am_model.specs.Step.{step, hear_packet, hear_refused_bytes}
 use Rattle.am_model.specs.Lengths.{packet_length}
 
 -- a view that was decided: its number, and what its View says
@@ -47,7 +47,7 @@ pub record World : Type 0 where
 
 -- the founders are members, and every other name is a stranger that no one has seen
 abbrev pub first_node : Rules → ℕ → Node
-first_node rules name = if has rules.founders name then founder rules name else stranger rules name
+first_node rules name = if has rules.founders name then founder rules name else stranger_node rules name
 
 abbrev pub founders_decided : Rules → Decided
 founders_decided rules = record { number = 1; view = founding_view rules }
@@ -67,7 +67,7 @@ start rules = record {
 
 -- the current name of a place
 abbrev pub current : World → ℕ → ℕ
-current w place = name_at place (w.lives place)
+current w place = name_of_place_and_life place (w.lives place)
 
 -- a name has stopped by a Stop, or because its place has a greater life
 abbrev pub is_stopped : World → ℕ → Bool
@@ -76,120 +76,120 @@ is_stopped w name = list_any (λ x. x == name) w.stopped
 -- ---- the group list
 
 -- the list, with what a node has accepted beyond it
-abbrev pub group_with : List Entry → CoreState → List Entry
-group_with group core = group ++ take (core.acc - length group) (drop (length group - core.log.start) core.log.entries)
+abbrev pub list_with_accepted : List Entry → CoreState → List Entry
+list_with_accepted group core = group ++ take (core.acc - length group) (drop (length group - core.log.start) core.log.entries)
 
 -- only a node in a view of its own adds to it
-abbrev pub group_after : List Entry → Node → List Entry
-group_after group m = if (view m).by == m.core.who then group_with group m.core else group
+abbrev pub list_after_step : List Entry → Node → List Entry
+list_after_step group m = if (view m).by == m.core.who then list_with_accepted group m.core else group
 
 -- ---- decided views
 
 -- the view in which a node's list ends, as its View says it
-abbrev pub last_view : Node → Decided
-last_view n = record {
-  number = (image_of n).view_number;
-  view = record { stamp = view n; members = members n; resilience = (image_of n).resilience };
+abbrev pub last_view_of : Node → Decided
+last_view_of n = record {
+  number = (image_of_node n).view_number;
+  view = record { stamp = view n; members = members n; resilience = (image_of_node n).resilience };
 }
 
 -- a member's step decided a view where it brought a View of the member's own stamp; an Ask about it later brings none
-abbrev pub decides : Node → Node → Bool
-decides m n = is_member m.status && (((view n).by == n.core.who) && not (stamp_eq (view m) (view n)))
+abbrev pub step_decides_view : Node → Node → Bool
+step_decides_view m n = is_member m.status && (((view n).by == n.core.who) && not (stamps_are_equal (view m) (view n)))
 
 abbrev pub views_after : List Decided → Node → Node → List Decided
-views_after views m n = if decides m n then views ++ last_view n ∷ [] else views
+views_after views m n = if step_decides_view m n then views ++ last_view_of n ∷ [] else views
 
 -- ---- events
 
 -- what came of an event, done by the current life of its place
 abbrev pub record_of : World → Event → Outcome → List Letter → Record
-record_of w e outcome letters = the_record e (w.lives (place_of e.node)) outcome letters
+record_of w e outcome letters = record_without_caller e (w.lives (place_of_name e.node)) outcome letters
 
 -- an event that changes no node
-unfoldable pub with_record : World → Event → Outcome → World
-with_record w e outcome = record w { records = w.records ++ record_of w e outcome [] ∷ [] }
+unfoldable pub world_with_record : World → Event → Outcome → World
+world_with_record w e outcome = record w { records = w.records ++ record_of w e outcome [] ∷ [] }
 
 -- a name's step
-unfoldable pub with_step : World → Event → ℕ → Step → World
-with_step w e name s = record w {
-  nodes = set_at w.nodes name s.node;
+unfoldable pub world_with_step : World → Event → ℕ → StepResult → World
+world_with_step w e name s = record w {
+  nodes = map_with_value w.nodes name s.node;
   letters = w.letters ++ s.letters;
   records = w.records ++ record_of w e s.outcome s.letters ∷ [];
-  group = group_after w.group s.node;
+  group = list_after_step w.group s.node;
   views = views_after w.views (w.nodes name) s.node;
 }
 
 -- a node's own event, which a stopped one doesn't do
-abbrev pub does_event : World → Event → ℕ → NodeEvent → World
-does_event w e name event = if is_stopped w name then with_record w e said.IsStopped else with_step w e name (step (w.nodes name) event)
+abbrev pub world_after_node_event : World → Event → ℕ → NodeEvent → World
+world_after_node_event w e name event = if is_stopped w name then world_with_record w e said.IsStopped else world_with_step w e name (step (w.nodes name) event)
 
 -- only a stopped name is given up
-abbrev pub gives_up : World → Event → ℕ → ℕ → World
-gives_up w e name other =
-    if is_stopped w name then with_record w e said.IsStopped
-    else if is_stopped w other then with_step w e name (step (w.nodes name) (does.GiveUp other))
-    else with_record w e said.NotStopped
+abbrev pub world_after_give_up : World → Event → ℕ → ℕ → World
+world_after_give_up w e name other =
+    if is_stopped w name then world_with_record w e said.IsStopped
+    else if is_stopped w other then world_with_step w e name (step (w.nodes name) (does.GiveUp other))
+    else world_with_record w e said.NotStopped
 
-abbrev pub stops : World → Event → ℕ → World
-stops w e name =
-    if is_stopped w name then with_record w e said.IsStopped
-    else with_record (record w { stopped = w.stopped ++ name ∷ [] }) e said.Stopped
+abbrev pub world_after_stop : World → Event → ℕ → World
+world_after_stop w e name =
+    if is_stopped w name then world_with_record w e said.IsStopped
+    else world_with_record (record w { stopped = w.stopped ++ name ∷ [] }) e said.Stopped
 
 -- hearing a letter, by a step
-abbrev pub hears_letter : World → Event → ℕ → (Packet → Step) → Option Letter → World
-hears_letter w e name hearing None = with_record w e said.NoPacket
-hears_letter w e name hearing (Some letter) =
-    if not (is_for letter name) then with_record w e said.NotAddressed
-    else if is_stopped w name then with_record w e said.IsStopped
-    else with_step w e name (hearing letter.packet)
+abbrev pub world_after_hearing : World → Event → ℕ → (Packet → StepResult) → Option Letter → World
+world_after_hearing w e name hearing None = world_with_record w e said.NoPacket
+world_after_hearing w e name hearing (Some letter) =
+    if not (is_for letter name) then world_with_record w e said.NotAddressed
+    else if is_stopped w name then world_with_record w e said.IsStopped
+    else world_with_step w e name (hearing letter.packet)
 
 -- the first bytes of a packet: too few for a header, or fewer than its length says, are refused
-abbrev pub hear_cut : Node → ℕ → Packet → Step
+abbrev pub hear_cut : Node → ℕ → Packet → StepResult
 hear_cut m keep packet =
-    if nat_le (packet_length packet) keep then hear m packet
-    else if nat_lt keep 12 then hear_refusal m 1
-    else hear_refusal m 5
+    if nat_le (packet_length packet) keep then hear_packet m packet
+    else if nat_lt keep 12 then hear_refused_bytes m 1
+    else hear_refused_bytes m 5
 
 -- the next life of a place begins, and the name before it has stopped
-abbrev pub lives_on : World → ℕ → World
-lives_on w place = record w {
-  lives = set_at w.lives place (w.lives place + 1);
+abbrev pub world_with_next_life : World → ℕ → World
+world_with_next_life w place = record w {
+  lives = map_with_value w.lives place (w.lives place + 1);
   stopped = if is_stopped w (current w place) then w.stopped else w.stopped ++ current w place ∷ [];
 }
 
 -- a place returns where its name has gone or stopped, sixteen lives at most
-abbrev pub comes_back : World → Event → ℕ → World
-comes_back w e place =
-    if not (is_stopped w (current w place) || has_departed (w.nodes (current w place)).status) then with_record w e (said.Running (w.lives place))
-    else if w.lives place == 16 then with_record w e said.NoLife
-    else lives_on (with_record w e (said.Returned (w.lives place + 1))) place
+abbrev pub world_after_return : World → Event → ℕ → World
+world_after_return w e place =
+    if not (is_stopped w (current w place) || has_departed (w.nodes (current w place)).status) then world_with_record w e (said.Running (w.lives place))
+    else if w.lives place == 16 then world_with_record w e said.NoLife
+    else world_with_next_life (world_with_record w e (said.Returned (w.lives place + 1))) place
 
 -- an act of a place's current name
-abbrev pub acts_as : World → Event → ℕ → Act → World
-acts_as w e name (act.Send body) = does_event w e name (does.Send body)
-acts_as w e name (act.Done req) = does_event w e name (does.Done req)
-acts_as w e name act.Take = does_event w e name does.Take
-acts_as w e name act.Join = does_event w e name does.Join
-acts_as w e name act.State = does_event w e name does.State
-acts_as w e name act.Leave = does_event w e name does.Leave
-acts_as w e name (act.Reset least resilience) = does_event w e name (does.Reset least resilience)
-acts_as w e name (act.Ask round) = does_event w e name (does.Ask round)
-acts_as w e name (act.GiveUp other) = gives_up w e name other
-acts_as w e name act.Stop = stops w e name
-acts_as w e name act.Tick = does_event w e name does.Tick
-acts_as w e name (act.Hear number) = hears_letter w e name (hear (w.nodes name)) (letter_at w.letters number)
-acts_as w e name (act.Cut number keep) = hears_letter w e name (hear_cut (w.nodes name) keep) (letter_at w.letters number)
-acts_as w e name act.Return = comes_back w e (place_of name)
+abbrev pub world_after_act : World → Event → ℕ → Act → World
+world_after_act w e name (act.Send body) = world_after_node_event w e name (does.Send body)
+world_after_act w e name (act.Done req) = world_after_node_event w e name (does.Done req)
+world_after_act w e name act.Take = world_after_node_event w e name does.Take
+world_after_act w e name act.Join = world_after_node_event w e name does.Join
+world_after_act w e name act.State = world_after_node_event w e name does.State
+world_after_act w e name act.Leave = world_after_node_event w e name does.Leave
+world_after_act w e name (act.Reset least resilience) = world_after_node_event w e name (does.Reset least resilience)
+world_after_act w e name (act.Ask round) = world_after_node_event w e name (does.Ask round)
+world_after_act w e name (act.GiveUp other) = world_after_give_up w e name other
+world_after_act w e name act.Stop = world_after_stop w e name
+world_after_act w e name act.Tick = world_after_node_event w e name does.Tick
+world_after_act w e name (act.Hear number) = world_after_hearing w e name (hear_packet (w.nodes name)) (letter_at w.letters number)
+world_after_act w e name (act.Cut number keep) = world_after_hearing w e name (hear_cut (w.nodes name) keep) (letter_at w.letters number)
+world_after_act w e name act.Return = world_after_return w e (place_of_name name)
 
 -- what an event makes of a world
 unfoldable pub happens : World → Event → World
-happens w e = acts_as w e (current w (place_of e.node)) e.act
+happens w e = world_after_act w e (current w (place_of_name e.node)) e.act
 
 -- what events in turn make of it
-unfoldable pub happen : World → List Event → World
-happen w [] = w
-happen w (e ∷ es) = happen (happens w e) es
+unfoldable pub world_after_events : World → List Event → World
+world_after_events w [] = w
+world_after_events w (e ∷ es) = world_after_events (happens w e) es
 
 -- the run of these events
 abbrev pub run : Rules → List Event → World
-run rules events = happen (start rules) events
+run rules events = world_after_events (start rules) events

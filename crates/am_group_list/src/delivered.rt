@@ -1,5 +1,5 @@
 ghost use Rattle.std.specs.Prelude.{◌≡◌, ◌++◌, IfOk, OnOk};
-ghost use Rattle.am_group.specs.Deliveries.{given_to, deliveries};
+ghost use Rattle.am_group.specs.Deliveries.{entries_given_to, deliveries};
 
 use am_base::NoMemory;
 use am_base::entry::Entry;
@@ -10,7 +10,7 @@ use std::alloc::Global;
 
 /// Adds the entry that a record gave to a name's application, if it gave one.
 fn put_given(item: &Record, node: Name, given: &mut Vec<(u32, Entry)>) -> Result<(), NoMemory>
-    ensures { OnOk result (given.new.items ≡ given.old.items ++ given_to node item.now) }
+    ensures { OnOk result (given.new.items ≡ given.old.items ++ entries_given_to node item.now) }
 {
     if let Some((number, entry)) = given_to(item, node) {
         given.push((number, entry.to_entry()))?;

@@ -1,7 +1,7 @@
 ghost use Rattle.std.specs.Prelude.{◌≡◌, ◌+◌, ◌-◌, ◌<◌, ◌≤◌, [], ◌∷◌, length, OnOk, OnErr, IsOk, IfOk, is_ok, if◌then◌else◌, Some, None, option_map};
-ghost use Rattle.am_base.specs.Most.{most_number};
+ghost use Rattle.am_base.specs.Most.{greatest_number};
 ghost use Rattle.am_base.specs.Names.{has};
-ghost use Rattle.am_group.specs.Groups.{list_with, with_admitted, after_take, next_of, founders_view, founders_fronts, stamp_for};
+ghost use Rattle.am_group.specs.Groups.{list_with, fronts_with_admitted, fronts_after_take, next_entry_of_standing, founders_view, founders_fronts, founding_view_stamp};
 
 use am_base::NoMemory;
 use am_base::entry::{Entry, GroupView};
@@ -31,7 +31,7 @@ impl Model for Group {
 
 /// The stamp of the founders' view, which the lowest of them begins.
 fn stamp_for(lowest: Option<Name>) -> Stamp
-    ensures { result ≡ stamp_for lowest }
+    ensures { result ≡ founding_view_stamp lowest }
 {
     match lowest {
         Some(by) => Stamp { round: 1, by },
@@ -103,7 +103,7 @@ impl Group {
 
     /// Adds an entry at the end of the list. It is Ok where there is room. Without memory the group stays as it was.
     pub fn append(&mut self, entry: Entry) -> Result<(), NoMemory>
-        requires { length self.old.entries < most_number }
+        requires { length self.old.entries < greatest_number }
         ensures entries { self.new.entries
             ≡ (if is_ok result then list_with self.old.entries entry else self.old.entries) }
         ensures fronts { self.new.fronts ≡ self.old.fronts }
@@ -120,7 +120,7 @@ impl Group {
         requires least { 0 < number }
         requires most { number ≤ length self.old.entries + 1 }
         ensures entries { self.new.entries ≡ self.old.entries }
-        ensures fronts { self.new.fronts ≡ with_admitted self.old.fronts name number }
+        ensures fronts { self.new.fronts ≡ fronts_with_admitted self.old.fronts name number }
         ensures room { self.new.room ≡ self.old.room }
     {
         self.fronts[usize::from(name.get())] = Some(number - 1);
@@ -129,7 +129,7 @@ impl Group {
     /// What a name takes next: the entry above its front, with its number; None exactly at the list's end, or where the
     /// name wasn't admitted.
     pub fn next(&self, name: Name) -> Option<(u32, &Entry)>
-        ensures { option_map (λ next. (next.0, next.1.now)) result ≡ next_of self.now name }
+        ensures { option_map (λ next. (next.0, next.1.now)) result ≡ next_entry_of_standing self.now name }
     {
         let front = self.fronts[usize::from(name.get())]?;
         let entry = self.entries.get(front as usize)?;
@@ -139,9 +139,9 @@ impl Group {
     /// Takes the next entry of a name, with its number: the name's front moves on by one. None, and nothing changes,
     /// exactly at the list's end, or where the name wasn't admitted.
     pub fn take(&mut self, name: Name) -> Option<(u32, Entry)>
-        ensures value { result ≡ next_of self.old name }
+        ensures value { result ≡ next_entry_of_standing self.old name }
         ensures entries { self.new.entries ≡ self.old.entries }
-        ensures fronts { self.new.fronts ≡ after_take self.old.fronts name (next_of self.old name) }
+        ensures fronts { self.new.fronts ≡ fronts_after_take self.old.fronts name (next_entry_of_standing self.old name) }
         ensures room { self.new.room ≡ self.old.room }
     {
         let (number, entry) = self.next(name)?;

@@ -4,7 +4,7 @@ use Rattle.am_base.specs.declared.outcome.Outcome.{Outcome}
 use Rattle.am_base.specs.declared.outcome.Outcome.TheVariants as said
 use Rattle.am_base.specs.declared.event.NodeEvent.{NodeEvent}
 use Rattle.am_base.specs.declared.event.NodeEvent.TheVariants as does
-use Rattle.am_base.specs.Names.{life_of}
+use Rattle.am_base.specs.Names.{life_of_name}
 use Rattle.am_packet.specs.Boxes.{Letter}
 use Rattle.am_packet.specs.Limits.{IsPacket}
 use Rattle.am_packet.specs.Spelling.{spelling}
@@ -69,7 +69,7 @@ event_or_answer letters flags departed name act.Stop = Answer (stops_node (flag_
 event_or_answer letters flags departed name act.Tick = if_running (flag_of flags name) does.Tick
 event_or_answer letters flags departed name (act.Hear number) = hears None name (flag_of flags name) (letter_at letters number)
 event_or_answer letters flags departed name (act.Cut number keep) = hears (Some keep) name (flag_of flags name) (letter_at letters number)
-event_or_answer letters flags departed name act.Return = Answer (returns (flag_of flags name || departed) (life_of name))
+event_or_answer letters flags departed name act.Return = Answer (returns (flag_of flags name || departed) (life_of_name name))
 
 -- the packet that an act hears, and how many of its first bytes
 abbrev pub heard_of : Act → Option Heard

@@ -1,11 +1,11 @@
 -- Where each letter of a journal stands, and what contracts see of a journal.
 use Rattle.std.specs.Prelude.{◌≡◌, ℕ, ◌+◌, ◌*◌, ◌<◌, ◌≤◌, List, length, map, Option, Some, None, slice_get, Bool, ◌&&◌, nat_lt, nat_le}
 use Rattle.std.specs.List.{range_with_len}
-use Rattle.am_base.specs.Most.{most_events}
+use Rattle.am_base.specs.Most.{most_events_of_run}
 use Rattle.am_base.specs.Founding.{Rules}
 use Rattle.am_packet.specs.Boxes.{Letter}
 use Rattle.am_group.specs.declared.event.Record.{Record}
-use Rattle.am_group.specs.Journals.{letters_of}
+use Rattle.am_group.specs.Journals.{letters_of_records}
 use Rattle.am_journal.specs.declared.journal.Place.{Place}
 
 -- the letter of a record by its index
@@ -15,11 +15,11 @@ letter_of (Some r) index = slice_get r.packets index
 
 -- each letter stands at its place
 pub record ArePlaces (records : List Record) (places : List Place) : Type 0 where
-  pub count : length places ≡ length (letters_of records)
+  pub count : length places ≡ length (letters_of_records records)
   pub each : (k : ℕ) (p : Place) → slice_get places k ≡ Some p → (p.number < length records)
-      × (letter_of (slice_get records p.number) p.index ≡ slice_get (letters_of records) k)
+      × (letter_of (slice_get records p.number) p.index ≡ slice_get (letters_of_records records) k)
   pub few : length places ≤ 24 * length records
-  pub short : length records ≤ most_events
+  pub short : length records ≤ most_events_of_run
 
 -- the places of a record's letters
 abbrev pub letter_places : ℕ → ℕ → List Place

@@ -1,5 +1,5 @@
 ghost use Rattle.std.specs.Prelude.{◌≡◌, ◌<◌};
-ghost use Rattle.am_group.specs.Journals.{letters_of};
+ghost use Rattle.am_group.specs.Journals.{letters_of_records};
 ghost use Rattle.am_group.specs.Addressed.{is_for, next_for};
 
 use crate::journal::Journal;
@@ -19,7 +19,7 @@ pub fn is_for(letter: &Letter, name: Name) -> bool
 impl Journal {
     /// The least number above another of a letter that is for this name; None exactly where there is none.
     pub fn next_for(&self, node: Name, after: u32) -> Option<u32>
-        ensures { result ≡ next_for (letters_of self.now.records) node after }
+        ensures { result ≡ next_for (letters_of_records self.now.records) node after }
     {
         for number in after..self.packets() {
             match self.packet(number + 1) {

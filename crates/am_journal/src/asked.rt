@@ -1,6 +1,6 @@
 ghost use Rattle.std.specs.Prelude.{◌≡◌, ◌||◌, ℕ, List, [], Some, None, IfOk, length, take};
 ghost use Rattle.am_base.specs.declared.event.NodeEvent.TheVariants as does;
-ghost use Rattle.am_base.specs.Names.{life_of};
+ghost use Rattle.am_base.specs.Names.{life_of_name};
 ghost use Rattle.am_journal.specs.Asked as asks;
 ghost use Rattle.am_journal.specs.Asked.{flag_of, if_running, first_bytes, heard_of};
 
@@ -117,7 +117,7 @@ fn stops(stopped: bool) -> Outcome
 }
 
 fn returns(is_gone: bool, name: Name) -> Outcome
-    ensures { result ≡ asks.returns is_gone (life_of name) }
+    ensures { result ≡ asks.returns is_gone (life_of_name name) }
 {
     let life = name.life();
     if !is_gone {

@@ -1,6 +1,6 @@
 ghost use Rattle.std.specs.Prelude.{◌≡◌, ◌==◌};
 ghost use Rattle.std.specs.Option.{option_to_list};
-ghost use Rattle.am_group.specs.Deliveries.{name_of, given_to};
+ghost use Rattle.am_group.specs.Deliveries.{acting_name_of_record, entries_given_to};
 
 use am_base::entry::EntryRef;
 use am_base::name::Name;
@@ -9,7 +9,7 @@ use am_group::event::Record;
 
 /// Whether a record is of this name: of its place and its life.
 fn is_of(item: &Record, node: Name) -> bool
-    ensures { result ≡ (name_of item.now == node) }
+    ensures { result ≡ (acting_name_of_record item.now == node) }
 {
     let life = u32::from(item.life);
     u32::from(item.event.node.place()) + 16 * life.saturating_sub(1) == u32::from(node.get())
@@ -17,7 +17,7 @@ fn is_of(item: &Record, node: Name) -> bool
 
 /// The entry that a record gave to a name's application, with its number; None exactly where it gave it none.
 pub fn given_to(item: &Record, node: Name) -> Option<(u32, EntryRef<'_>)>
-    ensures { option_to_list result ≡ given_to node item.now }
+    ensures { option_to_list result ≡ entries_given_to node item.now }
 {
     if !is_of(item, node) {
         return None;

@@ -1,7 +1,7 @@
 ghost use Rattle.std.specs.Prelude.{◌≡◌, ◌+◌, ◌*◌, ◌<◌, ◌≤◌, ◌++◌, ◌∷◌, [], length, OnOk, IfOk, true, vec_len, vec_capacity, slice_get};
 ghost use Rattle.std.specs.Option.{option_copied};
-ghost use Rattle.am_base.specs.Most.{most_events};
-ghost use Rattle.am_group.specs.Journals.{letters_of, letter_at, item_at, the_record};
+ghost use Rattle.am_base.specs.Most.{most_events_of_run};
+ghost use Rattle.am_group.specs.Journals.{letters_of_records, letter_at, item_at, record_without_caller};
 ghost use Rattle.am_journal.specs.Places.{letter_of, letter_places};
 
 use am_base::NoMemory;
@@ -87,8 +87,8 @@ impl Journal {
     /// The records in order: at most 100,000, each with at most 24 letters.
     pub fn records(&self) -> &[Record]
         ensures value { result.now ≡ self.now.records }
-        ensures few { length (letters_of result.now) ≤ 24 * length result.now }
-        ensures short { length result.now ≤ most_events }
+        ensures few { length (letters_of_records result.now) ≤ 24 * length result.now }
+        ensures short { length result.now ≤ most_events_of_run }
     {
         self.records.as_slice()
     }
@@ -122,7 +122,7 @@ impl Journal {
         life: u8,
         outcome: Outcome,
     ) -> Result<Record, NoMemory>
-        ensures value { IfOk result (λ r. r ≡ the_record event.now life outcome []) }
+        ensures value { IfOk result (λ r. r ≡ record_without_caller event.now life outcome []) }
         ensures room { OnOk result (self.new.has_room ≡ true) }
         ensures founding { self.new.founding ≡ self.old.founding }
         ensures records { self.new.records ≡ self.old.records }
@@ -135,7 +135,7 @@ impl Journal {
     #[inline(always)]
     pub fn push(&mut self, item: Record)
         requires room { self.old.has_room ≡ true }
-        requires few { length self.old.records < most_events }
+        requires few { length self.old.records < most_events_of_run }
         requires letters { length item.packets ≤ 24 }
         ensures founding { self.new.founding ≡ self.old.founding }
         ensures records { self.new.records ≡ self.old.records ++ item ∷ [] }
@@ -148,14 +148,14 @@ impl Journal {
 
     /// How many letters the records sent.
     pub fn packets(&self) -> u32
-        ensures { result ≡ length (letters_of self.now.records) }
+        ensures { result ≡ length (letters_of_records self.now.records) }
     {
         self.places.len() as u32
     }
 
     /// A letter by its number, from 1; None exactly where there is none.
     pub fn packet(&self, number: u32) -> Option<&Letter>
-        ensures { option_copied result ≡ letter_at (letters_of self.now.records) number }
+        ensures { option_copied result ≡ letter_at (letters_of_records self.now.records) number }
     {
         match place_at(self.places.as_slice(), number) {
             Some(place) => letter_in(self.records.as_slice(), place),
@@ -166,7 +166,7 @@ impl Journal {
 
 /// The record of an event that no caller did, of which this outcome and these letters came.
 pub fn record_of(event: Event, life: u8, outcome: Outcome, packets: Items<Letter>) -> Record
-    ensures { result ≡ the_record event life outcome packets }
+    ensures { result ≡ record_without_caller event life outcome packets }
 {
     Record {
         event,

@@ -1,7 +1,7 @@
 -- The end of an event: where it is looked for a greater complete view, and where nothing changed that views ask for.
 use Rattle.am_lawful_defs.proofs.Words.{◌≡◌, ℕ, ◌+◌, Bool, true, false, ◌&&◌, if◌then◌else◌, List, [], ◌∷◌, length, map, filter, Option, Some, None, refl, sym, ap}
-use Rattle.am_lawful_defs.proofs.Words.{◌∙◌, subst, Entry, stamp_lt, Decided, World, Watch, split_on_bool, DecidedView, Pending, Watching, standing, greater, watch_greatest}
-use Rattle.am_lawful_defs.proofs.Words.{is_above, end_event, look, pass, decided_of, comes_after, Each, WatchSees, IsNoted, WatchesUpTo, watch_after}
+use Rattle.am_lawful_defs.proofs.Words.{◌∙◌, subst, Entry, stamp_is_less, Decided, World, Watch, split_on_bool, DecidedView, Pending, Watching, standing, greater_if_complete, watch_greatest}
+use Rattle.am_lawful_defs.proofs.Words.{comes_after_view, end_event, look_for_complete_view, pass_event, decided_of_view, comes_after, HoldsOfEach, WatchSees, IsNoted, WatchesUpTo, watch_after}
 use Rattle.am_group_defs.specs.Lawful as law
 use Rattle.am_lawful_defs.specs.Watching as kept
 use Rattle.am_lawful_defs.proofs.Folds.{StampIsUpTo, PendingIsLeftIncomplete, stamp_is_up_to_itself, greatest_view_is_not_lower, each_with_weaker_property, each_of_filtered_passes, map_of_filtered_list, each_pending_left_is_incomplete, greatest_kept_is_of_world, greatest_of_views_above}
@@ -11,9 +11,9 @@ use Rattle.am_lawful_defs.proofs.Complete.{each_pending_is_kept_complete, kept_i
 -- what is kept when an event is almost over
 pub record LookMayFollowWorld (group : List Entry) (k : Watching) (s : Watch) (w : World) : Type 0 where
   pub sees : WatchSees k w group
-  pub noted : Each (IsNoted w group) k.pending
-  pub pending : map (λ v. decided_of v.decided) k.pending ≡ filter (comes_after s.complete.stamp) w.views
-  pub complete : decided_of k.complete ≡ s.complete
+  pub noted : HoldsOfEach (IsNoted w group) k.pending
+  pub pending : map (λ v. decided_of_view v.decided) k.pending ≡ filter (comes_after s.complete.stamp) w.views
+  pub complete : decided_of_view k.complete ≡ s.complete
   pub count : k.count ≡ s.count
   pub broken : k.broken ≡ s.broken
 
@@ -30,20 +30,20 @@ sees_as k l w group same names stopped h = record {
 }
 
 best_is : (group : List Entry) (k : Watching) (s : Watch) (w : World) → LookMayFollowWorld group k s w
-    → decided_of (watch_greatest k k.complete k.pending) ≡ law.greatest_complete w s.complete w.views
+    → decided_of_view (watch_greatest k k.complete k.pending) ≡ law.greatest_complete w s.complete w.views
 best_is group k s w r =
     greatest_kept_is_of_world k w k.complete k.pending (each_pending_is_kept_complete k w group k.pending r.sees r.noted)
-    ∙ ap (law.greatest_complete w (decided_of k.complete)) r.pending
+    ∙ ap (law.greatest_complete w (decided_of_view k.complete)) r.pending
     ∙ ap (λ best. law.greatest_complete w best (filter (comes_after s.complete.stamp) w.views)) r.complete
     ∙ greatest_of_views_above w s.complete.stamp s.complete w.views (stamp_is_up_to_itself s.complete.stamp)
 
 -- ---- whether it broke
 
 broken_cases : (k : Watching) (w : World) (v : DecidedView) (count : ℕ) (broken : Option ℕ) → k.count ≡ count
-    → kept.watch_is_lawful k v ≡ law.is_lawful w (decided_of v) → kept.watch_broken_now k v broken ≡ law.broken_now w (decided_of v) (count + 1) broken
+    → kept.watch_is_lawful k v ≡ law.is_lawful w (decided_of_view v) → kept.watch_broken_now k v broken ≡ law.broken_now w (decided_of_view v) (count + 1) broken
 broken_cases k w v count (Some at) h g = refl
 broken_cases k w v count None h g = ap (λ b. if b then None else Some (k.count + 1)) g
-    ∙ ap (λ c. if law.is_lawful w (decided_of v) then None else Some (c + 1)) h
+    ∙ ap (λ c. if law.is_lawful w (decided_of_view v) then None else Some (c + 1)) h
 
 some_none : {G : Type 0} (n : ℕ) → Some n ≡ None → G
 some_none n h = absurd (cc)
@@ -57,29 +57,29 @@ lawful_cases k v None h = split_on_bool (kept.watch_is_lawful k v)
 -- ---- looked
 
 left_over : (group : List Entry) (k : Watching) (s : Watch) (w : World) → LookMayFollowWorld group k s w
-    → let best = watch_greatest k k.complete k.pending in map (λ v. decided_of v.decided) (filter (is_above best.view.stamp) k.pending)
+    → let best = watch_greatest k k.complete k.pending in map (λ v. decided_of_view v.decided) (filter (comes_after_view best.view.stamp) k.pending)
     ≡ filter (comes_after (law.greatest_complete w s.complete w.views).stamp) w.views
 left_over group k s w r =
     let best = watch_greatest k k.complete k.pending in
     let up : StampIsUpTo s.complete.stamp best.view.stamp = subst (λ (v : Decided). StampIsUpTo v.stamp best.view.stamp) r.complete
     (greatest_view_is_not_lower k k.complete k.pending) in
-    map_of_filtered_list (λ (v : Pending). decided_of v.decided) (comes_after best.view.stamp) k.pending
+    map_of_filtered_list (λ (v : Pending). decided_of_view v.decided) (comes_after best.view.stamp) k.pending
     ∙ ap (filter (comes_after best.view.stamp)) r.pending
     ∙ views_above_twice_filtered s.complete.stamp best.view.stamp w.views up
     ∙ ap (λ (v : Decided). filter (comes_after v.stamp) w.views) (best_is group k s w r)
 
-pub look_follows_world : (group : List Entry) (k : Watching) (s : Watch) (w : World) → LookMayFollowWorld group k s w → WatchesUpTo group (look k) (watch_after s w)
-unfolding look kept.watch_is_complete kept.watch_is_lawful
+pub look_follows_world : (group : List Entry) (k : Watching) (s : Watch) (w : World) → LookMayFollowWorld group k s w → WatchesUpTo group (look_for_complete_view k) (watch_after s w)
+unfolding look_for_complete_view kept.watch_is_complete kept.watch_is_lawful
 look_follows_world group k s w r =
     let best = watch_greatest k k.complete k.pending in
     let is = best_is group k s w r in
     record {
-      sees = sees_as k (look k) w group (λ name. refl) refl refl r.sees;
+      sees = sees_as k (look_for_complete_view k) w group (λ name. refl) refl refl r.sees;
       due = refl;
-      noted = each_with_weaker_property _ (IsNoted w group) (λ v h. h.0) _ (each_of_filtered_passes (IsNoted w group) (is_above best.view.stamp) k.pending r.noted);
+      noted = each_with_weaker_property _ (IsNoted w group) (λ v h. h.0) _ (each_of_filtered_passes (IsNoted w group) (comes_after_view best.view.stamp) k.pending r.noted);
       pending = left_over group k s w r;
       rest = each_with_weaker_property _ (λ v. kept.watch_is_complete (end_event k best) v ≡ false) (λ v h. refl
-          ∙ h.0.waits h.1) _ (each_of_filtered_passes (PendingIsLeftIncomplete k best.view.stamp) (is_above best.view.stamp) k.pending (each_pending_left_is_incomplete k k.complete k.pending));
+          ∙ h.0.waits h.1) _ (each_of_filtered_passes (PendingIsLeftIncomplete k best.view.stamp) (comes_after_view best.view.stamp) k.pending (each_pending_left_is_incomplete k k.complete k.pending));
       complete = is;
       count = ap (λ c. c + 1) r.count;
       broken = ap (kept.watch_broken_now k best) r.broken ∙ broken_cases k w best s.count s.broken r.count (kept_is_lawful_of_world k w group best r.sees)
@@ -89,11 +89,11 @@ look_follows_world group k s w r =
 
 -- ---- passed
 
-stays : (k : Watching) (best : DecidedView) (vs : List Pending) → Each (λ v. kept.watch_is_complete k v ≡ false) vs → watch_greatest k best vs ≡ best
-unfolding watch_greatest Each
+stays : (k : Watching) (best : DecidedView) (vs : List Pending) → HoldsOfEach (λ v. kept.watch_is_complete k v ≡ false) vs → watch_greatest k best vs ≡ best
+unfolding watch_greatest HoldsOfEach
 stays k best [] h = refl
 stays k best (v ∷ vs) (h, hs) =
-    let e : greater k best v ≡ best = either (stamp_lt best.view.stamp v.decided.view.stamp) (kept.watch_is_complete k v) v.decided best h in
+    let e : greater_if_complete k best v ≡ best = either (stamp_is_less best.view.stamp v.decided.view.stamp) (kept.watch_is_complete k v) v.decided best h in
     ap (λ b. watch_greatest k b vs) e ∙ stays k best vs hs
   where
     either : (a b : Bool) (x y : DecidedView) → b ≡ false → (if a && b then x else y) ≡ y
@@ -105,18 +105,18 @@ unbroken w v count (Some at) h = refl
 unbroken w v count None h = let t = h refl in rw t refl
 
 pub pass_follows_unchanged_world : (group : List Entry) (k : Watching) (s : Watch) (w : World) → LookMayFollowWorld group k s w → k.is_due ≡ false
-    → Each (λ v. kept.watch_is_complete k v ≡ false) k.pending → (k.broken ≡ None → kept.watch_is_lawful k k.complete ≡ true) → WatchesUpTo group (pass k) (watch_after s w)
+    → HoldsOfEach (λ v. kept.watch_is_complete k v ≡ false) k.pending → (k.broken ≡ None → kept.watch_is_lawful k k.complete ≡ true) → WatchesUpTo group (pass_event k) (watch_after s w)
 unfolding kept.watch_is_complete kept.watch_is_lawful
 pass_follows_unchanged_world group k s w r due rest lawful =
-    let is : decided_of k.complete ≡ law.greatest_complete w s.complete w.views = ap decided_of (sym (stays k k.complete k.pending rest))
+    let is : decided_of_view k.complete ≡ law.greatest_complete w s.complete w.views = ap decided_of_view (sym (stays k k.complete k.pending rest))
     ∙ best_is group k s w r in
     let same : s.complete ≡ law.greatest_complete w s.complete w.views = sym r.complete ∙ is in
     record {
-      sees = sees_as k (pass k) w group (λ name. refl) refl refl r.sees;
+      sees = sees_as k (pass_event k) w group (λ name. refl) refl refl r.sees;
       due = due;
       noted = r.noted;
       pending = r.pending ∙ ap (λ (v : Decided). filter (comes_after v.stamp) w.views) same;
-      rest = each_with_weaker_property (λ v. kept.watch_is_complete k v ≡ false) (λ v. kept.watch_is_complete (pass k) v ≡ false) (λ v h. refl ∙ h) k.pending rest;
+      rest = each_with_weaker_property (λ v. kept.watch_is_complete k v ≡ false) (λ v. kept.watch_is_complete (pass_event k) v ≡ false) (λ v h. refl ∙ h) k.pending rest;
       complete = is;
       count = ap (λ c. c + 1) r.count;
       broken = r.broken ∙ unbroken w (law.greatest_complete w s.complete w.views) (s.count + 1) s.broken (λ h. ap (law.is_lawful w) (sym is)

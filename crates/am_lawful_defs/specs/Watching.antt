@@ -8,7 +8,7 @@ use Rattle.am_base.specs.declared.name.Stamp.{Stamp}
 use Rattle.am_base.specs.declared.entry.Entry.{Entry}
 use Rattle.am_base.specs.declared.entry.Entry.TheVariants.{Data, Join, Leave, View}
 use Rattle.am_base.specs.Names.{has, size, names_of}
-use Rattle.am_base.specs.Stamps.{stamp_lt, stamp_eq, no_stamp}
+use Rattle.am_base.specs.Stamps.{stamp_is_less, stamps_are_equal, no_stamp}
 use Rattle.am_base.specs.Founding.{Rules}
 use Rattle.am_model.specs.declared.status.Status.TheVariants.{Stranger, Member}
 use Rattle.am_model.specs.Node.{is_member, founding_stamp, founding_view, has_departed}
@@ -41,16 +41,16 @@ watch_has_stopped k name = list_any (λ other. other == name) k.stopped
 -- ---- complete
 
 -- a number that may be there is at most this one
-abbrev pub is_by : Option ℕ → ℕ → Bool
-is_by None from = false
-is_by (Some number) from = nat_le number from
+abbrev pub is_there_and_at_most : Option ℕ → ℕ → Bool
+is_there_and_at_most None from = false
+is_there_and_at_most (Some number) from = nat_le number from
 
 -- the View stands in the group list where the name's list began, or in what it stored since
 abbrev pub watch_has_stored : Watching → Pending → ℕ → Bool
-watch_has_stored k v name = is_by v.number_in_group (standing k name).from || slice_index_or v.stored name false
+watch_has_stored k v name = is_there_and_at_most v.number_in_group (standing k name).from || slice_index_or v.stored name false
 
 abbrev pub watch_lags : Watching → Stamp → ℕ → Bool
-watch_lags k v name = not (watch_has_stopped k name) && (not (has_departed (standing k name).status) && stamp_lt (standing k name).view v)
+watch_lags k v name = not (watch_has_stopped k name) && (not (has_departed (standing k name).status) && stamp_is_less (standing k name).view v)
 
 unfoldable pub watch_is_complete : Watching → Pending → Bool
 watch_is_complete k v =
@@ -58,12 +58,12 @@ watch_is_complete k v =
     && not (list_any (watch_lags k v.decided.view.stamp) (names_of v.decided.view.members))
 
 -- the greater of a view and of another that is complete
-abbrev pub greater : Watching → DecidedView → Pending → DecidedView
-greater k best v = if stamp_lt best.view.stamp v.decided.view.stamp && watch_is_complete k v then v.decided else best
+abbrev pub greater_if_complete : Watching → DecidedView → Pending → DecidedView
+greater_if_complete k best v = if stamp_is_less best.view.stamp v.decided.view.stamp && watch_is_complete k v then v.decided else best
 
 unfoldable pub watch_greatest : Watching → DecidedView → List Pending → DecidedView
 watch_greatest k best [] = best
-watch_greatest k best (v ∷ vs) = watch_greatest k (greater k best v) vs
+watch_greatest k best (v ∷ vs) = watch_greatest k (greater_if_complete k best v) vs
 
 -- ---- lawful
 
@@ -81,13 +81,13 @@ watch_broken_now k best None = if watch_is_lawful k best then None else Some (k.
 -- ---- after an event
 
 -- it comes after another view
-abbrev pub is_above : Stamp → Pending → Bool
-is_above stamp v = stamp_lt stamp v.decided.view.stamp
+abbrev pub comes_after_view : Stamp → Pending → Bool
+comes_after_view stamp v = stamp_is_less stamp v.decided.view.stamp
 
 -- an event is over, and this is the greatest complete view
 abbrev pub end_event : Watching → DecidedView → Watching
 end_event k best = record k {
-  pending = filter (is_above best.view.stamp) k.pending;
+  pending = filter (comes_after_view best.view.stamp) k.pending;
   is_due = false;
   complete = best;
   count = k.count + 1;
@@ -96,22 +96,22 @@ end_event k best = record k {
 }
 
 -- an event is over after which a view may have become complete, or somebody was lost
-unfoldable pub look : Watching → Watching
-look k = end_event k (watch_greatest k k.complete k.pending)
+unfoldable pub look_for_complete_view : Watching → Watching
+look_for_complete_view k = end_event k (watch_greatest k k.complete k.pending)
 
 -- one that changes nothing of that
-abbrev pub pass : Watching → Watching
-pass k = record k { count = k.count + 1 }
+abbrev pub pass_event : Watching → Watching
+pass_event k = record k { count = k.count + 1 }
 
 -- a name stops
-abbrev pub stop : Watching → ℕ → Watching
-stop k name = look (record k { stopped = k.stopped ++ name ∷ [] })
+abbrev pub note_stop : Watching → ℕ → Watching
+note_stop k name = look_for_complete_view (record k { stopped = k.stopped ++ name ∷ [] })
 
 -- ---- a name's step
 
 -- a member decided a view in this step: it stored a View of its own stamp
 abbrev pub watch_decides : NameStanding → ℕ → NameStanding → Bool
-watch_decides before name after = is_member before.status && ((after.view.by == name) && not (stamp_eq before.view after.view))
+watch_decides before name after = is_member before.status && ((after.view.by == name) && not (stamps_are_equal before.view after.view))
 
 -- a view that nobody has stored
 abbrev pub new_pending : DecidedView → Pending
@@ -119,14 +119,14 @@ new_pending v = record { decided = v; stored = replicate 256 false; number_in_gr
 
 -- the view that the name decided, if it did
 abbrev pub decided_views : Watching → ℕ → NameStanding → DecidedView → List Pending
-decided_views k name after v = if watch_decides (standing k name) name after && stamp_lt k.complete.view.stamp v.view.stamp then new_pending v ∷ [] else []
+decided_views k name after v = if watch_decides (standing k name) name after && stamp_is_less k.complete.view.stamp v.view.stamp then new_pending v ∷ [] else []
 
-abbrev pub with_decided : Watching → ℕ → NameStanding → DecidedView → Watching
-with_decided k name after v = record k { pending = k.pending ++ decided_views k name after v }
+abbrev pub watching_with_decided : Watching → ℕ → NameStanding → DecidedView → Watching
+watching_with_decided k name after v = record k { pending = k.pending ++ decided_views k name after v }
 
 -- the name stored the View of this stamp
 abbrev pub store_view : ℕ → Stamp → Pending → Pending
-store_view name stamp v = if stamp_eq stamp v.decided.view.stamp then record v { stored = slice_set v.stored name true } else v
+store_view name stamp v = if stamps_are_equal stamp v.decided.view.stamp then record v { stored = slice_set v.stored name true } else v
 
 -- the name stored an entry
 abbrev pub note_entry : ℕ → Entry → List Pending → List Pending
@@ -150,72 +150,72 @@ entry_is_view (View v) = true
 abbrev pub watch_with_entry : Watching → ℕ → Entry → Watching
 watch_with_entry k name e = record k { pending = note_entry name e k.pending; is_due = k.is_due || entry_is_view e }
 
-abbrev pub with_entries : Watching → ℕ → List Entry → Watching
-with_entries k name entries = record k { pending = note_entries name entries k.pending; is_due = k.is_due || list_any entry_is_view entries }
+abbrev pub watching_with_entries : Watching → ℕ → List Entry → Watching
+watching_with_entries k name entries = record k { pending = note_entries name entries k.pending; is_due = k.is_due || list_any entry_is_view entries }
 
 -- the two are alike in what views ask for
-abbrev pub same_flag : Bool → Bool → Bool
-same_flag true b = b
-same_flag false b = not b
+abbrev pub flags_are_equal : Bool → Bool → Bool
+flags_are_equal true b = b
+flags_are_equal false b = not b
 
-abbrev pub is_alike : NameStanding → NameStanding → Bool
-is_alike before after = stamp_eq before.view after.view && (same_flag (has_departed before.status) (has_departed after.status)
+abbrev pub standings_are_alike : NameStanding → NameStanding → Bool
+standings_are_alike before after = stamps_are_equal before.view after.view && (flags_are_equal (has_departed before.status) (has_departed after.status)
     && ((before.from == after.from) && (before.start == after.start)))
 
 -- what the name shows now
-abbrev pub with_standing : Watching → ℕ → NameStanding → Watching
-with_standing k name after = record k { names = slice_set k.names name after }
+abbrev pub watching_with_standing : Watching → ℕ → NameStanding → Watching
+watching_with_standing k name after = record k { names = slice_set k.names name after }
 
 -- a name's step is over
 unfoldable pub watch_finish : Watching → ℕ → NameStanding → Watching
 watch_finish k name after =
-    if is_alike (standing k name) after && not k.is_due then pass (with_standing k name after)
-    else look (with_standing k name after)
+    if standings_are_alike (standing k name) after && not k.is_due then pass_event (watching_with_standing k name after)
+    else look_for_complete_view (watching_with_standing k name after)
 
 -- a name did a step: what it shows after that, the view in which its list ends, and the entries that it stored
 abbrev pub watch_step : Watching → ℕ → NameStanding → DecidedView → List Entry → Watching
-watch_step k name after v entries = watch_finish (with_entries (with_decided k name after v) name entries) name after
+watch_step k name after v entries = watch_finish (watching_with_entries (watching_with_decided k name after v) name entries) name after
 
 -- ---- the group list
 
 -- the number of the first View of this stamp in a list whose first entry has this number
-unfoldable pub number_of : Stamp → ℕ → List Entry → Option ℕ
-number_of stamp number [] = None
-number_of stamp number (e ∷ es) = if is_view_of stamp e then Some number else number_of stamp (number + 1) es
+unfoldable pub number_of_view : Stamp → ℕ → List Entry → Option ℕ
+number_of_view stamp number [] = None
+number_of_view stamp number (e ∷ es) = if is_view_of stamp e then Some number else number_of_view stamp (number + 1) es
 
 abbrev pub number_or_else : Option ℕ → Option ℕ → Option ℕ
 number_or_else None b = b
 number_or_else (Some a) b = Some a
 
 -- the group list goes on by these entries, the first of which has this number
-abbrev pub place_among : ℕ → List Entry → Pending → Pending
-place_among number more v = record v { number_in_group = number_or_else v.number_in_group (number_of v.decided.view.stamp number more) }
+abbrev pub place_view_among_entries : ℕ → List Entry → Pending → Pending
+place_view_among_entries number more v = record v { number_in_group = number_or_else v.number_in_group (number_of_view v.decided.view.stamp number more) }
 
 -- by a View of this stamp alone
 abbrev pub place_view : ℕ → Stamp → Pending → Pending
-place_view number stamp v = record v { number_in_group = number_or_else v.number_in_group (if stamp_eq stamp v.decided.view.stamp then Some number else None) }
+place_view number stamp v = record v { number_in_group = number_or_else v.number_in_group (if stamps_are_equal stamp v.decided.view.stamp then Some number else None) }
 
 abbrev pub watch_accepts : Watching → ℕ → List Entry → Watching
-watch_accepts k number more = record k { pending = map (place_among number more) k.pending }
+watch_accepts k number more = record k { pending = map (place_view_among_entries number more) k.pending }
 
 -- ---- the beginning
 
 -- what a name shows before anything happened
-abbrev pub first_standing : Rules → ℕ → NameStanding
-first_standing rules name = if has rules.founders name then record { status = Member; view = founding_stamp rules; start = 1; from = 0 } else blank_standing
+abbrev pub standing_at_start : Rules → ℕ → NameStanding
+standing_at_start rules name = if has rules.founders name then record { status = Member; view = founding_stamp rules; start = 1; from = 0 } else blank_standing
 
 -- the founders' view
-abbrev pub first_view : Rules → DecidedView
-first_view rules = record { number = 1; view = founding_view rules }
+abbrev pub founders_decided_view : Rules → DecidedView
+founders_decided_view rules = record { number = 1; view = founding_view rules }
 
 -- what is kept of a run without events
-abbrev pub first_watching : Rules → Watching
-first_watching rules = record {
-  names = map (first_standing rules) (range_with_len 0 256);
+abbrev pub watching_at_start : Rules → Watching
+watching_at_start rules = record {
+  names = map (standing_at_start rules) (range_with_len 0 256);
   stopped = [];
   pending = [];
   is_due = false;
-  complete = first_view rules;
+  complete = founders_decided_view rules;
   count = 0;
   broken = None;
 }

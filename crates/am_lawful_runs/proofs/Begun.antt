@@ -1,8 +1,8 @@
 -- At the start there is a group that follows the world, and so there is up to the lawful front.
 use Rattle.am_lawful_runs.proofs.Words.{watch_all_with_one_more, ◌≡◌, ℕ, zero, suc, ◌<◌, ◌≤◌, ◌==◌, true, List, [], ◌∷◌, ◌++◌, length, take, None, Some, refl, sym, ap, ◌∙◌}
-use Rattle.am_lawful_runs.proofs.Words.{subst, arith, Contains, slice_index_or, nat_tests, take_all, All-nil, All-cons, View, Rules, MayFound, has, Event, IsGood}
-use Rattle.am_lawful_runs.proofs.Words.{key, begins_refl, empty_list_begins_all, beginning_of_good_is_good, Group, chain_of, GroupMayBegin, founded, group_run_is_kept_lawful, lowest_or_first, founding_stamp}
-use Rattle.am_lawful_runs.proofs.Words.{has_departed, Decided, World, start, first_node, founders_decided, happen, run, Watch, watch_all, watch_run, watch_start}
+use Rattle.am_lawful_runs.proofs.Words.{subst, arith, Contains, slice_index_or, nat_tests, take_all, All-nil, All-cons, View, Rules, MayFound, has, Event, IsGoodList}
+use Rattle.am_lawful_runs.proofs.Words.{key_of_stamp, list_begins_itself, empty_list_begins_all, beginning_of_good_is_good, Group, chain_of, GroupMayBegin, founded, group_run_is_kept_lawful, lowest_name_or_zero, founding_stamp}
+use Rattle.am_lawful_runs.proofs.Words.{has_departed, Decided, World, start, first_node, founders_decided, world_after_events, run, Watch, watch_events, watch_run, watch_start}
 use Rattle.am_lawful_runs.proofs.Words.{broken_at, BecameComplete, split_on_bool, lowest_founder_founds, NamesNamed, GroupFor, first_nodes_keep_at_start, branches_begin_chain, group_goes_on_by_moves, group_stands_at_start}
 use Rattle.am_lawful_runs.proofs.Words.{Following, StepsMove, founding_view}
 use Rattle.am_abstract_group.specs.Runs as begun
@@ -11,11 +11,11 @@ use Rattle.am_lawful_runs.proofs.Greatest.{watch_unbroken_before_event}
 use Rattle.am_lawful_runs.proofs.Fold.{PropertyIsKeptByRuns, HeldUpToFront, complete_marks_stay_by_moves, held_after_next_event}
 
 abbrev first_group : Rules → Group
-first_group rules = begun.group_start rules.founders (lowest_or_first rules.founders) rules.resilience
+first_group rules = begun.group_start rules.founders (lowest_name_or_zero rules.founders) rules.resilience
 
 -- ---- the group's own start
 
-may_begin : (rules : Rules) → MayFound rules → GroupMayBegin rules.founders (lowest_or_first rules.founders) rules.resilience
+may_begin : (rules : Rules) → MayFound rules → GroupMayBegin rules.founders (lowest_name_or_zero rules.founders) rules.resilience
 may_begin rules may =
     let f = lowest_founder_founds rules may in
     record { small = omega arith; among = f.founds }
@@ -25,23 +25,23 @@ first_ok rules may =
     let begin = may_begin rules may in
     record {
       run = founded begin;
-      branches = branches_begin_chain rules.founders (lowest_or_first rules.founders) rules.resilience begin;
+      branches = branches_begin_chain rules.founders (lowest_name_or_zero rules.founders) rules.resilience begin;
       named = All-cons NamesNamed (View (founding_view rules)) [] may.names (All-nil NamesNamed);
     }
 
-own_key : (rules : Rules) → (key (founding_stamp rules) == key (founding_stamp rules)) ≡ true
+own_key : (rules : Rules) → (key_of_stamp (founding_stamp rules) == key_of_stamp (founding_stamp rules)) ≡ true
 own_key rules = grind (arith, nat_tests)
 
 first_shaped : (rules : Rules) → MayFound rules → ListsAreShaped (first_group rules)
 first_shaped rules may = record {
   lines = λ i some. split_on_bool (has rules.founders i)
-      (λ t. record { view = key (founding_stamp rules); decided = own_key rules; line = rw t (begins_refl _) })
+      (λ t. record { view = key_of_stamp (founding_stamp rules); decided = own_key rules; line = rw t (list_begins_itself _) })
       (λ f. absurd (some (rw f refl)));
   sets = λ x d. may.names;
-  good = λ i. (let k = group_run_is_kept_lawful rules.founders (lowest_or_first rules.founders) rules.resilience (first_group rules) (founded (may_begin rules may)) in
+  good = λ i. (let k = group_run_is_kept_lawful rules.founders (lowest_name_or_zero rules.founders) rules.resilience (first_group rules) (founded (may_begin rules may)) in
       split_on_bool (has rules.founders i)
       (λ t. beginning_of_good_is_good ((k.kept.each i).list (record { log = t; there = record { goes = refl; stays = refl } })) k.kept.views.good)
-      (λ f. subst IsGood (sym ((k.kept.each i).blank f)) (beginning_of_good_is_good (empty_list_begins_all (chain_of (first_group rules).views)) k.kept.views.good)));
+      (λ f. subst IsGoodList (sym ((k.kept.each i).blank f)) (beginning_of_good_is_good (empty_list_begins_all (chain_of (first_group rules).views)) k.kept.views.good)));
 }
 
 -- ---- the start
@@ -60,7 +60,7 @@ start_follows rules may =
     let s = first_group rules in
     let leads = group_stands_at_start rules may in
     let first = first_ok rules may in
-    let on = group_goes_on_by_moves rules.founders (lowest_or_first rules.founders) rules.resilience s leads.to first leads.path in
+    let on = group_goes_on_by_moves rules.founders (lowest_name_or_zero rules.founders) rules.resilience s leads.to first leads.path in
     record {
       to = leads.to;
       follows = record {
@@ -70,7 +70,7 @@ start_follows rules may =
         gone = λ i few left. absurd (none_gone rules i left);
         letters = λ k letter at. absurd (cc);
       };
-      shaped = lists_are_shaped_after_moves rules.founders (lowest_or_first rules.founders) rules.resilience s leads.to first leads.path (first_shaped rules may);
+      shaped = lists_are_shaped_after_moves rules.founders (lowest_name_or_zero rules.founders) rules.resilience s leads.to first leads.path (first_shaped rules may);
       marks = complete_marks_stay_by_moves leads.path;
     }
 
@@ -89,7 +89,7 @@ only_in first d (suc k) low is = absurd (omega arith)
 
 -- the founders' view is the only one then
 only : (rules : Rules) (d : Decided) → BecameComplete rules [] d → founders_decided rules ≡ d
-unfolding happen
+unfolding world_after_events
 only rules d (k, among, done) =
     let low : length {A = Event} [] ≤ k = omega arith in
     let none : take k [] ≡ [] = take_all k [] low in
@@ -99,11 +99,11 @@ only rules d (k, among, done) =
 module _ (P : World → Group → Type 0) (rules : Rules) (keeps : PropertyIsKeptByRuns P rules) (moving : StepsMove) (may : MayFound rules)
     (begins : (t : Group) → Following rules (start rules) t → P (start rules) t) where
   held_none : HeldUpToFront P rules []
-  unfolding happen watch_all
+  unfolding world_after_events watch_events
   held_none =
       let s = start_follows rules may in
       let first = founders_decided rules in
-      let is_marked : s.to.views.complete (key first.stamp) ≡ true = ap (λ f. f (key first.stamp)) s.marks ∙ own_key rules in
+      let is_marked : s.to.views.complete (key_of_stamp first.stamp) ≡ true = ap (λ f. f (key_of_stamp first.stamp)) s.marks ∙ own_key rules in
       record {
         to = s.to;
         follows = s.follows;
@@ -112,11 +112,11 @@ module _ (P : World → Group → Type 0) (rules : Rules) (keeps : PropertyIsKep
           index = 0;
           noted = refl;
           marked_ = is_marked;
-          most = λ x done. (let was : (x == key first.stamp) ≡ true = ap (λ f. f x) (sym s.marks) ∙ done in
-              let same : x ≡ key first.stamp = grind (arith, nat_tests) in omega arith);
+          most = λ x done. (let was : (x == key_of_stamp first.stamp) ≡ true = ap (λ f. f x) (sym s.marks) ∙ done in
+              let same : x ≡ key_of_stamp first.stamp = grind (arith, nat_tests) in omega arith);
         };
         became = λ d c. (let same = only rules d c in
-            record { marked_ = ap (λ (x : Decided). s.to.views.complete (key x.stamp)) (sym same) ∙ is_marked; index = 0; there = ap Some same });
+            record { marked_ = ap (λ (x : Decided). s.to.views.complete (key_of_stamp x.stamp)) (sym same) ∙ is_marked; index = 0; there = ap Some same });
         is = begins s.to s.follows;
       }
 

@@ -1,11 +1,11 @@
 -- Up to its lawful front each run has a group that follows it, whose marks are the views that became complete.
 use Rattle.am_lawful_runs.proofs.Words.{watch_all_with_one_more, ◌≡◌, ◌⊎◌, either, inl, inr, ℕ, ◌≤◌, ◌==◌, ◌&&◌, ◌||◌, Bool, true, List, [], ◌∷◌, ◌++◌, length}
 use Rattle.am_lawful_runs.proofs.Words.{Some, None, slice_get, refl, sym, ap, ◌∙◌, subst, arith, length-append, Contains, not, list_any, nat_tests, le_or_gt}
-use Rattle.am_lawful_runs.proofs.Words.{take-append-le, take_all, list_any-append, slice_get-get_or, Rules, MayFound, Event, Record, Outcome, key, Group}
-use Rattle.am_lawful_runs.proofs.Words.{how_many, Move, Completes, counts_for, Node, lowest_or_first, Step, Decided, World, start, current, is_stopped}
-use Rattle.am_lawful_runs.proofs.Words.{views_after, with_record, with_step, lives_on, happens, run, is_complete, is_lawful, Watch, watch_start, watch_run}
-use Rattle.am_lawful_runs.proofs.Words.{greatest_complete, broken_at, BecameComplete, split_on_bool, both_of_and, watched_is_run, Cause, actor, IsIdle, Happens, idles}
-use Rattle.am_lawful_runs.proofs.Words.{returns, steps, events_have_effects, all_gives_slice_get, slice_get_of_front, runs_keep_what_events_keep, NotedViewStandsInLog, WorldNotesViewsOnce, events_note_views_once, start_notes_views_once, Moves}
+use Rattle.am_lawful_runs.proofs.Words.{take-append-le, take_all, list_any-append, slice_get-get_or, Rules, MayFound, Event, Record, Outcome, key_of_stamp, Group}
+use Rattle.am_lawful_runs.proofs.Words.{count_of_passing_names, Move, ViewCompletes, counts_for, Node, lowest_name_or_zero, StepResult, Decided, World, start, current, is_stopped}
+use Rattle.am_lawful_runs.proofs.Words.{views_after, world_with_record, world_with_step, world_with_next_life, happens, run, is_complete, is_lawful, Watch, watch_start, watch_run}
+use Rattle.am_lawful_runs.proofs.Words.{greatest_complete, broken_at, BecameComplete, split_on_bool, both_of_and, watched_is_run, Cause, acting_name, IsIdle, EventHappens, idles}
+use Rattle.am_lawful_runs.proofs.Words.{returns, steps, events_have_effects, item_of_index_has_property, slice_get_of_front, runs_keep_what_events_keep, NotedViewStandsInLog, WorldNotesViewsOnce, events_note_views_once, start_notes_views_once, Moves}
 use Rattle.am_lawful_runs.proofs.Words.{none, moves, Grows, EventStands, no_move, stop, idle_event_keeps_group_standing, stop_keeps_group_standing, return_keeps_group_standing, Following, StepsMove}
 use Rattle.am_abstract_group.specs.Moves.{numbers}
 use Rattle.am_group_defs.specs.World as worlds
@@ -26,17 +26,17 @@ use Rattle.std.proofs.lemmas.Bool.{or_right}
 pub record WatchIsTiedToGroup (watch : Watch) (s : Group) : Type 0 where
   pub index : ℕ
   pub noted : slice_get watch.world.views index ≡ Some watch.complete
-  pub marked_ : s.views.complete (key watch.complete.stamp) ≡ true
-  pub most : (x : ℕ) → s.views.complete x ≡ true → x ≤ key watch.complete.stamp
+  pub marked_ : s.views.complete (key_of_stamp watch.complete.stamp) ≡ true
+  pub most : (x : ℕ) → s.views.complete x ≡ true → x ≤ key_of_stamp watch.complete.stamp
 
 -- those that were, and those that are complete now
 abbrev marks_now : World → Group → ℕ → Bool
-marks_now v t x = t.views.complete x || list_any (λ d. (key d.stamp == x) && is_complete v d) v.views
+marks_now v t x = t.views.complete x || list_any (λ d. (key_of_stamp d.stamp == x) && is_complete v d) v.views
 
 record MarkedNow (watch : Watch) (v : World) (t : Group) : Type 0 where
   pub may : ViewsMayBeMarked t (marks_now v t)
   pub tied : WatchIsTiedToGroup watch (group_with_complete_marks t (marks_now v t))
-  pub all : (k : ℕ) (d : Decided) → slice_get v.views k ≡ Some d → is_complete v d ≡ true → marks_now v t (key d.stamp) ≡ true
+  pub all : (k : ℕ) (d : Decided) → slice_get v.views k ≡ Some d → is_complete v d ≡ true → marks_now v t (key_of_stamp d.stamp) ≡ true
 
 known : (rules : Rules) (v : World) (t : Group) → GroupMayFollowWorld rules v t → GroupStandsForWorld v t
 known rules v t h = record { stands = h.stands; shaped = h.shaped; opens = h.opens }
@@ -50,10 +50,10 @@ mark rules old new s t ready same tied small stay best lawful = record {
     marks = λ view done. either (either_of_true_or _ _ done)
         (λ a. inl a)
         (λ a. inr
-        (of_passing view (list_any_finds_passing_item (λ d. (key d.stamp == view) && is_complete v d) v.views a)));
-    lawful = λ view done most. (let is : view ≡ key new.complete.stamp = (let a = high view done in let b = most (key new.complete.stamp) here in omega
+        (of_passing view (list_any_finds_passing_item (λ d. (key_of_stamp d.stamp == view) && is_complete v d) v.views a)));
+    lawful = λ view done most. (let is : view ≡ key_of_stamp new.complete.stamp = (let a = high view done in let b = most (key_of_stamp new.complete.stamp) here in omega
         arith) in
-        subst (λ x. how_many (λ name. counts_for t x name && ((t.node name).stopped && not (t.node name).departed)) ≤ (t.views.chosen x).resilience) (sym is)
+        subst (λ x. count_of_passing_names (λ name. counts_for t x name && ((t.node name).stopped && not (t.node name).departed)) ≤ (t.views.chosen x).resilience) (sym is)
         (lawful_world_has_lawful_group v t new.complete ready.stands (ready.stands.views.noted at.0 new.complete at.1) lawful));
   };
   tied = record { index = at.0; noted = at.1; marked_ = here; most = high };
@@ -72,32 +72,32 @@ mark rules old new s t ready same tied small stay best lawful = record {
         (λ a. (tied.index, stay tied.index old.complete tied.noted ∙ ap Some (sym a)))
         (λ a. (a.0, a.1))
 
-    passing : (k : ℕ) (d : Decided) → slice_get v.views k ≡ Some d → is_complete v d ≡ true → marks_now v t (key d.stamp) ≡ true
+    passing : (k : ℕ) (d : Decided) → slice_get v.views k ≡ Some d → is_complete v d ≡ true → marks_now v t (key_of_stamp d.stamp) ≡ true
     passing k d there done =
-        let own : (key d.stamp == key d.stamp) ≡ true = grind (arith, nat_tests) in
-        let some = list_any_of_passing_item (λ x. (key x.stamp == key d.stamp) && is_complete v x) v.views k d there (rw (own, done) refl) in
-        or_right (t.views.complete (key d.stamp)) _ some
+        let own : (key_of_stamp d.stamp == key_of_stamp d.stamp) ≡ true = grind (arith, nat_tests) in
+        let some = list_any_of_passing_item (λ x. (key_of_stamp x.stamp == key_of_stamp d.stamp) && is_complete v x) v.views k d there (rw (own, done) refl) in
+        or_right (t.views.complete (key_of_stamp d.stamp)) _ some
 
-    here : marks_now v t (key new.complete.stamp) ≡ true
+    here : marks_now v t (key_of_stamp new.complete.stamp) ≡ true
     here = either greatest.is
         (λ a. (
-        let was : t.views.complete (key new.complete.stamp) ≡ true = ap (λ f. f (key new.complete.stamp)) same ∙ ap
-        (λ (d : Decided). s.views.complete (key d.stamp)) a ∙ tied.marked_ in
+        let was : t.views.complete (key_of_stamp new.complete.stamp) ≡ true = ap (λ f. f (key_of_stamp new.complete.stamp)) same ∙ ap
+        (λ (d : Decided). s.views.complete (key_of_stamp d.stamp)) a ∙ tied.marked_ in
         rw was refl))
         (λ a. passing a.0 new.complete a.1 a.2)
 
-    of_test : (view : ℕ) → (d : Decided) → ((key d.stamp == view) && is_complete v d) ≡ true → (key d.stamp ≡ view) × (is_complete v d ≡ true)
-    of_test view d t_ = let b = both_of_and (key d.stamp == view) (is_complete v d) t_ in let z = b.0 in (grind (arith, nat_tests), b.1)
+    of_test : (view : ℕ) → (d : Decided) → ((key_of_stamp d.stamp == view) && is_complete v d) ≡ true → (key_of_stamp d.stamp ≡ view) × (is_complete v d ≡ true)
+    of_test view d t_ = let b = both_of_and (key_of_stamp d.stamp == view) (is_complete v d) t_ in let z = b.0 in (grind (arith, nat_tests), b.1)
 
-    of_passing : (view : ℕ) → SomeItemPasses (λ d. (key d.stamp == view) && is_complete v d) v.views → Completes t view
+    of_passing : (view : ℕ) → SomeItemPasses (λ d. (key_of_stamp d.stamp == view) && is_complete v d) v.views → ViewCompletes t view
     of_passing view p =
         let b = of_test view p.item p.passes in
-        subst (Completes t) b.0 (complete_view_completes_in_group v t p.index p.item (known rules v t ready) p.there (small p.index p.item p.there) b.1)
+        subst (ViewCompletes t) b.0 (complete_view_completes_in_group v t p.index p.item (known rules v t ready) p.there (small p.index p.item p.there) b.1)
 
-    high : (x : ℕ) → marks_now v t x ≡ true → x ≤ key new.complete.stamp
+    high : (x : ℕ) → marks_now v t x ≡ true → x ≤ key_of_stamp new.complete.stamp
     high x done = either (either_of_true_or _ _ done)
         (λ a. (let low = tied.most x (ap (λ f. f x) (sym same) ∙ a) in let up = greatest.up in omega arith))
-        (λ a. (let p = list_any_finds_passing_item (λ d. (key d.stamp == x) && is_complete v d) v.views a in
+        (λ a. (let p = list_any_finds_passing_item (λ d. (key_of_stamp d.stamp == x) && is_complete v d) v.views a in
         let b = of_test x p.item p.passes in
         let above = greatest.above p.index p.item p.there b.1 in
         omega arith))
@@ -124,13 +124,13 @@ pub record WorldStaysQuiet (w v : World) (s t : Group) : Type 0 where
 -- ---- what is so of a world and the group that follows it, besides: kept by steps, and by what changes no node
 
 pub record PropertyIsKeptByRuns (P : World → Group → Type 0) (rules : Rules) : Type 0 where
-  pub by_step : {events : List Event} {e : Event} {c : Cause} {step : Step} {s t : Group} → OneStepWithGroup rules events e c step s t
-      → P (run rules events) s → P (with_step (run rules events) e (actor (run rules events) e) step) t
+  pub by_step : {events : List Event} {e : Event} {c : Cause} {step : StepResult} {s t : Group} → OneStepWithGroup rules events e c step s t
+      → P (run rules events) s → P (world_with_step (run rules events) e (acting_name (run rules events) e) step) t
   pub by_quiet : (w v : World) (s t : Group) → WorldStaysQuiet w v s t → P w s → P v t
 
 -- it is marked, and noted
 pub record ViewBecameCompleteInGroup (w : World) (s : Group) (d : Decided) : Type 0 where
-  pub marked_ : s.views.complete (key d.stamp) ≡ true
+  pub marked_ : s.views.complete (key_of_stamp d.stamp) ≡ true
   pub index : ℕ
   pub there : slice_get w.views index ≡ Some d
 
@@ -185,37 +185,37 @@ with_more xs ys name there = list_any-append (λ x. x == name) xs ys ∙ rw ther
 -- an event that changes at most who has stopped, and how many lives places have
 stays_but : (w : World) (e : Event) (o : Outcome) (stopped : List ℕ) (lives : ℕ → ℕ)
     → ((name : ℕ) → is_stopped w name ≡ true → list_any (λ x. x == name) stopped ≡ true)
-    → NodesStayInWorld w (record (with_record w e o) { stopped = stopped; lives = lives })
-unfolding with_record
+    → NodesStayInWorld w (record (world_with_record w e o) { stopped = stopped; lives = lives })
+unfolding world_with_record
 stays_but w e o stopped lives up =
     record { nodes = refl; letters = refl; group = refl; more = (worlds.record_of w e o [] ∷ [], refl); stopped = up }
 
-stays_idle : (w : World) (e : Event) (o : Outcome) → NodesStayInWorld w (with_record w e o)
-unfolding with_record
+stays_idle : (w : World) (e : Event) (o : Outcome) → NodesStayInWorld w (world_with_record w e o)
+unfolding world_with_record
 stays_idle w e o = stays_but w e o w.stopped w.lives (λ j z. z)
 
-stays_stop : (w : World) (e : Event) (o : Outcome) (name : ℕ) → NodesStayInWorld w (with_record (record w { stopped = w.stopped ++ name ∷ [] }) e o)
-unfolding with_record
+stays_stop : (w : World) (e : Event) (o : Outcome) (name : ℕ) → NodesStayInWorld w (world_with_record (record w { stopped = w.stopped ++ name ∷ [] }) e o)
+unfolding world_with_record
 stays_stop w e o name = stays_but w e o (w.stopped ++ name ∷ []) w.lives (with_more w.stopped (name ∷ []))
 
-stays_return : (w : World) (e : Event) (o : Outcome) (place : ℕ) → NodesStayInWorld w (lives_on (with_record w e o) place)
-unfolding with_record
-stays_return w e o place = stays_but w e o (lives_on (with_record w e o) place).stopped (lives_on (with_record w e o) place).lives
+stays_return : (w : World) (e : Event) (o : Outcome) (place : ℕ) → NodesStayInWorld w (world_with_next_life (world_with_record w e o) place)
+unfolding world_with_record
+stays_return w e o place = stays_but w e o (world_with_next_life (world_with_record w e o) place).stopped (world_with_next_life (world_with_record w e o) place).lives
     (λ j z. split_on_bool (is_stopped w (current w place)) (λ t. rw t z) (λ f. rw f (with_more w.stopped (current w place ∷ []) j z)))
 
 views_stay : (views : List Decided) (m n : Node) (k : ℕ) (d : Decided) → slice_get views k ≡ Some d → slice_get (views_after views m n) k ≡ Some d
-views_stay views m n k d at = split_on_bool (worlds.decides m n) (λ t. rw t (slice_get_of_front views (worlds.last_view n ∷ []) k d at)) (λ f. rw f at)
+views_stay views m n k d at = split_on_bool (worlds.step_decides_view m n) (λ t. rw t (slice_get_of_front views (worlds.last_view_of n ∷ []) k d at)) (λ f. rw f at)
 
 module _ (P : World → Group → Type 0) (rules : Rules) (keeps : PropertyIsKeptByRuns P rules) (moving : StepsMove) (may : MayFound rules) where
-  after_event : (events : List Event) (e : Event) (v : World) → Happens (run rules events) e v → v ≡ happens (run rules events) e → (h : HeldUpToFront P rules events)
+  after_event : (events : List Event) (e : Event) (v : World) → EventHappens (run rules events) e v → v ≡ happens (run rules events) e → (h : HeldUpToFront P rules events)
       → After P rules (run rules events) v h.to
-  unfolding with_record with_step
+  unfolding world_with_record world_with_step
   after_event events e v (idles o idle) is h =
       let w = run rules events in
       quiet_after P rules keeps events w v (worlds.record_of w e o []) refl h (stays_idle w e o) refl idle refl (idle_event_keeps_group_standing w e o h.to h.follows.stands)
   after_event events e v (event.stops runs) is h =
       let w = run rules events in
-      quiet_after P rules keeps events w v _ refl h (stays_stop w e _ (actor w e)) refl tt refl (stop_keeps_group_standing w e _ (actor w e) h.to h.follows.stands)
+      quiet_after P rules keeps events w v _ refl h (stays_stop w e _ (acting_name w e)) refl tt refl (stop_keeps_group_standing w e _ (acting_name w e) h.to h.follows.stands)
   after_event events e v (returns place at gone more) is h =
       let w = run rules events in
       quiet_after P rules keeps events w v _ refl h (stays_return w e _ place) refl tt refl (return_keeps_group_standing w e _ place h.to h.follows.stands)
@@ -223,12 +223,12 @@ module _ (P : World → Group → Type 0) (rules : Rules) (keeps : PropertyIsKep
       let w = run rules events in
       let s = h.to in
       let f = moving rules events e c step s may runs cause effect (sym is) h.follows in
-      let shaped = lists_are_shaped_after_moves rules.founders (lowest_or_first rules.founders) rules.resilience s f.to h.follows.group f.path h.shaped in
+      let shaped = lists_are_shaped_after_moves rules.founders (lowest_name_or_zero rules.founders) rules.resilience s f.to h.follows.group f.path h.shaped in
       record {
         to = group_with_entry_given f.to;
         ready = group_may_follow_after_given rules v f.to f.is shaped;
         same = complete_marks_stay_by_moves f.path;
-        noted = λ k d at. views_stay w.views (w.nodes (actor w e)) step.node k d at;
+        noted = λ k d at. views_stay w.views (w.nodes (acting_name w e)) step.node k d at;
         is = keeps.by_quiet v v f.to (group_with_entry_given f.to) (record { stays = nodes_stay_in_same_world v; grows = group_grows_by_given_entry f.to; current = refl; chosen = refl; idle = inl refl })
             (keeps.by_step (record {
               step_ = record { may = may; runs = runs; cause = cause; effect = effect; is = is };
@@ -268,7 +268,7 @@ module _ (P : World → Group → Type 0) (rules : Rules) (keeps : PropertyIsKep
         tied = m.tied;
         became = λ d c. became_now rules events e d marks
             (λ was. record {
-              marked_ = m.may.stay (key d.stamp) (ap (λ f. f (key d.stamp)) b.same ∙ was.marked_);
+              marked_ = m.may.stay (key_of_stamp d.stamp) (ap (λ f. f (key_of_stamp d.stamp)) b.same ∙ was.marked_);
               index = was.index;
               there = ap (λ (x : World). slice_get x.views was.index) (sym there) ∙ b.noted was.index d
                   (ap (λ (x : World). slice_get x.views was.index) was_world ∙ was.there);
@@ -286,7 +286,7 @@ module _ (P : World → Group → Type 0) (rules : Rules) (keeps : PropertyIsKep
       small_run : (rules : Rules) (events : List Event) → MayFound rules → DecidedStampsAreSmall (run rules events).views
       small_run rules events may k d at =
           let h = runs_keep_what_events_keep (WorldNotesViewsOnce rules) (events_note_views_once rules) (start rules) events (start_notes_views_once rules may) in
-          (all_gives_slice_get (NotedViewStandsInLog (run rules events).nodes) (run rules events).views k d h.noted at).by
+          (item_of_index_has_property (NotedViewStandsInLog (run rules events).nodes) (run rules events).views k d h.noted at).by
 
       get_of : (xs : List Decided) (d : Decided) → Contains xs d → (k : ℕ) × (slice_get xs k ≡ Some d)
       get_of xs d c = (c.0, slice_get-get_or xs c.0 d c.1 ∙ ap Some c.2)

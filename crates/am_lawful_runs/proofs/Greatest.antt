@@ -1,7 +1,7 @@
 -- The greatest complete view of a watched run, and the marks of the group.
 use Rattle.am_lawful_runs.proofs.Words.{◌≡◌, ◌⊎◌, either, inl, inr, ℕ, zero, suc, ◌+◌, ◌<◌, ◌≤◌, Bool, true, false, List, [], ◌∷◌, Option, Some, None, slice_get}
-use Rattle.am_lawful_runs.proofs.Words.{refl, sym, ap, ◌∙◌, subst, arith, list_any, stamp_lt, Event, key, key_lt_of_stamp_lt, stamp_lt_of_key_lt, Decided, World, happens, is_complete}
-use Rattle.am_lawful_runs.proofs.Words.{is_lawful, Watch, watch, greater_complete, greatest_complete, broken_now, split_on_bool, le_or_gt}
+use Rattle.am_lawful_runs.proofs.Words.{refl, sym, ap, ◌∙◌, subst, arith, list_any, stamp_is_less, Event, key_of_stamp, key_is_less_for_lesser_stamp, stamp_lt_of_key_lt, Decided, World, happens, is_complete}
+use Rattle.am_lawful_runs.proofs.Words.{is_lawful, Watch, watch_event, greater_complete, greatest_complete, broken_now, split_on_bool, le_or_gt}
 
 -- ---- one item that passes
 
@@ -30,15 +30,15 @@ DecidedStampsAreSmall vs = (k : ℕ) (d : Decided) → slice_get vs k ≡ Some d
 -- it is what was the greatest, or one that is complete; and no less than either
 pub record IsGreatestComplete (w : World) (best : Decided) (vs : List Decided) (g : Decided) : Type 0 where
   pub is : (g ≡ best) ⊎ ((k : ℕ) × (slice_get vs k ≡ Some g) × (is_complete w g ≡ true))
-  pub up : key best.stamp ≤ key g.stamp
-  pub above : (k : ℕ) (d : Decided) → slice_get vs k ≡ Some d → is_complete w d ≡ true → key d.stamp ≤ key g.stamp
+  pub up : key_of_stamp best.stamp ≤ key_of_stamp g.stamp
+  pub above : (k : ℕ) (d : Decided) → slice_get vs k ≡ Some d → is_complete w d ≡ true → key_of_stamp d.stamp ≤ key_of_stamp g.stamp
 
 -- of one view
 greater_is : (w : World) (best v : Decided) → best.stamp.by < 256 → v.stamp.by < 256 → IsGreatestComplete w best (v ∷ []) (greater_complete w best v)
-greater_is w best v small few = split_on_bool (stamp_lt best.stamp v.stamp)
+greater_is w best v small few = split_on_bool (stamp_is_less best.stamp v.stamp)
     (λ t. split_on_bool (is_complete w v)
     (λ c.
-    let low = key_lt_of_stamp_lt best.stamp v.stamp small few t in
+    let low = key_is_less_for_lesser_stamp best.stamp v.stamp small few t in
     rw (t, c) (record { is = inr (0, refl, c); up = omega arith; above = λ k d at done. one v d k at }))
     (λ n. rw (t, n) (record {
       is = inl refl;
@@ -49,24 +49,24 @@ greater_is w best v small few = split_on_bool (stamp_lt best.stamp v.stamp)
       is = inl refl;
       up = omega arith;
       above = λ k d at done. (let same = only v d k at in
-          let high : key v.stamp ≤ key best.stamp = not_above best v small few f in
-          subst (λ (x : Decided). key x.stamp ≤ key best.stamp) same high);
+          let high : key_of_stamp v.stamp ≤ key_of_stamp best.stamp = not_above best v small few f in
+          subst (λ (x : Decided). key_of_stamp x.stamp ≤ key_of_stamp best.stamp) same high);
     }))
   where
     only : (v d : Decided) (k : ℕ) → slice_get (v ∷ []) k ≡ Some d → v ≡ d
     only v d zero at = cc
     only v d (suc k) at = absurd (cc)
 
-    one : (v d : Decided) (k : ℕ) → slice_get (v ∷ []) k ≡ Some d → key d.stamp ≤ key v.stamp
-    one v d k at = let same = only v d k at in subst (λ (x : Decided). key x.stamp ≤ key v.stamp) same (omega arith)
+    one : (v d : Decided) (k : ℕ) → slice_get (v ∷ []) k ≡ Some d → key_of_stamp d.stamp ≤ key_of_stamp v.stamp
+    one v d k at = let same = only v d k at in subst (λ (x : Decided). key_of_stamp x.stamp ≤ key_of_stamp v.stamp) same (omega arith)
 
-    not_above : (best v : Decided) → best.stamp.by < 256 → v.stamp.by < 256 → stamp_lt best.stamp v.stamp ≡ false → key v.stamp ≤ key best.stamp
-    not_above best v small few f = either (le_or_gt (key v.stamp) (key best.stamp))
+    not_above : (best v : Decided) → best.stamp.by < 256 → v.stamp.by < 256 → stamp_is_less best.stamp v.stamp ≡ false → key_of_stamp v.stamp ≤ key_of_stamp best.stamp
+    not_above best v small few f = either (le_or_gt (key_of_stamp v.stamp) (key_of_stamp best.stamp))
         (λ le. le)
         (λ lt. absurd (let t = stamp_lt_of_key_lt best.stamp v.stamp small few lt in cc))
 
 small_either : (w : World) (best v : Decided) → best.stamp.by < 256 → v.stamp.by < 256 → (greater_complete w best v).stamp.by < 256
-small_either w best v small few = split_on_bool (stamp_lt best.stamp v.stamp)
+small_either w best v small few = split_on_bool (stamp_is_less best.stamp v.stamp)
     (λ t. split_on_bool (is_complete w v) (λ c. rw (t, c) few) (λ n. rw (t, n) small))
     (λ f. rw f small)
 
@@ -104,10 +104,10 @@ greatest_complete_is_greatest w best (v ∷ vs) small few =
 -- where it isn't broken, it wasn't before, and it is lawful now
 pub record WatchWasUnbroken (s : Watch) (e : Event) : Type 0 where
   pub before : s.broken ≡ None
-  pub now : is_lawful (watch s e).world (watch s e).complete ≡ true
+  pub now : is_lawful (watch_event s e).world (watch_event s e).complete ≡ true
 
-pub watch_unbroken_before_event : (s : Watch) (e : Event) → (watch s e).broken ≡ None → WatchWasUnbroken s e
-unfolding watch
+pub watch_unbroken_before_event : (s : Watch) (e : Event) → (watch_event s e).broken ≡ None → WatchWasUnbroken s e
+unfolding watch_event
 watch_unbroken_before_event s e h =
     let w = happens s.world e in
     let best = greatest_complete w s.complete w.views in
@@ -121,6 +121,6 @@ watch_unbroken_before_event s e h =
     by_broken w best n (Some k) h = absurd (cc)
     by_broken w best n None h = split_on_bool (is_lawful w best) (λ t. t) (λ f. absurd (let z = rw f at h in cc))
 
-pub complete_after_watched_event : (s : Watch) (e : Event) → (watch s e).complete ≡ greatest_complete (watch s e).world s.complete (watch s e).world.views
-unfolding watch
+pub complete_after_watched_event : (s : Watch) (e : Event) → (watch_event s e).complete ≡ greatest_complete (watch_event s e).world s.complete (watch_event s e).world.views
+unfolding watch_event
 complete_after_watched_event s e = refl

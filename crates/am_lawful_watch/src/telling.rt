@@ -1,8 +1,8 @@
 ghost use Rattle.std.specs.Prelude.{◌≡◌, ◌+◌, ◌<◌, ◌≤◌, ◌++◌, [], ◌∷◌, length, drop, if◌then◌else◌};
-ghost use Rattle.am_base.specs.Most.{most_number, most_word};
-ghost use Rattle.am_model.specs.Node.{has_log};
-ghost use Rattle.am_lawful_defs.specs.Watching.{standing, watch_accepts, pass, stop, with_entries};
-ghost use Rattle.am_lawful_defs.specs.Telling.{entry_in, begins, standing_after, one_of, stored_of, view_entry_of, with_views, told_step, stops_by};
+ghost use Rattle.am_base.specs.Most.{greatest_number, greatest_word};
+ghost use Rattle.am_model.specs.Node.{has_log_by_status};
+ghost use Rattle.am_lawful_defs.specs.Watching.{standing, watch_accepts, pass_event, note_stop, watching_with_entries};
+ghost use Rattle.am_lawful_defs.specs.Telling.{entry_of_heard_piece, list_begins_in_step, standing_after, list_of_option, views_stored_in_step, view_entry_of, watching_with_views, watching_after_told_step, stops_by_outcome};
 ghost use Rattle.am_lawful_watch.specs.Watchers.{watching_of, HasWatchRoom};
 
 use crate::views::{decides, is_member, is_same_stamp};
@@ -18,7 +18,7 @@ use am_packet_reader::reader::decode;
 
 /// Whether a name of this status has or had a list.
 pub fn has_log(status: Status) -> bool
-    ensures { result ≡ has_log status }
+    ensures { result ≡ has_log_by_status status }
 {
     match status {
         Status::Member | Status::Departed => true,
@@ -28,7 +28,7 @@ pub fn has_log(status: Status) -> bool
 
 /// Whether the name's list began in a step.
 fn begins(before: &NameStanding, after: Status) -> bool
-    ensures { result ≡ begins before.now after }
+    ensures { result ≡ list_begins_in_step before.now after }
 {
     !has_log(before.status) && is_member(after)
 }
@@ -58,7 +58,7 @@ fn last_view(decided: &DecidedView) -> Entry
 
 /// The entry of a Piece, where an event brings one.
 fn entry_in(what: &NodeEvent) -> Option<Entry>
-    ensures { result ≡ entry_in what.now }
+    ensures { result ≡ entry_of_heard_piece what.now }
 {
     let NodeEvent::Hear(bytes) = what else {
         return None;
@@ -72,7 +72,7 @@ fn entry_in(what: &NodeEvent) -> Option<Entry>
 /// The watcher is told of an entry that a name stored, where there is one.
 #[tactic(auto, using(crate::proofs::Tellings::with_entries_rules))]
 fn store_one(watcher: &mut Watcher, name: Name, found: Option<Entry>)
-    ensures { watching_of watcher.new ≡ with_entries (watching_of watcher.old) name (one_of found) }
+    ensures { watching_of watcher.new ≡ watching_with_entries (watching_of watcher.old) name (list_of_option found) }
 {
     match found {
         Some(entry) => watcher.store(name, &entry),
@@ -82,7 +82,7 @@ fn store_one(watcher: &mut Watcher, name: Name, found: Option<Entry>)
 
 /// What a name fetched, where it then decided a view.
 fn fetched_before(is_decided: bool, what: &NodeEvent) -> Option<Entry>
-    ensures { one_of result ≡ (if is_decided then one_of (entry_in what.now) else []) }
+    ensures { list_of_option result ≡ (if is_decided then list_of_option (entry_of_heard_piece what.now) else []) }
 {
     if is_decided { entry_in(what) } else { None }
 }
@@ -101,8 +101,8 @@ struct Stepped<'a> {
 /// decided a view, and the last one.
 #[inline(never)]
 fn store_new_views(watcher: &mut Watcher, step: &Stepped<'_>, is_decided: bool)
-    ensures { watching_of watcher.new ≡ with_entries (watching_of watcher.old) step.now.name
-        ((if is_decided then one_of (entry_in step.now.what.now) else [])
+    ensures { watching_of watcher.new ≡ watching_with_entries (watching_of watcher.old) step.now.name
+        ((if is_decided then list_of_option (entry_of_heard_piece step.now.what.now) else [])
         ++ view_entry_of step.now.view.now ∷ []) }
 {
     let earlier = fetched_before(is_decided, step.what);
@@ -112,8 +112,8 @@ fn store_new_views(watcher: &mut Watcher, step: &Stepped<'_>, is_decided: bool)
 
 /// The watcher is told which Views a name stored in a step.
 fn store_views(watcher: &mut Watcher, step: &Stepped<'_>)
-    ensures { watching_of watcher.new ≡ with_entries (watching_of watcher.old) step.now.name
-        (stored_of step.now.name step.now.before.now step.now.after.now step.now.view.now
+    ensures { watching_of watcher.new ≡ watching_with_entries (watching_of watcher.old) step.now.name
+        (views_stored_in_step step.now.name step.now.before.now step.now.after.now step.now.view.now
         step.now.what.now) }
 {
     if begins(step.before, step.after.status)
@@ -128,7 +128,7 @@ fn store_views(watcher: &mut Watcher, step: &Stepped<'_>)
 fn note_views(watcher: &mut Watcher, step: &Stepped<'_>)
     requires room { HasWatchRoom watcher.old }
     requires before { step.now.before.now ≡ standing (watching_of watcher.old) step.now.name }
-    ensures { watching_of watcher.new ≡ with_views (watching_of watcher.old) step.now.name
+    ensures { watching_of watcher.new ≡ watching_with_views (watching_of watcher.old) step.now.name
         step.now.before.now step.now.after.now step.now.view.now step.now.what.now }
 {
     if is_same_stamp(&step.before.view, &step.after.view) {
@@ -141,7 +141,7 @@ fn note_views(watcher: &mut Watcher, step: &Stepped<'_>)
 /// The watcher is told how the group list goes on above a number.
 fn accept_above(watcher: &mut Watcher, group: &[Entry], known: usize)
     requires known { known ≤ length group.now }
-    requires few { length group.now ≤ most_number }
+    requires few { length group.now ≤ greatest_number }
     ensures { watching_of watcher.new ≡ watch_accepts (watching_of watcher.old) (known + 1)
         (drop known group.now) }
 {
@@ -152,7 +152,7 @@ fn accept_above(watcher: &mut Watcher, group: &[Entry], known: usize)
 
 /// Whether a name that has or hasn't stopped stops by an answer: by its own event, or because its place returns.
 pub fn stops_by(has_stopped: bool, outcome: &Outcome) -> bool
-    ensures { result ≡ stops_by has_stopped outcome.now }
+    ensures { result ≡ stops_by_outcome has_stopped outcome.now }
 {
     match outcome {
         Outcome::Stopped => true,
@@ -165,9 +165,9 @@ impl Watcher {
     /// An event that was no step of a node, after which a name has stopped or not.
     pub fn note_answer(&mut self, name: Name, stops: bool)
         requires room { HasWatchRoom self.old }
-        requires few { (watching_of self.old).count < most_word }
-        ensures { watching_of self.new ≡ (if stops then stop (watching_of self.old) name
-            else pass (watching_of self.old)) }
+        requires few { (watching_of self.old).count < greatest_word }
+        ensures { watching_of self.new ≡ (if stops then note_stop (watching_of self.old) name
+            else pass_event (watching_of self.old)) }
     {
         if stops {
             self.stop(name);
@@ -186,10 +186,10 @@ impl Watcher {
         known: usize,
     )
         requires room { HasWatchRoom self.old }
-        requires few { (watching_of self.old).count < most_word }
+        requires few { (watching_of self.old).count < greatest_word }
         requires known { known ≤ length group.now }
-        requires short { length group.now ≤ most_number }
-        ensures { watching_of self.new ≡ told_step (watching_of self.old) name
+        requires short { length group.now ≤ greatest_number }
+        ensures { watching_of self.new ≡ watching_after_told_step (watching_of self.old) name
             shown.now what.now (known + 1) (drop known group.now) }
     {
         let before = self.standing(name);

@@ -1,7 +1,7 @@
 ghost use Rattle.std.specs.Prelude.{◌≡◌, map, if◌then◌else◌};
-ghost use Rattle.am_base.specs.Stamps.{stamp_eq};
+ghost use Rattle.am_base.specs.Stamps.{stamps_are_equal};
 ghost use Rattle.am_model.specs.Node.{is_member, founding_stamp, has_departed};
-ghost use Rattle.am_lawful_defs.specs.Watching.{blank_standing, first_standing, first_view, same_flag, is_alike, watch_decides, new_pending, store_view, number_or_else, place_view};
+ghost use Rattle.am_lawful_defs.specs.Watching.{blank_standing, standing_at_start, founders_decided_view, flags_are_equal, standings_are_alike, watch_decides, new_pending, store_view, number_or_else, place_view};
 
 use am_base::entry::GroupView;
 use am_base::founding::Founding;
@@ -34,14 +34,14 @@ pub fn has_departed(status: Status) -> bool
 }
 
 fn is_same_flag(a: bool, b: bool) -> bool
-    ensures { result ≡ same_flag a b }
+    ensures { result ≡ flags_are_equal a b }
 {
     if a { b } else { !b }
 }
 
 /// Whether two stamps are the same.
 pub fn is_same_stamp(a: &Stamp, b: &Stamp) -> bool
-    ensures { result ≡ stamp_eq a.now b.now }
+    ensures { result ≡ stamps_are_equal a.now b.now }
 {
     a.round == b.round && a.by == b.by
 }
@@ -72,7 +72,7 @@ fn founding_stamp(founding: &Founding) -> Stamp
 
 /// What a name shows before anything happened.
 pub fn first_standing(founding: &Founding, name: Name) -> NameStanding
-    ensures { result ≡ first_standing founding.now name }
+    ensures { result ≡ standing_at_start founding.now name }
 {
     if !founding.founders().has(name) {
         return blank_standing();
@@ -87,7 +87,7 @@ pub fn first_standing(founding: &Founding, name: Name) -> NameStanding
 
 /// The founders' view.
 pub fn first_view(founding: &Founding) -> DecidedView
-    ensures { result ≡ first_view founding.now }
+    ensures { result ≡ founders_decided_view founding.now }
 {
     DecidedView {
         number: 1,
@@ -101,7 +101,7 @@ pub fn first_view(founding: &Founding) -> DecidedView
 
 /// Whether two standings are alike in what views ask for.
 pub fn is_alike(before: &NameStanding, after: &NameStanding) -> bool
-    ensures { result ≡ is_alike before.now after.now }
+    ensures { result ≡ standings_are_alike before.now after.now }
 {
     is_same_stamp(&before.view, &after.view)
         && is_same_flag(has_departed(before.status), has_departed(after.status))

@@ -1,8 +1,8 @@
 ghost use Rattle.std.specs.Prelude.{◌≡◌, ◌&&◌, ◌||◌, ◌+◌, ◌<◌, ◌∷◌, [], OnOk, true, not, count_by, map, filter, slice_index_or};
 ghost use Rattle.std.specs.List.{list_any, range_with_len};
 ghost use Rattle.am_base.specs.Names.{names_of};
-ghost use Rattle.am_base.specs.Most.{most_word};
-ghost use Rattle.am_lawful_defs.specs.Watching.{first_watching, blank_standing, first_standing, standing, watch_has_stopped, is_by, watch_has_stored, watch_lags, watch_is_complete, greater, watch_greatest, watch_is_lost, watch_is_lawful, watch_broken_now, look, pass, stop, is_alike, with_standing, with_decided, watch_with_entry, watch_finish, watch_accepts, is_above, store_view, place_view};
+ghost use Rattle.am_base.specs.Most.{greatest_word};
+ghost use Rattle.am_lawful_defs.specs.Watching.{watching_at_start, blank_standing, standing_at_start, standing, watch_has_stopped, is_there_and_at_most, watch_has_stored, watch_lags, watch_is_complete, greater_if_complete, watch_greatest, watch_is_lost, watch_is_lawful, watch_broken_now, look_for_complete_view, pass_event, note_stop, standings_are_alike, watching_with_standing, watching_with_decided, watch_with_entry, watch_finish, watch_accepts, comes_after_view, store_view, place_view};
 ghost use Rattle.am_lawful_watch.specs.Watchers.{watching_of, HasWatchRoom};
 
 use crate::views::{
@@ -32,7 +32,7 @@ pub struct Watcher {
 
 /// A number that may be there is at most another.
 fn is_by(number: Option<u32>, from: u32) -> bool
-    ensures { result ≡ is_by number from }
+    ensures { result ≡ is_there_and_at_most number from }
 {
     match number {
         None => false,
@@ -41,7 +41,7 @@ fn is_by(number: Option<u32>, from: u32) -> bool
 }
 
 fn first_standings(founding: &Founding) -> [NameStanding; 256]
-    ensures { result ≡ map (first_standing founding.now) (range_with_len 0 256) }
+    ensures { result ≡ map (standing_at_start founding.now) (range_with_len 0 256) }
 {
     let mut names = [blank_standing(); 256];
     for byte in 0..256usize {
@@ -51,7 +51,7 @@ fn first_standings(founding: &Founding) -> [NameStanding; 256]
 }
 
 fn keep_above(pending: &mut Vec<Pending>, stamp: Stamp)
-    ensures { pending.new.items ≡ filter (is_above stamp) pending.old.items }
+    ensures { pending.new.items ≡ filter (comes_after_view stamp) pending.old.items }
 {
     pending.retain(|v| stamp.is_below(v.decided.view.stamp));
 }
@@ -71,7 +71,7 @@ fn place_in_all(pending: &mut Vec<Pending>, number: u32, stamp: &Stamp)
 impl Watcher {
     /// Watches a run that has no events yet.
     pub fn new(alloc: Global, founding: &Founding) -> Watcher
-        ensures { watching_of result ≡ first_watching founding.now }
+        ensures { watching_of result ≡ watching_at_start founding.now }
     {
         Watcher {
             names: first_standings(founding),
@@ -192,7 +192,7 @@ impl Watcher {
     }
 
     fn greater(&self, best: &DecidedView, v: &Pending) -> DecidedView
-        ensures { result ≡ greater (watching_of self.now) best.now v.now }
+        ensures { result ≡ greater_if_complete (watching_of self.now) best.now v.now }
     {
         if best.view.stamp.is_below(v.decided.view.stamp) && self.is_complete(v) {
             return v.decided;
@@ -234,7 +234,7 @@ impl Watcher {
     }
 
     fn broken_after(&self, best: &DecidedView) -> Option<u32>
-        requires { (watching_of self.now).count < most_word }
+        requires { (watching_of self.now).count < greatest_word }
         ensures { result ≡ watch_broken_now (watching_of self.now) best.now
             (watching_of self.now).broken }
     {
@@ -251,10 +251,10 @@ impl Watcher {
     }
 
     /// An event is over after which a view may have become complete, or somebody was lost.
-    #[tactic(auto, unfolding(am_lawful_defs::specs::Watching::look))]
+    #[tactic(auto, unfolding(am_lawful_defs::specs::Watching::look_for_complete_view))]
     fn look(&mut self)
-        requires { (watching_of self.old).count < most_word }
-        ensures { watching_of self.new ≡ look (watching_of self.old) }
+        requires { (watching_of self.old).count < greatest_word }
+        ensures { watching_of self.new ≡ look_for_complete_view (watching_of self.old) }
     {
         let best = self.greatest();
         self.broken = self.broken_after(&best);
@@ -267,8 +267,8 @@ impl Watcher {
 
     /// An event of a kind that changes no node, after which nobody has stopped who hadn't.
     pub fn pass(&mut self)
-        requires { (watching_of self.old).count < most_word }
-        ensures { watching_of self.new ≡ pass (watching_of self.old) }
+        requires { (watching_of self.old).count < greatest_word }
+        ensures { watching_of self.new ≡ pass_event (watching_of self.old) }
     {
         self.count += 1;
     }
@@ -276,8 +276,8 @@ impl Watcher {
     /// A name has stopped, by its own event or since its place returned. It takes no memory.
     pub fn stop(&mut self, name: Name)
         requires room { HasWatchRoom self.old }
-        requires few { (watching_of self.old).count < most_word }
-        ensures { watching_of self.new ≡ stop (watching_of self.old) name }
+        requires few { (watching_of self.old).count < greatest_word }
+        ensures { watching_of self.new ≡ note_stop (watching_of self.old) name }
     {
         self.stopped.push_reserved(name);
         self.look();
@@ -287,7 +287,7 @@ impl Watcher {
     /// entries that the name stored in the step; and then the step is finished. It takes no memory.
     pub fn decide(&mut self, name: Name, after: &NameStanding, decided: &DecidedView)
         requires { HasWatchRoom self.old }
-        ensures { watching_of self.new ≡ with_decided
+        ensures { watching_of self.new ≡ watching_with_decided
             (watching_of self.old) name after.now decided.now }
     {
         if decides(&self.standing(name), name, after)
@@ -313,14 +313,14 @@ impl Watcher {
     }
 
     fn stand(&mut self, name: Name, after: &NameStanding)
-        ensures { watching_of self.new ≡ with_standing (watching_of self.old) name after.now }
+        ensures { watching_of self.new ≡ watching_with_standing (watching_of self.old) name after.now }
     {
         self.names[usize::from(name.get())] = *after;
     }
 
     /// Whether the step changed nothing of what views ask for.
     fn is_quiet(&self, name: Name, after: &NameStanding) -> bool
-        ensures { result ≡ (is_alike (standing (watching_of self.now) name) after.now
+        ensures { result ≡ (standings_are_alike (standing (watching_of self.now) name) after.now
             && not (watching_of self.now).is_due) }
     {
         is_alike(&self.standing(name), after) && !self.is_due
@@ -328,7 +328,7 @@ impl Watcher {
 
     /// The name's step is over.
     pub fn finish(&mut self, name: Name, after: &NameStanding)
-        requires { (watching_of self.old).count < most_word }
+        requires { (watching_of self.old).count < greatest_word }
         ensures { watching_of self.new ≡ watch_finish (watching_of self.old) name after.now }
     {
         if self.is_quiet(name, after) {

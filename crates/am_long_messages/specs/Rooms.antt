@@ -1,6 +1,6 @@
 -- What rooms keep, as contracts see it.
 use Rattle.std.specs.Prelude.{◌≡◌, ℕ, List, map, slice_get, Option, Some, None, option_map}
-use Rattle.am_base.specs.Names.{place_of}
+use Rattle.am_base.specs.Names.{place_of_name}
 use Rattle.am_long_messages.specs.declared.room.Unfinished.{Unfinished}
 use Rattle.am_long_messages.specs.declared.room.MessageRoom.{MessageRoom}
 use Rattle.am_long_messages.specs.declared.assembler.Assembler.TheInside.{Inside}
@@ -28,7 +28,7 @@ pub record RoomKeeps (room : MessageRoom) (taken : Taken) : Type 0 where
 
 abbrev pub ended_in : List MessageRoom → Option ℕ → Option (ℕ × List ℕ)
 ended_in rooms None = None
-ended_in rooms (Some name) = option_map (λ room. (name, room.bytes.items)) (slice_get rooms (place_of name))
+ended_in rooms (Some name) = option_map (λ room. (name, room.bytes.items)) (slice_get rooms (place_of_name name))
 
 -- what all rooms keep
 abbrev pub assembly_of : Inside → Assembly

@@ -1,5 +1,5 @@
 ghost use Rattle.std.specs.Prelude.{◌≡◌, ◌<◌, ◌≤◌, IfSome, length, option_map, slice_index, true};
-ghost use Rattle.am_service_defs.specs.Parts.{most_message, part_count, part_of, part_in, ends_message, fits_message, payload_of};
+ghost use Rattle.am_service_defs.specs.Parts.{most_bytes_of_message, part_count, part_of, part_in, ends_message, fits_message, payload_of};
 ghost use Rattle.am_long_messages.specs.Reading.{part_read};
 
 use am_base::body::Body;
@@ -37,7 +37,7 @@ fn payload_of(message: &[u8], index: usize) -> &[u8]
 #[tactic(auto, unfolding(am_service_defs::specs::Parts::part_of))]
 /// A part of a message as a body to send, by its index from 0.
 pub fn part_of(message: &[u8], index: u32) -> Body
-    requires few { length message.now ≤ most_message }
+    requires few { length message.now ≤ most_bytes_of_message }
     requires within { index < part_count (length message.now) }
     ensures { result ≡ part_of message.now index }
 {

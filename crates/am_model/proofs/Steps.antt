@@ -1,5 +1,5 @@
 -- What the kept end of a node tells of the node, and what its steps are.
-use Rattle.am_model.proofs.EndWords.{◌≡◌, List, refl, sym, ◌∙◌, Outcome, NodeEvent, Letter, IsInOrder, log_is_own_end, top_of_end_is_top, top, step, row, IsEndOf, ComesTo, Does}
+use Rattle.am_model.proofs.EndWords.{◌≡◌, List, refl, sym, ◌∙◌, Outcome, NodeEvent, Letter, IsInOrder, log_is_own_end, top_of_end_is_top, top, step, row, IsEndOf, StepComesTo, DoesRow}
 use Rattle.am_model.specs.Node as protocol
 use Rattle.am_model.proofs.Hearing.{ends_step_alike}
 
@@ -12,7 +12,7 @@ node_end_has_same_top all m is = top_of_end_is_top all.core.log m.core.log is.st
 
 -- what the end does, all of it does
 pub whole_step_comes_to_end : (all m n : protocol.Node) (what : NodeEvent) (outcome : Outcome) (letters : List Letter) → IsEndOf all m → IsInOrder m.core
-    → Does (λ k. row k what) m outcome letters n → ComesTo (step all what) outcome letters n
+    → DoesRow (λ k. row k what) m outcome letters n → StepComesTo (step all what) outcome letters n
 unfolding step
 whole_step_comes_to_end all m n what outcome letters is order does =
     let s = ends_step_alike all m what is order in

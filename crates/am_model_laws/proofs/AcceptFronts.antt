@@ -1,6 +1,6 @@
 -- The accept front is the greatest, and the walk upwards gives it.
 use Rattle.am_model_laws.proofs.Words.{◌≡◌, ℕ, zero, suc, ◌+◌, ◌-◌, ◌<◌, ◌≤◌, Bool, true, false, ◌&&◌, nat_le, refl, sym, ap, ◌∙◌, inl, inr, arith, cases_lt}
-use Rattle.am_model_laws.proofs.Words.{nat_tests, Report, Log, top_of, told_by, is_held, is_satisfied, is_front, accept_front, AllSatisfied, IsGreatestFront}
+use Rattle.am_model_laws.proofs.Words.{nat_tests, Report, Log, top_of_log, image_of_log, is_held, is_satisfied, is_acceptable_front, accept_front, AllSatisfied, IsGreatestFront}
 use Rattle.am_model_laws.proofs.Words.{AcceptFrontIsGreatest, climb, climb_over, walk, AcceptFrontByWalking, split_on_bool, each_of_range_passes, range_passes_by_each, IsGreatestPassing}
 use Rattle.am_model_laws.proofs.Words.{greatest_is_greatest_passing}
 
@@ -32,13 +32,13 @@ climb_is passes from (suc more) = split_on_bool (passes (from + 1))
 -- ---- fronts
 
 -- what a front says
-front_all : (reports : ℕ → Report) (log : Log) (acc front : ℕ) → acc ≤ front → is_front reports log acc front ≡ true → AllSatisfied reports log acc front
+front_all : (reports : ℕ → Report) (log : Log) (acc front : ℕ) → acc ≤ front → is_acceptable_front reports log acc front ≡ true → AllSatisfied reports log acc front
 front_all reports log acc front within h n low high = each_of_range_passes (is_satisfied reports log front) (acc + 1) (front - acc) h n (omega arith) (omega arith)
 
-all_front : (reports : ℕ → Report) (log : Log) (acc front : ℕ) → acc ≤ front → AllSatisfied reports log acc front → is_front reports log acc front ≡ true
+all_front : (reports : ℕ → Report) (log : Log) (acc front : ℕ) → acc ≤ front → AllSatisfied reports log acc front → is_acceptable_front reports log acc front ≡ true
 all_front reports log acc front within h = range_passes_by_each (is_satisfied reports log front) (acc + 1) (front - acc) (λ k low high. h k (omega arith) (omega arith))
 
-front_from : (reports : ℕ → Report) (log : Log) (acc g : ℕ) → IsGreatestPassing (is_front reports log acc) acc (top_of log - acc) g → IsGreatestFront reports log acc g
+front_from : (reports : ℕ → Report) (log : Log) (acc g : ℕ) → IsGreatestPassing (is_acceptable_front reports log acc) acc (top_of_log log - acc) g → IsGreatestFront reports log acc g
 front_from reports log acc g h = record {
   least = h.least;
   most = (let m = h.most in omega arith);
@@ -53,20 +53,20 @@ front_from reports log acc g h = record {
 }
 
 pub accept_front_is_greatest : AcceptFrontIsGreatest
-accept_front_is_greatest reports log acc = front_from reports log acc (accept_front reports log acc) (greatest_is_greatest_passing (is_front reports log acc) acc (top_of log - acc))
+accept_front_is_greatest reports log acc = front_from reports log acc (accept_front reports log acc) (greatest_is_greatest_passing (is_acceptable_front reports log acc) acc (top_of_log log - acc))
 
 -- ---- what satisfies
 
-pub is_satisfied_above_view : (reports : ℕ → Report) (log : Log) (front number : ℕ) → (told_by log).view_number ≤ number
+pub is_satisfied_above_view : (reports : ℕ → Report) (log : Log) (front number : ℕ) → (image_of_log log).view_number ≤ number
     → is_satisfied reports log front number ≡ is_held reports log number
 is_satisfied_above_view reports log front number h =
-    let t : nat_le (told_by log).view_number number ≡ true = grind (arith, nat_tests) in
+    let t : nat_le (image_of_log log).view_number number ≡ true = grind (arith, nat_tests) in
     rw t refl
 
-pub is_satisfied_below_view : (reports : ℕ → Report) (log : Log) (front number : ℕ) → number < (told_by log).view_number
-    → is_satisfied reports log front number ≡ (nat_le (told_by log).view_number front && is_held reports log (told_by log).view_number)
+pub is_satisfied_below_view : (reports : ℕ → Report) (log : Log) (front number : ℕ) → number < (image_of_log log).view_number
+    → is_satisfied reports log front number ≡ (nat_le (image_of_log log).view_number front && is_held reports log (image_of_log log).view_number)
 is_satisfied_below_view reports log front number h =
-    let t : nat_le (told_by log).view_number number ≡ false = grind (arith, nat_tests) in
+    let t : nat_le (image_of_log log).view_number number ≡ false = grind (arith, nat_tests) in
     rw t refl
 
 -- ---- there is one greatest front
@@ -74,14 +74,14 @@ is_satisfied_below_view reports log front number h =
 pub greatest_front_is_unique : (reports : ℕ → Report) (log : Log) (acc f g : ℕ) → IsGreatestFront reports log acc f → IsGreatestFront reports log acc g → f ≡ g
 greatest_front_is_unique reports log acc f g h k =
     let hl = h.least in let kl = k.least in
-    elim (cases_lt (top_of log) acc) [
+    elim (cases_lt (top_of_log log) acc) [
       | inl none ↦ omega arith
       | inr some ↦ (let a : f ≤ g = k.greatest f hl (omega arith) h.satisfied in let b : g ≤ f = h.greatest g kl (omega arith) k.satisfied in omega arith)
     ]
 
 -- ---- the walk
 
-climb_from : (reports : ℕ → Report) (log : Log) (acc c : ℕ) → (told_by log).view_number ≤ acc → IsClimb (is_held reports log) acc (top_of log - acc) c
+climb_from : (reports : ℕ → Report) (log : Log) (acc c : ℕ) → (image_of_log log).view_number ≤ acc → IsClimb (is_held reports log) acc (top_of_log log - acc) c
     → IsGreatestFront reports log acc c
 climb_from reports log acc c reached h = record {
   least = h.least;
@@ -96,15 +96,15 @@ climb_from reports log acc c reached h = record {
 }
 
 -- the View above what is accepted is reached
-view_reached : (reports : ℕ → Report) (log : Log) (acc m c : ℕ) → (told_by log).view_number ≡ m → acc < m → m ≤ c
-    → IsClimb (is_held reports log) (m - 1) (top_of log - (m - 1)) c → IsGreatestFront reports log acc c
+view_reached : (reports : ℕ → Report) (log : Log) (acc m c : ℕ) → (image_of_log log).view_number ≡ m → acc < m → m ≤ c
+    → IsClimb (is_held reports log) (m - 1) (top_of_log log - (m - 1)) c → IsGreatestFront reports log acc c
 view_reached reports log acc m c is under reached h = record {
   least = (let l = h.least in omega arith);
   most = (let p = h.most in omega arith);
   satisfied = λ n low high. elim (cases_lt n m) [
     | inl below ↦ (let e = is_satisfied_below_view reports log c n (omega arith) in
-        let v : nat_le (told_by log).view_number c ≡ true = grind (arith, nat_tests) in
-        let held : is_held reports log (told_by log).view_number ≡ true = ap (is_held reports log) is ∙ h.passed m (omega arith) reached in
+        let v : nat_le (image_of_log log).view_number c ≡ true = grind (arith, nat_tests) in
+        let held : is_held reports log (image_of_log log).view_number ≡ true = ap (is_held reports log) is ∙ h.passed m (omega arith) reached in
         e ∙ (rw (v, held) refl))
     | inr above ↦ is_satisfied_above_view reports log c n (omega arith) ∙ h.passed n (omega arith) high
   ];
@@ -116,8 +116,8 @@ view_reached reports log acc m c is under reached h = record {
 }
 
 -- it isn't
-view_missed : (reports : ℕ → Report) (log : Log) (acc m c : ℕ) → (told_by log).view_number ≡ m → acc < m → c < m
-    → IsClimb (is_held reports log) (m - 1) (top_of log - (m - 1)) c → IsGreatestFront reports log acc acc
+view_missed : (reports : ℕ → Report) (log : Log) (acc m c : ℕ) → (image_of_log log).view_number ≡ m → acc < m → c < m
+    → IsClimb (is_held reports log) (m - 1) (top_of_log log - (m - 1)) c → IsGreatestFront reports log acc acc
 view_missed reports log acc m c is under missed h = record {
   least = omega arith;
   most = omega arith;
@@ -125,7 +125,7 @@ view_missed reports log acc m c is under missed h = record {
   greatest = λ higher low high all. elim (cases_lt acc higher) [
     | inl above ↦ elim (cases_lt higher m) [
       | inl short ↦ (let t = sym (is_satisfied_below_view reports log higher higher (omega arith)) ∙ all higher above (omega arith) in
-          let v : nat_le (told_by log).view_number higher ≡ false = grind (arith, nat_tests) in absurd (cc))
+          let v : nat_le (image_of_log log).view_number higher ≡ false = grind (arith, nat_tests) in absurd (cc))
       | inr far ↦ (let t = sym (is_satisfied_above_view reports log higher m (omega arith)) ∙ all m under far in
           let z : c + 1 ≡ m = omega arith in
           let f = sym (ap (is_held reports log) z) ∙ h.next (omega arith) in absurd (cc))
@@ -134,19 +134,19 @@ view_missed reports log acc m c is under missed h = record {
   ];
 }
 
-walk_over : (reports : ℕ → Report) (log : Log) (acc m : ℕ) → (told_by log).view_number ≡ m → acc < m
-    → IsGreatestFront reports log acc (climb_over (is_held reports log) m acc (top_of log))
+walk_over : (reports : ℕ → Report) (log : Log) (acc m : ℕ) → (image_of_log log).view_number ≡ m → acc < m
+    → IsGreatestFront reports log acc (climb_over (is_held reports log) m acc (top_of_log log))
 walk_over reports log acc m is under =
-    let h = climb_is (is_held reports log) (m - 1) (top_of log - (m - 1)) in
-    split_on_bool (nat_le m (climb (is_held reports log) (m - 1) (top_of log - (m - 1))))
-    (λ t. rw t (view_reached reports log acc m (climb (is_held reports log) (m - 1) (top_of log - (m - 1))) is under (grind (arith, nat_tests)) h))
-    (λ f. rw f (view_missed reports log acc m (climb (is_held reports log) (m - 1) (top_of log - (m - 1))) is under (grind (arith, nat_tests)) h))
+    let h = climb_is (is_held reports log) (m - 1) (top_of_log log - (m - 1)) in
+    split_on_bool (nat_le m (climb (is_held reports log) (m - 1) (top_of_log log - (m - 1))))
+    (λ t. rw t (view_reached reports log acc m (climb (is_held reports log) (m - 1) (top_of_log log - (m - 1))) is under (grind (arith, nat_tests)) h))
+    (λ f. rw f (view_missed reports log acc m (climb (is_held reports log) (m - 1) (top_of_log log - (m - 1))) is under (grind (arith, nat_tests)) h))
 
 walk_is : (reports : ℕ → Report) (log : Log) (acc : ℕ) → IsGreatestFront reports log acc (walk reports log acc)
-walk_is reports log acc = split_on_bool (nat_le (told_by log).view_number acc)
-    (λ t. rw t (climb_from reports log acc (climb (is_held reports log) acc (top_of log - acc)) (grind (arith, nat_tests))
-    (climb_is (is_held reports log) acc (top_of log - acc))))
-    (λ f. rw f (walk_over reports log acc (told_by log).view_number refl (grind (arith, nat_tests))))
+walk_is reports log acc = split_on_bool (nat_le (image_of_log log).view_number acc)
+    (λ t. rw t (climb_from reports log acc (climb (is_held reports log) acc (top_of_log log - acc)) (grind (arith, nat_tests))
+    (climb_is (is_held reports log) acc (top_of_log log - acc))))
+    (λ f. rw f (walk_over reports log acc (image_of_log log).view_number refl (grind (arith, nat_tests))))
 
 pub accept_front_by_walking : AcceptFrontByWalking
 accept_front_by_walking reports log acc = greatest_front_is_unique reports log acc (accept_front reports log acc) (walk reports log acc) (accept_front_is_greatest reports log acc)

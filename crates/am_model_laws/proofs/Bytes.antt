@@ -1,17 +1,17 @@
 -- Bytes that are heard.
 use Rattle.am_model_laws.proofs.Words.{◌≡◌, ℕ, ◌+◌, ◌<◌, ◌≤◌, nat_lt, nat_le, List, length, take, Ok, Err, refl, ap, ◌∙◌, arith, nat_tests, take_all, Entry, Data}
 use Rattle.am_model_laws.proofs.Words.{Hear, Packet, Short, BadLength, IsPacket, HasParts, spelling, fields_of, entry_bytes, Read, reading, length-rows_bytes}
-use Rattle.am_model_laws.proofs.Words.{length-spelling, reading_of_spelling, part_of_spelling_is_refused, Node, finish, read_row, row, step, hear, hear_refusal, entry_length}
+use Rattle.am_model_laws.proofs.Words.{length-spelling, reading_of_spelling, part_of_spelling_is_refused, Node, finish, row_of_read_bytes, row, step, hear_packet, hear_refused_bytes, entry_length}
 use Rattle.am_model_laws.proofs.Words.{packet_length, SpellingIsHeard, CutIsHeard, split_on_bool}
 use Rattle.am_packet.specs.declared.packet.Packet.TheVariants as packets
 
 -- bytes, by what is read of them
-by_reading : (m : Node) (bytes : List ℕ) (read : Read Packet) → reading bytes ≡ read → step m (Hear bytes) ≡ finish m (read_row m read)
+by_reading : (m : Node) (bytes : List ℕ) (read : Read Packet) → reading bytes ≡ read → step m (Hear bytes) ≡ finish m (row_of_read_bytes m read)
 unfolding step row
-by_reading m bytes read is = ap (λ r. finish m (read_row m r)) is
+by_reading m bytes read is = ap (λ r. finish m (row_of_read_bytes m r)) is
 
 pub spelled_packet_is_heard : SpellingIsHeard
-unfolding hear
+unfolding hear_packet
 spelled_packet_is_heard m packet is = by_reading m (spelling packet) (Ok packet) (reading_of_spelling packet is)
 
 length-entry : (e : Entry) → length (entry_bytes e) ≡ entry_length e
@@ -32,7 +32,7 @@ long : (packet : Packet) → IsPacket packet → length (spelling packet) ≡ pa
 long packet is = length-spelling packet ∙ length-fields packet is.parts
 
 pub cut_packet_whole_or_refused : CutIsHeard
-unfolding hear_refusal
+unfolding hear_refused_bytes
 cut_packet_whole_or_refused m packet keep is =
     let many = long packet is in
     let bytes = spelling packet in

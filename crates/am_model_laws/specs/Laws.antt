@@ -7,10 +7,10 @@ use Rattle.am_base.specs.declared.image.Vote.{Vote}
 use Rattle.am_base.specs.declared.image.Row.{Row}
 use Rattle.am_base.specs.declared.entry.Entry.{Entry}
 use Rattle.am_base.specs.declared.entry.Entry.TheVariants.{Data}
-use Rattle.am_base.specs.Names.{name_lt}
-use Rattle.am_base.specs.Votes.{Shown, vote_lt, best_vote}
+use Rattle.am_base.specs.Names.{name_is_less}
+use Rattle.am_base.specs.Votes.{NamedVote, vote_is_less, best_vote}
 use Rattle.am_base.specs.declared.name.Stamp.{Stamp}
-use Rattle.am_base.specs.Lists.{Log, at_place, row_of, after, fits, fold, AllFit, top_of, told_by, with_entry}
+use Rattle.am_base.specs.Lists.{Log, row_at_place, row_of_name, after, fits, image_after_entries, AllEntriesFit, top_of_log, image_of_log, log_with_entry}
 use Rattle.am_base.specs.Fronts.{is_held, is_satisfied, accept_front}
 use Rattle.am_base.specs.declared.event.NodeEvent.{NodeEvent}
 use Rattle.am_base.specs.declared.event.NodeEvent.TheVariants.{Hear}
@@ -18,19 +18,19 @@ use Rattle.am_packet.specs.declared.packet.Packet.{Packet}
 use Rattle.am_packet.specs.declared.packet.Packet.TheVariants as packet
 use Rattle.am_packet.specs.Limits.{IsPacket}
 use Rattle.am_packet.specs.Spelling.{spelling}
-use Rattle.am_model.specs.Node.{Node, top, image_of, report_fits, has_room, is_sequencer}
-use Rattle.am_model.specs.Emit.{Step}
+use Rattle.am_model.specs.Node.{Node, top, image_of_node, report_fits, has_room, is_sequencer}
+use Rattle.am_model.specs.Emit.{StepResult}
 use Rattle.am_model.specs.Sequencing.{take_report}
-use Rattle.am_model.specs.Hearing.{hears_as_sequencer}
+use Rattle.am_model.specs.Hearing.{sequencer_hears_packet}
 use Rattle.am_base.specs.declared.outcome.Outcome.{Outcome}
 use Rattle.am_base.specs.declared.outcome.Outcome.TheVariants as said
 use Rattle.am_group_defs.specs.World.{hear_cut}
 use Rattle.am_model.specs.Refresh.{refresh}
-use Rattle.am_model.specs.Step.{step, hear}
+use Rattle.am_model.specs.Step.{step, hear_packet}
 
 -- a list that goes on tells what its beginning tells, and then the rest
 abbrev pub FoldGoesOn : Type 0
-FoldGoesOn = (image : Image) (number : ℕ) (xs ys : List Entry) → fold image number (xs ++ ys) ≡ fold (fold image number xs) (number + length xs) ys
+FoldGoesOn = (image : Image) (number : ℕ) (xs ys : List Entry) → image_after_entries image number (xs ++ ys) ≡ image_after_entries (image_after_entries image number xs) (number + length xs) ys
 
 -- a second refresh in a row changes nothing
 abbrev pub RefreshOnce : Type 0
@@ -40,7 +40,7 @@ RefreshOnce = (m : Node) → refresh (refresh m) ≡ refresh m
 
 -- a packet's spelling is heard as that packet
 abbrev pub SpellingIsHeard : Type 0
-SpellingIsHeard = (m : Node) (packet : Packet) → IsPacket packet → step m (Hear (spelling packet)) ≡ hear m packet
+SpellingIsHeard = (m : Node) (packet : Packet) → IsPacket packet → step m (Hear (spelling packet)) ≡ hear_packet m packet
 
 -- the first bytes of a spelling are heard as a cut packet: whole where all are there, and refused else
 abbrev pub CutIsHeard : Type 0
@@ -55,9 +55,9 @@ AllSatisfied reports log acc front = (number : ℕ) → acc < number → number 
 -- the greatest number up to which all is satisfied
 pub record IsGreatestFront (reports : ℕ → Report) (log : Log) (acc front : ℕ) : Type 0 where
   pub least : acc ≤ front
-  pub most : front ≤ max acc (top_of log)
+  pub most : front ≤ max acc (top_of_log log)
   pub satisfied : AllSatisfied reports log acc front
-  pub greatest : (higher : ℕ) → acc ≤ higher → higher ≤ top_of log → AllSatisfied reports log acc higher → higher ≤ front
+  pub greatest : (higher : ℕ) → acc ≤ higher → higher ≤ top_of_log log → AllSatisfied reports log acc higher → higher ≤ front
 
 abbrev pub AcceptFrontIsGreatest : Type 0
 AcceptFrontIsGreatest = (reports : ℕ → Report) (log : Log) (acc : ℕ) → IsGreatestFront reports log acc (accept_front reports log acc)
@@ -74,8 +74,8 @@ climb_over passes view acc top = if nat_le view (climb passes (view - 1) (top - 
 -- the walk upwards: entry by entry from what is accepted on, or from the last View where that is higher
 abbrev pub walk : (ℕ → Report) → Log → ℕ → ℕ
 walk reports log acc =
-    if nat_le (told_by log).view_number acc then climb (is_held reports log) acc (top_of log - acc)
-    else climb_over (is_held reports log) (told_by log).view_number acc (top_of log)
+    if nat_le (image_of_log log).view_number acc then climb (is_held reports log) acc (top_of_log log - acc)
+    else climb_over (is_held reports log) (image_of_log log).view_number acc (top_of_log log)
 
 abbrev pub AcceptFrontByWalking : Type 0
 AcceptFrontByWalking = (reports : ℕ → Report) (log : Log) (acc : ℕ) → accept_front reports log acc ≡ walk reports log acc
@@ -89,12 +89,12 @@ FewLetters = (m : Node) (event : NodeEvent) → length (step m event).letters �
 -- ---- votes
 
 -- who showed a vote, and which is the best: the greatest, of the coordinator where it is among the greatest, else of the lowest name
-pub record IsBestVote (votes : ℕ → Option Vote) (own : ℕ) (vote : Vote) (best : Shown) : Type 0 where
+pub record IsBestVote (votes : ℕ → Option Vote) (own : ℕ) (vote : Vote) (best : NamedVote) : Type 0 where
   pub shown : ((best.by ≡ own) × (best.vote ≡ vote)) ⊎ (votes best.by ≡ Some best.vote)
-  pub above_own : vote_lt best.vote vote ≡ false
-  pub above_all : (name : ℕ) (v : Vote) → name < 256 → votes name ≡ Some v → vote_lt best.vote v ≡ false
-  pub own_first : best.by ≢ own → vote_lt vote best.vote ≡ true
-  pub lowest : best.by ≢ own → (name : ℕ) (v : Vote) → name < 256 → name_lt name best.by ≡ true → votes name ≡ Some v → vote_lt v best.vote ≡ true
+  pub above_own : vote_is_less best.vote vote ≡ false
+  pub above_all : (name : ℕ) (v : Vote) → name < 256 → votes name ≡ Some v → vote_is_less best.vote v ≡ false
+  pub own_first : best.by ≢ own → vote_is_less vote best.vote ≡ true
+  pub lowest : best.by ≢ own → (name : ℕ) (v : Vote) → name < 256 → name_is_less name best.by ≡ true → votes name ≡ Some v → vote_is_less v best.vote ≡ true
 
 -- of votes whose views' names are names
 abbrev pub BestVoteIsGreatest : Type 0
@@ -121,13 +121,13 @@ abbrev pub RowStep : ℕ → Row → Row → Type 0
 RowStep number before after_ = (RowStays before after_ ⊎ HasSent before after_) ⊎ (RowHasLeft number before after_ ⊎ HasJoined number before after_)
 
 abbrev pub RowsGoOn : Type 0
-RowsGoOn = (image : Image) (number : ℕ) (e : Entry) (name : ℕ) → fits image e ≡ true → 0 < (at_place image name).joined
-    → RowStep number (at_place image name) (at_place (after image number e) name)
+RowsGoOn = (image : Image) (number : ℕ) (e : Entry) (name : ℕ) → fits image e ≡ true → 0 < (row_at_place image name).joined
+    → RowStep number (row_at_place image name) (row_at_place (after image number e) name)
 
 -- a Data has the request after its sender's last, which it becomes
 abbrev pub DataGoesOn : Type 0
-DataGoesOn = (image : Image) (number from req : ℕ) (body : List ℕ) → fits image (Data from req body) ≡ true → (req ≡ (row_of image from).last + 1)
-    × ((row_of (after image number (Data from req body)) from).last ≡ req)
+DataGoesOn = (image : Image) (number from req : ℕ) (body : List ℕ) → fits image (Data from req body) ≡ true → (req ≡ (row_of_name image from).last + 1)
+    × ((row_of_name (after image number (Data from req body)) from).last ≡ req)
 
 -- the same membership, or a later one of the place
 pub record IsSameMembership (before after_ : Row) : Type 0 where
@@ -141,8 +141,8 @@ RowGoesOn before after_ = IsSameMembership before after_ ⊎ (before.life < afte
 
 -- along a list a name's number of joining never changes, nor does its last request fall, until a greater life takes its place
 abbrev pub MembershipsGoOn : Type 0
-MembershipsGoOn = (image : Image) (number : ℕ) (es : List Entry) (name : ℕ) → 0 < number → AllFit image number es → 0 < (at_place image name).joined
-    → RowGoesOn (at_place image name) (at_place (fold image number es) name)
+MembershipsGoOn = (image : Image) (number : ℕ) (es : List Entry) (name : ℕ) → 0 < number → AllEntriesFit image number es → 0 < (row_at_place image name).joined
+    → RowGoesOn (row_at_place image name) (row_at_place (image_after_entries image number es) name)
 
 -- ---- held
 
@@ -153,10 +153,10 @@ send_packet false s v report req body = packet.Request s v report req body
 
 -- a member's next send, with a report that fits
 pub record IsNextSend (m : Node) (s : ℕ) (report : Report) (req : ℕ) : Type 0 where
-  pub known : 0 < (row_of (image_of m) s).joined
+  pub known : 0 < (row_of_name (image_of_node m) s).joined
   pub fits : report_fits m report ≡ true
-  pub stays : (row_of (image_of m) s).left ≡ 0
-  pub next : req ≡ (row_of (image_of m) s).last + 1
+  pub stays : (row_of_name (image_of_node m) s).left ≡ 0
+  pub next : req ≡ (row_of_name (image_of_node m) s).last + 1
 
 abbrev pub OutcomeIsHeld : Outcome → Type 0
 OutcomeIsHeld outcome = (base : ℕ) × (high : ℕ) × (outcome ≡ said.Held base high)
@@ -164,8 +164,8 @@ OutcomeIsHeld outcome = (base : ℕ) × (high : ℕ) × (outcome ≡ said.Held b
 -- a send that passes its gate is held exactly where it is a member's next one, with a report that fits, and there is no room
 -- once that is taken
 abbrev pub HeldExactly : Type 0
-HeldExactly = (m : Node) (s : ℕ) (v : Stamp) (report : Report) (req : ℕ) (body : List ℕ) (spread : Bool) → hears_as_sequencer m s v ≡ true
-    → OutcomeIsHeld (hear m (send_packet spread s v report req body)).outcome ↔ (IsNextSend m s report req × (has_room (take_report m s report) ≡ false))
+HeldExactly = (m : Node) (s : ℕ) (v : Stamp) (report : Report) (req : ℕ) (body : List ℕ) (spread : Bool) → sequencer_hears_packet m s v ≡ true
+    → OutcomeIsHeld (hear_packet m (send_packet spread s v report req body)).outcome ↔ (IsNextSend m s report req × (has_room (take_report m s report) ≡ false))
 
 -- why a send stays without a number, where it isn't held
 pub data IsTurnedDown : Outcome → Type 0 where
@@ -177,12 +177,12 @@ pub data IsTurnedDown : Outcome → Type 0 where
 
 -- what a step makes of a send: it has the next number; it is held, with the base and the top of the node after the step; or
 -- it is turned down
-pub data IsAnswered (m : Node) (s req : ℕ) (body : List ℕ) (done : Step) : Type 0 where
-  numbered : done.outcome ≡ said.Numbered (top m + 1) → done.node.core.log ≡ with_entry m.core.log (Data s req body) → IsAnswered m s req body done
+pub data IsAnswered (m : Node) (s req : ℕ) (body : List ℕ) (done : StepResult) : Type 0 where
+  numbered : done.outcome ≡ said.Numbered (top m + 1) → done.node.core.log ≡ log_with_entry m.core.log (Data s req body) → IsAnswered m s req body done
   held : done.outcome ≡ said.Held done.node.core.base (top done.node) → done.node.core.log ≡ m.core.log → IsAnswered m s req body done
   turned_down : IsTurnedDown done.outcome → done.node.core.log ≡ m.core.log → IsAnswered m s req body done
 
 -- and a sequencer gives no other answer to a send
 abbrev pub SendsAnswered : Type 0
 SendsAnswered = (m : Node) (s : ℕ) (v : Stamp) (report : Report) (req : ℕ) (body : List ℕ) (spread : Bool) → is_sequencer m ≡ true
-    → IsAnswered m s req body (hear m (send_packet spread s v report req body))
+    → IsAnswered m s req body (hear_packet m (send_packet spread s v report req body))

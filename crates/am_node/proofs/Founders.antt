@@ -8,21 +8,21 @@ use Rattle.std.proofs.Math.ListN.{get_or-map}
 use Rattle.am_base.specs.declared.image.Report.{Report}
 use Rattle.am_base.specs.declared.image.Row.{Row}
 use Rattle.am_base.specs.Founding.{Rules, MayFound}
-use Rattle.am_base.specs.Names.{place_of, has, by_place}
-use Rattle.am_base.specs.Lists.{top_of, told_by, blank, blank_row, member_life, row_after_view, fold, after, fits}
+use Rattle.am_base.specs.Names.{place_of_name, has, list_by_place}
+use Rattle.am_base.specs.Lists.{top_of_log, image_of_log, blank, blank_row, member_life_of_row, row_after_view, image_after_entries, after, fits}
 use Rattle.am_base.proofs.Places.{sixteen_items_are_by_place, get_or-by_place, length-by_place}
 use Rattle.am_node_defs.specs.Cores.{CoreState}
 use Rattle.am_node_defs.proofs.Folds.{split_on_bool_of_log}
-use Rattle.am_node_defs.specs.Reports.{no_report, no_reports, after_report}
-use Rattle.am_model.specs.Node.{Node, members, stranger, founder, founders_entry}
+use Rattle.am_node_defs.specs.Reports.{no_report, no_reports, reports_after_report}
+use Rattle.am_model.specs.Node.{Node, members, stranger_node, founder, founders_entry}
 use Rattle.am_model.proofs.Founders.{lowest_founder_founds}
 use Rattle.am_node_parts.specs.Keeps.{NodeKeeps}
 use Rattle.am_node_parts.proofs.Due.{first_request_is_due}
 use Rattle.am_node_parts.proofs.Keeping.{steady_node_keeps_order}
 
 -- a node that nothing has happened to
-pub stranger_keeps_node_order : (rules : Rules) (who : ℕ) → NodeKeeps (stranger rules who)
-unfolding fold
+pub stranger_keeps_node_order : (rules : Rules) (who : ℕ) → NodeKeeps (stranger_node rules who)
+unfolding image_after_entries
 stranger_keeps_node_order rules who = record {
   own = omega arith;
   leads = λ is. absurd (cc);
@@ -49,23 +49,23 @@ blank_at place = split_on_bool_of_log (nat_lt place 16)
     (λ t. get_or-replicate 16 place blank_row blank_row (grind (arith, nat_tests)))
     (λ f. get_or_past (replicate 16 blank_row) place blank_row (grind (arith, nat_tests)))
 
-life_back : (life : ℕ) → member_life (row_after_view true 1 life blank_row) ≡ life
+life_back : (life : ℕ) → member_life_of_row (row_after_view true 1 life blank_row) ≡ life
 life_back life = split_on_bool_of_log (life == 0) (λ t. rw t (grind (arith, nat_tests))) (λ f. rw f refl)
 
 -- the founders are the members
 founders_members : (rules : Rules) (who : ℕ) → MayFound rules → members (founder rules who) ≡ rules.founders
-unfolding fold after
+unfolding image_after_entries after
 founders_members rules who may =
     let g : ℕ → Row = λ place. row_after_view true 1 (slice_index rules.founders place) blank_row in
-    let rows : members (founder rules who) ≡ map member_life (by_place g) =
-    λ i. map member_life (by_place (λ place. row_after_view true 1 (slice_index rules.founders place) (blank_at place i))) in
+    let rows : members (founder rules who) ≡ map member_life_of_row (list_by_place g) =
+    λ i. map member_life_of_row (list_by_place (λ place. row_after_view true 1 (slice_index rules.founders place) (blank_at place i))) in
     rows
-    ∙ sixteen_items_are_by_place (slice_index rules.founders) (map member_life (by_place g)) 0 (length-map (by_place g) member_life ∙ length-by_place g)
-    (λ k low. get_or-map member_life (by_place g) k blank_row ∙ ap member_life (get_or-by_place g k blank_row low) ∙ life_back (slice_index rules.founders k))
+    ∙ sixteen_items_are_by_place (slice_index rules.founders) (map member_life_of_row (list_by_place g)) 0 (length-map (list_by_place g) member_life_of_row ∙ length-by_place g)
+    (λ k low. get_or-map member_life_of_row (list_by_place g) k blank_row ∙ ap member_life_of_row (get_or-by_place g k blank_row low) ∙ life_back (slice_index rules.founders k))
     ∙ sym (sixteen_items_are_by_place (slice_index rules.founders) rules.founders 0 may.names.places (λ k low. refl))
 
 pub founder_keeps_node_order : (rules : Rules) (who : ℕ) → MayFound rules → has rules.founders who ≡ true → NodeKeeps (founder rules who)
-unfolding fold after
+unfolding image_after_entries after
 founder_keeps_node_order rules who may there = record {
   own = rw there (omega arith);
   leads = λ is. ap (λ set. has set who) (founders_members rules who may) ∙ there;
@@ -84,8 +84,8 @@ node_keeps_as_equal_node m n core own status ballot leaving sends keeps =
     steady_node_keeps_order m n (record {
       who = ap (λ (c : CoreState). c.who) core;
       promise = ap (λ (c : CoreState). c.promise) core;
-      told = ap (λ (c : CoreState). told_by c.log) core;
-      top = ap (λ (c : CoreState). top_of c.log) core;
+      told = ap (λ (c : CoreState). image_of_log c.log) core;
+      top = ap (λ (c : CoreState). top_of_log c.log) core;
       status = status;
       ballot = ballot;
       leaving = leaving;
@@ -103,7 +103,7 @@ no_founder_reported_at_first founders reports is = λ name.
     ap (λ (r : ℕ → Report). r name) is ∙ rw low refl
 
 pub founders_reported_with_next : (founders : List ℕ) (reports new : ℕ → Report) (high : ℕ) → FoundersReportedUpTo founders reports high
-    → new ≡ (if has founders high then after_report reports high (record { stored = 1; taken = 0 }) else reports) → FoundersReportedUpTo founders new (high + 1)
+    → new ≡ (if has founders high then reports_after_report reports high (record { stored = 1; taken = 0 }) else reports) → FoundersReportedUpTo founders new (high + 1)
 founders_reported_with_next founders reports new high before is = λ name.
     let past : nat_lt high high ≡ false = grind (arith, nat_tests) in
     let zero : reports high ≡ no_report = before high ∙ rw past refl in
@@ -111,7 +111,7 @@ founders_reported_with_next founders reports new high before is = λ name.
     ap (λ (r : ℕ → Report). r name) is ∙ split_on_bool_of_log (name == high)
     (λ e.
     let same : name ≡ high = grind (arith, nat_tests) in
-    subst (λ n. (if has founders high then after_report reports high (record { stored = 1; taken = 0 }) else reports) n
+    subst (λ n. (if has founders high then reports_after_report reports high (record { stored = 1; taken = 0 }) else reports) n
     ≡ (if nat_lt n (high + 1) && has founders n then record { stored = 1; taken = 0 } else no_report)) (sym same)
     (split_on_bool_of_log (has founders high)
     (λ t. let own : (high == high) ≡ true = grind (arith, nat_tests) in rw (t, next, own, zero) refl)
@@ -124,9 +124,9 @@ founders_reported_with_next founders reports new high before is = λ name.
     (λ n. rw n (before name ∙ ap (λ b. if b && has founders name then record { stored = 1; taken = 0 } else no_report) same)))
 
 none_above : (founders : List ℕ) (name : ℕ) → EachIndex founders (λ place. slice_index founders place ≤ 1) → 256 ≤ name → has founders name ≡ false
-none_above founders name lives high = split_on_bool_of_log (nat_lt (place_of name) (length founders))
-    (λ t. let low : slice_index founders (place_of name) ≤ 1 = lives (place_of name) (grind (arith, nat_tests)) in grind (arith, nat_tests))
-    (λ f. let past : slice_index founders (place_of name) ≡ 0 = get_or_past founders (place_of name) 0 (grind (arith, nat_tests)) in grind (arith, nat_tests))
+none_above founders name lives high = split_on_bool_of_log (nat_lt (place_of_name name) (length founders))
+    (λ t. let low : slice_index founders (place_of_name name) ≤ 1 = lives (place_of_name name) (grind (arith, nat_tests)) in grind (arith, nat_tests))
+    (λ f. let past : slice_index founders (place_of_name name) ≡ 0 = get_or_past founders (place_of_name name) 0 (grind (arith, nat_tests)) in grind (arith, nat_tests))
 
 pub all_founders_have_reported : (founders : List ℕ) (reports : ℕ → Report) (high : ℕ) → high ≡ 256 → EachIndex founders (λ place. slice_index founders place ≤ 1)
     → FoundersReportedUpTo founders reports high → reports ≡ (λ name. if has founders name then record { stored = 1; taken = 0 } else no_report)

@@ -3,7 +3,7 @@ ghost use Rattle.am_base.specs.declared.event.NodeEvent.TheVariants as does;
 ghost use Rattle.am_node_parts.specs.Prelude.{node_of};
 ghost use Rattle.am_node_parts.specs.Replies.{Replies};
 ghost use Rattle.am_model.specs.Step.{row};
-ghost use Rattle.am_model.specs.Nodes.{HasNumbersLeft, HasPlace};
+ghost use Rattle.am_model.specs.Nodes.{HasNumbersLeft, HasRoomForTakenBody};
 
 use crate::hearing::hear_bytes;
 use am_base::event::NodeEvent;
@@ -44,7 +44,7 @@ fn reply_without<'a>(parts: &mut Parts, event: &'a NodeEvent) -> Reply<'a>
 #[tactic(auto, unfolding(am_model::specs::Step::row))]
 pub fn reply_to<'a>(parts: &mut Parts, event: &'a NodeEvent, spare: Option<EntryRoom>) -> Reply<'a>
     requires numbers { HasNumbersLeft (node_of parts.old) }
-    requires place { HasPlace (node_of parts.old) event.now spare }
+    requires place { HasRoomForTakenBody (node_of parts.old) event.now spare }
     ensures { Replies (row (node_of parts.old) event.now) result (node_of parts.new) }
 {
     let NodeEvent::Take = event else {

@@ -2,8 +2,8 @@ ghost use Rattle.std.specs.Prelude.{◌≡◌, ◌+◌, ◌≤◌, [], EachIndex
 ghost use Rattle.am_base.specs.Lists.{blank};
 ghost use Rattle.am_node_parts.specs.Prelude.{has, node_of};
 ghost use Rattle.am_base.specs.Founding.{MayFound};
-ghost use Rattle.am_node_defs.specs.Reports.{reports_of, after_report, no_report};
-ghost use Rattle.am_model.specs.Node.{founder, stranger, founders_entry, founding_stamp};
+ghost use Rattle.am_node_defs.specs.Reports.{reports_of, reports_after_report, no_report};
+ghost use Rattle.am_model.specs.Node.{founder, stranger_node, founders_entry, founding_stamp};
 
 use am_base::entry::{Entry, GroupView};
 use am_base::founding::Founding;
@@ -79,7 +79,7 @@ impl Room {
 fn first_core(log: History, name: Name, founding: &Founding) -> Core<History>
     requires list { log.list ≡ record { start = 0; image = blank; entries = [] } }
     requires capacity { log.capacity ≡ founding.now.window + 15 }
-    ensures value { result ≡ (stranger founding.now name).core }
+    ensures value { result ≡ (stranger_node founding.now name).core }
 {
     Core {
         who: name,
@@ -95,7 +95,7 @@ fn first_core(log: History, name: Name, founding: &Founding) -> Core<History>
 
 /// The parts of a name that no one has seen.
 pub fn stranger(room: Room, name: Name) -> Parts
-    ensures { node_of result ≡ stranger room name }
+    ensures { node_of result ≡ stranger_node room name }
 {
     let core = first_core(room.log, name, &room.founding);
     Parts {
@@ -111,7 +111,7 @@ pub fn stranger(room: Room, name: Name) -> Parts
 
 /// A founder has stored the founders' View.
 fn report_first(fronts: &mut Fronts, founders: Names, name: Name)
-    ensures { reports_of fronts.new ≡ (if has founders name then after_report
+    ensures { reports_of fronts.new ≡ (if has founders name then reports_after_report
         (reports_of fronts.old) name (record { stored = 1; taken = 0 }) else
         reports_of fronts.old) }
 {
@@ -173,7 +173,7 @@ pub fn founder(room: Room, name: Name) -> Parts
 /// The parts of a name at its beginning: of a founder where it is one of the founders, and else of a name that no one has seen.
 pub fn first(room: Room, name: Name) -> Parts
     ensures { node_of result ≡ (if has room.founders name then founder room name else
-        stranger room name) }
+        stranger_node room name) }
 {
     if room.founding.founders().has(name) {
         return founder(room, name);

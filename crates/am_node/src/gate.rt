@@ -1,6 +1,6 @@
 ghost use Rattle.std.specs.Prelude.{◌≡◌};
 ghost use Rattle.am_node_parts.specs.Prelude.{node_of};
-ghost use Rattle.am_model.specs.Hearing.{hears_member, hears_asking, hears_in_view, hears_as_sequencer, hears_sequencer, is_heard};
+ghost use Rattle.am_model.specs.Hearing.{member_hears_other, member_or_asker_hears_other, hears_packet_of_its_view, sequencer_hears_packet, hears_packet_of_sequencer, packet_is_heard};
 
 use am_base::name::{Name, Stamp};
 use am_model::status::Status;
@@ -11,21 +11,21 @@ use am_packet::packet::Packet;
 
 /// Whether a member hears another name's packet.
 fn hears_member(parts: &Parts, from: Name) -> bool
-    ensures { result ≡ hears_member (node_of parts.now) from }
+    ensures { result ≡ member_hears_other (node_of parts.now) from }
 {
     from != parts.core.who && parts.status == Status::Member
 }
 
 /// Whether a member, or a node that asks to join, hears another name's packet.
 fn hears_asking(parts: &Parts, from: Name) -> bool
-    ensures { result ≡ hears_asking (node_of parts.now) from }
+    ensures { result ≡ member_or_asker_hears_other (node_of parts.now) from }
 {
     from != parts.core.who && (parts.status == Status::Member || parts.status == Status::Asking)
 }
 
 /// Whether a packet is one of the view in which the node acts.
 fn hears_in_view(parts: &Parts, from: Name, stamp: Stamp) -> bool
-    ensures { result ≡ hears_in_view (node_of parts.now) from stamp }
+    ensures { result ≡ hears_packet_of_its_view (node_of parts.now) from stamp }
 {
     let view = parts.core.log.view();
     hears_member(parts, from) && parts.acts() && stamp.round == view.round && stamp.by == view.by
@@ -33,21 +33,21 @@ fn hears_in_view(parts: &Parts, from: Name, stamp: Stamp) -> bool
 
 /// Whether a packet is one for the sequencer.
 fn hears_as_sequencer(parts: &Parts, from: Name, stamp: Stamp) -> bool
-    ensures { result ≡ hears_as_sequencer (node_of parts.now) from stamp }
+    ensures { result ≡ sequencer_hears_packet (node_of parts.now) from stamp }
 {
     hears_in_view(parts, from, stamp) && parts.is_sequencer()
 }
 
 /// Whether a packet is one of the sequencer.
 fn hears_sequencer(parts: &Parts, from: Name, stamp: Stamp) -> bool
-    ensures { result ≡ hears_sequencer (node_of parts.now) from stamp }
+    ensures { result ≡ hears_packet_of_sequencer (node_of parts.now) from stamp }
 {
     hears_in_view(parts, from, stamp) && stamp.by == from
 }
 
 /// Whether a packet is heard, by the gate of its kind.
 pub fn is_heard(parts: &Parts, packet: &Packet) -> bool
-    ensures { result ≡ is_heard (node_of parts.now) packet.now }
+    ensures { result ≡ packet_is_heard (node_of parts.now) packet.now }
 {
     let (sender, stamp) = packet.signature();
     match packet.kind().gate() {

@@ -2,9 +2,9 @@ ghost use Rattle.std.specs.Prelude.{◌≡◌, true};
 ghost use Rattle.am_packet.specs.Reading.{reading};
 ghost use Rattle.am_node_parts.specs.Prelude.{PacketIsWithin, node_of};
 ghost use Rattle.am_node_parts.specs.Replies.{Replies};
-ghost use Rattle.am_model.specs.Hearing.{is_heard, heard_row, hear_row};
+ghost use Rattle.am_model.specs.Hearing.{packet_is_heard, heard_row, hear_row};
 ghost use Rattle.am_model.specs.Nodes.{HasNumbersLeft};
-ghost use Rattle.am_model.specs.Step.{read_row};
+ghost use Rattle.am_model.specs.Step.{row_of_read_bytes};
 
 use crate::gate::is_heard;
 use am_base::name::Name;
@@ -38,7 +38,7 @@ fn told(sender: Name, base: u32, acc: u32, number: u32) -> Told
 /// Does the row of a packet of the view in which the node acts, or that names join and leave by. A body that its sender spread
 /// is numbered by the sequencer, and kept by another member.
 fn heard_row<'a>(parts: &mut Parts, packet: &Packet<'a>) -> Reply<'a>
-    requires heard { is_heard (node_of parts.old) packet.now ≡ true }
+    requires heard { packet_is_heard (node_of parts.old) packet.now ≡ true }
     requires within { PacketIsWithin packet.now }
     requires numbers { HasNumbersLeft (node_of parts.old) }
     ensures { Replies (heard_row (node_of parts.old) packet.now) result (node_of parts.new) }
@@ -191,7 +191,7 @@ fn hear<'a>(parts: &mut Parts, packet: &Packet<'a>) -> Reply<'a>
 /// Hears bytes. Those that spell no packet are refused by their cause.
 pub fn hear_bytes<'a>(parts: &mut Parts, bytes: &'a [u8]) -> Reply<'a>
     requires { HasNumbersLeft (node_of parts.old) }
-    ensures { Replies (read_row (node_of parts.old) (reading bytes.now)) result
+    ensures { Replies (row_of_read_bytes (node_of parts.old) (reading bytes.now)) result
         (node_of parts.new) }
 {
     match &decode(bytes) {

@@ -1,7 +1,7 @@
 ghost use Rattle.std.specs.Prelude.{◌≡◌, option_map};
 ghost use Rattle.am_node_parts.specs.Prelude.{node_of};
 ghost use Rattle.am_ballots.specs.Kept.{ballot_of};
-ghost use Rattle.am_model.specs.Info.{role_by, role_of, info_of, waited_in, waited_for, end_of, ballot_end};
+ghost use Rattle.am_model.specs.Info.{role_by_status, role_of_node, info_of_node, names_waited_for_by_outcome, names_waited_for, end_of_ballot, end_of_ballot_of_round};
 
 use am_ballots::ballot::Ballot;
 use am_base::names::Names;
@@ -13,7 +13,7 @@ use am_node_storage::log::Log;
 
 /// The role that a status gives to who leads nothing.
 fn role_by(status: Status) -> Role
-    ensures { result ≡ role_by status }
+    ensures { result ≡ role_by_status status }
 {
     match status {
         Status::Stranger => Role::Stranger,
@@ -25,7 +25,7 @@ fn role_by(status: Status) -> Role
 
 /// The role of a node: that of its unfinished ballot, that of its own view, or that of its status.
 fn role_of(parts: &Parts) -> Role
-    ensures { result ≡ role_of (node_of parts.now) }
+    ensures { result ≡ role_of_node (node_of parts.now) }
 {
     if let Some(ballot) = &parts.ballot {
         if !ballot.is_over() {
@@ -40,7 +40,7 @@ fn role_of(parts: &Parts) -> Role
 
 /// What a node knows of itself and of its group.
 pub fn info_of(parts: &Parts) -> Info
-    ensures { result ≡ info_of (node_of parts.now) }
+    ensures { result ≡ info_of_node (node_of parts.now) }
 {
     let log = &parts.core.log;
     Info {
@@ -57,7 +57,7 @@ pub fn info_of(parts: &Parts) -> Info
 
 /// The names whose votes a ballot waits for that was last answered this.
 fn waited_in(answer: &Outcome) -> Names
-    ensures { result ≡ waited_in answer.now }
+    ensures { result ≡ names_waited_for_by_outcome answer.now }
 {
     match answer {
         Outcome::Waiting { names } => *names,
@@ -67,7 +67,7 @@ fn waited_in(answer: &Outcome) -> Names
 
 /// The names whose votes a ballot still wants; nobody where there is none or it is over.
 pub fn waited_for(ballot: &Option<Ballot>) -> Names
-    ensures { result ≡ waited_for (option_map ballot_of ballot.now) }
+    ensures { result ≡ names_waited_for (option_map ballot_of ballot.now) }
 {
     match ballot {
         Some(ballot) if !ballot.is_over() => waited_in(ballot.answer()),
@@ -77,7 +77,7 @@ pub fn waited_for(ballot: &Option<Ballot>) -> Names
 
 /// How a ballot stands.
 fn end_of(ballot: &Ballot) -> BallotEnd
-    ensures { result ≡ end_of (ballot_of ballot.now) }
+    ensures { result ≡ end_of_ballot (ballot_of ballot.now) }
 {
     let answer = ballot.answer().copy();
     if ballot.is_over() {
@@ -88,7 +88,7 @@ fn end_of(ballot: &Ballot) -> BallotEnd
 
 /// How the ballot of a round stands; None where the last ballot's round is lower, or there is none.
 pub fn ballot_end(ballot: &Option<Ballot>, round: u32) -> Option<BallotEnd>
-    ensures { result ≡ ballot_end round (option_map ballot_of ballot.now) }
+    ensures { result ≡ end_of_ballot_of_round round (option_map ballot_of ballot.now) }
 {
     let ballot = ballot.as_ref()?;
     let stamp = ballot.stamp();

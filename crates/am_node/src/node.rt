@@ -1,5 +1,5 @@
-ghost use Rattle.am_base.specs.Most.{most_body};
-ghost use Rattle.am_node_parts.specs.Prelude.{most_number};
+ghost use Rattle.am_base.specs.Most.{most_bytes_of_body};
+ghost use Rattle.am_node_parts.specs.Prelude.{greatest_number};
 
 use crate::acting::reply_to;
 use crate::founding::Room;
@@ -33,12 +33,12 @@ pub struct Node {
 impl Node {
     ghost use Rattle.std.specs.Prelude.{◌≡◌, ◌==◌, ◌≤◌, ◌↔◌, [], length, nat_lt, not, true, IfOk, OnErr, IsTrue, if◌then◌else◌};
     ghost use Rattle.std.specs.Option.{option_copied};
-    ghost use Rattle.am_node_parts.specs.Prelude.{entry_at, has, IsInOrder, members, image_of, top, view, Does, Tells};
-    ghost use Rattle.am_model.specs.Node.{founder, stranger, node_unsettled_count};
+    ghost use Rattle.am_node_parts.specs.Prelude.{log_entry_at, has, IsInOrder, members, image_of_node, top, view, DoesRow, TellsAlike};
+    ghost use Rattle.am_model.specs.Node.{founder, stranger_node, node_unsettled_count};
     ghost use Rattle.am_model.specs.Step.{row};
-    ghost use Rattle.am_node_defs.specs.Sends.{is_settled};
-    ghost use Rattle.am_model.specs.Info.{info_of, ballot_end, waited_for};
-    ghost use Rattle.am_model.specs.Nodes.{HasNumbersLeft, HasPlace, next_len};
+    ghost use Rattle.am_node_defs.specs.Sends.{has_settled_send};
+    ghost use Rattle.am_model.specs.Info.{info_of_node, end_of_ballot_of_round, names_waited_for};
+    ghost use Rattle.am_model.specs.Nodes.{HasNumbersLeft, HasRoomForTakenBody, next_body_length};
     ghost use Rattle.am_node.specs.Stands.{state_of};
 
     /// Does one step: answer, letters and next state are those of the table of steps (docs/PROTOCOL.md, "Steps of a
@@ -47,9 +47,9 @@ impl Node {
     /// and no number of the node at its end. A packet that isn't heard by its kind is Elsewhere.
     pub fn step(&mut self, event: &NodeEvent, spare: Option<EntryRoom>, out: &mut OutBox) -> Outcome
         requires numbers { HasNumbersLeft (state_of self.old) }
-        requires place { HasPlace (state_of self.old) event.now spare }
+        requires place { HasRoomForTakenBody (state_of self.old) event.now spare }
         requires empty { out.old ≡ [] }
-        ensures does { Does (λ m. row m event.now) (state_of self.old) result out.new
+        ensures does { DoesRow (λ m. row m event.now) (state_of self.old) result out.new
             (state_of self.new) }
         ensures few { length out.new ≤ 9 }
     {
@@ -77,7 +77,7 @@ impl Node {
         rooms: &mut Rooms,
     ) -> Result<(Outcome, Items<Letter>), AllocError>
         requires numbers { HasNumbersLeft (state_of self.old) }
-        ensures does { IfOk result (λ did. Does (λ m. row m event.now) (state_of self.old) did.0 did.1
+        ensures does { IfOk result (λ did. DoesRow (λ m. row m event.now) (state_of self.old) did.0 did.1
             (state_of self.new)) }
         ensures few { IfOk result (λ did. length did.1 ≤ 9) }
         ensures order { IsInOrder (state_of self.old).core × IsInOrder (state_of self.new).core }
@@ -97,7 +97,7 @@ impl Node {
         rooms: &mut Rooms,
     ) -> Result<(Outcome, OutBox), AllocError>
         requires numbers { HasNumbersLeft (state_of self.old) }
-        ensures does { IfOk result (λ did. Does (λ m. row m event.now) (state_of self.old) did.0 did.1
+        ensures does { IfOk result (λ did. DoesRow (λ m. row m event.now) (state_of self.old) did.0 did.1
             (state_of self.new)) }
         ensures few { IfOk result (λ did. length did.1 ≤ 9) }
         ensures order { IsInOrder (state_of self.old).core × IsInOrder (state_of self.new).core }
@@ -116,7 +116,7 @@ impl Node {
     /// ask to join. It is an error where there is no memory.
     pub fn begin(alloc: Global, name: Name, founding: &Founding) -> Result<Node, AllocError>
         ensures { IfOk result (λ n. state_of n ≡ (if has founding.now.founders name
-            then founder founding.now name else stranger founding.now name)) }
+            then founder founding.now name else stranger_node founding.now name)) }
     {
         let room = Room::new(alloc, founding)?;
         Ok(Node::begin_in(room, name))
@@ -125,7 +125,7 @@ impl Node {
     /// The same in room that is there. It takes no memory.
     pub fn begin_in(room: Room, name: Name) -> Node
         ensures { state_of result ≡ (if has room.founders name
-            then founder room name else stranger room name) }
+            then founder room name else stranger_node room name) }
     {
         Node {
             parts: founding::first(room, name),
@@ -144,7 +144,7 @@ impl Node {
 
     /// A name that no one has seen, in room that is there. It takes no memory, and less stack than `begin_in`.
     pub fn stranger_in(room: Room, name: Name) -> Node
-        ensures { state_of result ≡ stranger room name }
+        ensures { state_of result ≡ stranger_node room name }
     {
         Node {
             parts: founding::stranger(room, name),
@@ -153,15 +153,15 @@ impl Node {
 
     /// What it knows of itself and of its group.
     pub fn info(&self) -> Info
-        ensures value { result ≡ info_of (state_of self.now) }
-        ensures tells { Tells info_of (state_of self.now) result }
+        ensures value { result ≡ info_of_node (state_of self.now) }
+        ensures tells { TellsAlike info_of_node (state_of self.now) result }
     {
         info::info_of(&self.parts)
     }
 
     /// Whether its send of a request has its number, and isn't collected yet.
     pub fn is_settled(&self, req: u32) -> bool
-        ensures { result ≡ is_settled req (state_of self.now).sends }
+        ensures { result ≡ has_settled_send req (state_of self.now).sends }
     {
         self.parts.sender.is_settled(req)
     }
@@ -175,14 +175,14 @@ impl Node {
 
     /// How its ballot of a round stands; None where its last ballot's round is lower, or it had none.
     pub fn ballot(&self, round: u32) -> Option<BallotEnd>
-        ensures { result ≡ ballot_end round (state_of self.now).ballot }
+        ensures { result ≡ end_of_ballot_of_round round (state_of self.now).ballot }
     {
         info::ballot_end(&self.parts.ballot, round)
     }
 
     /// The names whose votes its ballot still wants; nobody where it has none, or it is over.
     pub fn waits_for(&self) -> Names
-        ensures { result ≡ waited_for (state_of self.now).ballot }
+        ensures { result ≡ names_waited_for (state_of self.now).ballot }
     {
         info::waited_for(&self.parts.ballot)
     }
@@ -196,8 +196,8 @@ impl Node {
 
     /// How many bytes the body of the entry has that a Take would give: none, where there is no such entry.
     pub fn next_len(&self) -> usize
-        ensures value { result ≡ next_len (state_of self.now) }
-        ensures fits { result ≤ most_body }
+        ensures value { result ≡ next_body_length (state_of self.now) }
+        ensures fits { result ≤ most_bytes_of_body }
     {
         let _kept = self.parts.accept_front();
         match self.parts.core.log.entry(self.parts.core.taken + 1) {
@@ -212,7 +212,7 @@ impl Node {
         alloc: Global,
         event: &NodeEvent,
     ) -> Result<Option<EntryRoom>, AllocError>
-        ensures { IfOk result (λ spare. HasPlace (state_of self.now) event.now spare) }
+        ensures { IfOk result (λ spare. HasRoomForTakenBody (state_of self.now) event.now spare) }
     {
         match event {
             NodeEvent::Take if self.has_next() => {
@@ -261,7 +261,7 @@ impl Node {
     /// The number of its last entry.
     pub fn top(&self) -> u32
         ensures value { result ≡ top (state_of self.now) }
-        ensures within { result ≤ most_number }
+        ensures within { result ≤ greatest_number }
     {
         self.parts.core.log.top()
     }
@@ -282,14 +282,14 @@ impl Node {
 
     /// The number of the last View.
     pub fn view_number(&self) -> u32
-        ensures { result ≡ (image_of (state_of self.now)).view_number }
+        ensures { result ≡ (image_of_node (state_of self.now)).view_number }
     {
         self.parts.core.log.view_number()
     }
 
     /// The resilience of the last View.
     pub fn resilience(&self) -> u8
-        ensures { result ≡ (image_of (state_of self.now)).resilience }
+        ensures { result ≡ (image_of_node (state_of self.now)).resilience }
     {
         self.parts.core.log.resilience()
     }
@@ -303,7 +303,7 @@ impl Node {
 
     /// The entry of a number; None exactly where it is trimmed or not stored.
     pub fn entry(&self, number: u32) -> Option<&Entry>
-        ensures { option_copied result ≡ entry_at (state_of self.now).core.log number }
+        ensures { option_copied result ≡ log_entry_at (state_of self.now).core.log number }
     {
         self.parts.core.log.entry(number)
     }

@@ -1,6 +1,6 @@
 ghost use Rattle.std.specs.Prelude.{◌≡◌, ◌<◌, ◌≤◌, ◌+◌, length, true, false, None, IfOk, IfErr, IsOk, OnOk, OnErr, ◌↔◌};
-ghost use Rattle.am_node_parts.specs.Prelude.{most_number, is_member, waiting, node_of};
-ghost use Rattle.am_node_defs.specs.Sends.{submit, collect, collect_outcome};
+ghost use Rattle.am_node_parts.specs.Prelude.{greatest_number, is_member, waiting_send_of, node_of};
+ghost use Rattle.am_node_defs.specs.Sends.{queue_send, collect, collect_outcome};
 ghost use Rattle.am_node_defs.specs.Bodies.{keep_body};
 
 use am_base::body::{BodyRef, SentBody};
@@ -33,7 +33,7 @@ pub fn is_leaving(parts: &Parts) -> bool
 
 /// The node begins to leave; no send of its own waits.
 pub fn begin_leaving(parts: &mut Parts)
-    requires { waiting (node_of parts.old) ≡ None }
+    requires { waiting_send_of (node_of parts.old) ≡ None }
     ensures { node_of parts.new ≡ record (node_of parts.old) { leaving = true } }
 {
     parts.leaving = true;
@@ -59,13 +59,13 @@ pub fn keep_body(parts: &mut Parts, from: Name, req: u32, body: &BodyRef)
 
 /// Queues a send and gives its request number. Busy exactly where four sends aren't collected.
 pub fn submit(parts: &mut Parts, body: &SentBody) -> Result<u32, Busy>
-    requires last { parts.old.sender.last < most_number }
+    requires last { parts.old.sender.last < greatest_number }
     requires member { is_member parts.old.status ≡ true }
     requires stays { parts.old.leaving ≡ false }
     ensures variant { IsOk result ↔ (length parts.old.sender.queue < 4) }
     ensures number { IfOk result (λ req. req ≡ parts.old.sender.last + 1) }
     ensures ok { OnOk result (node_of parts.new
-        ≡ record (node_of parts.old) { sends = submit body.now parts.old.sender }) }
+        ≡ record (node_of parts.old) { sends = queue_send body.now parts.old.sender }) }
     ensures busy { IfErr result (λ busy. busy.queued ≡ 4) }
     ensures err { OnErr result (node_of parts.new ≡ node_of parts.old) }
 {

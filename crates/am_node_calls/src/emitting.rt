@@ -1,10 +1,10 @@
 ghost use Rattle.std.specs.Prelude.{◌≡◌, ◌<◌, ◌+◌, ◌&&◌, nat_lt, nat_le, length, true, Some, is_some};
-ghost use Rattle.am_node_parts.specs.Prelude.{most_number, IsNumber, top_of, acts, is_sequencer, push_entry, top, view, waiting, node_of};
+ghost use Rattle.am_node_parts.specs.Prelude.{greatest_number, NumberIsInRange, top_of_log, acts_in_its_view, is_sequencer, push_entry, top, view, waiting_send_of, node_of};
 ghost use Rattle.am_node_parts.specs.Replies.{Replies};
 ghost use Rattle.am_base.specs.declared.entry.Entry.TheVariants.{Data};
-ghost use Rattle.am_node_defs.specs.Sends.{waiting_send};
+ghost use Rattle.am_node_defs.specs.Sends.{request_and_body_of_waiting_send};
 ghost use Rattle.am_model.specs.Node.{own_row};
-ghost use Rattle.am_model.specs.Calls.{hand_in, emit};
+ghost use Rattle.am_model.specs.Calls.{hand_in_send, emit_waiting_send};
 ghost use Rattle.am_node_calls.specs.Forms.{own_send};
 
 use am_base::body::Body;
@@ -20,14 +20,14 @@ use am_node_storage::log::Log;
 
 /// Whether a send waits.
 pub fn has_waiting(parts: &Parts) -> bool
-    ensures { result ≡ is_some (waiting (node_of parts.now)) }
+    ensures { result ≡ is_some (waiting_send_of (node_of parts.now)) }
 {
     parts.sender.waiting().is_some()
 }
 
 /// Whether a send would go out: the node acts, and the send isn't numbered yet.
 pub fn would_emit(parts: &Parts, req: u32) -> bool
-    ensures { result ≡ (acts (node_of parts.now) && nat_lt (own_row (node_of parts.now)).last req) }
+    ensures { result ≡ (acts_in_its_view (node_of parts.now) && nat_lt (own_row (node_of parts.now)).last req) }
 {
     parts.acts() && parts.core.log.row(parts.core.who).last < req
 }
@@ -55,8 +55,8 @@ pub fn leader(parts: &Parts) -> Name
 
 /// A member hands its send in: to the sequencer where it is short, else to everybody.
 fn hand_in<'a>(parts: &Parts, send: &WaitingSend, answer: Outcome) -> Reply<'a>
-    requires { waiting_send parts.now.sender ≡ Some (send.now.req, send.now.body) }
-    ensures { Replies (hand_in (node_of parts.now) (own_send send.now.req send.now.body) answer)
+    requires { request_and_body_of_waiting_send parts.now.sender ≡ Some (send.now.req, send.now.body) }
+    ensures { Replies (hand_in_send (node_of parts.now) (own_send send.now.req send.now.body) answer)
         result (node_of parts.now) }
 {
     if is_short(parts, &send.body) {
@@ -76,15 +76,15 @@ fn hand_in<'a>(parts: &Parts, send: &WaitingSend, answer: Outcome) -> Reply<'a>
 /// Numbers the node's own send.
 pub fn number_send(parts: &mut Parts, send: &WaitingSend) -> u32
     requires leads { is_sequencer (node_of parts.old) ≡ true }
-    requires waits { waiting_send parts.old.sender ≡ Some (send.now.req, send.now.body) }
+    requires waits { request_and_body_of_waiting_send parts.old.sender ≡ Some (send.now.req, send.now.body) }
     requires new { (own_row (node_of parts.old)).last < send.now.req }
     requires room { length parts.old.core.log.entries < parts.old.core.rules.window + 15 }
-    requires req { IsNumber send.now.req }
-    requires number { top_of parts.old.core.log < most_number }
+    requires req { NumberIsInRange send.now.req }
+    requires number { top_of_log parts.old.core.log < greatest_number }
     ensures node { node_of parts.new ≡ push_entry (node_of parts.old)
         (Data parts.old.core.who send.now.req send.now.body) }
     ensures number { result ≡ top (node_of parts.old) + 1 }
-    ensures within { IsNumber result }
+    ensures within { NumberIsInRange result }
 {
     let _before = parts.accept_front();
     let number = next_number(parts);
@@ -101,8 +101,8 @@ pub fn number_send(parts: &mut Parts, send: &WaitingSend) -> u32
 /// none waits, or where it wouldn't go out. It gives the answer back.
 #[inline(never)]
 pub fn emit<'a>(parts: &mut Parts, answer: Outcome) -> Reply<'a>
-    requires { top_of parts.old.core.log < most_number }
-    ensures { Replies (emit (node_of parts.old) (waiting (node_of parts.old)) answer) result
+    requires { top_of_log parts.old.core.log < greatest_number }
+    ensures { Replies (emit_waiting_send (node_of parts.old) (waiting_send_of (node_of parts.old)) answer) result
         (node_of parts.new) }
 {
     let Some(send) = next_send(parts) else {

@@ -1,9 +1,9 @@
 ghost use Rattle.std.specs.Prelude.{◌≡◌, ◌||◌, nat_le};
 ghost use Rattle.std.specs.List.{list_any};
-ghost use Rattle.am_node_parts.specs.Prelude.{waiting, node_of};
+ghost use Rattle.am_node_parts.specs.Prelude.{waiting_send_of, node_of};
 ghost use Rattle.am_node_parts.specs.Replies.{Replies};
-ghost use Rattle.am_node_defs.specs.Bodies.{is_body_of};
-ghost use Rattle.am_model.specs.Sequencing.{row_at};
+ghost use Rattle.am_node_defs.specs.Bodies.{is_body_of_send};
+ghost use Rattle.am_model.specs.Sequencing.{row_of_name_in_list};
 ghost use Rattle.am_model.specs.Receiving.{spread_row, hold_row};
 ghost use Rattle.am_model.specs.Joining.{gone_row};
 ghost use Rattle.am_node_calls.specs.Forms.{waits_for};
@@ -20,8 +20,8 @@ use am_node_storage::log::Log;
 
 /// Whether a send is numbered, or its body is kept.
 fn is_known(parts: &Parts, from: Name, req: u32) -> bool
-    ensures { result ≡ (nat_le req (row_at (node_of parts.now) from).last
-        || list_any (is_body_of from req) parts.now.pool) }
+    ensures { result ≡ (nat_le req (row_of_name_in_list (node_of parts.now) from).last
+        || list_any (is_body_of_send from req) parts.now.pool) }
 {
     req <= parts.core.log.row(from).last || parts.pool.holds(from, req)
 }
@@ -41,7 +41,7 @@ pub fn on_spread<'a>(parts: &mut Parts, from: Name, req: u32, body: &BodyRef) ->
 
 /// Whether the waiting send has this request.
 fn waits_for(parts: &Parts, req: u32) -> bool
-    ensures { result ≡ waits_for (waiting (node_of parts.now)) req }
+    ensures { result ≡ waits_for (waiting_send_of (node_of parts.now)) req }
 {
     match parts.sender.waiting() {
         Some(send) => send.0 == req,

@@ -1,10 +1,10 @@
 ghost use Rattle.std.specs.Prelude.{◌≡◌, ◌==◌, ◌<◌, if◌then◌else◌, IfSome, IfNone};
 ghost use Rattle.am_node_parts.specs.Prelude.{node_of};
 ghost use Rattle.am_node_parts.specs.Replies.{Replies};
-ghost use Rattle.am_base.specs.Names.{by_place};
-ghost use Rattle.am_model.specs.Calls.{everywhere_else, ask_to_join, join_row, state_row};
+ghost use Rattle.am_base.specs.Names.{list_by_place};
+ghost use Rattle.am_model.specs.Calls.{first_lives_of_other_places, ask_to_join, join_row, state_row};
 ghost use Rattle.am_model.specs.declared.status.Status.TheVariants as status;
-ghost use Rattle.am_model.specs.Emit.{quiet};
+ghost use Rattle.am_model.specs.Emit.{plan_without_letters};
 
 use crate::changing::{is_leaving, status};
 use am_base::name::Name;
@@ -19,7 +19,7 @@ use am_node_parts::reply::{Note, Reply, Telling, quiet, saying};
 #[tactic(auto, using(crate::proofs::Lives::life_one_of_others))]
 fn all_but(own: u8) -> Names
     requires { own < 16 }
-    ensures { result ≡ by_place (λ place. if place == own then 0 else 1) }
+    ensures { result ≡ list_by_place (λ place. if place == own then 0 else 1) }
 {
     let mut lives = [1; 16];
     lives[usize::from(own)] = 0;
@@ -27,9 +27,9 @@ fn all_but(own: u8) -> Names
 }
 
 /// Life 1 of the fifteen other places.
-#[tactic(auto, unfolding(am_model::specs::Calls::everywhere_else))]
+#[tactic(auto, unfolding(am_model::specs::Calls::first_lives_of_other_places))]
 fn everywhere_else(parts: &Parts) -> Names
-    ensures { result ≡ everywhere_else (node_of parts.now) }
+    ensures { result ≡ first_lives_of_other_places (node_of parts.now) }
 {
     all_but(parts.core.who.place())
 }
@@ -56,7 +56,7 @@ pub fn ask_to_join<'a>(parts: &Parts, answer: Outcome) -> Reply<'a>
 #[tactic(auto, unfolding(am_model::specs::Calls::join_row))]
 fn join_answer(parts: &Parts) -> Option<Outcome>
     ensures told { IfSome result (λ answer. join_row (node_of parts.now)
-        ≡ quiet (node_of parts.now) answer) }
+        ≡ plan_without_letters (node_of parts.now) answer) }
     ensures asks { IfNone result (parts.now.status ≡ status.Stranger) }
 {
     match status(parts) {
@@ -86,7 +86,7 @@ pub fn on_join<'a>(parts: &mut Parts) -> Reply<'a>
 /// How the node stands to its group.
 #[tactic(auto, unfolding(am_model::specs::Calls::state_row))]
 fn standing(parts: &Parts) -> Outcome
-    ensures { state_row (node_of parts.now) ≡ quiet (node_of parts.now) result }
+    ensures { state_row (node_of parts.now) ≡ plan_without_letters (node_of parts.now) result }
 {
     match status(parts) {
         Status::Stranger => Outcome::Stranger,

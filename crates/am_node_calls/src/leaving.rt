@@ -1,8 +1,8 @@
 ghost use Rattle.std.specs.Prelude.{◌≡◌, ◌<◌, ◌≤◌, ◌||◌, nat_lt, false, None};
-ghost use Rattle.am_node_parts.specs.Prelude.{most_number, top_of, is_member, waiting, node_of};
-ghost use Rattle.am_model.specs.Node.{node_unsettled_count, lowest_or_first};
-ghost use Rattle.am_model.specs.Emit.{quiet};
-ghost use Rattle.am_model.specs.Calls.{go, is_unfinished, leave_now, leave_row};
+ghost use Rattle.am_node_parts.specs.Prelude.{greatest_number, top_of_log, is_member, waiting_send_of, node_of};
+ghost use Rattle.am_model.specs.Node.{node_unsettled_count, lowest_name_or_zero};
+ghost use Rattle.am_model.specs.Emit.{plan_without_letters};
+ghost use Rattle.am_model.specs.Calls.{plan_of_leaving, is_unfinished_ballot, begin_leaving, leave_row};
 ghost use Rattle.am_node_parts.specs.Replies.{Replies};
 ghost use Rattle.am_node_calls.specs.Forms.{hands_over};
 
@@ -17,7 +17,7 @@ use am_node_parts::reply::{Note, Reply, Telling, note_to, quiet, saying};
 
 /// Whether there is a ballot that isn't over.
 pub fn is_unfinished(parts: &Parts) -> bool
-    ensures { result ≡ is_unfinished (node_of parts.now).ballot }
+    ensures { result ≡ is_unfinished_ballot (node_of parts.now).ballot }
 {
     match &parts.ballot {
         Some(ballot) => !ballot.is_over(),
@@ -36,14 +36,14 @@ fn unsettled_count(parts: &Parts) -> u32
 /// Whether a send isn't settled, or a ballot isn't over.
 fn is_busy(parts: &Parts) -> bool
     ensures { result ≡ (nat_lt 0 (node_unsettled_count (node_of parts.now))
-        || is_unfinished (node_of parts.now).ballot) }
+        || is_unfinished_ballot (node_of parts.now).ballot) }
 {
     0 < unsettled_count(parts) || is_unfinished(parts)
 }
 
 /// The lowest of some names; the first of all where there is none.
 fn lowest_or_first(names: Names) -> Name
-    ensures { result ≡ lowest_or_first names }
+    ensures { result ≡ lowest_name_or_zero names }
 {
     match names.lowest() {
         Some(name) => name,
@@ -61,9 +61,9 @@ pub fn handing_over<'a>(names: Names) -> Telling<'a>
 /// A leaving node goes on: a member asks the others; the sequencer hands over to the lowest other member; the last member
 /// departs where there is room, and else the answer is Held. It gives the answer back, where that isn't another.
 pub fn go_on_leaving<'a>(parts: &Parts, answer: Outcome) -> Reply<'a>
-    requires idle { waiting (node_of parts.now) ≡ None }
-    requires number { top_of parts.now.core.log < most_number }
-    ensures { Replies (go (quiet (node_of parts.now) answer)) result (node_of parts.now) }
+    requires idle { waiting_send_of (node_of parts.now) ≡ None }
+    requires number { top_of_log parts.now.core.log < greatest_number }
+    ensures { Replies (plan_of_leaving (plan_without_letters (node_of parts.now) answer)) result (node_of parts.now) }
 {
     let others = others(parts);
     if !parts.is_sequencer() {
@@ -84,8 +84,8 @@ pub fn go_on_leaving<'a>(parts: &Parts, answer: Outcome) -> Reply<'a>
 
 /// A member begins to leave, unless it is leaving already, or has unsettled sends or an unfinished ballot.
 fn leave_now<'a>(parts: &mut Parts) -> Reply<'a>
-    requires { top_of parts.old.core.log < most_number }
-    ensures { Replies (leave_now (node_of parts.old)) result (node_of parts.new) }
+    requires { top_of_log parts.old.core.log < greatest_number }
+    ensures { Replies (begin_leaving (node_of parts.old)) result (node_of parts.new) }
 {
     if is_leaving(parts) {
         return quiet(Outcome::Leaving);
@@ -101,7 +101,7 @@ fn leave_now<'a>(parts: &mut Parts) -> Reply<'a>
 /// What a node is told that would leave and is no member.
 fn outside(parts: &Parts) -> Outcome
     requires { is_member parts.now.status ≡ false }
-    ensures { leave_row (node_of parts.now) ≡ quiet (node_of parts.now) result }
+    ensures { leave_row (node_of parts.now) ≡ plan_without_letters (node_of parts.now) result }
 {
     match status(parts) {
         Status::Departed => Outcome::Departed,
@@ -113,7 +113,7 @@ fn outside(parts: &Parts) -> Outcome
 /// already; Busy with the number of unsettled sends where there is one, or an unfinished ballot. Else it goes on leaving:
 /// Asked, Departed as the last member, or Held where that one has no room.
 pub fn on_leave<'a>(parts: &mut Parts) -> Reply<'a>
-    requires { top_of parts.old.core.log < most_number }
+    requires { top_of_log parts.old.core.log < greatest_number }
     ensures { Replies (leave_row (node_of parts.old)) result (node_of parts.new) }
 {
     if is_member(parts) {

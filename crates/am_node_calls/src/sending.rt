@@ -1,5 +1,5 @@
 ghost use Rattle.std.specs.Prelude.{◌<◌};
-ghost use Rattle.am_node_parts.specs.Prelude.{most_number, top_of, node_of};
+ghost use Rattle.am_node_parts.specs.Prelude.{greatest_number, top_of_log, node_of};
 ghost use Rattle.am_node_parts.specs.Replies.{Replies};
 ghost use Rattle.am_model.specs.Calls.{send_row, done_row};
 
@@ -13,8 +13,8 @@ use am_node_parts::reply::{Reply, quiet};
 /// The application sends a body (docs/PROTOCOL.md, "Calls"). NotMember where the node is none; Leaving; Busy where four sends
 /// aren't collected; else Queued with its request, and where no send waits before it, it is emitted.
 pub fn on_send<'a>(parts: &mut Parts, body: &SentBody) -> Reply<'a>
-    requires number { top_of parts.old.core.log < most_number }
-    requires last { parts.old.sender.last < most_number }
+    requires number { top_of_log parts.old.core.log < greatest_number }
+    requires last { parts.old.sender.last < greatest_number }
     ensures { Replies (send_row (node_of parts.old) body.now) result (node_of parts.new) }
 {
     if !is_member(parts) {

@@ -1,6 +1,6 @@
 ghost use Rattle.std.specs.Prelude.{◌≡◌, ◌≢◌, ◌≤◌, ◌+◌, Some, IsNone, IfSome, ◌↔◌};
-ghost use Rattle.am_base.specs.Entries.{HasRoom, len_of};
-ghost use Rattle.am_node_parts.specs.Prelude.{entry_at, node_of};
+ghost use Rattle.am_base.specs.Entries.{HasRoomForBody, optional_body_length};
+ghost use Rattle.am_node_parts.specs.Prelude.{log_entry_at, node_of};
 ghost use Rattle.am_node_parts.specs.Replies.{Replies};
 ghost use Rattle.am_model.specs.Calls.{take_row};
 
@@ -15,11 +15,11 @@ use am_node_storage::log::Log;
 /// It is put into the spare room.
 fn next(parts: &Parts, spare: Option<EntryRoom>) -> Option<(u32, TakenEntry)>
     requires place { parts.now.core.taken ≢ parts.now.core.acc
-        → HasRoom (len_of (entry_at parts.now.core.log (parts.now.core.taken + 1))) spare }
+        → HasRoomForBody (optional_body_length (log_entry_at parts.now.core.log (parts.now.core.taken + 1))) spare }
     ensures none { IsNone result ↔ (parts.now.core.taken ≡ parts.now.core.acc) }
     ensures number { IfSome result (λ given. given.0 ≡ parts.now.core.taken + 1) }
     ensures accepted { IfSome result (λ given. given.0 ≤ parts.now.core.acc) }
-    ensures entry { IfSome result (λ given. entry_at parts.now.core.log (parts.now.core.taken + 1)
+    ensures entry { IfSome result (λ given. log_entry_at parts.now.core.log (parts.now.core.taken + 1)
         ≡ Some given.1) }
 {
     if parts.core.taken == parts.core.acc {
@@ -35,7 +35,7 @@ fn next(parts: &Parts, spare: Option<EntryRoom>) -> Option<(u32, TakenEntry)>
 /// is accepted is taken; else Took, with the entry in the spare room.
 pub fn on_take<'a>(parts: &mut Parts, spare: Option<EntryRoom>) -> Reply<'a>
     requires { parts.old.core.taken ≢ parts.old.core.acc
-        → HasRoom (len_of (entry_at parts.old.core.log (parts.old.core.taken + 1))) spare }
+        → HasRoomForBody (optional_body_length (log_entry_at parts.old.core.log (parts.old.core.taken + 1))) spare }
     ensures { Replies (take_row (node_of parts.old)) result (node_of parts.new) }
 {
     if !is_member(parts) {

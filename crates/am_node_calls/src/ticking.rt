@@ -1,10 +1,10 @@
 ghost use Rattle.std.specs.Prelude.{◌≡◌, ◌==◌, ◌<◌, true, false, None};
-ghost use Rattle.am_node_parts.specs.Prelude.{most_number, top_of, is_sequencer, top, waiting, node_of};
+ghost use Rattle.am_node_parts.specs.Prelude.{greatest_number, top_of_log, is_sequencer, top, waiting_send_of, node_of};
 ghost use Rattle.am_base.specs.declared.outcome.Outcome.TheVariants as said;
-ghost use Rattle.am_model.specs.Emit.{quiet};
-ghost use Rattle.am_model.specs.Calls.{would_emit, go};
-ghost use Rattle.am_model.specs.Ticks.{tick_promised, tick_member, tick_sequencer, tick_acting, tick_with, tick_row};
-ghost use Rattle.am_node_parts.specs.Replies.{Replies, polled_of};
+ghost use Rattle.am_model.specs.Emit.{plan_without_letters};
+ghost use Rattle.am_model.specs.Calls.{would_emit_send, plan_of_leaving};
+ghost use Rattle.am_model.specs.Ticks.{tick_of_non_acting_member, tick_of_follower, tick_of_sequencer, tick_of_acting_member, tick_by_ballot, tick_row};
+ghost use Rattle.am_node_parts.specs.Replies.{Replies, reply_polling_with_view};
 ghost use Rattle.am_node_calls.specs.Forms.{and_poll, again_of, again_of_ballot};
 
 use crate::changing::{is_leaving, status};
@@ -66,7 +66,7 @@ fn has_promised_itself(parts: &Parts) -> bool
 
 /// A member that doesn't act fetches from the name that it promised.
 fn tick_promised<'a>(parts: &Parts) -> Reply<'a>
-    ensures { Replies (tick_promised (node_of parts.now)) result (node_of parts.now) }
+    ensures { Replies (tick_of_non_acting_member (node_of parts.now)) result (node_of parts.now) }
 {
     if has_promised_itself(parts) {
         return quiet(Outcome::Ticked);
@@ -76,7 +76,7 @@ fn tick_promised<'a>(parts: &Parts) -> Reply<'a>
 
 /// Whether the waiting send would go out.
 fn would_emit_waiting(parts: &Parts) -> bool
-    ensures { result ≡ would_emit (node_of parts.now) (waiting (node_of parts.now)) }
+    ensures { result ≡ would_emit_send (node_of parts.now) (waiting_send_of (node_of parts.now)) }
 {
     match parts.waiting_request() {
         None => false,
@@ -86,8 +86,8 @@ fn would_emit_waiting(parts: &Parts) -> bool
 
 /// An acting member goes on leaving, or hands in its send, or reports.
 fn tick_member<'a>(parts: &mut Parts) -> Reply<'a>
-    requires { top_of parts.old.core.log < most_number }
-    ensures { Replies (tick_member (node_of parts.old)) result (node_of parts.new) }
+    requires { top_of_log parts.old.core.log < greatest_number }
+    ensures { Replies (tick_of_follower (node_of parts.old)) result (node_of parts.new) }
 {
     if is_leaving(parts) {
         return go_on_leaving(parts, Outcome::Ticked);
@@ -100,7 +100,7 @@ fn tick_member<'a>(parts: &mut Parts) -> Reply<'a>
 
 /// An answer of the sequencer, which polls the members, and tells the last View again to those that haven't stored it.
 fn polled<'a>(answer: Outcome) -> Reply<'a>
-    ensures { result ≡ polled_of answer }
+    ensures { result ≡ reply_polling_with_view answer }
 {
     saying(answer, Telling::View).polling()
 }
@@ -108,9 +108,9 @@ fn polled<'a>(answer: Outcome) -> Reply<'a>
 /// The sequencer polls, and goes on leaving.
 fn poll_leaving<'a>(parts: &Parts) -> Reply<'a>
     requires leads { is_sequencer (node_of parts.now) ≡ true }
-    requires idle { waiting (node_of parts.now) ≡ None }
-    requires number { top_of parts.now.core.log < most_number }
-    ensures { Replies (go (and_poll (quiet (node_of parts.now) said.Ticked))) result
+    requires idle { waiting_send_of (node_of parts.now) ≡ None }
+    requires number { top_of_log parts.now.core.log < greatest_number }
+    ensures { Replies (plan_of_leaving (and_poll (plan_without_letters (node_of parts.now) said.Ticked))) result
         (node_of parts.now) }
 {
     let others = others(parts);
@@ -140,8 +140,8 @@ fn put_off(parts: &Parts, req: u32) -> Outcome
 fn tick_sending<'a>(parts: &mut Parts) -> Reply<'a>
     requires stays { parts.old.leaving ≡ false }
     requires leads { is_sequencer (node_of parts.old) ≡ true }
-    requires number { top_of parts.old.core.log < most_number }
-    ensures { Replies (tick_sequencer (node_of parts.old)) result (node_of parts.new) }
+    requires number { top_of_log parts.old.core.log < greatest_number }
+    ensures { Replies (tick_of_sequencer (node_of parts.old)) result (node_of parts.new) }
 {
     let Some(send) = next_send(parts) else {
         return polled(Outcome::Ticked);
@@ -162,8 +162,8 @@ fn tick_sending<'a>(parts: &mut Parts) -> Reply<'a>
 /// The sequencer numbers its own send, polls, tells its View again, and goes on leaving.
 fn tick_sequencer<'a>(parts: &mut Parts) -> Reply<'a>
     requires leads { is_sequencer (node_of parts.old) ≡ true }
-    requires number { top_of parts.old.core.log < most_number }
-    ensures { Replies (tick_sequencer (node_of parts.old)) result (node_of parts.new) }
+    requires number { top_of_log parts.old.core.log < greatest_number }
+    ensures { Replies (tick_of_sequencer (node_of parts.old)) result (node_of parts.new) }
 {
     if is_leaving(parts) {
         return poll_leaving(parts);
@@ -176,8 +176,8 @@ fn tick_sequencer<'a>(parts: &mut Parts) -> Reply<'a>
 
 /// The tick of a member without an unfinished ballot.
 fn tick_acting<'a>(parts: &mut Parts) -> Reply<'a>
-    requires { top_of parts.old.core.log < most_number }
-    ensures { Replies (tick_acting (node_of parts.old)) result (node_of parts.new) }
+    requires { top_of_log parts.old.core.log < greatest_number }
+    ensures { Replies (tick_of_acting_member (node_of parts.old)) result (node_of parts.new) }
 {
     if !parts.acts() {
         return tick_promised(parts);
@@ -190,8 +190,8 @@ fn tick_acting<'a>(parts: &mut Parts) -> Reply<'a>
 
 /// The tick of a member.
 fn tick_with<'a>(parts: &mut Parts) -> Reply<'a>
-    requires { top_of parts.old.core.log < most_number }
-    ensures { Replies (tick_with (node_of parts.old) (node_of parts.old).ballot) result
+    requires { top_of_log parts.old.core.log < greatest_number }
+    ensures { Replies (tick_by_ballot (node_of parts.old) (node_of parts.old).ballot) result
         (node_of parts.new) }
 {
     match again_of_ballot(parts) {
@@ -205,7 +205,7 @@ fn tick_with<'a>(parts: &mut Parts) -> Reply<'a>
 /// or reports. The sequencer numbers its send, polls, tells its View again, and goes on leaving. Ticked, unless leaving or
 /// the send says otherwise.
 pub fn on_tick<'a>(parts: &mut Parts) -> Reply<'a>
-    requires { top_of parts.old.core.log < most_number }
+    requires { top_of_log parts.old.core.log < greatest_number }
     ensures { Replies (tick_row (node_of parts.old)) result (node_of parts.new) }
 {
     match status(parts) {

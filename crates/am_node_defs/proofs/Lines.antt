@@ -1,41 +1,41 @@
 -- Sends stand in line through each change.
 use Rattle.am_node_defs.proofs.Words.{length-append, take, drop, ◌≡◌, ℕ, ◌+◌, ◌<◌, ◌≤◌, List, [], ◌∷◌, ◌++◌, map, filter, find, length, option_map, Bool, true}
 use Rattle.am_node_defs.proofs.Words.{false, not, ◌&&◌, ◌==◌, nat_lt, Option, Some, None, is_none, is_some, refl, sym, ◌∙◌, ap, subst, arith}
-use Rattle.am_node_defs.proofs.Words.{list_any, list_all, refill, IfSome, nat_tests, length-map, take-append-le, take-length, most_number, OwnSend, is_request}
-use Rattle.am_node_defs.proofs.Words.{is_unsettled, settle_send, next_in, are_in_line, AreKept}
+use Rattle.am_node_defs.proofs.Words.{list_any, list_all, refill, IfSome, nat_tests, length-map, take-append-le, take-length, greatest_number, OwnSend, send_has_request}
+use Rattle.am_node_defs.proofs.Words.{is_unsettled, settle_send, next_unsettled_request, unsettled_sends_are_in_line, SendsAreWithinLimits}
 use Rattle.am_node_defs.proofs.{Folds.split_on_bool_of_log}
 
 -- ---- what a line says of its first send
 
 record IsOpen (last : ℕ) (s : OwnSend) (ss : List OwnSend) : Type 0 where
-  next : next_in last ss ≡ s.req + 1
+  next : next_unsettled_request last ss ≡ s.req + 1
   rest : list_all is_unsettled ss ≡ true
-  line : are_in_line last ss ≡ true
+  line : unsettled_sends_are_in_line last ss ≡ true
 
-open_line : (last : ℕ) (s : OwnSend) (ss : List OwnSend) → is_unsettled s ≡ true → are_in_line last (s ∷ ss) ≡ true → IsOpen last s ss
+open_line : (last : ℕ) (s : OwnSend) (ss : List OwnSend) → is_unsettled s ≡ true → unsettled_sends_are_in_line last (s ∷ ss) ≡ true → IsOpen last s ss
 open_line last s ss un line =
     let l = rw un at line in
     record { next = grind (arith, nat_tests); rest = grind (arith, nat_tests); line = grind (arith, nat_tests) }
 
 record IsShut (last : ℕ) (s : OwnSend) (ss : List OwnSend) : Type 0 where
-  below : s.req < next_in last ss
-  line : are_in_line last ss ≡ true
+  below : s.req < next_unsettled_request last ss
+  line : unsettled_sends_are_in_line last ss ≡ true
 
-shut_line : (last : ℕ) (s : OwnSend) (ss : List OwnSend) → is_unsettled s ≡ false → are_in_line last (s ∷ ss) ≡ true → IsShut last s ss
+shut_line : (last : ℕ) (s : OwnSend) (ss : List OwnSend) → is_unsettled s ≡ false → unsettled_sends_are_in_line last (s ∷ ss) ≡ true → IsShut last s ss
 shut_line last s ss un line =
     let l = rw un at line in
     record { below = grind (arith, nat_tests); line = grind (arith, nat_tests) }
 
-open_made : (last : ℕ) (s : OwnSend) (ss : List OwnSend) → is_unsettled s ≡ true → IsOpen last s ss → are_in_line last (s ∷ ss) ≡ true
+open_made : (last : ℕ) (s : OwnSend) (ss : List OwnSend) → is_unsettled s ≡ true → IsOpen last s ss → unsettled_sends_are_in_line last (s ∷ ss) ≡ true
 open_made last s ss un is =
     let next = is.next in let rest = is.rest in let line = is.line in
-    let test : (s.req + 1 == next_in last ss) ≡ true = grind (arith, nat_tests) in
+    let test : (s.req + 1 == next_unsettled_request last ss) ≡ true = grind (arith, nat_tests) in
     rw (un, test, rest, line) refl
 
-shut_made : (last : ℕ) (s : OwnSend) (ss : List OwnSend) → is_unsettled s ≡ false → IsShut last s ss → are_in_line last (s ∷ ss) ≡ true
+shut_made : (last : ℕ) (s : OwnSend) (ss : List OwnSend) → is_unsettled s ≡ false → IsShut last s ss → unsettled_sends_are_in_line last (s ∷ ss) ≡ true
 shut_made last s ss un is =
     let below = is.below in let line = is.line in
-    let test : nat_lt s.req (next_in last ss) ≡ true = grind (arith, nat_tests) in
+    let test : nat_lt s.req (next_unsettled_request last ss) ≡ true = grind (arith, nat_tests) in
     rw (un, test, line) refl
 
 none_some : {A : Type 0} (x : Option A) → is_none x ≡ true → is_some x ≡ false
@@ -44,19 +44,19 @@ none_some (Some x) h = absurd (cc)
 
 -- ---- limits
 
-next_low : (last : ℕ) (q : List OwnSend) → are_in_line last q ≡ true → next_in last q ≤ last + 1
+next_low : (last : ℕ) (q : List OwnSend) → unsettled_sends_are_in_line last q ≡ true → next_unsettled_request last q ≤ last + 1
 next_low last [] line = omega arith
 next_low last (s ∷ ss) line = split_on_bool_of_log (is_unsettled s)
     (λ t. let is = open_line last s ss t line in let n = is.next in let low = next_low last ss is.line in rw t (omega arith))
     (λ f. let is = shut_line last s ss f line in rw f (next_low last ss is.line))
 
-pub next_in_line_is_waiting : (last : ℕ) (q : List OwnSend) (w : OwnSend) → find is_unsettled q ≡ Some w → next_in last q ≡ w.req
+pub next_in_line_is_waiting : (last : ℕ) (q : List OwnSend) (w : OwnSend) → find is_unsettled q ≡ Some w → next_unsettled_request last q ≡ w.req
 next_in_line_is_waiting last [] w is = absurd (cc)
 next_in_line_is_waiting last (s ∷ ss) w is = split_on_bool_of_log (is_unsettled s)
     (λ t. let here = rw t at is in let e : s ≡ w = cc in rw t (ap (λ (x : OwnSend). x.req) e))
     (λ f. let here = rw f at is in rw f (next_in_line_is_waiting last ss w here))
 
-pub waiting_request_le_last : (last : ℕ) (q : List OwnSend) (w : OwnSend) → are_in_line last q ≡ true → find is_unsettled q ≡ Some w → w.req ≤ last
+pub waiting_request_le_last : (last : ℕ) (q : List OwnSend) (w : OwnSend) → unsettled_sends_are_in_line last q ≡ true → find is_unsettled q ≡ Some w → w.req ≤ last
 waiting_request_le_last last [] w line is = absurd (cc)
 waiting_request_le_last last (s ∷ ss) w line is = split_on_bool_of_log (is_unsettled s)
     (λ t.
@@ -77,14 +77,14 @@ all_push (s ∷ ss) n un all = split_on_bool_of_log (is_unsettled s)
     (λ t. let rest = rw t at all in rw t (all_push ss n un rest))
     (λ f. let none = rw f at all in absurd (cc))
 
-pub next_in_line_after_push : (last : ℕ) (q : List OwnSend) (n : OwnSend) → is_unsettled n ≡ true → n.req ≡ last + 1 → next_in (last + 1) (q ++ n ∷ []) ≡ next_in last q
+pub next_in_line_after_push : (last : ℕ) (q : List OwnSend) (n : OwnSend) → is_unsettled n ≡ true → n.req ≡ last + 1 → next_unsettled_request (last + 1) (q ++ n ∷ []) ≡ next_unsettled_request last q
 next_in_line_after_push last [] n un is = rw un is
 next_in_line_after_push last (s ∷ ss) n un is = split_on_bool_of_log (is_unsettled s)
     (λ t. rw t refl)
     (λ f. rw f (next_in_line_after_push last ss n un is))
 
-pub sends_in_line_after_push : (last : ℕ) (q : List OwnSend) (n : OwnSend) → is_unsettled n ≡ true → n.req ≡ last + 1 → are_in_line last q ≡ true
-    → are_in_line (last + 1) (q ++ n ∷ []) ≡ true
+pub sends_in_line_after_push : (last : ℕ) (q : List OwnSend) (n : OwnSend) → is_unsettled n ≡ true → n.req ≡ last + 1 → unsettled_sends_are_in_line last q ≡ true
+    → unsettled_sends_are_in_line (last + 1) (q ++ n ∷ []) ≡ true
 sends_in_line_after_push last [] n un is line = open_made (last + 1) n [] un (record { next = omega arith; rest = refl; line = refl })
 sends_in_line_after_push last (s ∷ ss) n un is line = split_on_bool_of_log (is_unsettled s)
     (λ t.
@@ -102,7 +102,7 @@ sends_in_line_after_push last (s ∷ ss) n un is line = split_on_bool_of_log (is
 other_send : (req number : ℕ) (s : OwnSend) → (s.req ≡ req → ⊥) → settle_send req number s ≡ s
 other_send req number s other = let test : (s.req == req) ≡ false = grind (arith, nat_tests) in rw test refl
 
-all_stay : (last req number : ℕ) (q : List OwnSend) → are_in_line last q ≡ true → list_all is_unsettled q ≡ true → req < next_in last q
+all_stay : (last req number : ℕ) (q : List OwnSend) → unsettled_sends_are_in_line last q ≡ true → list_all is_unsettled q ≡ true → req < next_unsettled_request last q
     → map (settle_send req number) q ≡ q
 all_stay last req number [] line all low = refl
 all_stay last req number (s ∷ ss) line all low = split_on_bool_of_log (is_unsettled s)
@@ -119,10 +119,10 @@ settled_now : (req number : ℕ) (s : OwnSend) → s.req ≡ req → settle_send
 settled_now req number s is = let test : (s.req == req) ≡ true = grind (arith, nat_tests) in rw test refl
 
 pub record IsLineSettled (last req : ℕ) (q : List OwnSend) : Type 0 where
-  pub line : are_in_line last q ≡ true
-  pub next : next_in last q ≡ req + 1
+  pub line : unsettled_sends_are_in_line last q ≡ true
+  pub next : next_unsettled_request last q ≡ req + 1
 
-pub sends_in_line_after_settle : (last req number : ℕ) (q : List OwnSend) (w : OwnSend) → are_in_line last q ≡ true → find is_unsettled q ≡ Some w → w.req ≡ req
+pub sends_in_line_after_settle : (last req number : ℕ) (q : List OwnSend) (w : OwnSend) → unsettled_sends_are_in_line last q ≡ true → find is_unsettled q ≡ Some w → w.req ≡ req
     → IsLineSettled last req (map (settle_send req number) q)
 sends_in_line_after_settle last req number [] w line is at = absurd (cc)
 sends_in_line_after_settle last req number (s ∷ ss) w line is at = split_on_bool_of_log (is_unsettled s)
@@ -166,11 +166,11 @@ all_filter p (s ∷ ss) all = split_on_bool_of_log (is_unsettled s)
     (λ f. let none = rw f at all in absurd (cc))
 
 pub record SendsStayInLine (last first : ℕ) (q : List OwnSend) : Type 0 where
-  pub line : are_in_line last q ≡ true
-  pub next : next_in last q ≡ first
+  pub line : unsettled_sends_are_in_line last q ≡ true
+  pub next : next_unsettled_request last q ≡ first
 
-pub sends_in_line_after_remove : (last req : ℕ) (q : List OwnSend) → are_in_line last q ≡ true → req < next_in last q
-    → SendsStayInLine last (next_in last q) (filter (λ send. not (is_request req send)) q)
+pub sends_in_line_after_remove : (last req : ℕ) (q : List OwnSend) → unsettled_sends_are_in_line last q ≡ true → req < next_unsettled_request last q
+    → SendsStayInLine last (next_unsettled_request last q) (filter (λ send. not (send_has_request req send)) q)
 sends_in_line_after_remove last req [] line low = record { line = refl; next = refl }
 sends_in_line_after_remove last req (s ∷ ss) line low = split_on_bool_of_log (is_unsettled s)
     (λ t.
@@ -178,23 +178,23 @@ sends_in_line_after_remove last req (s ∷ ss) line low = split_on_bool_of_log (
     let here : req < s.req = rw t at low in
     let next = o.next in
     let stays = sends_in_line_after_remove last req ss o.line (omega arith) in
-    let kept : is_request req s ≡ false = grind (arith, nat_tests) in
+    let kept : send_has_request req s ≡ false = grind (arith, nat_tests) in
     let more = stays.next in
     rw (kept, t) (record {
-      line = open_made last s (filter (λ send. not (is_request req send)) ss) t
-          (record { next = more ∙ next; rest = all_filter (λ send. not (is_request req send)) ss o.rest; line = stays.line });
+      line = open_made last s (filter (λ send. not (send_has_request req send)) ss) t
+          (record { next = more ∙ next; rest = all_filter (λ send. not (send_has_request req send)) ss o.rest; line = stays.line });
       next = rw t refl;
     }))
     (λ f.
     let o = shut_line last s ss f line in
     let below = o.below in
-    let here : req < next_in last ss = rw f at low in
+    let here : req < next_unsettled_request last ss = rw f at low in
     let stays = sends_in_line_after_remove last req ss o.line here in
     let more = stays.next in
-    split_on_bool_of_log (is_request req s)
+    split_on_bool_of_log (send_has_request req s)
     (λ gone. rw (gone, f) stays)
     (λ kept. rw (kept, f) (record {
-      line = shut_made last s (filter (λ send. not (is_request req send)) ss) f (record { below = omega arith; line = stays.line });
+      line = shut_made last s (filter (λ send. not (send_has_request req send)) ss) f (record { below = omega arith; line = stays.line });
       next = rw f more;
     })))
 
@@ -208,8 +208,8 @@ any_open req (s ∷ ss) all = split_on_bool_of_log (is_none s.number)
     rw here (any_open req ss rest))
     (λ f. let none = rw f at all in absurd (cc))
 
-pub settled_request_below_next : (last req : ℕ) (q : List OwnSend) → are_in_line last q ≡ true → list_any (λ send. (send.req == req) && is_some send.number) q ≡ true
-    → req < next_in last q
+pub settled_request_below_next : (last req : ℕ) (q : List OwnSend) → unsettled_sends_are_in_line last q ≡ true → list_any (λ send. (send.req == req) && is_some send.number) q ≡ true
+    → req < next_unsettled_request last q
 settled_request_below_next last req [] line any = absurd (cc)
 settled_request_below_next last req (s ∷ ss) line any = split_on_bool_of_log (is_none s.number)
     (λ t.
@@ -233,22 +233,22 @@ some_first : (w : Option OwnSend) (req : ℕ) → option_map {U = ℕ} (λ send.
 some_first None req is = absurd (cc)
 some_first (Some s) req is = (s, refl, cc)
 
-pub kept_sends_after_settle : (last req number : ℕ) (q later : List OwnSend) → AreKept last q
+pub kept_sends_after_settle : (last req number : ℕ) (q later : List OwnSend) → SendsAreWithinLimits last q
     → option_map {U = ℕ} (λ send. send.0) (option_map {U = ℕ × List ℕ} (λ send. (send.req, send.body)) (find is_unsettled q)) ≡ Some req
-    → later ≡ map (settle_send req number) q → AreKept last later × (next_in last later ≡ req + 1)
+    → later ≡ map (settle_send req number) q → SendsAreWithinLimits last later × (next_unsettled_request last later ≡ req + 1)
 kept_sends_after_settle last req number q later kept waits is =
     let w = some_first (find is_unsettled q) req waits in
     let line = sends_in_line_after_settle last req number q w.0 kept.line w.1 w.2 in
     let long : length later ≡ length q = ap length is ∙ length-map q (settle_send req number) in
     let few = kept.few in
-    (record { few = omega arith; line = ap (are_in_line last) is ∙ line.line; limit = kept.limit }, ap (next_in last) is ∙ line.next)
+    (record { few = omega arith; line = ap (unsettled_sends_are_in_line last) is ∙ line.line; limit = kept.limit }, ap (next_unsettled_request last) is ∙ line.next)
 
-pub kept_sends_after_push : (last : ℕ) (q later : List OwnSend) (n : OwnSend) → AreKept last q → length q < 4 → last < most_number → is_unsettled n ≡ true
-    → n.req ≡ last + 1 → later ≡ q ++ n ∷ [] → AreKept (last + 1) later × (next_in (last + 1) later ≡ next_in last q)
+pub kept_sends_after_push : (last : ℕ) (q later : List OwnSend) (n : OwnSend) → SendsAreWithinLimits last q → length q < 4 → last < greatest_number → is_unsettled n ≡ true
+    → n.req ≡ last + 1 → later ≡ q ++ n ∷ [] → SendsAreWithinLimits (last + 1) later × (next_unsettled_request (last + 1) later ≡ next_unsettled_request last q)
 kept_sends_after_push last q later n kept few low un req is =
     let long : length later ≡ length q + 1 = ap length is ∙ length-append q (n ∷ []) in (
-      record { few = omega arith; line = ap (are_in_line (last + 1)) is ∙ sends_in_line_after_push last q n un req kept.line; limit = omega arith },
-      ap (next_in (last + 1)) is
+      record { few = omega arith; line = ap (unsettled_sends_are_in_line (last + 1)) is ∙ sends_in_line_after_push last q n un req kept.line; limit = omega arith },
+      ap (next_unsettled_request (last + 1)) is
           ∙ next_in_line_after_push last q n un req,
     )
 
@@ -256,14 +256,14 @@ shorter : (p : OwnSend → Bool) (q : List OwnSend) → length (filter p q) ≤ 
 shorter p [] = omega arith
 shorter p (s ∷ ss) = let rest = shorter p ss in split_on_bool_of_log (p s) (λ t. rw t (omega arith)) (λ f. rw f (omega arith))
 
-pub kept_sends_after_remove : (last req : ℕ) (q later : List OwnSend) → AreKept last q → req < next_in last q → later ≡ filter (λ send. not (is_request req send)) q
-    → AreKept last later × (next_in last later ≡ next_in last q)
+pub kept_sends_after_remove : (last req : ℕ) (q later : List OwnSend) → SendsAreWithinLimits last q → req < next_unsettled_request last q → later ≡ filter (λ send. not (send_has_request req send)) q
+    → SendsAreWithinLimits last later × (next_unsettled_request last later ≡ next_unsettled_request last q)
 kept_sends_after_remove last req q later kept low is =
     let line = sends_in_line_after_remove last req q kept.line low in
-    let long = shorter (λ send. not (is_request req send)) q in
+    let long = shorter (λ send. not (send_has_request req send)) q in
     let few = kept.few in
     let same = ap length is in
-    (record { few = omega arith; line = ap (are_in_line last) is ∙ line.line; limit = kept.limit }, ap (next_in last) is ∙ line.next)
+    (record { few = omega arith; line = ap (unsettled_sends_are_in_line last) is ∙ line.line; limit = kept.limit }, ap (next_unsettled_request last) is ∙ line.next)
 
 abbrev first_or_none : Option (ℕ × List ℕ) → ℕ
 first_or_none None = 0
@@ -277,9 +277,9 @@ some_low (Some s) last req body low is =
     let most = low s refl in
     omega arith
 
-pub waiting_request_within_numbers : {B : Type 0} (last : ℕ) (q : List OwnSend) (body : B → List ℕ) (found : Option (ℕ × B)) → AreKept last q
+pub waiting_request_within_numbers : {B : Type 0} (last : ℕ) (q : List OwnSend) (body : B → List ℕ) (found : Option (ℕ × B)) → SendsAreWithinLimits last q
     → option_map {U = ℕ × List ℕ} (λ send. (send.0, body send.1)) found ≡ option_map {U = ℕ × List ℕ} (λ send. (send.req, send.body)) (find is_unsettled q)
-    → IfSome found (λ send. send.0 ≤ most_number)
+    → IfSome found (λ send. send.0 ≤ greatest_number)
 waiting_request_within_numbers last q body None kept is = tt
 waiting_request_within_numbers last q body (Some f) kept is =
     let limit = kept.limit in

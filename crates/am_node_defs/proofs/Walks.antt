@@ -1,11 +1,11 @@
 -- Where a walk upwards stops is the greatest front.
 use Rattle.am_node_defs.proofs.Words.{◌≡◌, ⊎_elim, ℕ, zero, suc, ◌+◌, ◌-◌, ◌<◌, ◌≤◌, refl, sym, ◌∙◌, ap, Bool, true, false, ◌&&◌, nat_le, if◌then◌else◌, arith}
-use Rattle.am_node_defs.proofs.Words.{list_all, range_with_len, nat_tests, cases_lt, eq-or-lt_of_le, Report, Log, top_of, told_by, greatest, is_held, accept_front}
+use Rattle.am_node_defs.proofs.Words.{list_all, range_with_len, nat_tests, cases_lt, eq-or-lt_of_le, Report, Log, top_of_log, image_of_log, greatest_passing_number, is_held, accept_front}
 use Rattle.am_node_defs.proofs.{Ranges.range_passes_if_all_pass, Ranges.range_fails_if_one_fails}
 
 pub greatest_is_where_walk_stops : (passes : ℕ → Bool) (from more front : ℕ) → from ≤ front → front ≤ from + more → (from < front → passes front ≡ true)
-    → ((g : ℕ) → front < g → g ≤ from + more → passes g ≡ false) → greatest passes from more ≡ front
-unfolding greatest
+    → ((g : ℕ) → front < g → g ≤ from + more → passes g ≡ false) → greatest_passing_number passes from more ≡ front
+unfolding greatest_passing_number
 greatest_is_where_walk_stops passes from zero front low high there past = omega arith
 greatest_is_where_walk_stops passes from (suc more) front low high there past = ⊎_elim
     (λ (e : front ≡ from + suc more).
@@ -32,7 +32,7 @@ satisfied_below_view_needs_view held view front number h = let f : nat_le view n
 -- all is held up to here from the last view on, and the next isn't
 front_found : (held : ℕ → Bool) (view acc more front : ℕ) → acc ≤ front → front ≤ acc + more → view ≤ front
     → ((n : ℕ) → acc < n → view ≤ n → n ≤ front → held n ≡ true) → (front < acc + more → held (front + 1) ≡ false)
-    → greatest (passes_as_front_with_view held view acc) acc more ≡ front
+    → greatest_passing_number (passes_as_front_with_view held view acc) acc more ≡ front
 front_found held view acc more front low high viewed all stops = greatest_is_where_walk_stops (passes_as_front_with_view held view acc) acc more front low high
     (λ above. range_passes_if_all_pass (is_satisfied_with_view held view front) (acc + 1) (front - acc) (λ k a b. ⊎_elim
     (λ (l : k < view).
@@ -46,7 +46,7 @@ front_found held view acc more front low high viewed all stops = greatest_is_whe
 
 -- the last view is above what is accepted, and isn't stored or isn't held
 front_stuck : (held : ℕ → Bool) (view acc more : ℕ) → acc < view → (view ≤ acc + more → held view ≡ false)
-    → greatest (passes_as_front_with_view held view acc) acc more ≡ acc
+    → greatest_passing_number (passes_as_front_with_view held view acc) acc more ≡ acc
 front_stuck held view acc more viewed unheld = greatest_is_where_walk_stops (passes_as_front_with_view held view acc) acc more acc (omega arith) (omega arith)
     (λ above. absurd (omega arith))
     (λ g l u. range_fails_if_one_fails (is_satisfied_with_view held view g) (acc + 1) (g - acc) (acc + 1) (omega arith) (omega arith) (⊎_elim
@@ -58,15 +58,15 @@ front_stuck held view acc more viewed unheld = greatest_is_where_walk_stops (pas
     (cases_lt (acc + 1) view)))
 
 -- the accept front of a list
-pub accept_front_where_walk_stops : (reports : ℕ → Report) (log : Log) (acc front : ℕ) → acc ≤ front → front ≤ top_of log → (told_by log).view_number ≤ front
-    → ((n : ℕ) → acc < n → (told_by log).view_number ≤ n → n ≤ front → is_held reports log n ≡ true)
-    → (front < top_of log → is_held reports log (front + 1) ≡ false) → front ≡ accept_front reports log acc
+pub accept_front_where_walk_stops : (reports : ℕ → Report) (log : Log) (acc front : ℕ) → acc ≤ front → front ≤ top_of_log log → (image_of_log log).view_number ≤ front
+    → ((n : ℕ) → acc < n → (image_of_log log).view_number ≤ n → n ≤ front → is_held reports log n ≡ true)
+    → (front < top_of_log log → is_held reports log (front + 1) ≡ false) → front ≡ accept_front reports log acc
 accept_front_where_walk_stops reports log acc front low high viewed all stops =
-    let at : acc + (top_of log - acc) ≡ top_of log = omega arith in
-    sym (front_found (is_held reports log) (told_by log).view_number acc (top_of log - acc) front low (omega arith) viewed all (λ h. stops (omega arith)))
+    let at : acc + (top_of_log log - acc) ≡ top_of_log log = omega arith in
+    sym (front_found (is_held reports log) (image_of_log log).view_number acc (top_of_log log - acc) front low (omega arith) viewed all (λ h. stops (omega arith)))
 
-pub accept_front_stays_below_view : (reports : ℕ → Report) (log : Log) (acc : ℕ) → acc ≤ top_of log → acc < (told_by log).view_number
-    → ((told_by log).view_number ≤ top_of log → is_held reports log (told_by log).view_number ≡ false) → acc ≡ accept_front reports log acc
+pub accept_front_stays_below_view : (reports : ℕ → Report) (log : Log) (acc : ℕ) → acc ≤ top_of_log log → acc < (image_of_log log).view_number
+    → ((image_of_log log).view_number ≤ top_of_log log → is_held reports log (image_of_log log).view_number ≡ false) → acc ≡ accept_front reports log acc
 accept_front_stays_below_view reports log acc high viewed unheld =
-    let at : acc + (top_of log - acc) ≡ top_of log = omega arith in
-    sym (front_stuck (is_held reports log) (told_by log).view_number acc (top_of log - acc) viewed (λ h. unheld (omega arith)))
+    let at : acc + (top_of_log log - acc) ≡ top_of_log log = omega arith in
+    sym (front_stuck (is_held reports log) (image_of_log log).view_number acc (top_of_log log - acc) viewed (λ h. unheld (omega arith)))

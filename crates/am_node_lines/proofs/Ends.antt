@@ -2,7 +2,7 @@
 use Rattle.std.proofs.Common.{◌≡◌, ℕ, ◌+◌, ◌++◌, List, Bool, true, false, IsTrue, ◌↔◌, ◌&&◌, nat_lt, Result, Ok, Err, IfOk, refl, sym, ap, ap₂, ◌∙◌, subst, arith}
 use Rattle.std.specs.Prelude.{codes, decimal}
 use Rattle.std.proofs.lemmas.Bool.Decides.{nat_tests}
-use Rattle.am_base.specs.Most.{most_number}
+use Rattle.am_base.specs.Most.{greatest_number}
 use Rattle.am_base.specs.Founding.{Rules}
 use Rattle.am_base.specs.declared.event.NodeEvent.{NodeEvent}
 use Rattle.am_base.specs.declared.name.Stamp.{Stamp}
@@ -11,12 +11,12 @@ use Rattle.am_base.specs.declared.outcome.Outcome.{Outcome}
 use Rattle.am_node_defs.specs.Cores.{IsInOrder}
 use Rattle.am_packet.specs.Boxes.{Letter}
 use Rattle.am_node_defs.specs.Sends.{Sends}
-use Rattle.am_model.specs.Node.{Node, top, image_of}
+use Rattle.am_model.specs.Node.{Node, top, image_of_node}
 use Rattle.am_model.specs.Step.{row, step}
-use Rattle.am_model.specs.Ends.{IsEndOf, Does}
+use Rattle.am_model.specs.Ends.{IsEndOf, DoesRow}
 use Rattle.am_model.proofs.Hearing.{ends_step_alike}
 use Rattle.am_node_parts.proofs.Ends.{top_of_node_end, image_of_node_end}
-use Rattle.am_model.specs.Info.{info_of, waited_for}
+use Rattle.am_model.specs.Info.{info_of_node, names_waited_for}
 use Rattle.am_model.specs.Nodes.{HasNumbersLeft}
 use Rattle.am_model.specs.declared.info.Info.{Info}
 use Rattle.am_node.proofs.Told.{info_of_end_is_info}
@@ -46,22 +46,22 @@ info_with i image waits =
     ++ (codes " " ++ (names_text i.members
     ++ (numbers_with i image.resilience ++ names_text waits)))))))
 
-info_by : (m : Node) → info_text m ≡ info_with (info_of m) (image_of m) (waited_for m.ballot)
+info_by : (m : Node) → info_text m ≡ info_with (info_of_node m) (image_of_node m) (names_waited_for m.ballot)
 unfolding info_text list_numbers_text info_with numbers_with
 info_by m = refl
 
 info_end : (all m : Node) → IsEndOf all m → info_text m ≡ info_text all
 info_end all m end =
     info_by m
-    ∙ ap (λ i. info_with i (image_of m) (waited_for m.ballot)) (info_of_end_is_info all m end)
-    ∙ ap (λ image. info_with (info_of all) image (waited_for m.ballot)) (image_of_node_end all m end)
-    ∙ ap (λ n. info_with (info_of all) (image_of all) (waited_for n.ballot)) end.same
+    ∙ ap (λ i. info_with i (image_of_node m) (names_waited_for m.ballot)) (info_of_end_is_info all m end)
+    ∙ ap (λ image. info_with (info_of_node all) image (names_waited_for m.ballot)) (image_of_node_end all m end)
+    ∙ ap (λ n. info_with (info_of_node all) (image_of_node all) (names_waited_for n.ballot)) end.same
     ∙ sym (info_by all)
 
 -- ---- numbers
 
 abbrev numbers_by : ℕ → Stamp → Sends → Bool
-numbers_by high promise sends = nat_lt (high + 1) most_number && (nat_lt promise.round most_number && nat_lt sends.last most_number)
+numbers_by high promise sends = nat_lt (high + 1) greatest_number && (nat_lt promise.round greatest_number && nat_lt sends.last greatest_number)
 
 numbers_end : (all m : Node) → IsEndOf all m → has_numbers_left m ≡ has_numbers_left all
 numbers_end all m end =
@@ -93,7 +93,7 @@ numbers_left_of_node b m says = tested b (has_numbers_left m) (λ is. numbers_to
 -- ---- steps
 
 step_replies : (m new : Node) (event : NodeEvent) (outcome : Outcome) (letters shown : List Letter) → IsInOrder m.core
-    → Does (λ n. row n event) m outcome letters new → shown ≡ letters → RepliesBy (λ n. stepped (step n event)) m (replies.Did outcome shown) new
+    → DoesRow (λ n. row n event) m outcome letters new → shown ≡ letters → RepliesBy (λ n. stepped (step n event)) m (replies.Did outcome shown) new
 unfolding step
 step_replies m new event outcome letters shown order does are = λ all end.
     let alike = ends_step_alike all m event end order in (
@@ -103,7 +103,7 @@ step_replies m new event outcome letters shown order does are = λ all end.
 
 -- the same of the node that stands apart, behind a box
 pub kept_end_step_replies_did : (m kept new : Node) (event : NodeEvent) (outcome : Outcome) (letters shown : List Letter) → kept ≡ m → IsInOrder kept.core
-    → Does (λ n. row n event) kept outcome letters new → shown ≡ letters → RepliesBy (λ n. stepped (step n event)) m (replies.Did outcome shown) new
+    → DoesRow (λ n. row n event) kept outcome letters new → shown ≡ letters → RepliesBy (λ n. stepped (step n event)) m (replies.Did outcome shown) new
 kept_end_step_replies_did m kept new event outcome letters shown same order does are =
     subst (λ (n : Node). RepliesBy (λ a. stepped (step a event)) n (replies.Did outcome shown) new) same
     (step_replies kept new event outcome letters shown order does are)

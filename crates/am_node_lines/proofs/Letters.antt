@@ -5,8 +5,8 @@ use Rattle.std.specs.List.{flat_map}
 use Rattle.std.specs.Int.{IsInRange}
 use Rattle.std.proofs.lemmas.Bool.Decides.{nat_tests}
 use Rattle.am_base.specs.Founding.{Rules}
-use Rattle.am_base.specs.Most.{most_packet}
-use Rattle.am_base.specs.Names.{IsSet, names_from}
+use Rattle.am_base.specs.Most.{most_bytes_of_packet}
+use Rattle.am_base.specs.Names.{IsSetOfNames, names_from}
 use Rattle.am_group_defs.specs.Text.{name_text, list_text, names_text, hex_byte}
 use Rattle.am_node_lines.specs.declared.line.Line.TheVariants as line
 use Rattle.am_node_lines.specs.Lines.{most_line, node_line_of, hear_line, is_for_any, addressees_of}
@@ -38,7 +38,7 @@ list_lacks [] low = one_lacks 32 45 (λ e. absurd (omega (arith, e)))
 list_lacks (name ∷ names) low =
     appended_texts_lack_byte 32 (name_text name) (flat_map (λ n. codes "," ++ name_text n) names) (name_text_lacks_other_byte name 32 low.0 blank (λ e. absurd (omega (arith, e)))) (others_lack names low.1)
 
-set_lacks : (set : List ℕ) → IsSet set → (i : ℕ) → i < length (names_text set) → get_or (names_text set) i 0 ≡ 32 → ⊥
+set_lacks : (set : List ℕ) → IsSetOfNames set → (i : ℕ) → i < length (names_text set) → get_or (names_text set) i 0 ≡ 32 → ⊥
 unfolding names_text
 set_lacks set is = list_lacks (names_from 0 set) (names_from_lives_are_names 0 set (omega (arith, is.places)) (lives_of_set_are_lives set is.lives))
 
@@ -47,7 +47,7 @@ unfolding AllAreNames
 list_starts [] low is = absurd (omega arith)
 list_starts (name ∷ names) low is = name_text_begins_with_digit name (flat_map (λ n. codes "," ++ name_text n) names) 42 low.0 (λ digit. absurd (omega (arith, digit))) is
 
-no_star : (set : List ℕ) → IsSet set → is_for_any (names_text set) ≡ false
+no_star : (set : List ℕ) → IsSetOfNames set → is_for_any (names_text set) ≡ false
 unfolding names_text
 no_star set is =
     let other = list_starts (names_from 0 set) (names_from_lives_are_names 0 set (omega (arith, is.places)) (lives_of_set_are_lives set is.lives)) in
@@ -61,32 +61,32 @@ star_first text = refl
 to_by : (any : Bool) (set : List ℕ) → List ℕ
 to_by any set = if any then codes "*" ++ names_text set else names_text set
 
-to_read : (any : Bool) (set : List ℕ) → IsSet set → addressees_of (to_by any set) ≡ Ok set
+to_read : (any : Bool) (set : List ℕ) → IsSetOfNames set → addressees_of (to_by any set) ≡ Ok set
 unfolding to_by
 to_read true set is = names_of_names_text set is
 to_read false set is = rw (no_star set is) (names_of_names_text set is)
 
-to_any : (any : Bool) (set : List ℕ) → IsSet set → is_for_any (to_by any set) ≡ any
+to_any : (any : Bool) (set : List ℕ) → IsSetOfNames set → is_for_any (to_by any set) ≡ any
 unfolding to_by
 to_any true set is = refl
 to_any false set is = no_star set is
 
-to_lacks : (any : Bool) (set : List ℕ) → IsSet set → (i : ℕ) → i < length (to_by any set) → get_or (to_by any set) i 0 ≡ 32 → ⊥
+to_lacks : (any : Bool) (set : List ℕ) → IsSetOfNames set → (i : ℕ) → i < length (to_by any set) → get_or (to_by any set) i 0 ≡ 32 → ⊥
 unfolding to_by
 to_lacks true set is = appended_texts_lack_byte 32 (42 ∷ []) (names_text set) (one_lacks 32 42 (λ e. absurd (omega (arith, e)))) (set_lacks set is)
 to_lacks false set is = set_lacks set is
 
-to_short : (any : Bool) (set : List ℕ) → IsSet set → length (to_by any set) ≤ 98
+to_short : (any : Bool) (set : List ℕ) → IsSetOfNames set → length (to_by any set) ≤ 98
 unfolding to_by
 to_short true set is = omega (arith, names_text_length_le_97 set is)
 to_short false set is = omega (arith, names_text_length_le_97 set is)
 
 -- ---- the line
 
-hear_is : (any : Bool) (set bytes : List ℕ) → IsSet set → ((i : ℕ) → get_or bytes i 0 < 256) → 0 < length bytes → length bytes ≤ most_packet
+hear_is : (any : Bool) (set bytes : List ℕ) → IsSetOfNames set → ((i : ℕ) → get_or bytes i 0 < 256) → 0 < length bytes → length bytes ≤ most_bytes_of_packet
     → hear_line (to_by any set ++ (32 ∷ flat_map hex_byte bytes)) ≡ line.Hears any set bytes
 hear_is any set bytes is low some few =
-    rw (cut_of_at_separator 32 (to_by any set) (flat_map hex_byte bytes) (to_lacks any set is), to_read any set is, to_any any set is, bytes_of_hex_text most_packet bytes low some few) refl
+    rw (cut_of_at_separator 32 (to_by any set) (flat_map hex_byte bytes) (to_lacks any set is), to_read any set is, to_any any set is, bytes_of_hex_text most_bytes_of_packet bytes low some few) refl
 
 line_is : (rules : Rules) (rest : List ℕ) → length rest ≤ 4000 → node_line_of rules (codes "hear " ++ rest) ≡ hear_line rest
 unfolding node_line_of

@@ -2,16 +2,16 @@
 use Rattle.std.specs.Prelude.{ℕ, ◌+◌, List, [], ◌++◌, codes, decimal, Bool, true, false, ◌&&◌, nat_lt, if◌then◌else◌, slice_index}
 use Rattle.std.specs.List.{flat_map}
 use Rattle.am_base.specs.Founding.{Rules}
-use Rattle.am_base.specs.Most.{most_number}
-use Rattle.am_base.specs.Names.{place_of, has}
+use Rattle.am_base.specs.Most.{greatest_number}
+use Rattle.am_base.specs.Names.{place_of_name, has}
 use Rattle.am_base.specs.declared.event.NodeEvent.TheVariants as does
 use Rattle.am_base.specs.declared.outcome.Outcome.TheVariants as said
 use Rattle.am_packet.specs.Boxes.{Letter}
 use Rattle.am_packet.specs.Spelling.{spelling}
-use Rattle.am_model.specs.Node.{Node, top, view, members, image_of}
-use Rattle.am_model.specs.Emit.{Step}
+use Rattle.am_model.specs.Node.{Node, top, view, members, image_of_node}
+use Rattle.am_model.specs.Emit.{StepResult}
 use Rattle.am_model.specs.Step.{step}
-use Rattle.am_model.specs.Info.{role_of, waited_for}
+use Rattle.am_model.specs.Info.{role_of_node, names_waited_for}
 use Rattle.am_model.specs.declared.info.Role.{Role}
 use Rattle.am_model.specs.declared.info.Role.TheVariants as role
 use Rattle.am_group_defs.specs.Text.{stamp_text, names_text, hex_byte, outcome_text}
@@ -33,7 +33,7 @@ answer_letter_text letter = codes " | " ++ (to_text letter ++ (codes " " ++ flat
 
 -- a name is addressed: it is in the set, or any life of its place is
 abbrev pub is_addressed : Bool → List ℕ → ℕ → Bool
-is_addressed any to name = if any then nat_lt 0 (slice_index to (place_of name)) else has to name
+is_addressed any to name = if any then nat_lt 0 (slice_index to (place_of_name name)) else has to name
 
 -- ---- what a node tells of itself
 
@@ -48,7 +48,7 @@ role_word role.Departed = codes "departed"
 -- its resilience and the numbers of its list, with a blank around each: base, taken, accepted, top
 unfoldable pub list_numbers_text : Node → List ℕ
 list_numbers_text m =
-    codes " " ++ (decimal (image_of m).resilience
+    codes " " ++ (decimal (image_of_node m).resilience
     ++ (codes " " ++ (decimal m.core.base
     ++ (codes " " ++ (decimal m.core.taken
     ++ (codes " " ++ (decimal m.core.acc
@@ -57,11 +57,11 @@ list_numbers_text m =
 -- its role; its view, and the number of that; the members; its numbers; the names that its ballot waits for
 unfoldable pub info_text : Node → List ℕ
 info_text m =
-    role_word (role_of m)
+    role_word (role_of_node m)
     ++ (codes " " ++ (stamp_text (view m)
-    ++ (codes " " ++ (decimal (image_of m).view_number
+    ++ (codes " " ++ (decimal (image_of_node m).view_number
     ++ (codes " " ++ (names_text (members m)
-    ++ (list_numbers_text m ++ names_text (waited_for m.ballot))))))))
+    ++ (list_numbers_text m ++ names_text (names_waited_for m.ballot))))))))
 
 -- ---- what comes of a line
 
@@ -75,7 +75,7 @@ abbrev pub unchanged : Node → LineReply → LineReplied
 unchanged m told = record { node = m; reply = told }
 
 -- what comes of a step: its outcome, and its letters in order
-abbrev pub stepped : Step → LineReplied
+abbrev pub stepped : StepResult → LineReplied
 stepped s = record { node = s.node; reply = replies.Did s.outcome s.letters }
 
 -- what comes of a line where no number is used up
@@ -88,7 +88,7 @@ reply_by m (line.Bad cause) = unchanged m (replies.Bad cause)
 
 -- none of a node's numbers is at its end
 abbrev pub has_numbers_left : Node → Bool
-has_numbers_left m = nat_lt (top m + 1) most_number && (nat_lt m.core.promise.round most_number && nat_lt m.sends.last most_number)
+has_numbers_left m = nat_lt (top m + 1) greatest_number && (nat_lt m.core.promise.round greatest_number && nat_lt m.sends.last greatest_number)
 
 -- the line asks what the node knows
 abbrev pub is_info : Line → Bool

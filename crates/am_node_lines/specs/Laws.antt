@@ -2,8 +2,8 @@
 use Rattle.std.specs.Prelude.{◌≡◌, ℕ, ◌<◌, ◌≤◌, List, ◌++◌, length, codes}
 use Rattle.std.specs.List.{flat_map}
 use Rattle.am_base.specs.Founding.{Rules}
-use Rattle.am_base.specs.Most.{most_packet}
-use Rattle.am_base.specs.Names.{IsSet}
+use Rattle.am_base.specs.Most.{most_bytes_of_packet}
+use Rattle.am_base.specs.Names.{IsSetOfNames}
 use Rattle.am_packet.specs.Boxes.{Letter}
 use Rattle.am_packet.specs.Laws.{IsBytes}
 use Rattle.am_group_defs.specs.Text.{hex_byte}
@@ -13,5 +13,5 @@ use Rattle.am_node_lines.specs.Answers.{to_text}
 
 -- a letter's part of an answer, behind the word hear, is a line that says that these bytes came for these names
 abbrev pub LettersAreLines : Type 0
-LettersAreLines = (rules : Rules) (letter : Letter) (bytes : List ℕ) → IsSet letter.to → IsBytes bytes → 0 < length bytes → length bytes ≤ most_packet
+LettersAreLines = (rules : Rules) (letter : Letter) (bytes : List ℕ) → IsSetOfNames letter.to → IsBytes bytes → 0 < length bytes → length bytes ≤ most_bytes_of_packet
     → node_line_of rules (codes "hear " ++ (to_text letter ++ (codes " " ++ flat_map hex_byte bytes))) ≡ line.Hears letter.any letter.to bytes

@@ -1,7 +1,7 @@
 -- What a line says to a node.
 use Rattle.std.specs.Prelude.{ℕ, List, drop, length, codes, Option, Some, None, Result, Ok, Err, Bool, ◌==◌, nat_lt, if◌then◌else◌, slice_index}
 use Rattle.am_base.specs.Founding.{Rules}
-use Rattle.am_base.specs.Most.{most_body, most_packet}
+use Rattle.am_base.specs.Most.{most_bytes_of_body, most_bytes_of_packet}
 use Rattle.am_base.specs.declared.event.NodeEvent.TheVariants as does
 use Rattle.am_text_defs.specs.declared.fault.FieldFault.{FieldFault}
 use Rattle.am_text_defs.specs.declared.fault.FieldFault.TheVariants as faults
@@ -93,7 +93,7 @@ addressees_of text = names_in_text (if is_for_any text then drop 1 text else tex
 -- a letter's bytes
 abbrev pub letter_line : Bool → List ℕ → Option (List ℕ) → Line
 letter_line any to None = line.Bad Form
-letter_line any to (Some text) = line_from (bytes_of most_packet text) (λ bytes. line.Hears any to bytes)
+letter_line any to (Some text) = line_from (bytes_of most_bytes_of_packet text) (λ bytes. line.Hears any to bytes)
 
 abbrev pub hear_line : List ℕ → Line
 hear_line rest = line_from (addressees_of (cut_of 32 rest).0) (λ to. letter_line (is_for_any (cut_of 32 rest).0) to (cut_of 32 rest).1)
@@ -102,7 +102,7 @@ hear_line rest = line_from (addressees_of (cut_of 32 rest).0) (λ to. letter_lin
 
 -- a word with something behind it
 abbrev pub more_line : Rules → Word → List ℕ → Line
-more_line rules word.Send rest = line_from (bytes_of most_body rest) (λ body. line.Does (does.Send body))
+more_line rules word.Send rest = line_from (bytes_of most_bytes_of_body rest) (λ body. line.Does (does.Send body))
 more_line rules word.Done rest = line_from (request_number_of rest) (λ req. line.Does (does.Done req))
 more_line rules word.Reset rest = reset_line rules rest
 more_line rules word.Ask rest = line_from (request_number_of rest) (λ round. line.Does (does.Ask round))

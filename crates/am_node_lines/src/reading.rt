@@ -2,7 +2,7 @@ ghost use Rattle.std.specs.Prelude.{◌≡◌, ◌≢◌, ◌≤◌, ◌<◌, le
 ghost use Rattle.am_base.specs.declared.event.NodeEvent.TheVariants as does;
 ghost use Rattle.am_text_defs.specs.Fields.{bytes_of, name_in_text};
 ghost use Rattle.am_node_lines.specs.declared.line.Line.TheVariants as said;
-ghost use Rattle.am_base.specs.Most.{most_body, most_packet};
+ghost use Rattle.am_base.specs.Most.{most_bytes_of_body, most_bytes_of_packet};
 ghost use Rattle.am_node_lines.specs.Lines.{word_of, request_number_of, reset_least_of, line_from, line_resilience, reset_line, is_for_any, addressees_of, letter_line, hear_line, line_by, node_line_of, more_line, only_word};
 
 use crate::line::{BadLine, Line, Word};
@@ -164,7 +164,7 @@ fn hear_line(alloc: Global, rest: &[u8]) -> Result<Line, NoMemory>
 
 /// A send of a body.
 fn send_line(alloc: Global, rest: &[u8]) -> Result<Line, NoMemory>
-    ensures { IfOk result (λ line. line ≡ line_from (bytes_of most_body rest.now) (λ body. said.Does (does.Send body))) }
+    ensures { IfOk result (λ line. line ≡ line_from (bytes_of most_bytes_of_body rest.now) (λ body. said.Does (does.Send body))) }
 {
     let mut bytes = Vec::with_capacity(alloc, MOST_BODY)?;
     match body(rest, MOST_BODY, &mut bytes) {

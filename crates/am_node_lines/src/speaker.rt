@@ -1,6 +1,6 @@
 ghost use Rattle.std.specs.Prelude.{◌≡◌, true, false, OnOk, OnErr, IfOk, IsErr, string_bytes};
 ghost use Rattle.am_base.specs.Names.{has};
-ghost use Rattle.am_model.specs.Node.{founder, stranger};
+ghost use Rattle.am_model.specs.Node.{founder, stranger_node};
 ghost use Rattle.am_model.specs.Nodes.{HasNumbersLeft};
 ghost use Rattle.am_node.specs.Stands.{state_of};
 ghost use Rattle.am_node_lines.specs.Answers.{is_addressed, is_info};
@@ -65,7 +65,7 @@ fn founder_of(alloc: Global, name: Name, founding: &Founding) -> Result<Box<Node
 /// The node of a name that no one has seen, in a place apart. It is an error where there is no memory.
 #[inline(never)]
 fn stranger_of(alloc: Global, name: Name, founding: &Founding) -> Result<Box<Node>, NoMemory>
-    ensures { IfOk result (λ n. state_of n.value ≡ stranger founding.now name) }
+    ensures { IfOk result (λ n. state_of n.value ≡ stranger_node founding.now name) }
 {
     let room = Room::new(alloc, founding)?;
     Ok(Box::new(alloc, Node::stranger_in(room, name))?)

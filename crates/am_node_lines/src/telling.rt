@@ -1,7 +1,7 @@
 ghost use Rattle.std.specs.Prelude.{◌≡◌, ◌++◌, OnOk, codes, decimal, string_bytes};
 ghost use Rattle.std.specs.List.{flat_map};
-ghost use Rattle.am_model.specs.Node.{image_of, top};
-ghost use Rattle.am_model.specs.Info.{info_of};
+ghost use Rattle.am_model.specs.Node.{image_of_node, top};
+ghost use Rattle.am_model.specs.Info.{info_of_node};
 ghost use Rattle.am_node.specs.Stands.{state_of};
 ghost use Rattle.am_node_lines.specs.Answers.{to_text, answer_letter_text, role_word, list_numbers_text, info_text, reply_text};
 
@@ -63,7 +63,7 @@ fn role_word(role: Role) -> &'static str
 /// Adds a node's resilience and the numbers of its list, with a blank around each.
 #[tactic(auto, unfolding(crate::specs::Answers::list_numbers_text))]
 fn push_numbers(out: &mut String, node: &Node, info: &Info) -> Result<(), NoMemory>
-    requires { info.now ≡ info_of (state_of node.now) }
+    requires { info.now ≡ info_of_node (state_of node.now) }
     ensures { OnOk result (string_bytes out.new
         ≡ string_bytes out.old ++ list_numbers_text (state_of node.now)) }
 {

@@ -1,18 +1,18 @@
 -- The parts of a node keep what they keep.
 use Rattle.am_node_parts.proofs.Words.{left_of_and, ◌≡◌, ◌≢◌, ◌<◌, inl, ℕ, ◌+◌, [], ◌∷◌, length, ◌-◌, ◌≤◌, nat_lt, List, Bool, true, false, ◌&&◌, ◌==◌, Option, Some}
 use Rattle.am_node_parts.proofs.Words.{None, option_map, refl, sym, ◌∙◌, ap, subst, arith, Image, Stamp, Report, Row, Entry, Data, Join, Leave, View, nat_tests}
-use Rattle.am_node_parts.proofs.Words.{has, life_of, stamp_eq, stamp_lt, members_of, at_place, after, fits, fold, CoreState, IsInOrder, accept, pass_over, IsKept}
-use Rattle.am_node_parts.proofs.Words.{split_on_bool_of_log, top_of_end_is_top, told_by_end_is_told, told_by_pushed_entry, untrimmed_core_keeps_own_log, Led, LeadsBy, MayLead, own_report, tell, go_on, let_go, KeptBody}
-use Rattle.am_node_parts.proofs.Words.{OwnSend, Sends, next_request, has_log, Node, Ballot, top, image_of, view, members, acts, waiting, is_member, is_sequencer}
-use Rattle.am_node_parts.proofs.Words.{push_entry, node_with_report, after_report, Status, Member, is_view, refresh, lead, led_of, with_led, accepted_at, settle_at}
-use Rattle.am_node_parts.proofs.Words.{settle_waiting, settle, refresh_at_end, IsEndOf, sixteen_rows_after_entry, NodeKeeps, IsOwnBallot, IsSteady, IsDue, MayServe}
-use Rattle.am_node_defs.specs.Cores.{advance}
+use Rattle.am_node_parts.proofs.Words.{has, life_of_name, stamps_are_equal, stamp_is_less, members_of_image, row_at_place, after, fits, image_after_entries, CoreState, IsInOrder, raise_accepted_to_told, pass_over_below_join, IsKept}
+use Rattle.am_node_parts.proofs.Words.{split_on_bool_of_log, top_of_end_is_top, end_has_image_of_whole_log, told_by_pushed_entry, untrimmed_core_keeps_own_log, CoreWithReports, RefreshesAlike, IsMemberOrLastLeaver, raise_own_report, tell_accept_front, advance_with_reports, trim_to_least_taken, KeptBody}
+use Rattle.am_node_parts.proofs.Words.{OwnSend, Sends, next_request, has_log_by_status, Node, Ballot, top, image_of_node, view, members, acts_in_its_view, waiting_send_of, is_member, is_sequencer}
+use Rattle.am_node_parts.proofs.Words.{push_entry, node_with_report, reports_after_report, Status, Member, is_view, refresh, refresh_as_sequencer, core_with_reports_of, node_with_core_and_reports, accepted_number_of_send, settle_send_at}
+use Rattle.am_node_parts.proofs.Words.{settle_send_where_accepted, settle_waiting_send, refresh_at_end, IsEndOf, sixteen_rows_after_entry, NodeKeeps, IsOwnBallot, IsSteady, RequestMayBeDue, MayServe}
+use Rattle.am_node_defs.specs.Cores.{advance_core}
 use Rattle.am_node_defs.specs.Refresh as fronts
 use Rattle.am_node_defs.specs.Sends as sending
 use Rattle.am_node_parts.proofs.Due.{due_request_after_entry}
 
 pub steady_node_stays_sequencer : (m n : Node) → IsSteady m n → is_sequencer n ≡ is_sequencer m
-steady_node_stays_sequencer m n s = λ k. (is_member (s.status k) && stamp_eq (s.promise k) (s.told k).view) && ((s.told k).view.by == s.who k)
+steady_node_stays_sequencer m n s = λ k. (is_member (s.status k) && stamps_are_equal (s.promise k) (s.told k).view) && ((s.told k).view.by == s.who k)
 
 pub steady_node_may_serve : (m n : Node) (from : ℕ) → IsSteady m n → MayServe m from → MayServe n from
 steady_node_may_serve m n from s serves =
@@ -21,11 +21,11 @@ steady_node_may_serve m n from s serves =
 
 -- a ballot stays the node's own where its promise, its name, its view and its list stay
 pub own_ballot_of_same_promise : (m n : Node) (b : Ballot) → n.core.promise ≡ m.core.promise → n.core.who ≡ m.core.who → view n ≡ view m
-    → (has_log m.status ≡ true → has_log n.status ≡ true) → IsOwnBallot m b → IsOwnBallot n b
+    → (has_log_by_status m.status ≡ true → has_log_by_status n.status ≡ true) → IsOwnBallot m b → IsOwnBallot n b
 own_ballot_of_same_promise m n b promise who same log own = record {
   stamp = λ open_. own.stamp open_ ∙ sym promise;
   by = λ open_. own.by open_ ∙ sym who;
-  ahead = λ open_. ap (λ (v : Stamp). stamp_lt v b.stamp) same ∙ own.ahead open_;
+  ahead = λ open_. ap (λ (v : Stamp). stamp_is_less v b.stamp) same ∙ own.ahead open_;
   logged = λ open_. log (own.logged open_);
   itself = λ open_. ap b.given_up who ∙ own.itself open_;
   unvoted = λ open_. ap b.votes who ∙ own.unvoted open_;
@@ -33,7 +33,7 @@ own_ballot_of_same_promise m n b promise who same log own = record {
 }
 
 pub own_ballot_of_steady_node : (m n : Node) (b : Ballot) → IsSteady m n → IsOwnBallot m b → IsOwnBallot n b
-own_ballot_of_steady_node m n b s own = own_ballot_of_same_promise m n b s.promise s.who (ap (λ (i : Image). i.view) s.told) (λ logged. ap has_log s.status ∙ logged) own
+own_ballot_of_steady_node m n b s own = own_ballot_of_same_promise m n b s.promise s.who (ap (λ (i : Image). i.view) s.told) (λ logged. ap has_log_by_status s.status ∙ logged) own
 
 -- an ended ballot needs nothing else
 pub ended_ballot_counts_as_own : (n : Node) (b : Ballot) → b.is_over ≡ true → b.resilience ≤ 15 → IsOwnBallot n b
@@ -53,35 +53,35 @@ ended_ballot_counts_as_own n b is few = record {
 pub steady_node_keeps_order : (m n : Node) → IsSteady m n → NodeKeeps m → (n.reports n.core.who).taken ≤ n.core.taken → NodeKeeps n
 steady_node_keeps_order m n s keeps own = record {
   own = own;
-  leads = λ is. (λ k. has (members_of (s.told k)) (s.who k)) ∙ keeps.leads (sym (steady_node_stays_sequencer m n s) ∙ is);
-  promised = (λ k. stamp_lt (s.promise k) (s.told k).view) ∙ keeps.promised;
-  blank = λ none. let before = ap has_log (sym s.status) ∙ none in s.top ∙ keeps.blank before;
+  leads = λ is. (λ k. has (members_of_image (s.told k)) (s.who k)) ∙ keeps.leads (sym (steady_node_stays_sequencer m n s) ∙ is);
+  promised = (λ k. stamp_is_less (s.promise k) (s.told k).view) ∙ keeps.promised;
+  blank = λ none. let before = ap has_log_by_status (sym s.status) ∙ none in s.top ∙ keeps.blank before;
   ballot = λ b is. own_ballot_of_steady_node m n b s (keeps.ballot b (sym s.ballot ∙ is));
   settled = λ leaves. ap sending.first_unsettled_send s.sends ∙ keeps.settled (sym s.leaving ∙ leaves);
-  due = subst (λ (r : Row). IsDue r (life_of n.core.who) (next_request n.sends)) (sym (λ k. at_place (s.told k) (s.who k)))
-      (subst (λ (w : ℕ). IsDue (at_place (image_of m) m.core.who) (life_of w) (next_request n.sends)) (sym s.who)
-      (subst (λ (x : Sends). IsDue (at_place (image_of m) m.core.who) (life_of m.core.who) (next_request x)) (sym s.sends) keeps.due));
+  due = subst (λ (r : Row). RequestMayBeDue r (life_of_name n.core.who) (next_request n.sends)) (sym (λ k. row_at_place (s.told k) (s.who k)))
+      (subst (λ (w : ℕ). RequestMayBeDue (row_at_place (image_of_node m) m.core.who) (life_of_name w) (next_request n.sends)) (sym s.who)
+      (subst (λ (x : Sends). RequestMayBeDue (row_at_place (image_of_node m) m.core.who) (life_of_name m.core.who) (next_request x)) (sym s.sends) keeps.due));
   unsent = λ none.
-      let before = keeps.unsent (ap has_log (sym s.status) ∙ none) in
+      let before = keeps.unsent (ap has_log_by_status (sym s.status) ∙ none) in
       let same = ap next_request s.sends in
       omega arith;
 }
 
 -- who leads may
-pub sequencer_may_lead : (m : Node) → NodeKeeps m → is_sequencer m ≡ true → MayLead m.core
+pub sequencer_may_lead : (m : Node) → NodeKeeps m → is_sequencer m ≡ true → IsMemberOrLastLeaver m.core
 sequencer_may_lead m keeps is = inl (keeps.leads is)
 
 -- ---- the refresh
 
-pub lead_is_steady : (m : Node) (new : Led) → IsInOrder m.core → LeadsBy fronts.refresh_led (led_of m) new → IsSteady m (with_led m new)
-unfolding own_report tell go_on let_go accept pass_over
+pub lead_is_steady : (m : Node) (new : CoreWithReports) → IsInOrder m.core → RefreshesAlike fronts.refresh_with_reports (core_with_reports_of m) new → IsSteady m (node_with_core_and_reports m new)
+unfolding raise_own_report tell_accept_front advance_with_reports trim_to_least_taken raise_accepted_to_told pass_over_below_join
 lead_is_steady m new order by =
     let is = by m.core.log (untrimmed_core_keeps_own_log m.core order.kept) in
     let end = (is.0).kept in
     record {
-      who = ap (λ (s : Led). s.core.who) is.1;
-      promise = ap (λ (s : Led). s.core.promise) is.1;
-      told = told_by_end_is_told m.core.log new.core.log end;
+      who = ap (λ (s : CoreWithReports). s.core.who) is.1;
+      promise = ap (λ (s : CoreWithReports). s.core.promise) is.1;
+      told = end_has_image_of_whole_log m.core.log new.core.log end;
       top = top_of_end_is_top m.core.log new.core.log end;
       status = refl;
       ballot = refl;
@@ -90,18 +90,18 @@ lead_is_steady m new order by =
     }
 
 -- a node that goes on with what it was told
-pub advance_keeps_node_order : (m : Node) (core : CoreState) → core ≡ advance m.core → NodeKeeps m → NodeKeeps (record m { core = core })
-unfolding accept pass_over
+pub advance_keeps_node_order : (m : Node) (core : CoreState) → core ≡ advance_core m.core → NodeKeeps m → NodeKeeps (record m { core = core })
+unfolding raise_accepted_to_told pass_over_below_join
 advance_keeps_node_order m core is keeps = subst (λ (x : CoreState). NodeKeeps (record m { core = x })) (sym is)
-    (steady_node_keeps_order m (record m { core = advance m.core })
+    (steady_node_keeps_order m (record m { core = advance_core m.core })
     (record { who = refl; promise = refl; told = refl; top = refl; status = refl; ballot = refl; leaving = refl; sends = refl }) keeps
     (let own = keeps.own in split_on_bool_of_log (nat_lt m.core.taken (m.core.start - 1)) (λ t. rw t (omega arith)) (λ f. rw f own)))
 
 -- other sends, and all else the same
 pub record MayHoldSends (m : Node) (sends : Sends) : Type 0 where
   pub settled : m.leaving ≡ true → sending.first_unsettled_send sends ≡ None
-  pub due : IsDue (at_place (image_of m) m.core.who) (life_of m.core.who) (next_request sends)
-  pub unsent : has_log m.status ≡ false → next_request sends ≤ 1
+  pub due : RequestMayBeDue (row_at_place (image_of_node m) m.core.who) (life_of_name m.core.who) (next_request sends)
+  pub unsent : has_log_by_status m.status ≡ false → next_request sends ≤ 1
 
 -- other sends, another ballot, or a wish to leave
 keeps_changed : (m : Node) (leaving : Bool) (sends : Sends) (ballot : Option Ballot) → MayHoldSends (record m { leaving = leaving }) sends
@@ -120,16 +120,16 @@ keeps_changed m leaving sends ballot may owns keeps = record {
 pub new_sends_keep_node_order : (m : Node) (sends : Sends) → MayHoldSends m sends → NodeKeeps m → NodeKeeps (record m { sends = sends })
 new_sends_keep_node_order m sends may keeps = keeps_changed m m.leaving sends m.ballot may keeps.ballot keeps
 
-pub leaving_keeps_node_order : (m : Node) → waiting m ≡ None → NodeKeeps m → NodeKeeps (record m { leaving = true })
+pub leaving_keeps_node_order : (m : Node) → waiting_send_of m ≡ None → NodeKeeps m → NodeKeeps (record m { leaving = true })
 leaving_keeps_node_order m none keeps =
     keeps_changed m true m.sends m.ballot (record { settled = λ leaves. none; due = keeps.due; unsent = keeps.unsent }) keeps.ballot keeps
 
 -- the waiting send is settled, which stands in the list
 pub may_hold_settled_sends : (m : Node) (sends : Sends) (req : ℕ) → NodeKeeps m → option_map (λ (send : OwnSend). send.req) (sending.first_unsettled_send m.sends) ≡ Some req
-    → next_request sends ≡ req + 1 → IsDue (at_place (image_of m) m.core.who) (life_of m.core.who) (req + 1) → 0 < top m → MayHoldSends m sends
+    → next_request sends ≡ req + 1 → RequestMayBeDue (row_at_place (image_of_node m) m.core.who) (life_of_name m.core.who) (req + 1) → 0 < top m → MayHoldSends m sends
 may_hold_settled_sends m sends req keeps waits next due some = record {
   settled = λ leaves. let none = ap (option_map (λ (send : OwnSend). send.req)) (keeps.settled leaves) in absurd (cc);
-  due = subst (λ n. IsDue (at_place (image_of m) m.core.who) (life_of m.core.who) n) (sym next) due;
+  due = subst (λ n. RequestMayBeDue (row_at_place (image_of_node m) m.core.who) (life_of_name m.core.who) n) (sym next) due;
   unsent = λ none. let blank = keeps.blank none in absurd (omega arith);
 }
 
@@ -141,43 +141,43 @@ report_is_steady m from report = record { who = refl; promise = refl; told = ref
 pub report_keeps_node_order : (m : Node) (from : ℕ) (report : Report) → from ≢ m.core.who → NodeKeeps m → NodeKeeps (node_with_report m from report)
 report_keeps_node_order m from report other keeps =
     let test : (m.core.who == from) ≡ false = grind (arith, nat_tests) in
-    let same : after_report m.reports from report m.core.who ≡ m.reports m.core.who = rw test refl in
+    let same : reports_after_report m.reports from report m.core.who ≡ m.reports m.core.who = rw test refl in
     let taken = ap (λ (r : Report). r.taken) same in
     steady_node_keeps_order m (node_with_report m from report) (report_is_steady m from report) keeps (let own = keeps.own in omega arith)
 
 view_after : (image : Image) (number : ℕ) (e : Entry) → is_view e ≡ false → (after image number e).view ≡ image.view
 unfolding after
-view_after image number (Data from req body) h = split_on_bool_of_log ((at_place image from).life == life_of from) (λ t. rw t refl) (λ f. rw f refl)
+view_after image number (Data from req body) h = split_on_bool_of_log ((row_at_place image from).life == life_of_name from) (λ t. rw t refl) (λ f. rw f refl)
 view_after image number (Join name) h = refl
-view_after image number (Leave name) h = split_on_bool_of_log ((at_place image name).life == life_of name) (λ t. rw t refl) (λ f. rw f refl)
+view_after image number (Leave name) h = split_on_bool_of_log ((row_at_place image name).life == life_of_name name) (λ t. rw t refl) (λ f. rw f refl)
 view_after image number (View v) h = absurd (cc)
 
 view_pushed : (m : Node) (e : Entry) → is_view e ≡ false → view (push_entry m e) ≡ view m
-view_pushed m e h = ap (λ (i : Image). i.view) (told_by_pushed_entry m.core.log e) ∙ view_after (image_of m) (top m + 1) e h
+view_pushed m e h = ap (λ (i : Image). i.view) (told_by_pushed_entry m.core.log e) ∙ view_after (image_of_node m) (top m + 1) e h
 
 pub is_sequencer_after_push : (m : Node) (e : Entry) → is_view e ≡ false → is_sequencer (push_entry m e) ≡ is_sequencer m
-is_sequencer_after_push m e h = ap (λ (v : Stamp). (is_member m.status && stamp_eq m.core.promise v) && (v.by == m.core.who)) (view_pushed m e h)
+is_sequencer_after_push m e h = ap (λ (v : Stamp). (is_member m.status && stamps_are_equal m.core.promise v) && (v.by == m.core.who)) (view_pushed m e h)
 
-pub fold_keeps_sixteen_rows : (image : Image) (n : ℕ) (es : List Entry) → length image.rows ≡ 16 → length (fold image n es).rows ≡ 16
-unfolding fold
+pub fold_keeps_sixteen_rows : (image : Image) (n : ℕ) (es : List Entry) → length image.rows ≡ 16 → length (image_after_entries image n es).rows ≡ 16
+unfolding image_after_entries
 fold_keeps_sixteen_rows image n [] long = long
 fold_keeps_sixteen_rows image n (e ∷ es) long = fold_keeps_sixteen_rows (after image n e) (n + 1) es (sixteen_rows_after_entry image n e long)
 
 -- what is settled stands in the list with an entry more
-pub due_request_after_push : (m : Node) (e : Entry) (capacity : ℕ) → IsKept m.core.log capacity → fits (image_of m) e ≡ true → (next : ℕ)
-    → IsDue (at_place (image_of m) m.core.who) (life_of m.core.who) next → IsDue (at_place (image_of (push_entry m e)) m.core.who) (life_of m.core.who) next
+pub due_request_after_push : (m : Node) (e : Entry) (capacity : ℕ) → IsKept m.core.log capacity → fits (image_of_node m) e ≡ true → (next : ℕ)
+    → RequestMayBeDue (row_at_place (image_of_node m) m.core.who) (life_of_name m.core.who) next → RequestMayBeDue (row_at_place (image_of_node (push_entry m e)) m.core.who) (life_of_name m.core.who) next
 due_request_after_push m e capacity kept fit next due =
-    subst (λ (i : Image). IsDue (at_place i m.core.who) (life_of m.core.who) next) (sym (told_by_pushed_entry m.core.log e))
-    (due_request_after_entry (image_of m) (top m + 1) e m.core.who next (fold_keeps_sixteen_rows m.core.log.image (m.core.log.start + 1) m.core.log.entries kept.image.places)
+    subst (λ (i : Image). RequestMayBeDue (row_at_place i m.core.who) (life_of_name m.core.who) next) (sym (told_by_pushed_entry m.core.log e))
+    (due_request_after_entry (image_of_node m) (top m + 1) e m.core.who next (fold_keeps_sixteen_rows m.core.log.image (m.core.log.start + 1) m.core.log.entries kept.image.places)
     (omega arith) fit due)
 
 -- one that isn't a View, where who leads stays a member
-pub push_keeps_node_order : (m : Node) (e : Entry) → is_view e ≡ false → fits (image_of m) e ≡ true → (capacity : ℕ) → IsKept m.core.log capacity → has_log m.status
+pub push_keeps_node_order : (m : Node) (e : Entry) → is_view e ≡ false → fits (image_of_node m) e ≡ true → (capacity : ℕ) → IsKept m.core.log capacity → has_log_by_status m.status
     ≡ true → (is_sequencer m ≡ true → has (members (push_entry m e)) m.core.who ≡ true) → NodeKeeps m → NodeKeeps (push_entry m e)
 push_keeps_node_order m e plain fit capacity kept has_one stays keeps = record {
   own = keeps.own;
   leads = λ is. stays (sym (is_sequencer_after_push m e plain) ∙ is);
-  promised = ap (stamp_lt m.core.promise) (view_pushed m e plain) ∙ keeps.promised;
+  promised = ap (stamp_is_less m.core.promise) (view_pushed m e plain) ∙ keeps.promised;
   blank = λ none. absurd (cc);
   ballot = λ b there. own_ballot_of_same_promise m (push_entry m e) b refl refl (view_pushed m e plain) (λ logged. logged) (keeps.ballot b there);
   settled = keeps.settled;
@@ -185,21 +185,21 @@ push_keeps_node_order m e plain fit capacity kept has_one stays keeps = record {
   unsent = λ none. absurd (cc);
 }
 
-pub status_of_member_has_log : (s : Status) → is_member s ≡ true → has_log s ≡ true
+pub status_of_member_has_log : (s : Status) → is_member s ≡ true → has_log_by_status s ≡ true
 status_of_member_has_log Member h = refl
 status_of_member_has_log _ h = absurd (cc)
 
 -- who acts has a list
-acting_log : (m : Node) → acts m ≡ true → has_log m.status ≡ true
-acting_log m h = status_of_member_has_log m.status (left_of_and (is_member m.status) (stamp_eq m.core.promise (view m)) h)
+acting_log : (m : Node) → acts_in_its_view m ≡ true → has_log_by_status m.status ≡ true
+acting_log m h = status_of_member_has_log m.status (left_of_and (is_member m.status) (stamps_are_equal m.core.promise (view m)) h)
 
-pub sequencer_status_has_log : (m : Node) → is_sequencer m ≡ true → has_log m.status ≡ true
-sequencer_status_has_log m h = acting_log m (left_of_and (acts m) ((view m).by == m.core.who) h)
+pub sequencer_status_has_log : (m : Node) → is_sequencer m ≡ true → has_log_by_status m.status ≡ true
+sequencer_status_has_log m h = acting_log m (left_of_and (acts_in_its_view m) ((view m).by == m.core.who) h)
 
 -- ---- the refresh leaves what a node tells, and once more changes nothing
 
 pub refresh_is_steady : (m : Node) → IsSteady m (refresh m)
-unfolding refresh lead own_report tell go_on let_go accept pass_over
+unfolding refresh refresh_as_sequencer raise_own_report tell_accept_front advance_with_reports trim_to_least_taken raise_accepted_to_told pass_over_below_join
 refresh_is_steady m = split_on_bool_of_log (is_sequencer m)
     (λ t. rw t (record { who = refl; promise = refl; told = refl; top = refl; status = refl; ballot = refl; leaving = refl; sends = refl }))
     (λ f. rw f (record { who = refl; promise = refl; told = refl; top = refl; status = refl; ballot = refl; leaving = refl; sends = refl }))
@@ -209,7 +209,7 @@ pub end_of_node_is_steady : (m n : Node) → IsEndOf m n → IsSteady m n
 end_of_node_is_steady m n end = record {
   who = ap (λ (x : Node). x.core.who) end.same;
   promise = ap (λ (x : Node). x.core.promise) end.same;
-  told = told_by_end_is_told m.core.log n.core.log end.stands.kept;
+  told = end_has_image_of_whole_log m.core.log n.core.log end.stands.kept;
   top = top_of_end_is_top m.core.log n.core.log end.stands.kept;
   status = ap (λ (x : Node). x.status) end.same;
   ballot = ap (λ (x : Node). x.ballot) end.same;
@@ -245,14 +245,14 @@ bodies_keep_node_order m bodies keeps = steady_node_keeps_order m (record m { bo
     (record { who = refl; promise = refl; told = refl; top = refl; status = refl; ballot = refl; leaving = refl; sends = refl }) keeps keeps.own
 
 -- the end of a step leaves a node its name
-settled_at_who : (m : Node) (req : ℕ) (at : Option ℕ) → (settle_at m req at).core.who ≡ m.core.who
+settled_at_who : (m : Node) (req : ℕ) (at : Option ℕ) → (settle_send_at m req at).core.who ≡ m.core.who
 settled_at_who m req None = refl
 settled_at_who m req (Some k) = refl
 
-settled_who : (m : Node) (w : Option OwnSend) → (settle_waiting m w).core.who ≡ m.core.who
+settled_who : (m : Node) (w : Option OwnSend) → (settle_send_where_accepted m w).core.who ≡ m.core.who
 settled_who m None = refl
-settled_who m (Some s) = settled_at_who m s.req (accepted_at m s.req)
+settled_who m (Some s) = settled_at_who m s.req (accepted_number_of_send m s.req)
 
 pub refresh_at_end_keeps_name : (m : Node) → (refresh_at_end m).core.who ≡ m.core.who
-unfolding refresh_at_end settle
-refresh_at_end_keeps_name m = settled_who (refresh m) (waiting (refresh m)) ∙ (refresh_is_steady m).who
+unfolding refresh_at_end settle_waiting_send
+refresh_at_end_keeps_name m = settled_who (refresh m) (waiting_send_of (refresh m)) ∙ (refresh_is_steady m).who

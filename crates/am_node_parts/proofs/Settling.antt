@@ -1,8 +1,8 @@
 -- Where a send of the node's own is accepted.
 use Rattle.am_node_parts.proofs.Words.{◌≡◌, ℕ, suc, ◌+◌, ◌-◌, ◌<◌, ◌≤◌, List, ◌∷◌, [], length, take, drop, get_or, Bool, true, false, nat_lt, nat_le, Option}
 use Rattle.am_node_parts.proofs.Words.{Some, None, refl, sym, ◌∙◌, ap, option_map, arith, slice_get, position, position_or_len, nat_tests, slice_get-get_or}
-use Rattle.am_node_parts.proofs.Words.{get_or-take, length-take, position_or_len_is, Entry, Log, entry_at, CoreState, CoreStands, IsInOrder, OwnSend, Node, waiting}
-use Rattle.am_node_parts.proofs.Words.{is_data_of, accepted_at, settle_at, settle_waiting, settle, with_log, Tells, ChangesAllAlike, some_passes, accepted_number}
+use Rattle.am_node_parts.proofs.Words.{get_or-take, length-take, position_or_len_is, Entry, Log, log_entry_at, CoreState, CoreKeepsEndOf, IsInOrder, OwnSend, Node, waiting_send_of}
+use Rattle.am_node_parts.proofs.Words.{is_data_of, accepted_number_of_send, settle_send_at, settle_send_where_accepted, settle_waiting_send, node_with_log, TellsAlike, ChangesAllAlike, some_passes, accepted_number}
 use Rattle.am_node_defs.specs.Sends as own
 use Rattle.am_node_parts.proofs.Ends.{reading_of_end_tells_node, change_of_end_changes_node}
 
@@ -30,16 +30,16 @@ position_none p (x ∷ xs) none =
 
 -- ---- the entries of a list that stand above the base
 
-pub entry_at_is_list_item : (log : Log) (number : ℕ) → log.start ≤ number → entry_at log (number + 1) ≡ slice_get log.entries (number - log.start)
+pub entry_at_is_list_item : (log : Log) (number : ℕ) → log.start ≤ number → log_entry_at log (number + 1) ≡ slice_get log.entries (number - log.start)
 entry_at_is_list_item log number low =
     let test : nat_le log.start number ≡ true = grind (arith, nat_tests) in
     let next : number + 1 ≡ suc number = omega arith in
-    let at : entry_at log (suc number) ≡ slice_get log.entries (number - log.start) = rw test refl in
-    ap (entry_at log) next ∙ at
+    let at : log_entry_at log (suc number) ≡ slice_get log.entries (number - log.start) = rw test refl in
+    ap (log_entry_at log) next ∙ at
 
 -- none of the own entries from the base on passes, up to a number
 abbrev NoneUpTo : CoreState → ℕ → ℕ → Type 0
-NoneUpTo c req high = (number : ℕ) → c.base ≤ number → number < high → some_passes (is_data_of c.who req) (entry_at c.log (number + 1)) ≡ false
+NoneUpTo c req high = (number : ℕ) → c.base ≤ number → number < high → some_passes (is_data_of c.who req) (log_entry_at c.log (number + 1)) ≡ false
 
 none_passes : (c : CoreState) (req high k : ℕ) → c.base ≡ c.log.start → NoneUpTo c req high → c.base + k < high
     → some_passes (is_data_of c.who req) (slice_get c.log.entries k) ≡ false
@@ -49,8 +49,8 @@ none_passes c req high k kept none below =
     ∙ ap (some_passes (is_data_of c.who req)) (sym (entry_at_is_list_item c.log (c.base + k) (omega arith))) ∙ none (c.base + k) (omega arith) below
 
 -- what the whole list has accepted above the base is what the end has
-kept_entries : (m : Node) (req : ℕ) (all : Log) → CoreStands all m.core
-    → accepted_number (with_log m all) req ≡ option_map (λ k. m.core.base + 1 + k)
+kept_entries : (m : Node) (req : ℕ) (all : Log) → CoreKeepsEndOf all m.core
+    → accepted_number (node_with_log m all) req ≡ option_map (λ k. m.core.base + 1 + k)
     (position (is_data_of m.core.who req) (take (m.core.acc - m.core.base) m.core.log.entries))
 kept_entries m req all s =
     let entries = (s.kept).entries in
@@ -70,14 +70,14 @@ passing_entry_is_some p None at = absurd (cc)
 passing_entry_is_some p (Some e) at = (e, refl)
 
 pub accepted_number_is_found : (m : Node) (req before : ℕ) → IsInOrder m.core → m.core.base ≤ before → before < m.core.acc
-    → some_passes (is_data_of m.core.who req) (entry_at m.core.log (before + 1)) ≡ true → NoneUpTo m.core req before
-    → Tells (λ n. accepted_number n req) m (Some (before + 1))
+    → some_passes (is_data_of m.core.who req) (log_entry_at m.core.log (before + 1)) ≡ true → NoneUpTo m.core req before
+    → TellsAlike (λ n. accepted_number n req) m (Some (before + 1))
 accepted_number_is_found m req before order low high at none =
     let kept = order.kept in
     let p = is_data_of m.core.who req in
     let xs = m.core.log.entries in
     let n = m.core.acc - m.core.base in
-    let e = passing_entry_is_some p (entry_at m.core.log (before + 1)) at in
+    let e = passing_entry_is_some p (log_entry_at m.core.log (before + 1)) at in
     let here : some_passes p (slice_get xs (before - m.core.base)) ≡ true = ap (λ k. some_passes p (slice_get xs (before - k))) kept
     ∙ ap (some_passes p) (sym (entry_at_is_list_item m.core.log before (omega arith))) ∙ at in
     let long = length-take n xs in
@@ -89,7 +89,7 @@ accepted_number_is_found m req before order low high at none =
     reading_of_end_tells_node (λ n. accepted_number n req) m (Some (before + 1)) (λ all s. ap Some (sym sum) ∙ ap (option_map (λ k. m.core.base + 1 + k)) (sym first)
     ∙ sym (kept_entries m req all s))
 
-pub accepted_number_is_none : (m : Node) (req : ℕ) → IsInOrder m.core → NoneUpTo m.core req m.core.acc → Tells (λ n. accepted_number n req) m None
+pub accepted_number_is_none : (m : Node) (req : ℕ) → IsInOrder m.core → NoneUpTo m.core req m.core.acc → TellsAlike (λ n. accepted_number n req) m None
 accepted_number_is_none m req order none =
     let kept = order.kept in
     let p = is_data_of m.core.who req in
@@ -102,55 +102,55 @@ accepted_number_is_none m req order none =
 
 -- ---- the waiting send
 
-settled_none : (x : Node) (w : Option OwnSend) → None ≡ option_map (λ (send : OwnSend). send.req) w → settle_waiting x w ≡ x
+settled_none : (x : Node) (w : Option OwnSend) → None ≡ option_map (λ (send : OwnSend). send.req) w → settle_send_where_accepted x w ≡ x
 settled_none x None is = refl
 settled_none x (Some send) is = absurd (cc)
 
-at_none : (x : Node) (req : ℕ) (k : Option ℕ) → None ≡ option_map (λ (k : ℕ). x.core.base + 1 + k) k → settle_at x req k ≡ x
+at_none : (x : Node) (req : ℕ) (k : Option ℕ) → None ≡ option_map (λ (k : ℕ). x.core.base + 1 + k) k → settle_send_at x req k ≡ x
 at_none x req None is = refl
 at_none x req (Some k) is = absurd (cc)
 
 at_some : (x : Node) (req number : ℕ) (k : Option ℕ) → Some number ≡ option_map (λ (k : ℕ). x.core.base + 1 + k) k
-    → settle_at x req k ≡ record x { sends = own.settle_request req number x.sends }
+    → settle_send_at x req k ≡ record x { sends = own.settle_request req number x.sends }
 at_some x req number None is = absurd (cc)
 at_some x req number (Some k) is =
     let same : x.core.base + 1 + k ≡ number = cc in
     ap (λ (n : ℕ). record x { sends = own.settle_request req n x.sends }) same
 
 settled_unaccepted : (x : Node) (w : Option OwnSend) (req : ℕ) → Some req ≡ option_map (λ (send : OwnSend). send.req) w → None ≡ accepted_number x req
-    → settle_waiting x w ≡ x
+    → settle_send_where_accepted x w ≡ x
 settled_unaccepted x None req is at = refl
 settled_unaccepted x (Some send) req is at =
     let same : send.req ≡ req = cc in
-    ap (λ (r : ℕ). settle_at x r (accepted_at x r)) same ∙ at_none x req (accepted_at x req) at
+    ap (λ (r : ℕ). settle_send_at x r (accepted_number_of_send x r)) same ∙ at_none x req (accepted_number_of_send x req) at
 
 settled_accepted : (x : Node) (w : Option OwnSend) (req number : ℕ) → Some req ≡ option_map (λ (send : OwnSend). send.req) w
-    → Some number ≡ accepted_number x req → settle_waiting x w ≡ record x { sends = own.settle_request req number x.sends }
+    → Some number ≡ accepted_number x req → settle_send_where_accepted x w ≡ record x { sends = own.settle_request req number x.sends }
 settled_accepted x None req number is at = absurd (cc)
 settled_accepted x (Some send) req number is at =
     let same : send.req ≡ req = cc in
-    ap (λ (r : ℕ). settle_at x r (accepted_at x r)) same ∙ at_some x req number (accepted_at x req) at
+    ap (λ (r : ℕ). settle_send_at x r (accepted_number_of_send x r)) same ∙ at_some x req number (accepted_number_of_send x req) at
 
-pub settle_without_waiting_send : (m : Node) → None ≡ option_map (λ (send : OwnSend). send.req) (waiting m) → ChangesAllAlike settle m m
-unfolding settle
-settle_without_waiting_send m is = change_of_end_changes_node settle m m (λ all s. (all, s, settled_none (with_log m all) (waiting m) is))
+pub settle_without_waiting_send : (m : Node) → None ≡ option_map (λ (send : OwnSend). send.req) (waiting_send_of m) → ChangesAllAlike settle_waiting_send m m
+unfolding settle_waiting_send
+settle_without_waiting_send m is = change_of_end_changes_node settle_waiting_send m m (λ all s. (all, s, settled_none (node_with_log m all) (waiting_send_of m) is))
 
-pub settle_keeps_unaccepted_send : (m : Node) (req : ℕ) → Some req ≡ option_map (λ (send : OwnSend). send.req) (waiting m) → Tells (λ n. accepted_number n req) m None
-    → ChangesAllAlike settle m m
-unfolding settle
-settle_keeps_unaccepted_send m req is at = change_of_end_changes_node settle m m (λ all s. (
+pub settle_keeps_unaccepted_send : (m : Node) (req : ℕ) → Some req ≡ option_map (λ (send : OwnSend). send.req) (waiting_send_of m) → TellsAlike (λ n. accepted_number n req) m None
+    → ChangesAllAlike settle_waiting_send m m
+unfolding settle_waiting_send
+settle_keeps_unaccepted_send m req is at = change_of_end_changes_node settle_waiting_send m m (λ all s. (
   all,
   s,
-  settled_unaccepted (with_log m all) (waiting m) req is (at (with_log m all) (record { stands = s; same = refl })),
+  settled_unaccepted (node_with_log m all) (waiting_send_of m) req is (at (node_with_log m all) (record { stands = s; same = refl })),
 ))
 
-pub settle_numbers_accepted_send : (m : Node) (req number : ℕ) (sends : own.Sends) → Some req ≡ option_map (λ (send : OwnSend). send.req) (waiting m)
-    → Tells (λ n. accepted_number n req) m (Some number) → sends ≡ own.settle_request req number m.sends → ChangesAllAlike settle m (record m { sends = sends })
-unfolding settle
-settle_numbers_accepted_send m req number sends is at new = change_of_end_changes_node settle m (record m { sends = sends })
+pub settle_numbers_accepted_send : (m : Node) (req number : ℕ) (sends : own.Sends) → Some req ≡ option_map (λ (send : OwnSend). send.req) (waiting_send_of m)
+    → TellsAlike (λ n. accepted_number n req) m (Some number) → sends ≡ own.settle_request req number m.sends → ChangesAllAlike settle_waiting_send m (record m { sends = sends })
+unfolding settle_waiting_send
+settle_numbers_accepted_send m req number sends is at new = change_of_end_changes_node settle_waiting_send m (record m { sends = sends })
     (λ all s. (
       all,
       s,
-      settled_accepted (with_log m all) (waiting m) req number is (at (with_log m all) (record { stands = s; same = refl }))
-          ∙ ap (λ (x : own.Sends). record (with_log m all) { sends = x }) (sym new),
+      settled_accepted (node_with_log m all) (waiting_send_of m) req number is (at (node_with_log m all) (record { stands = s; same = refl }))
+          ∙ ap (λ (x : own.Sends). record (node_with_log m all) { sends = x }) (sym new),
     ))

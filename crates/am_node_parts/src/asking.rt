@@ -1,9 +1,9 @@
 ghost use Rattle.std.specs.Prelude.{◌≡◌, ◌==◌, ◌≤◌, ◌<◌, ◌+◌, length, IsTrue};
-ghost use Rattle.am_node_parts.specs.Prelude.{most_number, IsNumber, IsRow, IsInOrder, top, node_of};
+ghost use Rattle.am_node_parts.specs.Prelude.{greatest_number, NumberIsInRange, RowIsInRange, IsInOrder, top, node_of};
 ghost use Rattle.am_base.specs.declared.outcome.Outcome.TheVariants as said;
 ghost use Rattle.am_node_defs.specs.Kept.{IsKept};
-ghost use Rattle.am_model.specs.Node.{has_room, others, report_fits};
-ghost use Rattle.am_model.specs.Sequencing.{row_at, is_unknown};
+ghost use Rattle.am_model.specs.Node.{has_room, other_members, report_fits};
+ghost use Rattle.am_model.specs.Sequencing.{row_of_name_in_list, has_no_join};
 
 use crate::parts::Parts;
 use am_base::image::{Report, Row};
@@ -33,9 +33,9 @@ pub fn held_answer(parts: &Parts) -> Outcome
 
 /// The number that the next entry gets.
 pub fn next_number(parts: &Parts) -> u32
-    requires { top (node_of parts.now) < most_number }
+    requires { top (node_of parts.now) < greatest_number }
     ensures value { result ≡ top (node_of parts.now) + 1 }
-    ensures within { IsNumber result }
+    ensures within { NumberIsInRange result }
     ensures order { IsInOrder parts.now.core }
     ensures kept { IsKept parts.now.core.log (parts.now.core.rules.window + 15) }
 {
@@ -44,7 +44,7 @@ pub fn next_number(parts: &Parts) -> u32
 
 /// The members without the node itself.
 pub fn others(parts: &Parts) -> Names
-    ensures { result ≡ others (node_of parts.now) }
+    ensures { result ≡ other_members (node_of parts.now) }
 {
     let _acts = parts.acts();
     parts.others()
@@ -52,15 +52,15 @@ pub fn others(parts: &Parts) -> Names
 
 /// The row of a name.
 pub fn row(parts: &Parts, name: Name) -> Row
-    ensures value { result ≡ row_at (node_of parts.now) name }
-    ensures within { IsRow result }
+    ensures value { result ≡ row_of_name_in_list (node_of parts.now) name }
+    ensures within { RowIsInRange result }
 {
     parts.core.log.row(name)
 }
 
 /// Whether no Join of a name stands in the list.
 pub fn is_unknown(parts: &Parts, name: Name) -> bool
-    ensures { result ≡ is_unknown (node_of parts.now) name }
+    ensures { result ≡ has_no_join (node_of parts.now) name }
 {
     row(parts, name).joined == 0
 }

@@ -1,6 +1,6 @@
 ghost use Rattle.std.specs.Prelude.{◌≡◌, IfSome, option_map};
-ghost use Rattle.am_node_parts.specs.Prelude.{IsNumber};
-ghost use Rattle.am_node_defs.specs.Sends.{waiting_send};
+ghost use Rattle.am_node_parts.specs.Prelude.{NumberIsInRange};
+ghost use Rattle.am_node_defs.specs.Sends.{request_and_body_of_waiting_send};
 
 use crate::parts::Parts;
 use am_base::body::Body;
@@ -17,8 +17,8 @@ pub struct WaitingSend {
 /// The send that waits; None exactly where there is none.
 pub fn next_send(parts: &Parts) -> Option<WaitingSend>
     ensures value { option_map (λ send. (send.req, send.body)) result
-        ≡ waiting_send parts.now.sender }
-    ensures within { IfSome result (λ send. IsNumber send.req) }
+        ≡ request_and_body_of_waiting_send parts.now.sender }
+    ensures within { IfSome result (λ send. NumberIsInRange send.req) }
 {
     let (req, body) = parts.sender.waiting()?;
     Some(WaitingSend {

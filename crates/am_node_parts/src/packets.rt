@@ -1,5 +1,5 @@
 ghost use Rattle.std.specs.Prelude.{◌≡◌};
-ghost use Rattle.am_model.specs.Node.{only_name};
+ghost use Rattle.am_model.specs.Node.{set_of_one_name};
 
 use am_base::name::Name;
 use am_base::names::Names;
@@ -18,7 +18,7 @@ macro_rules! packet_from {
 
 /// The set of one name.
 pub fn only(name: Name) -> Names
-    ensures { result ≡ only_name name }
+    ensures { result ≡ set_of_one_name name }
 {
     Names::empty().with(name)
 }

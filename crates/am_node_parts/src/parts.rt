@@ -1,5 +1,5 @@
 ghost use Rattle.std.specs.Prelude.{◌≡◌, true};
-ghost use Rattle.am_base.specs.Most.{most_number};
+ghost use Rattle.am_base.specs.Most.{greatest_number};
 ghost use Rattle.am_model.specs.Refresh.{is_data_of};
 ghost use Rattle.am_node_parts.specs.Keeps.{node_with, NodeKeeps, IsSteady};
 
@@ -50,16 +50,16 @@ fn is_data_of(entry: &Entry, who: Name, sent: u32) -> bool
 
 impl Parts {
     ghost use Rattle.std.specs.Prelude.{◌≢◌, ◌<◌, ◌+◌, length, option_map, IfSome};
-    ghost use Rattle.am_base.specs.Names.{life_of};
-    ghost use Rattle.am_base.specs.Limits.{IsEntry};
-    ghost use Rattle.am_base.specs.Lists.{entry_at, at_place, fits};
+    ghost use Rattle.am_base.specs.Names.{life_of_name};
+    ghost use Rattle.am_base.specs.Limits.{EntryIsInRange};
+    ghost use Rattle.am_base.specs.Lists.{log_entry_at, row_at_place, fits};
     ghost use Rattle.am_node_defs.specs.Kept.{IsKept};
     ghost use Rattle.am_node_defs.specs.Cores.{IsInOrder};
-    ghost use Rattle.am_model.specs.Node.{Node, acts, is_sequencer, others, push_entry, image_of, top, waiting, node_with_report};
+    ghost use Rattle.am_model.specs.Node.{Node, acts_in_its_view, is_sequencer, other_members, push_entry, image_of_node, top, waiting_send_of, node_with_report};
     ghost use Rattle.am_model.specs.Sequencing.{take_report};
-    ghost use Rattle.am_model.specs.Refresh.{refresh, settle, refresh_at_end};
-    ghost use Rattle.am_model.specs.Ends.{Tells, ChangesAllAlike, IsEndOf};
-    ghost use Rattle.am_node_parts.specs.Keeps.{IsDue};
+    ghost use Rattle.am_model.specs.Refresh.{refresh, settle_waiting_send, refresh_at_end};
+    ghost use Rattle.am_model.specs.Ends.{TellsAlike, ChangesAllAlike, IsEndOf};
+    ghost use Rattle.am_node_parts.specs.Keeps.{RequestMayBeDue};
     ghost use Rattle.am_node_parts.specs.Parts.{node_of, some_passes, accepted_number};
 
     /// Up to where the node knows the list to be accepted.
@@ -74,7 +74,7 @@ impl Parts {
 
     /// Whether the node is a member that has promised nothing above its view.
     pub fn acts(&self) -> bool
-        ensures value { result ≡ acts (node_of self.now) }
+        ensures value { result ≡ acts_in_its_view (node_of self.now) }
         ensures order { IsInOrder self.now.core }
     {
         let view = self.core.log.view();
@@ -94,7 +94,7 @@ impl Parts {
     /// Whether the node acts in a view of its own.
     pub fn is_sequencer(&self) -> bool
         ensures value { result ≡ is_sequencer (node_of self.now) }
-        ensures tells { Tells is_sequencer (node_of self.now) result }
+        ensures tells { TellsAlike is_sequencer (node_of self.now) result }
         ensures order { IsInOrder self.now.core }
     {
         self.leads()
@@ -102,7 +102,7 @@ impl Parts {
 
     /// The members without the node itself.
     pub fn others(&self) -> Names
-        ensures { Tells others (node_of self.now) result }
+        ensures { TellsAlike other_members (node_of self.now) result }
     {
         self.core
             .log
@@ -147,10 +147,10 @@ impl Parts {
 
     /// Adds an entry at the end of the list.
     pub fn push(&mut self, entry: &EntryRef)
-        requires fits { fits (image_of (node_of self.old)) entry.now ≡ true }
+        requires fits { fits (image_of_node (node_of self.old)) entry.now ≡ true }
         requires room { length self.old.core.log.entries < self.old.core.rules.window + 15 }
-        requires entry { IsEntry entry.now }
-        requires number { top (node_of self.old) < most_number }
+        requires entry { EntryIsInRange entry.now }
+        requires number { top (node_of self.old) < greatest_number }
         requires keeps { NodeKeeps (push_entry (node_of self.old) entry.now) }
         ensures node { node_of self.new ≡ push_entry (node_of self.old) entry.now }
         ensures order { IsInOrder self.new.core }
@@ -161,7 +161,7 @@ impl Parts {
     /// Whether a send of the node's own stands at a number.
     fn stands_at(&self, number: u32, req: u32) -> bool
         ensures { result ≡ some_passes (is_data_of self.now.core.who req)
-            (entry_at self.now.core.log number) }
+            (log_entry_at self.now.core.log number) }
     {
         match self.core.log.entry(number) {
             Some(entry) => is_data_of(entry, self.core.who, req),
@@ -171,15 +171,15 @@ impl Parts {
 
     /// The request of the waiting send.
     pub fn waiting_request(&self) -> Option<u32>
-        ensures { result ≡ option_map (λ send. send.req) (waiting (node_of self.now)) }
+        ensures { result ≡ option_map (λ send. send.req) (waiting_send_of (node_of self.now)) }
     {
         self.sender.waiting().map(|send| send.0)
     }
 
     /// Whether the last send of the node's own that its list tells of is an earlier one than this.
     fn is_past_last(&self, req: u32) -> bool
-        ensures { result ≡ true → IsDue (at_place (image_of (node_of self.now)) self.now.core.who)
-            (life_of self.now.core.who) (req + 1) → ⊥ }
+        ensures { result ≡ true → RequestMayBeDue (row_at_place (image_of_node (node_of self.now)) self.now.core.who)
+            (life_of_name self.now.core.who) (req + 1) → ⊥ }
     {
         let row = self.core.log.at_place(self.core.who);
         row.life == self.core.who.life() && 0 < row.joined && row.last < req
@@ -187,9 +187,9 @@ impl Parts {
 
     /// The number at which a send of the node's own is accepted; None where it isn't, or is trimmed.
     fn accepted_number(&self, req: u32) -> Option<u32>
-        ensures value { Tells (λ m. accepted_number m req) (node_of self.now) result }
-        ensures due { IfSome result (λ number. IsDue
-            (at_place (image_of (node_of self.now)) self.now.core.who) (life_of self.now.core.who)
+        ensures value { TellsAlike (λ m. accepted_number m req) (node_of self.now) result }
+        ensures due { IfSome result (λ number. RequestMayBeDue
+            (row_at_place (image_of_node (node_of self.now)) self.now.core.who) (life_of_name self.now.core.who)
             (req + 1)) }
         ensures some { IfSome result (λ number. 0 < top (node_of self.now)) }
     {
@@ -207,7 +207,7 @@ impl Parts {
 
     /// Settles the waiting send where it is accepted.
     pub fn settle(&mut self)
-        ensures changes { ChangesAllAlike settle (node_of self.old) (node_of self.new) }
+        ensures changes { ChangesAllAlike settle_waiting_send (node_of self.old) (node_of self.new) }
         ensures core { self.new.core ≡ self.old.core }
     {
         let Some(req) = self.waiting_request() else {

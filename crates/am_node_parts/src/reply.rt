@@ -1,6 +1,6 @@
 ghost use Rattle.std.specs.Prelude.{◌≡◌, true};
-ghost use Rattle.am_model.specs.Node.{only_name};
-ghost use Rattle.am_node_parts.specs.Replies.{replying, quiet_of, polling_of, saying_of, numbered_of, asking_of};
+ghost use Rattle.am_model.specs.Node.{set_of_one_name};
+ghost use Rattle.am_node_parts.specs.Replies.{reply_with_answer, reply_without_letters, reply_with_poll, reply_with_telling, reply_of_numbered_entry, reply_asking_names};
 
 use crate::packets::only;
 use am_base::entry::EntryRef;
@@ -103,7 +103,7 @@ pub struct Reply<'a> {
 
 /// A packet to one name.
 pub fn note_to<'a>(name: Name, note: Note<'a>) -> Telling<'a>
-    ensures { result ≡ Telling.Note (only_name name) note.entry }
+    ensures { result ≡ Telling.Note (set_of_one_name name) note.entry }
 {
     Telling::Note {
         to: only(name),
@@ -113,28 +113,28 @@ pub fn note_to<'a>(name: Name, note: Note<'a>) -> Telling<'a>
 
 /// An answer, and no letter.
 pub fn quiet<'a>(outcome: Outcome) -> Reply<'a>
-    ensures { result ≡ quiet_of outcome }
+    ensures { result ≡ reply_without_letters outcome }
 {
     saying(outcome, Telling::Nothing)
 }
 
 /// An answer, and the members are polled.
 pub fn polling<'a>(outcome: Outcome) -> Reply<'a>
-    ensures { result ≡ polling_of outcome }
+    ensures { result ≡ reply_with_poll outcome }
 {
     quiet(outcome).polling()
 }
 
 /// An answer, and one thing that goes out.
 pub fn saying<'a>(outcome: Outcome, first: Telling<'a>) -> Reply<'a>
-    ensures { result ≡ saying_of outcome first.entry }
+    ensures { result ≡ reply_with_telling outcome first.entry }
 {
     answering(StepAnswer::Is(outcome), first)
 }
 
 /// An answer that the end of the step may make, and one thing that goes out.
 pub fn answering<'a>(answer: StepAnswer, first: Telling<'a>) -> Reply<'a>
-    ensures { result ≡ replying answer first.entry }
+    ensures { result ≡ reply_with_answer answer first.entry }
 {
     Reply {
         answer,
@@ -147,7 +147,7 @@ pub fn answering<'a>(answer: StepAnswer, first: Telling<'a>) -> Reply<'a>
 
 /// An entry that the step numbered, which goes to names: Numbered.
 pub fn numbered<'a>(number: u32, to: Names, entry: EntryRef<'a>) -> Reply<'a>
-    ensures { result ≡ numbered_of number to entry.entry }
+    ensures { result ≡ reply_of_numbered_entry number to entry.entry }
 {
     let note = Note::Bcast { number, entry };
     saying(Outcome::Numbered { number }, Telling::Note { to, note }).numbering()
@@ -155,7 +155,7 @@ pub fn numbered<'a>(number: u32, to: Names, entry: EntryRef<'a>) -> Reply<'a>
 
 /// What a ballot came to: an Invite to names, and behind it what the answer asks for.
 pub fn asking<'a>(outcome: Outcome, invited: Names, fetches: bool) -> Reply<'a>
-    ensures { result ≡ asking_of outcome invited fetches }
+    ensures { result ≡ reply_asking_names outcome invited fetches }
 {
     let invite = Telling::Note {
         to: invited,

@@ -1,6 +1,6 @@
 ghost use Rattle.std.specs.Prelude.{◌≡◌, ◌≤◌, ◌==◌, ◌&&◌, [], length, option_map, not, nat_le};
 ghost use Rattle.std.specs.List.{list_any, list_all};
-ghost use Rattle.am_node_defs.specs.Bodies.{is_body_of, find_body, keep_body, drop_bodies};
+ghost use Rattle.am_node_defs.specs.Bodies.{is_body_of_send, find_body, keep_body, drop_bodies};
 
 use am_base::body::{Body, BodyRef};
 use am_base::name::Name;
@@ -48,7 +48,7 @@ impl Pool {
 
     /// Whether the body of this name's send with this request is kept.
     pub fn holds(&self, from: Name, req: u32) -> bool
-        ensures { result ≡ list_any (is_body_of from req) self.now }
+        ensures { result ≡ list_any (is_body_of_send from req) self.now }
     {
         self.bodies
             .as_slice()

@@ -1,9 +1,9 @@
 ghost use Rattle.std.specs.Prelude.{◌≡◌, ℕ, ◌+◌, ◌≤◌, ◌<◌, nat_le, count_by, true, false};
-ghost use Rattle.am_base.specs.Names.{names_of, name_at, size};
-ghost use Rattle.am_base.specs.Lists.{top_of, told_by};
-ghost use Rattle.am_base.specs.Fronts.{accept_front, is_held, counted_at};
-ghost use Rattle.am_node_defs.specs.Reports.{reports_of, no_reports, after_report, with_admitted, reports_from, lesser, least_of, least_stored, least_taken};
-ghost use Rattle.am_node_storage.specs.Measures.{measured};
+ghost use Rattle.am_base.specs.Names.{names_of, name_of_place_and_life, size};
+ghost use Rattle.am_base.specs.Lists.{top_of_log, image_of_log};
+ghost use Rattle.am_base.specs.Fronts.{accept_front, is_held, counting_names_at};
+ghost use Rattle.am_node_defs.specs.Reports.{reports_of, no_reports, reports_after_report, reports_with_joiner, reports_beginning_at, lesser_of_options, least_of_names, least_stored_of_names, least_taken_of_names};
+ghost use Rattle.am_node_storage.specs.Measures.{measured_number};
 
 use crate::log::Log;
 use crate::state::Core;
@@ -29,7 +29,7 @@ enum Measure {
 impl Measure {
     /// That number of a report.
     fn of(self, report: Report) -> u32
-        ensures { result ≡ measured self report }
+        ensures { result ≡ measured_number self report }
     {
         match self {
             Measure::Stored => report.stored,
@@ -55,7 +55,7 @@ impl Model for Fronts {
 
 /// The lesser of two numbers that are there.
 pub fn lesser(least: Option<u32>, number: Option<u32>) -> Option<u32>
-    ensures { result ≡ lesser least number }
+    ensures { result ≡ lesser_of_options least number }
 {
     match (least, number) {
         (None, other) => other,
@@ -67,8 +67,8 @@ pub fn lesser(least: Option<u32>, number: Option<u32>) -> Option<u32>
 /// Who counts at a number: the members before the entry there, or those of the View that it is.
 fn counted_at<L: Log>(log: &L, number: u32) -> Names
     requires low { (L.list log.now).start < number }
-    requires high { number ≤ top_of (L.list log.now) }
-    ensures { result ≡ counted_at (L.list log.now) number }
+    requires high { number ≤ top_of_log (L.list log.now) }
+    ensures { result ≡ counting_names_at (L.list log.now) number }
 {
     match log.entry(number) {
         None => log.members_after(number - 1),
@@ -84,7 +84,7 @@ fn counted_at<L: Log>(log: &L, number: u32) -> Names
 impl Fronts {
     ghost use Rattle.am_node_defs.specs.Kept.{IsKept};
     ghost use Rattle.am_node_defs.specs.Cores.{IsInOrder};
-    ghost use Rattle.am_node_defs.specs.Refresh.{core_and_reports, own_report, go_up, refresh_led, LeadsBy, StaysAt, MayLead};
+    ghost use Rattle.am_node_defs.specs.Refresh.{core_and_reports, raise_own_report, raise_accepted_by_reports, refresh_with_reports, RefreshesAlike, SecondChangesNothing, IsMemberOrLastLeaver};
 
     /// Nobody has reported anything.
     pub fn new() -> Fronts
@@ -105,14 +105,14 @@ impl Fronts {
     /// What the name of a place and a life, which isn't 0, has reported.
     fn at(&self, place: usize, life: u8) -> Report
         requires { (place < 16) × (0 < life) × (life ≤ 16) }
-        ensures { result ≡ reports_of self.now (name_at place life) }
+        ensures { result ≡ reports_of self.now (name_of_place_and_life place life) }
     {
         self.reports[place + 16 * usize::from(life - 1)]
     }
 
     /// A name reports: each number is raised, and none falls.
     pub fn report(&mut self, name: Name, report: Report)
-        ensures { reports_of self.new ≡ after_report (reports_of self.old) name report }
+        ensures { reports_of self.new ≡ reports_after_report (reports_of self.old) name report }
     {
         let old = self.of(name);
         self.reports[usize::from(name.get())] = Report {
@@ -123,7 +123,7 @@ impl Fronts {
 
     /// A name begins at a number.
     pub fn admit(&mut self, name: Name, base: u32)
-        ensures { reports_of self.new ≡ with_admitted (reports_of self.old) name base }
+        ensures { reports_of self.new ≡ reports_with_joiner (reports_of self.old) name base }
     {
         self.reports[usize::from(name.get())] = Report {
             stored: base,
@@ -133,7 +133,7 @@ impl Fronts {
 
     /// Each name begins at a number.
     pub fn restart(&mut self, base: u32)
-        ensures { reports_of self.new ≡ reports_from base }
+        ensures { reports_of self.new ≡ reports_beginning_at base }
     {
         self.reports = [Report {
             stored: base,
@@ -144,7 +144,7 @@ impl Fronts {
     /// The least that the names of a set have of what a measure takes; None exactly where the set is empty.
     #[tactic(auto, using(am_node_defs::proofs::ReportLaws::least_of_after_last_place))]
     fn least_by(&self, measure: Measure, set: Names) -> Option<u32>
-        ensures { result ≡ least_of (λ name. measured measure (reports_of self.now name))
+        ensures { result ≡ least_of_names (λ name. measured_number measure (reports_of self.now name))
             (names_of set) }
     {
         let lives = set.each_life();
@@ -163,14 +163,14 @@ impl Fronts {
 
     /// The least that the names of a set have taken; None exactly where the set is empty.
     pub fn least_taken(&self, set: Names) -> Option<u32>
-        ensures { result ≡ least_taken (reports_of self.now) set }
+        ensures { result ≡ least_taken_of_names (reports_of self.now) set }
     {
         self.least_by(Measure::Taken, set)
     }
 
     /// The least that the names of a set have stored; None exactly where the set is empty.
     pub fn least_stored(&self, set: Names) -> Option<u32>
-        ensures { result ≡ least_stored (reports_of self.now) set }
+        ensures { result ≡ least_stored_of_names (reports_of self.now) set }
     {
         self.least_by(Measure::Stored, set)
     }
@@ -199,8 +199,8 @@ impl Fronts {
     #[tactic(auto, using(am_node_defs::proofs::Views::resilience_at_since_last_view))]
     fn is_held<L: Log>(&self, log: &L, number: u32) -> bool
         requires low { (L.list log.now).start < number }
-        requires high { number ≤ top_of (L.list log.now) }
-        requires view { (told_by (L.list log.now)).view_number ≤ number }
+        requires high { number ≤ top_of_log (L.list log.now) }
+        requires view { (image_of_log (L.list log.now)).view_number ≤ number }
         ensures { result ≡ is_held (reports_of self.now) (L.list log.now) number }
     {
         let (names, held) = self.holders(counted_at(log, number), number);
@@ -211,13 +211,13 @@ impl Fronts {
     /// The number before the first, above this one, that too few have stored.
     fn walk<L: Log>(&self, log: &L, from: u32) -> u32
         requires low { (L.list log.now).start ≤ from }
-        requires high { from ≤ top_of (L.list log.now) }
-        requires view { (told_by (L.list log.now)).view_number ≤ from }
+        requires high { from ≤ top_of_log (L.list log.now) }
+        requires view { (image_of_log (L.list log.now)).view_number ≤ from }
         ensures low { from ≤ result }
-        ensures high { result ≤ top_of (L.list log.now) }
+        ensures high { result ≤ top_of_log (L.list log.now) }
         ensures held { (n : ℕ) → from < n → n ≤ result
             → is_held (reports_of self.now) (L.list log.now) n ≡ true }
-        ensures stops { result < top_of (L.list log.now)
+        ensures stops { result < top_of_log (L.list log.now)
             → is_held (reports_of self.now) (L.list log.now) (result + 1) ≡ false }
     {
         let top = log.top();
@@ -233,10 +233,10 @@ impl Fronts {
     /// it needs. Those below the last View are accepted together with it.
     pub fn accept_front<L: Log>(&self, log: &L, acc: u32) -> u32
         requires low { (L.list log.now).start ≤ acc }
-        requires high { acc ≤ top_of (L.list log.now) }
+        requires high { acc ≤ top_of_log (L.list log.now) }
         ensures value { result ≡ accept_front (reports_of self.now) (L.list log.now) acc }
         ensures low { acc ≤ result }
-        ensures high { result ≤ top_of (L.list log.now) }
+        ensures high { result ≤ top_of_log (L.list log.now) }
     {
         let view = log.view_number();
         if view <= acc {
@@ -252,10 +252,10 @@ impl Fronts {
     }
 
     /// Reports what the node itself has.
-    #[tactic(auto, unfolding(am_node_defs::specs::Refresh::own_report))]
+    #[tactic(auto, unfolding(am_node_defs::specs::Refresh::raise_own_report))]
     fn report_own<L: Log>(&mut self, core: &Core<L>)
         ensures { core_and_reports core.now self.new
-            ≡ own_report (core_and_reports core.now self.old) }
+            ≡ raise_own_report (core_and_reports core.now self.old) }
     {
         self.report(
             core.who,
@@ -269,7 +269,7 @@ impl Fronts {
     /// Reports what the node itself has, and accepts as far as that goes.
     fn go_up<L: Log>(&mut self, core: &mut Core<L>)
         ensures value { core_and_reports core.new self.new
-            ≡ go_up (core_and_reports core.old self.old) }
+            ≡ raise_accepted_by_reports (core_and_reports core.old self.old) }
         ensures was { IsInOrder core.old }
         ensures order { IsInOrder core.new }
         ensures kept { IsKept core.new.log (core.new.rules.window + 15) }
@@ -285,14 +285,14 @@ impl Fronts {
     /// the accept front, what is accepted goes on, and the list is trimmed to what all who may need it have taken.
     pub fn refresh<L: Log>(&mut self, core: &mut Core<L>)
         requires own { (reports_of self.old core.old.who).taken ≤ core.old.taken }
-        requires leads { MayLead core.old }
-        ensures value { LeadsBy refresh_led (core_and_reports core.old self.old)
+        requires leads { IsMemberOrLastLeaver core.old }
+        ensures value { RefreshesAlike refresh_with_reports (core_and_reports core.old self.old)
             (core_and_reports core.new self.new) }
-        ensures again { StaysAt refresh_led (core_and_reports core.old self.old)
+        ensures again { SecondChangesNothing refresh_with_reports (core_and_reports core.old self.old)
             (core_and_reports core.new self.new) }
         ensures order { IsInOrder core.new }
         ensures own { (reports_of self.new core.new.who).taken ≡ core.new.taken }
-        ensures leads { MayLead core.new }
+        ensures leads { IsMemberOrLastLeaver core.new }
     {
         self.go_up(core);
         let names = core.since_accepted();

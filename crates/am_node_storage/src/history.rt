@@ -1,6 +1,6 @@
 ghost use Rattle.std.specs.Prelude.{◌≡◌, ◌+◌, ◌≤◌, ◌<◌, [], IfOk};
-ghost use Rattle.am_base.specs.Most.{most_window};
-ghost use Rattle.am_base.specs.Limits.{IsNumber, IsEntry};
+ghost use Rattle.am_base.specs.Most.{greatest_window};
+ghost use Rattle.am_base.specs.Limits.{NumberIsInRange, EntryIsInRange};
 ghost use Rattle.am_base.specs.Lists.{blank};
 
 use crate::log::Log;
@@ -37,24 +37,24 @@ pub struct History {
 }
 
 impl Model for History {
-    ghost use Rattle.am_node_storage.specs.Histories.{HistoryState, IsRing, list_of};
+    ghost use Rattle.am_node_storage.specs.Histories.{HistoryState, IsRing, log_of_slots};
 
     ghost Value = { HistoryState };
 
-    ghost view = { λ h. record { list = list_of h.base h.below h.ring.items; capacity = h.ring.capacity } };
+    ghost view = { λ h. record { list = log_of_slots h.base h.below h.ring.items; capacity = h.ring.capacity } };
 
     ghost invariant = { λ h. IsRing h.base h.below h.above h.ring.items h.ring.capacity };
 }
 
 impl History {
     ghost use Rattle.std.specs.Prelude.{length};
-    ghost use Rattle.am_node_defs.specs.Kept.{above};
-    ghost use Rattle.am_node_storage.specs.Histories.{HaveMembers, slot_entries};
+    ghost use Rattle.am_node_defs.specs.Kept.{log_above};
+    ghost use Rattle.am_node_storage.specs.Histories.{SlotsHaveMembers, slot_entries};
 
     /// A blank history with room for what the window asks for.
     #[tactic(auto, using(crate::proofs::Rings::ring_of_history_rules))]
     pub fn new(alloc: Global, window: u16) -> Result<History, AllocError>
-        requires { (1 ≤ window) × (window ≤ most_window) }
+        requires { (1 ≤ window) × (window ≤ greatest_window) }
         ensures list { IfOk result (λ history. history.list
             ≡ record { start = 0; image = blank; entries = [] }) }
         ensures capacity { IfOk result (λ history. history.capacity ≡ window + 15) }
@@ -71,7 +71,7 @@ impl History {
     /// Its ring: the entries from `base + 1` to `top` in order, each with the members after it.
     pub fn ring(&self) -> &Ring
         ensures entries { slot_entries result.now.items ≡ self.now.list.entries }
-        ensures members { HaveMembers self.now.list result.now.items }
+        ensures members { SlotsHaveMembers self.now.list result.now.items }
         ensures capacity { result.now.capacity ≡ self.now.capacity }
     {
         &self.ring
@@ -80,7 +80,7 @@ impl History {
     /// Lets the lowest entry go, which the table below then has.
     fn let_go(&mut self)
         requires { 0 < length self.old.list.entries }
-        ensures list { self.new.list ≡ above self.old.list (self.old.list.start + 1) }
+        ensures list { self.new.list ≡ log_above self.old.list (self.old.list.start + 1) }
         ensures capacity { self.new.capacity ≡ self.old.capacity }
     {
         match self.ring.front() {

@@ -1,7 +1,7 @@
 ghost use Rattle.std.specs.Prelude.{ℕ, List, find, map, IsTrue, ◌≡◌, ◌<◌, ◌≤◌, ◌+◌, length, OnOk, OnErr, IfOk, IfErr, IsOk, ◌↔◌, Some, IfSome, option_map};
 ghost use Rattle.std.specs.Option.{option_copied};
-ghost use Rattle.am_base.specs.Most.{most_number};
-ghost use Rattle.am_node_defs.specs.Sends.{no_sends, without_request, is_request, waiting_send, collected_of, unsettled_count, is_settled, settle_send, submit, settle_request, collect, collect_outcome, next_request, AreKept};
+ghost use Rattle.am_base.specs.Most.{greatest_number};
+ghost use Rattle.am_node_defs.specs.Sends.{no_sends, sends_without_request, send_has_request, request_and_body_of_waiting_send, outcome_of_collecting, unsettled_count, has_settled_send, settle_send, queue_send, settle_request, collect, collect_outcome, next_request, SendsAreWithinLimits};
 
 use am_base::body::{Body, SentBody};
 use am_base::outcome::Outcome;
@@ -11,7 +11,7 @@ use std::marker::Model;
 
 /// What a send of this request answers.
 fn outcome_of(send: &OwnSend, req: u32) -> Outcome
-    ensures { result ≡ collected_of req send.now.number }
+    ensures { result ≡ outcome_of_collecting req send.now.number }
 {
     match send.number {
         None => Outcome::Pending { req },
@@ -34,13 +34,13 @@ pub struct Sender {
 }
 
 impl Model for Sender {
-    ghost use Rattle.am_node_defs.specs.Sends.{Sends, AreKept};
+    ghost use Rattle.am_node_defs.specs.Sends.{Sends, SendsAreWithinLimits};
 
     ghost Value = { Sends };
 
     ghost view = { λ s. record { last = s.last; queue = s.queue.items } };
 
-    ghost invariant = { λ s. AreKept s.last s.queue.items };
+    ghost invariant = { λ s. SendsAreWithinLimits s.last s.queue.items };
 }
 
 /// Gives the sends of this request a number.
@@ -68,10 +68,10 @@ impl Sender {
     /// Queues a send and gives its request number, one more than the last. Busy exactly where four sends aren't
     /// collected; then nothing changes.
     pub fn submit(&mut self, body: &SentBody) -> Result<u32, Busy>
-        requires { self.old.last < most_number }
+        requires { self.old.last < greatest_number }
         ensures variant { IsOk result ↔ (length self.old.queue < 4) }
         ensures number { IfOk result (λ req. req ≡ self.old.last + 1) }
-        ensures ok { OnOk result (self.new ≡ submit body.now self.old) }
+        ensures ok { OnOk result (self.new ≡ queue_send body.now self.old) }
         ensures next { next_request self.new ≡ next_request self.old }
         ensures busy { IfErr result (λ busy. busy.queued ≡ 4) }
         ensures err { OnErr result (self.new ≡ self.old) }
@@ -91,16 +91,16 @@ impl Sender {
     /// The last request number that it gave out, 0 where it gave out none.
     pub fn last(&self) -> u32
         ensures value { result ≡ self.now.last }
-        ensures within { result ≤ most_number }
+        ensures within { result ≤ greatest_number }
     {
         self.last
     }
 
     /// The oldest send that has no number.
     fn first_unsettled(&self) -> Option<(u32, &Body)>
-        ensures kept { AreKept self.now.last self.now.queue }
+        ensures kept { SendsAreWithinLimits self.now.last self.now.queue }
         ensures value { option_map {U = ℕ × List ℕ} (λ send. (send.0, send.1.now)) result
-            ≡ waiting_send self.now }
+            ≡ request_and_body_of_waiting_send self.now }
     {
         self.queue
             .as_slice()
@@ -112,16 +112,16 @@ impl Sender {
     /// The send that is sent next, the first that isn't settled; None exactly where there is none.
     pub fn waiting(&self) -> Option<(u32, &Body)>
         ensures value { option_map {U = ℕ × List ℕ} (λ send. (send.0, send.1.now)) result
-            ≡ waiting_send self.now }
-        ensures within { IfSome result (λ send. send.0 ≤ most_number) }
-        ensures kept { AreKept self.now.last self.now.queue }
+            ≡ request_and_body_of_waiting_send self.now }
+        ensures within { IfSome result (λ send. send.0 ≤ greatest_number) }
+        ensures kept { SendsAreWithinLimits self.now.last self.now.queue }
     {
         self.first_unsettled()
     }
 
     /// Settles the send that waits: it stands in the list at this number.
     pub fn settle(&mut self, req: u32, number: u32)
-        requires { option_map (λ send. send.0) (waiting_send self.old) ≡ Some req }
+        requires { option_map (λ send. send.0) (request_and_body_of_waiting_send self.old) ≡ Some req }
         ensures value { self.new ≡ settle_request req number self.old }
         ensures next { next_request self.new ≡ req + 1 }
     {
@@ -130,8 +130,8 @@ impl Sender {
 
     /// Whether a send of this request has a number.
     fn has_settled(&self, req: u32) -> bool
-        ensures kept { AreKept self.now.last self.now.queue }
-        ensures value { result ≡ is_settled req self.now }
+        ensures kept { SendsAreWithinLimits self.now.last self.now.queue }
+        ensures value { result ≡ has_settled_send req self.now }
     {
         self.queue
             .as_slice()
@@ -141,7 +141,7 @@ impl Sender {
 
     /// Whether a send with this request is there and settled.
     pub fn is_settled(&self, req: u32) -> bool
-        ensures value { result ≡ is_settled req self.now }
+        ensures value { result ≡ has_settled_send req self.now }
         ensures low { IsTrue result → req < next_request self.now }
     {
         self.has_settled(req)
@@ -175,7 +175,7 @@ impl Sender {
 
     /// The send of a request.
     fn find(&self, req: u32) -> Option<&OwnSend>
-        ensures { option_copied result ≡ find (is_request req) self.now.queue }
+        ensures { option_copied result ≡ find (send_has_request req) self.now.queue }
     {
         self.queue.as_slice().iter().find(|send| send.req == req)
     }
@@ -192,7 +192,7 @@ impl Sender {
     /// Forgets the sends of a request.
     fn remove(&mut self, req: u32)
         requires { req < next_request self.old }
-        ensures value { self.new ≡ without_request req self.old }
+        ensures value { self.new ≡ sends_without_request req self.old }
         ensures next { next_request self.new ≡ next_request self.old }
     {
         self.queue.retain(|send| send.req != req);

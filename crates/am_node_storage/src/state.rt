@@ -1,6 +1,6 @@
 ghost use Rattle.std.specs.Prelude.{◌≡◌, ◌≤◌, ◌<◌, ◌-◌, true};
-ghost use Rattle.am_base.specs.Most.{most_number};
-ghost use Rattle.am_base.specs.Lists.{top_of, members_at};
+ghost use Rattle.am_base.specs.Most.{greatest_number};
+ghost use Rattle.am_base.specs.Lists.{top_of_log, log_members_at};
 
 use crate::log::Log;
 use am_base::entry::{Entry, EntryRef};
@@ -33,7 +33,7 @@ pub struct Core<L: Log> {
 
 impl<L: Log> Model for Core<L> {
     ghost use Rattle.std.specs.Prelude.{◌≡◌, ◌+◌};
-    ghost use Rattle.am_node_defs.specs.Cores.{CoreState, CoreKeeps};
+    ghost use Rattle.am_node_defs.specs.Cores.{CoreState, CoreIsWithinLimits};
 
     ghost Value = { CoreState };
 
@@ -49,16 +49,16 @@ impl<L: Log> Model for Core<L> {
       start = c.start;
     } };
 
-    ghost invariant = { λ c. CoreKeeps (L.list c.log) (L.capacity c.log) c.rules c.promise c.acc c.taken };
+    ghost invariant = { λ c. CoreIsWithinLimits (L.list c.log) (L.capacity c.log) c.rules c.promise c.acc c.taken };
 }
 
 /// Whether the entry of a number is a Data, which changes no member.
 #[tactic(auto, using(am_node_defs::proofs::Members::members_at_number_of_data))]
 fn is_data<L: Log>(log: &L, number: u32) -> bool
     requires low { (L.list log.now).start < number }
-    requires high { number ≤ top_of (L.list log.now) }
-    ensures { result ≡ true → members_at (L.list log.now) number
-        ≡ members_at (L.list log.now) (number - 1) }
+    requires high { number ≤ top_of_log (L.list log.now) }
+    ensures { result ≡ true → log_members_at (L.list log.now) number
+        ≡ log_members_at (L.list log.now) (number - 1) }
 {
     matches!(log.entry(number), Some(Entry::Data { .. }))
 }
@@ -66,16 +66,16 @@ fn is_data<L: Log>(log: &L, number: u32) -> bool
 impl<L: Log> Core<L> {
     ghost use Rattle.std.specs.Prelude.{◌+◌, length};
     ghost use Rattle.am_base.specs.Names.{has};
-    ghost use Rattle.am_base.specs.Limits.{IsEntry};
-    ghost use Rattle.am_base.specs.Lists.{told_by, members_of, fits, with_entry};
-    ghost use Rattle.am_node_defs.specs.Cores.{Keeps, Adds, CoreSends, advance, since_accepted, trim_to, trim_list, IsInOrder};
+    ghost use Rattle.am_base.specs.Limits.{EntryIsInRange};
+    ghost use Rattle.am_base.specs.Lists.{image_of_log, members_of_image, fits, log_with_entry};
+    ghost use Rattle.am_node_defs.specs.Cores.{CoreChangesAlike, CoreAddsEntry, CoreTellsAlike, advance_core, members_since_accepted, trim_core_to, trim_core_list, IsInOrder};
 
     /// What is accepted goes on to what is told, as far as the list is stored; and who joined passes over what is
     /// accepted below its Join.
-    #[tactic(auto, using(am_node_defs::proofs::CoreLaws::core_change_rules), unfolding(am_node_defs::specs::Cores::accept, am_node_defs::specs::Cores::pass_over))]
+    #[tactic(auto, using(am_node_defs::proofs::CoreLaws::core_change_rules), unfolding(am_node_defs::specs::Cores::raise_accepted_to_told, am_node_defs::specs::Cores::pass_over_below_join))]
     pub fn advance(&mut self)
-        ensures value { self.new ≡ advance self.old }
-        ensures keeps { Keeps advance self.old self.new }
+        ensures value { self.new ≡ advance_core self.old }
+        ensures keeps { CoreChangesAlike advance_core self.old self.new }
         ensures order { IsInOrder self.new }
     {
         let most = self.told.min(self.log.top());
@@ -89,8 +89,8 @@ impl<L: Log> Core<L> {
     #[tactic(auto, using(am_node_defs::proofs::CoreLaws::core_change_rules))]
     pub fn trim_to(&mut self, base: u32)
         requires { base ≤ self.old.taken }
-        ensures value { self.new ≡ trim_list base self.old }
-        ensures keeps { Keeps (trim_to base) self.old self.new }
+        ensures value { self.new ≡ trim_core_list base self.old }
+        ensures keeps { CoreChangesAlike (trim_core_to base) self.old self.new }
         ensures order { IsInOrder self.new }
     {
         if self.log.base() < base {
@@ -101,12 +101,12 @@ impl<L: Log> Core<L> {
     /// Adds an entry at the end.
     #[tactic(auto, using(am_node_defs::proofs::CoreLaws::core_change_rules))]
     pub fn push(&mut self, entry: &EntryRef)
-        requires fits { fits (told_by self.old.log) entry.now ≡ true }
+        requires fits { fits (image_of_log self.old.log) entry.now ≡ true }
         requires room { length self.old.log.entries < self.old.rules.window + 15 }
-        requires entry { IsEntry entry.now }
-        requires number { top_of self.old.log < most_number }
-        ensures value { self.new ≡ record self.old { log = with_entry self.old.log entry.now } }
-        ensures adds { Adds entry.now self.old self.new }
+        requires entry { EntryIsInRange entry.now }
+        requires number { top_of_log self.old.log < greatest_number }
+        ensures value { self.new ≡ record self.old { log = log_with_entry self.old.log entry.now } }
+        ensures adds { CoreAddsEntry entry.now self.old self.new }
         ensures order { IsInOrder self.new }
     {
         self.log.push(entry);
@@ -115,8 +115,8 @@ impl<L: Log> Core<L> {
     /// All who are members after some number from what is accepted on.
     #[tactic(auto, using(am_node_defs::proofs::CoreLaws::unions_rules))]
     pub fn since_accepted(&self) -> Names
-        ensures value { result ≡ since_accepted self.now }
-        ensures model { CoreSends since_accepted self.now result }
+        ensures value { result ≡ members_since_accepted self.now }
+        ensures model { CoreTellsAlike members_since_accepted self.now result }
     {
         let mut names = self.log.members_after(self.acc);
         for number in self.acc..self.log.top() {
@@ -130,7 +130,7 @@ impl<L: Log> Core<L> {
     /// Whether the node is a member after the last entry.
     #[tactic(auto, using(am_node_defs::proofs::Ends::image_top_rules))]
     pub fn is_member(&self) -> bool
-        ensures { result ≡ has (members_of (told_by self.now.log)) self.now.who }
+        ensures { result ≡ has (members_of_image (image_of_log self.now.log)) self.now.who }
     {
         self.log.members_after(self.log.top()).has(self.who)
     }

@@ -1,8 +1,8 @@
 ghost use Rattle.std.specs.Prelude.{map, ◌≡◌, ◌≤◌, ◌<◌, ℕ, slice_index_or, slice_set, ◌==◌};
 ghost use Rattle.std.specs.List.{list_all};
-ghost use Rattle.am_base.specs.Names.{place_of, has, is_within};
-ghost use Rattle.am_base.specs.Lists.{blank, blank_row, after, fits, members_of, member_life, at_place, row_of, with_row, row_after_view, is_blank, is_blank_row};
-ghost use Rattle.am_base.specs.Limits.{IsNumber, IsStamp, IsRow, IsImage, IsEntry};
+ghost use Rattle.am_base.specs.Names.{place_of_name, has, names_are_within};
+ghost use Rattle.am_base.specs.Lists.{blank, blank_row, after, fits, members_of_image, member_life_of_row, row_at_place, row_of_name, image_with_row, row_after_view, is_blank_image, is_blank_row};
+ghost use Rattle.am_base.specs.Limits.{NumberIsInRange, StampIsInRange, RowIsInRange, ImageIsInRange, EntryIsInRange};
 ghost use Rattle.am_base.specs.declared.entry.Entry.TheVariants.{View};
 
 use am_base::entry::{EntryParts, EntryRef, GroupView};
@@ -52,7 +52,7 @@ fn are_blank(rows: &[Row]) -> bool
 
 /// The life of a row's member, 0 where it has none.
 fn member_life(row: &Row) -> u8
-    ensures value { result ≡ member_life row.now }
+    ensures value { result ≡ member_life_of_row row.now }
     ensures most { result ≤ row.now.life }
 {
     if 0 < row.joined && row.left == 0 {
@@ -65,8 +65,8 @@ fn member_life(row: &Row) -> u8
 /// The members that rows tell.
 #[tactic(auto, using(crate::proofs::Rows::member_life_le_row_life))]
 fn members_of(rows: &[Row; 16]) -> Names
-    requires { (place : ℕ) → place < 16 → IsRow (slice_index_or rows.now place blank_row) }
-    ensures { result ≡ map member_life rows.now }
+    requires { (place : ℕ) → place < 16 → RowIsInRange (slice_index_or rows.now place blank_row) }
+    ensures { result ≡ map member_life_of_row rows.now }
 {
     let mut lives = [0; 16];
     for place in 0..16usize {
@@ -78,11 +78,11 @@ fn members_of(rows: &[Row; 16]) -> Names
 /// A place's row behind a View: who is new in the first one joins there, and a member that it leaves out has left.
 #[tactic(auto, using(crate::proofs::Rows::row_after_view_is_row))]
 fn row_after_view(first: bool, number: u32, life: u8, row: &Row) -> Row
-    requires number { IsNumber number }
+    requires number { NumberIsInRange number }
     requires life { life ≤ 16 }
-    requires row { IsRow row.now }
+    requires row { RowIsInRange row.now }
     ensures value { result ≡ row_after_view first number life row.now }
-    ensures within { IsRow result }
+    ensures within { RowIsInRange result }
 {
     if first {
         if life == 0 {
@@ -111,7 +111,7 @@ impl Table {
     /// What the empty list tells.
     pub fn blank() -> Table
         ensures value { result ≡ blank }
-        ensures within { IsImage result }
+        ensures within { ImageIsInRange result }
     {
         Table {
             image: Image {
@@ -129,7 +129,7 @@ impl Table {
 
     /// The table of an image.
     pub fn of_image(image: &Image) -> Table
-        requires { IsImage image.now }
+        requires { ImageIsInRange image.now }
         ensures { result ≡ image.now }
     {
         Table {
@@ -141,23 +141,23 @@ impl Table {
     /// What the list tells as an image.
     pub fn image(&self) -> &Image
         ensures value { result.now ≡ self.now }
-        ensures within { IsImage result.now }
+        ensures within { ImageIsInRange result.now }
     {
         &self.image
     }
 
     /// The row of a name's place.
     pub fn at_place(&self, name: Name) -> Row
-        ensures value { result ≡ at_place self.now name }
-        ensures within { IsRow result }
+        ensures value { result ≡ row_at_place self.now name }
+        ensures within { RowIsInRange result }
     {
         self.image.rows[usize::from(name.place())]
     }
 
     /// The row of a name's place where its life is the name's, and else all zeros.
     pub fn row(&self, name: Name) -> Row
-        ensures value { result ≡ row_of self.now name }
-        ensures within { IsRow result }
+        ensures value { result ≡ row_of_name self.now name }
+        ensures within { RowIsInRange result }
     {
         let row = self.at_place(name);
         if row.life == name.life() {
@@ -169,7 +169,7 @@ impl Table {
     /// The stamp of the last View, round 0 and name 0 where there is none.
     pub fn view(&self) -> Stamp
         ensures value { result ≡ self.now.view }
-        ensures within { IsStamp result }
+        ensures within { StampIsInRange result }
     {
         self.image.view
     }
@@ -177,7 +177,7 @@ impl Table {
     /// The number of the last View, 0 where there is none.
     pub fn view_number(&self) -> u32
         ensures value { result ≡ self.now.view_number }
-        ensures within { IsNumber result }
+        ensures within { NumberIsInRange result }
     {
         self.image.view_number
     }
@@ -192,14 +192,14 @@ impl Table {
 
     /// The members.
     pub fn members(&self) -> Names
-        ensures { result ≡ members_of self.now }
+        ensures { result ≡ members_of_image self.now }
     {
         self.members
     }
 
     /// Whether no View has come yet.
     fn is_blank(&self) -> bool
-        ensures { result ≡ is_blank self.now }
+        ensures { result ≡ is_blank_image self.now }
     {
         if self.image.view.round != 0 || self.image.view.by.get() != 0 {
             return false;
@@ -212,14 +212,14 @@ impl Table {
 
     /// Whether a name is a member.
     fn has_member(&self, name: Name) -> bool
-        ensures { result ≡ has (members_of self.now) name }
+        ensures { result ≡ has (members_of_image self.now) name }
     {
         self.members.has(name)
     }
 
     /// Whether each name of a set is a member.
     fn are_members(&self, names: Names) -> bool
-        ensures { result ≡ is_within names (members_of self.now) }
+        ensures { result ≡ names_are_within names (members_of_image self.now) }
     {
         for place in 0..16u8 {
             let life = names.life_at(place);
@@ -267,11 +267,11 @@ impl Table {
     /// Writes a place's row, and the members that follow from it.
     #[tactic(auto, using(crate::proofs::Rows::with_row_is_image))]
     fn set_row(&mut self, name: Name, row: Row, members: Names)
-        requires row { IsRow row }
-        requires members { members ≡ slice_set (members_of self.old) (place_of name)
-            (member_life row) }
-        ensures value { self.new ≡ with_row self.old name row }
-        ensures within { IsImage self.new }
+        requires row { RowIsInRange row }
+        requires members { members ≡ slice_set (members_of_image self.old) (place_of_name name)
+            (member_life_of_row row) }
+        ensures value { self.new ≡ image_with_row self.old name row }
+        ensures within { ImageIsInRange self.new }
     {
         self.image.rows[usize::from(name.place())] = row;
         self.members = members;
@@ -280,10 +280,10 @@ impl Table {
     /// Adds an entry, which has this number.
     #[tactic(auto, using(crate::proofs::Rows::members_of_rows_rules), unfolding(am_base::specs::Lists::after))]
     pub fn apply(&mut self, number: u32, entry: &EntryRef)
-        requires number { (1 ≤ number) × IsNumber number }
-        requires entry { IsEntry entry.now }
+        requires number { (1 ≤ number) × NumberIsInRange number }
+        requires entry { EntryIsInRange entry.now }
         ensures value { self.new ≡ after self.old number entry.now }
-        ensures within { IsImage self.new }
+        ensures within { ImageIsInRange self.new }
     {
         let _rows = &self.image.rows;
         match entry.parts() {
@@ -324,10 +324,10 @@ impl Table {
     /// Begins a View at this number.
     #[tactic(auto, unfolding(am_base::specs::Lists::after))]
     fn begin_view(&mut self, number: u32, view: &GroupView)
-        requires number { IsNumber number }
-        requires view { IsEntry (View view.now) }
+        requires number { NumberIsInRange number }
+        requires view { EntryIsInRange (View view.now) }
         ensures value { self.new ≡ after self.old number (View view.now) }
-        ensures within { IsImage self.new }
+        ensures within { ImageIsInRange self.new }
     {
         let first = self.is_blank();
         let mut rows = self.image.rows;

@@ -6,13 +6,13 @@ use Rattle.am_base.specs.declared.entry.Entry.TheVariants.{Data}
 use Rattle.am_base.specs.declared.outcome.Outcome.{Outcome}
 use Rattle.am_base.specs.declared.outcome.Outcome.TheVariants as said
 use Rattle.am_model.specs.Node.{Node, report_fits}
-use Rattle.am_model.specs.Sequencing.{is_unknown}
+use Rattle.am_model.specs.Sequencing.{has_no_join}
 use Rattle.am_node_parts.specs.declared.reply.Note.{Note}
 use Rattle.am_node_parts.specs.declared.reply.Note.TheVariants as note
 
 -- what is told of a report that isn't taken
 abbrev pub report_refusal : Node → ℕ → Report → Option Outcome
-report_refusal m from report = if is_unknown m from then Some said.Stranger else if not (report_fits m report) then Some said.Unfit else None
+report_refusal m from report = if has_no_join m from then Some said.Stranger else if not (report_fits m report) then Some said.Unfit else None
 
 -- what is told of a send that isn't its sender's next one, or whose sender has left, by the sender's row
 abbrev pub request_refusal : Row → ℕ → Option Outcome

@@ -1,7 +1,7 @@
 ghost use Rattle.std.specs.Prelude.{◌≡◌, ◌≢◌, ◌<◌, ◌+◌, length, true};
-ghost use Rattle.am_node_parts.specs.Prelude.{IsRow, at_place, fits, is_sequencer, image_of, node_of, HasRoomLeft, MayServe};
+ghost use Rattle.am_node_parts.specs.Prelude.{RowIsInRange, row_at_place, fits, is_sequencer, image_of_node, node_of, HasRoomLeft, MayServe};
 ghost use Rattle.am_base.specs.declared.entry.Entry.TheVariants.{Join};
-ghost use Rattle.am_model.specs.Joining.{node_with_admitted, number_join, join_ask_row};
+ghost use Rattle.am_model.specs.Joining.{node_with_joiner_reports, number_join_and_welcome, join_ask_row};
 ghost use Rattle.am_node_parts.specs.Replies.{Replies};
 ghost use Rattle.am_ordering.specs.Joining.{refusal_of, needs_none, welcome_again};
 
@@ -16,15 +16,15 @@ use am_node_storage::log::Log;
 
 /// The row of a name's place.
 fn at_place(parts: &Parts, name: Name) -> Row
-    ensures value { result ≡ at_place (image_of (node_of parts.now)) name }
-    ensures within { IsRow result }
+    ensures value { result ≡ row_at_place (image_of_node (node_of parts.now)) name }
+    ensures within { RowIsInRange result }
 {
     parts.core.log.at_place(name)
 }
 
 /// Why a name may not join, where the row of its place is this and so much is accepted; None where it may.
 fn refusal_of(accepted: u32, name: Name, row: Row) -> Option<Outcome>
-    requires { IsRow row }
+    requires { RowIsInRange row }
     ensures { result ≡ refusal_of accepted name row }
 {
     if name.life() < row.life {
@@ -42,7 +42,7 @@ fn refusal_of(accepted: u32, name: Name, row: Row) -> Option<Outcome>
 
 /// Whether a Join of a name fits behind the last entry.
 fn may_join(parts: &Parts, name: Name) -> bool
-    ensures { result ≡ fits (image_of (node_of parts.now)) (Join name) }
+    ensures { result ≡ fits (image_of_node (node_of parts.now)) (Join name) }
 {
     parts.core.log.fits(&EntryRef::join(name))
 }
@@ -57,7 +57,7 @@ fn base_of(parts: &Parts) -> u32
 /// A joiner's reports begin at the base.
 fn admit(parts: &mut Parts, name: Name)
     requires { name ≢ parts.old.core.who }
-    ensures { node_of parts.new ≡ node_with_admitted (node_of parts.old) name }
+    ensures { node_of parts.new ≡ node_with_joiner_reports (node_of parts.old) name }
 {
     let base = base_of(parts);
     parts.fronts.admit(name, base);
@@ -67,9 +67,9 @@ fn admit(parts: &mut Parts, name: Name)
 fn number_join<'a>(parts: &mut Parts, from: Name) -> Reply<'a>
     requires leads { is_sequencer (node_of parts.old) ≡ true }
     requires other { from ≢ parts.old.core.who }
-    requires fits { fits (image_of (node_of parts.old)) (Join from) ≡ true }
+    requires fits { fits (image_of_node (node_of parts.old)) (Join from) ≡ true }
     requires room { HasRoomLeft (node_of parts.old) }
-    ensures { Replies (number_join (node_of parts.old) from) result (node_of parts.new) }
+    ensures { Replies (number_join_and_welcome (node_of parts.old) from) result (node_of parts.new) }
 {
     let number = next_number(parts);
     let others = others(parts);

@@ -1,7 +1,7 @@
 ghost use Rattle.std.specs.Prelude.{◌≡◌, ◌≢◌, true, false};
-ghost use Rattle.am_node_parts.specs.Prelude.{members_of, has, is_sequencer, image_of, node_of, HasRoomLeft, MayServe};
-ghost use Rattle.am_model.specs.Sequencing.{is_unknown};
-ghost use Rattle.am_model.specs.Joining.{counts_report, asks_to_leave, leave_ask_row};
+ghost use Rattle.am_node_parts.specs.Prelude.{members_of_image, has, is_sequencer, image_of_node, node_of, HasRoomLeft, MayServe};
+ghost use Rattle.am_model.specs.Sequencing.{has_no_join};
+ghost use Rattle.am_model.specs.Joining.{report_counts, answer_leave_ask, leave_ask_row};
 ghost use Rattle.am_node_parts.specs.Replies.{Replies};
 ghost use Rattle.am_ordering.specs.Joining.{number_leave, leave_again};
 
@@ -18,7 +18,7 @@ use am_node_storage::log::Log;
 
 /// Whether a report is one of this view, and its sender could have made it of the list.
 fn counts_report(parts: &Parts, stamp: Stamp, report: Report) -> bool
-    ensures { result ≡ counts_report (node_of parts.now) stamp report }
+    ensures { result ≡ report_counts (node_of parts.now) stamp report }
 {
     let view = parts.core.log.view();
     stamp.round == view.round && stamp.by == view.by && report_fits(parts, report)
@@ -27,7 +27,7 @@ fn counts_report(parts: &Parts, stamp: Stamp, report: Report) -> bool
 /// Numbers the Leave of a name, and lets it go where it may go at once.
 fn number_leave<'a>(parts: &mut Parts, from: Name) -> Reply<'a>
     requires leads { is_sequencer (node_of parts.old) ≡ true }
-    requires leaver { has (members_of (image_of (node_of parts.old))) from ≡ true }
+    requires leaver { has (members_of_image (image_of_node (node_of parts.old))) from ≡ true }
     requires other { from ≢ parts.old.core.who }
     requires room { HasRoomLeft (node_of parts.old) }
     ensures { Replies (number_leave (node_of parts.old) from) result (node_of parts.new) }
@@ -52,8 +52,8 @@ fn leave_again<'a>(parts: &Parts, from: Name) -> Reply<'a>
 /// Does what a member's request to leave asks for.
 fn asks_to_leave<'a>(parts: &mut Parts, from: Name) -> Reply<'a>
     requires serves { MayServe (node_of parts.old) from }
-    requires known { is_unknown (node_of parts.old) from ≡ false }
-    ensures { Replies (asks_to_leave (node_of parts.old) from) result (node_of parts.new) }
+    requires known { has_no_join (node_of parts.old) from ≡ false }
+    ensures { Replies (answer_leave_ask (node_of parts.old) from) result (node_of parts.new) }
 {
     let row = row(parts, from);
     if 0 < row.left {

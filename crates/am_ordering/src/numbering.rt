@@ -1,7 +1,7 @@
 ghost use Rattle.std.specs.Prelude.{◌≡◌, ◌+◌, IfNone};
-ghost use Rattle.am_node_parts.specs.Prelude.{IsNumber, only_name, top, node_of};
+ghost use Rattle.am_node_parts.specs.Prelude.{NumberIsInRange, set_of_one_name, top, node_of};
 ghost use Rattle.am_base.specs.declared.entry.Entry.TheVariants.{Data};
-ghost use Rattle.am_model.specs.Emit.{polling, and_telling, hold_of};
+ghost use Rattle.am_model.specs.Emit.{plan_with_poll, with_one_more_letter, hold_packet_of};
 ghost use Rattle.am_base.specs.declared.outcome.Outcome.TheVariants as said;
 ghost use Rattle.am_node_parts.specs.Replies.{Replies};
 ghost use Rattle.am_ordering.specs.Sequencing.{data_note, request_refusal};
@@ -35,10 +35,10 @@ pub fn request_refusal(row: Row, req: u32) -> Option<Outcome>
 
 /// Tells a name that there is no room for its send, and polls the members.
 pub fn put_off<'a>(parts: &Parts, to: Name, req: u32) -> Reply<'a>
-    requires { IsNumber req }
-    ensures { Replies (and_telling (polling (node_of parts.now)
-        (said.Held parts.now.core.base (top (node_of parts.now)))) (only_name to)
-        (λ n. hold_of n req)) result (node_of parts.now) }
+    requires { NumberIsInRange req }
+    ensures { Replies (with_one_more_letter (plan_with_poll (node_of parts.now)
+        (said.Held parts.now.core.base (top (node_of parts.now)))) (set_of_one_name to)
+        (λ n. hold_packet_of n req)) result (node_of parts.now) }
 {
     saying(held_answer(parts), note_to(to, Note::Hold { req })).polling()
 }

@@ -1,8 +1,8 @@
 ghost use Rattle.std.specs.Prelude.{◌≡◌, ◌+◌, ◌≤◌, ◌<◌, Some, false, nat_lt, ◌&&◌, not, IfSome};
 ghost use Rattle.std.specs.Option.{option_copied};
-ghost use Rattle.am_node_parts.specs.Prelude.{IsNumber, IsEntry, IsInOrder, has_own_leave, is_sequencer, top, waiting, IsEndOf, IsSteady, node_of};
-ghost use Rattle.am_node_defs.specs.Cores.{Keeps};
-ghost use Rattle.am_model.specs.Receiving.{with_noted, accept_row, bcast_row, order_row, receive_entry, own_body, body_of, data_entry_of};
+ghost use Rattle.am_node_parts.specs.Prelude.{NumberIsInRange, EntryIsInRange, IsInOrder, has_own_leave, is_sequencer, top, waiting_send_of, IsEndOf, IsSteady, node_of};
+ghost use Rattle.am_node_defs.specs.Cores.{CoreChangesAlike};
+ghost use Rattle.am_model.specs.Receiving.{node_with_noted_fronts, accept_row, bcast_row, order_row, receive_entry, body_of_waiting_send, body_of_spread_send, data_entry_of};
 ghost use Rattle.am_node_parts.specs.Replies.{Replies};
 ghost use Rattle.am_ordering.specs.Receiving.{note, ack_where, Follows};
 
@@ -40,7 +40,7 @@ struct Found<'a> {
 
 /// A core notes what the sequencer's packet tells of its fronts.
 fn note_fronts<L: Log>(core: &mut Core<L>, base: u32, acc: u32)
-    ensures { Keeps (note base acc) core.old core.new }
+    ensures { CoreChangesAlike (note base acc) core.old core.new }
 {
     core.told = core.told.max(acc);
     if base <= core.taken {
@@ -50,7 +50,7 @@ fn note_fronts<L: Log>(core: &mut Core<L>, base: u32, acc: u32)
 
 /// Notes what the sequencer's packet tells of its fronts.
 fn note(parts: &mut Parts, base: u32, acc: u32)
-    ensures end { IsEndOf (with_noted (node_of parts.old) base acc) (node_of parts.new) }
+    ensures end { IsEndOf (node_with_noted_fronts (node_of parts.old) base acc) (node_of parts.new) }
     ensures steady { IsSteady (node_of parts.old) (node_of parts.new) }
     ensures status { parts.new.status ≡ parts.old.status }
     ensures leads { is_sequencer (node_of parts.new) ≡ is_sequencer (node_of parts.old) }
@@ -107,8 +107,8 @@ pub fn on_accept<'a>(parts: &mut Parts, told: Told, poll: bool) -> Reply<'a>
 /// Does what a numbered entry asks for, once its fronts are noted.
 fn receive_entry<'a>(parts: &mut Parts, told: Told, found: Found) -> Reply<'a>
     requires follows { Follows (node_of parts.old) }
-    requires number { IsNumber told.number }
-    requires entry { IfSome found.known (λ e. IsEntry e) }
+    requires number { NumberIsInRange told.number }
+    requires entry { IfSome found.known (λ e. EntryIsInRange e) }
     ensures { Replies (receive_entry (node_of parts.old) told.sender told.base told.number
         found.entry.known found.entry.missing) result (node_of parts.new) }
 {
@@ -140,8 +140,8 @@ fn receive_entry<'a>(parts: &mut Parts, told: Told, found: Found) -> Reply<'a>
 /// node must be a member that isn't the sequencer.
 pub fn on_bcast<'a>(parts: &mut Parts, told: Told, entry: &EntryRef) -> Reply<'a>
     requires follows { Follows (node_of parts.old) }
-    requires number { IsNumber told.number }
-    requires entry { IsEntry entry.now }
+    requires number { NumberIsInRange told.number }
+    requires entry { EntryIsInRange entry.now }
     ensures { Replies (bcast_row (node_of parts.old) told.sender told.base told.acc told.number
         entry.now) result (node_of parts.new) }
 {
@@ -155,8 +155,8 @@ pub fn on_bcast<'a>(parts: &mut Parts, told: Told, entry: &EntryRef) -> Reply<'a
 
 /// The body of the waiting send, where that is this send of the node's own.
 fn own_body(parts: &Parts, from: Name, req: u32) -> Option<&Body>
-    ensures { option_copied result ≡ own_body (node_of parts.now) from req
-        (waiting (node_of parts.now)) }
+    ensures { option_copied result ≡ body_of_waiting_send (node_of parts.now) from req
+        (waiting_send_of (node_of parts.now)) }
 {
     let send = parts.sender.waiting()?;
     if from == parts.core.who && send.0 == req {
@@ -167,9 +167,9 @@ fn own_body(parts: &Parts, from: Name, req: u32) -> Option<&Body>
 
 /// The Data of a send whose body was spread; None where the node has no such body.
 fn data_of(parts: &Parts, from: Name, req: u32) -> Option<Entry>
-    requires { IsNumber req }
-    ensures value { result ≡ data_entry_of from req (body_of (node_of parts.now) from req) }
-    ensures within { IfSome result (λ e. IsEntry e) }
+    requires { NumberIsInRange req }
+    ensures value { result ≡ data_entry_of from req (body_of_spread_send (node_of parts.now) from req) }
+    ensures within { IfSome result (λ e. EntryIsInRange e) }
 {
     let body = own_body(parts, from, req).or(parts.pool.find(from, req))?;
     Some(Entry::Data {
@@ -194,8 +194,8 @@ fn standing(entry: &Option<Entry>) -> Option<EntryRef<'_>>
 /// other answers are those of `on_bcast`, and so are the premises.
 pub fn on_order<'a>(parts: &mut Parts, told: Told, from: Name, req: u32) -> Reply<'a>
     requires follows { Follows (node_of parts.old) }
-    requires number { IsNumber told.number }
-    requires req { IsNumber req }
+    requires number { NumberIsInRange told.number }
+    requires req { NumberIsInRange req }
     ensures { Replies (order_row (node_of parts.old) told.sender told.base told.acc told.number from
         req) result (node_of parts.new) }
 {

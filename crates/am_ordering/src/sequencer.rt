@@ -1,6 +1,6 @@
 ghost use Rattle.std.specs.Prelude.{◌≡◌, ◌≢◌, ◌<◌, ◌≤◌, true, false, IfNone};
-ghost use Rattle.am_node_parts.specs.Prelude.{most_number, IsNumber, is_sequencer, top, node_of, MayServe};
-ghost use Rattle.am_model.specs.Sequencing.{is_unknown, ack_row, nack_row, request_row, answer_request};
+ghost use Rattle.am_node_parts.specs.Prelude.{greatest_number, NumberIsInRange, is_sequencer, top, node_of, MayServe};
+ghost use Rattle.am_model.specs.Sequencing.{has_no_join, ack_row, nack_row, request_row, answer_request};
 ghost use Rattle.am_node_parts.specs.Replies.{Replies};
 ghost use Rattle.am_ordering.specs.Sequencing.{report_refusal};
 
@@ -33,7 +33,7 @@ pub struct Request<'a> {
 /// list.
 fn report_refusal(parts: &Parts, from: Name, report: Report) -> Option<Outcome>
     ensures value { result ≡ report_refusal (node_of parts.now) from report }
-    ensures known { IfNone result (is_unknown (node_of parts.now) from ≡ false) }
+    ensures known { IfNone result (has_no_join (node_of parts.now) from ≡ false) }
     ensures stored { IfNone result (report.stored ≤ top (node_of parts.now)) }
 {
     if is_unknown(parts, from) {
@@ -76,9 +76,9 @@ pub fn on_nack<'a>(parts: &mut Parts, from: Name, report: Report) -> Reply<'a>
 /// Does what a send asks for whose report is taken.
 fn answer_request<'a>(parts: &mut Parts, request: &Request<'a>) -> Reply<'a>
     requires leads { is_sequencer (node_of parts.old) ≡ true }
-    requires known { is_unknown (node_of parts.old) request.now.from ≡ false }
-    requires top { top (node_of parts.old) < most_number }
-    requires req { IsNumber request.now.req }
+    requires known { has_no_join (node_of parts.old) request.now.from ≡ false }
+    requires top { top (node_of parts.old) < greatest_number }
+    requires req { NumberIsInRange request.now.req }
     ensures { Replies (answer_request (node_of parts.old) request.now.from request.now.req
         request.now.body request.now.by_order) result (node_of parts.new) }
 {
@@ -102,7 +102,7 @@ fn answer_request<'a>(parts: &mut Parts, request: &Request<'a>) -> Reply<'a>
 /// last number not the greatest.
 pub fn on_request<'a>(parts: &mut Parts, request: &Request<'a>) -> Reply<'a>
     requires serves { MayServe (node_of parts.old) request.now.from }
-    requires req { IsNumber request.now.req }
+    requires req { NumberIsInRange request.now.req }
     ensures { Replies (request_row (node_of parts.old) request.now.from request.now.report
         request.now.req request.now.body request.now.by_order) result (node_of parts.new) }
 {

@@ -1,8 +1,8 @@
 ghost use Rattle.std.specs.Prelude.{◌≡◌, ◌+◌, ◌-◌, ◌<◌, ◌==◌, Some, true, false, nat_lt, take, count_by, ◌||◌, not};
 ghost use Rattle.std.specs.List.{list_any};
-ghost use Rattle.am_node_parts.specs.Prelude.{IsNumber, IsEntry, fits, IsSet, names_of, is_within_bound, image_of, top, node_of};
+ghost use Rattle.am_node_parts.specs.Prelude.{NumberIsInRange, EntryIsInRange, fits, IsSetOfNames, names_of, number_is_within_bound, image_of_node, top, node_of};
 ghost use Rattle.am_base.specs.declared.outcome.Outcome.{Outcome};
-ghost use Rattle.am_model.specs.Receiving.{is_view, bodies_after, acknowledges, store};
+ghost use Rattle.am_model.specs.Receiving.{is_view, bodies_after_stored_entry, acknowledges, store_numbered_entry};
 ghost use Rattle.am_node_parts.specs.Replies.{Replies};
 ghost use Rattle.am_ordering.specs.Receiving.{Follows};
 
@@ -31,8 +31,8 @@ fn is_view(entry: &EntryRef) -> bool
 /// Whether an entry may not be stored with this number.
 fn is_unfit(parts: &Parts, number: u32, entry: &EntryRef) -> bool
     ensures value { result ≡ (is_view entry.now
-        || (not (fits (image_of (node_of parts.now)) entry.now)
-        || not (is_within_bound (node_of parts.now) parts.now.core.base number))) }
+        || (not (fits (image_of_node (node_of parts.now)) entry.now)
+        || not (number_is_within_bound (node_of parts.now) parts.now.core.base number))) }
     ensures kept { parts.now.core.base ≡ parts.now.core.log.start }
 {
     is_view(entry)
@@ -42,7 +42,7 @@ fn is_unfit(parts: &Parts, number: u32, entry: &EntryRef) -> bool
 
 /// The bodies that a stored entry leaves.
 fn drop_from(pool: &mut Pool, entry: &EntryRef)
-    ensures { pool.new ≡ bodies_after pool.old entry.now }
+    ensures { pool.new ≡ bodies_after_stored_entry pool.old entry.now }
 {
     match entry.parts() {
         EntryParts::Data { from, req, .. } => pool.drop_upto(*from, *req),
@@ -55,7 +55,7 @@ fn drop_from(pool: &mut Pool, entry: &EntryRef)
 /// Lets go of the bodies that a stored entry leaves behind.
 fn drop_bodies(parts: &mut Parts, entry: &EntryRef)
     ensures { node_of parts.new ≡ record (node_of parts.old)
-        { bodies = bodies_after (node_of parts.old).bodies entry.now } }
+        { bodies = bodies_after_stored_entry (node_of parts.old).bodies entry.now } }
 {
     drop_from(&mut parts.pool, entry);
 }
@@ -64,7 +64,7 @@ fn drop_bodies(parts: &mut Parts, entry: &EntryRef)
 fn lives_below(set: Names, place: u8) -> usize
     requires { place < 16 }
     ensures value { result ≡ count_by (λ life. nat_lt 0 life) (take place set) }
-    ensures set { IsSet set }
+    ensures set { IsSetOfNames set }
 {
     let lives = set.each_life();
     lives[..usize::from(place)]
@@ -97,11 +97,11 @@ fn acknowledges(parts: &Parts, sequencer: Name) -> bool
 /// Stores the entry that is told next, where it fits, and acknowledges it where that is due. Unfit where it doesn't fit, else
 /// Stored.
 pub fn store<'a>(parts: &mut Parts, told: Told, entry: &EntryRef) -> Reply<'a>
-    requires entry { IsEntry entry.now }
-    requires number { IsNumber told.number }
+    requires entry { EntryIsInRange entry.now }
+    requires number { NumberIsInRange told.number }
     requires next { told.number ≡ top (node_of parts.old) + 1 }
     requires follows { Follows (node_of parts.old) }
-    ensures { (missing : Outcome) → Replies (store (node_of parts.old) told.sender told.number
+    ensures { (missing : Outcome) → Replies (store_numbered_entry (node_of parts.old) told.sender told.number
         (Some entry.now) missing) result (node_of parts.new) }
 {
     if is_unfit(parts, told.number, entry) {

@@ -1,7 +1,7 @@
 ghost use Rattle.std.specs.Prelude.{◌≡◌, ◌≢◌, ◌||◌, true, false, nat_lt};
-ghost use Rattle.am_node_parts.specs.Prelude.{IsNumber, IsStamp, IsImage, row_of, top_of, stamp_eq, stamp_lt, is_member, view, node_of};
-ghost use Rattle.am_model.specs.Node.{is_asking};
-ghost use Rattle.am_model.specs.Joining.{begin_list, begun_core, ask_next, welcome_row};
+ghost use Rattle.am_node_parts.specs.Prelude.{NumberIsInRange, StampIsInRange, ImageIsInRange, row_of_name, top_of_log, stamps_are_equal, stamp_is_less, is_member, view, node_of};
+ghost use Rattle.am_model.specs.Node.{is_asking_status};
+ghost use Rattle.am_model.specs.Joining.{node_of_welcomed, core_of_welcomed, ask_for_next_entries, welcome_row};
 ghost use Rattle.am_node_parts.specs.Replies.{Replies};
 ghost use Rattle.am_ordering.specs.Joining.{is_unfit};
 
@@ -37,14 +37,14 @@ fn is_member(parts: &Parts) -> bool
 
 /// Whether the node has promised to a greater stamp.
 fn has_promised_more(parts: &Parts, stamp: Stamp) -> bool
-    ensures { result ≡ stamp_lt stamp parts.now.core.promise }
+    ensures { result ≡ stamp_is_less stamp parts.now.core.promise }
 {
     stamp.is_below(parts.core.promise)
 }
 
 /// Whether a name has joined already by what an image tells.
 fn has_joined(image: &Image, name: Name) -> bool
-    ensures { result ≡ nat_lt 0 (row_of image.now name).joined }
+    ensures { result ≡ nat_lt 0 (row_of_name image.now name).joined }
 {
     let row = image.rows[usize::from(name.place())];
     row.life == name.life() && 0 < row.joined
@@ -63,11 +63,11 @@ fn is_unfit(parts: &Parts, told: &Welcome, image: &Image) -> bool
 
 /// A core's list begins at the base, with what was told up to there.
 fn begin_core<L: Log>(core: &mut Core<L>, told: &Welcome, image: &Image)
-    requires blank { top_of core.old.log ≡ 0 }
-    requires stamp { IsStamp told.now.stamp }
-    requires base { IsNumber told.now.base }
-    requires image { IsImage image.now }
-    ensures { core.new ≡ begun_core core.old told.now.stamp told.now.base told.now.join image.now }
+    requires blank { top_of_log core.old.log ≡ 0 }
+    requires stamp { StampIsInRange told.now.stamp }
+    requires base { NumberIsInRange told.now.base }
+    requires image { ImageIsInRange image.now }
+    ensures { core.new ≡ core_of_welcomed core.old told.now.stamp told.now.base told.now.join image.now }
 {
     core.log.begin(told.base, image);
     core.promise = told.stamp;
@@ -79,14 +79,14 @@ fn begin_core<L: Log>(core: &mut Core<L>, told: &Welcome, image: &Image)
 
 /// The list begins at the base, with what was told up to there, and the node is a member.
 fn begin(parts: &mut Parts, told: &Welcome, image: &Image)
-    requires asking { is_asking (node_of parts.old).status ≡ true }
+    requires asking { is_asking_status (node_of parts.old).status ≡ true }
     requires other { told.now.stamp.by ≢ parts.old.core.who }
     requires fits { is_unfit (node_of parts.old) told.now.stamp told.now.base told.now.join
         image.now ≡ false }
-    requires stamp { IsStamp told.now.stamp }
-    requires base { IsNumber told.now.base }
-    requires image { IsImage image.now }
-    ensures { node_of parts.new ≡ begin_list (node_of parts.old) told.now.stamp told.now.base
+    requires stamp { StampIsInRange told.now.stamp }
+    requires base { NumberIsInRange told.now.base }
+    requires image { ImageIsInRange image.now }
+    ensures { node_of parts.new ≡ node_of_welcomed (node_of parts.old) told.now.stamp told.now.base
         told.now.join image.now }
 {
     let _before = parts.accept_front();
@@ -96,7 +96,7 @@ fn begin(parts: &mut Parts, told: &Welcome, image: &Image)
 
 /// Whether the node's view is this one.
 fn has_view(parts: &Parts, stamp: Stamp) -> bool
-    ensures { result ≡ stamp_eq (view (node_of parts.now)) stamp }
+    ensures { result ≡ stamps_are_equal (view (node_of parts.now)) stamp }
 {
     let view = parts.core.log.view();
     view.round == stamp.round && view.by == stamp.by
@@ -104,7 +104,7 @@ fn has_view(parts: &Parts, stamp: Stamp) -> bool
 
 /// A joiner whose list has begun asks for what comes next.
 fn ask_on<'a>(parts: &Parts, told: &Welcome) -> Reply<'a>
-    ensures { Replies (ask_next (node_of parts.now) told.now.sender told.now.stamp told.now.join)
+    ensures { Replies (ask_for_next_entries (node_of parts.now) told.now.sender told.now.stamp told.now.join)
         result (node_of parts.now) }
 {
     let answer = Outcome::Welcomed { number: told.join };
@@ -119,12 +119,12 @@ fn ask_on<'a>(parts: &Parts, told: &Welcome) -> Reply<'a>
 /// stands in it. Else the list begins at the base and the node asks for what comes next: Welcomed.
 #[inline(never)]
 pub fn on_welcome<'a>(parts: &mut Parts, told: &Welcome, image: &ImageRef) -> Reply<'a>
-    requires hears { (is_member (node_of parts.old).status || is_asking (node_of parts.old).status)
+    requires hears { (is_member (node_of parts.old).status || is_asking_status (node_of parts.old).status)
         ≡ true }
     requires other { told.now.stamp.by ≢ parts.old.core.who }
-    requires stamp { IsStamp told.now.stamp }
-    requires base { IsNumber told.now.base }
-    requires image { IsImage image.now }
+    requires stamp { StampIsInRange told.now.stamp }
+    requires base { NumberIsInRange told.now.base }
+    requires image { ImageIsInRange image.now }
     ensures { Replies (welcome_row (node_of parts.old) told.now.sender told.now.stamp told.now.base
         told.now.join image.now) result (node_of parts.new) }
 {

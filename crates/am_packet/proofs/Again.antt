@@ -11,7 +11,7 @@ use Rattle.am_packet.specs.declared.packet.Packet.TheVariants as packets
 use Rattle.am_packet.specs.declared.kind.PacketKind.{PacketKind}
 use Rattle.am_packet.specs.declared.kind.PacketKind.TheVariants as kinds
 use Rattle.am_packet.specs.Kinds.{head_of, packet_kind_number, kind_at, is_total, most_request, most_counted, most_entry}
-use Rattle.am_base.specs.Limits.{IsNumber}
+use Rattle.am_base.specs.Limits.{NumberIsInRange}
 use Rattle.am_packet.specs.Limits.{PacketIsWithin, HasParts, HasEntryParts, IsPacket}
 use Rattle.am_packet.specs.Spelling.{spelling, fields_of, sender_of, stamp_of, entry_bytes}
 use Rattle.am_packet.specs.Reading.{number_at, packet_at, fields_at, of_kind_at, reading, total_in}
@@ -24,7 +24,7 @@ unfolding kind_at
 kind_at_number_of_kind kinds.Request = refl
 kind_at_number_of_kind _ = refl
 
-round_within : (packet : Packet) → PacketIsWithin packet → IsNumber (stamp_of packet).round
+round_within : (packet : Packet) → PacketIsWithin packet → NumberIsInRange (stamp_of packet).round
 unfolding PacketIsWithin
 round_within packet within = within.0
 
@@ -81,8 +81,8 @@ record Three (bytes : List ℕ) (a b c : ℕ) : Type 0 where
   second : number_at bytes 16 ≡ Ok b
   third : number_at bytes 20 ≡ Ok c
 
-three_again : (bytes rest : List ℕ) (a b c : ℕ) → drop 12 bytes ≡ big_bytes 4 a ++ big_bytes 4 b ++ big_bytes 4 c ++ rest → IsNumber a → IsNumber b
-    → IsNumber c → Three bytes a b c
+three_again : (bytes rest : List ℕ) (a b c : ℕ) → drop 12 bytes ≡ big_bytes 4 a ++ big_bytes 4 b ++ big_bytes 4 c ++ rest → NumberIsInRange a → NumberIsInRange b
+    → NumberIsInRange c → Three bytes a b c
 three_again bytes rest a b c h is-a is-b is-c = record {
   first = number_at_big_bytes bytes _ 12 a h is-a;
   second = number_at_big_bytes bytes _ 16 b (bytes_dropped_are_fields_dropped bytes _ 12 4 h) is-b;

@@ -4,16 +4,16 @@ use Rattle.std.proofs.Common.{inl, inr, refl, sym, ap, subst, ◌∙◌, append_
 use Rattle.std.specs.Prelude.{nat_le}
 use Rattle.std.proofs.lemmas.Bool.{leb-true, le-leb, eqb-true}
 use Rattle.std.proofs.lemmas.List.{drop-drop, drop_more, drop_all, get_or-drop, append-nil}
-use Rattle.am_base.specs.Most.{most_number}
+use Rattle.am_base.specs.Most.{greatest_number}
 use Rattle.byteorder.specs.Endian.{big_bytes, big_number}
 use Rattle.byteorder.specs.Numbers.{big_number-reads_back}
 use Rattle.am_base.specs.declared.name.Stamp.{Stamp}
 use Rattle.am_base.specs.declared.image.Report.{Report}
-use Rattle.am_base.specs.Names.{IsSet, mask_of, lives_of, of_parts, are_parts}
+use Rattle.am_base.specs.Names.{IsSetOfNames, mask_of_names, lives_of_names, names_of_mask_and_lives, are_mask_and_lives}
 use Rattle.am_base.proofs.Masks.{places_of_is_set, places_of_mask_and_lives, mask_and_lives_are_masked, mask-places_of, lives-places_of, mask_of-lt, lives_of-lt}
 use Rattle.am_packet.specs.declared.refusal.PacketRefusal.{PacketRefusal}
 use Rattle.am_packet.specs.declared.refusal.PacketRefusal.TheVariants.{BadField}
-use Rattle.am_base.specs.Limits.{IsNumber, IsReport}
+use Rattle.am_base.specs.Limits.{NumberIsInRange, ReportIsInRange}
 use Rattle.am_packet.specs.Spelling.{report_bytes, stamp_bytes, set_bytes, flag_byte}
 use Rattle.am_packet.specs.Reading.{Read, ◌>>=◌, number_at, report_at, stamp_at, read_set_at, resilience_at, flag_at}
 use Rattle.am_packet.specs.Laws.{IsBytes}
@@ -64,16 +64,16 @@ pub byte_is_taken_by_read : (bytes : List ℕ) (at next : ℕ) → next ≡ at +
 byte_is_taken_by_read bytes at next e lt = record { here = rw e (drop_more bytes at 0 lt) }
 
 pub number_is_taken_by_read : (bytes : List ℕ) (at next n : ℕ) → next ≡ at + 4 → IsBytes bytes → next ≤ length bytes → number_at bytes at ≡ Ok n
-    → BytesTakePiece bytes at (big_bytes 4 n) next × IsNumber n
+    → BytesTakePiece bytes at (big_bytes 4 n) next × NumberIsInRange n
 unfolding number_at
 number_is_taken_by_read bytes at next n e fits long read =
-    let test = passed_test_of_read (nat_le (big_number 4 (drop at bytes)) most_number) (Ok (big_number 4 (drop at bytes))) (BadField at) n read in
+    let test = passed_test_of_read (nat_le (big_number 4 (drop at bytes)) greatest_number) (Ok (big_number 4 (drop at bytes))) (BadField at) n read in
     let is : big_number 4 (drop at bytes) ≡ n = done_read_is_injective (big_number 4 (drop at bytes)) n test.1 in
     let here : drop at bytes ≡ big_bytes 4 (big_number 4 (drop at bytes)) ++ drop next bytes = rw e (dropped_bytes_are_big_bytes 4 at bytes (omega arith) fits) in
-    (record { here = here ∙ ap (λ v. big_bytes 4 v ++ drop next bytes) is }, rw (← is) (leb-true (big_number 4 (drop at bytes)) most_number test.0))
+    (record { here = here ∙ ap (λ v. big_bytes 4 v ++ drop next bytes) is }, rw (← is) (leb-true (big_number 4 (drop at bytes)) greatest_number test.0))
 
 pub report_is_taken_by_read : (bytes : List ℕ) (at next : ℕ) (report : Report) → next ≡ at + 8 → IsBytes bytes → next ≤ length bytes → report_at bytes at ≡ Ok report
-    → BytesTakePiece bytes at (report_bytes report) next × IsReport report
+    → BytesTakePiece bytes at (report_bytes report) next × ReportIsInRange report
 unfolding report_at
 report_is_taken_by_read bytes at next report e fits long read =
     let a = bound_read_is_ok (number_at bytes at) (λ stored. number_at bytes (at + 4) >>= λ taken. Ok (record { stored = stored; taken = taken })) report read in
@@ -82,13 +82,13 @@ report_is_taken_by_read bytes at next report e fits long read =
     let tb = number_is_taken_by_read bytes (at + 4) next b.0 (omega arith) fits long b.1 in
     let made : Report = record { stored = a.0; taken = b.0 } in
     subst (λ (r : Report). BytesTakePiece bytes at (report_bytes r) next
-    × IsReport r) (done_read_is_injective made report b.2) (
+    × ReportIsInRange r) (done_read_is_injective made report b.2) (
       pieces_taken_follow bytes at (at + 4) next (big_bytes 4 a.0) (big_bytes 4 b.0) ta.0 tb.0,
       record { stored = ta.1; taken = tb.1 },
     )
 
 pub stamp_is_taken_by_read : (bytes : List ℕ) (at next : ℕ) (stamp : Stamp) → next ≡ at + 5 → IsBytes bytes → next ≤ length bytes → stamp_at bytes at ≡ Ok stamp
-    → BytesTakePiece bytes at (stamp_bytes stamp) next × IsNumber stamp.round
+    → BytesTakePiece bytes at (stamp_bytes stamp) next × NumberIsInRange stamp.round
 unfolding stamp_at
 stamp_is_taken_by_read bytes at next stamp e fits long read =
     let a = bound_read_is_ok (number_at bytes at) (λ round. Ok (record { round = round; by = slice_index bytes (at + 4) })) stamp read in
@@ -96,25 +96,25 @@ stamp_is_taken_by_read bytes at next stamp e fits long read =
     let tb = byte_is_taken_by_read bytes (at + 4) next (omega arith) (omega arith) in
     let made : Stamp = record { round = a.0; by = slice_index bytes (at + 4) } in
     subst (λ (s : Stamp). BytesTakePiece bytes at (stamp_bytes s) next
-    × IsNumber s.round) (done_read_is_injective made stamp a.2) (pieces_taken_follow bytes at (at + 4) next (big_bytes 4 a.0) (slice_index bytes (at + 4) ∷ []) ta.0 tb, ta.1)
+    × NumberIsInRange s.round) (done_read_is_injective made stamp a.2) (pieces_taken_follow bytes at (at + 4) next (big_bytes 4 a.0) (slice_index bytes (at + 4) ∷ []) ta.0 tb, ta.1)
 
 pub set_is_taken_by_read : (bytes : List ℕ) (at next : ℕ) (set : List ℕ) → next ≡ at + 10 → IsBytes bytes → next ≤ length bytes → read_set_at bytes at ≡ Ok set
-    → BytesTakePiece bytes at (set_bytes set) next × IsSet set
+    → BytesTakePiece bytes at (set_bytes set) next × IsSetOfNames set
 unfolding read_set_at
 set_is_taken_by_read bytes at next set e fits long read =
     let mask = big_number 2 (drop at bytes) in
     let lives = big_number 8 (drop (at + 2) bytes) in
-    let test = passed_test_of_read (are_parts mask lives) (Ok (of_parts mask lives)) (BadField (at + 2)) set read in
-    let is : of_parts mask lives ≡ set = done_read_is_injective (of_parts mask lives) set test.1 in
+    let test = passed_test_of_read (are_mask_and_lives mask lives) (Ok (names_of_mask_and_lives mask lives)) (BadField (at + 2)) set read in
+    let is : names_of_mask_and_lives mask lives ≡ set = done_read_is_injective (names_of_mask_and_lives mask lives) set test.1 in
     let first : drop at bytes ≡ big_bytes 2 mask ++ drop (at + 2) bytes = dropped_bytes_are_big_bytes 2 at bytes (omega arith) fits in
     let second : drop (at + 2) bytes ≡ big_bytes 8 lives ++ drop next bytes = dropped_bytes_are_big_bytes 8 (at + 2) bytes (omega arith) fits
     ∙ ap (λ k. big_bytes 8 lives ++ drop k bytes) (let k : at + 2 + 8 ≡ next = omega arith in k) in
-    let mask-is : mask_of (of_parts mask lives) ≡ mask = mask-places_of 16 mask lives (big_number-lt 2 (drop at bytes) (dropped_bytes_are_bytes at bytes fits)) in
-    let lives-is : lives_of (of_parts mask lives) ≡ lives = lives-places_of 16 mask lives
+    let mask-is : mask_of_names (names_of_mask_and_lives mask lives) ≡ mask = mask-places_of 16 mask lives (big_number-lt 2 (drop at bytes) (dropped_bytes_are_bytes at bytes fits)) in
+    let lives-is : lives_of_names (names_of_mask_and_lives mask lives) ≡ lives = lives-places_of 16 mask lives
     (big_number-lt 8 (drop (at + 2) bytes) (dropped_bytes_are_bytes (at + 2) bytes fits)) test.0 in
     let both = pieces_taken_follow bytes at (at + 2) next (big_bytes 2 mask) (big_bytes 8 lives) (record { here = first }) (record { here = second }) in
-    let spelled : BytesTakePiece bytes at (set_bytes (of_parts mask lives)) next = rw (mask-is, lives-is) both in
-    subst (λ (s : List ℕ). BytesTakePiece bytes at (set_bytes s) next × IsSet s) is (spelled, places_of_is_set mask lives)
+    let spelled : BytesTakePiece bytes at (set_bytes (names_of_mask_and_lives mask lives)) next = rw (mask-is, lives-is) both in
+    subst (λ (s : List ℕ). BytesTakePiece bytes at (set_bytes s) next × IsSetOfNames s) is (spelled, places_of_is_set mask lives)
 
 pub resilience_is_taken_by_read : (bytes : List ℕ) (at next n : ℕ) → next ≡ at + 1 → next ≤ length bytes → resilience_at bytes at ≡ Ok n → BytesTakePiece bytes at (n ∷ []) next
     × (n ≤ 15)
@@ -155,31 +155,31 @@ first_byte_is_field_byte bytes fields at h = let same : at + 0 ≡ at = omega ar
 value : (k n : ℕ) (bytes rest : List ℕ) (at : ℕ) → drop at bytes ≡ big_bytes k n ++ rest → n < 256 ^ k → big_number k (drop at bytes) ≡ n
 value k n bytes rest at h lt = ap (λ xs. big_number k xs) h ∙ big_number-reads_back k n rest lt
 
-pub number_at_big_bytes : (bytes rest : List ℕ) (at n : ℕ) → drop at bytes ≡ big_bytes 4 n ++ rest → IsNumber n → number_at bytes at ≡ Ok n
+pub number_at_big_bytes : (bytes rest : List ℕ) (at n : ℕ) → drop at bytes ≡ big_bytes 4 n ++ rest → NumberIsInRange n → number_at bytes at ≡ Ok n
 unfolding number_at
-number_at_big_bytes bytes rest at n h within = rw (value 4 n bytes rest at h (omega arith), le-leb n most_number within) refl
+number_at_big_bytes bytes rest at n h within = rw (value 4 n bytes rest at h (omega arith), le-leb n greatest_number within) refl
 
-pub report_at_report_bytes : (bytes rest : List ℕ) (at : ℕ) (report : Report) → drop at bytes ≡ report_bytes report ++ rest → IsReport report
+pub report_at_report_bytes : (bytes rest : List ℕ) (at : ℕ) (report : Report) → drop at bytes ≡ report_bytes report ++ rest → ReportIsInRange report
     → report_at bytes at ≡ Ok report
 unfolding report_at
 report_at_report_bytes bytes rest at report h within =
     rw (number_at_big_bytes bytes _ at report.stored h within.stored, number_at_big_bytes bytes _ (at + 4) report.taken (bytes_dropped_are_fields_dropped bytes _ at 4 h) within.taken) refl
 
-pub stamp_at_stamp_bytes : (bytes rest : List ℕ) (at : ℕ) (stamp : Stamp) → drop at bytes ≡ stamp_bytes stamp ++ rest → IsNumber stamp.round
+pub stamp_at_stamp_bytes : (bytes rest : List ℕ) (at : ℕ) (stamp : Stamp) → drop at bytes ≡ stamp_bytes stamp ++ rest → NumberIsInRange stamp.round
     → stamp_at bytes at ≡ Ok stamp
 unfolding stamp_at
 stamp_at_stamp_bytes bytes rest at stamp h within =
     rw (number_at_big_bytes bytes _ at stamp.round h within, byte_is_field_byte bytes _ at 4 h) refl
 
-pub set_at_set_bytes : (bytes rest : List ℕ) (at : ℕ) (set : List ℕ) → drop at bytes ≡ set_bytes set ++ rest → IsSet set → read_set_at bytes at ≡ Ok set
+pub set_at_set_bytes : (bytes rest : List ℕ) (at : ℕ) (set : List ℕ) → drop at bytes ≡ set_bytes set ++ rest → IsSetOfNames set → read_set_at bytes at ≡ Ok set
 unfolding read_set_at
 set_at_set_bytes bytes rest at set h is =
-    let mask-fits : mask_of set < 256 ^ 2 = let lt = mask_of-lt set in let lt2 : mask_of set < 2 ^ 16 = subst (λ (k : ℕ). mask_of set < 2 ^ k) is.places lt in
+    let mask-fits : mask_of_names set < 256 ^ 2 = let lt = mask_of-lt set in let lt2 : mask_of_names set < 2 ^ 16 = subst (λ (k : ℕ). mask_of_names set < 2 ^ k) is.places lt in
     lt2 in
-    let lives-fits : lives_of set < 256 ^ 8 = let lt = lives_of-lt set is in
-    let lt2 : lives_of set < 16 ^ 16 = subst (λ (k : ℕ). lives_of set < 16 ^ k) is.places lt in lt2 in
-    let mask-is : big_number 2 (drop at bytes) ≡ mask_of set = value 2 (mask_of set) bytes _ at h mask-fits in
-    let lives-is : big_number 8 (drop (at + 2) bytes) ≡ lives_of set = value 8 (lives_of set) bytes _ (at + 2) (bytes_dropped_are_fields_dropped bytes _ at 2 h) lives-fits in
+    let lives-fits : lives_of_names set < 256 ^ 8 = let lt = lives_of-lt set is in
+    let lt2 : lives_of_names set < 16 ^ 16 = subst (λ (k : ℕ). lives_of_names set < 16 ^ k) is.places lt in lt2 in
+    let mask-is : big_number 2 (drop at bytes) ≡ mask_of_names set = value 2 (mask_of_names set) bytes _ at h mask-fits in
+    let lives-is : big_number 8 (drop (at + 2) bytes) ≡ lives_of_names set = value 8 (lives_of_names set) bytes _ (at + 2) (bytes_dropped_are_fields_dropped bytes _ at 2 h) lives-fits in
     rw (mask-is, lives-is, mask_and_lives_are_masked set is, places_of_mask_and_lives set is) refl
 
 pub resilience_at_byte : (bytes : List ℕ) (at n : ℕ) → slice_index bytes at ≡ n → n ≤ 15 → resilience_at bytes at ≡ Ok n

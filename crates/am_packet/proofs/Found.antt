@@ -9,7 +9,7 @@ use Rattle.am_packet.specs.declared.packet.Packet.TheVariants as packets
 use Rattle.am_packet.specs.declared.kind.PacketKind.{PacketKind}
 use Rattle.am_packet.specs.declared.kind.PacketKind.TheVariants as kinds
 use Rattle.am_packet.specs.Kinds.{Head, head, head_of, least_total, most_total}
-use Rattle.am_base.specs.Limits.{IsNumber, IsReport}
+use Rattle.am_base.specs.Limits.{NumberIsInRange, ReportIsInRange}
 use Rattle.am_packet.specs.Limits.{FieldsWithin, HasParts}
 use Rattle.am_packet.specs.Spelling.{fields_of, report_bytes, set_bytes, image_bytes, vote_bytes, flag_byte}
 use Rattle.am_packet.specs.Reading.{Read, ◌>>=◌, number_at, report_at, read_set_at, resilience_at, flag_at, read_image_at, viewed, vote_at, read_entry_at, packet_at}
@@ -50,14 +50,14 @@ nothing_found : (h : Head) (bytes : List ℕ) (made packet : Packet) → read_th
 nothing_found h bytes made packet read head_is most none within parts =
     spelled h bytes made packet read head_is (drop_all 12 bytes most ∙ none) within parts
 
-number_found : {bytes : List ℕ} {packet : Packet} (h : Head) (make : ℕ → Packet) → ((n : ℕ) → Made h (big_bytes 4 n) (IsNumber n) (make n)) → IsBytes bytes
+number_found : {bytes : List ℕ} {packet : Packet} (h : Head) (make : ℕ → Packet) → ((n : ℕ) → Made h (big_bytes 4 n) (NumberIsInRange n) (make n)) → IsBytes bytes
     → 16 ≤ length bytes → length bytes ≤ 16 → (number_at bytes 12 >>= λ n. read_that_is_done (make n)) ≡ read_that_is_done packet → BytesSpellPacket h bytes packet
 number_found {bytes = bytes} {packet = packet} h make is fits least most read =
     let n = bound_read_is_ok (number_at bytes 12) (λ n. read_that_is_done (make n)) packet read in
     let here = number_is_taken_by_read bytes 12 16 n.0 refl fits least n.1 in
     made_found h bytes (make n.0) packet n.2 (is n.0) (piece_taken_up_to_end bytes 12 16 (big_bytes 4 n.0) here.0 most) here.1
 
-report_found : {bytes : List ℕ} {packet : Packet} (h : Head) (make : Report → Packet) → ((r : Report) → Made h (report_bytes r) (IsReport r) (make r))
+report_found : {bytes : List ℕ} {packet : Packet} (h : Head) (make : Report → Packet) → ((r : Report) → Made h (report_bytes r) (ReportIsInRange r) (make r))
     → IsBytes bytes → 20 ≤ length bytes → length bytes ≤ 20 → (report_at bytes 12 >>= λ r. read_that_is_done (make r)) ≡ read_that_is_done packet → BytesSpellPacket h bytes packet
 report_found {bytes = bytes} {packet = packet} h make is fits least most read =
     let r = bound_read_is_ok (report_at bytes 12) (λ r. read_that_is_done (make r)) packet read in
@@ -65,7 +65,7 @@ report_found {bytes = bytes} {packet = packet} h make is fits least most read =
     made_found h bytes (make r.0) packet r.2 (is r.0) (piece_taken_up_to_end bytes 12 20 (report_bytes r.0) here.0 most) here.1
 
 send_found : {bytes : List ℕ} {packet : Packet} (h : Head) (make : Report → ℕ → Packet)
-    → ((r : Report) (n : ℕ) → Made h (report_bytes r ++ big_bytes 4 n ++ drop 24 bytes) (IsReport r × IsNumber n) (make r n)) → IsBytes bytes
+    → ((r : Report) (n : ℕ) → Made h (report_bytes r ++ big_bytes 4 n ++ drop 24 bytes) (ReportIsInRange r × NumberIsInRange n) (make r n)) → IsBytes bytes
     → 24 ≤ length bytes → (report_at bytes 12 >>= λ r. number_at bytes 20 >>= λ n. read_that_is_done (make r n)) ≡ read_that_is_done packet → BytesSpellPacket h bytes packet
 send_found {bytes = bytes} {packet = packet} h make is fits least read =
     let r = bound_read_is_ok (report_at bytes 12) (λ r. number_at bytes 20 >>= λ n. read_that_is_done (make r n)) packet read in
@@ -80,8 +80,8 @@ record Two (bytes : List ℕ) (rest : ℕ → ℕ → Read Packet) (packet : Pac
   a : ℕ
   b : ℕ
   takes : BytesTakePiece bytes 12 (big_bytes 4 a ++ big_bytes 4 b) 20
-  a_is : IsNumber a
-  b_is : IsNumber b
+  a_is : NumberIsInRange a
+  b_is : NumberIsInRange b
   read : rest a b ≡ read_that_is_done packet
 
 two_found : (bytes : List ℕ) (rest : ℕ → ℕ → Read Packet) (packet : Packet) → IsBytes bytes → 20 ≤ length bytes
@@ -100,9 +100,9 @@ record Three (bytes : List ℕ) (rest : ℕ → ℕ → ℕ → Read Packet) (pa
   b : ℕ
   c : ℕ
   takes : BytesTakePiece bytes 12 (big_bytes 4 a ++ big_bytes 4 b ++ big_bytes 4 c) 24
-  a_is : IsNumber a
-  b_is : IsNumber b
-  c_is : IsNumber c
+  a_is : NumberIsInRange a
+  b_is : NumberIsInRange b
+  c_is : NumberIsInRange c
   read : rest a b c ≡ read_that_is_done packet
 
 three_found : (bytes : List ℕ) (rest : ℕ → ℕ → ℕ → Read Packet) (packet : Packet) → IsBytes bytes → 24 ≤ length bytes

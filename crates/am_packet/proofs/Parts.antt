@@ -11,10 +11,10 @@ use Rattle.am_base.specs.declared.image.Vote.{Vote}
 use Rattle.am_base.specs.declared.image.Image.{Image}
 use Rattle.am_base.specs.declared.entry.Entry.{Entry}
 use Rattle.am_base.specs.declared.entry.Entry.TheVariants.{Data, Join, Leave, View}
-use Rattle.am_base.specs.Names.{IsSet}
+use Rattle.am_base.specs.Names.{IsSetOfNames}
 use Rattle.am_packet.specs.declared.refusal.PacketRefusal.{PacketRefusal}
 use Rattle.am_packet.specs.declared.refusal.PacketRefusal.TheVariants.{BadField}
-use Rattle.am_base.specs.Limits.{IsRow, IsImage, IsVote, IsEntry}
+use Rattle.am_base.specs.Limits.{RowIsInRange, ImageIsInRange, VoteIsInRange, EntryIsInRange}
 use Rattle.am_base.specs.Lists.{blank_row}
 use Rattle.am_packet.specs.Limits.{HasEntryParts}
 use Rattle.am_packet.specs.Kinds.{most_entry}
@@ -46,7 +46,7 @@ unused_of : (life joined : ℕ) → eqb life 0 ≡ eqb joined 0 → joined ≡ 0
 unused_of life joined same none = eqb-true life 0 (same ∙ eq-eqb joined 0 none)
 
 row_takes : (bytes : List ℕ) (at next : ℕ) (row : Row) → next ≡ at + 13 → IsBytes bytes → next ≤ length bytes → read_row_at bytes at ≡ Ok row
-    → BytesTakePiece bytes at (row_bytes row) next × IsRow row
+    → BytesTakePiece bytes at (row_bytes row) next × RowIsInRange row
 unfolding read_row_at
 row_takes bytes at next row e fits long read =
     let a = bound_read_is_ok (number_at bytes (at + 1)) (λ joined. life_at bytes at joined >>= λ life. number_at bytes (at + 5) >>= λ left. number_at bytes (at + 9) >>=
@@ -66,14 +66,14 @@ row_takes bytes at next row e fits long read =
     let t02 = pieces_taken_follow bytes at (at + 5) (at + 9) (b.0 ∷ [] ++ big_bytes 4 a.0) (big_bytes 4 c.0) t01 t2.0 in
     let t03 = pieces_taken_follow bytes at (at + 9) next (b.0 ∷ [] ++ big_bytes 4 a.0 ++ big_bytes 4 c.0) (big_bytes 4 d.0) t02 t3.0 in
     let made : Row = record { life = b.0; joined = a.0; left = c.0; last = d.0 } in
-    subst (λ (r : Row). BytesTakePiece bytes at (row_bytes r) next × IsRow r) (done_read_is_injective made row d.2) (
+    subst (λ (r : Row). BytesTakePiece bytes at (row_bytes r) next × RowIsInRange r) (done_read_is_injective made row d.2) (
       t03,
       record { life = life.1; unused = unused_of b.0 a.0 life.2; used = unused_of a.0 b.0 (sym life.2); joined = t1.1; left = t2.1; last = t3.1 },
     )
 
 record TakesRows (bytes : List ℕ) (at next n : ℕ) (rows : List Row) : Type 0 where
   pub takes : BytesTakePiece bytes at (rows_bytes rows) next
-  pub each : AllByRecursion IsRow rows
+  pub each : AllByRecursion RowIsInRange rows
   pub count : length rows ≡ n
 
 rows_take : (n : ℕ) (bytes : List ℕ) (at next : ℕ) (rows : List Row) → next ≡ at + 13 * n → IsBytes bytes → next ≤ length bytes → rows_at n bytes at ≡ Ok rows
@@ -94,7 +94,7 @@ rows_take (suc n) bytes at next rows e fits long read =
 
 pub record BytesTakeImage (bytes : List ℕ) (at next : ℕ) (image : Image) : Type 0 where
   pub takes : BytesTakePiece bytes at (image_bytes image) next
-  pub within : IsImage image
+  pub within : ImageIsInRange image
 
 pub image_is_taken_by_read : (bytes : List ℕ) (at next : ℕ) (image : Image) → next ≡ at + 218 → IsBytes bytes → next ≤ length bytes → read_image_at bytes at ≡ Ok image
     → BytesTakeImage bytes at next image
@@ -121,7 +121,7 @@ image_is_taken_by_read bytes at next image e fits long read =
       within = record {
         places = t3.count;
         rows =
-            λ place h. All-from_recursion IsRow d.0 t3.each place blank_row (let count = t3.count in omega arith);
+            λ place h. All-from_recursion RowIsInRange d.0 t3.each place blank_row (let count = t3.count in omega arith);
         view = t0.1;
         view_number = t1.1;
         resilience =
@@ -131,8 +131,8 @@ image_is_taken_by_read bytes at next image e fits long read =
 
 pub record BytesTakeVote (bytes : List ℕ) (at next : ℕ) (vote : Vote) : Type 0 where
   pub takes : BytesTakePiece bytes at (vote_bytes vote) next
-  pub within : IsVote vote
-  pub set : IsSet vote.members
+  pub within : VoteIsInRange vote
+  pub set : IsSetOfNames vote.members
 
 pub vote_is_taken_by_read : (bytes : List ℕ) (at next : ℕ) (vote : Vote) → next ≡ at + 23 → IsBytes bytes → next ≤ length bytes → vote_at bytes at ≡ Ok vote
     → BytesTakeVote bytes at next vote
@@ -159,7 +159,7 @@ vote_is_taken_by_read bytes at next vote e fits long read =
 -- an entry takes all that is left
 pub record BytesEndWithEntry (bytes : List ℕ) (at : ℕ) (entry : Entry) : Type 0 where
   pub here : drop at bytes ≡ entry_bytes entry
-  pub within : IsEntry entry
+  pub within : EntryIsInRange entry
   pub parts : HasEntryParts entry
 
 tagged : (bytes : List ℕ) (at tag : ℕ) → at < length bytes → eqb (slice_index bytes at) tag ≡ true → BytesTakePiece bytes at (tag ∷ []) (at + 1)
@@ -182,7 +182,7 @@ data_ends bytes at entry fits tag read =
 
 -- a tag and a name
 named_ends : (bytes : List ℕ) (at tag : ℕ) (make : ℕ → Entry) (entry : Entry)
-    → ((name : ℕ) → (entry_bytes (make name) ≡ tag ∷ name ∷ []) × IsEntry (make name) × HasEntryParts (make name))
+    → ((name : ℕ) → (entry_bytes (make name) ≡ tag ∷ name ∷ []) × EntryIsInRange (make name) × HasEntryParts (make name))
     → BytesTakePiece bytes at (tag ∷ []) (at + 1)
     → cond (eqb (length bytes) (at + 2)) (Ok (make (slice_index bytes (at + 1)))) (Err (BadField 10)) ≡ Ok entry → BytesEndWithEntry bytes at entry
 named_ends bytes at tag make entry made taken read =
@@ -255,13 +255,13 @@ both_of life joined unused used =
       ]
     ]
 
-life_again : (bytes : List ℕ) (at : ℕ) (row : Row) → slice_index bytes at ≡ row.life → IsRow row → life_at bytes at row.joined ≡ Ok row.life
+life_again : (bytes : List ℕ) (at : ℕ) (row : Row) → slice_index bytes at ≡ row.life → RowIsInRange row → life_at bytes at row.joined ≡ Ok row.life
 unfolding life_at
 life_again bytes at row h within =
     rw (h, le-leb row.life 16 within.life) (one_of row.life (BadField at) (eqb row.life 0) (eqb row.joined 0)
     (both_of row.life row.joined within.unused within.used))
 
-row_again : (bytes rest : List ℕ) (at : ℕ) (row : Row) → drop at bytes ≡ row_bytes row ++ rest → IsRow row → read_row_at bytes at ≡ Ok row
+row_again : (bytes rest : List ℕ) (at : ℕ) (row : Row) → drop at bytes ≡ row_bytes row ++ rest → RowIsInRange row → read_row_at bytes at ≡ Ok row
 unfolding read_row_at
 row_again bytes rest at row h within =
     rw (
@@ -271,7 +271,7 @@ row_again bytes rest at row h within =
       number_at_big_bytes bytes _ (at + 9) row.last (bytes_dropped_are_fields_dropped bytes _ at 9 h) within.last,
     ) refl
 
-rows_again : (rows : List Row) (bytes rest : List ℕ) (at : ℕ) → drop at bytes ≡ rows_bytes rows ++ rest → AllByRecursion IsRow rows
+rows_again : (rows : List Row) (bytes rest : List ℕ) (at : ℕ) → drop at bytes ≡ rows_bytes rows ++ rest → AllByRecursion RowIsInRange rows
     → rows_at (length rows) bytes at ≡ Ok rows
 unfolding rows_at rows_bytes
 rows_again [] bytes rest at h within = refl
@@ -279,11 +279,11 @@ rows_again (row ∷ rows) bytes rest at h within =
     let regrouped : drop at bytes ≡ row_bytes row ++ (rows_bytes rows ++ rest) = h ∙ append_assoc (row_bytes row) (rows_bytes rows) rest in
     rw (row_again bytes (rows_bytes rows ++ rest) at row regrouped within.0, rows_again rows bytes rest (at + 13) (bytes_dropped_are_fields_dropped bytes _ at 13 regrouped) within.1) refl
 
-pub image_at_image_bytes : (bytes : List ℕ) (at : ℕ) (image : Image) → drop at bytes ≡ image_bytes image → IsImage image → read_image_at bytes at ≡ Ok image
+pub image_at_image_bytes : (bytes : List ℕ) (at : ℕ) (image : Image) → drop at bytes ≡ image_bytes image → ImageIsInRange image → read_image_at bytes at ≡ Ok image
 unfolding read_image_at
 image_at_image_bytes bytes at image h within =
     let count = within.places in
-    let each = recursion_from_All IsRow image.rows (All-from_get_or IsRow image.rows blank_row (λ i lt. within.rows i (omega arith))) in
+    let each = recursion_from_All RowIsInRange image.rows (All-from_get_or RowIsInRange image.rows blank_row (λ i lt. within.rows i (omega arith))) in
     let rows : rows_at 16 bytes (at + 10) ≡ Ok image.rows = rw (← count)
     (rows_again image.rows bytes [] (at + 10) (bytes_dropped_are_fields_dropped bytes _ at 10 h ∙ sym (append-nil (rows_bytes image.rows))) each) in
     rw (
@@ -293,7 +293,7 @@ image_at_image_bytes bytes at image h within =
       rows,
     ) refl
 
-pub vote_at_vote_bytes : (bytes : List ℕ) (at : ℕ) (vote : Vote) → drop at bytes ≡ vote_bytes vote → IsVote vote → IsSet vote.members → vote_at bytes at ≡ Ok vote
+pub vote_at_vote_bytes : (bytes : List ℕ) (at : ℕ) (vote : Vote) → drop at bytes ≡ vote_bytes vote → VoteIsInRange vote → IsSetOfNames vote.members → vote_at bytes at ≡ Ok vote
 unfolding vote_at
 vote_at_vote_bytes bytes at vote h within set =
     rw (
@@ -303,7 +303,7 @@ vote_at_vote_bytes bytes at vote h within set =
       set_at_set_bytes bytes [] (at + 13) vote.members (bytes_dropped_are_fields_dropped bytes _ at 13 h) set,
     ) refl
 
-pub entry_at_entry_bytes : (bytes : List ℕ) (at : ℕ) (entry : Entry) → drop at bytes ≡ entry_bytes entry → length bytes ≡ at + length (entry_bytes entry) → IsEntry entry
+pub entry_at_entry_bytes : (bytes : List ℕ) (at : ℕ) (entry : Entry) → drop at bytes ≡ entry_bytes entry → length bytes ≡ at + length (entry_bytes entry) → EntryIsInRange entry
     → HasEntryParts entry → read_entry_at bytes at ≡ Ok entry
 unfolding read_entry_at data_at join_at leave_at view_at view_fields_at entry_bytes
 entry_at_entry_bytes bytes at (Data from req body) h long within parts =

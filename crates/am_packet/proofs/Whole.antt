@@ -12,7 +12,7 @@ use Rattle.am_packet.specs.declared.packet.Packet.{Packet}
 use Rattle.am_packet.specs.declared.refusal.PacketRefusal.TheVariants.{Short, BadLength, BadField}
 use Rattle.am_packet.specs.declared.kind.PacketKind.{PacketKind}
 use Rattle.am_packet.specs.Kinds.{Head, kind_of, packet_kind_number, all_kinds, kind_at, is_total, least_total, most_total}
-use Rattle.am_base.specs.Limits.{IsNumber}
+use Rattle.am_base.specs.Limits.{NumberIsInRange}
 use Rattle.am_packet.specs.Limits.{PacketIsWithin, IsPacket}
 use Rattle.am_packet.specs.Spelling.{spelling, fields_of, sender_of, stamp_of, stamp_bytes}
 use Rattle.am_packet.specs.Reading.{Read, version_in, kind_in, total_in, found_in, stamp_at, packet_at, fields_at, reading}
@@ -73,7 +73,7 @@ packet_read_from_its_spelling bytes packet fits read =
     let kind-is : kind_in bytes ≡ kind_of packet = kind_number (kind_in bytes) kind.0 kind.1 ∙ ap (λ h. packet_kind_number h.kind) (sym found.head_is) in
     let count : length (fields_of packet) ≡ length bytes - 12 = ap length (sym found.fields_are) ∙ length-drop 12 bytes in
     let total-is : total_in bytes ≡ 12 + length (fields_of packet) = has.1 ∙ (let sum : length bytes ≡ 12 + length (fields_of packet) = omega arith in sum) in (
-      record { within = (subst (λ (h : Head). IsNumber h.stamp.round) (sym found.head_is) t5.1, found.within); parts = found.parts },
+      record { within = (subst (λ (h : Head). NumberIsInRange h.stamp.round) (sym found.head_is) t5.1, found.within); parts = found.parts },
       put_together packet bytes (drop 12 bytes) (slice_index bytes 0) (slice_index bytes 1) (version_in bytes) (kind_in bytes) (slice_index bytes 4)
           (total_in bytes) stamp.0
           t07.here mark has.0.0.1 kind-is (ap (λ h. h.sender) found.head_is) (ap (λ h. h.stamp) found.head_is) total-is found.fields_are,

@@ -1,9 +1,9 @@
 -- Which field of a packet is wrong: each field with a limit at its offset, in the order in which they are looked at.
 use Rattle.std.specs.Prelude.{ℕ, zero, suc, ◌+◌, List, [], ◌∷◌, ◌++◌, length, drop, Bool, false, not, ◌==◌, ◌&&◌, ◌||◌, nat_le, if◌then◌else◌, Option, Some}
 use Rattle.std.specs.Prelude.{None, slice_index}
-use Rattle.am_base.specs.Most.{most_number}
+use Rattle.am_base.specs.Most.{greatest_number}
 use Rattle.byteorder.specs.Endian.{big_number}
-use Rattle.am_base.specs.Names.{are_parts}
+use Rattle.am_base.specs.Names.{are_mask_and_lives}
 use Rattle.am_packet.specs.declared.kind.PacketKind.{PacketKind}
 use Rattle.am_packet.specs.declared.kind.PacketKind.TheVariants as kinds
 use Rattle.am_packet.specs.Kinds.{is_total, most_entry}
@@ -22,14 +22,14 @@ first_wrong [] = None
 first_wrong (f ∷ fs) = if f.right then first_wrong fs else Some f.at
 
 abbrev pub number_field : List ℕ → ℕ → Field
-number_field bytes at = field at (nat_le (big_number 4 (drop at bytes)) most_number)
+number_field bytes at = field at (nat_le (big_number 4 (drop at bytes)) greatest_number)
 
 abbrev pub report_fields : List ℕ → ℕ → List Field
 report_fields bytes at = number_field bytes at ∷ number_field bytes (at + 4) ∷ []
 
 -- lives outside the mask are refused at the lives' offset
 abbrev pub set_field : List ℕ → ℕ → Field
-set_field bytes at = field (at + 2) (are_parts (big_number 2 (drop at bytes)) (big_number 8 (drop (at + 2) bytes)))
+set_field bytes at = field (at + 2) (are_mask_and_lives (big_number 2 (drop at bytes)) (big_number 8 (drop (at + 2) bytes)))
 
 abbrev pub resilience_field : List ℕ → ℕ → Field
 resilience_field bytes at = field at (nat_le (slice_index bytes at) 15)

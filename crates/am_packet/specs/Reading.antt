@@ -1,7 +1,7 @@
 -- What bytes spell, or the first cause that they are no packet.
 use Rattle.std.specs.Prelude.{ℕ, zero, suc, ◌+◌, List, [], ◌∷◌, length, drop, min, Bool, true, false, not, ◌==◌, ◌&&◌, nat_lt, nat_le, if◌then◌else◌, Option}
 use Rattle.std.specs.Prelude.{Some, None, Result, Ok, Err, slice_index}
-use Rattle.am_base.specs.Most.{most_number, most_word}
+use Rattle.am_base.specs.Most.{greatest_number, greatest_word}
 use Rattle.byteorder.specs.Endian.{big_number}
 use Rattle.am_base.specs.declared.entry.GroupView.{GroupView}
 use Rattle.am_base.specs.declared.name.Stamp.{Stamp}
@@ -11,7 +11,7 @@ use Rattle.am_base.specs.declared.image.Vote.{Vote}
 use Rattle.am_base.specs.declared.image.Image.{Image}
 use Rattle.am_base.specs.declared.entry.Entry.{Entry}
 use Rattle.am_base.specs.declared.entry.Entry.TheVariants.{Data, Join, Leave, View}
-use Rattle.am_base.specs.Names.{of_parts, are_parts}
+use Rattle.am_base.specs.Names.{names_of_mask_and_lives, are_mask_and_lives}
 use Rattle.am_packet.specs.declared.packet.Packet.{Packet}
 use Rattle.am_packet.specs.declared.packet.Packet.TheVariants as packets
 use Rattle.am_packet.specs.declared.refusal.PacketRefusal.{PacketRefusal}
@@ -30,7 +30,7 @@ abbrev pub ◌>>=◌ : {A B : Type 0} → Read A → (A → Read B) → Read B
 
 -- the number in the four bytes from a place on, which has its limit
 unfoldable pub number_at : List ℕ → ℕ → Read ℕ
-number_at bytes at = if nat_le (big_number 4 (drop at bytes)) most_number then Ok (big_number 4 (drop at bytes)) else Err (BadField at)
+number_at bytes at = if nat_le (big_number 4 (drop at bytes)) greatest_number then Ok (big_number 4 (drop at bytes)) else Err (BadField at)
 
 unfoldable pub report_at : List ℕ → ℕ → Read Report
 report_at bytes at = do
@@ -46,8 +46,8 @@ stamp_at bytes at = do
 -- a set of names: a mask, and lives that are 0 outside it
 unfoldable pub read_set_at : List ℕ → ℕ → Read (List ℕ)
 read_set_at bytes at =
-    if are_parts (big_number 2 (drop at bytes)) (big_number 8 (drop (at + 2) bytes))
-    then Ok (of_parts (big_number 2 (drop at bytes)) (big_number 8 (drop (at + 2) bytes)))
+    if are_mask_and_lives (big_number 2 (drop at bytes)) (big_number 8 (drop (at + 2) bytes))
+    then Ok (names_of_mask_and_lives (big_number 2 (drop at bytes)) (big_number 8 (drop (at + 2) bytes)))
     else Err (BadField (at + 2))
 
 unfoldable pub resilience_at : List ℕ → ℕ → Read ℕ
@@ -183,7 +183,7 @@ total_in bytes = big_number 2 (drop 10 bytes)
 
 -- how many bytes there are, as far as a refusal can tell
 abbrev pub found_in : List ℕ → ℕ
-found_in bytes = min (length bytes) most_word
+found_in bytes = min (length bytes) greatest_word
 
 -- the stamp's round, then the total of the kind, then the fields
 unfoldable pub fields_at : PacketKind → List ℕ → Read Packet

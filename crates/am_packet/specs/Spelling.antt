@@ -8,7 +8,7 @@ use Rattle.am_base.specs.declared.image.Vote.{Vote}
 use Rattle.am_base.specs.declared.image.Image.{Image}
 use Rattle.am_base.specs.declared.entry.Entry.{Entry}
 use Rattle.am_base.specs.declared.entry.Entry.TheVariants.{Data, Join, Leave, View}
-use Rattle.am_base.specs.Names.{mask_of, lives_of}
+use Rattle.am_base.specs.Names.{mask_of_names, lives_of_names}
 use Rattle.am_packet.specs.declared.packet.Packet.{Packet}
 use Rattle.am_packet.specs.declared.packet.Packet.TheVariants as packets
 use Rattle.am_packet.specs.Kinds.{head_of, kind_of}
@@ -31,7 +31,7 @@ report_bytes report = big_bytes 4 report.stored ++ big_bytes 4 report.taken
 
 -- a set of names: its places as a mask, and their lives
 abbrev pub set_bytes : List ℕ → List ℕ
-set_bytes set = big_bytes 2 (mask_of set) ++ big_bytes 8 (lives_of set)
+set_bytes set = big_bytes 2 (mask_of_names set) ++ big_bytes 8 (lives_of_names set)
 
 abbrev pub row_bytes : Row → List ℕ
 row_bytes row = row.life ∷ [] ++ big_bytes 4 row.joined ++ big_bytes 4 row.left ++ big_bytes 4 row.last

@@ -1,5 +1,5 @@
 ghost use Rattle.std.specs.Prelude.{◌≡◌, ◌≤◌, ◌<◌, length, vec_len, vec_capacity, option_map};
-ghost use Rattle.am_base.specs.Most.{most_packet};
+ghost use Rattle.am_base.specs.Most.{most_bytes_of_packet};
 ghost use Rattle.am_packet.specs.Boxes.{letter_to};
 ghost use Rattle.am_packet.specs.Kinds.{kind_of};
 ghost use Rattle.am_packet.specs.Limits.{IsPacket};
@@ -123,7 +123,7 @@ impl Letter {
     pub fn bytes(&self) -> &[u8]
         ensures value { result.now ≡ spelling self.now.packet }
         ensures packet { IsPacket self.now.packet }
-        ensures fits { length result.now ≤ most_packet }
+        ensures fits { length result.now ≤ most_bytes_of_packet }
     {
         self.spelling()
     }

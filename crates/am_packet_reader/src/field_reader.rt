@@ -1,5 +1,5 @@
 ghost use Rattle.std.specs.Prelude.{◌≡◌, ◌+◌, ◌≤◌, ◌<◌, ◌==◌, true, false, IfOk, IfErr, length, drop, slice_index};
-ghost use Rattle.am_base.specs.Most.{most_body, most_packet};
+ghost use Rattle.am_base.specs.Most.{most_bytes_of_body, most_bytes_of_packet};
 ghost use Rattle.am_packet.specs.Images.{rows_length, image_length};
 ghost use Rattle.am_packet.specs.Reading.{number_at, report_at, stamp_at, read_set_at, resilience_at, flag_at, life_at, read_row_at, rows_at, read_image_at, vote_at, read_entry_at, data_at, view_at, view_fields_at};
 
@@ -38,7 +38,7 @@ pub fn name(bytes: &[u8], at: u32) -> Name
 #[tactic(auto, unfolding(am_packet::specs::Reading::report_at))]
 pub fn report(bytes: &[u8], at: u32) -> Result<Report, PacketRefusal>
     requires long { at + 8 ≤ length bytes.now }
-    requires small { at < most_packet }
+    requires small { at < most_bytes_of_packet }
     ensures { result ≡ report_at bytes.now at }
 {
     read!(bytes, Report { stored: number @ at, taken: number @ at + 4 })
@@ -48,7 +48,7 @@ pub fn report(bytes: &[u8], at: u32) -> Result<Report, PacketRefusal>
 #[tactic(auto, unfolding(am_packet::specs::Reading::stamp_at))]
 pub fn stamp(bytes: &[u8], at: u32) -> Result<Stamp, PacketRefusal>
     requires long { at + 5 ≤ length bytes.now }
-    requires small { at < most_packet }
+    requires small { at < most_bytes_of_packet }
     ensures { result ≡ stamp_at bytes.now at }
 {
     let by = name(bytes, at + 4);
@@ -59,7 +59,7 @@ pub fn stamp(bytes: &[u8], at: u32) -> Result<Stamp, PacketRefusal>
 #[tactic(auto, unfolding(am_packet::specs::Reading::read_set_at))]
 pub fn set(bytes: &[u8], at: u32) -> Result<Names, PacketRefusal>
     requires long { at + 10 ≤ length bytes.now }
-    requires small { at < most_packet }
+    requires small { at < most_bytes_of_packet }
     ensures { result ≡ read_set_at bytes.now at }
 {
     let mask = BigEndian::read_u16(&bytes[at as usize..]);
@@ -113,7 +113,7 @@ fn life(bytes: &[u8], at: u32, joined: u32) -> Result<u8, PacketRefusal>
 #[tactic(auto, unfolding(am_packet::specs::Reading::read_row_at))]
 fn row(bytes: &[u8], at: u32) -> Result<Row, PacketRefusal>
     requires long { at + 13 ≤ length bytes.now }
-    requires small { at < most_packet }
+    requires small { at < most_bytes_of_packet }
     ensures { result ≡ read_row_at bytes.now at }
 {
     let joined = number(bytes, at + 1)?;
@@ -169,7 +169,7 @@ pub fn vote(bytes: &[u8], at: u32) -> Result<Vote, PacketRefusal>
 /// The body that stands from an offset on.
 pub fn body(bytes: &[u8], at: u32) -> BodyRef<'_>
     requires least { at ≤ length bytes.now }
-    requires most { length bytes.now ≤ at + most_body }
+    requires most { length bytes.now ≤ at + most_bytes_of_body }
     ensures { result ≡ drop at bytes.now }
 {
     BodyRef::of(&bytes[at as usize..]).unwrap()

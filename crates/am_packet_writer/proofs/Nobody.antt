@@ -3,7 +3,7 @@ use Rattle.std.proofs.Common.{◌≡◌, ℕ, zero, suc, ◌+◌, ◌<◌, List,
 use Rattle.std.specs.Option.{is_none}
 use Rattle.std.proofs.lemmas.Bool.Decides.{nat_tests}
 use Rattle.std.proofs.lemmas.List.Sums.{sum_by-append}
-use Rattle.am_base.specs.Names.{size, names_from, first_of, lowest_of}
+use Rattle.am_base.specs.Names.{size, names_from, first_name_of, lowest_name_of}
 
 counts : ℕ → ℕ
 counts life = cond (nat_lt 0 life) 1 0
@@ -17,10 +17,10 @@ somebody before lives =
     let some : 0 < size (suc before ∷ lives) = omega (arith, all, own) in
     grind (arith, nat_tests)
 
-none_from : (place : ℕ) (set : List ℕ) → is_none (first_of (names_from place set)) ≡ (size set == 0)
+none_from : (place : ℕ) (set : List ℕ) → is_none (first_name_of (names_from place set)) ≡ (size set == 0)
 none_from place [] = refl
 none_from place (zero ∷ lives) = none_from (place + 1) lives
 none_from place (suc before ∷ lives) = sym (somebody before lives)
 
-pub lowest_of_nobody : (set : List ℕ) → is_none (lowest_of set) ≡ (size set == 0)
+pub lowest_of_nobody : (set : List ℕ) → is_none (lowest_name_of set) ≡ (size set == 0)
 lowest_of_nobody set = none_from 0 set

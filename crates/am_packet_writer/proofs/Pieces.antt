@@ -1,7 +1,7 @@
 -- Bytes that are written piece by piece.
 use Rattle.std.proofs.Common.{◌≡◌, ℕ, ◌+◌, ◌*◌, ◌<◌, ◌≤◌, List, [], ◌∷◌, ◌++◌, length, take, get_or, refl, sym, ap, ◌∙◌, append_assoc, length-append, arith}
 use Rattle.std.proofs.lemmas.List.{append-nil, length-take, take_more}
-use Rattle.am_base.specs.Most.{most_packet}
+use Rattle.am_base.specs.Most.{most_bytes_of_packet}
 use Rattle.am_base.specs.declared.image.Row.{Row}
 use Rattle.am_packet.specs.Spelling.{row_bytes, rows_bytes}
 use Rattle.am_packet.proofs.Lengths.{length-rows_bytes}
@@ -40,8 +40,8 @@ rows_bytes_with_next_row rows d i old middle new lt before now = rw (
 ) (bytes_after_two_pieces old middle new (rows_bytes (take i rows)) (row_bytes (get_or rows i d)) now before)
 
 -- so many rows leave room for another
-pub packet_has_room_for_row : (rows : List Row) (i : ℕ) (old middle : List ℕ) → i < 16 → middle ≡ old ++ rows_bytes (take i rows) → length old + 208 ≤ most_packet
-    → length middle + 13 ≤ most_packet
+pub packet_has_room_for_row : (rows : List Row) (i : ℕ) (old middle : List ℕ) → i < 16 → middle ≡ old ++ rows_bytes (take i rows) → length old + 208 ≤ most_bytes_of_packet
+    → length middle + 13 ≤ most_bytes_of_packet
 packet_has_room_for_row rows i old middle lt before h =
     let long = length-append old (rows_bytes (take i rows)) in
     let each = length-rows_bytes (take i rows) in

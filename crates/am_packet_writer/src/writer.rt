@@ -1,7 +1,7 @@
 ghost use Rattle.std.specs.Prelude.{◌≡◌, ◌+◌, ◌≤◌, ◌<◌, ◌++◌, ◌∷◌, [], length};
-ghost use Rattle.am_base.specs.Most.{most_body, most_packet};
+ghost use Rattle.am_base.specs.Most.{most_bytes_of_body, most_bytes_of_packet};
 ghost use Rattle.byteorder.specs.Endian.{big_bytes};
-ghost use Rattle.am_base.specs.Names.{IsSet};
+ghost use Rattle.am_base.specs.Names.{IsSetOfNames};
 ghost use Rattle.am_packet.specs.Images.{rows_length, image_length};
 ghost use Rattle.am_packet.specs.Kinds.{most_entry};
 ghost use Rattle.am_packet.specs.Limits.{PacketIsWithin, IsPacket, HasParts, HasEntryParts};
@@ -19,7 +19,7 @@ const VERSION: u8 = 3;
 
 /// Writes one byte.
 fn put_byte(into: &mut PacketBytes, byte: u8)
-    requires { length into.old < most_packet }
+    requires { length into.old < most_bytes_of_packet }
     ensures { into.new ≡ into.old ++ byte ∷ [] }
 {
     into.extend(&[byte]);
@@ -27,7 +27,7 @@ fn put_byte(into: &mut PacketBytes, byte: u8)
 
 /// Writes two bytes, the most significant first.
 fn put_short(into: &mut PacketBytes, number: u16)
-    requires { length into.old + 2 ≤ most_packet }
+    requires { length into.old + 2 ≤ most_bytes_of_packet }
     ensures { into.new ≡ into.old ++ big_bytes 2 number }
 {
     into.extend(&number.to_be_bytes());
@@ -35,7 +35,7 @@ fn put_short(into: &mut PacketBytes, number: u16)
 
 /// Writes four bytes, the most significant first.
 fn put_number(into: &mut PacketBytes, number: u32)
-    requires { length into.old + 4 ≤ most_packet }
+    requires { length into.old + 4 ≤ most_bytes_of_packet }
     ensures { into.new ≡ into.old ++ big_bytes 4 number }
 {
     into.extend(&number.to_be_bytes());
@@ -43,7 +43,7 @@ fn put_number(into: &mut PacketBytes, number: u32)
 
 /// Writes eight bytes, the most significant first.
 fn put_long(into: &mut PacketBytes, number: u64)
-    requires { length into.old + 8 ≤ most_packet }
+    requires { length into.old + 8 ≤ most_bytes_of_packet }
     ensures { into.new ≡ into.old ++ big_bytes 8 number }
 {
     into.extend(&number.to_be_bytes());
@@ -51,7 +51,7 @@ fn put_long(into: &mut PacketBytes, number: u64)
 
 /// Writes 1 where it holds, else 0.
 fn put_flag(into: &mut PacketBytes, flag: bool)
-    requires { length into.old < most_packet }
+    requires { length into.old < most_bytes_of_packet }
     ensures { into.new ≡ into.old ++ flag_byte flag ∷ [] }
 {
     if flag {
@@ -63,7 +63,7 @@ fn put_flag(into: &mut PacketBytes, flag: bool)
 
 /// Writes a round and the name that began it.
 fn put_stamp(into: &mut PacketBytes, stamp: Stamp)
-    requires { length into.old + 5 ≤ most_packet }
+    requires { length into.old + 5 ≤ most_bytes_of_packet }
     ensures { into.new ≡ into.old ++ stamp_bytes stamp }
 {
     put_number(into, stamp.round);
@@ -72,7 +72,7 @@ fn put_stamp(into: &mut PacketBytes, stamp: Stamp)
 
 /// Writes what is stored and what is taken.
 fn put_report(into: &mut PacketBytes, report: Report)
-    requires { length into.old + 8 ≤ most_packet }
+    requires { length into.old + 8 ≤ most_bytes_of_packet }
     ensures { into.new ≡ into.old ++ report_bytes report }
 {
     put_number(into, report.stored);
@@ -81,7 +81,7 @@ fn put_report(into: &mut PacketBytes, report: Report)
 
 /// Writes the places of a set as a mask, and their lives.
 fn put_set(into: &mut PacketBytes, set: Names)
-    requires { length into.old + 10 ≤ most_packet }
+    requires { length into.old + 10 ≤ most_bytes_of_packet }
     ensures { into.new ≡ into.old ++ set_bytes set }
 {
     put_short(into, set.mask());
@@ -90,7 +90,7 @@ fn put_set(into: &mut PacketBytes, set: Names)
 
 /// Writes a place's life and its three numbers.
 fn put_row(into: &mut PacketBytes, row: Row)
-    requires { length into.old + 13 ≤ most_packet }
+    requires { length into.old + 13 ≤ most_bytes_of_packet }
     ensures { into.new ≡ into.old ++ row_bytes row }
 {
     put_byte(into, row.life);
@@ -99,7 +99,7 @@ fn put_row(into: &mut PacketBytes, row: Row)
 
 /// Writes the sixteen rows one behind the other.
 fn put_rows(into: &mut PacketBytes, rows: &[Row; 16])
-    requires { length into.old + rows_length ≤ most_packet }
+    requires { length into.old + rows_length ≤ most_bytes_of_packet }
     ensures { into.new ≡ into.old ++ rows_bytes rows.now }
 {
     for row in rows {
@@ -109,7 +109,7 @@ fn put_rows(into: &mut PacketBytes, rows: &[Row; 16])
 
 /// Writes a view and its table.
 fn put_image(into: &mut PacketBytes, image: &Image)
-    requires { length into.old + image_length ≤ most_packet }
+    requires { length into.old + image_length ≤ most_bytes_of_packet }
     ensures { into.new ≡ into.old ++ image_bytes image.now }
 {
     put_stamp(into, image.view);
@@ -139,7 +139,7 @@ fn image_len(image: &ImageRef) -> usize
 
 /// Writes what a voter shows of its list.
 fn put_vote(into: &mut PacketBytes, vote: Vote)
-    requires { length into.old + 23 ≤ most_packet }
+    requires { length into.old + 23 ≤ most_bytes_of_packet }
     ensures { into.new ≡ into.old ++ vote_bytes vote }
 {
     put_stamp(into, vote.view);
@@ -151,7 +151,7 @@ fn put_vote(into: &mut PacketBytes, vote: Vote)
 /// How many bytes a set takes.
 fn set_len(set: Names) -> usize
     ensures value { result ≡ length (set_bytes set) }
-    ensures parts { IsSet set }
+    ensures parts { IsSetOfNames set }
 {
     2 + set.each_life().len() / 2
 }
@@ -204,7 +204,7 @@ fn put_entry(into: &mut PacketBytes, entry: &EntryRef)
 /// How many bytes a body takes.
 fn body_len(body: &BodyRef) -> usize
     ensures value { result ≡ length body.now }
-    ensures fits { result ≤ most_body }
+    ensures fits { result ≤ most_bytes_of_body }
 {
     body.bytes().len()
 }
@@ -244,7 +244,7 @@ fn put_send(into: &mut PacketBytes, report: Report, req: u32, body: &BodyRef)
 
 /// Writes three numbers.
 fn put_numbers(into: &mut PacketBytes, first: u32, second: u32, third: u32)
-    requires { length into.old + 12 ≤ most_packet }
+    requires { length into.old + 12 ≤ most_bytes_of_packet }
     ensures { into.new ≡ into.old ++ (big_bytes 4 first ++ big_bytes 4 second
         ++ big_bytes 4 third) }
 {
@@ -255,7 +255,7 @@ fn put_numbers(into: &mut PacketBytes, first: u32, second: u32, third: u32)
 
 /// Writes two numbers.
 fn put_two(into: &mut PacketBytes, first: u32, second: u32)
-    requires { length into.old + 8 ≤ most_packet }
+    requires { length into.old + 8 ≤ most_bytes_of_packet }
     ensures { into.new ≡ into.old ++ two_bytes first second }
 {
     put_number(into, first);
@@ -376,7 +376,7 @@ fn put_fields(into: &mut PacketBytes, packet: &Packet)
 
 /// Writes the mark, the version, the kind, who sends, the stamp and the total.
 fn put_header(into: &mut PacketBytes, kind: u8, sender: Name, stamp: Stamp, total: u16)
-    requires { length into.old + 12 ≤ most_packet }
+    requires { length into.old + 12 ≤ most_bytes_of_packet }
     ensures { into.new ≡ into.old ++ header kind sender stamp total }
 {
     into.extend(&[b'A', b'G', VERSION, kind, sender.get()]);

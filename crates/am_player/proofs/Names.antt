@@ -4,12 +4,12 @@ use Rattle.std.proofs.Common.{append-nil, arith}
 use Rattle.std.specs.List.{range_with_len}
 use Rattle.am_base.specs.Votes.{all_names}
 use Rattle.am_group_defs.specs.World.{World}
-use Rattle.am_model.specs.Node.{has_log}
+use Rattle.am_model.specs.Node.{has_log_by_status}
 use Rattle.am_node_defs.proofs.Folds.{split_on_bool_of_log}
 use Rattle.am_ballots.proofs.Votes.{name_of_vote_byte}
 
 abbrev pub name_has_log_in_world : World → ℕ → Bool
-name_has_log_in_world w name = has_log (w.nodes name).status
+name_has_log_in_world w name = has_log_by_status (w.nodes name).status
 
 -- the names of the ranks from one on
 abbrev pub names_from_rank : ℕ → List ℕ
@@ -22,7 +22,7 @@ names_more rank (suc n) is low = let e : n ≡ 256 - (rank + 1) = omega arith in
 first_of : (P : ℕ → Bool) (x : ℕ) (xs : List ℕ) → filter P (x ∷ xs) ≡ (if P x then x ∷ [] else []) ++ filter P xs
 first_of P x xs = split_on_bool_of_log (P x) (λ t. rw t refl) (λ f. rw f refl)
 
-pub logged_names_with_next_rank : (w : World) (before after : List ℕ) (rank name : ℕ) (is : Bool) → rank < 256 → name ≡ name_of_vote_byte rank → is ≡ has_log (w.nodes name).status
+pub logged_names_with_next_rank : (w : World) (before after : List ℕ) (rank name : ℕ) (is : Bool) → rank < 256 → name ≡ name_of_vote_byte rank → is ≡ has_log_by_status (w.nodes name).status
     → after ≡ before ++ (if is then name ∷ [] else [])
     → before ++ filter (name_has_log_in_world w) (names_from_rank rank) ≡ filter (name_has_log_in_world w) all_names
     → after ++ filter (name_has_log_in_world w) (names_from_rank (rank + 1)) ≡ filter (name_has_log_in_world w) all_names

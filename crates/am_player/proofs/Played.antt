@@ -4,7 +4,7 @@ use Rattle.am_base.specs.Founding.{Rules, MayFound}
 use Rattle.am_group.specs.declared.event.Event.{Event}
 use Rattle.am_group_defs.specs.World.{run}
 use Rattle.am_group_defs.specs.Claims.{FitsView}
-use Rattle.am_group_defs.specs.Lawful.{Watch, watch_start, watch, watch_all, watch_run, before_break, lawful_front}
+use Rattle.am_group_defs.specs.Lawful.{Watch, watch_start, watch_event, watch_events, watch_run, events_before_break, lawful_front}
 use Rattle.am_group_defs.specs.Settle.{settle_events}
 use Rattle.am_group_defs.proofs.Runs.{watched_is_run, front_is_lawful}
 use Rattle.am_safety.proofs.Fitted.{views_fit}
@@ -21,10 +21,10 @@ use Rattle.am_player.specs.Plays.{KeepsRun, Repaired, SendsAreAnswered, PlayedBy
 
 -- ---- a run that is settled behind its own events
 
-watched_then : (s : Watch) (xs ys : List Event) → watch_all s (xs ++ ys) ≡ watch_all (watch_all s xs) ys
-unfolding watch_all
+watched_then : (s : Watch) (xs ys : List Event) → watch_events s (xs ++ ys) ≡ watch_events (watch_events s xs) ys
+unfolding watch_events
 watched_then s [] ys = refl
-watched_then s (x ∷ xs) ys = watched_then (watch s x) xs ys
+watched_then s (x ∷ xs) ys = watched_then (watch_event s x) xs ys
 
 -- it is watched as all that was done is
 pub watch_run_of_done_script : (rules : Rules) (events : List Event) (settles : Bool) → watch_run rules (done_of rules events settles) ≡ run_watch rules events settles
@@ -33,7 +33,7 @@ watch_run_of_done_script rules events true =
     let s = watch_run rules events in
     let world = watched_is_run rules events in
     watched_then (watch_start rules) events (settle_events rules (run rules events))
-    ∙ ap (λ w. watch_all s (settle_events rules w)) (sym world)
+    ∙ ap (λ w. watch_events s (settle_events rules w)) (sym world)
 
 -- at each moment up to its lawful front a View fits
 fits_then : (rules : Rules) (events : List Event) → MayFound rules → (moment name : ℕ)
@@ -41,7 +41,7 @@ fits_then : (rules : Rules) (events : List Event) → MayFound rules → (moment
 fits_then rules events may moment name =
     let es : List Event = take moment (lawful_front rules events) in
     let whole : lawful_front rules es ≡ es =
-    ap (before_break es) (prefix_of_unbroken_is_unbroken rules (lawful_front rules events) moment (front_is_lawful rules events)) in
+    ap (events_before_break es) (prefix_of_unbroken_is_unbroken rules (lawful_front rules events) moment (front_is_lawful rules events)) in
     subst (λ (l : List Event). FitsView rules ((run rules l).nodes name)) whole (views_fit rules es name may)
 
 -- each run keeps what is claimed

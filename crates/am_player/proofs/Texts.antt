@@ -7,7 +7,7 @@ use Rattle.am_group_defs.specs.World.{World}
 use Rattle.am_group_defs.specs.Group.{logs}
 use Rattle.am_group_defs.specs.Lawful.{watch_run, broken_at}
 use Rattle.am_group_defs.specs.Text.{play_text}
-use Rattle.am_group_defs.specs.Play.{watched_text}
+use Rattle.am_group_defs.specs.Play.{text_of_watch}
 use Rattle.am_group_defs.proofs.Runs.{watched_is_run}
 use Rattle.am_report.specs.Logs.{logs_for}
 use Rattle.am_report.proofs.Logs.{logs_of_names_with_log}
@@ -31,6 +31,6 @@ text_told_of_watched_run T p text founding records group each broken rules recor
 pub text_of_world_is_watched : (p : worlds.Play) (text : List ℕ) (founding : Rules) (records : List Record) (group : List Entry) (each : List ℕ) (broken : Option ℕ)
     → founding ≡ p.rules → records ≡ (replay p).records → group ≡ (replay p).group → each ≡ logged_in (replay p)
     → broken ≡ broken_at p.rules p.events → text ≡ play_text founding records group (logs_for records each) broken
-    → text ≡ watched_text p.rules (watch_run p.rules p.events)
+    → text ≡ text_of_watch p.rules (watch_run p.rules p.events)
 text_of_world_is_watched p text founding records group each broken rules recorded agreed named mark is =
     text_told_of_watched_run play_text p text founding records group each broken rules recorded agreed named mark is

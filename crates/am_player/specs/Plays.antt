@@ -1,6 +1,6 @@
 -- What a call that plays did.
 use Rattle.std.specs.Prelude.{◌≡◌, ℕ, ◌<◌, ◌≤◌, true, List, length, take, Option, Ok, Err, Bool}
-use Rattle.am_base.specs.Most.{most_events}
+use Rattle.am_base.specs.Most.{most_events_of_run}
 use Rattle.am_base.specs.Founding.{Rules}
 use Rattle.am_base.specs.Names.{has}
 use Rattle.am_group.specs.declared.event.Event.{Event}
@@ -51,7 +51,7 @@ pub record PlayedBy (what : Rules → Watch → List ℕ) (bytes text : List ℕ
   pub script : script_reading bytes ≡ Ok (script_of founding events settles)
   pub within : ScriptIsWithin founding events
   pub written : text ≡ what founding (run_watch founding events settles)
-  pub few : length (done_of founding events settles) ≤ most_events
+  pub few : length (done_of founding events settles) ≤ most_events_of_run
   pub keeps : KeepsRun founding (done_of founding events settles)
   pub repaired : settles ≡ true → Repaired founding events
   pub answered : settles ≡ true → SendsAreAnswered founding events

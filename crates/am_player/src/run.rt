@@ -1,5 +1,5 @@
 ghost use Rattle.std.specs.Prelude.{◌≡◌, ◌<◌, ◌≤◌, ◌+◌, ◌++◌, [], ◌∷◌, length, if◌then◌else◌, OnOk, OnErr, IfOk, IfErr};
-ghost use Rattle.am_base.specs.Most.{most_events};
+ghost use Rattle.am_base.specs.Most.{most_events_of_run};
 ghost use Rattle.am_io.specs.Buffers.{Goes};
 ghost use Rattle.am_group_defs.specs.Lawful.{watch_run};
 ghost use Rattle.am_world.specs.declared.world.WorldRefusal.TheVariants as refusals;
@@ -44,7 +44,7 @@ fn do_events(world: &mut World, events: &[Event]) -> Result<(), WorldRefusal>
     ensures ok { OnOk result (world.new ≡ record world.old
         { events = world.old.events ++ events.now }) }
     ensures err { IfErr result (λ e. e ≡ refusals.Spent
-        → most_events < length world.old.events + length events.now) }
+        → most_events_of_run < length world.old.events + length events.now) }
 {
     for event in events {
         world.step(event)?;
@@ -64,9 +64,9 @@ pub fn play_out(
     ensures ok { IfOk result (λ world. world
         ≡ record { rules = founding.now; events = done_of founding.now events.now settles }) }
     ensures few { IfOk result (λ world. length (done_of founding.now events.now settles)
-        ≤ most_events) }
+        ≤ most_events_of_run) }
     ensures err { IfErr result (λ e. e ≡ refusals.Spent
-        → most_events < length (done_of founding.now events.now settles)) }
+        → most_events_of_run < length (done_of founding.now events.now settles)) }
 {
     let mut world = World::with_room(alloc, founding, events.len())?;
     do_events(&mut world, events)?;

@@ -2,7 +2,7 @@ ghost use Rattle.std.specs.Prelude.{◌≡◌, ℕ, List, OnOk, OnErr};
 ghost use Rattle.std.specs.Fmt.{WritesInCalls};
 ghost use Rattle.am_base.specs.Founding.{Rules};
 ghost use Rattle.am_io.specs.Buffers.{Goes};
-ghost use Rattle.am_group_defs.specs.{Lawful.Watch, Lawful.watch_run, Play.watched_text};
+ghost use Rattle.am_group_defs.specs.{Lawful.Watch, Lawful.watch_run, Play.text_of_watch};
 ghost use Rattle.am_world.specs.Runs.{replay};
 ghost use Rattle.am_player.specs.Runs.{logged_in};
 
@@ -46,7 +46,7 @@ pub trait Shows {
 pub fn push_run<O: Writer>(out: &mut O, world: &World, names: &[Name])
     requires { names.now ≡ logged_in (replay world.now) }
     ensures { WritesInCalls O.writes out.old
-        (watched_text world.now.rules (watch_run world.now.rules world.now.events)) out.new }
+        (text_of_watch world.now.rules (watch_run world.now.rules world.now.events)) out.new }
 {
     push_play(
         out,
@@ -62,7 +62,7 @@ pub fn push_run<O: Writer>(out: &mut O, world: &World, names: &[Name])
 pub struct PlayText;
 
 impl Shows for PlayText {
-    ghost text = { λ _. watched_text };
+    ghost text = { λ _. text_of_watch };
 
     fn show<K: Sink>(
         &self,

@@ -1,8 +1,8 @@
 -- What a node's step comes to in the world of which the records tell.
 use Rattle.am_race_laws.proofs.Words.{◌≡◌, ℕ, ◌<◌, ◌≤◌, List, [], ◌∷◌, ◌++◌, length, map, true, false, true≢false, Option, Some, sym, refl, ap, ◌∙◌, subst, arith}
-use Rattle.am_race_laws.proofs.Words.{◌==◌, nat_tests, length-map, none-some, most_events, NodeEvent, Rules, place_of, name_at, IsPacket, spelling}
-use Rattle.am_race_laws.proofs.Words.{IsInOrder, Letter, Act, Event, Record, is_for, letters_of, letter_at, Step, step, hear, row, World, is_stopped, with_step}
-use Rattle.am_race_laws.proofs.Words.{does_event, hears_letter, acts_as, happens, record_of, current, no_caller, start, run, happen, Node, with_tag, IsEndOf, Does}
+use Rattle.am_race_laws.proofs.Words.{◌==◌, nat_tests, length-map, none-some, most_events_of_run, NodeEvent, Rules, place_of_name, name_of_place_and_life, IsPacket, spelling}
+use Rattle.am_race_laws.proofs.Words.{IsInOrder, Letter, Act, Event, Record, is_for, letters_of_records, letter_at, StepResult, step, hear_packet, row, World, is_stopped, world_with_step}
+use Rattle.am_race_laws.proofs.Words.{world_after_node_event, world_after_hearing, world_after_act, happens, record_of, current, no_caller, start, run, world_after_events, Node, with_tag, IsEndOf, DoesRow}
 use Rattle.am_race_laws.proofs.Words.{spelled_packet_is_heard, HasNumbersLeft, whole_step_comes_to_end, node_end_has_same_top, runs_go_on, number_bounds_hold_in_runs, Terms, EachComesNext, has_stopped, world_after}
 use Rattle.am_race_laws.proofs.Words.{IsNext, IsLawfulRecord, what_of, MayAct}
 use Rattle.am_base.specs.declared.event.NodeEvent.TheVariants as does
@@ -25,7 +25,7 @@ events_more (q ∷ before) r = ap (λ (es : List Event). q.event ∷ es) (events
 
 -- what a lawful journal tells is the run of its events
 told_runs : (terms : Terms) (before : List Record) → EachComesNext (IsLawfulRecord terms) before → IsTheRun terms.founding before
-unfolding IsTheRun world_after events_of_records happen
+unfolding IsTheRun world_after events_of_records world_after_events
 told_runs terms before follows =
     journal_keeps_what_records_keep (IsTheRun terms.founding) (IsLawfulRecord terms)
     (λ done r lawful so_far. world_after_one_more_record terms.founding done r ∙ told_record_is_its_event terms.founding done r lawful.next ∙ ap (λ (w : World). happens w r.event) so_far
@@ -38,7 +38,7 @@ unfolding IsTheRun
 told_world_is_events_run terms before follows = told_runs terms before follows
 
 -- the numbers of a node are within a step's limits
-pub numbers_left_in_journal : (terms : Terms) (before : List Record) (name : ℕ) (m : Node) → EachComesNext (IsLawfulRecord terms) before → length before ≤ most_events
+pub numbers_left_in_journal : (terms : Terms) (before : List Record) (name : ℕ) (m : Node) → EachComesNext (IsLawfulRecord terms) before → length before ≤ most_events_of_run
     → IsEndOf ((world_after terms.founding before).nodes name) m → HasNumbersLeft m
 unfolding IsTheRun events_of_records
 numbers_left_in_journal terms before name m follows few is =
@@ -57,27 +57,27 @@ some_is : {A : Type 0} (x y : A) → Some x ≡ Some y → x ≡ y
 some_is x y e = cc
 
 does_steps : (w : World) (e : Event) (name : ℕ) (mine what : NodeEvent) → Some mine ≡ Some what → is_stopped w name ≡ false
-    → does_event w e name mine ≡ with_step w e name (step (w.nodes name) what)
-does_steps w e name mine what is runs = rw runs (ap (λ (x : NodeEvent). with_step w e name (step (w.nodes name) x)) (some_is mine what is))
+    → world_after_node_event w e name mine ≡ world_with_step w e name (step (w.nodes name) what)
+does_steps w e name mine what is runs = rw runs (ap (λ (x : NodeEvent). world_with_step w e name (step (w.nodes name) x)) (some_is mine what is))
 
 hears_steps : (w : World) (e : Event) (name : ℕ) (l : Letter) (what : NodeEvent) → Some (does.Hear (spelling l.packet)) ≡ Some what → is_stopped w name ≡ false
-    → is_for l name ≡ true → IsPacket l.packet → hears_letter w e name (hear (w.nodes name)) (Some l) ≡ with_step w e name (step (w.nodes name) what)
+    → is_for l name ≡ true → IsPacket l.packet → world_after_hearing w e name (hear_packet (w.nodes name)) (Some l) ≡ world_with_step w e name (step (w.nodes name) what)
 hears_steps w e name l what is runs its packet =
-    rw (its, runs) (ap (with_step w e name) (sym (spelled_packet_is_heard (w.nodes name) l.packet packet))
-    ∙ ap (λ (x : NodeEvent). with_step w e name (step (w.nodes name) x)) (some_is (does.Hear (spelling l.packet)) what is))
+    rw (its, runs) (ap (world_with_step w e name) (sym (spelled_packet_is_heard (w.nodes name) l.packet packet))
+    ∙ ap (λ (x : NodeEvent). world_with_step w e name (step (w.nodes name) x)) (some_is (does.Hear (spelling l.packet)) what is))
 
 acts_step : (w : World) (e : Event) (before : List Record) (name : ℕ) (a : Act) (l : Option Letter) (what : NodeEvent) → what_of a l ≡ Some what
-    → is_stopped w name ≡ false → w.letters ≡ letters_of before → ((k : ℕ) → is_stopped w k ≡ has_stopped before k) → MayAct before name a l
-    → acts_as w e name a ≡ with_step w e name (step (w.nodes name) what)
+    → is_stopped w name ≡ false → w.letters ≡ letters_of_records before → ((k : ℕ) → is_stopped w k ≡ has_stopped before k) → MayAct before name a l
+    → world_after_act w e name a ≡ world_with_step w e name (step (w.nodes name) what)
 acts_step w e before name (act.GiveUp other) l what is runs sent stopped may =
     let gone : is_stopped w other ≡ true = stopped other ∙ may.given other refl in
-    rw (runs, gone) (ap (λ (x : NodeEvent). with_step w e name (step (w.nodes name) x)) (some_is (does.GiveUp other) what is))
+    rw (runs, gone) (ap (λ (x : NodeEvent). world_with_step w e name (step (w.nodes name) x)) (some_is (does.GiveUp other) what is))
 acts_step w e before name act.Stop l what is runs sent stopped may = absurd (none-some what is)
 acts_step w e before name (act.Hear number) l what is runs sent stopped may =
     let h = may.hears number refl in
     let there : letter_at w.letters number ≡ Some h.letter = ap (λ (ls : List Letter). letter_at ls number) sent ∙ h.sent in
     let same : Some (does.Hear (spelling h.letter.packet)) ≡ Some what = sym (ap (what_of (act.Hear number)) h.is) ∙ is in
-    ap (hears_letter w e name (hear (w.nodes name))) there ∙ hears_steps w e name h.letter what same runs h.its h.packet
+    ap (world_after_hearing w e name (hear_packet (w.nodes name))) there ∙ hears_steps w e name h.letter what same runs h.its h.packet
 acts_step w e before name (act.Cut number keep) l what is runs sent stopped may = absurd (true≢false (sym may.race))
 acts_step w e before name act.Return l what is runs sent stopped may = absurd (true≢false (sym may.race))
 acts_step w e before name _ l what is runs sent stopped may = does_steps w e name _ what is runs
@@ -89,34 +89,34 @@ pub record RecordComesOfStep (rules : Rules) (before : List Record) (name : ℕ)
   pub next : IsNext rules before item
   pub node : IsEndOf ((world_after rules (before ++ item ∷ [])).nodes name) n
 
-own_node : (w : World) (e : Event) (name : ℕ) (s : Step) → (with_step w e name s).nodes name ≡ s.node
-unfolding with_step
+own_node : (w : World) (e : Event) (name : ℕ) (s : StepResult) → (world_with_step w e name s).nodes name ≡ s.node
+unfolding world_with_step
 own_node w e name s = let same : (name == name) ≡ true = grind (arith, nat_tests) in rw same refl
 
-stepped_adds : (w : World) (e : Event) (name : ℕ) (s : Step) → (with_step w e name s).records ≡ w.records ++ record_of w e s.outcome s.letters ∷ []
-unfolding with_step
+stepped_adds : (w : World) (e : Event) (name : ℕ) (s : StepResult) → (world_with_step w e name s).records ≡ w.records ++ record_of w e s.outcome s.letters ∷ []
+unfolding world_with_step
 stepped_adds w e name s = refl
 
 pub record_comes_of_each_step : (terms : Terms) (before : List Record) (name : ℕ) (m n : Node) (l : Option Letter) (what : NodeEvent) (item : Record)
     → EachComesNext (IsLawfulRecord terms) before → name < 16
     → item.event.node ≡ name → item.life ≡ 1 → MayAct before name item.event.act l → what_of item.event.act l ≡ Some what
-    → IsEndOf ((world_after terms.founding before).nodes name) m → IsInOrder m.core → Does (λ k. row k what) m item.outcome item.packets n
+    → IsEndOf ((world_after terms.founding before).nodes name) m → IsInOrder m.core → DoesRow (λ k. row k what) m item.outcome item.packets n
     → RecordComesOfStep terms.founding before name n item
 unfolding happens
 record_comes_of_each_step terms before name m n l what item follows low_name node life may is end order does =
     let w : World = world_after terms.founding before in
     let kn = lawful_journal_knows_its_world terms before follows in
     let e : Event = item.event in
-    let first : name_at (place_of name) 1 ≡ name = omega arith in
-    let here : current w (place_of e.node) ≡ name = current_name_has_first_life terms.founding before kn (place_of e.node) ∙ ap (λ (k : ℕ). name_at (place_of k) 1) node
+    let first : name_of_place_and_life (place_of_name name) 1 ≡ name = omega arith in
+    let here : current w (place_of_name e.node) ≡ name = current_name_has_first_life terms.founding before kn (place_of_name e.node) ∙ ap (λ (k : ℕ). name_of_place_and_life (place_of_name k) 1) node
     ∙ first in
     let runs : is_stopped w name ≡ false = kn.stopped name ∙ may.runs in
-    let s : Step = step (w.nodes name) what in
+    let s : StepResult = step (w.nodes name) what in
     let c = whole_step_comes_to_end (w.nodes name) m n what item.outcome item.packets end order does in
-    let did : happens w e ≡ with_step w e name s = ap (λ (k : ℕ). acts_as w e k e.act) here
+    let did : happens w e ≡ world_with_step w e name s = ap (λ (k : ℕ). world_after_act w e k e.act) here
     ∙ acts_step w e before name e.act l what is runs kn.letters kn.stopped may in
     let made : record_of w e s.outcome s.letters ≡ with_tag no_caller item =
-    λ i. record { event = e; life = (kn.lives (place_of e.node) ∙ sym life) i; by = no_caller; outcome = sym c.answer i; packets = sym c.sent i }
+    λ i. record { event = e; life = (kn.lives (place_of_name e.node) ∙ sym life) i; by = no_caller; outcome = sym c.answer i; packets = sym c.sent i }
     in
     let next : IsNext terms.founding before item = ap (λ (v : World). v.records) did ∙ stepped_adds w e name s
     ∙ ap (λ (r : Record). w.records ++ r ∷ []) made in

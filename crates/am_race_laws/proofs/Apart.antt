@@ -1,6 +1,6 @@
 -- What a record of another place and another caller leaves as it is.
 use Rattle.am_race_laws.proofs.Words.{◌≡◌, ℕ, List, [], ◌∷◌, ◌++◌, Bool, true, false, cond, refl, ap, ◌∙◌, ne_eqb, append-nil, filter, if◌then◌else◌, ◌==◌, ◌&&◌}
-use Rattle.am_race_laws.proofs.Words.{◌||◌, list_any, list_any-append, filter-append, place_of, Record, is_either, up_to_last, OthersAreApart}
+use Rattle.am_race_laws.proofs.Words.{◌||◌, list_any, list_any-append, filter-append, place_of_name, Record, is_either, up_to_last, OthersAreApart}
 
 -- a record that doesn't pass a test is left out
 left_out : (test : Record → Bool) (before : List Record) (r : Record) → test r ≡ false → filter test (before ++ r ∷ []) ≡ filter test before
@@ -27,10 +27,10 @@ known_left place caller (q ∷ before) r fails =
 
 pub records_of_others_are_apart : OthersAreApart
 records_of_others_are_apart place caller call before r apart =
-    let far : (place_of r.event.node == place) ≡ false = ne_eqb (place_of r.event.node) place apart.place in
+    let far : (place_of_name r.event.node == place) ≡ false = ne_eqb (place_of_name r.event.node) place apart.place in
     let other : (r.by.caller == caller) ≡ false = ne_eqb r.by.caller caller apart.caller in record {
       known = known_left place caller before r (ap (λ (b : Bool). b || (r.by.caller == caller)) far ∙ other);
-      place = left_out (λ q. place_of q.event.node == place) before r far;
+      place = left_out (λ q. place_of_name q.event.node == place) before r far;
       caller = left_out (λ q. q.by.caller == caller) before r other;
       call = left_out (λ q. (q.by.caller == caller) && (q.by.call == call)) before r (ap (λ (b : Bool). b && (r.by.call == call)) other);
     }

@@ -1,9 +1,9 @@
 -- What an act of a box leaves: its record comes next, whatever others added, and the box stands behind it.
 use Rattle.am_race_laws.proofs.Words.{◌≡◌, ◌≢◌, ℕ, zero, suc, ◌<◌, ◌≤◌, List, [], ◌∷◌, ◌++◌, length, drop, map, get_or, max, Bool, true, false, true≢false}
 use Rattle.am_race_laws.proofs.Words.{Option, Some, None, cond, sym, refl, ap, ◌∙◌, subst, arith, append-nil, length-append, eq-eqb, if◌then◌else◌, ◌==◌}
-use Rattle.am_race_laws.proofs.Words.{◌||◌, All, drop-append_seam, filter-append, none-some, fold-append, most_events, TableId, Outcome, NodeEvent, place_of}
-use Rattle.am_race_laws.proofs.Words.{name_at, IsInOrder, Letter, Act, By, Event, Record, RacePlan, is_for, name_of, letters_of, letter_at, flat_map-append}
-use Rattle.am_race_laws.proofs.Words.{heard_by, Node, HasNumbersLeft, World, is_stopped, with_record, acts_as, happens, current, no_caller, record_of, with_tag}
+use Rattle.am_race_laws.proofs.Words.{◌||◌, All, drop-append_seam, filter-append, none-some, fold-append, most_events_of_run, TableId, Outcome, NodeEvent, place_of_name}
+use Rattle.am_race_laws.proofs.Words.{name_of_place_and_life, IsInOrder, Letter, Act, By, Event, Record, RacePlan, is_for, acting_name_of_record, letters_of_records, letter_at, flat_map-append}
+use Rattle.am_race_laws.proofs.Words.{packet_heard_by_act, Node, HasNumbersLeft, World, is_stopped, world_with_record, world_after_act, happens, current, no_caller, record_of, with_tag}
 use Rattle.am_race_laws.proofs.Words.{IsEndOf, SharerKey, Place, Caller, Terms, WireRefusal, is_of, of_key, times, same_key, Known, IsReady, Committed, Sees, EachComesNext}
 use Rattle.am_race_laws.proofs.Words.{GoesOn, is_stop, has_stopped, log_is_start_and_rest, times_of_cons, world_after, IsNext, of_place, is_turn, may_end, greatest_number}
 use Rattle.am_race_laws.proofs.Words.{passed_number, cursor, last_heard, lost_by, unless_nought, or_nought, RecordIsApart, plan_by, terms_of, IsLawfulRecord, what_of, Steps}
@@ -52,7 +52,7 @@ own_key_times_positive key = let e = times_of_cons key key [] in let s = itself 
 pub record GoesBeyondWhatWasSeen (seen before : List Record) (place caller : ℕ) : Type 0 where
   pub more : List Record
   pub is : before ≡ seen ++ more
-  pub place_ : All (λ r. place_of r.event.node ≢ place) more
+  pub place_ : All (λ r. place_of_name r.event.node ≢ place) more
   pub apart : All (RecordIsApart place caller) more
 
 pub unequal_test_means_different : (a b : ℕ) → (a == b) ≡ false → a ≢ b
@@ -69,35 +69,35 @@ journal_goes_beyond_seen seen known before place caller same goes its =
     ∙ ap (of_key (Caller caller)) same) in record {
       more = more;
       is = is;
-      place_ = λ k d h. unequal_test_means_different (place_of (get_or more k d).event.node) place (far k d h);
+      place_ = λ k d h. unequal_test_means_different (place_of_name (get_or more k d).event.node) place (far k d h);
       apart = λ k d h. record {
-        place = unequal_test_means_different (place_of (get_or more k d).event.node) place (far k d h);
+        place = unequal_test_means_different (place_of_name (get_or more k d).event.node) place (far k d h);
         caller = unequal_test_means_different (get_or more k d).by.caller caller (other k d h);
       };
     }
 
 -- ---- an act stays one that may be done
 
-low_place : (name : ℕ) → name < 16 → place_of name ≡ name
+low_place : (name : ℕ) → name < 16 → place_of_name name ≡ name
 low_place name h = omega arith
 
-first_name : (name : ℕ) → name < 16 → name_at (place_of name) 1 ≡ name
+first_name : (name : ℕ) → name < 16 → name_of_place_and_life (place_of_name name) 1 ≡ name
 first_name name h = omega arith
 
 may_still : (terms : Terms) (seen more : List Record) (name : ℕ) (a : Act) (l : Option Letter) → name < 16 → EachComesNext (IsLawfulRecord terms) (seen ++ more)
-    → All (λ r. place_of r.event.node ≢ name) more → MayAct seen name a l → MayAct (seen ++ more) name a l
+    → All (λ r. place_of_name r.event.node ≢ name) more → MayAct seen name a l → MayAct (seen ++ more) name a l
 may_still terms seen more name a l low follows far may = record {
   race = may.race;
   runs = has_stopped_in_longer_records seen more name
       ∙ or_with_second_false (has_stopped seen name) (has_stopped more name)
-      (others_records_stop_no_name more name (subst (λ (p : ℕ). All (λ (r : Record). place_of r.event.node ≢ p) more) (sym (low_place name low)) far)
+      (others_records_stop_no_name more name (subst (λ (p : ℕ). All (λ (r : Record). place_of_name r.event.node ≢ p) more) (sym (low_place name low)) far)
       (later_records_have_first_lives terms seen more follows) low)
       ∙ may.runs;
   hears = λ number e. let h = may.hears number e in record {
     letter = h.letter;
     is = h.is;
     sent = ap (λ (ls : List Letter). letter_at ls number) (flat_map-append (λ (r : Record). r.packets) seen more)
-        ∙ item_at_in_longer_list (letters_of seen) (letters_of more) number h.letter h.sent;
+        ∙ item_at_in_longer_list (letters_of_records seen) (letters_of_records more) number h.letter h.sent;
     its = h.its;
     packet = h.packet;
   };
@@ -115,18 +115,18 @@ stops_then before name act.Return l may e = absurd (true≢false (sym may.race))
 stops_then before name _ l may e = absurd (none-some _ (sym e))
 
 stop_now : (w : World) (e : Event) (name : ℕ) (b : Bool) → b ≡ false
-    → (if b then with_record w e said.IsStopped else with_record (record w { stopped = w.stopped ++ name ∷ [] }) e said.Stopped)
-    ≡ with_record (record w { stopped = w.stopped ++ name ∷ [] }) e said.Stopped
+    → (if b then world_with_record w e said.IsStopped else world_with_record (record w { stopped = w.stopped ++ name ∷ [] }) e said.Stopped)
+    ≡ world_with_record (record w { stopped = w.stopped ++ name ∷ [] }) e said.Stopped
 stop_now w e name b runs = rw runs refl
 
 left_alone : (w : World) (e : Event) (name k : ℕ) (outcome : Outcome)
-    → (with_record (record w { stopped = w.stopped ++ k ∷ [] }) e outcome).nodes name ≡ w.nodes name
-unfolding with_record
+    → (world_with_record (record w { stopped = w.stopped ++ k ∷ [] }) e outcome).nodes name ≡ w.nodes name
+unfolding world_with_record
 left_alone w e name k outcome = refl
 
 one_more : (w : World) (e : Event) (k : ℕ) (outcome : Outcome)
-    → (with_record (record w { stopped = w.stopped ++ k ∷ [] }) e outcome).records ≡ w.records ++ record_of w e outcome [] ∷ []
-unfolding with_record
+    → (world_with_record (record w { stopped = w.stopped ++ k ∷ [] }) e outcome).records ≡ w.records ++ record_of w e outcome [] ∷ []
+unfolding world_with_record
 one_more w e k outcome = refl
 
 -- the record of an act
@@ -148,12 +148,12 @@ stop_comes terms before name by m follows low runs end =
     let w : World = world_after terms.founding before in
     let kn = lawful_journal_knows_its_world terms before follows in
     let e : Event = item.event in
-    let here : current w (place_of name) ≡ name = current_name_has_first_life terms.founding before kn (place_of name) ∙ first_name name low in
-    let did : happens w e ≡ with_record (record w { stopped = w.stopped ++ name ∷ [] }) e said.Stopped =
-    ap (λ (k : ℕ). acts_as w e k act.Stop) here ∙ stop_now w e name (is_stopped w name) (kn.stopped name ∙ runs)
+    let here : current w (place_of_name name) ≡ name = current_name_has_first_life terms.founding before kn (place_of_name name) ∙ first_name name low in
+    let did : happens w e ≡ world_with_record (record w { stopped = w.stopped ++ name ∷ [] }) e said.Stopped =
+    ap (λ (k : ℕ). world_after_act w e k act.Stop) here ∙ stop_now w e name (is_stopped w name) (kn.stopped name ∙ runs)
     in
     let made : record_of w e said.Stopped [] ≡ with_tag no_caller item =
-    λ i. record { event = e; life = kn.lives (place_of name) i; by = no_caller; outcome = said.Stopped; packets = [] } in
+    λ i. record { event = e; life = kn.lives (place_of_name name) i; by = no_caller; outcome = said.Stopped; packets = [] } in
     let next : IsNext terms.founding before item = ap (λ (v : World). v.records) did ∙ one_more w e name said.Stopped
     ∙ ap (λ (r : Record). w.records ++ r ∷ []) made in
     record {
@@ -200,14 +200,14 @@ lands plan name seen before m n a by l what outcome letters low beyond_ follows 
     let whole : EachComesNext (IsLawfulRecord terms) (seen ++ more) = subst (EachComesNext (IsLawfulRecord terms)) beyond_.is follows in
     let still : MayAct before name a l = subst (λ (rs : List Record). MayAct rs name a l) (sym beyond_.is)
     (may_still terms seen more name a l low whole beyond_.place_ may) in
-    let far : All (λ r. place_of r.event.node ≢ place_of name) more =
-    subst (λ (p : ℕ). All (λ (r : Record). place_of r.event.node ≢ p) more) (sym (low_place name low)) beyond_.place_ in
+    let far : All (λ r. place_of_name r.event.node ≢ place_of_name name) more =
+    subst (λ (p : ℕ). All (λ (r : Record). place_of_name r.event.node ≢ p) more) (sym (low_place name low)) beyond_.place_ in
     let end : IsEndOf ((world_after plan.founding before).nodes name) m =
     subst (λ (v : Node). IsEndOf v m) (sym (ap (λ (rs : List Record). (world_after plan.founding rs).nodes name) beyond_.is
     ∙ nodes_stay_through_others_records plan.founding seen more name far)) keeps.end
     in
     let c = comes terms before name m n a by l what outcome letters follows low still is end keeps.order steps in
-    let apart : All (RecordIsApart (place_of name) by.caller) more = subst (λ (p : ℕ). All (RecordIsApart p by.caller) more) (sym (low_place name low)) beyond_.apart in
+    let apart : All (RecordIsApart (place_of_name name) by.caller) more = subst (λ (p : ℕ). All (RecordIsApart p by.caller) more) (sym (low_place name low)) beyond_.apart in
     record {
       lawful = record {
         node = low;
@@ -236,10 +236,10 @@ fold_last : (numbers : List ℕ) (n : ℕ) → greatest_number (numbers ++ n ∷
 fold_last numbers n = fold-append max 0 numbers (n ∷ [])
 
 -- the greatest of what the records of a place say, behind one of its records
-pub greatest_of_place_with_last : (f : Record → ℕ) (place : ℕ) (before : List Record) (r : Record) → (place_of r.event.node == place) ≡ true
+pub greatest_of_place_with_last : (f : Record → ℕ) (place : ℕ) (before : List Record) (r : Record) → (place_of_name r.event.node == place) ≡ true
     → greatest_number (map f (of_place place (before ++ r ∷ []))) ≡ max (greatest_number (map f (of_place place before))) (f r)
 greatest_of_place_with_last f place before r its =
-    rw (filter-append (λ (q : Record). place_of q.event.node == place) before (r ∷ []), its, map-append f (of_place place before) (r ∷ []))
+    rw (filter-append (λ (q : Record). place_of_name q.event.node == place) before (r ∷ []), its, map-append f (of_place place before) (r ∷ []))
     (fold_last (map f (of_place place before)) (f r))
 
 max_thrice : (a b c : ℕ) → max (max a b) c ≡ max a (max b c)
@@ -258,9 +258,9 @@ open_box_was_not_closed name seen closed b is open_ = ap (λ (x : Boxed). x.clos
 pub numbers_left_in_box : (wire : TableId) (plan : RacePlan) (name : ℕ) (pass : Known) (m : Node) (far : ℕ) (last : Option ℕ) (stopped : Bool)
     (closed : Option WireRefusal) (b : Boxed)
     → record { name = name; seen = pass.seen; closed = closed } ≡ b → IsBox wire plan name pass m far last stopped closed → b.closed ≡ None
-    → length b.seen ≤ most_events → HasNumbersLeft m
+    → length b.seen ≤ most_events_of_run → HasNumbersLeft m
 numbers_left_in_box wire plan name pass m far last stopped closed b is box open_ few =
-    numbers_left_in_journal (terms_of plan) pass.seen name m box.lawful (subst (λ (x : Boxed). length x.seen ≤ most_events) (sym is) few)
+    numbers_left_in_journal (terms_of plan) pass.seen name m box.lawful (subst (λ (x : Boxed). length x.seen ≤ most_events_of_run) (sym is) few)
     (box.node (open_box_was_not_closed name pass.seen closed b is open_)).end
 
 -- what an act of a box is done with
@@ -324,8 +324,8 @@ module _ (wire : TableId) (plan : RacePlan) (name : ℕ) (pass share : Known) (m
   })
 
   pub box_after_committed_act : (item : Record) (count : ℕ) (pass' share' : Known) (far' : ℕ) (last' : Option ℕ) (stopped' : Bool) → item ≡ record_of_act name a by outcome letters
-      → Committed (IsLawfulRecord pass.terms) pass share item count pass' share' → far' ≡ max (max far (heard_by a)) (lost_by by.part)
-      → last' ≡ unless_nought (max (or_nought last) (heard_by a))
+      → Committed (IsLawfulRecord pass.terms) pass share item count pass' share' → far' ≡ max (max far (packet_heard_by_act a)) (lost_by by.part)
+      → last' ≡ unless_nought (max (or_nought last) (packet_heard_by_act a))
       → stopped' ≡ (stopped || is_stop a) → EachComesNext (IsLawfulRecord pass.terms) pass'.seen → IsBox wire plan name pass' n far' last' stopped' closed
   box_after_committed_act item count pass' share' far' last' stopped' is done far_is last_is stopped_is lawful =
       let r : Record = record_of_act name a by outcome letters in
@@ -334,9 +334,9 @@ module _ (wire : TableId) (plan : RacePlan) (name : ℕ) (pass share : Known) (m
       let seen : pass'.seen ≡ before ++ r ∷ [] = ap (λ (p : Known). p.seen) done.pass_after ∙ ap (λ (x : Record). before ++ x ∷ []) is in
       let goes : GoesOn (Place name ∷ []) pass.seen before = subst (λ (ks : List SharerKey). GoesOn ks pass.seen before) d.box.keys done.pass in
       let same_place : of_place name before ≡ of_place name pass.seen = goes.own (Place name) (own_key_times_positive (Place name)) in
-      let here : (place_of name == name) ≡ true = eq-eqb (place_of name) name (low_place name d.box.place) in
-      let first : name_of r ≡ name = first_name name d.box.place in
-      let is_first : (name_of r == name) ≡ true = eq-eqb (name_of r) name first in
+      let here : (place_of_name name == name) ≡ true = eq-eqb (place_of_name name) name (low_place name d.box.place) in
+      let first : acting_name_of_record r ≡ name = first_name name d.box.place in
+      let is_first : (acting_name_of_record r == name) ≡ true = eq-eqb (acting_name_of_record r) name first in
       let runs : has_stopped before name ≡ false = ap (has_stopped before) (sym first) ∙ both.1.lawful.stop in
       record {
         own = ap (λ (p : Known). p.wire) done.pass_after ∙ d.box.own;
@@ -349,14 +349,14 @@ module _ (wire : TableId) (plan : RacePlan) (name : ℕ) (pass share : Known) (m
               (sym seen) both.1.node;
           order = both.1.order;
         };
-        cursor_ = λ _. far_is ∙ max_thrice far (heard_by a) (lost_by by.part) ∙ ap (λ (k : ℕ). max k (passed_number r)) (d.box.cursor_ d.runs)
+        cursor_ = λ _. far_is ∙ max_thrice far (packet_heard_by_act a) (lost_by by.part) ∙ ap (λ (k : ℕ). max k (passed_number r)) (d.box.cursor_ d.runs)
             ∙ ap (λ (rs : List Record). max (greatest_number (map passed_number rs)) (passed_number r)) (sym same_place)
             ∙ sym (greatest_of_place_with_last passed_number name before r here) ∙ ap (cursor name) (sym seen);
         last_ = λ _.
-            let heard : Record → ℕ = λ q. heard_by q.event.act in
-            last_is ∙ ap (λ (o : Option ℕ). unless_nought (max (or_nought o) (heard_by a))) (d.box.last_ d.runs)
-            ∙ ap (λ (k : ℕ). unless_nought (max k (heard_by a))) (nought_again (greatest_number (map heard (of_place name pass.seen))))
-            ∙ ap (λ (rs : List Record). unless_nought (max (greatest_number (map heard rs)) (heard_by a))) (sym same_place)
+            let heard : Record → ℕ = λ q. packet_heard_by_act q.event.act in
+            last_is ∙ ap (λ (o : Option ℕ). unless_nought (max (or_nought o) (packet_heard_by_act a))) (d.box.last_ d.runs)
+            ∙ ap (λ (k : ℕ). unless_nought (max k (packet_heard_by_act a))) (nought_again (greatest_number (map heard (of_place name pass.seen))))
+            ∙ ap (λ (rs : List Record). unless_nought (max (greatest_number (map heard rs)) (packet_heard_by_act a))) (sym same_place)
             ∙ ap unless_nought (sym (greatest_of_place_with_last heard name before r here)) ∙ ap (last_heard name) (sym seen);
         stopped_ = λ _.
             stopped_is ∙ ap (λ (b : Bool). b || is_stop a) (d.box.stopped_ d.runs ∙ d.may.runs ∙ sym runs)
@@ -401,9 +401,9 @@ open_sees wire plan name pass pass' m far last stopped closed box runs sees lawf
     let is : pass'.seen ≡ pass.seen ++ more = log_is_start_and_rest pass'.seen pass.seen goes.begins in
     let follows : EachComesNext (IsLawfulRecord (terms_of plan)) pass'.seen = subst (λ (t : Terms). EachComesNext (IsLawfulRecord t) pass'.seen) box.terms lawful in
     let none = later_records_lack_key (Place name) pass.seen more (ap (of_key (Place name)) (sym is) ∙ same_place) in
-    let far_ : All (λ r. place_of r.event.node ≢ place_of name) more =
-    λ k d h. unequal_test_means_different (place_of (get_or more k d).event.node) (place_of name)
-    (ap (λ (p : ℕ). place_of (get_or more k d).event.node == p) (low_place name box.place) ∙ none k d h)
+    let far_ : All (λ r. place_of_name r.event.node ≢ place_of_name name) more =
+    λ k d h. unequal_test_means_different (place_of_name (get_or more k d).event.node) (place_of_name name)
+    (ap (λ (p : ℕ). place_of_name (get_or more k d).event.node == p) (low_place name box.place) ∙ none k d h)
     in
     let lives = later_records_have_first_lives (terms_of plan) pass.seen more (subst (EachComesNext (IsLawfulRecord (terms_of plan))) is follows) in
     let keeps = box.node runs in
@@ -419,7 +419,7 @@ open_sees wire plan name pass pass' m far last stopped closed box runs sees lawf
         order = keeps.order;
       };
       cursor_ = λ _. box.cursor_ runs ∙ ap (λ (rs : List Record). greatest_number (map passed_number rs)) (sym same_place);
-      last_ = λ _. box.last_ runs ∙ ap (λ (rs : List Record). unless_nought (greatest_number (map (λ q. heard_by q.event.act) rs))) (sym same_place);
+      last_ = λ _. box.last_ runs ∙ ap (λ (rs : List Record). unless_nought (greatest_number (map (λ q. packet_heard_by_act q.event.act) rs))) (sym same_place);
       stopped_ = λ _. box.stopped_ runs
           ∙ sym (ap (λ (rs : List Record). has_stopped rs name) is ∙ has_stopped_in_longer_records pass.seen more name
           ∙ or_with_second_false (has_stopped pass.seen name) (has_stopped more name) (others_records_stop_no_name more name far_ lives box.place));
@@ -428,7 +428,7 @@ open_sees wire plan name pass pass' m far last stopped closed box runs sees lawf
 
 pub box_sees_more_records : (wire : TableId) (plan : RacePlan) (name : ℕ) (pass pass' : Known) (m : Node) (far : ℕ) (last : Option ℕ) (stopped : Bool)
     (closed : Option WireRefusal)
-    → IsBox wire plan name pass m far last stopped closed → Sees pass pass' → EachComesNext (IsLawfulRecord pass.terms) pass'.seen → length pass'.seen ≤ most_events
+    → IsBox wire plan name pass m far last stopped closed → Sees pass pass' → EachComesNext (IsLawfulRecord pass.terms) pass'.seen → length pass'.seen ≤ most_events_of_run
     → IsBox wire plan name pass' m far last stopped closed
 box_sees_more_records wire plan name pass pass' m far last stopped None box sees lawful few =
     open_sees wire plan name pass pass' m far last stopped None box refl sees lawful
@@ -481,9 +481,9 @@ running_box_still_runs wire plan name pass m far last stopped closed old new is 
     let more : List Record = drop (length old.seen) new.seen in
     let whole : new.seen ≡ old.seen ++ more = log_is_start_and_rest new.seen old.seen goes.begins in
     let none = later_records_lack_key (Place old.name) old.seen more (ap (of_key (Place old.name)) (sym whole) ∙ goes.own (Place old.name) (own_key_times_positive (Place old.name))) in
-    let far_ : All (λ r. place_of r.event.node ≢ place_of old.name) more =
-    λ k d h. unequal_test_means_different (place_of (get_or more k d).event.node) (place_of old.name)
-    (ap (λ (p : ℕ). place_of (get_or more k d).event.node == p) (low_place old.name low) ∙ none k d h)
+    let far_ : All (λ r. place_of_name r.event.node ≢ place_of_name old.name) more =
+    λ k d h. unequal_test_means_different (place_of_name (get_or more k d).event.node) (place_of_name old.name)
+    (ap (λ (p : ℕ). place_of_name (get_or more k d).event.node == p) (low_place old.name low) ∙ none k d h)
     in
     let follows : EachComesNext (IsLawfulRecord (terms_of plan)) (old.seen ++ more) =
     subst (EachComesNext (IsLawfulRecord (terms_of plan))) (ap (λ (b : Boxed). b.seen) is ∙ whole) box.lawful

@@ -1,11 +1,11 @@
 -- A turn that a box finds is one of its call.
 use Rattle.am_race_laws.proofs.Words.{◌≡◌, ◌≢◌, inl, inr, ℕ, zero, suc, ◌<◌, List, [], ◌∷◌, ◌++◌, length, drop, get_or, Bool, true, false, true≢false, Option}
 use Rattle.am_race_laws.proofs.Words.{Some, None, sym, refl, ap, ◌∙◌, subst, arith, append_assoc, append-nil, eq-eqb, map, if◌then◌else◌, not, ◌==◌, ◌&&◌}
-use Rattle.am_race_laws.proofs.Words.{All, count_by, nat_lt, is_none, list_any, flat_map-append, none-some, place_of, name_at, name_lt, names_of, Letter, Act}
-use Rattle.am_race_laws.proofs.Words.{By, Event, Turn, Record, RacePlan, next_for, letters_of, Node, World, current, waited_for, Choice, Luck, again, choice_of}
+use Rattle.am_race_laws.proofs.Words.{All, count_by, nat_lt, is_none, list_any, flat_map-append, none-some, place_of_name, name_of_place_and_life, name_is_less, names_of, Letter, Act}
+use Rattle.am_race_laws.proofs.Words.{By, Event, Turn, Record, RacePlan, next_for, letters_of_records, Node, World, current, names_waited_for, Choice, Luck, again, choice_of}
 use Rattle.am_race_laws.proofs.Words.{act_of, Terms, EachComesNext, has_stopped, world_after, of_place, of_call, own_of, is_turn_part, up_to_last, is_either, is_ready}
 use Rattle.am_race_laws.proofs.Words.{cursor, last_heard, words_drawn, choice_after, follows, is_waited, is_least, waits_in_vain, is_choice, is_turn_of}
-use Rattle.am_race_laws.proofs.Words.{turns_at, is_turn, greatest_number, passed_number, unless_nought, heard_by, RecordIsApart, KnowledgeIsSame, IsLawfulRecord, plan_by, terms_of}
+use Rattle.am_race_laws.proofs.Words.{turns_at, is_turn, greatest_number, passed_number, unless_nought, packet_heard_by_act, RecordIsApart, KnowledgeIsSame, IsLawfulRecord, plan_by, terms_of}
 use Rattle.am_race_laws.proofs.Words.{caller_luck_after, node_by, lost_in, Gave, Found, turn_event_at, turn_by, Boxed, IsBox, IsShareOf, BoxLooks, TableId, Known, Sees, SharerKey}
 use Rattle.am_race_laws.proofs.Words.{WireRefusal, Place, Caller, of_key, GoesOn, log_is_start_and_rest, records_go_on_through_both}
 use Rattle.am_race_laws.proofs.{Apart.records_of_others_are_apart, Knows.lawful_journal_knows_its_world, Knows.current_name_has_first_life, Nexts.nodes_stay_through_others_records, Nexts.has_stopped_in_longer_records, Stays.next_letter_stays_among_more}
@@ -52,32 +52,32 @@ waited_more m before more name is =
     let t = and_parts _ _ is in and_from _ _ t.0 (has_stopped_in_longer_records before more name ∙ or_left (has_stopped before name) (has_stopped more name) t.1)
 
 vain_fewer : (m : Node) (knew rest : List Record) → waits_in_vain m (knew ++ rest) ≡ false → waits_in_vain m knew ≡ false
-vain_fewer m knew rest none = fewer (is_waited m knew) (is_waited m (knew ++ rest)) (names_of (waited_for m.ballot)) (λ x is. waited_more m knew rest x is) none
+vain_fewer m knew rest none = fewer (is_waited m knew) (is_waited m (knew ++ rest)) (names_of (names_waited_for m.ballot)) (λ x is. waited_more m knew rest x is) none
 
 least_fewer : (m : Node) (knew rest : List Record) (name : ℕ) → is_least m (knew ++ rest) name ≡ true → is_least m knew name ≡ true
 least_fewer m knew rest name is =
-    ap not (fewer (λ other. name_lt other name && is_waited m knew other) (λ other. name_lt other name && is_waited m (knew ++ rest) other)
-    (names_of (waited_for m.ballot))
+    ap not (fewer (λ other. name_is_less other name && is_waited m knew other) (λ other. name_is_less other name && is_waited m (knew ++ rest) other)
+    (names_of (names_waited_for m.ballot))
     (λ x e. let t = and_parts _ _ e in and_from _ _ t.0 (waited_more m knew rest x t.1)) (not-true _ is))
 
-letters_more : (before more : List Record) → letters_of (before ++ more) ≡ letters_of before ++ letters_of more
+letters_more : (before more : List Record) → letters_of_records (before ++ more) ≡ letters_of_records before ++ letters_of_records more
 letters_more before more = flat_map-append (λ (r : Record). r.packets) before more
 
-ahead_fewer : (knew rest : List Record) (name after : ℕ) → next_for (letters_of (knew ++ rest)) name after ≡ None → next_for (letters_of knew) name after ≡ None
-ahead_fewer knew rest name after none = by_ahead (next_for (letters_of knew) name after) refl
+ahead_fewer : (knew rest : List Record) (name after : ℕ) → next_for (letters_of_records (knew ++ rest)) name after ≡ None → next_for (letters_of_records knew) name after ≡ None
+ahead_fewer knew rest name after none = by_ahead (next_for (letters_of_records knew) name after) refl
   where
-    by_ahead : (o : Option ℕ) → next_for (letters_of knew) name after ≡ o → next_for (letters_of knew) name after ≡ None
+    by_ahead : (o : Option ℕ) → next_for (letters_of_records knew) name after ≡ o → next_for (letters_of_records knew) name after ≡ None
     by_ahead None e = e
     by_ahead (Some n) e =
         absurd (none-some n (sym none ∙ ap (λ (ls : List Letter). next_for ls name after) (letters_more knew rest)
-        ∙ next_letter_stays_among_more (letters_of knew) (letters_of rest) name after n e))
+        ∙ next_letter_stays_among_more (letters_of_records knew) (letters_of_records rest) name after n e))
 
 -- ---- what a box finds
 
 -- nobody is waited for in vain, and a choice says what is done
 record Chosen (plan : RacePlan) (name caller : ℕ) (seen one two : List Record) (a : Act) (lost : ℕ) (said : Choice) : Type 0 where
   pub nobody : waits_in_vain (node_by plan one name) one ≡ false
-  pub is : said ≡ choice_of (caller_luck_after plan caller (words_drawn caller seen)) (next_for (letters_of two) name (cursor name seen)) (last_heard name seen)
+  pub is : said ≡ choice_of (caller_luck_after plan caller (words_drawn caller seen)) (next_for (letters_of_records two) name (cursor name seen)) (last_heard name seen)
   pub act_ : a ≡ act_of said
   pub lost_ : lost ≡ lost_in said
 
@@ -112,12 +112,12 @@ module _ (plan : RacePlan) (name caller call : ℕ) (seen one two three : List R
     (far : GoesBeyondWhatWasSeen seen three name caller) (from_one : List Record) (past_one : List Record) (is_one : one ≡ seen ++ from_one) (to_three : three
     ≡ one ++ past_one)
     (past_two : List Record) (two_three : three ≡ two ++ past_two) (from_two : List Record) (is_two : two ≡ seen ++ from_two)
-    (far_one : All (λ r. place_of r.event.node ≢ place_of name) past_one)
+    (far_one : All (λ r. place_of_name r.event.node ≢ place_of_name name) past_one)
     (unready : is_ready (node_by plan seen name) (own_of (of_call caller call seen)) ≡ false) where
   left : KnowledgeIsSame name caller call seen three
   left = subst (KnowledgeIsSame name caller call seen) (sym far.is) (left_by name caller call seen far.more far.apart)
 
-  place_same : place_of name ≡ name
+  place_same : place_of_name name ≡ name
   place_same = omega arith
 
   abbrev knew : List Record
@@ -133,8 +133,8 @@ module _ (plan : RacePlan) (name caller call : ℕ) (seen one two three : List R
   in_two : two ≡ knew ++ (knew_in.0 ++ from_two)
   in_two = is_two ∙ ap (λ (rs : List Record). rs ++ from_two) knew_in.1 ∙ append_assoc knew knew_in.0 from_two
 
-  far_seen : All (λ r. place_of r.event.node ≢ place_of name) far.more
-  far_seen = subst (λ (p : ℕ). All (λ (r : Record). place_of r.event.node ≢ p) far.more) (sym place_same) far.place_
+  far_seen : All (λ r. place_of_name r.event.node ≢ place_of_name name) far.more
+  far_seen = subst (λ (p : ℕ). All (λ (r : Record). place_of_name r.event.node ≢ p) far.more) (sym place_same) far.place_
 
   node_seen : node_by plan three name ≡ node_by plan seen name
   node_seen = ap (λ (rs : List Record). node_by plan rs name) far.is ∙ nodes_stay_through_others_records plan.founding seen far.more name far_seen
@@ -150,13 +150,13 @@ module _ (plan : RacePlan) (name caller call : ℕ) (seen one two three : List R
       let w : World = world_after plan.founding three in
       let e : Event = record { node = name; act = a } in
       let by : By = record { caller = caller; call = call; part = Turn lost } in
-      let here : current w (place_of name) ≡ name = current_name_has_first_life plan.founding three (lawful_journal_knows_its_world (terms_of plan) three whole) (place_of name)
-      ∙ (let n : name_at (place_of name) 1 ≡ name = omega arith in n) in
+      let here : current w (place_of_name name) ≡ name = current_name_has_first_life plan.founding three (lawful_journal_knows_its_world (terms_of plan) three whole) (place_of_name name)
+      ∙ (let n : name_of_place_and_life (place_of_name name) 1 ≡ name = omega arith in n) in
       let ready : not (is_ready (w.nodes name) (own_of (of_call caller call three))) ≡ true =
       ap (λ (m : Node). not (is_ready m (own_of (of_call caller call three)))) node_seen
       ∙ ap (λ (rs : List Record). not (is_ready (node_by plan seen name) (own_of rs))) left.call ∙ ap not unready
       in
-      let turn : is_turn_of (plan_by (terms_of plan)) three (up_to_last (place_of name) caller three) (w.nodes name) name caller a lost ≡ true =
+      let turn : is_turn_of (plan_by (terms_of plan)) three (up_to_last (place_of_name name) caller three) (w.nodes name) name caller a lost ≡ true =
       ap (λ (p : ℕ). is_turn_of (plan_by (terms_of plan)) three (up_to_last p caller three) (w.nodes name) name caller a lost) place_same ∙ is
       in
       subst (λ (k : ℕ). turns_at (plan_by (terms_of plan)) three w k e by ≡ true) (sym here) (and_from _ _ ready turn)
@@ -177,12 +177,12 @@ module _ (plan : RacePlan) (name caller call : ℕ) (seen one two three : List R
       ∙ ap (λ (l : ℕ). is_turn_of (plan_by (terms_of plan)) three knew (node_by plan three name) name caller (act.GiveUp given.other) l) given.lost_
       ∙ and_from _ _ waited least)
 
-  same_cursor : cursor (place_of name) three ≡ cursor name seen
+  same_cursor : cursor (place_of_name name) three ≡ cursor name seen
   same_cursor = ap (λ (p : ℕ). cursor p three) place_same ∙ ap (λ (rs : List Record). greatest_number (map passed_number rs)) left.place
 
-  same_last : last_heard (place_of name) three ≡ last_heard name seen
+  same_last : last_heard (place_of_name name) three ≡ last_heard name seen
   same_last = ap (λ (p : ℕ). last_heard p three) place_same ∙ ap
-      (λ (rs : List Record). unless_nought (greatest_number (map (λ r. heard_by r.event.act) rs))) left.place
+      (λ (rs : List Record). unless_nought (greatest_number (map (λ r. packet_heard_by_act r.event.act) rs))) left.place
 
   same_words : words_drawn caller three ≡ words_drawn caller seen
   same_words = ap (λ (rs : List Record). count_by (λ r. is_turn_part r.by.part && nat_lt 0 (passed_number r)) rs) left.caller
@@ -198,7 +198,7 @@ module _ (plan : RacePlan) (name caller call : ℕ) (seen one two three : List R
   chosen_turn a lost said c =
       turn_at a lost (subst (λ (t : Act × ℕ). is_turn_of (plan_by (terms_of plan)) three knew (node_by plan three name) name caller t.0 t.1
       ≡ true) (λ i. (sym c.act_ i, sym c.lost_ i))
-      (by_ahead (next_for (letters_of two) name (cursor name seen)) refl said c.is))
+      (by_ahead (next_for (letters_of_records two) name (cursor name seen)) refl said c.is))
     where
       luck : Luck
       luck = caller_luck_after plan caller (words_drawn caller seen)
@@ -207,23 +207,23 @@ module _ (plan : RacePlan) (name caller call : ℕ) (seen one two three : List R
       nobody = nobody_known c.nobody
 
       -- the choice is that by all letters
-      by_all : (n : ℕ) → next_for (letters_of two) name (cursor name seen) ≡ Some n → (x : Choice) → x ≡ choice_of luck (Some n) (last_heard name seen)
-          → is_choice (plan_by (terms_of plan)) three (place_of name) name caller (act_of x) (lost_in x) ≡ true
+      by_all : (n : ℕ) → next_for (letters_of_records two) name (cursor name seen) ≡ Some n → (x : Choice) → x ≡ choice_of luck (Some n) (last_heard name seen)
+          → is_choice (plan_by (terms_of plan)) three (place_of_name name) name caller (act_of x) (lost_in x) ≡ true
       by_all n e x is =
-          let there : next_for (letters_of three) name (cursor (place_of name) three) ≡ Some n =
-          ap (next_for (letters_of three) name) same_cursor ∙ ap (λ (ls : List Letter). next_for ls name (cursor name seen)) (ap letters_of two_three
+          let there : next_for (letters_of_records three) name (cursor (place_of_name name) three) ≡ Some n =
+          ap (next_for (letters_of_records three) name) same_cursor ∙ ap (λ (ls : List Letter). next_for ls name (cursor name seen)) (ap letters_of_records two_three
           ∙ letters_more two past_two)
-          ∙ next_letter_stays_among_more (letters_of two) (letters_of past_two) name (cursor name seen) n e
+          ∙ next_letter_stays_among_more (letters_of_records two) (letters_of_records past_two) name (cursor name seen) n e
           in
-          let said_ : choice_after (plan_by (terms_of plan)) caller (words_drawn caller three) (next_for (letters_of three) name (cursor (place_of name) three))
-          (last_heard (place_of name) three) ≡ x =
-          ap (λ (k : ℕ). choice_after (plan_by (terms_of plan)) caller k (next_for (letters_of three) name (cursor (place_of name) three))
-          (last_heard (place_of name) three)) same_words
-          ∙ ap (λ (o : Option ℕ). choice_of luck o (last_heard (place_of name) three)) there ∙ ap (choice_of luck (Some n)) same_last ∙ sym is
+          let said_ : choice_after (plan_by (terms_of plan)) caller (words_drawn caller three) (next_for (letters_of_records three) name (cursor (place_of_name name) three))
+          (last_heard (place_of_name name) three) ≡ x =
+          ap (λ (k : ℕ). choice_after (plan_by (terms_of plan)) caller k (next_for (letters_of_records three) name (cursor (place_of_name name) three))
+          (last_heard (place_of_name name) three)) same_words
+          ∙ ap (λ (o : Option ℕ). choice_of luck o (last_heard (place_of_name name) three)) there ∙ ap (choice_of luck (Some n)) same_last ∙ sym is
           in
           ap (λ (y : Choice). follows y (act_of x) (lost_in x)) said_ ∙ follows_itself x
 
-      by_choice : (n : ℕ) → next_for (letters_of two) name (cursor name seen) ≡ Some n → 0 < n → (x : Choice)
+      by_choice : (n : ℕ) → next_for (letters_of_records two) name (cursor name seen) ≡ Some n → 0 < n → (x : Choice)
           → x ≡ choice_of luck (Some n) (last_heard name seen) → is_tick x ≡ false
           → is_turn_of (plan_by (terms_of plan)) three knew (node_by plan three name) name caller (act_of x) (lost_in x) ≡ true
       by_choice n e some choice.Tick is ticks = absurd (true≢false ticks)
@@ -232,15 +232,15 @@ module _ (plan : RacePlan) (name caller call : ℕ) (seen one two three : List R
       by_choice n e some (choice.Hear k) is ticks = and_from _ _ nobody (by_all n e (choice.Hear k) is)
       by_choice n e some (choice.Repeat k) is ticks = and_from _ _ nobody (by_all n e (choice.Repeat k) is)
 
-      by_ahead : (o : Option ℕ) → next_for (letters_of two) name (cursor name seen) ≡ o → (x : Choice)
-          → x ≡ choice_of luck (next_for (letters_of two) name (cursor name seen)) (last_heard name seen)
+      by_ahead : (o : Option ℕ) → next_for (letters_of_records two) name (cursor name seen) ≡ o → (x : Choice)
+          → x ≡ choice_of luck (next_for (letters_of_records two) name (cursor name seen)) (last_heard name seen)
           → is_turn_of (plan_by (terms_of plan)) three knew (node_by plan three name) name caller (act_of x) (lost_in x) ≡ true
       by_ahead None e x is =
           let tick : x ≡ choice.Tick = is ∙ ap (λ (p : Option ℕ). choice_of luck p (last_heard name seen)) e in
-          let none : is_none (next_for (letters_of knew) name (cursor (place_of name) three)) ≡ true =
-          ap (λ (k : ℕ). is_none (next_for (letters_of knew) name k)) same_cursor
+          let none : is_none (next_for (letters_of_records knew) name (cursor (place_of_name name) three)) ≡ true =
+          ap (λ (k : ℕ). is_none (next_for (letters_of_records knew) name k)) same_cursor
           ∙ ap is_none (ahead_fewer knew (knew_in.0 ++ from_two) name (cursor name seen)
-          (ap (λ (rs : List Record). next_for (letters_of rs) name (cursor name seen)) (sym in_two) ∙ e))
+          (ap (λ (rs : List Record). next_for (letters_of_records rs) name (cursor name seen)) (sym in_two) ∙ e))
           in
           subst (λ (y : Choice). is_turn_of (plan_by (terms_of plan)) three knew (node_by plan three name) name caller (act_of y) (lost_in y)
           ≡ true) (sym tick) (and_from _ _ nobody none)
@@ -252,13 +252,13 @@ module _ (plan : RacePlan) (name caller call : ℕ) (seen one two three : List R
 -- ---- whatever was found
 
 far_of : (name : ℕ) (before after : List Record) → name < 16 → GoesOn (Place name ∷ []) before after
-    → All (λ r. place_of r.event.node ≢ place_of name) (drop (length before) after)
+    → All (λ r. place_of_name r.event.node ≢ place_of_name name) (drop (length before) after)
 far_of name before after low goes = λ k d h.
     let more : List Record = drop (length before) after in
     let none = later_records_lack_key (Place name) before more (ap (of_key (Place name)) (sym (log_is_start_and_rest after before goes.begins))
     ∙ goes.own (Place name) (own_key_times_positive (Place name))) in
-    unequal_test_means_different (place_of (get_or more k d).event.node) (place_of name)
-    (ap (λ (p : ℕ). place_of (get_or more k d).event.node == p) (let s : place_of name ≡ name = omega arith in s) ∙ none k d h)
+    unequal_test_means_different (place_of_name (get_or more k d).event.node) (place_of_name name)
+    (ap (λ (p : ℕ). place_of_name (get_or more k d).event.node == p) (let s : place_of_name name ≡ name = omega arith in s) ∙ none k d h)
 
 through : (name : ℕ) (a b c : List Record) → GoesOn (Place name ∷ []) a b → GoesOn (Place name ∷ []) b c → GoesOn (Place name ∷ []) a c
 through name a b c p q = records_go_on_through_both (Place name ∷ []) (Place name ∷ []) a b c (λ key h. h) p q
@@ -286,11 +286,11 @@ turn_found plan luck name caller call seen last three a lost low whole far first
     (drop (length two) three) (log_is_start_and_rest three two to_two.begins) (drop (length seen) two) (log_is_start_and_rest two seen in_two.begins)
     (far_of name one three low to_one) unready a lost chose.picked.said (record {
       nobody = chose.nobody;
-      is = chose.picked.is ∙ ap (λ (l : Luck). choice_of l (next_for (letters_of two) name (cursor name one)) (last_heard name one)) is
-          ∙ ap (λ (k : ℕ). choice_of (caller_luck_after plan caller (words_drawn caller seen)) (next_for (letters_of two) name k) (last_heard name one))
+      is = chose.picked.is ∙ ap (λ (l : Luck). choice_of l (next_for (letters_of_records two) name (cursor name one)) (last_heard name one)) is
+          ∙ ap (λ (k : ℕ). choice_of (caller_luck_after plan caller (words_drawn caller seen)) (next_for (letters_of_records two) name k) (last_heard name one))
           (ap (λ (rs : List Record). greatest_number (map passed_number rs)) same)
-          ∙ ap (choice_of (caller_luck_after plan caller (words_drawn caller seen)) (next_for (letters_of two) name (cursor name seen)))
-          (ap (λ (rs : List Record). unless_nought (greatest_number (map (λ r. heard_by r.event.act) rs))) same);
+          ∙ ap (choice_of (caller_luck_after plan caller (words_drawn caller seen)) (next_for (letters_of_records two) name (cursor name seen)))
+          (ap (λ (rs : List Record). unless_nought (greatest_number (map (λ r. packet_heard_by_act r.event.act) rs))) same);
       act_ = chose.picked.act_;
       lost_ = chose.picked.lost_;
     })

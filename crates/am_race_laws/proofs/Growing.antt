@@ -1,6 +1,6 @@
 -- What a caller has seen grows by the records of one call.
 use Rattle.am_race_laws.proofs.Words.{◌≡◌, ℕ, suc, ◌<◌, List, [], ◌∷◌, ◌++◌, filter, cond, Bool, true, false, sym, refl, ap, ◌∙◌, arith}
-use Rattle.am_race_laws.proofs.Words.{append_assoc, append-nil, eq-eqb, ne_eqb, All, ◌==◌, list_all, and_parts, filter-append, list_all-append, place_of}
+use Rattle.am_race_laws.proofs.Words.{append_assoc, append-nil, eq-eqb, ne_eqb, All, ◌==◌, list_all, and_parts, filter-append, list_all-append, place_of_name}
 use Rattle.am_race_laws.proofs.Words.{Record, Caller, GoesOn, append_starts_with_front, starts_with_through_both, Tag, of_caller, of_call, Grown, CallerHasSeenMore}
 use Rattle.am_race_laws.proofs.Boxing.{own_key_times_positive}
 use Rattle.std.proofs.lemmas.Bool.{and_from}
@@ -59,7 +59,7 @@ no_growth_without_own_record place tag old new goes = record {
   place_ = refl;
 }
 
-pub growth_by_one_record : (place : ℕ) (tag : Tag) (old new : List Record) (item : Record) → Grown tag.caller old new item → place_of item.event.node ≡ place
+pub growth_by_one_record : (place : ℕ) (tag : Tag) (old new : List Record) (item : Record) → Grown tag.caller old new item → place_of_name item.event.node ≡ place
     → item.by.caller ≡ tag.caller
     → item.by.call ≡ tag.call → CallerHasSeenMore place tag old new (item ∷ [])
 growth_by_one_record place tag old new item grown at caller call =
@@ -70,7 +70,7 @@ growth_by_one_record place tag old new item grown at caller call =
           ∙ ap (λ (b : Bool). of_caller tag.caller old ++ cond b (item ∷ []) []) its;
       caller = list_all_of_one_item (λ (r : Record). r.by.caller == tag.caller) item its;
       call = list_all_of_one_item (λ (r : Record). r.by.call == tag.call) item (eq-eqb item.by.call tag.call call);
-      place_ = list_all_of_one_item (λ (r : Record). place_of r.event.node == place) item (eq-eqb (place_of item.event.node) place at);
+      place_ = list_all_of_one_item (λ (r : Record). place_of_name r.event.node == place) item (eq-eqb (place_of_name item.event.node) place at);
     }
 
 pub growth_through_middle : (place : ℕ) (tag : Tag) (old middle new xs ys : List Record) → CallerHasSeenMore place tag old middle xs → CallerHasSeenMore place tag middle new ys
@@ -80,5 +80,5 @@ growth_through_middle place tag old middle new xs ys a b = record {
   all = b.all ∙ ap (λ (l : List Record). l ++ ys) a.all ∙ append_assoc (of_caller tag.caller old) xs ys;
   caller = list_all_of_appended_lists (λ (r : Record). r.by.caller == tag.caller) xs ys a.caller b.caller;
   call = list_all_of_appended_lists (λ (r : Record). r.by.call == tag.call) xs ys a.call b.call;
-  place_ = list_all_of_appended_lists (λ (r : Record). place_of r.event.node == place) xs ys a.place_ b.place_;
+  place_ = list_all_of_appended_lists (λ (r : Record). place_of_name r.event.node == place) xs ys a.place_ b.place_;
 }

@@ -1,8 +1,8 @@
 -- What a caller's hand is behind a record, when its call is ready, and which acts it may do.
 use Rattle.am_race_laws.proofs.Words.{◌≡◌, ℕ, zero, suc, ◌+◌, ◌<◌, ◌≤◌, List, [], ◌∷◌, ◌++◌, cond, max, Bool, true, false, true≢false, Option, Some, None, sym}
 use Rattle.am_race_laws.proofs.Words.{refl, ap, ◌∙◌, subst, arith, nat_lt, count_by, sum_by, ◌==◌, ◌&&◌, if◌then◌else◌, not, and_parts, lt-ltb, le-leb}
-use Rattle.am_race_laws.proofs.Words.{sum_by-cons, sum_by-append, none-some, TableId, Outcome, NodeEvent, place_of, name_at, Letter, Act, By, Part, Turn, Record}
-use Rattle.am_race_laws.proofs.Words.{RacePlan, heard_by, Node, World, current, IsEndOf, Choice, Luck, again, draw, after_draw, choice_of, act_of, whole_step_comes_to_end, Caller}
+use Rattle.am_race_laws.proofs.Words.{sum_by-cons, sum_by-append, none-some, TableId, Outcome, NodeEvent, place_of_name, name_of_place_and_life, Letter, Act, By, Part, Turn, Record}
+use Rattle.am_race_laws.proofs.Words.{RacePlan, packet_heard_by_act, Node, World, current, IsEndOf, Choice, Luck, again, draw, after_draw, choice_of, act_of, whole_step_comes_to_end, Caller}
 use Rattle.am_race_laws.proofs.Words.{WireRefusal, Known, GoesOn, has_stopped, Tag, Came, world_after, of_caller, of_call, own_of, is_turn_part, up_to_last}
 use Rattle.am_race_laws.proofs.Words.{is_take, is_end_of, passed_number, lost_by, words_drawn, later, is_waited, is_least, is_turn_of, is_turn, unless_nought}
 use Rattle.am_race_laws.proofs.Words.{is_due, may_end, is_ready, is_ready_after, may_take, is_of_race, plan_by, terms_of, IsHand, caller_luck_after, is_call, Steps}
@@ -18,8 +18,8 @@ use Rattle.am_race_laws.proofs.{Requests.own_requests_once_in_runs, Requests.Own
 -- ---- words
 
 -- where a letter was heard or lost, one word was drawn
-one_word : (luck : Luck) (a : Act) (lost : ℕ) → 0 < max (heard_by a) lost → record luck { words = after_draw luck.words } ≡ luck_behind luck a lost
-one_word luck a lost some = rw (lt-ltb 0 (max (heard_by a) lost) some) refl
+one_word : (luck : Luck) (a : Act) (lost : ℕ) → 0 < max (packet_heard_by_act a) lost → record luck { words = after_draw luck.words } ≡ luck_behind luck a lost
+one_word luck a lost some = rw (lt-ltb 0 (max (packet_heard_by_act a) lost) some) refl
 
 luck_drawn : (luck : Luck) (ahead last : Option ℕ) → ((n : ℕ) → ahead ≡ Some n → 0 < n) → ((k : ℕ) → last ≡ Some k → 0 < k)
     → pump.luck_after luck ahead ≡ luck_behind luck (act_of (choice_of luck ahead last)) (lost_in (choice_of luck ahead last))
@@ -89,8 +89,8 @@ pub hand_stays_after_asking_record : (wire : TableId) (plan : RacePlan) (by : By
 unfolding counts_word
 hand_stays_after_asking_record wire plan by share share' luck item hand its grown is no_turn =
     let tag : Tag = record { caller = by.caller; call = by.call } in
-    let grows = growth_by_one_record (place_of item.event.node) tag share.seen share'.seen item grown refl (ap (λ (b : By). b.caller) is) (ap (λ (b : By). b.call) is) in
-    let more = words_more (place_of item.event.node) tag share.seen share'.seen item grows in
+    let grows = growth_by_one_record (place_of_name item.event.node) tag share.seen share'.seen item grown refl (ap (λ (b : By). b.caller) is) (ap (λ (b : By). b.call) is) in
+    let more = words_more (place_of_name item.event.node) tag share.seen share'.seen item grows in
     let none : ◌≡◌ {A = ℕ} (cond (counts_word item) 1 0) 0 =
     ap (λ (b : Bool). cond (b && nat_lt 0 (passed_number item)) 1 0) (ap (λ (b : By). is_turn_part b.part) is ∙ no_turn) in
     let same : words_drawn by.caller share'.seen ≡ words_drawn by.caller share.seen = omega arith in
@@ -110,17 +110,17 @@ pub hand_moves_on_after_turn : (wire : TableId) (plan : RacePlan) (by : By) (sha
 unfolding counts_word
 hand_moves_on_after_turn wire plan by share share' luck luck' a lost item hand its grown is part did drew =
     let tag : Tag = record { caller = by.caller; call = by.call } in
-    let grows = growth_by_one_record (place_of item.event.node) tag share.seen share'.seen item grown refl (ap (λ (b : By). b.caller) is) (ap (λ (b : By). b.call) is) in
-    let more = words_more (place_of item.event.node) tag share.seen share'.seen item grows in
+    let grows = growth_by_one_record (place_of_name item.event.node) tag share.seen share'.seen item grown refl (ap (λ (b : By). b.caller) is) (ap (λ (b : By). b.call) is) in
+    let more = words_more (place_of_name item.event.node) tag share.seen share'.seen item grows in
     let part_ : item.by.part ≡ Turn lost = ap (λ (b : By). b.part) is ∙ part in
-    let counted : counts_word item ≡ nat_lt 0 (max (heard_by a) lost) =
-    ap (λ (p : Part). is_turn_part p && nat_lt 0 (max (heard_by item.event.act) (lost_by p))) part_ ∙ ap (λ (x : Act). nat_lt 0 (max (heard_by x) lost)) did
+    let counted : counts_word item ≡ nat_lt 0 (max (packet_heard_by_act a) lost) =
+    ap (λ (p : Part). is_turn_part p && nat_lt 0 (max (packet_heard_by_act item.event.act) (lost_by p))) part_ ∙ ap (λ (x : Act). nat_lt 0 (max (packet_heard_by_act x) lost)) did
     in
     record {
       own = its.own;
       terms = its.terms;
       keys = its.keys;
-      luck_ = drew ∙ by_word (nat_lt 0 (max (heard_by a) lost)) (words_drawn by.caller share'.seen)
+      luck_ = drew ∙ by_word (nat_lt 0 (max (packet_heard_by_act a) lost)) (words_drawn by.caller share'.seen)
           (more ∙ ap (λ (b : Bool). words_drawn by.caller share.seen + cond b 1 0) counted);
     }
   where
@@ -211,8 +211,8 @@ pub found_turn_may_be_done : (plan : RacePlan) (seen : List Record) (name : ℕ)
 unfolding is_turn
 found_turn_may_be_done plan seen name a by heard runs turn hears =
     let w : World = world_after plan.founding seen in
-    let k : ℕ = current w (place_of name) in
-    let its = turn_may plan seen k 0 (w.nodes k) by.caller a (lost_by by.part) (up_to_last (place_of k) by.caller seen)
+    let k : ℕ = current w (place_of_name name) in
+    let its = turn_may plan seen k 0 (w.nodes k) by.caller a (lost_by by.part) (up_to_last (place_of_name k) by.caller seen)
     (and_parts (not (is_ready (w.nodes k) (own_of (of_call by.caller by.call seen)))) _ turn).1 in
     record { race = its.0; runs = runs; hears = hears; given = its.1 }
 
@@ -238,9 +238,9 @@ pub asked_act_is_timely : (wire : TableId) (plan : RacePlan) (name : ℕ) (pass 
 unfolding may_end
 asked_act_is_timely wire plan name pass m far last stopped closed b a by is box none_ due =
     let low = box.place in
-    let first : name_at (place_of name) 1 ≡ name = omega arith in
-    let its_name : current (world_after plan.founding pass.seen) (place_of name) ≡ name =
-    current_name_has_first_life plan.founding pass.seen (lawful_journal_knows_its_world (terms_of plan) pass.seen box.lawful) (place_of name) ∙ first in
+    let first : name_of_place_and_life (place_of_name name) 1 ≡ name = omega arith in
+    let its_name : current (world_after plan.founding pass.seen) (place_of_name name) ≡ name =
+    current_name_has_first_life plan.founding pass.seen (lawful_journal_knows_its_world (terms_of plan) pass.seen box.lawful) (place_of_name name) ∙ first in
     subst (λ (x : Boxed). (is_end_of by.part a ≡ true → is_due plan (node_by plan x.seen x.name) (of_call by.caller by.call x.seen) ≡ true)
     → IsTimely plan x.seen (record { node = x.name; act = a }) by) is (λ d. record {
       turn = λ turn. absurd (true≢false (sym turn ∙ none_));

@@ -1,7 +1,7 @@
 -- A journal is legal where each of its records comes next.
 use Rattle.am_race_laws.proofs.Words.{◌≡◌, ◌+◌, List, [], ◌∷◌, ◌++◌, map, Bool, true, false, true≢false, sym, refl, ap, ◌∙◌, subst, append-nil, append_assoc}
-use Rattle.am_race_laws.proofs.Words.{drop, length, drop-append_seam, fold, Rules, Event, Record, World, start, with_record, with_step, happens, happen}
-use Rattle.am_race_laws.proofs.Words.{record_of, no_caller, with_tag, Happens, idles, stops, returns, steps, events_have_effects, tells, world_after, IsNext}
+use Rattle.am_race_laws.proofs.Words.{drop, length, drop-append_seam, fold, Rules, Event, Record, World, start, world_with_record, world_with_step, happens, world_after_events}
+use Rattle.am_race_laws.proofs.Words.{record_of, no_caller, with_tag, EventHappens, idles, stops, returns, steps, events_have_effects, tells, world_after, IsNext}
 use Rattle.am_race_laws.proofs.Words.{EachIsNext}
 use Rattle.am_base.specs.declared.outcome.Outcome.TheVariants as said
 
@@ -13,8 +13,8 @@ record Adds (w w' : World) : Type 0 where
   pub records : w'.records ≡ w.records ++ item ∷ []
   pub letters : w'.letters ≡ w.letters ++ item.packets
 
-adds : (w : World) (e : Event) (v : World) → Happens w e v → Adds w v
-unfolding with_record with_step
+adds : (w : World) (e : Event) (v : World) → EventHappens w e v → Adds w v
+unfolding world_with_record world_with_step
 adds w e v (idles o idle) = record { item = record_of w e o []; untagged = refl; records = refl; letters = sym (append-nil w.letters) }
 adds w e v (stops runs) = record { item = record_of w e said.Stopped []; untagged = refl; records = refl; letters = sym (append-nil w.letters) }
 adds w e v (returns place is left more) = record {
@@ -40,7 +40,7 @@ nil_is_no_cons r rest e = true≢false (ap is_nil e)
 
 -- the run of a journal's events from a world on has its records
 LegalFrom : World → List Record → Type 0
-LegalFrom w journal = (happen w (map (λ r. r.event) journal)).records ≡ w.records ++ map (λ r. with_tag no_caller r) journal
+LegalFrom w journal = (world_after_events w (map (λ r. r.event) journal)).records ≡ w.records ++ map (λ r. with_tag no_caller r) journal
 
 NextAt : World → Record → Type 0
 NextAt w r = (happens w r.event).records ≡ w.records ++ with_tag no_caller r ∷ []
@@ -55,8 +55,8 @@ tail_is : (x y : Record) (xs ys : List Record) → x ∷ xs ≡ y ∷ ys → xs 
 tail_is x y xs ys e = ap (drop 1) e
 
 -- a run only adds records
-run_adds : (w : World) (events : List Event) → (more : List Record) × ((happen w events).records ≡ w.records ++ more)
-unfolding happen
+run_adds : (w : World) (events : List Event) → (more : List Record) × ((world_after_events w events).records ≡ w.records ++ more)
+unfolding world_after_events
 run_adds w [] = ([], sym (append-nil w.records))
 run_adds w (e ∷ es) =
     let a = happens_adds w e in
@@ -80,7 +80,7 @@ told_record_is_its_event rules before r next = same_world (world_after rules bef
 
 -- the first record, and those behind it
 first_next : (w : World) (r : Record) (rest : List Record) → LegalFrom w (r ∷ rest) → NextAt w r × LegalFrom (happens w r.event) rest
-unfolding LegalFrom NextAt happen
+unfolding LegalFrom NextAt world_after_events
 first_next w r rest legal =
     let a = happens_adds w r.event in
     let m = run_adds (happens w r.event) (map (λ q. q.event) rest) in
@@ -91,7 +91,7 @@ first_next w r rest legal =
     (a.records ∙ ap (λ (q : Record). w.records ++ q ∷ []) item, m.1 ∙ ap (λ (l : List Record). (happens w r.event).records ++ l) more)
 
 next_first : (w : World) (r : Record) (rest : List Record) → NextAt w r → LegalFrom (happens w r.event) rest → LegalFrom w (r ∷ rest)
-unfolding LegalFrom NextAt happen
+unfolding LegalFrom NextAt world_after_events
 next_first w r rest next legal = legal ∙ ap (λ (l : List Record). l ++ map (λ q. with_tag no_caller q) rest) next
     ∙ append_assoc w.records (with_tag no_caller r ∷ []) (map (λ q. with_tag no_caller q) rest)
 
@@ -112,7 +112,7 @@ all_next w (q ∷ journal) legal (b ∷ before) rest r e =
     (go before rest r (tail_is q b journal (before ++ r ∷ rest) e))
 
 legal_from : (w : World) (journal : List Record) → AllNext w journal → LegalFrom w journal
-unfolding AllNext LegalFrom happen
+unfolding AllNext LegalFrom world_after_events
 legal_from w [] each = sym (append-nil w.records)
 legal_from w (r ∷ journal) each =
     let next : NextAt w r = each [] journal r refl in

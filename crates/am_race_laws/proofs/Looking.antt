@@ -1,6 +1,6 @@
 -- One look at a node: a turn, an own act or an end, and what the caller's hand is then.
 use Rattle.am_race_laws.proofs.Words.{◌≡◌, ℕ, ◌≤◌, List, [], ◌∷◌, length, Bool, true, false, true≢false, Option, None, Result, Ok, Err, IfOk, IfErr, OnOk, sym}
-use Rattle.am_race_laws.proofs.Words.{refl, ap, ◌∙◌, subst, append-nil, count_by, TableId, most_events, Outcome, Letter, Act, By, Call, Turn, Record, RacePlan}
+use Rattle.am_race_laws.proofs.Words.{refl, ap, ◌∙◌, subst, append-nil, count_by, TableId, most_events_of_run, Outcome, Letter, Act, By, Call, Turn, Record, RacePlan}
 use Rattle.am_race_laws.proofs.Words.{Node, Luck, SharerKey, Caller, WireRefusal, Known, Sees, GoesOn, has_stopped, records_go_on_through_both, records_go_on_to_themselves, CallAnswer, Tag, Looked, Came}
 use Rattle.am_race_laws.proofs.Words.{of_call, own_of, is_own, is_turn_part, is_turn, is_due, plan_by, terms_of, IsHand, what_of, MayAct, Hears, Boxed}
 use Rattle.am_race_laws.proofs.Words.{IsShareOf, Acted, IsRefused, refusal_answer, BoxLooks, node_by, turn_event_at, by_of, end_act, end_part, IsCame, luck_behind}
@@ -42,13 +42,13 @@ share_still : (wire : TableId) (plan : RacePlan) (caller : ℕ) (share share' : 
     → IsShareOf wire plan caller share'
 share_still wire plan caller share share' its sees = record { own = sees.wire ∙ its.own; terms = sees.terms ∙ its.terms; keys = sees.keys ∙ its.keys }
 
-refused_for : (seen : List Record) (name : ℕ) (refusal : WireRefusal) → (refusal ≡ refusals.Spent → length seen ≡ most_events)
+refused_for : (seen : List Record) (name : ℕ) (refusal : WireRefusal) → (refusal ≡ refusals.Spent → length seen ≡ most_events_of_run)
     → IsRefused seen name (refusal_answer refusal)
 refused_for seen name refusals.NoMemory full = tt
 refused_for seen name refusals.Spent full = full refl
 
 pub refused_box_gives_refusal : (name : ℕ) (seen shown : List Record) (refusal : WireRefusal) (its : CallAnswer) → shown ≡ seen
-    → (refusal ≡ refusals.Spent → length seen ≡ most_events) → its ≡ refusal_answer refusal
+    → (refusal ≡ refusals.Spent → length seen ≡ most_events_of_run) → its ≡ refusal_answer refusal
     → IsRefused shown name its
 refused_box_gives_refusal name seen shown refusal its same full is =
     subst (λ (a : CallAnswer). IsRefused shown name a) (sym is) (refused_for shown name refusal (λ e. ap length same ∙ full e))
@@ -146,7 +146,7 @@ hand_stays_at_meeting wire plan caller share share' luck hand sees =
 
 -- where its box does more, the hand meets it
 pub box_meets_the_hand : (wire : TableId) (plan : RacePlan) (caller : ℕ) (box : Boxed) (share : Known) (luck : Luck) (r : Result (Unit {0}) CallAnswer)
-    → IsHand wire plan caller share luck → length box.seen ≤ most_events → share.seen ≡ box.seen → OnOk r (box.closed ≡ None)
+    → IsHand wire plan caller share luck → length box.seen ≤ most_events_of_run → share.seen ≡ box.seen → OnOk r (box.closed ≡ None)
     → OnOk r (has_stopped box.seen box.name ≡ false) → OnOk r (Meets wire plan caller box share luck)
 box_meets_the_hand wire plan caller box share luck (Err its) hand few same open_ runs = tt
 box_meets_the_hand wire plan caller box share luck (Ok x) hand few same open_ runs = record { hand = hand; open_ = open_; runs = runs; few = few; same = same }

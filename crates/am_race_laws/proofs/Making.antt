@@ -2,7 +2,7 @@
 use Rattle.am_race_laws.proofs.Words.{◌≡◌, ℕ, zero, suc, ◌+◌, ◌-◌, ◌<◌, ◌≤◌, List, [], ◌∷◌, ◌++◌, length, get_or, take, drop, cond, Bool, true, false}
 use Rattle.am_race_laws.proofs.Words.{true≢false, Option, Some, None, sym, refl, ap, ◌∙◌, subst, arith, append-nil, length-append, ne_eqb, nat_le, unwrap_or}
 use Rattle.am_race_laws.proofs.Words.{slice_get, count_by, All, ◌==◌, ◌&&◌, if◌then◌else◌, list_all, prefix_len, and_parts, le-leb, eqb-true, All-append}
-use Rattle.am_race_laws.proofs.Words.{sum_by-append, none-some, Outcome, place_of, Act, By, Record, RacePlan, Caller, GoesOn, records_go_on_to_themselves, CallAnswer, Tag, Came}
+use Rattle.am_race_laws.proofs.Words.{sum_by-append, none-some, Outcome, place_of_name, Act, By, Record, RacePlan, Caller, GoesOn, records_go_on_to_themselves, CallAnswer, Tag, Came}
 use Rattle.am_race_laws.proofs.Words.{of_caller, of_call, own_of, is_turn_part, own_answer, answer_or_else, late_after, late, is_take, answer_of, IsRefused, same_act}
 use Rattle.am_race_laws.proofs.Words.{is_one_call, is_receive, at_one_place, first_call, records_behind, are_calls, is_callers, Calling, IsUnanswered, IsAnswerOfCall, HasMade}
 use Rattle.am_race_laws.proofs.Words.{Called, is_call, has_check, told_at_end, request_in_call, IsCame, CallHasBegun, Began, TurnIsMade, EndIsMade, WasRefused, CallerHasSeenMore, Made}
@@ -30,7 +30,7 @@ answer_is turns mine seen node answer.Spent plain is = absurd (true≢false (sym
 answer_is turns mine seen node answer.NoMemory plain is = absurd (true≢false (sym plain))
 answer_is turns mine seen node _ plain is = is
 
-refused_is : (turns : ℕ) (mine seen : List Record) (node : ℕ) (its : CallAnswer) → IsUnanswered turns mine → IsRefused seen (place_of node) its
+refused_is : (turns : ℕ) (mine seen : List Record) (node : ℕ) (its : CallAnswer) → IsUnanswered turns mine → IsRefused seen (place_of_name node) its
     → IsAnswerOfCall turns mine seen node its
 refused_is turns mine seen node answer.Stopped none is = (is, none)
 refused_is turns mine seen node answer.Spent none is = (is, none)
@@ -45,25 +45,25 @@ not_spent its plain e = true≢false (sym plain ∙ ap answer_is_plain e)
 -- so many turns were made of a call that had begun, and it would be this late
 pub record CallHasTurned (plan : RacePlan) (node : ℕ) (tag : Tag) (request : Option ℕ) (old new : List Record) (spent : ℕ) (its : CallAnswer) : Type 0 where
   pub mine : List Record
-  pub grows : CallerHasSeenMore (place_of node) tag old new mine
+  pub grows : CallerHasSeenMore (place_of_name node) tag old new mine
   pub turns : RecordsAreTurns mine
   pub count : length mine ≡ spent
   pub late_ : its ≡ late plan.turns request mine
 
-pub call_begins_without_turns : (plan : RacePlan) (node : ℕ) (tag : Tag) (request : Option ℕ) (seen : List Record) → CallerHasSeenMore (place_of node) tag seen seen []
+pub call_begins_without_turns : (plan : RacePlan) (node : ℕ) (tag : Tag) (request : Option ℕ) (seen : List Record) → CallerHasSeenMore (place_of_name node) tag seen seen []
     → CallHasTurned plan node tag request seen seen 0 (answer.Late plan.turns)
 call_begins_without_turns plan node tag request seen grows = record { mine = []; grows = grows; turns = refl; count = refl; late_ = refl }
 
-its_place : (node : ℕ) (item : Record) → item.event.node ≡ place_of node → place_of item.event.node ≡ place_of node
+its_place : (node : ℕ) (item : Record) → item.event.node ≡ place_of_name node → place_of_name item.event.node ≡ place_of_name node
 its_place node item e = omega arith
 
 pub call_with_one_more_turn : (plan : RacePlan) (node : ℕ) (tag : Tag) (request : Option ℕ) (old middle new : List Record) (spent : ℕ) (its : CallAnswer) (outcome : Outcome)
-    → CallHasTurned plan node tag request old middle spent its → TurnIsMade (place_of node) tag outcome middle new
+    → CallHasTurned plan node tag request old middle spent its → TurnIsMade (place_of_name node) tag outcome middle new
     → CallHasTurned plan node tag request old new (spent + 1) (late_after request its outcome)
 call_with_one_more_turn plan node tag request old middle new spent its outcome so t =
-    let one = growth_by_one_record (place_of node) tag middle new t.item t.grown (its_place node t.item t.is.node) t.is.caller t.is.call in record {
+    let one = growth_by_one_record (place_of_name node) tag middle new t.item t.grown (its_place node t.item t.is.node) t.is.caller t.is.call in record {
       mine = so.mine ++ t.item ∷ [];
-      grows = growth_through_middle (place_of node) tag old middle new so.mine (t.item ∷ []) so.grows one;
+      grows = growth_through_middle (place_of_name node) tag old middle new so.mine (t.item ∷ []) so.grows one;
       turns = list_all_of_appended_lists (λ (r : Record). is_turn_part r.by.part) so.mine (t.item ∷ []) so.turns
           (list_all_of_one_item (λ (r : Record). is_turn_part r.by.part) t.item t.is.part);
       count = let l = length-append so.mine (t.item ∷ []) in let c = so.count in omega arith;
@@ -89,7 +89,7 @@ pub own_outcome_stays_after_turns : (plan : RacePlan) (node : ℕ) (tag : Tag) (
     → CallHasBegun a came (of_call tag.caller tag.call old) → CallHasTurned plan node tag request old new spent its
     → IsCame a came (own_of (of_call tag.caller tag.call new))
 own_outcome_stays_after_turns plan node tag a came request old new spent its begun so =
-    rw (records_of_call_grow (place_of node) tag old new so.mine so.grows) (own_came a came (of_call tag.caller tag.call old) so.mine begun so.turns)
+    rw (records_of_call_grow (place_of_name node) tag old new so.mine so.grows) (own_came a came (of_call tag.caller tag.call old) so.mine begun so.turns)
 
 -- all turns that it made are among its records
 pub spent_turns_are_all_turns : (plan : RacePlan) (node : ℕ) (tag : Tag) (request : Option ℕ) (old new : List Record) (spent : ℕ) (its : CallAnswer)
@@ -97,7 +97,7 @@ pub spent_turns_are_all_turns : (plan : RacePlan) (node : ℕ) (tag : Tag) (requ
     → plan.turns ≤ count_by (λ r. is_turn_part r.by.part) (of_call tag.caller tag.call new)
 spent_turns_are_all_turns plan node tag request old new spent its so used =
     let first : List Record = of_call tag.caller tag.call old in
-    let all = ap (count_by (λ (r : Record). is_turn_part r.by.part)) (records_of_call_grow (place_of node) tag old new so.mine so.grows) in
+    let all = ap (count_by (λ (r : Record). is_turn_part r.by.part)) (records_of_call_grow (place_of_name node) tag old new so.mine so.grows) in
     let both_ = sum_by-append (λ (r : Record). cond (is_turn_part r.by.part) 1 0) first so.mine in
     let mine = count_of_turns_is_length so.mine so.turns in
     let c = so.count in
@@ -109,15 +109,15 @@ spent_turns_are_all_turns plan node tag request old new spent its so used =
 pub look_refused_call_is_made : (plan : RacePlan) (node : ℕ) (tag : Tag) (a : Act) (came : Option Came) (request : Option ℕ) (old middle new : List Record) (spent : ℕ)
     (late its : CallAnswer)
     → CallHasBegun a came (of_call tag.caller tag.call old) → CallHasTurned plan node tag request old middle spent late → spent ≤ plan.turns
-    → WasRefused (place_of node) tag.caller middle new its → Made plan node tag a (of_call tag.caller tag.call old) old new its
+    → WasRefused (place_of_name node) tag.caller middle new its → Made plan node tag a (of_call tag.caller tag.call old) old new its
 look_refused_call_is_made plan node tag a came request old middle new spent late its begun so le was =
     let first : List Record = of_call tag.caller tag.call old in
-    let all = growth_through_middle (place_of node) tag old middle new so.mine [] so.grows (no_growth_without_own_record (place_of node) tag middle new was.0) in
+    let all = growth_through_middle (place_of_name node) tag old middle new so.mine [] so.grows (no_growth_without_own_record (place_of_name node) tag middle new was.0) in
     let few = first_few a came first begun in
     let c = so.count in
     let l = length-append first so.mine in record {
       mine = so.mine;
-      grows = subst (CallerHasSeenMore (place_of node) tag old new) (append-nil so.mine) all;
+      grows = subst (CallerHasSeenMore (place_of_name node) tag old new) (append-nil so.mine) all;
       planned = call_with_turns_is_planned plan.turns a came first so.mine begun so.turns (omega arith);
       most = omega arith;
       spent = λ e. omega arith;
@@ -133,12 +133,12 @@ told_or_late turns spent (Some x) its used = refl
 pub call_that_ends_is_made : (plan : RacePlan) (node : ℕ) (tag : Tag) (a : Act) (came : Option Came) (old middle new : List Record) (spent : ℕ) (its : CallAnswer)
     (outcome : Outcome)
     → CallHasBegun a came (of_call tag.caller tag.call old) → CallHasTurned plan node tag (request_in_call a came) old middle spent its → spent ≤ plan.turns
-    → (told_at_end a outcome ≡ None → plan.turns ≤ spent) → EndIsMade (place_of node) tag a came outcome middle new
+    → (told_at_end a outcome ≡ None → plan.turns ≤ spent) → EndIsMade (place_of_name node) tag a came outcome middle new
     → Made plan node tag a (of_call tag.caller tag.call old) old new (unwrap_or (told_at_end a outcome) (late_after (request_in_call a came) its outcome))
 call_that_ends_is_made plan node tag a came old middle new spent its outcome begun so le used end =
     let first : List Record = of_call tag.caller tag.call old in
     let request : Option ℕ = request_in_call a came in
-    let one = growth_by_one_record (place_of node) tag middle new end.item end.grown (its_place node end.item end.is.node) (ap (λ (by : By). by.caller) end.is.by_)
+    let one = growth_by_one_record (place_of_name node) tag middle new end.item end.grown (its_place node end.item end.is.node) (ap (λ (by : By). by.caller) end.is.by_)
     (ap (λ (by : By). by.call) end.is.by_) in
     let is : RecordIsEndOfCall a came end.item = record { act_ = end.is.act_; part = ap (λ (by : By). by.part) end.is.by_ } in
     let few = first_few a came first begun in
@@ -152,7 +152,7 @@ call_that_ends_is_made plan node tag a came old middle new spent its outcome beg
     (told_or_late plan.turns (length so.mine) (told_at_end a outcome) (late_after request its outcome) (λ none. let u = used none in omega arith))
     in record {
       mine = so.mine ++ end.item ∷ [];
-      grows = growth_through_middle (place_of node) tag old middle new so.mine (end.item ∷ []) so.grows one;
+      grows = growth_through_middle (place_of_name node) tag old middle new so.mine (end.item ∷ []) so.grows one;
       planned = call_with_end_is_planned plan.turns a came first so.mine end.item begun so.turns (omega arith) is;
       most = omega arith;
       spent = λ e. absurd (not_spent (unwrap_or (told_at_end a outcome) (late_after request its outcome)) plain_ e);
@@ -175,10 +175,10 @@ nothing_answers turns = record { none = refl; unended = refl }
 
 -- its own act was refused
 pub act_refused_call_is_made : (plan : RacePlan) (node : ℕ) (tag : Tag) (a : Act) (old new : List Record) (its : CallAnswer)
-    → WasRefused (place_of node) tag.caller old new its → Made plan node tag a [] old new its
+    → WasRefused (place_of_name node) tag.caller old new its → Made plan node tag a [] old new its
 act_refused_call_is_made plan node tag a old new its was = record {
   mine = [];
-  grows = no_growth_without_own_record (place_of node) tag old new was.0;
+  grows = no_growth_without_own_record (place_of_name node) tag old new was.0;
   planned = none_planned plan.turns a;
   most = omega arith;
   spent = λ e. omega arith;
@@ -189,15 +189,15 @@ act_refused_call_is_made plan node tag a old new its was = record {
 pub call_without_memory_is_made : (plan : RacePlan) (node : ℕ) (tag : Tag) (a : Act) (seen : List Record) → Made plan node tag a [] seen seen answer.NoMemory
 call_without_memory_is_made plan node tag a seen = act_refused_call_is_made plan node tag a seen seen answer.NoMemory (records_go_on_to_themselves (Caller tag.caller ∷ []) seen, tt)
 
-began_grows : (node : ℕ) (tag : Tag) (a : Act) (came : Came) (old new : List Record) (began : Began (place_of node) tag a came old new)
-    → CallerHasSeenMore (place_of node) tag old new (began.item ∷ [])
+began_grows : (node : ℕ) (tag : Tag) (a : Act) (came : Came) (old new : List Record) (began : Began (place_of_name node) tag a came old new)
+    → CallerHasSeenMore (place_of_name node) tag old new (began.item ∷ [])
 began_grows node tag a came old new began =
-    growth_by_one_record (place_of node) tag old new began.item began.grown (its_place node began.item began.node) (ap (λ (by : By). by.caller) began.by_)
+    growth_by_one_record (place_of_name node) tag old new began.item began.grown (its_place node began.item began.node) (ap (λ (by : By). by.caller) began.by_)
     (ap (λ (by : By). by.call) began.by_)
 
 -- its own act answers it
 pub act_answered_call_is_made : (plan : RacePlan) (node : ℕ) (tag : Tag) (a : Act) (came : Came) (old new : List Record) (its : CallAnswer) → is_call a ≡ true → is_take a ≡ false
-    → Began (place_of node) tag a came old new → own_answer a came.outcome ≡ Some its → Made plan node tag a [] old new its
+    → Began (place_of_name node) tag a came old new → own_answer a came.outcome ≡ Some its → Made plan node tag a [] old new its
 act_answered_call_is_made plan node tag a came old new its call no_ began told =
     let plain : answer_is_plain its ≡ true = ap optional_answer_is_plain (sym told) ∙ own_answer_is_plain a came.outcome in record {
       mine = began.item ∷ [];
@@ -224,29 +224,29 @@ checks_then _ outcome call no_ stops none = absurd (true≢false (sym call))
 -- it goes on behind its own act
 pub call_begins_by_own_act : (node : ℕ) (tag : Tag) (a : Act) (came : Came) (old new : List Record) → is_call a ≡ true → is_take a ≡ false
     → of_call tag.caller tag.call old ≡ []
-    → Began (place_of node) tag a came old new → own_answer a came.outcome ≡ None → CallHasBegun a (Some came) (of_call tag.caller tag.call new)
+    → Began (place_of_name node) tag a came old new → own_answer a came.outcome ≡ None → CallHasBegun a (Some came) (of_call tag.caller tag.call new)
 call_begins_by_own_act node tag a came old new call no_ fresh began none = (
   checks_then a came.outcome call no_ began.stops none,
   none,
   (
     began.item,
-    records_of_call_grow (place_of node) tag old new (began.item ∷ []) (began_grows node tag a came old new began) ∙ ap (λ (l : List Record). l ++ began.item ∷ []) fresh,
+    records_of_call_grow (place_of_name node) tag old new (began.item ∷ []) (began_grows node tag a came old new began) ∙ ap (λ (l : List Record). l ++ began.item ∷ []) fresh,
     began.own,
   ),
 )
 
 pub continued_call_is_made : (plan : RacePlan) (node : ℕ) (tag : Tag) (a : Act) (came : Came) (old middle new : List Record) (its : CallAnswer)
     → of_call tag.caller tag.call old ≡ []
-    → Began (place_of node) tag a came old middle → Made plan node tag a (of_call tag.caller tag.call middle) middle new its
+    → Began (place_of_name node) tag a came old middle → Made plan node tag a (of_call tag.caller tag.call middle) middle new its
     → Made plan node tag a [] old new its
 continued_call_is_made plan node tag a came old middle new its fresh began made =
     let one = began_grows node tag a came old middle began in
     let first : of_call tag.caller tag.call middle ≡ began.item ∷ [] =
-    records_of_call_grow (place_of node) tag old middle (began.item ∷ []) one ∙ ap (λ (l : List Record). l ++ began.item ∷ []) fresh
+    records_of_call_grow (place_of_name node) tag old middle (began.item ∷ []) one ∙ ap (λ (l : List Record). l ++ began.item ∷ []) fresh
     in
     let same : of_call tag.caller tag.call middle ++ made.mine ≡ began.item ∷ made.mine = ap (λ (l : List Record). l ++ made.mine) first in record {
       mine = began.item ∷ made.mine;
-      grows = growth_through_middle (place_of node) tag old middle new (began.item ∷ []) made.mine one made.grows;
+      grows = growth_through_middle (place_of_name node) tag old middle new (began.item ∷ []) made.mine one made.grows;
       planned = subst (λ (l : List Record). is_one_call plan.turns a l ≡ true) same made.planned;
       most = subst (λ (l : List Record). length l ≤ plan.turns + 2) same made.most;
       spent = λ e. subst (λ (l : List Record). length l ≤ plan.turns + 1) same (made.spent e);
@@ -342,11 +342,11 @@ calls_more turns n call (b ∷ calls) a done mine le there is low own one at =
 
 -- ---- the caller behind a call
 
-one_place : (place : ℕ) (mine : List Record) → list_all (λ r. place_of r.event.node == place) mine ≡ true → at_one_place mine ≡ true
+one_place : (place : ℕ) (mine : List Record) → list_all (λ r. place_of_name r.event.node == place) mine ≡ true → at_one_place mine ≡ true
 one_place place [] all = refl
 one_place place (r ∷ rs) all =
-    let p = and_parts (place_of r.event.node == place) (list_all (λ q. place_of q.event.node == place) rs) all in
-    rw (eqb-true (place_of r.event.node) place p.0) p.1
+    let p = and_parts (place_of_name r.event.node == place) (list_all (λ q. place_of_name q.event.node == place) rs) all in
+    rw (eqb-true (place_of_name r.event.node) place p.0) p.1
 
 all_low : (call : ℕ) (mine : List Record) → AreOf call mine → (k : ℕ) (d : Record) → k < length mine → (get_or mine k d).by.call < call + 1
 unfolding AreOf
@@ -377,7 +377,7 @@ has_made_more plan node number calls a old new its has made = record {
       ∙ calls_more plan.turns 0 (length calls) (calls ++ a ∷ []) a (of_caller number old) made.mine (omega arith)
       (let from_none : length calls - 0 ≡ length calls = omega arith in ap (slice_get (calls ++ a ∷ [])) from_none ∙ slice_get_of_pushed calls a)
       (records_fit_longer_calls plan.turns 0 calls (a ∷ []) (of_caller number old) has.made) has.earlier made.grows.call made.planned
-      (one_place (place_of node) made.mine made.grows.place_);
+      (one_place (place_of_name node) made.mine made.grows.place_);
   earlier = subst (λ (n : ℕ). All (λ r. r.by.call < n) (of_caller number new)) (sym (length-append calls (a ∷ [])))
       (subst (All (λ r. r.by.call < length calls + 1)) (sym made.grows.all)
       (All-append (λ (r : Record). r.by.call < length calls + 1) (of_caller number old) made.mine (λ k d h. let l = has.earlier k d h in
@@ -402,7 +402,7 @@ was_called : (plan : RacePlan) (node number : ℕ) (calls : List Act) (a : Act) 
     → Called plan node a (record { number = number; calls = calls; seen = old }) (record { number = number; calls = calls ++ a ∷ []; seen = new }) its
 was_called plan node number calls a old new its has made =
     let mine : of_call number (length calls) new ≡ made.mine =
-    records_of_call_grow (place_of node) (record { caller = number; call = length calls }) old new made.mine made.grows
+    records_of_call_grow (place_of_name node) (record { caller = number; call = length calls }) old new made.mine made.grows
     ∙ ap (λ (l : List Record). l ++ made.mine) (fresh_call plan number calls old has)
     in record {
       number = refl;
@@ -410,7 +410,7 @@ was_called plan node number calls a old new its has made =
       begins = made.grows.begins;
       others = made.grows.all ∙ ap (λ (l : List Record). of_caller number old ++ l) (sym mine);
       its_records = ap (is_one_call plan.turns a) mine ∙ made.planned;
-      place = ap (list_all (λ r. place_of r.event.node == place_of node)) mine ∙ made.grows.place_;
+      place = ap (list_all (λ r. place_of_name r.event.node == place_of_name node)) mine ∙ made.grows.place_;
       most = subst (λ (l : List Record). length l ≤ plan.turns + 2) (sym mine) made.most;
       spent = λ e. subst (λ (l : List Record). length l ≤ plan.turns + 1) (sym mine) (made.spent e);
       answer_ = subst (λ (l : List Record). IsAnswerOfCall plan.turns l new node its) (sym mine) made.answer_;

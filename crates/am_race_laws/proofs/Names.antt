@@ -1,7 +1,7 @@
 -- Names of a set, and who stopped.
 use Rattle.am_race_laws.proofs.Words.{◌≡◌, ℕ, zero, suc, ◌<◌, List, [], ◌∷◌, ◌++◌, length, Bool, true, false, true≢false, sym, refl, ap, ◌∙◌, arith, eq-eqb}
 use Rattle.am_race_laws.proofs.Words.{ne_eqb, if◌then◌else◌, ◌==◌, ◌&&◌, ◌||◌, slice_index, slice_set, replicate, nat_lt, nat_le, eqb-true, or_right}
-use Rattle.am_race_laws.proofs.Words.{fold-append, dite, ℕ_discrete, place_of, life_of, name_at, has, nobody, with_name, Record, name_of, Terms, EachComesNext}
+use Rattle.am_race_laws.proofs.Words.{fold-append, dite, ℕ_discrete, place_of_name, life_of_name, name_of_place_and_life, has, empty_set_of_names, with_name, Record, acting_name_of_record, Terms, EachComesNext}
 use Rattle.am_race_laws.proofs.Words.{is_stop, has_life, with_stop, stopped_names, has_stopped, IsLawfulRecord}
 use Rattle.am_race_laws.proofs.{Apart.or_with_false, Knows.journal_keeps_what_records_keep, Knows.has_stopped_after_record}
 use Rattle.am_race_laws.proofs.Words.{split_on_bool}
@@ -36,53 +36,53 @@ either_true false b e none = e
 added : (set : List ℕ) (place name : ℕ) (was : ℕ → Bool) → place < 16 → length set ≡ 16 → ((k : ℕ) → has set k ≡ was k) → was place ≡ false
     → ((k : ℕ) → was k ≡ true → k < 16)
     → has (slice_set set place 1) name ≡ (was name || (place == name))
-added set place name was few many each fresh low = dite (ℕ_discrete (place_of name) place)
+added set place name was few many each fresh low = dite (ℕ_discrete (place_of_name name) place)
     (λ here. dite (ℕ_discrete place name)
     (λ is.
-    let one : slice_index (slice_set set place 1) (place_of name) ≡ 1 = ap (slice_index (slice_set set place 1)) here ∙ set_here set place 1 (omega arith) in
-    let life : life_of name ≡ 1 = omega arith in
-    eq-eqb (slice_index (slice_set set place 1) (place_of name)) (life_of name) (one ∙ sym life)
+    let one : slice_index (slice_set set place 1) (place_of_name name) ≡ 1 = ap (slice_index (slice_set set place 1)) here ∙ set_here set place 1 (omega arith) in
+    let life : life_of_name name ≡ 1 = omega arith in
+    eq-eqb (slice_index (slice_set set place 1) (place_of_name name)) (life_of_name name) (one ∙ sym life)
     ∙ sym (ap (λ (b : Bool). was name || b) (eq-eqb place name is) ∙ or_right (was name) true refl))
     (λ isnt.
-    let one : slice_index (slice_set set place 1) (place_of name) ≡ 1 = ap (slice_index (slice_set set place 1)) here ∙ set_here set place 1 (omega arith) in
+    let one : slice_index (slice_set set place 1) (place_of_name name) ≡ 1 = ap (slice_index (slice_set set place 1)) here ∙ set_here set place 1 (omega arith) in
     let high : was name ≡ false = split_on_bool (was name) (λ w. let l = low name w in absurd (omega arith)) (λ f. f) in
-    ne_eqb (slice_index (slice_set set place 1) (place_of name)) (life_of name) (λ e. let f : life_of name ≡ 1 = sym e ∙ one in absurd (omega arith))
+    ne_eqb (slice_index (slice_set set place 1) (place_of_name name)) (life_of_name name) (λ e. let f : life_of_name name ≡ 1 = sym e ∙ one in absurd (omega arith))
     ∙ sym (ap (λ (b : Bool). was name || b) (ne_eqb place name isnt) ∙ or_with_false (was name) ∙ high)))
     (λ there.
-    let same : slice_index (slice_set set place 1) (place_of name) ≡ slice_index set (place_of name) =
-    set_there set place (place_of name) 1 (λ e. there (sym e)) in
-    ap (λ (k : ℕ). k == life_of name) same ∙ each name
+    let same : slice_index (slice_set set place 1) (place_of_name name) ≡ slice_index set (place_of_name name) =
+    set_there set place (place_of_name name) 1 (λ e. there (sym e)) in
+    ap (λ (k : ℕ). k == life_of_name name) same ∙ each name
     ∙ sym (ap (λ (b : Bool). was name || b) (ne_eqb place name (λ e. there (omega arith))) ∙ or_with_false (was name)))
 
-with_next : (before : List Record) (r : Record) (b : Bool) → is_stop r.event.act ≡ b → r.life ≡ 1 → has_stopped before (name_of r) ≡ false → StoppedNamesAreSet before
+with_next : (before : List Record) (r : Record) (b : Bool) → is_stop r.event.act ≡ b → r.life ≡ 1 → has_stopped before (acting_name_of_record r) ≡ false → StoppedNamesAreSet before
     → StoppedNamesAreSet (before ++ r ∷ [])
 with_next before r false other_act life fresh so_far =
-    let set : stopped_names (before ++ r ∷ []) ≡ with_stop (stopped_names before) r = fold-append with_stop nobody before (r ∷ []) in
+    let set : stopped_names (before ++ r ∷ []) ≡ with_stop (stopped_names before) r = fold-append with_stop empty_set_of_names before (r ∷ []) in
     let same : stopped_names (before ++ r ∷ []) ≡ stopped_names before =
-    set ∙ ap (λ (b : Bool). if b && has_life r then with_name (stopped_names before) (name_of r) else stopped_names before) other_act
+    set ∙ ap (λ (b : Bool). if b && has_life r then with_name (stopped_names before) (acting_name_of_record r) else stopped_names before) other_act
     in
     let now : (name : ℕ) → has_stopped (before ++ r ∷ []) name ≡ has_stopped before name = λ name.
-    has_stopped_after_record before r name ∙ ap (λ (b : Bool). has_stopped before name || (b && (name_of r == name))) other_act ∙ or_with_false (has_stopped before name) in
+    has_stopped_after_record before r name ∙ ap (λ (b : Bool). has_stopped before name || (b && (acting_name_of_record r == name))) other_act ∙ or_with_false (has_stopped before name) in
     record {
       many = ap length same ∙ so_far.many;
       each = λ name. ap (λ (s : List ℕ). has s name) same ∙ so_far.each name ∙ sym (now name);
       low = λ name e. so_far.low name (sym (now name) ∙ e);
     }
 with_next before r true its_stop life fresh so_far =
-    let place : ℕ = place_of r.event.node in
+    let place : ℕ = place_of_name r.event.node in
     let few : place < 16 = omega arith in
-    let first : name_of r ≡ place = ap (name_at place) life ∙ omega arith in
+    let first : acting_name_of_record r ≡ place = ap (name_of_place_and_life place) life ∙ omega arith in
     let lives : has_life r ≡ true = ap (λ (n : ℕ). nat_lt 0 n && nat_le n 16) life in
-    let set : stopped_names (before ++ r ∷ []) ≡ with_stop (stopped_names before) r = fold-append with_stop nobody before (r ∷ []) in
-    let p : place_of place ≡ place = omega arith in
-    let l : life_of place ≡ 1 = omega arith in
+    let set : stopped_names (before ++ r ∷ []) ≡ with_stop (stopped_names before) r = fold-append with_stop empty_set_of_names before (r ∷ []) in
+    let p : place_of_name place ≡ place = omega arith in
+    let l : life_of_name place ≡ 1 = omega arith in
     let now : stopped_names (before ++ r ∷ []) ≡ slice_set (stopped_names before) place 1 =
-    set ∙ ap (λ (b : Bool). if b && has_life r then with_name (stopped_names before) (name_of r) else stopped_names before) its_stop
-    ∙ ap (λ (b : Bool). if b then with_name (stopped_names before) (name_of r) else stopped_names before) lives ∙ ap (with_name (stopped_names before)) first
-    ∙ ap (λ (k : ℕ). slice_set (stopped_names before) k (life_of place)) p ∙ ap (slice_set (stopped_names before) place) l
+    set ∙ ap (λ (b : Bool). if b && has_life r then with_name (stopped_names before) (acting_name_of_record r) else stopped_names before) its_stop
+    ∙ ap (λ (b : Bool). if b then with_name (stopped_names before) (acting_name_of_record r) else stopped_names before) lives ∙ ap (with_name (stopped_names before)) first
+    ∙ ap (λ (k : ℕ). slice_set (stopped_names before) k (life_of_name place)) p ∙ ap (slice_set (stopped_names before) place) l
     in
     let more : (name : ℕ) → has_stopped (before ++ r ∷ []) name ≡ (has_stopped before name || (place == name)) = λ name.
-    has_stopped_after_record before r name ∙ ap (λ (b : Bool). has_stopped before name || (b && (name_of r == name))) its_stop
+    has_stopped_after_record before r name ∙ ap (λ (b : Bool). has_stopped before name || (b && (acting_name_of_record r == name))) its_stop
     ∙ ap (λ (k : ℕ). has_stopped before name || (k == name)) first in record {
       many = ap length now ∙ set_many (stopped_names before) place 1 ∙ so_far.many;
       each = λ name. ap (λ (s : List ℕ). has s name) now
@@ -92,8 +92,8 @@ with_next before r true its_stop life fresh so_far =
           (λ f. let all = sym (more name) ∙ e in let same = eqb-true place name (rw f at all) in omega arith);
     }
 
-no_names : (places name : ℕ) → (slice_index (replicate places 0) (place_of name) == life_of name) ≡ false
-no_names places name = ne_eqb (slice_index (replicate places 0) (place_of name)) (life_of name) (λ e. let z = nought places (place_of name) in
+no_names : (places name : ℕ) → (slice_index (replicate places 0) (place_of_name name) == life_of_name name) ≡ false
+no_names places name = ne_eqb (slice_index (replicate places 0) (place_of_name name)) (life_of_name name) (λ e. let z = nought places (place_of_name name) in
     absurd (omega arith))
   where
     nought : (n i : ℕ) → slice_index (replicate n 0) i ≡ 0

@@ -1,18 +1,18 @@
 -- What others' records leave of a name: its node, whether it stopped, and the letters that were sent.
 use Rattle.am_race_laws.proofs.Words.{◌≡◌, ◌≢◌, ℕ, zero, suc, ◌<◌, List, [], ◌∷◌, ◌++◌, Bool, true, false, Some, sym, refl, ap, ◌∙◌, subst, arith, append_assoc}
-use Rattle.am_race_laws.proofs.Words.{append-nil, ne_eqb, ◌==◌, ◌||◌, All, list_any-append, none-some, Rules, place_of, name_at, Record}
-use Rattle.am_race_laws.proofs.Words.{name_of, item_at, Terms, EachComesNext, is_stop, has_stopped, world_after, IsLawfulRecord}
+use Rattle.am_race_laws.proofs.Words.{append-nil, ne_eqb, ◌==◌, ◌||◌, All, list_any-append, none-some, Rules, place_of_name, name_of_place_and_life, Record}
+use Rattle.am_race_laws.proofs.Words.{acting_name_of_record, item_at, Terms, EachComesNext, is_stop, has_stopped, world_after, IsLawfulRecord}
 use Rattle.am_race_laws.proofs.{Others.others_nodes_stay_through_event, Stays.all_of_cons_gives_both, Stays.place_of_place}
 use Rattle.am_step_laws.proofs.Items.{slice_get_of_front}
 use Rattle.am_race_laws.proofs.Words.{split_on_bool}
 
 -- ---- others' records
 
-pub nodes_stay_through_others_records : (rules : Rules) (before more : List Record) (name : ℕ) → All (λ r. place_of r.event.node ≢ place_of name) more
+pub nodes_stay_through_others_records : (rules : Rules) (before more : List Record) (name : ℕ) → All (λ r. place_of_name r.event.node ≢ place_of_name name) more
     → (world_after rules (before ++ more)).nodes name ≡ (world_after rules before).nodes name
 nodes_stay_through_others_records rules before [] name apart = ap (λ (rs : List Record). (world_after rules rs).nodes name) (append-nil before)
 nodes_stay_through_others_records rules before (r ∷ rest) name apart =
-    let a = all_of_cons_gives_both (λ (q : Record). place_of q.event.node ≢ place_of name) r rest apart in
+    let a = all_of_cons_gives_both (λ (q : Record). place_of_name q.event.node ≢ place_of_name name) r rest apart in
     ap (λ (rs : List Record). (world_after rules rs).nodes name) (sym (append_assoc before (r ∷ []) rest)) ∙ nodes_stay_through_others_records rules (before ++ r ∷ []) rest name a.1
     ∙ (others_nodes_stay_through_event rules before r name (λ s. a.0 (sym s))).0
 
@@ -20,14 +20,14 @@ nodes_stay_through_others_records rules before (r ∷ rest) name apart =
 pub has_stopped_in_longer_records : (before more : List Record) (name : ℕ) → has_stopped (before ++ more) name ≡ (has_stopped before name || has_stopped more name)
 has_stopped_in_longer_records before more name = list_any-append _ before more
 
-pub others_records_stop_no_name : (more : List Record) (name : ℕ) → All (λ r. place_of r.event.node ≢ place_of name) more → All (λ (r : Record). r.life ≡ 1) more → name < 16
+pub others_records_stop_no_name : (more : List Record) (name : ℕ) → All (λ r. place_of_name r.event.node ≢ place_of_name name) more → All (λ (r : Record). r.life ≡ 1) more → name < 16
     → has_stopped more name ≡ false
 others_records_stop_no_name [] name apart lives few = refl
 others_records_stop_no_name (r ∷ rest) name apart lives few =
-    let a = all_of_cons_gives_both (λ (q : Record). place_of q.event.node ≢ place_of name) r rest apart in
+    let a = all_of_cons_gives_both (λ (q : Record). place_of_name q.event.node ≢ place_of_name name) r rest apart in
     let l = all_of_cons_gives_both (λ (q : Record). q.life ≡ 1) r rest lives in
-    let other : (name_of r == name) ≡ false = ne_eqb (name_of r) name
-    (λ s. a.0 (sym (place_of_place r.event.node) ∙ ap place_of (sym (ap (name_at (place_of r.event.node)) l.0 ∙ omega arith) ∙ s))) in
+    let other : (acting_name_of_record r == name) ≡ false = ne_eqb (acting_name_of_record r) name
+    (λ s. a.0 (sym (place_of_place r.event.node) ∙ ap place_of_name (sym (ap (name_of_place_and_life (place_of_name r.event.node)) l.0 ∙ omega arith) ∙ s))) in
     let none = others_records_stop_no_name rest name a.1 l.1 few in
     rw other (split_on_bool (is_stop r.event.act) (λ t. rw t none) (λ f. rw f none))
 

@@ -2,7 +2,7 @@
 use Rattle.am_race_laws.proofs.Words.{◌≡◌, ℕ, suc, ◌+◌, ◌*◌, ◌<◌, ◌≤◌, List, [], ◌∷◌, ◌++◌, length, take, drop, get_or, Bool, true, false, true≢false}
 use Rattle.am_race_laws.proofs.Words.{Option, Some, None, sym, refl, ap, ◌∙◌, subst, arith, append_assoc, append-nil, length-append, ne_eqb, slice_get}
 use Rattle.am_race_laws.proofs.Words.{All, ◌&&◌, ◌==◌, list_all, list_any, prefix_len, take-append_seam, drop-append_seam, and_parts}
-use Rattle.am_race_laws.proofs.Words.{eqb-true, add-mul, mul-le, drop_all, list_all-append, All-append, most_events, place_of, Act, Record, RacePlan, ThreadPlan}
+use Rattle.am_race_laws.proofs.Words.{eqb-true, add-mul, mul-le, drop_all, list_all-append, All-append, most_events_of_run, place_of_name, Act, Record, RacePlan, ThreadPlan}
 use Rattle.am_race_laws.proofs.Words.{WireRefusal, has_stopped, CallAnswer, of_caller, of_call, answer_of, is_end, is_last, first_call, records_behind, caller_goes_on}
 use Rattle.am_race_laws.proofs.Words.{are_finished, Calling, Called, IsUnanswered, IsAnswerOfCall, of_next, calls_in, HasPlayed, HasRun, most_records_of, refusal_in}
 use Rattle.am_race_laws.proofs.Words.{ends_thread, fresh_caller}
@@ -74,7 +74,7 @@ pub record ThreadPlaysItsCalls (plan : RacePlan) (thread : ThreadPlan) (number i
   pub count : length c.calls ≡ i
   pub planned : c.calls ≡ take i thread.calls
   pub most : length (of_caller number c.seen) ≤ i * (plan.turns + 2)
-  pub place : list_all (λ r. place_of r.event.node == place_of thread.node) (of_caller number c.seen) ≡ true
+  pub place : list_all (λ r. place_of_name r.event.node == place_of_name thread.node) (of_caller number c.seen) ≡ true
   pub goes : (stopped : Bool) (more : List Record) → All (λ r. i ≤ r.by.call) more → are_finished plan.turns stopped i (drop i thread.calls) more ≡ true
       → are_finished plan.turns stopped 0 thread.calls (of_caller number c.seen ++ more) ≡ true
 
@@ -94,7 +94,7 @@ record Grows (plan : RacePlan) (thread : ThreadPlan) (number i : ℕ) (old new :
   planned : new.calls ≡ take (i + 1) thread.calls
   all : of_caller number new.seen ≡ of_caller number old.seen ++ mine
   few : length mine ≤ plan.turns + 2
-  place : list_all (λ r. place_of r.event.node == place_of thread.node) (of_caller number new.seen) ≡ true
+  place : list_all (λ r. place_of_name r.event.node == place_of_name thread.node) (of_caller number new.seen) ≡ true
   goes : (stopped : Bool) (more : List Record) → All (λ r. i + 1 ≤ r.by.call) more
       → are_finished plan.turns stopped i (drop i thread.calls) (mine ++ more) ≡ true
       → are_finished plan.turns stopped 0 thread.calls (of_caller number new.seen ++ more) ≡ true
@@ -117,10 +117,10 @@ grows plan thread number i a old new its plays called below there =
       planned = called.calls ∙ ap (λ (l : List Act). l ++ a ∷ []) plays.planned ∙ take_with_next_call thread.calls i a below there;
       all = all;
       few = called.most;
-      place = ap (list_all (λ (r : Record). place_of r.event.node == place_of thread.node)) all
-          ∙ list_all-append (λ (r : Record). place_of r.event.node == place_of thread.node) (of_caller number old.seen) mine
-          ∙ and_from (list_all (λ (r : Record). place_of r.event.node == place_of thread.node) (of_caller number old.seen))
-          (list_all (λ (r : Record). place_of r.event.node == place_of thread.node) mine) plays.place called.place;
+      place = ap (list_all (λ (r : Record). place_of_name r.event.node == place_of_name thread.node)) all
+          ∙ list_all-append (λ (r : Record). place_of_name r.event.node == place_of_name thread.node) (of_caller number old.seen) mine
+          ∙ and_from (list_all (λ (r : Record). place_of_name r.event.node == place_of_name thread.node) (of_caller number old.seen))
+          (list_all (λ (r : Record). place_of_name r.event.node == place_of_name thread.node) mine) plays.place called.place;
       goes = λ stopped more later h.
           ap (are_finished plan.turns stopped 0 thread.calls) (ap (λ (l : List Record). l ++ more) all ∙ append_assoc (of_caller number old.seen) mine more)
           ∙ plays.goes stopped (mine ++ more)
@@ -163,7 +163,7 @@ may_end : (turns : ℕ) (mine : List Record) (stopped others : Bool) → IsUnans
 may_end turns mine stopped others none by = rw (none.none, by, none.unended) refl
 
 last_one : (turns : ℕ) (mine seen : List Record) (node : ℕ) (its : CallAnswer) → IsAnswerOfCall turns mine seen node its → ends_thread its ≡ true → refusal_in its ≡ None
-    → (stopped others : Bool) → (has_stopped seen (place_of node) ≡ true → stopped ≡ true)
+    → (stopped others : Bool) → (has_stopped seen (place_of_name node) ≡ true → stopped ≡ true)
     → caller_goes_on stopped (list_any is_end mine) (answer_of turns mine) others [] ≡ true
 last_one turns mine seen node (answer.Late count) is ends none stopped others by = rw is refl
 last_one turns mine seen node (answer.PutOff req base top) is ends none stopped others by = rw is refl
@@ -174,7 +174,7 @@ last_one turns mine seen node _ is ends none stopped others by = absurd (true≢
 
 -- where a call found the journal full
 spent_only : (turns : ℕ) (mine seen : List Record) (node : ℕ) (its : CallAnswer) → IsAnswerOfCall turns mine seen node its → refusal_in its ≡ Some refusals.Spent
-    → (its ≡ answer.Spent) × (length seen ≡ most_events)
+    → (its ≡ answer.Spent) × (length seen ≡ most_events_of_run)
 spent_only turns mine seen node answer.Spent is e = (refl, is.0)
 spent_only turns mine seen node answer.NoMemory is e = absurd (cc)
 spent_only turns mine seen node _ is e = absurd (refused_no refusals.Spent (sym e))
@@ -183,9 +183,9 @@ spent_only turns mine seen node _ is e = absurd (refused_no refusals.Spent (sym 
 record HasRunBy (plan : RacePlan) (thread : ThreadPlan) (number : ℕ) (c : Calling) (refusal : Option WireRefusal) : Type 0 where
   planned : take (length c.calls) thread.calls ≡ c.calls
   most : length (of_caller number c.seen) ≤ length thread.calls * (plan.turns + 2)
-  spent : refusal ≡ Some refusals.Spent → (length c.seen ≡ most_events) × (length (of_caller number c.seen) < length thread.calls * (plan.turns + 2))
-  place : list_all (λ r. place_of r.event.node == place_of thread.node) (of_caller number c.seen) ≡ true
-  finished : refusal ≡ None → (stopped : Bool) → (has_stopped c.seen (place_of thread.node) ≡ true → stopped ≡ true)
+  spent : refusal ≡ Some refusals.Spent → (length c.seen ≡ most_events_of_run) × (length (of_caller number c.seen) < length thread.calls * (plan.turns + 2))
+  place : list_all (λ r. place_of_name r.event.node == place_of_name thread.node) (of_caller number c.seen) ≡ true
+  finished : refusal ≡ None → (stopped : Bool) → (has_stopped c.seen (place_of_name thread.node) ≡ true → stopped ≡ true)
       → are_finished plan.turns stopped 0 thread.calls (of_caller number c.seen) ≡ true
 
 its_thread : Option ThreadPlan → ThreadPlan → ThreadPlan

@@ -2,7 +2,7 @@
 use Rattle.am_race_laws.proofs.Words.{◌≡◌, ℕ, suc, ◌+◌, ◌*◌, ◌<◌, ◌≤◌, List, [], ◌∷◌, ◌++◌, length, take, drop, map, get_or, Bool, true, false, true≢false}
 use Rattle.am_race_laws.proofs.Words.{Option, Some, None, sym, refl, ap, ◌∙◌, subst, arith, length-append, slice_get, ⊎_elim, All, ◌==◌, list_all}
 use Rattle.am_race_laws.proofs.Words.{range_with_len, get_or-map, length-map, take-append-drop, All-map, All-weaker, get_or-range_with_len}
-use Rattle.am_race_laws.proofs.Words.{length-range_with_len, none-some, slice_get_cases, place_of, Act, Record, RacePlan, ThreadPlan, WireRefusal, StartsWith}
+use Rattle.am_race_laws.proofs.Words.{length-range_with_len, none-some, slice_get_cases, place_of_name, Act, Record, RacePlan, ThreadPlan, WireRefusal, StartsWith}
 use Rattle.am_race_laws.proofs.Words.{has_stopped, log_is_start_and_rest, of_caller, are_finished, is_callers, Calling, IsLegalWithTags, is_played, MayRace, ArePlayed}
 use Rattle.am_race_laws.proofs.Words.{calls_in, calls_of, HasPlayed, HasRun, IsPlanned, EndsFor, first_refusal, fresh_callers, caller_numbers, calls_made, calls_by}
 use Rattle.am_race_laws.proofs.{Nexts.has_stopped_in_longer_records, Counting.journal_has_room_while_lacking, Joined.caller_of_each_number, Making.records_fit_longer_calls}
@@ -20,11 +20,11 @@ stopped_still journal seen name begins is =
 played_in : (turns : ℕ) (thread : ThreadPlan) (journal : List Record) (c : Calling) → EndsFor journal c → HasPlayed turns thread c
     → is_played turns thread c.number journal ≡ true
 played_in turns thread journal c ends played =
-    and_from (list_all (λ (r : Record). place_of r.event.node == place_of thread.node) (of_caller c.number journal))
-    (are_finished turns (has_stopped journal (place_of thread.node)) 0 thread.calls (of_caller c.number journal))
-    (ap (list_all (λ (r : Record). place_of r.event.node == place_of thread.node)) ends.own ∙ played.place)
-    (ap (are_finished turns (has_stopped journal (place_of thread.node)) 0 thread.calls) ends.own
-    ∙ played.finished (has_stopped journal (place_of thread.node)) (stopped_still journal c.seen (place_of thread.node) ends.begins))
+    and_from (list_all (λ (r : Record). place_of_name r.event.node == place_of_name thread.node) (of_caller c.number journal))
+    (are_finished turns (has_stopped journal (place_of_name thread.node)) 0 thread.calls (of_caller c.number journal))
+    (ap (list_all (λ (r : Record). place_of_name r.event.node == place_of_name thread.node)) ends.own ∙ played.place)
+    (ap (are_finished turns (has_stopped journal (place_of_name thread.node)) 0 thread.calls) ends.own
+    ∙ played.finished (has_stopped journal (place_of_name thread.node)) (stopped_still journal c.seen (place_of_name thread.node) ends.begins))
 
 as_long : (journal : List Record) (c : Calling) → EndsFor journal c → length c.seen ≤ length journal
 as_long journal c ends =

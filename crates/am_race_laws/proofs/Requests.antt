@@ -1,10 +1,10 @@
 -- A node's own sends have different requests, so that what is settled is told.
 use Rattle.am_race_laws.proofs.Words.{◌≡◌, ℕ, suc, ◌+◌, ◌<◌, ◌≤◌, ◌==◌, not, Bool, true, false, true≢false, List, [], ◌∷◌, ◌++◌, map, filter, find, Some, None}
 use Rattle.am_race_laws.proofs.Words.{is_some, refl, sym, ap, ◌∙◌, subst, arith, ne_eqb, All, ◌&&◌, ◌||◌, list_any, eqb-true, All-push, All-filter, All-map}
-use Rattle.am_race_laws.proofs.Words.{All-weaker, Outcome, Leave, Rules, OwnSend, Sends, Event, Node, push_entry, Verdict, refresh, settle, refresh_at_end, run}
+use Rattle.am_race_laws.proofs.Words.{All-weaker, Outcome, Leave, Rules, OwnSend, Sends, Event, Node, push_entry, BallotVerdict, refresh, settle_waiting_send, refresh_at_end, run}
 use Rattle.am_race_laws.proofs.Words.{split_on_bool, Cause, refresh_changes_only_fronts}
 use Rattle.am_node_defs.specs.Sends as own
-use Rattle.am_step_laws.specs.Looks.{Looks, finds_itself_out}
+use Rattle.am_step_laws.specs.Looks.{LooksAtBallot, finds_itself_out}
 use Rattle.am_step_laws.specs.Changes.{Change, refreshes, settles, looks, queues, collects, closes}
 use Rattle.std.proofs.Math.Bool.{or-false}
 use Rattle.am_step_laws.proofs.Nodes.{nodes_of_runs_keep, IsKeptFromTheFirst}
@@ -55,7 +55,7 @@ apart_map req number (s ∷ q) h = (
   apart_map req number q h.1,
 )
 
-once_submit : (body : List ℕ) (s : Sends) → OwnRequestsAreOnce s → OwnRequestsAreOnce (own.submit body s)
+once_submit : (body : List ℕ) (s : Sends) → OwnRequestsAreOnce s → OwnRequestsAreOnce (own.queue_send body s)
 once_submit body s h =
     let n : OwnSend = record { req = s.last + 1; body = body; number = None } in record {
       low = All-push (λ (t : OwnSend). t.req ≤ s.last + 1) s.queue n
@@ -65,10 +65,10 @@ once_submit body s h =
     }
 
 once_collect : (req : ℕ) (s : Sends) → OwnRequestsAreOnce s → OwnRequestsAreOnce (own.collect req s)
-once_collect req s h = split_on_bool (own.is_settled req s)
+once_collect req s h = split_on_bool (own.has_settled_send req s)
     (λ t. rw t (record {
-      low = All-filter (λ x. not (own.is_request req x)) (λ (x : OwnSend). x.req ≤ s.last) s.queue h.low;
-      apart = apart_filter (λ x. not (own.is_request req x)) s.queue h.apart;
+      low = All-filter (λ x. not (own.send_has_request req x)) (λ (x : OwnSend). x.req ≤ s.last) s.queue h.low;
+      apart = apart_filter (λ x. not (own.send_has_request req x)) s.queue h.apart;
     }))
     (λ f. rw f h)
 
@@ -85,7 +85,7 @@ once_settle req number s h = record {
 abbrev NodeOnce : Node → Type 0
 NodeOnce m = OwnRequestsAreOnce m.sends
 
-once_at_end : (m : Node) → NodeOnce m → NodeOnce (settle m)
+once_at_end : (m : Node) → NodeOnce m → NodeOnce (settle_waiting_send m)
 once_at_end m h = settle_keeps_property NodeOnce m h (λ s k w at. once_settle s.req (m.core.base + 1 + k) m.sends h)
 
 once_refreshed : (m : Node) → NodeOnce m → NodeOnce (refresh m)
@@ -95,7 +95,7 @@ once_refreshed_at_end : (m : Node) → NodeOnce m → NodeOnce (refresh_at_end m
 unfolding refresh_at_end
 once_refreshed_at_end m h = once_at_end (refresh m) (once_refreshed m h)
 
-look_once : (m : Node) (b : _) (v : Verdict) → Looks m b v → NodeOnce m → NodeOnce v.node
+look_once : (m : Node) (b : _) (v : BallotVerdict) → LooksAtBallot m b v → NodeOnce m → NodeOnce v.node
 look_once m b v (finds_itself_out x) h = h
 look_once m b v _ h = h
 
@@ -130,7 +130,7 @@ lacks_none req (s ∷ q) h =
 
 -- the send of a request that is settled has its number
 pub settled_request_has_its_number : (req : ℕ) (q : List OwnSend) → SendsHaveDifferentRequests q → list_any (λ send. (send.req == req) && is_some send.number) q ≡ true
-    → (s : OwnSend) × (find (own.is_request req) q ≡ Some s) × (is_some s.number ≡ true)
+    → (s : OwnSend) × (find (own.send_has_request req) q ≡ Some s) × (is_some s.number ≡ true)
 settled_request_has_its_number req [] h is = absurd (true≢false (sym is))
 settled_request_has_its_number req (s ∷ q) h is = split_on_bool (s.req == req)
     (λ t.

@@ -23,30 +23,30 @@ pub use Rattle.atomic_table.specs.Seated.{TableId}
 pub use mathlib.Core.Logic.{dite}
 pub use native.Mathlib.Decide.{ℕ_discrete}
 pub use Rattle.am_base.proofs.Greatest.{split_on_bool, both_of_and}
-pub use Rattle.am_base.specs.Names.{place_of, name_at, name_lt, names_of, life_of, has, nobody, with_name, rank_of, names_from}
-pub use Rattle.am_base.specs.{Founding.Rules, Lists.entry_at, Most.most_events, declared.entry.Entry.Entry, declared.entry.Entry.TheVariants.Leave}
+pub use Rattle.am_base.specs.Names.{place_of_name, name_of_place_and_life, name_is_less, names_of, life_of_name, has, empty_set_of_names, with_name, rank_of_name, names_from}
+pub use Rattle.am_base.specs.{Founding.Rules, Lists.log_entry_at, Most.most_events_of_run, declared.entry.Entry.Entry, declared.entry.Entry.TheVariants.Leave}
 pub use Rattle.am_base.specs.{declared.event.NodeEvent.NodeEvent, declared.outcome.Outcome.Outcome}
 pub use Rattle.am_packet.specs.{Boxes.Letter, Limits.IsPacket, Spelling.spelling, declared.packet.Packet.Packet}
 pub use Rattle.am_node_defs.proofs.{Ends.entry_at_end_is_entry, Folds.slice_get-drop}
-pub use Rattle.am_node_defs.specs.{Cores.IsInOrder, Sends.Sends, Sends.collected_of, Sends.outcome_of, Sends.collect_outcome, Sends.is_settled}
+pub use Rattle.am_node_defs.specs.{Cores.IsInOrder, Sends.Sends, Sends.outcome_of_collecting, Sends.outcome_of_done, Sends.collect_outcome, Sends.has_settled_send}
 pub use Rattle.am_node_defs.specs.{declared.sender.OwnSend.OwnSend}
-pub use Rattle.am_group.specs.{Addressed.is_for, Addressed.first_for, Deliveries.name_of, Journals.letters_of, Journals.letter_at, Journals.item_at}
+pub use Rattle.am_group.specs.{Addressed.is_for, Addressed.first_for, Deliveries.acting_name_of_record, Journals.letters_of_records, Journals.letter_at, Journals.item_at}
 pub use Rattle.am_group.specs.{declared.event.Act.Act, declared.event.By.By, declared.event.Event.Event, declared.event.Part.Part}
 pub use Rattle.am_group.specs.{declared.event.Part.TheVariants.Turn, declared.event.Part.TheVariants.Call, declared.event.Part.TheVariants.Check}
 pub use Rattle.am_group.specs.{declared.event.Record.Record, declared.plan.RacePlan.RacePlan, declared.plan.ThreadPlan.ThreadPlan}
 pub use Rattle.am_model.proofs.Steps.{whole_step_comes_to_end, node_end_has_same_top, untrimmed_node_is_own_end}
-pub use Rattle.am_model.specs.Node.{Node, has_departed, push_entry, waiting, founder, stranger, Ballot, is_member, has_log}
-pub use Rattle.am_model.specs.{Ballots.Verdict, Emit.Step, Emit.quiet, Ends.IsEndOf, Ends.Does, Info.waited_for, Info.ballot_end, Info.end_of}
-pub use Rattle.am_model.specs.{Nodes.HasNumbersLeft, Refresh.refresh, Refresh.accepted_at, Refresh.settle_at, Refresh.settle_waiting, Step.hear}
+pub use Rattle.am_model.specs.Node.{Node, has_departed, push_entry, waiting_send_of, founder, stranger_node, Ballot, is_member, has_log_by_status}
+pub use Rattle.am_model.specs.{Ballots.BallotVerdict, Emit.StepResult, Emit.plan_without_letters, Ends.IsEndOf, Ends.DoesRow, Info.names_waited_for, Info.end_of_ballot_of_round, Info.end_of_ballot}
+pub use Rattle.am_model.specs.{Nodes.HasNumbersLeft, Refresh.refresh, Refresh.accepted_number_of_send, Refresh.settle_send_at, Refresh.settle_send_where_accepted, Step.hear_packet}
 pub use Rattle.am_model.specs.{declared.info.BallotEnd.TheVariants.Going, declared.status.Status.Status}
 pub use Rattle.am_group_defs.proofs.Runs.{runs_go_on}
-pub use Rattle.am_group_defs.specs.World.{World, is_stopped, does_event, hears_letter, acts_as, record_of, current, no_caller, start, run, gives_up, hear_cut}
-pub use Rattle.am_group_defs.specs.World.{lives_on, comes_back, first_node}
-pub use Rattle.am_group_defs.specs.{Claims.heard_by, Group.with_tag}
+pub use Rattle.am_group_defs.specs.World.{World, is_stopped, world_after_node_event, world_after_hearing, world_after_act, record_of, current, no_caller, start, run, world_after_give_up, hear_cut}
+pub use Rattle.am_group_defs.specs.World.{world_with_next_life, world_after_return, first_node}
+pub use Rattle.am_group_defs.specs.{Claims.packet_heard_by_act, Group.with_tag}
 pub use Rattle.am_model_laws.proofs.Bytes.{spelled_packet_is_heard}
 pub use Rattle.am_step_laws.proofs.{Ballots.entry_at_number_of_log, EffectRuns.changes_keep_property, EffectRuns.EventsKeep, EffectRuns.runs_keep_what_events_keep, Events.events_have_effects, Rests.refresh_changes_only_fronts}
 pub use Rattle.am_step_laws.proofs.Numbers.RunCounts.{number_bounds_hold_in_runs}
-pub use Rattle.am_step_laws.specs.{Causes.Cause, Events.Happens, Events.idles, Events.stops, Events.returns, Events.steps, Events.actor}
+pub use Rattle.am_step_laws.specs.{Causes.Cause, Events.EventHappens, Events.idles, Events.stops, Events.returns, Events.steps, Events.acting_name}
 pub use Rattle.am_shared_journal_defs.specs.Choices.{Luck, again, choice_of, act_of, words_by_seed, draw, after_draw}
 pub use Rattle.am_shared_journal_defs.specs.{declared.choice.Choice.Choice}
 pub use Rattle.am_race_laws.specs.Answers.{is_take, is_end_of, answer_or_else, late_after, late, is_end, ballot_answer, join_answer, leave_answer, left_answer}
@@ -71,8 +71,8 @@ pub use Rattle.am_race_laws.specs.{Ready.is_ready_after, Ready.may_take, Ready.s
 pub use Rattle.am_race_laws.specs.{declared.call.Came.Came, declared.call.Looked.Looked, declared.call.Tag.Tag}
 unfoldable pub use Rattle.am_shared_journal_defs.specs.Keys.{place_keys, caller_keys}
 unfoldable pub use Rattle.am_group.specs.Addressed.{next_for}
-unfoldable pub use Rattle.am_model.specs.{Emit.finish, Refresh.settle, Refresh.refresh_at_end, Step.step, Step.row}
-unfoldable pub use Rattle.am_group_defs.specs.World.{with_record, with_step, happens, happen}
+unfoldable pub use Rattle.am_model.specs.{Emit.finish, Refresh.settle_waiting_send, Refresh.refresh_at_end, Step.step, Step.row}
+unfoldable pub use Rattle.am_group_defs.specs.World.{world_with_record, world_with_step, happens, world_after_events}
 unfoldable pub use Rattle.am_race_laws.specs.{Answers.answer_of, Answers.own_answer, Answers.end_answer, Callers.are_calls, Callers.is_receive}
 unfoldable pub use Rattle.am_race_laws.specs.{Callers.are_finished, Callers.is_followed, Ready.is_ready, Tags.up_to_last, Told.world_after, Turns.is_turn}
 unfoldable pub use Rattle.am_race_laws.specs.{Turns.may_end, Turns.later}

@@ -1,6 +1,6 @@
 -- Node boxes as contracts see them, and what an act leaves.
 use Rattle.std.specs.Prelude.{◌≡◌, ◌⊎◌, ℕ, ◌<◌, List, [], ◌∷◌, ◌++◌, length, Option, Some, None, Bool, true, false, slice_index}
-use Rattle.am_base.specs.Most.{most_events}
+use Rattle.am_base.specs.Most.{most_events_of_run}
 use Rattle.atomic_table.specs.Seated.{TableId}
 use Rattle.am_node_defs.specs.Cores.{IsInOrder}
 use Rattle.am_base.specs.declared.outcome.Outcome.{Outcome}
@@ -17,11 +17,11 @@ use Rattle.am_group.specs.declared.event.Event.{Event}
 use Rattle.am_group.specs.declared.event.Record.{Record}
 use Rattle.am_group.specs.declared.plan.RacePlan.{RacePlan}
 use Rattle.am_group.specs.Addressed.{is_for, next_for}
-use Rattle.am_group.specs.Journals.{letters_of, letter_at}
+use Rattle.am_group.specs.Journals.{letters_of_records, letter_at}
 use Rattle.am_packet.specs.Boxes.{Letter}
 use Rattle.am_model.specs.Node.{Node}
 use Rattle.am_model.specs.Step.{row}
-use Rattle.am_model.specs.Ends.{IsEndOf, Does}
+use Rattle.am_model.specs.Ends.{IsEndOf, DoesRow}
 use Rattle.am_shared_journal_defs.specs.declared.terms.SharerKey.TheVariants.{Place, Caller}
 use Rattle.am_shared_journal_defs.specs.declared.terms.WireRefusal.{WireRefusal}
 use Rattle.am_shared_journal_defs.specs.declared.terms.WireRefusal.TheVariants as refusals
@@ -33,7 +33,7 @@ use Rattle.am_race_laws.specs.Told.{world_after}
 use Rattle.am_race_laws.specs.Turns.{cursor, last_heard, is_waited, is_least, waits_in_vain, is_turn, may_end}
 use Rattle.am_shared_journal_defs.specs.declared.choice.Choice.{Choice}
 use Rattle.am_shared_journal_defs.specs.declared.choice.Choice.TheVariants as choice
-use Rattle.am_base.specs.Names.{place_of, has}
+use Rattle.am_base.specs.Names.{place_of_name, has}
 use Rattle.am_shared_journal_defs.specs.Choices.{Luck, choice_of, act_of}
 use Rattle.am_race_laws.specs.Lawful.{IsLawfulRecord, is_of_race, plan_by, terms_of}
 use Rattle.am_race_laws.specs.Tags.{is_turn_part}
@@ -65,13 +65,13 @@ what_of act.Return letter = None
 -- a node does what was asked, or stops
 abbrev pub Steps : Option NodeEvent → Node → Outcome → List Letter → Node → Type 0
 Steps None m outcome letters n = (n ≡ m) × (outcome ≡ said.Stopped) × (letters ≡ [])
-Steps (Some what) m outcome letters n = Does (λ k. row k what) m outcome letters n × IsInOrder n.core
+Steps (Some what) m outcome letters n = DoesRow (λ k. row k what) m outcome letters n × IsInOrder n.core
 
 -- the letter that is heard was sent to the name
 pub record Hears (before : List Record) (name number : ℕ) (heard : Option Letter) : Type 0 where
   pub letter : Letter
   pub is : heard ≡ Some letter
-  pub sent : letter_at (letters_of before) number ≡ Some letter
+  pub sent : letter_at (letters_of_records before) number ≡ Some letter
   pub its : is_for letter name ≡ true
   pub packet : IsPacket letter.packet
 
@@ -107,7 +107,7 @@ pub record IsBox (wire : TableId) (plan : RacePlan) (name : ℕ) (pass : Known) 
   pub cursor_ : closed ≡ None → far ≡ cursor name pass.seen
   pub last_ : closed ≡ None → last ≡ last_heard name pass.seen
   pub stopped_ : closed ≡ None → stopped ≡ has_stopped pass.seen name
-  pub spent : closed ≡ Some refusals.Spent → length pass.seen ≡ most_events
+  pub spent : closed ≡ Some refusals.Spent → length pass.seen ≡ most_events_of_run
 
 -- a share of a caller of the race
 pub record IsShareOf (wire : TableId) (plan : RacePlan) (caller : ℕ) (share : Known) : Type 0 where
@@ -145,7 +145,7 @@ pub record Acted (old new : Boxed) (share share' : Known) (a : Act) (by : By) (c
 -- why a call is refused at a node: by its Stop, by the journal's length, or for want of memory
 abbrev pub IsRefused : List Record → ℕ → CallAnswer → Type 0
 IsRefused seen name answer.Stopped = has_stopped seen name ≡ true
-IsRefused seen name answer.Spent = length seen ≡ most_events
+IsRefused seen name answer.Spent = length seen ≡ most_events_of_run
 IsRefused seen name answer.NoMemory = Unit {0}
 IsRefused seen name _ = ⊥
 
@@ -188,7 +188,7 @@ pub record IsLeastOf (waited stopped : List ℕ) (name : ℕ) : Type 0 where
   pub low : name < 256
   pub first : has waited name ≡ true
   pub second : has stopped name ≡ true
-  pub below : (place : ℕ) → place < place_of name → InBoth waited stopped place → ⊥
+  pub below : (place : ℕ) → place < place_of_name name → InBoth waited stopped place → ⊥
 
 -- the letter that a choice hears
 abbrev pub heard_in : Choice → Option ℕ
@@ -203,7 +203,7 @@ pub record Picked (luck : Luck) (name : ℕ) (seen last : List Record) (a : Act)
   pub first : GoesOn (Place name ∷ []) seen two
   pub then_ : GoesOn (Place name ∷ []) two last
   pub said : Choice
-  pub is : said ≡ choice_of luck (next_for (letters_of two) name (cursor name seen)) (last_heard name seen)
+  pub is : said ≡ choice_of luck (next_for (letters_of_records two) name (cursor name seen)) (last_heard name seen)
   pub act_ : a ≡ act_of said
   pub lost_ : lost ≡ lost_in said
 

@@ -3,7 +3,7 @@ use Rattle.std.specs.Prelude.{ℕ, ◌+◌, ◌-◌, List, [], ◌∷◌, length
 use Rattle.std.specs.Prelude.{if◌then◌else◌}
 use Rattle.std.specs.List.{list_all, list_any}
 use Rattle.am_base.specs.declared.outcome.Outcome.{Outcome}
-use Rattle.am_base.specs.Names.{place_of}
+use Rattle.am_base.specs.Names.{place_of_name}
 use Rattle.am_packet.specs.Boxes.{Letter}
 use Rattle.am_group.specs.declared.event.Act.{Act}
 use Rattle.am_group.specs.declared.event.Act.TheVariants as act
@@ -69,7 +69,7 @@ is_one_call turns planned records = if is_take planned then is_receive turns rec
 -- all at one place
 abbrev pub at_one_place : List Record → Bool
 at_one_place [] = true
-at_one_place (r ∷ rs) = list_all (λ q. place_of q.event.node == place_of r.event.node) rs
+at_one_place (r ∷ rs) = list_all (λ q. place_of_name q.event.node == place_of_name r.event.node) rs
 
 -- ---- a caller
 

@@ -1,9 +1,9 @@
 -- Callers as contracts see them, and what a blocking call leaves.
 use Rattle.std.specs.Prelude.{◌≡◌, ℕ, ◌+◌, ◌≤◌, ◌<◌, List, [], ◌∷◌, ◌++◌, length, Some, None, All, true, false, ◌==◌}
 use Rattle.std.specs.List.{list_all, list_any}
-use Rattle.am_base.specs.Most.{most_events}
+use Rattle.am_base.specs.Most.{most_events_of_run}
 use Rattle.atomic_table.specs.Seated.{TableId}
-use Rattle.am_base.specs.Names.{place_of}
+use Rattle.am_base.specs.Names.{place_of_name}
 use Rattle.am_group.specs.declared.event.Act.{Act}
 use Rattle.am_group.specs.declared.event.Record.{Record}
 use Rattle.am_group.specs.declared.plan.RacePlan.{RacePlan}
@@ -49,8 +49,8 @@ pub record IsUnanswered (turns : ℕ) (mine : List Record) : Type 0 where
 
 -- an answer goes by the records of its call. Where these have none it was refused: Stopped by its node's Stop, Spent by the journal's length
 abbrev pub IsAnswerOfCall : ℕ → List Record → List Record → ℕ → CallAnswer → Type 0
-IsAnswerOfCall turns mine seen node answer.Stopped = (has_stopped seen (place_of node) ≡ true) × IsUnanswered turns mine
-IsAnswerOfCall turns mine seen node answer.Spent = (length seen ≡ most_events) × IsUnanswered turns mine
+IsAnswerOfCall turns mine seen node answer.Stopped = (has_stopped seen (place_of_name node) ≡ true) × IsUnanswered turns mine
+IsAnswerOfCall turns mine seen node answer.Spent = (length seen ≡ most_events_of_run) × IsUnanswered turns mine
 IsAnswerOfCall turns mine seen node answer.NoMemory = IsUnanswered turns mine
 IsAnswerOfCall turns mine seen node other = answer_of turns mine ≡ Some other
 
@@ -65,7 +65,7 @@ pub record Called (plan : RacePlan) (node : ℕ) (a : Act) (old new : Calling) (
   pub begins : StartsWith new.seen old.seen
   pub others : of_caller old.number new.seen ≡ of_caller old.number old.seen ++ of_next old new.seen
   pub its_records : is_one_call plan.turns a (of_next old new.seen) ≡ true
-  pub place : list_all (λ r. place_of r.event.node == place_of node) (of_next old new.seen) ≡ true
+  pub place : list_all (λ r. place_of_name r.event.node == place_of_name node) (of_next old new.seen) ≡ true
   pub most : length (of_next old new.seen) ≤ plan.turns + 2
   pub spent : its ≡ answer.Spent → length (of_next old new.seen) ≤ plan.turns + 1
   pub answer_ : IsAnswerOfCall plan.turns (of_next old new.seen) new.seen node its

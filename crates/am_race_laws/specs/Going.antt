@@ -3,10 +3,10 @@ use Rattle.std.specs.Prelude.{◌≡◌, ℕ, ◌+◌, ◌≤◌, List, [], ◌�
 use Rattle.std.specs.Prelude.{if◌then◌else◌}
 use Rattle.std.specs.List.{list_all}
 use Rattle.atomic_table.specs.Seated.{TableId}
-use Rattle.am_base.specs.Most.{most_events}
+use Rattle.am_base.specs.Most.{most_events_of_run}
 use Rattle.am_base.specs.declared.outcome.Outcome.{Outcome}
 use Rattle.am_base.specs.declared.outcome.Outcome.TheVariants as said
-use Rattle.am_base.specs.Names.{place_of}
+use Rattle.am_base.specs.Names.{place_of_name}
 use Rattle.am_group.specs.declared.event.Act.{Act}
 use Rattle.am_group.specs.declared.event.Act.TheVariants as act
 use Rattle.am_group.specs.declared.event.By.{By}
@@ -15,7 +15,7 @@ use Rattle.am_group.specs.declared.event.Part.TheVariants.{Call, Check}
 use Rattle.am_group.specs.declared.event.Record.{Record}
 use Rattle.am_group.specs.declared.plan.RacePlan.{RacePlan}
 use Rattle.am_base.specs.declared.event.NodeEvent.{NodeEvent}
-use Rattle.am_group_defs.specs.Claims.{heard_by}
+use Rattle.am_group_defs.specs.Claims.{packet_heard_by_act}
 use Rattle.am_model.specs.Node.{Node}
 use Rattle.am_model.specs.Step.{step}
 use Rattle.am_shared_journal_defs.specs.Choices.{Luck, after_draw}
@@ -86,7 +86,7 @@ CallHasBegun a (Some came) first = (has_check a ≡ true) × (own_answer a came.
 
 -- one word was drawn where the turn heard or lost a letter, and none where it didn't
 abbrev pub luck_behind : Luck → Act → ℕ → Luck
-luck_behind luck a lost = if nat_lt 0 (max (heard_by a) lost) then record luck { words = after_draw luck.words } else luck
+luck_behind luck a lost = if nat_lt 0 (max (packet_heard_by_act a) lost) then record luck { words = after_draw luck.words } else luck
 
 -- ---- one look
 
@@ -95,7 +95,7 @@ pub record Meets (wire : TableId) (plan : RacePlan) (caller : ℕ) (box : Boxed)
   pub hand : IsHand wire plan caller share luck
   pub open_ : box.closed ≡ None
   pub runs : has_stopped box.seen box.name ≡ false
-  pub few : length box.seen ≤ most_events
+  pub few : length box.seen ≤ most_events_of_run
   pub same : share.seen ≡ box.seen
 
 -- a record stands behind what a caller had seen and the others' records since, and the caller has seen it
@@ -193,12 +193,12 @@ pub record CallerHasSeenMore (place : ℕ) (tag : Tag) (old new mine : List Reco
   pub all : of_caller tag.caller new ≡ of_caller tag.caller old ++ mine
   pub caller : list_all (λ r. r.by.caller == tag.caller) mine ≡ true
   pub call : list_all (λ r. r.by.call == tag.call) mine ≡ true
-  pub place_ : list_all (λ r. place_of r.event.node == place) mine ≡ true
+  pub place_ : list_all (λ r. place_of_name r.event.node == place) mine ≡ true
 
 -- a call was made at a node, of which these records stood there before; it answers by its records
 pub record Made (plan : RacePlan) (node : ℕ) (tag : Tag) (a : Act) (first old new : List Record) (its : CallAnswer) : Type 0 where
   pub mine : List Record
-  pub grows : CallerHasSeenMore (place_of node) tag old new mine
+  pub grows : CallerHasSeenMore (place_of_name node) tag old new mine
   pub planned : is_one_call plan.turns a (first ++ mine) ≡ true
   pub most : length (first ++ mine) ≤ plan.turns + 2
   pub spent : its ≡ answer.Spent → length (first ++ mine) ≤ plan.turns + 1

@@ -2,12 +2,12 @@
 use Rattle.std.specs.Prelude.{◌≡◌, ℕ, ◌<◌, List, [], length, Some, Bool, true, false}
 use Rattle.am_packet.specs.Boxes.{Letter}
 use Rattle.am_group.specs.Addressed.{is_for}
-use Rattle.am_group.specs.Journals.{letters_of, letter_at}
+use Rattle.am_group.specs.Journals.{letters_of_records, letter_at}
 use Rattle.am_group.specs.declared.event.Act.{Act}
 use Rattle.am_group.specs.declared.event.Act.TheVariants as act
 use Rattle.am_group.specs.declared.event.Record.{Record}
 use Rattle.am_group.specs.declared.plan.RacePlan.{RacePlan}
-use Rattle.am_group.specs.Deliveries.{name_of}
+use Rattle.am_group.specs.Deliveries.{acting_name_of_record}
 use Rattle.am_shared_journal_defs.specs.declared.terms.Terms.{Terms}
 use Rattle.am_shared_journal_defs.specs.Stops.{has_stopped}
 use Rattle.am_race_laws.specs.Told.{IsNext}
@@ -32,7 +32,7 @@ is_of_race _ = true
 -- a letter was sent, and is for a name
 pub record IsSent (before : List Record) (name number : ℕ) : Type 0 where
   pub letter : Letter
-  pub there : letter_at (letters_of before) number ≡ Some letter
+  pub there : letter_at (letters_of_records before) number ≡ Some letter
   pub its : is_for letter name ≡ true
 
 -- a record of its place's first life, which its event names, and which is what its event gives; it hears what was sent to it,
@@ -44,5 +44,5 @@ pub record IsLawfulRecord (terms : Terms) (before : List Record) (r : Record) : 
   pub next : IsNext terms.founding before r
   pub turn : is_turn_part r.by.part ≡ true → is_turn (plan_by terms) before r.event r.by ≡ true
   pub end_ : is_end r ≡ true → may_end (plan_by terms) before r.event r.by ≡ true
-  pub stop : has_stopped before (name_of r) ≡ false
-  pub hears : (number : ℕ) → r.event.act ≡ act.Hear number → IsSent before (name_of r) number
+  pub stop : has_stopped before (acting_name_of_record r) ≡ false
+  pub hears : (number : ℕ) → r.event.act ≡ act.Hear number → IsSent before (acting_name_of_record r) number

@@ -1,7 +1,7 @@
 -- What holds of the definitions.
 use Rattle.std.specs.Prelude.{◌≡◌, ◌≢◌, ◌↔◌, ℕ, List, [], ◌∷◌, ◌++◌, true, All}
 use Rattle.am_base.specs.Founding.{Rules}
-use Rattle.am_base.specs.Names.{place_of, has}
+use Rattle.am_base.specs.Names.{place_of_name, has}
 use Rattle.am_group.specs.declared.event.By.{By}
 use Rattle.am_group.specs.declared.event.Event.{Event}
 use Rattle.am_group.specs.declared.event.Record.{Record}
@@ -24,9 +24,9 @@ EachIsNext = (rules : Rules) (journal : List Record) → IsLegal rules journal
 
 -- a record of another place leaves a name's node, and the life of its place
 abbrev pub OthersStay : Type 0
-OthersStay = (rules : Rules) (before : List Record) (r : Record) (name : ℕ) → place_of name ≢ place_of r.event.node
+OthersStay = (rules : Rules) (before : List Record) (r : Record) (name : ℕ) → place_of_name name ≢ place_of_name r.event.node
     → ((world_after rules (before ++ r ∷ [])).nodes name ≡ (world_after rules before).nodes name)
-    × ((world_after rules (before ++ r ∷ [])).lives (place_of name) ≡ (world_after rules before).lives (place_of name))
+    × ((world_after rules (before ++ r ∷ [])).lives (place_of_name name) ≡ (world_after rules before).lives (place_of_name name))
 
 -- what is known, what a place and a caller did, and the records of a call are the same
 pub record KnowledgeIsSame (at by number : ℕ) (before after : List Record) : Type 0 where
@@ -37,7 +37,7 @@ pub record KnowledgeIsSame (at by number : ℕ) (before after : List Record) : T
 
 -- a record of another place and another caller
 pub record RecordIsApart (at by : ℕ) (r : Record) : Type 0 where
-  pub place : place_of r.event.node ≢ at
+  pub place : place_of_name r.event.node ≢ at
   pub caller : r.by.caller ≢ by
 
 -- it leaves them
@@ -46,7 +46,7 @@ OthersAreApart = (place caller call : ℕ) (before : List Record) (r : Record) �
 
 -- a turn is one also where others' records came between
 abbrev pub TurnsStay : Type 0
-TurnsStay = (plan : RacePlan) (before more : List Record) (e : Event) (by : By) → All (RecordIsApart (place_of e.node) by.caller) more
+TurnsStay = (plan : RacePlan) (before more : List Record) (e : Event) (by : By) → All (RecordIsApart (place_of_name e.node) by.caller) more
     → is_turn plan before e by ≡ true
     → is_turn plan (before ++ more) e by ≡ true
 

@@ -1,7 +1,7 @@
 -- The calls of a race's threads.
 use Rattle.std.specs.Prelude.{◌≡◌, ℕ, ◌+◌, ◌*◌, ◌≤◌, List, [], length, Option, Some, None, Bool, true, false, slice_get, sum_by}
 use Rattle.std.specs.List.{list_all}
-use Rattle.am_base.specs.Most.{most_events}
+use Rattle.am_base.specs.Most.{most_events_of_run}
 use Rattle.am_group.specs.declared.event.Act.{Act}
 use Rattle.am_group.specs.declared.event.Act.TheVariants as act
 use Rattle.am_group.specs.declared.event.Record.{Record}
@@ -42,7 +42,7 @@ has_calls plan = list_all (λ (thread : ThreadPlan). list_all is_call thread.cal
 pub record MayRace (plan : RacePlan) : Type 0 where
   pub threads : length plan.threads ≤ 16
   pub calls : has_calls plan ≡ true
-  pub most : most_records plan ≤ most_events
+  pub most : most_records plan ≤ most_events_of_run
 
 -- each thread has done its calls, as far as they go on
 abbrev pub ArePlayed : RacePlan → List Record → Type 0

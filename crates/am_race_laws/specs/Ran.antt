@@ -1,8 +1,8 @@
 -- What the callers of a race leave.
 use Rattle.std.specs.Prelude.{◌≡◌, ℕ, ◌+◌, ◌*◌, ◌<◌, ◌≤◌, List, [], ◌∷◌, length, map, take, Option, Some, None, Bool, true, ◌==◌, slice_get, All}
 use Rattle.std.specs.List.{list_all, range_with_len}
-use Rattle.am_base.specs.Most.{most_events}
-use Rattle.am_base.specs.Names.{place_of}
+use Rattle.am_base.specs.Most.{most_events_of_run}
+use Rattle.am_base.specs.Names.{place_of_name}
 use Rattle.am_group.specs.declared.event.Act.{Act}
 use Rattle.am_group.specs.declared.event.Record.{Record}
 use Rattle.am_group.specs.declared.plan.RacePlan.{RacePlan}
@@ -49,8 +49,8 @@ pub record EndsFor (journal : List Record) (c : Calling) : Type 0 where
 
 -- a thread has done its calls at its node, as far as they go on, by what its caller has seen; it may have ended before where the node stopped by then
 pub record HasPlayed (turns : ℕ) (thread : ThreadPlan) (c : Calling) : Type 0 where
-  pub place : list_all (λ r. place_of r.event.node == place_of thread.node) (of_caller c.number c.seen) ≡ true
-  pub finished : (stopped : Bool) → (has_stopped c.seen (place_of thread.node) ≡ true → stopped ≡ true)
+  pub place : list_all (λ r. place_of_name r.event.node == place_of_name thread.node) (of_caller c.number c.seen) ≡ true
+  pub finished : (stopped : Bool) → (has_stopped c.seen (place_of_name thread.node) ≡ true → stopped ≡ true)
       → are_finished turns stopped 0 thread.calls (of_caller c.number c.seen) ≡ true
 
 -- the refusal that an answer is
@@ -92,7 +92,7 @@ IsPlanned plan c = take (length c.calls) (calls_of plan c.number) ≡ c.calls
 pub record HasRun (plan : RacePlan) (c : Calling) (refusal : Option WireRefusal) : Type 0 where
   pub planned : IsPlanned plan c
   pub most : length (of_caller c.number c.seen) ≤ most_records_of plan c.number
-  pub spent : refusal ≡ Some refusals.Spent → (length c.seen ≡ most_events) × (length (of_caller c.number c.seen) < most_records_of plan c.number)
+  pub spent : refusal ≡ Some refusals.Spent → (length c.seen ≡ most_events_of_run) × (length (of_caller c.number c.seen) < most_records_of plan c.number)
   pub played : refusal ≡ None → (thread : ThreadPlan) → slice_get plan.threads c.number ≡ Some thread → HasPlayed plan.turns thread c
 
 -- ---- the end

@@ -5,14 +5,14 @@ use Rattle.am_base.specs.declared.outcome.Outcome.TheVariants as said
 use Rattle.am_packet.specs.declared.packet.Packet.{Packet}
 use Rattle.am_packet.specs.declared.packet.Packet.TheVariants as packets
 use Rattle.am_packet.specs.Boxes.{Letter}
-use Rattle.am_node_defs.specs.Sends.{is_settled}
+use Rattle.am_node_defs.specs.Sends.{has_settled_send}
 use Rattle.am_group.specs.declared.event.Act.{Act}
 use Rattle.am_group.specs.declared.event.Act.TheVariants as act
 use Rattle.am_group.specs.declared.event.Record.{Record}
-use Rattle.am_model.specs.Node.{Node, is_member, has_departed, has_log}
+use Rattle.am_model.specs.Node.{Node, is_member, has_departed, has_log_by_status}
 use Rattle.am_model.specs.declared.info.BallotEnd.{BallotEnd}
 use Rattle.am_model.specs.declared.info.BallotEnd.TheVariants.{Going, Ended}
-use Rattle.am_model.specs.Info.{ballot_end}
+use Rattle.am_model.specs.Info.{end_of_ballot_of_round}
 use Rattle.am_race_laws.specs.Answers.{ballot_answer}
 
 -- the round of an Invite
@@ -37,15 +37,15 @@ is_ended (Some (Ended outcome)) = is_some (ballot_answer outcome)
 
 -- a queued send is settled
 abbrev pub send_is_settled : Node → Outcome → Bool
-send_is_settled m (said.Queued req) = is_settled req m.sends
+send_is_settled m (said.Queued req) = has_settled_send req m.sends
 send_is_settled m _ = false
 
 -- behind its own act, of which this came, with a ballot of this round
 abbrev pub is_ready_after : Node → Act → Outcome → ℕ → Bool
 is_ready_after m (act.Send body) outcome round = send_is_settled m outcome
-is_ready_after m act.Join outcome round = has_log m.status
+is_ready_after m act.Join outcome round = has_log_by_status m.status
 is_ready_after m act.Leave outcome round = has_departed m.status
-is_ready_after m (act.Reset least resilience) outcome round = is_ended (ballot_end round m.ballot)
+is_ready_after m (act.Reset least resilience) outcome round = is_ended (end_of_ballot_of_round round m.ballot)
 is_ready_after m _ outcome round = false
 
 -- a receive makes its act at its end

@@ -1,13 +1,13 @@
 -- Whose records they are: of a place, of a caller, of one call; and what a caller at a place knows of a journal at least.
 use Rattle.std.specs.Prelude.{ℕ, List, [], ◌∷◌, Bool, true, false, ◌&&◌, ◌||◌, ◌==◌, if◌then◌else◌, Option, filter, find}
 use Rattle.std.specs.List.{list_any}
-use Rattle.am_base.specs.Names.{place_of}
+use Rattle.am_base.specs.Names.{place_of_name}
 use Rattle.am_group.specs.declared.event.Part.{Part}
 use Rattle.am_group.specs.declared.event.Part.TheVariants.{Call, Turn, Check}
 use Rattle.am_group.specs.declared.event.Record.{Record}
 
 abbrev pub of_place : ℕ → List Record → List Record
-of_place place records = filter (λ r. place_of r.event.node == place) records
+of_place place records = filter (λ r. place_of_name r.event.node == place) records
 
 abbrev pub of_caller : ℕ → List Record → List Record
 of_caller caller records = filter (λ r. r.by.caller == caller) records
@@ -40,7 +40,7 @@ own_of records = find (λ r. is_own r.by.part) records
 -- ---- what is known
 
 abbrev pub is_either : ℕ → ℕ → Record → Bool
-is_either place caller r = (place_of r.event.node == place) || (r.by.caller == caller)
+is_either place caller r = (place_of_name r.event.node == place) || (r.by.caller == caller)
 
 -- the records up to the last one of a place or of a caller
 unfoldable pub up_to_last : ℕ → ℕ → List Record → List Record

@@ -1,8 +1,8 @@
 -- What stands for a world goes on standing through an event that no node does.
 use Rattle.am_refinement.proofs.Words.{◌≡◌, ℕ, ◌+◌, ◌==◌, ◌||◌, Bool, true, false, if◌then◌else◌, List, [], ◌∷◌, ◌++◌, refl, sym, ap, ◌∙◌, subst, arith}
-use Rattle.am_refinement.proofs.Words.{take, list_any, nat_tests, list_any-append, Outcome, Event, Group, put, with_node, Node, set_at}
-use Rattle.am_refinement.proofs.Words.{has_departed, up_to_next, World, current, is_stopped, with_record, lives_on, split_on_bool, actor, idles, returns, steps}
-use Rattle.am_refinement.proofs.Words.{NameStands, FrontsStand, Stands, EventsStand, EventStands, no_move, stop, begins_refl, Begins}
+use Rattle.am_refinement.proofs.Words.{take, list_any, nat_tests, list_any-append, Outcome, Event, Group, function_with_value, group_with_node, Node, map_with_value}
+use Rattle.am_refinement.proofs.Words.{has_departed, up_to_next, World, current, is_stopped, world_with_record, world_with_next_life, split_on_bool, acting_name, idles, returns, steps}
+use Rattle.am_refinement.proofs.Words.{NameStands, FrontsStand, Stands, EventsStand, EventStands, no_move, stop, list_begins_itself, IsBeginningOf}
 use Rattle.am_step_laws.specs.Events.{stops}
 use Rattle.am_base.specs.declared.outcome.Outcome.TheVariants as said
 use Rattle.am_abstract_group.specs.Group as groups
@@ -10,12 +10,12 @@ use Rattle.am_refinement.proofs.Names.{name_stands_with_same_group, views_stand_
 
 -- ---- a record more
 
-recorded : (w : World) (e : Event) (o : Outcome) (s : Group) → Stands w s → Stands (with_record w e o) s
-unfolding with_record
+recorded : (w : World) (e : Event) (o : Outcome) (s : Group) → Stands w s → Stands (world_with_record w e o) s
+unfolding world_with_record
 recorded w e o s h = record {
-  each = λ i few. name_stands_with_same_group w (with_record w e o) i (w.nodes i) (s.node i) refl refl (h.each i few);
+  each = λ i few. name_stands_with_same_group w (world_with_record w e o) i (w.nodes i) (s.node i) refl refl (h.each i few);
   fronts = h.fronts;
-  views = views_stand_if_lines_stay w (with_record w e o) s.views refl (λ stamp. refl) h.views;
+  views = views_stand_if_lines_stay w (world_with_record w e o) s.views refl (λ stamp. refl) h.views;
   group = h.group;
 }
 
@@ -34,12 +34,12 @@ or_some false = refl
 
 with_stop : (w v : World) (i : ℕ) (m : Node) (a : groups.ChainNode) → v.group ≡ w.group → is_stopped v i ≡ true → NameStands w i m a
     → NameStands v i m (record a { stopped = true })
-with_stop w v i m a group_ now h = name_stands_in_later_world w v i m a true (subst (Begins w.group) (sym group_) (begins_refl w.group)) (sym now) h
+with_stop w v i m a group_ now h = name_stands_in_later_world w v i m a true (subst (IsBeginningOf w.group) (sym group_) (list_begins_itself w.group)) (sym now) h
 
 -- with a name that has stopped
 stopped_more : (w v : World) (name : ℕ) (s : Group) → v.nodes ≡ w.nodes → v.group ≡ w.group → v.views ≡ w.views → v.stopped ≡ w.stopped ++ name ∷ []
-    → Stands w s → Stands v (with_node s name (record (s.node name) { stopped = true }))
-unfolding put
+    → Stands w s → Stands v (group_with_node s name (record (s.node name) { stopped = true }))
+unfolding function_with_value
 stopped_more w v name s nodes group_ views stopped h =
     let at : (i : ℕ) → is_stopped v i ≡ (is_stopped w i || ((name == i) || false)) = λ i. ap (λ (l : List ℕ). list_any (λ x. x == i) l) stopped
     ∙ one_more w.stopped name i in
@@ -71,14 +71,14 @@ stopped_more w v name s nodes group_ views stopped h =
 
 -- ---- each event that no node does
 
-pub idle_event_keeps_group_standing : (w : World) (e : Event) (o : Outcome) (s : Group) → Stands w s → EventStands (with_record w e o) s
+pub idle_event_keeps_group_standing : (w : World) (e : Event) (o : Outcome) (s : Group) → Stands w s → EventStands (world_with_record w e o) s
 idle_event_keeps_group_standing w e o s h = no_move (recorded w e o s h)
 
 pub stop_keeps_group_standing : (w : World) (e : Event) (o : Outcome) (name : ℕ) (s : Group) → Stands w s
-    → EventStands (with_record (record w { stopped = w.stopped ++ name ∷ [] }) e o) s
+    → EventStands (world_with_record (record w { stopped = w.stopped ++ name ∷ [] }) e o) s
 stop_keeps_group_standing w e o name s h =
     let v = record w { stopped = w.stopped ++ name ∷ [] } in
-    let next = with_node s name (record (s.node name) { stopped = true }) in
+    let next = group_with_node s name (record (s.node name) { stopped = true }) in
     stop name (recorded v e o next (stopped_more w v name s refl refl refl refl h))
 
 -- the name of a place that returns stops, if it hadn't
@@ -93,13 +93,13 @@ same_lives w v s nodes group_ views stopped h = record {
   group = h.group ∙ sym group_;
 }
 
-pub return_keeps_group_standing : (w : World) (e : Event) (o : Outcome) (place : ℕ) (s : Group) → Stands w s → EventStands (lives_on (with_record w e o) place) s
-unfolding with_record
+pub return_keeps_group_standing : (w : World) (e : Event) (o : Outcome) (place : ℕ) (s : Group) → Stands w s → EventStands (world_with_next_life (world_with_record w e o) place) s
+unfolding world_with_record
 return_keeps_group_standing w e o place s h =
     by_stop (is_stopped w (current w place))
   where
     after_ : List ℕ → World
-    after_ names = record (with_record w e o) { lives = set_at w.lives place (w.lives place + 1); stopped = names }
+    after_ names = record (world_with_record w e o) { lives = map_with_value w.lives place (w.lives place + 1); stopped = names }
 
     by_stop : (b : Bool) → EventStands (after_ (if b then w.stopped else w.stopped ++ current w place ∷ [])) s
     by_stop true = no_move (same_lives w (after_ w.stopped) s refl refl refl refl h)
@@ -108,6 +108,6 @@ return_keeps_group_standing w e o place s h =
 
 pub idle_events_keep_group_standing : EventsStand
 idle_events_keep_group_standing w e v s (idles o idle) is h = idle_event_keeps_group_standing w e o s h
-idle_events_keep_group_standing w e v s (stops runs) is h = stop_keeps_group_standing w e said.Stopped (actor w e) s h
+idle_events_keep_group_standing w e v s (stops runs) is h = stop_keeps_group_standing w e said.Stopped (acting_name w e) s h
 idle_events_keep_group_standing w e v s (returns place at gone more) is h = return_keeps_group_standing w e (said.Returned (w.lives place + 1)) place s h
 idle_events_keep_group_standing w e v s (steps c step runs cause effect) is h = absurd is

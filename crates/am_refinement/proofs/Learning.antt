@@ -1,9 +1,9 @@
 -- What the group accepts at the end of a step, and what the name learns of it.
 use Rattle.am_refinement.proofs.Words.{no_more_group, ◌≡◌, ℕ, ◌+◌, ◌-◌, ◌<◌, ◌≤◌, ◌==◌, max, min, nat_lt, true, false, List, ◌++◌, length, take, drop, refl, sym}
-use Rattle.am_refinement.proofs.Words.{ap, ◌∙◌, subst, arith, append-nil, take-append-add, drop-append-add, drop-append_seam, nat_tests, length-take, Entry, top_of}
-use Rattle.am_refinement.proofs.Words.{CoreState, accept, pass_over, Begins, key, begins_refl, beginning_length_le, shorter_beginning_begins_longer, take_begins_list, length_take, Group, IsUp}
-use Rattle.am_refinement.proofs.Words.{MayAccept, GroupKeeps, Node, view, acts, is_sequencer, refresh, World, group_with, group_after, split_on_bool, both_of_and, refresh_rests_with_list}
-use Rattle.am_refinement.proofs.Words.{is_sequencer_after_rest, NameStands, within, no_more, rises, ComesToBeforeEnd, AcceptsAndLearns, RefreshLearns, MayLearn, Word, nothing}
+use Rattle.am_refinement.proofs.Words.{ap, ◌∙◌, subst, arith, append-nil, take-append-add, drop-append-add, drop-append_seam, nat_tests, length-take, Entry, top_of_log}
+use Rattle.am_refinement.proofs.Words.{CoreState, raise_accepted_to_told, pass_over_below_join, IsBeginningOf, key_of_stamp, list_begins_itself, beginning_is_no_longer, shorter_beginning_begins_longer, taken_front_begins_list, length_of_taken_list, Group, IsUp}
+use Rattle.am_refinement.proofs.Words.{MayAccept, GroupKeeps, Node, view, acts_in_its_view, is_sequencer, refresh, World, list_with_accepted, list_after_step, split_on_bool, both_of_and, refresh_rests_with_list}
+use Rattle.am_refinement.proofs.Words.{is_sequencer_after_rest, NameStands, within, no_more, rises, ComesToBeforeEnd, AcceptsAndLearns, RefreshLearns, MayLearn, SequencersWord, nothing}
 use Rattle.am_refinement.proofs.Words.{of_sequencer}
 use Rattle.am_abstract_group.specs.Group as groups
 use Rattle.am_model.specs.Node as nodes
@@ -21,20 +21,20 @@ record Learns (s : Group) (name : ℕ) (n : Node) (heard : ℕ) : Type 0 where
   pub given : n.core.acc ≤ max (s.node name).told n.core.told
   pub within : n.core.acc ≤ nodes.top n
 
-word_group : (s : Group) (name heard : ℕ) → Word s name heard → heard ≤ length s.group
+word_group : (s : Group) (name heard : ℕ) → SequencersWord s name heard → heard ≤ length s.group
 word_group s name heard (nothing z) = omega arith
 word_group s name heard (of_sequencer from v low says) = says.accepted
 
-word_before : (s : Group) (name heard x : ℕ) → Word s name heard → s.views.decided x ≡ true → key (s.node name).promise < x
+word_before : (s : Group) (name heard x : ℕ) → SequencersWord s name heard → s.views.decided x ≡ true → key_of_stamp (s.node name).promise < x
     → heard ≤ length (s.views.chosen x).before
 word_before s name heard x (nothing z) d above = omega arith
 word_before s name heard x (of_sequencer from v low says) d above = says.before x d (omega arith)
 
 follower_learns : (v : World) (name heard : ℕ) (n : Node) (s : Group) (group : List Entry) → GroupKeeps s → NameStands v name n (s.node name)
-    → IsUp (s.node name) → Begins s.group group → Word s name heard → Learns s name n heard → MayLearn s name n group
+    → IsUp (s.node name) → IsBeginningOf s.group group → SequencersWord s name heard → Learns s name n heard → MayLearn s name n group
 follower_learns v name heard n s group k old up grows word f =
     let ok = k.each name in
-    let more = beginning_length_le grows in
+    let more = beginning_is_no_longer grows in
     let low = word_group s name heard word in
     let told = f.told in
     let up_to = f.up_to in
@@ -53,11 +53,11 @@ follower_learns v name heard n s group k old up grows word f =
 -- ---- the group list after a step
 
 pub sequencer_view_is_its_own : (n : Node) → is_sequencer n ≡ true → ((view n).by == n.core.who) ≡ true
-sequencer_view_is_its_own n t = (both_of_and (acts n) ((view n).by == n.core.who) t).1
+sequencer_view_is_its_own n t = (both_of_and (acts_in_its_view n) ((view n).by == n.core.who) t).1
 
 -- what is accepted beyond the group list is the list up to there
-pub grown_group_is_list_front : (v : World) (i : ℕ) (n : Node) (a : groups.ChainNode) → NameStands v i n a → Begins v.group a.list
-    → group_with v.group n.core ≡ take (max (length v.group) n.core.acc) a.list
+pub grown_group_is_list_front : (v : World) (i : ℕ) (n : Node) (a : groups.ChainNode) → NameStands v i n a → IsBeginningOf v.group a.list
+    → list_with_accepted v.group n.core ≡ take (max (length v.group) n.core.acc) a.list
 grown_group_is_list_front v i n a h begins =
     let start_ = n.core.log.start in
     let g = length v.group in
@@ -71,14 +71,14 @@ grown_group_is_list_front v i n a h begins =
     let high : g + (n.core.acc - g) ≡ max g n.core.acc = omega arith in
     ap (λ l. v.group ++ take (n.core.acc - g) l) rest ∙ sym (take-append-add v.group begins.rest (n.core.acc - g)) ∙ (λ i. take (high i) (begins.same i))
 
-pub group_with_no_more_accepted : (group : List Entry) (core : CoreState) → core.acc ≤ length group → group_with group core ≡ group
+pub group_with_no_more_accepted : (group : List Entry) (core : CoreState) → core.acc ≤ length group → list_with_accepted group core ≡ group
 group_with_no_more_accepted group core low =
     let none : core.acc - length group ≡ 0 = omega arith in
     ap (λ k. group ++ take k (drop (length group - core.log.start) core.log.entries)) none ∙ append-nil group
 
 -- ---- a sequencer
 
-grown_after : (group list : List Entry) (n : Node) → is_sequencer n ≡ true → group_with group n.core ≡ list → group_after group n ≡ list
+grown_after : (group list : List Entry) (n : Node) → is_sequencer n ≡ true → list_with_accepted group n.core ≡ list → list_after_step group n ≡ list
 grown_after group list n t is = let by = sequencer_view_is_its_own n t in rw by is
 
 -- what it tells is what it accepts
@@ -89,7 +89,7 @@ told_after x t within = rw t (told_after_lead x ∙ sym (accepted_after_lead x w
 -- and who follows accepts what it is told of
 pub follower_refresh_accepts_told : (x : Node) → is_sequencer x ≡ false
     → ((refresh x).core.told ≡ x.core.told) × ((refresh x).core.acc ≡ max x.core.acc (min x.core.told (nodes.top x)))
-unfolding refresh accept pass_over
+unfolding refresh raise_accepted_to_told pass_over_below_join
 follower_refresh_accepts_told x f = rw f (refl, refl)
 
 fewer : (node : ℕ → groups.ChainNode) (list : List Entry) (from g to : ℕ) → from ≤ g → g ≤ to → MayAccept node list from to → MayAccept node list g to
@@ -116,14 +116,14 @@ module _ (w : World) (s : Group) (name heard : ℕ) (x : Node) (k : GroupKeeps s
       let up_to = h.up_to in
       let given = h.given in
       let is = follower_refresh_accepts_told x f in
-      let same_top = ap top_of (refresh_rests_with_list x).log in
+      let same_top = ap top_of_log (refresh_rests_with_list x).log in
       let same = no_more_group w.group y (omega arith) in
-      let grows : Begins w.group (group_after w.group y) = subst (Begins w.group) (sym same) (begins_refl w.group) in
+      let grows : IsBeginningOf w.group (list_after_step w.group y) = subst (IsBeginningOf w.group) (sym same) (list_begins_itself w.group) in
       record {
         accepts = no_more same;
         grows = grows;
-        learns = follower_learns (within w name y) name heard y s (group_after w.group y) k stands_after up
-            (subst (λ g. Begins g (group_after w.group y)) (sym h.group) grows) h.word
+        learns = follower_learns (within w name y) name heard y s (list_after_step w.group y) k stands_after up
+            (subst (λ g. IsBeginningOf g (list_after_step w.group y)) (sym h.group) grows) h.word
             (record { told = omega arith; up_to = omega arith; given = omega arith; within = omega arith });
       }
 
@@ -135,22 +135,22 @@ module _ (w : World) (s : Group) (name heard : ℕ) (x : Node) (k : GroupKeeps s
       let l = sequencer_leads_its_line (within w name x) name x s speaks t in
       let counts = h.leads t in
       let chain = ((k.each name).leads l.leads).chain in
-      let begins : Begins w.group a.list = subst (λ g. Begins g a.list) h.group (subst (Begins s.group) (sym chain) k.group) in
+      let begins : IsBeginningOf w.group a.list = subst (λ g. IsBeginningOf g a.list) h.group (subst (IsBeginningOf s.group) (sym chain) k.group) in
       let own : (s.node x.core.who).list ≡ a.list = ap (λ j. (s.node j).list) h.who in
       let held = refresh_accepts_held_entries (within w name x) name x a s.node h.stands t counts.0
       (record { reports = counts.1; own = own; blank = λ j. (k.each j).blank }) in
       let g = length w.group in
       let size = ap length h.group in
-      let some = beginning_length_le begins in
+      let some = beginning_is_no_longer begins in
       let all = max g y.core.acc in
-      let is : group_after w.group y ≡ take all a.list = grown_after w.group (take all a.list) y (is_sequencer_after_rest (refresh_rests_with_list x).rests ∙ t)
+      let is : list_after_step w.group y ≡ take all a.list = grown_after w.group (take all a.list) y (is_sequencer_after_rest (refresh_rests_with_list x).rests ∙ t)
       (grown_group_is_list_front (within w name y) name y a stands_after begins) in
-      let long : length (take all a.list) ≡ all = length_take all a.list (omega arith) in
+      let long : length (take all a.list) ≡ all = length_of_taken_list all a.list (omega arith) in
       let long_after = ap length is in
       let fronts = (k.each name).fronts in
       let up_to = h.up_to in
       let its_told = told_after x t h.within in
-      let grows : Begins w.group (group_after w.group y) = subst (Begins w.group) (sym is) (shorter_beginning_begins_longer begins (take_begins_list all a.list) (omega arith)) in
+      let grows : IsBeginningOf w.group (list_after_step w.group y) = subst (IsBeginningOf w.group) (sym is) (shorter_beginning_begins_longer begins (taken_front_begins_list all a.list) (omega arith)) in
       record {
         accepts = split_on_bool (nat_lt g y.core.acc)
             (λ more. (let up_ : g < y.core.acc = grind (arith, nat_tests) in
@@ -162,7 +162,7 @@ module _ (w : World) (s : Group) (name heard : ℕ) (x : Node) (k : GroupKeeps s
           up = up;
           told = omega arith;
           before = λ z d above. absurd (let most = k.views.order z d in
-              let promised : key a.promise ≡ key x.core.promise = ap key h.stands.promise in
+              let promised : key_of_stamp a.promise ≡ key_of_stamp x.core.promise = ap key_of_stamp h.stands.promise in
               omega arith);
           up_to = omega arith;
           given = omega arith;

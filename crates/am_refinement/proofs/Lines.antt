@@ -1,6 +1,6 @@
 -- The line of a view, where its coordinator's list gets one entry more.
 use Rattle.am_refinement.proofs.Words.{stamp_eq_of_itself, stamp_eq_gives_equality, ◌≡◌, ◌≢◌, ℕ, ◌+◌, Bool, true, false, if◌then◌else◌, List, [], ◌∷◌, ◌++◌, refl, ap, ◌∙◌, subst}
-use Rattle.am_refinement.proofs.Words.{list_any, GroupView, Stamp, Entry, View, Image, blank, after, fold, Begins, stamp_of_list, is_view, is_view_of, up_to_view}
+use Rattle.am_refinement.proofs.Words.{list_any, GroupView, Stamp, Entry, View, Image, blank, after, image_after_entries, IsBeginningOf, stamp_of_list, is_view, is_view_of, up_to_view}
 use Rattle.am_refinement.proofs.Words.{up_to_next, split_on_bool, plain_entry_keeps_image_view, image_after_view_has_it}
 
 -- ---- a View stands in a list, and another behind it
@@ -21,8 +21,8 @@ abbrev pub AnotherViewFollows : Stamp → List Entry → Type 0
 AnotherViewFollows v es = view_is_passed_in_list v es ≡ true
 
 -- without another View the list tells the same view
-same_view : (image : Image) (n : ℕ) (es : List Entry) → list_any is_view es ≡ false → (fold image n es).view ≡ image.view
-unfolding fold
+same_view : (image : Image) (n : ℕ) (es : List Entry) → list_any is_view es ≡ false → (image_after_entries image n es).view ≡ image.view
+unfolding image_after_entries
 same_view image n [] h = refl
 same_view image n (e ∷ es) h = split_on_bool (is_view e)
     (λ t. absurd (let z = rw t at h in cc))
@@ -37,8 +37,8 @@ image_after_view_has_stamp v image n (View w) h = (image_after_view_has_it image
 image_after_view_has_stamp v image n _ h = absurd (cc)
 
 -- where the list ends in another view
-next_in : (v : Stamp) (image : Image) (n : ℕ) (es : List Entry) → ListHasViewOf v es → (fold image n es).view ≢ v → AnotherViewFollows v es
-unfolding fold view_is_passed_in_list
+next_in : (v : Stamp) (image : Image) (n : ℕ) (es : List Entry) → ListHasViewOf v es → (image_after_entries image n es).view ≢ v → AnotherViewFollows v es
+unfolding image_after_entries view_is_passed_in_list
 next_in v image n [] h other = absurd (cc)
 next_in v image n (e ∷ es) h other = split_on_bool (is_view_of v e)
     (λ t. rw t (split_on_bool (list_any is_view es)
@@ -130,7 +130,7 @@ any_last p (x ∷ a) e h = split_on_bool (p x) (λ t. rw t refl) (λ f. rw f (an
 
 -- a view's line opens with its View
 pub line_opens_with_its_view : (before : List Entry) (v : GroupView) (list : List Entry)
-    → Begins (before ++ View v ∷ []) (up_to_next v.stamp list) → ListHasViewOf v.stamp list
+    → IsBeginningOf (before ++ View v ∷ []) (up_to_next v.stamp list) → ListHasViewOf v.stamp list
 line_opens_with_its_view before v list h =
     let e = View v in
     let there = any_front (is_view_of v.stamp) (before ++ e ∷ []) h.rest (any_last (is_view_of v.stamp) before e (stamp_eq_of_itself v.stamp)) in

@@ -1,6 +1,6 @@
 -- Moves in turn, as a step makes them, keep what the group keeps.
-use Rattle.am_refinement.proofs.Words.{◌≡◌, inl, inr, either, ℕ, List, true, refl, sym, ◌∙◌, subst, arith, has, Begins, begins_trans, Group, Move, GroupKeeps}
-use Rattle.am_refinement.proofs.Words.{group_run_is_kept_lawful, MoveOk, Moves, none, moves, Grows, IsNoStop, KeptWhole, GroupOk}
+use Rattle.am_refinement.proofs.Words.{◌≡◌, inl, inr, either, ℕ, List, true, refl, sym, ◌∙◌, subst, arith, has, IsBeginningOf, begins_through_both, Group, Move, GroupKeeps}
+use Rattle.am_refinement.proofs.Words.{group_run_is_kept_lawful, MoveIsSound, Moves, none, moves, Grows, IsNoStop, KeptWhole, GroupOk}
 use Rattle.am_abstract_group.specs.Group as groups
 use Rattle.am_abstract_group.specs.Moves as group
 use Rattle.am_refinement.proofs.{Branches.moves_keep_branches, Branches.decisions_find_all_branches, ChainNames.moves_keep_names_named, Growing.name_grows_to_itself, Growing.growing_names_grow_group}
@@ -20,7 +20,7 @@ group_run_is_whole founders first resilience s h = record {
   left_out = left_out_names_have_stopped founders first resilience s h.run;
 }
 
-no_stop : {s t : Group} (move : Move s t) → MoveOk move → IsNoStop move
+no_stop : {s t : Group} (move : Move s t) → MoveIsSound move → IsNoStop move
 no_stop (group.stops i) ok = ok
 no_stop _ ok = tt
 
@@ -31,27 +31,27 @@ pub group_growth_is_transitive : (s t u : Group) → Grows s t → Grows t u →
 group_growth_is_transitive s t u g k = record {
   each = λ i. (let a = g.each i in let b = k.each i in let x = a.promise in let y = b.promise in
       record {
-        list = begins_trans a.list b.list;
+        list = begins_through_both a.list b.list;
         log = λ z. b.log (a.log z);
         promise = omega arith;
         stopped = λ z. b.stopped (a.stopped z);
         departed = λ z. b.departed (a.departed z);
         leaving = λ z. b.leaving (a.leaving z);
       });
-  group = begins_trans g.group k.group;
-  lines = λ x d. begins_trans (g.lines x d) (k.lines x (g.decided x d).0);
+  group = begins_through_both g.group k.group;
+  lines = λ x d. begins_through_both (g.lines x d) (k.lines x (g.decided x d).0);
   decided = λ x d. ((k.decided x (g.decided x d).0).0, (k.decided x (g.decided x d).0).1 ∙ (g.decided x d).1);
   new = λ x d. either (k.new x d)
       (λ old. either (g.new x old)
       (λ older. inl older)
       (λ new. inr (record {
-        accepted = subst (λ (c : groups.Chosen). Begins s.group c.before) (sym (k.decided x old).1) new.accepted;
-        leavers = λ i leaves in_. begins_trans (new.leavers i leaves (subst (λ (c : groups.Chosen). has c.members i ≡ true) (k.decided x old).1 in_))
+        accepted = subst (λ (c : groups.Chosen). IsBeginningOf s.group c.before) (sym (k.decided x old).1) new.accepted;
+        leavers = λ i leaves in_. begins_through_both (new.leavers i leaves (subst (λ (c : groups.Chosen). has c.members i ≡ true) (k.decided x old).1 in_))
             (k.lines x old);
       })))
       (λ new. inr (record {
-        accepted = begins_trans g.group new.accepted;
-        leavers = λ i leaves in_. begins_trans (g.each i).list (new.leavers i ((g.each i).leaving leaves) in_);
+        accepted = begins_through_both g.group new.accepted;
+        leavers = λ i leaves in_. begins_through_both (g.each i).list (new.leavers i ((g.each i).leaving leaves) in_);
       }));
   shown = λ x i list is. k.shown x i list (g.shown x i list is);
   served = λ x i is. k.served x i (g.served x i is);
@@ -61,7 +61,7 @@ pub record GroupRunGoesOn (founders : List ℕ) (first resilience : ℕ) (s t : 
   pub group_ : GroupOk founders first resilience t
   pub grows : Grows s t
 
-pub group_goes_on_by_move : (founders : List ℕ) (first resilience : ℕ) (s t : Group) → GroupOk founders first resilience s → (move : Move s t) → MoveOk move
+pub group_goes_on_by_move : (founders : List ℕ) (first resilience : ℕ) (s t : Group) → GroupOk founders first resilience s → (move : Move s t) → MoveIsSound move
     → GroupRunGoesOn founders first resilience s t
 group_goes_on_by_move founders first resilience s t h move ok =
     let old = group_run_is_kept_lawful founders first resilience s h.run in

@@ -1,9 +1,9 @@
 -- What a node needs to store a Piece, from what the Piece says.
 use Rattle.am_refinement.proofs.Words.{eqb-false, eqb-true, stamp_eq_gives_equality, ◌≡◌, ◌≢◌, ℕ, suc, ◌<◌, ◌==◌, not, List, [], ◌∷◌, ◌++◌, length, true, false, Some, slice_get}
-use Rattle.am_refinement.proofs.Words.{refl, sym, ap, ◌∙◌, subst, arith, max, list_any, append_assoc, Entry, View, Stamp, item_at, Begins, IsGood, NotView, stamp_of_list}
-use Rattle.am_refinement.proofs.Words.{key, same_key_same_by, view_key_grows_along_list, view_after_pushed_view, view_below_pushed_view, view_of_push_not_view, begins_append, begins_push_next_entry, beginning_length_le, beginning_of_good_is_good, Group, IsUp}
-use Rattle.am_refinement.proofs.Words.{GroupKeeps, Node, Ballot, view, is_member, is_unfinished, is_view, is_view_of, up_to_view, up_to_next, World, Decided, is_stopped}
-use Rattle.am_refinement.proofs.Words.{split_on_bool, HasOpen, MayStore, Fetches, without_ballot, NameStands, StandsBut, within, line, IsDecided, PieceSays, ShownEntry}
+use Rattle.am_refinement.proofs.Words.{refl, sym, ap, ◌∙◌, subst, arith, max, list_any, append_assoc, Entry, View, Stamp, item_at, IsBeginningOf, IsGoodList, IsNotView, stamp_of_list}
+use Rattle.am_refinement.proofs.Words.{key_of_stamp, equal_keys_have_equal_names, view_key_grows_along_list, view_after_pushed_view, view_below_pushed_view, view_stays_by_pushed_non_view, front_begins_append, begins_push_next_entry, beginning_is_no_longer, beginning_of_good_is_good, Group, IsUp}
+use Rattle.am_refinement.proofs.Words.{GroupKeeps, Node, Ballot, view, is_member, is_unfinished_ballot, is_view, is_view_of, up_to_view, up_to_next, World, Decided, is_stopped}
+use Rattle.am_refinement.proofs.Words.{split_on_bool, HasOpenBallot, MayStore, MayStoreFetched, without_ballot, NameStands, StandsBut, within, line, IsDecided, PieceSays, ShownEntry}
 use Rattle.am_refinement.proofs.Words.{of_line, of_shown, over, LinesOpen, IsOthers, NeedsPiece, of_its_line, of_its_shown}
 use Rattle.std.proofs.Common.{length-append}
 use Rattle.am_step_laws.specs.Changes.{for_ballot}
@@ -13,29 +13,29 @@ use Rattle.am_refinement.proofs.{Sent.list_begins_line_of_promise, Heard.item_at
 
 -- ---- the line of a list's last view is all of the list
 
-pub plain_entry_is_not_view : (e : Entry) → is_view e ≡ false → NotView e
+pub plain_entry_is_not_view : (e : Entry) → is_view e ≡ false → IsNotView e
 plain_entry_is_not_view (View v) h = absurd (cc)
 plain_entry_is_not_view _ h = tt
 
-rises : (a : List Entry) (e : Entry) → is_view e ≡ true → IsGood (a ++ e ∷ []) → key (stamp_of_list a) < key (stamp_of_list (a ++ e ∷ []))
-rises a (View v) h g = subst (λ (u : Stamp). key (stamp_of_list a) < key u) (sym (view_after_pushed_view a v))
+rises : (a : List Entry) (e : Entry) → is_view e ≡ true → IsGoodList (a ++ e ∷ []) → key_of_stamp (stamp_of_list a) < key_of_stamp (stamp_of_list (a ++ e ∷ []))
+rises a (View v) h g = subst (λ (u : Stamp). key_of_stamp (stamp_of_list a) < key_of_stamp u) (sym (view_after_pushed_view a v))
     (view_below_pushed_view a v g)
 rises a _ h g = absurd (cc)
 
 -- behind the last View there is none
-pub no_view_after_last_view : (a es : List Entry) → IsGood (a ++ es) → stamp_of_list (a ++ es) ≡ stamp_of_list a → list_any is_view es ≡ false
+pub no_view_after_last_view : (a es : List Entry) → IsGoodList (a ++ es) → stamp_of_list (a ++ es) ≡ stamp_of_list a → list_any is_view es ≡ false
 no_view_after_last_view a [] g same = refl
 no_view_after_last_view a (e ∷ es) g same =
     let again : (a ++ e ∷ []) ++ es ≡ a ++ e ∷ es = append_assoc a (e ∷ []) es in
-    let good = subst IsGood (sym again) g in
-    let first = begins_append (a ++ e ∷ []) es in
+    let good = subst IsGoodList (sym again) g in
+    let first = front_begins_append (a ++ e ∷ []) es in
     split_on_bool (is_view e)
     (λ t. absurd (
     let above = rises a e t (beginning_of_good_is_good first good) in
     let low = view_key_grows_along_list good first in
-    let last : key (stamp_of_list ((a ++ e ∷ []) ++ es)) ≡ key (stamp_of_list a) = ap (λ l. key (stamp_of_list l)) again ∙ ap key same in
+    let last : key_of_stamp (stamp_of_list ((a ++ e ∷ []) ++ es)) ≡ key_of_stamp (stamp_of_list a) = ap (λ l. key_of_stamp (stamp_of_list l)) again ∙ ap key_of_stamp same in
     omega arith))
-    (λ f. rw f (no_view_after_last_view (a ++ e ∷ []) es good (ap stamp_of_list again ∙ same ∙ sym (view_of_push_not_view a e (plain_entry_is_not_view e f)))))
+    (λ f. rw f (no_view_after_last_view (a ++ e ∷ []) es good (ap stamp_of_list again ∙ same ∙ sym (view_stays_by_pushed_non_view a e (plain_entry_is_not_view e f)))))
 
 no_next : (es : List Entry) → list_any is_view es ≡ false → up_to_view es ≡ es
 unfolding up_to_view
@@ -48,12 +48,12 @@ viewed_now : (v : Stamp) (a : List Entry) (e : Entry) → is_view_of v e ≡ tru
 viewed_now v a (View w) h = view_after_pushed_view a w ∙ stamp_eq_gives_equality w.stamp v h
 viewed_now v a _ h = absurd (cc)
 
-all_line : (v : Stamp) (a es : List Entry) → IsGood (a ++ es) → stamp_of_list (a ++ es) ≡ v → up_to_next v es ≡ es
+all_line : (v : Stamp) (a es : List Entry) → IsGoodList (a ++ es) → stamp_of_list (a ++ es) ≡ v → up_to_next v es ≡ es
 unfolding up_to_next
 all_line v a [] g viewed = refl
 all_line v a (e ∷ es) g viewed =
     let again : (a ++ e ∷ []) ++ es ≡ a ++ e ∷ es = append_assoc a (e ∷ []) es in
-    let good = subst IsGood (sym again) g in
+    let good = subst IsGoodList (sym again) g in
     let last = ap stamp_of_list again ∙ viewed in
     split_on_bool (is_view_of v e)
     (λ t. rw t (ap (λ l. e ∷ l) (no_next es (no_view_after_last_view (a ++ e ∷ []) es good (last ∙ sym (viewed_now v a e t))))))
@@ -85,7 +85,7 @@ own_line : (w : World) (name : ℕ) (x : Node) (s : Group) → FetcherIsKnown w 
 own_line w name x s h by decided =
     let a = s.node name in
     let old = own w name x s h in
-    let noted = h.stands.views.decided (key (view x)) decided in
+    let noted = h.stands.views.decided (key_of_stamp (view x)) decided in
     let d = noted.view in
     let is = h.stands.views.noted noted.index d noted.there in
     let low : (view x).by < 256 = omega arith in
@@ -93,7 +93,7 @@ own_line w name x s h by decided =
     let mine : d.stamp.by ≡ name = ap (λ (u : Stamp). u.by) same ∙ by in
     let good = beginning_of_good_is_good ((h.kept.each name).list (up_name w name x s h)) h.kept.views.good in
     let viewed : stamp_of_list a.list ≡ d.stamp = view_of_whole_list w name x a old ∙ sym same in
-    ap (λ (u : Stamp). s.views.line (key u)) (sym same) ∙ is.line ∙ line_of_own_stamp w name x d.stamp mine ∙ ap (up_to_next d.stamp) (sym old.list)
+    ap (λ (u : Stamp). s.views.line (key_of_stamp u)) (sym same) ∙ is.line ∙ line_of_own_stamp w name x d.stamp mine ∙ ap (up_to_next d.stamp) (sym old.list)
     ∙ all_line d.stamp [] a.list good viewed
 
 not_nothing : (list : List Entry) (f : Entry) → list ++ f ∷ [] ≢ []
@@ -102,15 +102,15 @@ not_nothing (x ∷ list) f same = cc
 
 -- so what comes next in the line of a decided view isn't an entry of its own view
 others_entry : (w : World) (name : ℕ) (x : Node) (e : Entry) (s : Group) (y : ℕ) → FetcherIsKnown w name x s → s.views.decided y ≡ true
-    → Begins (s.node name).list (s.views.line y) → slice_get (s.views.line y) (length (s.node name).list) ≡ Some e → IsOthers name x e
+    → IsBeginningOf (s.node name).list (s.views.line y) → slice_get (s.views.line y) (length (s.node name).list) ≡ Some e → IsOthers name x e
 others_entry w name x e s y h decided begins next by = split_on_bool (is_view e)
     (λ t. t)
     (λ f. absurd (
     let a = s.node name in
     let o = h.opens y (a.list ++ e ∷ []) decided (not_nothing a.list e) (begins_push_next_entry e begins next) in
-    let viewed : stamp_of_list (a.list ++ e ∷ []) ≡ view x = view_of_push_not_view a.list e (plain_entry_is_not_view e f) ∙ view_of_whole_list w name x a (own w name x s h) in
-    let mine = own_line w name x s h by (ap (λ (u : Stamp). s.views.decided (key u)) (sym viewed) ∙ o.decided) in
-    let long = beginning_length_le (subst (Begins (a.list ++ e ∷ [])) mine (subst (λ (u : Stamp). Begins (a.list ++ e ∷ []) (line s u)) viewed o.line_)) in
+    let viewed : stamp_of_list (a.list ++ e ∷ []) ≡ view x = view_stays_by_pushed_non_view a.list e (plain_entry_is_not_view e f) ∙ view_of_whole_list w name x a (own w name x s h) in
+    let mine = own_line w name x s h by (ap (λ (u : Stamp). s.views.decided (key_of_stamp u)) (sym viewed) ∙ o.decided) in
+    let long = beginning_is_no_longer (subst (IsBeginningOf (a.list ++ e ∷ [])) mine (subst (λ (u : Stamp). IsBeginningOf (a.list ++ e ∷ []) (line s u)) viewed o.line_)) in
     let z = length-append a.list (e ∷ []) in
     omega arith))
 
@@ -124,29 +124,29 @@ line_needs w name base number x v e s h promise other may decided stands =
     let old = own w name x s h in
     let up = up_name w name x s h in
     let speaks : SpeaksForItsName (within w name x) name x s = record { kept = h.kept; stands = old; up = up; who = h.who } in
-    let begins : Begins a.list (line s v) = subst (λ (u : Stamp). Begins a.list (line s u)) promise
-    (list_begins_line_of_promise (within w name x) name x s speaks (ap (λ (u : Stamp). s.views.decided (key u)) promise ∙ decided)) in
+    let begins : IsBeginningOf a.list (line s v) = subst (λ (u : Stamp). IsBeginningOf a.list (line s u)) promise
+    (list_begins_line_of_promise (within w name x) name x s speaks (ap (λ (u : Stamp). s.views.decided (key_of_stamp u)) promise ∙ decided)) in
     let next : slice_get (line s v) (length a.list) ≡ Some e = ap (slice_get (line s v)) (length_of_whole_list (within w name x) name x a old)
     ∙ item_at_next_number (line s v) (nodes.top x) e number may.next stands in
     of_its_line (heard_entry_gives_its_needs w name number x v e s h.kept h.who old up promise other
-    (others_entry w name x e s (key v) h decided begins next) decided stands may.next may.stays)
+    (others_entry w name x e s (key_of_stamp v) h decided begins next) decided stands may.next may.stays)
 
 -- of a list that was shown
 shown_needs : (w : World) (name from base number : ℕ) (x : Node) (v : Stamp) (e : Entry) (s : Group) → FetcherIsKnown w name x s → x.core.promise ≡ v
-    → is_unfinished x.ballot ≡ true → MayStore x (max x.core.base base) base number e → ShownEntry s from v number e → NeedsPiece s name x e
+    → is_unfinished_ballot x.ballot ≡ true → MayStore x (max x.core.base base) base number e → ShownEntry s from v number e → NeedsPiece s name x e
 shown_needs w name from base number x v e s h promise unfinished may is =
     let a = s.node name in
     let old = own w name x s h in
     let up = up_name w name x s h in
     let stamp : v ≡ a.promise = sym promise ∙ sym old.promise in
-    let served : s.served (key a.promise) from ≡ true = ap (λ (u : Stamp). s.served (key u) from) (sym stamp) ∙ is.served in
-    let shown : s.shown (key a.promise) from ≡ Some is.list = ap (λ (u : Stamp). s.shown (key u) from) (sym stamp) ∙ is.shown in
+    let served : s.served (key_of_stamp a.promise) from ≡ true = ap (λ (u : Stamp). s.served (key_of_stamp u) from) (sym stamp) ∙ is.served in
+    let shown : s.shown (key_of_stamp a.promise) from ≡ Some is.list = ap (λ (u : Stamp). s.shown (key_of_stamp u) from) (sym stamp) ∙ is.shown in
     let chain = (h.kept.served name from is.list up (old.ballot ∙ unfinished) served shown).chain in
     let next : slice_get is.list (length a.list) ≡ Some e = ap (slice_get is.list) (length_of_whole_list (within w name x) name x a old)
     ∙ item_at_next_number is.list (nodes.top x) e number may.next is.stands in
     of_its_shown unfinished (record {
-      others = others_entry w name x e s (key s.views.current) h h.kept.views.now ((h.kept.each name).list up)
-          (item_at_of_longer_list is.list (s.views.line (key s.views.current)) (suc (length a.list)) e chain next);
+      others = others_entry w name x e s (key_of_stamp s.views.current) h h.kept.views.now ((h.kept.each name).list up)
+          (item_at_of_longer_list is.list (s.views.line (key_of_stamp s.views.current)) (suc (length a.list)) e chain next);
       from = from;
       list = is.list;
       served = served;
@@ -154,19 +154,19 @@ shown_needs w name from base number x v e s h promise unfinished may is =
       next = next;
     })
 
-opened : (x : Node) (b : Ballot) → HasOpen x b → is_unfinished x.ballot ≡ true
-opened x b h = ap is_unfinished h.last ∙ ap not h.open_
+opened : (x : Node) (b : Ballot) → HasOpenBallot x b → is_unfinished_ballot x.ballot ≡ true
+opened x b h = ap is_unfinished_ballot h.last ∙ ap not h.open_
 
 pub piece_gives_its_needs : (w : World) (name from base number : ℕ) (x : Node) (v : Stamp) (e : Entry) (s : Group) → FetcherIsKnown w name x s
-    → (from == x.core.who) ≡ false → x.core.promise ≡ v → Fetches x from v e → MayStore x (max x.core.base base) base number e
+    → (from == x.core.who) ≡ false → x.core.promise ≡ v → MayStoreFetched x from v e → MayStore x (max x.core.base base) base number e
     → PieceSays s from v number e → NeedsPiece s name x e
 piece_gives_its_needs w name from base number x v e s h other promise (without_ballot none by past) may (of_line sent decided stands) =
     let who = h.who in
     line_needs w name base number x v e s h promise (λ same. eqb-false from x.core.who other (sym (eqb-true v.by from by) ∙ same ∙ sym who)) may decided stands
 piece_gives_its_needs w name from base number x v e s h other promise (without_ballot none by past) may (of_shown is) = absurd (
-    let ok = h.kept.shown (key v) from is.list is.shown in
+    let ok = h.kept.shown (key_of_stamp v) from is.list is.shown in
     let small : v.by < 256 = subst (λ (u : Stamp). u.by < 256) promise h.promise in
-    let same = same_key_same_by ok.stamp v ok.small small ok.is in
+    let same = equal_keys_have_equal_names ok.stamp v ok.small small ok.is in
     ok.other (same ∙ eqb-true v.by from by))
 piece_gives_its_needs w name from base number x v e s h other promise (without_ballot none by past) may (over not_by decided) = absurd (not_by (eqb-true v.by from by))
 piece_gives_its_needs w name from base number x v e s h other promise (for_ballot b open_ fetching past) may (of_line sent decided stands) = absurd (
@@ -181,5 +181,5 @@ piece_gives_its_needs w name from base number x v e s h other promise (for_ballo
     let up = up_name w name x s h in
     let old = own w name x s h in
     let fresh = open_ballot_is_undecided s name h.kept up (old.ballot ∙ opened x b open_) in
-    let is : s.views.decided (key (s.node name).promise) ≡ true = ap (λ (u : Stamp). s.views.decided (key u)) (old.promise ∙ promise) ∙ decided in
+    let is : s.views.decided (key_of_stamp (s.node name).promise) ≡ true = ap (λ (u : Stamp). s.views.decided (key_of_stamp u)) (old.promise ∙ promise) ∙ decided in
     cc)

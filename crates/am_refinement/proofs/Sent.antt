@@ -1,7 +1,7 @@
 -- What a sender says is so.
 use Rattle.am_refinement.proofs.Words.{stamp_eq_gives_equality, ◌≡◌, either, ℕ, suc, ◌+◌, ◌≤◌, ◌==◌, List, [], ◌∷◌, ◌++◌, length, take, true, Some, slice_get, sym, ap}
-use Rattle.am_refinement.proofs.Words.{◌∙◌, subst, arith, cases_lt, length-take, nat_tests, Entry, Stamp, Image, stamp_eq, item_at, Begins, IsGood, stamp_of_list, key}
-use Rattle.am_refinement.proofs.Words.{begins_trans, take_length_of_beginning, begins_refl, Group, IsUp, chain_of, GroupKeeps, Node, view, is_member, acts, is_sequencer, World}
+use Rattle.am_refinement.proofs.Words.{◌∙◌, subst, arith, cases_lt, length-take, nat_tests, Entry, Stamp, Image, stamps_are_equal, item_at, IsBeginningOf, IsGoodList, stamp_of_list, key_of_stamp}
+use Rattle.am_refinement.proofs.Words.{begins_through_both, take_length_of_beginning, list_begins_itself, Group, IsUp, chain_of, GroupKeeps, Node, view, is_member, acts_in_its_view, is_sequencer, World}
 use Rattle.am_refinement.proofs.Words.{split_on_bool, both_of_and, NameStands, FrontsStand, line, IsDecided, SequencerSays, EntrySays, ReportSays, LeaverSays, of_view}
 use Rattle.am_refinement.proofs.Words.{before_it, PieceSays, of_line}
 use Rattle.am_abstract_group.specs.Group as groups
@@ -19,38 +19,38 @@ pub record SpeaksForItsName (v : World) (i : ℕ) (n : Node) (s : Group) : Type 
   pub who : n.core.who ≡ i
 
 -- where its promise was decided, its list begins that view's line
-pub list_begins_line_of_promise : (v : World) (i : ℕ) (n : Node) (s : Group) → SpeaksForItsName v i n s → IsDecided s n.core.promise → Begins (s.node i).list (line s n.core.promise)
+pub list_begins_line_of_promise : (v : World) (i : ℕ) (n : Node) (s : Group) → SpeaksForItsName v i n s → IsDecided s n.core.promise → IsBeginningOf (s.node i).list (line s n.core.promise)
 list_begins_line_of_promise v i n s h d =
     let ok = h.kept.each i in
     let a = s.node i in
     let same : a.promise ≡ n.core.promise = h.stands.promise in
-    let decided : s.views.decided (key a.promise) ≡ true = ap (λ (u : Stamp). s.views.decided (key u)) same ∙ d in
-    let most = h.kept.views.order (key a.promise) decided in
-    subst (λ (u : Stamp). Begins a.list (line s u)) same (either (cases_lt (key a.promise) (key s.views.current))
+    let decided : s.views.decided (key_of_stamp a.promise) ≡ true = ap (λ (u : Stamp). s.views.decided (key_of_stamp u)) same ∙ d in
+    let most = h.kept.views.order (key_of_stamp a.promise) decided in
+    subst (λ (u : Stamp). IsBeginningOf a.list (line s u)) same (either (cases_lt (key_of_stamp a.promise) (key_of_stamp s.views.current))
     (λ below. (let late = ok.late h.up below in
-    begins_trans late.list (late.lines (key a.promise) decided (omega arith))))
-    (λ above. (let keys : key s.views.current ≡ key a.promise = omega arith in
-    subst (λ x. Begins a.list (s.views.line x)) keys (ok.list h.up))))
+    begins_through_both late.list (late.lines (key_of_stamp a.promise) decided (omega arith))))
+    (λ above. (let keys : key_of_stamp s.views.current ≡ key_of_stamp a.promise = omega arith in
+    subst (λ x. IsBeginningOf a.list (s.views.line x)) keys (ok.list h.up))))
 
 all_taken : (list : List Entry) (n : ℕ) → n ≡ length list → take n list ≡ list
-all_taken list n is = ap (λ k. take k list) is ∙ take_length_of_beginning (begins_refl list)
+all_taken list n is = ap (λ k. take k list) is ∙ take_length_of_beginning (list_begins_itself list)
 
 -- ---- reports
 
-pub sent_report_says_so : (v : World) (i : ℕ) (n : Node) (s : Group) → SpeaksForItsName v i n s → IsDecided s n.core.promise → ReportSays s i n.core.promise (nodes.report_of n)
+pub sent_report_says_so : (v : World) (i : ℕ) (n : Node) (s : Group) → SpeaksForItsName v i n s → IsDecided s n.core.promise → ReportSays s i n.core.promise (nodes.own_report_of n)
 sent_report_says_so v i n s h d =
     let long = length_of_whole_list v i n (s.node i) h.stands in
     record {
       decided = d;
       within = omega arith;
-      begins = subst (λ l. Begins l (line s n.core.promise)) (sym (all_taken (s.node i).list (nodes.top n) (sym long))) (list_begins_line_of_promise v i n s h d);
+      begins = subst (λ l. IsBeginningOf l (line s n.core.promise)) (sym (all_taken (s.node i).list (nodes.top n) (sym long))) (list_begins_line_of_promise v i n s h d);
     }
 
-pub sent_leaver_report_says_so : (v : World) (i : ℕ) (n : Node) (s : Group) → SpeaksForItsName v i n s → n.leaving ≡ true → LeaverSays s i n.core.promise (nodes.report_of n)
+pub sent_leaver_report_says_so : (v : World) (i : ℕ) (n : Node) (s : Group) → SpeaksForItsName v i n s → n.leaving ≡ true → LeaverSays s i n.core.promise (nodes.own_report_of n)
 sent_leaver_report_says_so v i n s h leaves =
     let long = length_of_whole_list v i n (s.node i) h.stands in
     let joined = (h.kept.each i).joined h.up.log in
-    split_on_bool (s.views.decided (key n.core.promise))
+    split_on_bool (s.views.decided (key_of_stamp n.core.promise))
     (λ d. of_view (h.stands.leaving ∙ leaves) (sent_report_says_so v i n s h d))
     (λ f. before_it (h.stands.leaving ∙ leaves) (record {
       within = omega arith;
@@ -68,14 +68,14 @@ pub record LeadsItsLine (i : ℕ) (n : Node) (s : Group) : Type 0 where
   pub viewed : stamp_of_list (s.node i).list ≡ n.core.promise
   pub decided : IsDecided s n.core.promise
   pub line_ : line s n.core.promise ≡ (s.node i).list
-  pub current : key n.core.promise ≡ key s.views.current
+  pub current : key_of_stamp n.core.promise ≡ key_of_stamp s.views.current
 
 pub sequencer_leads_its_line : (v : World) (i : ℕ) (n : Node) (s : Group) → SpeaksForItsName v i n s → is_sequencer n ≡ true → LeadsItsLine i n s
 unfolding stamp_of_list
 sequencer_leads_its_line v i n s h t =
     let a = s.node i in
-    let both = both_of_and (acts n) ((view n).by == n.core.who) t in
-    let acting = both_of_and (is_member n.status) (stamp_eq n.core.promise (view n)) both.0 in
+    let both = both_of_and (acts_in_its_view n) ((view n).by == n.core.who) t in
+    let acting = both_of_and (is_member n.status) (stamps_are_equal n.core.promise (view n)) both.0 in
     let whole_view : stamp_of_list a.list ≡ view n = ap (λ (g : Image). g.view) (image_of_whole_list v i n a h.stands) in
     let promise : n.core.promise ≡ view n = stamp_eq_gives_equality n.core.promise (view n) acting.1 in
     let own : (view n).by ≡ i = (let z : (view n).by ≡ n.core.who = (let y = both.1 in grind (arith, nat_tests)) in z ∙ h.who) in
@@ -83,19 +83,19 @@ sequencer_leads_its_line v i n s h t =
     let ok = (h.kept.each i).leads leads in
     let now : stamp_of_list a.list ≡ s.views.current = ap stamp_of_list ok.chain ∙ h.kept.views.view in
     let viewed : stamp_of_list a.list ≡ n.core.promise = whole_view ∙ sym promise in
-    let keys : key n.core.promise ≡ key s.views.current = ap key (sym viewed ∙ now) in
-    assumption (ap s.views.decided keys ∙ h.kept.views.now, ap s.views.line (ap key (sym viewed)) ∙ line_of_leading_view s i h.kept leads)
+    let keys : key_of_stamp n.core.promise ≡ key_of_stamp s.views.current = ap key_of_stamp (sym viewed ∙ now) in
+    assumption (ap s.views.decided keys ∙ h.kept.views.now, ap s.views.line (ap key_of_stamp (sym viewed)) ∙ line_of_leading_view s i h.kept leads)
 
 -- its list is the chain
 pub record ListIsTheChain (s : Group) (list : List Entry) : Type 0 where
   pub chain : list ≡ chain_of s.views
-  pub good : IsGood list
-  pub group_in : Begins s.group list
+  pub good : IsGoodList list
+  pub group_in : IsBeginningOf s.group list
 
 pub sequencer_list_is_chain : (v : World) (i : ℕ) (n : Node) (s : Group) → SpeaksForItsName v i n s → is_sequencer n ≡ true → ListIsTheChain s (s.node i).list
 sequencer_list_is_chain v i n s h t =
     let chain = ((h.kept.each i).leads (sequencer_leads_its_line v i n s h t).leads).chain in
-    record { chain = chain; good = subst IsGood (sym chain) h.kept.views.good; group_in = subst (Begins s.group) (sym chain) h.kept.group }
+    record { chain = chain; good = subst IsGoodList (sym chain) h.kept.views.good; group_in = subst (IsBeginningOf s.group) (sym chain) h.kept.group }
 
 -- it has accepted no more than the group, and no later ballot was decided
 pub sequencer_accepts_what_group_has : (v : World) (i : ℕ) (n : Node) (s : Group) → SpeaksForItsName v i n s → is_sequencer n ≡ true → FrontsStand n (s.node i)

@@ -1,7 +1,7 @@
 -- Votes: what a coordinator keeps of them, and what a voter shows.
 use Rattle.am_refinement.proofs.Words.{◌≡◌, ◌≢◌, ◌⊎◌, either, ℕ, ◌<◌, ◌≤◌, ◌==◌, not, List, true, false, Option, Some, None, refl, sym, ap, ◌∙◌, subst, arith}
-use Rattle.am_refinement.proofs.Words.{nat_tests, Entry, Vote, Image, Stamp, has, members_of, item_at, mem, stamp_of_list, key, Group, IsThere, put2, GroupKeeps, put2_at_same_or_other}
-use Rattle.am_refinement.proofs.Words.{Node, Ballot, is_member, own_vote, World, split_on_bool, both_of_and, Cause, hears, HasOpen, Balloting, with_more, without_one, Packet}
+use Rattle.am_refinement.proofs.Words.{nat_tests, Entry, Vote, Image, Stamp, has, members_of_image, item_at, is_member_at_end, stamp_of_list, key_of_stamp, Group, IsThere, function_with_value_of_two, GroupKeeps, put2_at_same_or_other}
+use Rattle.am_refinement.proofs.Words.{Node, Ballot, is_member, own_vote, World, split_on_bool, both_of_and, Cause, hears, HasOpenBallot, BallotIsLookedAt, with_more, without_one, Packet}
 use Rattle.am_refinement.proofs.Words.{as_it_is, NameStands, VoteTells, VoteSays, FetchSays, PieceSays, own, tells, over, for_ballot, of_promise}
 use Rattle.am_refinement.proofs.Words.{of_shown, Moves, none, moves, MovesLeadTo, VotesStand, Grows, ShowsMore}
 use Rattle.am_abstract_group.specs.Moves as group
@@ -14,14 +14,14 @@ use Rattle.am_refinement.proofs.{Changes.image_of_whole_list, Changes.length_of_
 pub votes_stand_as_group_grows : (s t : Group) (ballot : Option Ballot) → Grows s t → VotesStand s ballot → VotesStand t ballot
 votes_stand_as_group_grows s t None g h = tt
 votes_stand_as_group_grows s t (Some b) g h = λ open_ j vote is. (let k = h open_ j vote is in
-    record { list = k.list; shown = g.shown (key b.stamp) j k.list k.shown; view = k.view; top = k.top; members = k.members; taken = k.taken })
+    record { list = k.list; shown = g.shown (key_of_stamp b.stamp) j k.list k.shown; view = k.view; top = k.top; members = k.members; taken = k.taken })
 
-kept_votes : (x : Node) (b : Ballot) (s : Group) → HasOpen x b → VotesStand s x.ballot → (j : ℕ) (vote : Vote) → b.votes j ≡ Some vote
+kept_votes : (x : Node) (b : Ballot) (s : Group) → HasOpenBallot x b → VotesStand s x.ballot → (j : ℕ) (vote : Vote) → b.votes j ≡ Some vote
     → VoteTells s j b.stamp vote
 kept_votes x b s o h = (subst (VotesStand s) o.last h) o.open_
 
 -- the ballot that is looked at keeps votes that tell what was shown, where its stamp is of its own name and nothing was decided of it
-pub looked_at_votes_were_shown : (c : Cause) (x : Node) (b : Ballot) (s : Group) → Balloting c x b → b.stamp.by ≡ x.core.who → s.views.decided (key b.stamp) ≡ false
+pub looked_at_votes_were_shown : (c : Cause) (x : Node) (b : Ballot) (s : Group) → BallotIsLookedAt c x b → b.stamp.by ≡ x.core.who → s.views.decided (key_of_stamp b.stamp) ≡ false
     → ((from : ℕ) (v : Stamp) (vote : Vote) → c ≡ hears (Packet.Vote from v vote) → VoteSays s from v vote) → VotesStand s x.ballot → (j : ℕ) (vote : Vote)
     → b.votes j ≡ Some vote → VoteTells s j b.stamp vote
 looked_at_votes_were_shown c x b s (as_it_is old o on) own_ fresh heard h = kept_votes x old s o h
@@ -36,11 +36,11 @@ looked_at_votes_were_shown c x b s (with_more old from v shown is heard_ low hig
     (subst (VoteTells s from old.stamp) is_vote
     (subst (λ u. VoteTells s from u shown) (sym same)
     (said s from v shown (λ by. (let z : (from == x.core.who) ≡ true = (let y = ap (λ (u : Stamp). u.by) same in grind (arith, nat_tests)) in
-    let q : not true ≡ true = subst (λ k. not k ≡ true) z other in cc)) (ap (λ (u : Stamp). s.views.decided (key u)) (sym same) ∙ fresh)
+    let q : not true ≡ true = subst (λ k. not k ≡ true) z other in cc)) (ap (λ (u : Stamp). s.views.decided (key_of_stamp u)) (sym same) ∙ fresh)
     (heard from v shown is))))))
     (λ f. λ at. kept_votes x old s o h j vote (rw f at at))
   where
-    said : (s : Group) (from : ℕ) (v : Stamp) (shown : Vote) → (v.by ≡ from → ⊥) → s.views.decided (key v) ≡ false → VoteSays s from v shown
+    said : (s : Group) (from : ℕ) (v : Stamp) (shown : Vote) → (v.by ≡ from → ⊥) → s.views.decided (key_of_stamp v) ≡ false → VoteSays s from v shown
         → VoteTells s from v shown
     said s from v shown other fresh (own by) = absurd (other by)
     said s from v shown other fresh (tells k) = k
@@ -54,10 +54,10 @@ pub record VoterIsKnown (v : World) (i : ℕ) (n : Node) (s : Group) : Type 0 wh
   pub stands : NameStands v i n (s.node i)
   pub there : IsThere (s.node i)
   pub small : n.core.promise.by < 256
-  pub begun : key n.core.promise ≤ key (s.node n.core.promise.by).promise
+  pub begun : key_of_stamp n.core.promise ≤ key_of_stamp (s.node n.core.promise.by).promise
   pub taken : n.core.taken ≤ nodes.top n
 
-tells_list : (v : World) (i : ℕ) (n : Node) (s t : Group) → VoterIsKnown v i n s → t.shown (key n.core.promise) i ≡ Some (s.node i).list
+tells_list : (v : World) (i : ℕ) (n : Node) (s t : Group) → VoterIsKnown v i n s → t.shown (key_of_stamp n.core.promise) i ≡ Some (s.node i).list
     → VoteTells t i n.core.promise (own_vote n)
 unfolding stamp_of_list
 tells_list v i n s t h is =
@@ -70,7 +70,7 @@ tells_list v i n s t h is =
       shown = is;
       view = ap (λ (g : Image). g.view) (sym told_is);
       top = sym long;
-      members = ap members_of (sym told_is);
+      members = ap members_of_image (sym told_is);
       taken = omega arith;
     }
 
@@ -87,17 +87,17 @@ voter_shows_what_it_says v i n s h =
     let same : ShowsMore s s = record { node = refl; views = refl; group_ = refl } in
     split_on_bool (p.by == i)
     (λ t. record { to = s; path = here; is = record { same = same; says = own (grind (arith, nat_tests)) } })
-    (λ f. split_on_bool (s.views.decided (key p))
+    (λ f. split_on_bool (s.views.decided (key_of_stamp p))
     (λ d. record { to = s; path = here; is = record { same = same; says = over d } })
-    (λ fresh. show v i n s h f fresh (s.shown (key p) i) refl))
+    (λ fresh. show v i n s h f fresh (s.shown (key_of_stamp p) i) refl))
   where
-    show : (v : World) (i : ℕ) (n : Node) (s : Group) → VoterIsKnown v i n s → (n.core.promise.by == i) ≡ false → s.views.decided (key n.core.promise) ≡ false
-        → (o : Option (List Entry)) → s.shown (key n.core.promise) i ≡ o → MovesLeadTo (VoteSaysWhatIsShown i n s) s
+    show : (v : World) (i : ℕ) (n : Node) (s : Group) → VoterIsKnown v i n s → (n.core.promise.by == i) ≡ false → s.views.decided (key_of_stamp n.core.promise) ≡ false
+        → (o : Option (List Entry)) → s.shown (key_of_stamp n.core.promise) i ≡ o → MovesLeadTo (VoteSaysWhatIsShown i n s) s
     show v i n s h f fresh (Some list) is =
         let a = s.node i in
         let promised : a.promise ≡ n.core.promise = h.stands.promise in
-        let shown : s.shown (key a.promise) i ≡ Some list = ap (λ (u : Stamp). s.shown (key u) i) promised ∙ is in
-        let still = h.kept.still i list shown (ap (λ (u : Stamp). s.views.decided (key u)) promised ∙ fresh) in
+        let shown : s.shown (key_of_stamp a.promise) i ≡ Some list = ap (λ (u : Stamp). s.shown (key_of_stamp u) i) promised ∙ is in
+        let still = h.kept.still i list shown (ap (λ (u : Stamp). s.views.decided (key_of_stamp u)) promised ∙ fresh) in
         record {
           to = s;
           path = none;
@@ -110,18 +110,18 @@ voter_shows_what_it_says v i n s h =
     show v i n s h f fresh None is =
         let a = s.node i in
         let promised : a.promise ≡ n.core.promise = h.stands.promise in
-        let t = record s { shown = put2 s.shown (key a.promise) i (Some a.list) } in
+        let t = record s { shown = function_with_value_of_two s.shown (key_of_stamp a.promise) i (Some a.list) } in
         let other : a.promise.by ≢ i = λ e. (let z :
         (n.core.promise.by == i) ≡ true = (let y = ap (λ (u : Stamp). u.by) promised in grind (arith, nat_tests)) in cc) in
         let small : a.promise.by < 256 = subst (λ (u : Stamp). u.by < 256) (sym promised) h.small in
-        let begun : key a.promise ≤ key (s.node a.promise.by).promise = subst (λ (u : Stamp). key u ≤ key (s.node u.by).promise) (sym promised) h.begun in
-        let shown : put2 s.shown (key a.promise) i (Some a.list) (key n.core.promise) i ≡ Some a.list =
-        either (put2_at_same_or_other s.shown (key a.promise) i (Some a.list) (key n.core.promise) i)
+        let begun : key_of_stamp a.promise ≤ key_of_stamp (s.node a.promise.by).promise = subst (λ (u : Stamp). key_of_stamp u ≤ key_of_stamp (s.node u.by).promise) (sym promised) h.begun in
+        let shown : function_with_value_of_two s.shown (key_of_stamp a.promise) i (Some a.list) (key_of_stamp n.core.promise) i ≡ Some a.list =
+        either (put2_at_same_or_other s.shown (key_of_stamp a.promise) i (Some a.list) (key_of_stamp n.core.promise) i)
         (λ z. z.2)
-        (λ z. absurd (z.0 (ap key (sym promised), refl))) in
+        (λ z. absurd (z.0 (ap key_of_stamp (sym promised), refl))) in
         record {
           to = t;
-          path = moves (group.shows i h.there small other begun (ap (λ (u : Stamp). s.shown (key u) i) promised ∙ is)) tt none;
+          path = moves (group.shows i h.there small other begun (ap (λ (u : Stamp). s.shown (key_of_stamp u) i) promised ∙ is)) tt none;
           is = record { same = record { node = refl; views = refl; group_ = refl }; says = tells (tells_list v i n s t h shown) };
         }
 
@@ -136,7 +136,7 @@ pub served_piece_of_shown_list : (v : World) (i from base number : ℕ) (n : Nod
     → from ≢ i → has to i ≡ true → FetchSays s from n.core.promise to
     → n.core.log.start ≤ base → letters.EntryStands n.core.log base number e → MovesLeadTo (PieceSaysWhatIsShown i number n e s) s
 served_piece_of_shown_list v i from base number n e s to h by other asked (of_promise not_by of_all) low at = absurd (not_by by)
-served_piece_of_shown_list v i from base number n e s to h by other asked (for_ballot own_by all) low at = split_on_bool (s.views.decided (key n.core.promise))
+served_piece_of_shown_list v i from base number n e s to h by other asked (for_ballot own_by all) low at = split_on_bool (s.views.decided (key_of_stamp n.core.promise))
     (λ d. record {
       to = s;
       path = none;
@@ -152,17 +152,17 @@ served_piece_of_shown_list v i from base number n e s to h by other asked (for_b
     let promised : a.promise ≡ p = h.stands.promise in
     let known = all i asked in
     let list = known.list in
-    let shown : s.shown (key a.promise) i ≡ Some list = ap (λ (u : Stamp). s.shown (key u) i) promised ∙ known.shown in
-    let still : a.list ≡ list = h.kept.still i list shown (ap (λ (u : Stamp). s.views.decided (key u)) promised ∙ fresh) in
-    let others : (j : ℕ) → mem list j ≡ true → IsThere (s.node j) → (j ≡ a.promise.by) ⊎ ((vote : List Entry) × (s.shown (key a.promise) j ≡ Some vote)) =
-    subst (λ (u : Stamp). (j : ℕ) → mem list j ≡ true → IsThere (s.node j) → (j ≡ u.by) ⊎ ((vote : List Entry) × (s.shown (key u) j ≡ Some vote)))
+    let shown : s.shown (key_of_stamp a.promise) i ≡ Some list = ap (λ (u : Stamp). s.shown (key_of_stamp u) i) promised ∙ known.shown in
+    let still : a.list ≡ list = h.kept.still i list shown (ap (λ (u : Stamp). s.views.decided (key_of_stamp u)) promised ∙ fresh) in
+    let others : (j : ℕ) → is_member_at_end list j ≡ true → IsThere (s.node j) → (j ≡ a.promise.by) ⊎ ((vote : List Entry) × (s.shown (key_of_stamp a.promise) j ≡ Some vote)) =
+    subst (λ (u : Stamp). (j : ℕ) → is_member_at_end list j ≡ true → IsThere (s.node j) → (j ≡ u.by) ⊎ ((vote : List Entry) × (s.shown (key_of_stamp u) j ≡ Some vote)))
     (sym promised) known.others in
-    let served : put2 s.served (key a.promise) i true (key p) i ≡ true = either (put2_at_same_or_other s.served (key a.promise) i true (key p) i)
+    let served : function_with_value_of_two s.served (key_of_stamp a.promise) i true (key_of_stamp p) i ≡ true = either (put2_at_same_or_other s.served (key_of_stamp a.promise) i true (key_of_stamp p) i)
     (λ z. z.2)
     (λ z. absurd
-    (z.0 (ap key (sym promised), refl))) in
+    (z.0 (ap key_of_stamp (sym promised), refl))) in
     record {
-      to = record s { served = put2 s.served (key a.promise) i true };
+      to = record s { served = function_with_value_of_two s.served (key_of_stamp a.promise) i true };
       path = moves (group.serves i list h.up shown others) tt none;
       is = record {
         same = record { node = refl; views = refl; group_ = refl };

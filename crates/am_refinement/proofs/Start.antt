@@ -1,8 +1,8 @@
 -- At the start each founder is told of the first entry, and then the group stands for the world.
 use Rattle.am_refinement.proofs.Words.{and-false, stamp_eq_of_itself, ◌≡◌, ℕ, zero, suc, ◌+◌, ◌<◌, ◌==◌, ◌&&◌, nat_lt, if◌then◌else◌, List, [], ◌∷◌, length, true}
-use Rattle.am_refinement.proofs.Words.{false, Some, slice_get, refl, sym, ap, ◌∙◌, subst, arith, nat_tests, Entry, Rules, MayFound, has, fold, key, begins_refl}
-use Rattle.am_refinement.proofs.Words.{Group, put, opening, with_node, Node, founder, stranger, lowest_or_first, founding_stamp, founders_entry, has_log}
-use Rattle.am_refinement.proofs.Words.{has_departed, is_unfinished, Decided, first_node, founders_decided, whole, up_to_view, up_to_next, line_of, split_on_bool}
+use Rattle.am_refinement.proofs.Words.{false, Some, slice_get, refl, sym, ap, ◌∙◌, subst, arith, nat_tests, Entry, Rules, MayFound, has, image_after_entries, key_of_stamp, list_begins_itself}
+use Rattle.am_refinement.proofs.Words.{Group, function_with_value, list_with_chosen_view, group_with_node, Node, founder, stranger_node, lowest_name_or_zero, founding_stamp, founders_entry, has_log_by_status}
+use Rattle.am_refinement.proofs.Words.{has_departed, is_unfinished_ballot, Decided, first_node, founders_decided, whole, up_to_view, up_to_next, line_of, split_on_bool}
 use Rattle.am_refinement.proofs.Words.{lowest_founder_founds, BeginsIn, NameStands, FrontsStand, NotedStands, ViewsStand, StartStands, none, moves, MovesLeadTo}
 use Rattle.am_group_defs.specs.World.{start}
 use Rattle.am_abstract_group.specs.Group as groups
@@ -18,10 +18,10 @@ abbrev told_of : groups.ChainNode → groups.ChainNode
 told_of a = record a { told = 1; acc = 1 }
 
 abbrev first_of : Rules → ℕ → groups.ChainNode
-first_of rules = begun.chain_first_node rules.founders (lowest_or_first rules.founders) rules.resilience
+first_of rules = begun.chain_first_node rules.founders (lowest_name_or_zero rules.founders) rules.resilience
 
 abbrev first_group : Rules → Group
-first_group rules = begun.group_start rules.founders (lowest_or_first rules.founders) rules.resilience
+first_group rules = begun.group_start rules.founders (lowest_name_or_zero rules.founders) rules.resilience
 
 abbrev told_to : Rules → ℕ → ℕ → groups.ChainNode
 told_to rules k i = if has rules.founders i && nat_lt i k then told_of (first_of rules i) else first_of rules i
@@ -44,9 +44,9 @@ told_none rules = record {
 -- a name that founds, before it is told
 record Founds (rules : Rules) (s : Group) (k : ℕ) : Type 0 where
   is : s.node k ≡ first_of rules k
-  list : (s.node k).list ≡ opening (begun.first_choice rules.founders (lowest_or_first rules.founders) rules.resilience)
+  list : (s.node k).list ≡ list_with_chosen_view (begun.first_choice rules.founders (lowest_name_or_zero rules.founders) rules.resilience)
   up : groups.IsUp (s.node k)
-  promise : (s.node k).promise ≡ begun.first_stamp (lowest_or_first rules.founders)
+  promise : (s.node k).promise ≡ begun.first_stamp (lowest_name_or_zero rules.founders)
   told : (s.node k).told ≡ 0
   acc : (s.node k).acc ≡ 0
 
@@ -76,7 +76,7 @@ same_but rules k i f =
     ap (λ b. if has rules.founders i && b then told_of (first_of rules i) else first_of rules i) same
 
 told_next : (rules : Rules) (k : ℕ) (s : Group) → ToldTo rules k s → MovesLeadTo (ToldTo rules (k + 1)) s
-unfolding put
+unfolding function_with_value
 told_next rules k s h = split_on_bool (has rules.founders k)
     (λ t.
     let a = founds rules k s h t in
@@ -84,11 +84,11 @@ told_next rules k s h = split_on_bool (has rules.founders k)
     let list_ : length (s.node k).list ≡ 1 = ap length a.list in
     let b = record (s.node k) { told = 1; acc = 1 } in
     record {
-      to = with_node s k b;
+      to = group_with_node s k b;
       path = moves (group.learns k 1 1 a.up (omega arith) (omega arith)
-          (λ x d above. absurd (let e : (x == key (begun.first_stamp (lowest_or_first rules.founders))) ≡ true = ap (λ (v : groups.Views). v.decided x)
+          (λ x d above. absurd (let e : (x == key_of_stamp (begun.first_stamp (lowest_name_or_zero rules.founders))) ≡ true = ap (λ (v : groups.Views). v.decided x)
           (sym h.views) ∙ d in
-          let same : key (s.node k).promise ≡ key (begun.first_stamp (lowest_or_first rules.founders)) = ap key a.promise in
+          let same : key_of_stamp (s.node k).promise ≡ key_of_stamp (begun.first_stamp (lowest_name_or_zero rules.founders)) = ap key_of_stamp a.promise in
           let z : ⊥ = grind (arith, nat_tests) in z))
           (omega arith) (omega arith) (omega arith)) tt none;
       is = record {
@@ -136,7 +136,7 @@ told_all_to rules (suc k) =
 abbrev name_of : Node → List Entry → ℕ → groups.ChainNode
 name_of x list first = record {
   list = list;
-  has_log = has_log x.status;
+  has_log = has_log_by_status x.status;
   stopped = false;
   departed = has_departed x.status;
   leaving = x.leaving;
@@ -144,26 +144,26 @@ name_of x list first = record {
   promise = x.core.promise;
   told = x.core.told;
   acc = x.core.acc;
-  ballot = is_unfinished x.ballot;
+  ballot = is_unfinished_ballot x.ballot;
 }
 
 abbrev founder_of : Rules → groups.ChainNode
-founder_of rules = name_of (founder rules 0) (opening (begun.first_choice rules.founders (lowest_or_first rules.founders) rules.resilience)) 1
+founder_of rules = name_of (founder rules 0) (list_with_chosen_view (begun.first_choice rules.founders (lowest_name_or_zero rules.founders) rules.resilience)) 1
 
 abbrev stranger_of : Rules → groups.ChainNode
-stranger_of rules = name_of (stranger rules 0) [] 1
+stranger_of rules = name_of (stranger_node rules 0) [] 1
 
 name_starts : (rules : Rules) (i : ℕ) (x : Node) (list : List Entry) (first : ℕ) → BeginsIn (start rules) x.core.log → list ≡ whole (start rules) x
-    → (has_log x.status ≡ true → first ≡ x.core.start) → NameStands (start rules) i x (name_of x list first)
+    → (has_log_by_status x.status ≡ true → first ≡ x.core.start) → NameStands (start rules) i x (name_of x list first)
 name_starts rules i x list first begins is at = assumption (is)
 
 founder_name : (rules : Rules) (i : ℕ) → NameStands (start rules) i (founder rules i) (founder_of rules)
-unfolding fold
+unfolding image_after_entries
 founder_name rules i = name_starts rules i (founder rules i) (founder_of rules).list 1 (record { within = omega arith; image = refl }) refl (λ t. refl)
 
-stranger_name : (rules : Rules) (i : ℕ) → NameStands (start rules) i (stranger rules i) (stranger_of rules)
-unfolding fold
-stranger_name rules i = name_starts rules i (stranger rules i) [] 1 (record { within = omega arith; image = refl }) refl (λ t. absurd (cc))
+stranger_name : (rules : Rules) (i : ℕ) → NameStands (start rules) i (stranger_node rules i) (stranger_of rules)
+unfolding image_after_entries
+stranger_name rules i = name_starts rules i (stranger_node rules i) [] 1 (record { within = omega arith; image = refl }) refl (λ t. absurd (cc))
 
 -- what has stood up to then
 told_founder : (rules : Rules) (i : ℕ) → i < 256 → has rules.founders i ≡ true → told_to rules 256 i ≡ founder_of rules
@@ -192,13 +192,13 @@ first_line rules may =
 
 start_views : (rules : Rules) → MayFound rules → ViewsStand (start rules) (first_group rules).views
 start_views rules may =
-    let x = key (founding_stamp rules) in
+    let x = key_of_stamp (founding_stamp rules) in
     let itself : (x == x) ≡ true = grind (arith, nat_tests) in
     let noted : NotedStands (start rules) (first_group rules).views (founders_decided rules) = record {
       decided = itself;
       chose = record { stamp = refl; members = refl; resilience = refl; number = refl };
       line = sym (first_line rules may);
-      opens = begins_refl _;
+      opens = list_begins_itself _;
     } in
     record {
       noted = λ k d at. one_noted rules noted k d at;

@@ -4,7 +4,7 @@ use Rattle.am_base.specs.declared.entry.Entry.{Entry}
 use Rattle.am_base.specs.Names.{has}
 use Rattle.am_packet.specs.declared.packet.Packet.{Packet}
 use Rattle.am_group.specs.declared.event.Record.{Record}
-use Rattle.am_base.specs.Whole.{Begins, key}
+use Rattle.am_base.specs.Whole.{IsBeginningOf, key_of_stamp}
 use Rattle.am_abstract_group.specs.Group as groups
 use Rattle.am_abstract_group.specs.Group.{Group}
 use Rattle.am_abstract_group.specs.Moves.{Move, decides}
@@ -14,22 +14,22 @@ use Rattle.am_refinement.specs.Letters.{PacketSays}
 
 -- a name keeps its list, and what ends stays ended
 pub record NameGrows (a b : groups.ChainNode) : Type 0 where
-  pub list : Begins a.list b.list
+  pub list : IsBeginningOf a.list b.list
   pub log : a.has_log ≡ true → b.has_log ≡ true
-  pub promise : key a.promise ≤ key b.promise
+  pub promise : key_of_stamp a.promise ≤ key_of_stamp b.promise
   pub stopped : a.stopped ≡ true → b.stopped ≡ true
   pub departed : a.departed ≡ true → b.departed ≡ true
   pub leaving : a.leaving ≡ true → b.leaving ≡ true
 
 -- a view that is decided now, and wasn't: its ballot found all that was accepted, and what each of its members had that leaves
 pub record NewView (s t : Group) (x : ℕ) : Type 0 where
-  pub accepted : Begins s.group (t.views.chosen x).before
-  pub leavers : (i : ℕ) → (s.node i).leaving ≡ true → has (t.views.chosen x).members i ≡ true → Begins (s.node i).list (t.views.line x)
+  pub accepted : IsBeginningOf s.group (t.views.chosen x).before
+  pub leavers : (i : ℕ) → (s.node i).leaving ≡ true → has (t.views.chosen x).members i ≡ true → IsBeginningOf (s.node i).list (t.views.line x)
 
 pub record Grows (s t : Group) : Type 0 where
   pub each : (i : ℕ) → NameGrows (s.node i) (t.node i)
-  pub group : Begins s.group t.group
-  pub lines : (x : ℕ) → s.views.decided x ≡ true → Begins (s.views.line x) (t.views.line x)
+  pub group : IsBeginningOf s.group t.group
+  pub lines : (x : ℕ) → s.views.decided x ≡ true → IsBeginningOf (s.views.line x) (t.views.line x)
   pub decided : (x : ℕ) → s.views.decided x ≡ true → (t.views.decided x ≡ true) × (t.views.chosen x ≡ s.views.chosen x)
   pub new : (x : ℕ) → t.views.decided x ≡ true → (s.views.decided x ≡ true) ⊎ NewView s t x
   pub shown : (x i : ℕ) (list : List Entry) → s.shown x i ≡ Some list → t.shown x i ≡ Some list
@@ -44,7 +44,7 @@ LettersStay = (w v : World) (s t : Group) (to : List ℕ) (p : Packet) → (rest
 
 -- of a decision it is so that its view is a new one, which found all that was accepted
 abbrev pub DecidesNew : {s t : Group} → Move s t → Type 0
-DecidesNew {s = s} {t = t} (decides i v may) = (s.views.decided (key (s.node i).promise) ≡ false) × NewView s t (key (s.node i).promise)
+DecidesNew {s = s} {t = t} (decides i v may) = (s.views.decided (key_of_stamp (s.node i).promise) ≡ false) × NewView s t (key_of_stamp (s.node i).promise)
 DecidesNew _ = Unit {0}
 
 -- with each move the group goes on so

@@ -7,12 +7,12 @@ use Rattle.am_base.specs.declared.event.NodeEvent.TheVariants.{GiveUp}
 use Rattle.am_base.specs.Founding.{Rules}
 use Rattle.am_base.specs.Names.{has}
 use Rattle.am_packet.specs.declared.packet.Packet.{Packet}
-use Rattle.am_base.specs.Lists.{requests_of}
+use Rattle.am_base.specs.Lists.{requests_of_sender}
 use Rattle.am_node_defs.specs.Sends as own
-use Rattle.am_base.specs.Whole.{Begins, IsGood}
+use Rattle.am_base.specs.Whole.{IsBeginningOf, IsGoodList}
 use Rattle.am_abstract_group.specs.Group.{Group}
 use Rattle.am_abstract_group.specs.Runs.{Run}
-use Rattle.am_model.specs.Node.{Node, Ballot, lowest_or_first, has_log}
+use Rattle.am_model.specs.Node.{Node, Ballot, lowest_name_or_zero, has_log_by_status}
 use Rattle.am_model.specs.Refresh.{refresh}
 use Rattle.am_group_defs.specs.World.{Decided, World, start, first_node, is_stopped}
 use Rattle.am_step_laws.specs.Causes.{Cause, calls, hears}
@@ -30,18 +30,18 @@ use Rattle.am_refinement.specs.Growing.{Grows}
 use Rattle.am_refinement.specs.Moving.{Moves}
 use Rattle.am_refinement.specs.States.{VotesStand, FetchesStand, ReportsStand, ReportsFresh, OpensStand, SendsOnce}
 use Rattle.am_refinement.specs.Steps.{WasBegun, FrontsAfter, after_change}
-use Rattle.am_refinement.specs.Branches.{BranchesOk, ChainNamed}
+use Rattle.am_refinement.specs.Branches.{BranchesAreSound, ChainNamed}
 
 -- ---- the group
 
 -- what is so of a group that stands for a run of the definitions
 pub record GroupOk (founders : List ℕ) (first resilience : ℕ) (s : Group) : Type 0 where
   pub run : Run founders first resilience s
-  pub branches : BranchesOk s
+  pub branches : BranchesAreSound s
   pub named : ChainNamed s
 
 abbrev pub GroupFor : Rules → Group → Type 0
-GroupFor rules s = GroupOk rules.founders (lowest_or_first rules.founders) rules.resilience s
+GroupFor rules s = GroupOk rules.founders (lowest_name_or_zero rules.founders) rules.resilience s
 
 -- ---- a node
 
@@ -58,7 +58,7 @@ LastStands w (Some b) = BallotStands w b
 pub record OwnTurn (who : ℕ) (list : List Entry) (sends : own.Sends) : Type 0 where
   pub next : ℕ
   pub turn : UnsettledSendsAreInTurn next next sends.queue sends.last
-  pub low : next ≤ 1 + length (requests_of who list)
+  pub low : next ≤ 1 + length (requests_of_sender who list)
 
 -- its votes and its fetches stand, and those that it gave up have stopped
 pub record Ballots (w : World) (s : Group) (ballot : Option Ballot) : Type 0 where
@@ -67,7 +67,7 @@ pub record Ballots (w : World) (s : Group) (ballot : Option Ballot) : Type 0 whe
   pub last : LastStands w ballot
 
 pub record NodeStandsKept (w : World) (s : Group) (i : ℕ) (x : Node) : Type 0 where
-  pub good : IsGood (s.node i).list
+  pub good : IsGoodList (s.node i).list
   pub ballots : Ballots w s x.ballot
   pub open ballots use *
   pub opens : OpensStand x
@@ -75,7 +75,7 @@ pub record NodeStandsKept (w : World) (s : Group) (i : ℕ) (x : Node) : Type 0 
   pub fresh : ReportsFresh x
   pub trimmed : Trimmed s x.core.base
   pub turn : OwnTurn x.core.who (s.node i).list x.sends
-  pub leaves : x.leaving ≡ true → has_log x.status ≡ true
+  pub leaves : x.leaving ≡ true → has_log_by_status x.status ≡ true
 
 -- ---- within a step
 
@@ -127,8 +127,8 @@ pub record Next (rules : Rules) (w : World) (name : ℕ) (c : Cause) (o : Outcom
   pub fronts : FrontsAfter z name s to
 
 -- each change that is plain is moves of the group, to one of which all that is known within the step is so again
-abbrev pub ChangesGoOn : Type 0
-ChangesGoOn = (rules : Rules) (w : World) (name : ℕ) (c : Cause) (o : Outcome) (x y : Node) (s : Group) (z : Change c o x y) → IsPlainOnEnd z
+abbrev pub PlainChangesKeepStepping : Type 0
+PlainChangesKeepStepping = (rules : Rules) (w : World) (name : ℕ) (c : Cause) (o : Outcome) (x y : Node) (s : Group) (z : Change c o x y) → IsPlainOnEnd z
     → Stepping rules w name c x s → CauseCarriesSentBodies w.records name o c → Next rules w name c o x y s z
 
 -- ---- a refresh
@@ -149,7 +149,7 @@ RefreshesKeep = (rules : Rules) (w v : World) (name : ℕ) (c : Cause) (x : Node
 -- a node that does nothing keeps it, while the group goes on and more names stop
 abbrev pub OthersKeep : Type 0
 OthersKeep = (w v : World) (s t : Group) (i : ℕ) (x : Node) → ((j : ℕ) → is_stopped w j ≡ true → is_stopped v j ≡ true) → Grows s t
-    → NameStands w i x (s.node i) → NameStands v i x (t.node i) → Begins w.group v.group → NodeStandsKept w s i x → NodeStandsKept v t i x
+    → NameStands w i x (s.node i) → NameStands v i x (t.node i) → IsBeginningOf w.group v.group → NodeStandsKept w s i x → NodeStandsKept v t i x
 
 -- ---- the start
 

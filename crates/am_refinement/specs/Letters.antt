@@ -8,14 +8,14 @@ use Rattle.am_base.specs.declared.image.Image.{Image}
 use Rattle.am_base.specs.declared.entry.Entry.{Entry}
 use Rattle.am_base.specs.declared.entry.Entry.TheVariants.{Data, Leave, View}
 use Rattle.am_base.specs.Names.{has}
-use Rattle.am_base.specs.Lists.{members_of}
+use Rattle.am_base.specs.Lists.{members_of_image}
 use Rattle.am_packet.specs.declared.packet.Packet.{Packet}
 use Rattle.am_packet.specs.declared.packet.Packet.TheVariants.{Request, Spread, Bcast, Order, Accept, Ack, Nack, Welcome, LeaveAsk, Gone, Vote as VoteOf, Fetch}
 use Rattle.am_packet.specs.declared.packet.Packet.TheVariants.{Piece, Result}
 use Rattle.am_packet.specs.Boxes.{Letter}
 use Rattle.am_group.specs.Journals.{item_at}
 use Rattle.am_group.specs.declared.event.Record.{Record}
-use Rattle.am_base.specs.Whole.{Begins, image_of, mem, stamp_of_list, key}
+use Rattle.am_base.specs.Whole.{IsBeginningOf, image_of_list, is_member_at_end, stamp_of_list, key_of_stamp}
 use Rattle.am_abstract_group.specs.Group.{Group, IsThere}
 use Rattle.am_group_defs.specs.World.{World}
 use Rattle.am_group_defs.specs.Claims.{IsSend}
@@ -24,22 +24,22 @@ use Rattle.am_group_defs.specs.Claims.{IsSend}
 
 -- the line of a decided view
 abbrev pub line : Group → Stamp → List Entry
-line s v = s.views.line (key v)
+line s v = s.views.line (key_of_stamp v)
 
 abbrev pub IsDecided : Group → Stamp → Type 0
-IsDecided s v = s.views.decided (key v) ≡ true
+IsDecided s v = s.views.decided (key_of_stamp v) ≡ true
 
 -- a name showed its list to a ballot, and so did each other member of that list that is there
 pub record AllShown (s : Group) (v : Stamp) (name : ℕ) : Type 0 where
   pub list : List Entry
-  pub shown : s.shown (key v) name ≡ Some list
-  pub others : (j : ℕ) → mem list j ≡ true → IsThere (s.node j) → (j ≡ v.by) ⊎ ((other : List Entry) × (s.shown (key v) j ≡ Some other))
+  pub shown : s.shown (key_of_stamp v) name ≡ Some list
+  pub others : (j : ℕ) → is_member_at_end list j ≡ true → IsThere (s.node j) → (j ≡ v.by) ⊎ ((other : List Entry) × (s.shown (key_of_stamp v) j ≡ Some other))
 
 -- what is accepted up to here is stored by each name that was a member by then, is there, and isn't leaving
 pub record Trimmed (s : Group) (base : ℕ) : Type 0 where
   pub accepted : base ≤ length s.group
-  pub stored : (j : ℕ) → IsThere (s.node j) → (s.node j).leaving ≡ false → mem (take base s.group) j ≡ true
-      → Begins (take base s.group) (s.node j).list
+  pub stored : (j : ℕ) → IsThere (s.node j) → (s.node j).leaving ≡ false → is_member_at_end (take base s.group) j ≡ true
+      → IsBeginningOf (take base s.group) (s.node j).list
 
 -- ---- by kind
 
@@ -48,7 +48,7 @@ pub record SequencerSays (s : Group) (sender : ℕ) (v : Stamp) (acc : ℕ) : Ty
   pub by : v.by ≡ sender
   pub decided : IsDecided s v
   pub accepted : acc ≤ length s.group
-  pub before : (x : ℕ) → s.views.decided x ≡ true → key v < x → acc ≤ length (s.views.chosen x).before
+  pub before : (x : ℕ) → s.views.decided x ≡ true → key_of_stamp v < x → acc ≤ length (s.views.chosen x).before
 
 pub record EntrySays (s : Group) (sender : ℕ) (v : Stamp) (acc number : ℕ) (e : Entry) : Type 0 where
   pub sequencer : SequencerSays s sender v acc
@@ -70,7 +70,7 @@ pub record OrderSays (w : World) (s : Group) (sender : ℕ) (v : Stamp) (acc num
 pub record ReportSays (s : Group) (sender : ℕ) (v : Stamp) (report : Report) : Type 0 where
   pub decided : IsDecided s v
   pub within : report.stored ≤ length (s.node sender).list
-  pub begins : Begins (take report.stored (s.node sender).list) (line s v)
+  pub begins : IsBeginningOf (take report.stored (s.node sender).list) (line s v)
 
 pub record SendSays (w : World) (s : Group) (sender : ℕ) (v : Stamp) (report : Report) (req : ℕ) (body : List ℕ) : Type 0 where
   pub reports : ReportSays s sender v report
@@ -82,9 +82,9 @@ pub record LeaverWaits (s : Group) (sender : ℕ) (v : Stamp) (report : Report) 
   pub within : report.stored ≤ length (s.node sender).list
   pub join : ℕ
   pub accepted : join ≤ length s.group
-  pub joined : mem (take join s.group) sender ≡ true
-  pub later : IsDecided s v → Begins (take join s.group) (s.views.chosen (key v)).before
-  pub begins : IsDecided s v → has (s.views.chosen (key v)).members sender ≡ true → Begins (take report.stored (s.node sender).list) (line s v)
+  pub joined : is_member_at_end (take join s.group) sender ≡ true
+  pub later : IsDecided s v → IsBeginningOf (take join s.group) (s.views.chosen (key_of_stamp v)).before
+  pub begins : IsDecided s v → has (s.views.chosen (key_of_stamp v)).members sender ≡ true → IsBeginningOf (take report.stored (s.node sender).list) (line s v)
 
 pub data LeaverSays (s : Group) (sender : ℕ) (v : Stamp) (report : Report) : Type 0 where
   of_view : (s.node sender).leaving ≡ true → ReportSays s sender v report → LeaverSays s sender v report
@@ -96,10 +96,10 @@ pub record WelcomeSays (s : Group) (sender : ℕ) (v : Stamp) (base join : ℕ) 
   pub decided : IsDecided s v
   pub above : base < join
   pub accepted : join ≤ length s.group
-  pub joined : mem (take join s.group) name ≡ true
-  pub first : (a : List Entry) → Begins a s.group → length a < join → mem a name ≡ true → ⊥
-  pub image_ : image ≡ image_of (take base s.group)
-  pub later : (x : ℕ) → s.views.decided x ≡ true → key v < x → Begins (take join s.group) (s.views.chosen x).before
+  pub joined : is_member_at_end (take join s.group) name ≡ true
+  pub first : (a : List Entry) → IsBeginningOf a s.group → length a < join → is_member_at_end a name ≡ true → ⊥
+  pub image_ : image ≡ image_of_list (take base s.group)
+  pub later : (x : ℕ) → s.views.decided x ≡ true → key_of_stamp v < x → IsBeginningOf (take join s.group) (s.views.chosen x).before
 
 -- who has a log, or will have none, doesn't heed a Welcome
 pub data WelcomeTo (s : Group) (sender : ℕ) (v : Stamp) (base join : ℕ) (image : Image) (name : ℕ) : Type 0 where
@@ -112,17 +112,17 @@ pub data WelcomeTo (s : Group) (sender : ℕ) (v : Stamp) (base join : ℕ) (ima
 -- to a leaver: it has stopped, or its Leave is accepted, and stored by all who were members before it, are there and stay
 pub data GoneSays (s : Group) (number name : ℕ) : Type 0 where
   has_stopped : (s.node name).stopped ≡ true → GoneSays s number name
-  may_go : (before : List Entry) → length before + 1 ≡ number → Begins (before ++ Leave name ∷ []) s.group
-      → ((j : ℕ) → mem before j ≡ true → IsThere (s.node j) → (s.node j).leaving ≡ false → Begins (before ++ Leave name ∷ []) (s.node j).list)
+  may_go : (before : List Entry) → length before + 1 ≡ number → IsBeginningOf (before ++ Leave name ∷ []) s.group
+      → ((j : ℕ) → is_member_at_end before j ≡ true → IsThere (s.node j) → (s.node j).leaving ≡ false → IsBeginningOf (before ++ Leave name ∷ []) (s.node j).list)
       → GoneSays s number name
 
 -- a vote for another's ballot tells the list that was shown to it
 pub record VoteTells (s : Group) (sender : ℕ) (v : Stamp) (vote : Vote) : Type 0 where
   pub list : List Entry
-  pub shown : s.shown (key v) sender ≡ Some list
+  pub shown : s.shown (key_of_stamp v) sender ≡ Some list
   pub view : vote.view ≡ stamp_of_list list
   pub top : vote.top ≡ length list
-  pub members : vote.members ≡ members_of (image_of list)
+  pub members : vote.members ≡ members_of_image (image_of_list list)
   pub taken : vote.taken ≤ length list
 
 pub data VoteSays (s : Group) (sender : ℕ) (v : Stamp) (vote : Vote) : Type 0 where
@@ -137,9 +137,9 @@ pub data FetchSays (s : Group) (sender : ℕ) (v : Stamp) (to : List ℕ) : Type
 
 -- an entry of a view's line, or of the list that was shown to a ballot
 pub record ShownEntry (s : Group) (sender : ℕ) (v : Stamp) (number : ℕ) (e : Entry) : Type 0 where
-  pub served : s.served (key v) sender ≡ true
+  pub served : s.served (key_of_stamp v) sender ≡ true
   pub list : List Entry
-  pub shown : s.shown (key v) sender ≡ Some list
+  pub shown : s.shown (key_of_stamp v) sender ≡ Some list
   pub stands : item_at list number ≡ Some e
 
 pub data PieceSays (s : Group) (sender : ℕ) (v : Stamp) (number : ℕ) (e : Entry) : Type 0 where

@@ -2,32 +2,32 @@
 use Rattle.std.specs.Prelude.{◌≡◌, ◌⊎◌, ℕ, ◌<◌, true}
 use Rattle.am_base.specs.declared.entry.Entry.{Entry}
 use Rattle.am_base.specs.declared.entry.Entry.TheVariants.{Data, Join, Leave, View}
-use Rattle.am_base.specs.Names.{IsSet, has}
-use Rattle.am_base.specs.Whole.{key}
+use Rattle.am_base.specs.Names.{IsSetOfNames, has}
+use Rattle.am_base.specs.Whole.{key_of_stamp}
 use Rattle.am_abstract_group.specs.Group.{Group}
-use Rattle.am_abstract_group.specs.Moves.{Move, Voted, decides, numbers, stops}
+use Rattle.am_abstract_group.specs.Moves.{Move, ShowedNoBetterList, decides, numbers, stops}
 
 -- who joins is one of the 256 names, and a View has a set of them
 abbrev pub NamesNamed : Entry → Type 0
 NamesNamed (Data from req body) = Unit {0}
 NamesNamed (Join name) = name < 256
 NamesNamed (Leave name) = Unit {0}
-NamesNamed (View v) = IsSet v.members
+NamesNamed (View v) = IsSetOfNames v.members
 
 -- at a decision each other name of the View has voted for no better list, whether it stopped or not
 abbrev pub AllVoted : (s : Group) (i : ℕ) → (ℕ → Type 0) → Type 0
-AllVoted s i in_view = (j : ℕ) → in_view j → (j ≡ i) ⊎ Voted s (key (s.node i).promise) j (s.node i).list
+AllVoted s i in_view = (j : ℕ) → in_view j → (j ≡ i) ⊎ ShowedNoBetterList s (key_of_stamp (s.node i).promise) j (s.node i).list
 
 -- what is so of a move within a step besides what the group asks of it
-abbrev pub MoveOk : {s t : Group} → Move s t → Type 0
-MoveOk (numbers i e leads fit may) = NamesNamed e
-MoveOk {s = s} (decides i v may) = IsSet v.members × AllVoted s i (λ j. has v.members j ≡ true)
-MoveOk (stops i) = ⊥
-MoveOk _ = Unit {0}
+abbrev pub MoveIsSound : {s t : Group} → Move s t → Type 0
+MoveIsSound (numbers i e leads fit may) = NamesNamed e
+MoveIsSound {s = s} (decides i v may) = IsSetOfNames v.members × AllVoted s i (λ j. has v.members j ≡ true)
+MoveIsSound (stops i) = ⊥
+MoveIsSound _ = Unit {0}
 
 pub data Moves : Group → Group → Type 0 where
   none : {s : Group} → Moves s s
-  moves : {s t u : Group} → (move : Move s t) → MoveOk move → Moves t u → Moves s u
+  moves : {s t u : Group} → (move : Move s t) → MoveIsSound move → Moves t u → Moves s u
 
 -- some moves lead to a group of which this is so
 pub record MovesLeadTo (P : Group → Type 0) (s : Group) : Type 0 where

@@ -5,36 +5,36 @@ use Rattle.am_base.specs.declared.entry.Entry.TheVariants.{Data}
 use Rattle.am_base.specs.declared.outcome.Outcome.TheVariants as said
 use Rattle.am_base.specs.declared.event.NodeEvent.{NodeEvent}
 use Rattle.am_base.specs.Names.{has}
-use Rattle.am_base.specs.Lists.{at_place}
+use Rattle.am_base.specs.Lists.{row_at_place}
 use Rattle.am_packet.specs.declared.packet.Packet.{Packet}
 use Rattle.am_packet.specs.declared.packet.Packet.TheVariants as packet
-use Rattle.am_base.specs.Whole.{key}
+use Rattle.am_base.specs.Whole.{key_of_stamp}
 use Rattle.am_abstract_group.specs.Group.{Group, IsThere}
 use Rattle.am_abstract_group.specs.Kept.{GroupKeeps}
-use Rattle.am_model.specs.Node.{Node, Ballot, top, image_of, is_sequencer, has_log}
+use Rattle.am_model.specs.Node.{Node, Ballot, top, image_of_node, is_sequencer, has_log_by_status}
 use Rattle.am_model.specs.declared.status.Status.TheVariants.{Departed}
-use Rattle.am_model.specs.Calls.{is_unfinished}
-use Rattle.am_model.specs.Step.{step, hear, hear_refusal}
+use Rattle.am_model.specs.Calls.{is_unfinished_ballot}
+use Rattle.am_model.specs.Step.{step, hear_packet, hear_refused_bytes}
 use Rattle.am_model.specs.Refresh.{concerned_names}
 use Rattle.am_group_defs.specs.World.{Decided, World}
 use Rattle.am_step_laws.specs.Causes.{Cause, hears}
-use Rattle.am_step_laws.specs.Looks.{HasOpen}
-use Rattle.am_step_laws.specs.Letters.{HasSend, Says}
+use Rattle.am_step_laws.specs.Looks.{HasOpenBallot}
+use Rattle.am_step_laws.specs.Letters.{HasOwnSend, Says}
 use Rattle.am_refinement.specs.Standing.{NameStands, FrontsStand, ViewsStand}
 use Rattle.am_refinement.specs.Letters.{Trimmed, AllShown, WasAsked, FetchSays, PacketSays}
 use Rattle.am_refinement.specs.Moving.{MovesLeadTo}
-use Rattle.am_refinement.specs.States.{OwnDecided, ReportsStand, LinesOpen, RoundsOk, LeftOut}
+use Rattle.am_refinement.specs.States.{OwnDecided, ReportsStand, LinesOpen, RoundsAreSet, LeftOutHaveStopped}
 
 -- a life of a place where somebody joined isn't none
 abbrev pub RowsLive : Node → Type 0
-RowsLive n = (name : ℕ) → (at_place (image_of n) name).life ≡ 0 → (at_place (image_of n) name).joined ≡ 0
+RowsLive n = (name : ℕ) → (row_at_place (image_of_node n) name).life ≡ 0 → (row_at_place (image_of_node n) name).joined ≡ 0
 
 -- what the group keeps
 pub record KeptWhole (s : Group) : Type 0 where
   pub kept : GroupKeeps s
   pub opens : LinesOpen s
-  pub rounds : RoundsOk s
-  pub left_out : LeftOut s
+  pub rounds : RoundsAreSet s
+  pub left_out : LeftOutHaveStopped s
 
 -- its numbers stand in their order; what was accepted before the step is accepted
 pub record NumbersStand (m n : Node) : Type 0 where
@@ -54,17 +54,17 @@ pub record LeaderStands (s : Group) (i : ℕ) (n : Node) : Type 0 where
   pub names : (j : ℕ) → has (concerned_names n) j ≡ true → j < 256
   pub reports : ReportsStand s i n
   -- its last View stands in its log
-  pub viewed : n.core.log.start < (image_of n).view_number
+  pub viewed : n.core.log.start < (image_of_node n).view_number
 
 -- what it has of ballots: who has no log has none, and who fetches has been shown all that it needs
 pub record BallotSendsStand (s : Group) (i : ℕ) (n : Node) : Type 0 where
-  pub blank : (b : Ballot) → n.ballot ≡ Some b → has_log n.status ≡ true
+  pub blank : (b : Ballot) → n.ballot ≡ Some b → has_log_by_status n.status ≡ true
   pub own : OwnDecided n
-  pub fetches : (b : Ballot) (from want : ℕ) → HasOpen n b → b.answer ≡ said.Fetching from want → (n.core.promise.by ≡ i) × AllShown s n.core.promise from
+  pub fetches : (b : Ballot) (from want : ℕ) → HasOpenBallot n b → b.answer ≡ said.Fetching from want → (n.core.promise.by ≡ i) × AllShown s n.core.promise from
 
 -- what it passes on was sent as this request
 pub record SendsStand (v : World) (i : ℕ) (n : Node) : Type 0 where
-  pub own : (req : ℕ) (body : List ℕ) → HasSend n req body → WasAsked v i req body
+  pub own : (req : ℕ) (body : List ℕ) → HasOwnSend n req body → WasAsked v i req body
   pub numbered : (index from req : ℕ) (body : List ℕ) → slice_get n.core.log.entries index ≡ Some (Data from req body) → WasAsked v from req body
 
 -- a name that is there, as it is after its step (before it m), with what made it do the step
@@ -77,7 +77,7 @@ pub record Sender (v : World) (i : ℕ) (c : Cause) (m n : Node) (s : Group) : T
   pub noted : (k : ℕ) (d : Decided) → slice_get v.views k ≡ Some d → d.stamp.by < 256
   pub who : n.core.who ≡ i
   pub small : n.core.promise.by < 256
-  pub begun : key n.core.promise ≤ key (s.node n.core.promise.by).promise
+  pub begun : key_of_stamp n.core.promise ≤ key_of_stamp (s.node n.core.promise.by).promise
   pub lives : RowsLive n
   pub trimmed : Trimmed s n.core.base
   pub numbers : NumbersStand m n
@@ -108,9 +108,9 @@ SentSays = (v : World) (i : ℕ) (c : Cause) (m n : Node) (s : Group) (to : List
 -- no call, no packet and no bytes make it send
 pub record SendsNothing (m : Node) : Type 0 where
   pub calls_ : (event : NodeEvent) → (step m event).letters ≡ []
-  pub hears_ : (p : Packet) → (hear m p).letters ≡ []
-  pub refuses_ : (cause : ℕ) → (hear_refusal m cause).letters ≡ []
+  pub hears_ : (p : Packet) → (hear_packet m p).letters ≡ []
+  pub refuses_ : (cause : ℕ) → (hear_refused_bytes m cause).letters ≡ []
 
 -- where no ballot is left open
 abbrev pub DepartedSilent : Type 0
-DepartedSilent = (m : Node) → m.status ≡ Departed → is_unfinished m.ballot ≡ false → SendsNothing m
+DepartedSilent = (m : Node) → m.status ≡ Departed → is_unfinished_ballot m.ballot ≡ false → SendsNothing m

@@ -6,25 +6,25 @@ use Rattle.am_base.specs.declared.image.Image.{Image}
 use Rattle.am_base.specs.declared.entry.Entry.{Entry}
 use Rattle.am_base.specs.declared.entry.Entry.TheVariants.{View}
 use Rattle.am_base.specs.declared.outcome.Outcome.{Outcome}
-use Rattle.am_base.specs.Names.{IsSet, has}
+use Rattle.am_base.specs.Names.{IsSetOfNames, has}
 use Rattle.am_base.specs.Lists.{fits}
 use Rattle.am_packet.specs.declared.packet.Packet.TheVariants as packet
 use Rattle.am_group.specs.declared.event.Event.{Event}
 use Rattle.am_base.specs.Whole as whole
-use Rattle.am_base.specs.Whole.{stamp_of_list, key}
+use Rattle.am_base.specs.Whole.{stamp_of_list, key_of_stamp}
 use Rattle.am_abstract_group.specs.Group.{Group, IsOngoing}
-use Rattle.am_abstract_group.specs.Moves.{with_node, MayNumber, GroupMayWelcome, CoordinatorMayDecide}
-use Rattle.am_model.specs.Node.{Node, Ballot, image_of, view, members}
-use Rattle.am_model.specs.Calls.{is_unfinished}
+use Rattle.am_abstract_group.specs.Moves.{group_with_node, MayNumber, GroupMayWelcome, CoordinatorMayDecide}
+use Rattle.am_model.specs.Node.{Node, Ballot, image_of_node, view, members}
+use Rattle.am_model.specs.Calls.{is_unfinished_ballot}
 use Rattle.am_model.specs.Receiving.{is_view}
-use Rattle.am_model.specs.Ballots.{Verdict, need_of, left_in, decided_view}
+use Rattle.am_model.specs.Ballots.{BallotVerdict, need_set_of, need_set_without_given_up, decided_view}
 use Rattle.am_group_defs.specs.Lawful.{is_view_of}
-use Rattle.am_group_defs.specs.World.{Decided, World, is_stopped, last_view}
+use Rattle.am_group_defs.specs.World.{Decided, World, is_stopped, last_view_of}
 use Rattle.am_step_laws.specs.Causes.{Cause, hears}
 use Rattle.am_step_laws.specs.Looks as looks
-use Rattle.am_step_laws.specs.Looks.{Looks, decides}
-use Rattle.am_step_laws.specs.Changes.{Promises, Change, numbers, stores, begins_list, looks, fetches, stores_view, closes}
-use Rattle.am_step_laws.specs.Events.{Happens, steps}
+use Rattle.am_step_laws.specs.Looks.{LooksAtBallot, decides}
+use Rattle.am_step_laws.specs.Changes.{MayPromise, Change, numbers, stores, begins_list, looks, fetches, stores_view, closes}
+use Rattle.am_step_laws.specs.Events.{EventHappens, steps}
 use Rattle.am_refinement.specs.Standing.{StandsBut, Stands, within}
 use Rattle.am_refinement.specs.Letters.{GoneSays}
 use Rattle.am_refinement.specs.Moving.{NamesNamed, AllVoted, MovesLeadTo}
@@ -32,7 +32,7 @@ use Rattle.am_refinement.specs.Moving.{NamesNamed, AllVoted, MovesLeadTo}
 -- a stamp of a letter was begun: its name has promised it
 pub record WasBegun (s : Group) (v : Stamp) : Type 0 where
   pub small : v.by < 256
-  pub begun : key v ≤ key (s.node v.by).promise
+  pub begun : key_of_stamp v ≤ key_of_stamp (s.node v.by).promise
 
 -- what holds of the name that does a step, in any world; and what it hears is so
 pub record MovesSo (name : ℕ) (c : Cause) (x : Node) (s : Group) : Type 0 where
@@ -41,7 +41,7 @@ pub record MovesSo (name : ℕ) (c : Cause) (x : Node) (s : Group) : Type 0 wher
   pub promise : x.core.promise.by < 256
   -- an unfinished ballot's stamp is the promise
   pub ballot : (b : Ballot) → x.ballot ≡ Some b → b.is_over ≡ false → b.stamp ≡ x.core.promise
-  pub stamps : (v : Stamp) → Promises c x v → WasBegun s v
+  pub stamps : (v : Stamp) → MayPromise c x v → WasBegun s v
   pub gone : (from : ℕ) (v : Stamp) (number : ℕ) → c ≡ hears (packet.Gone from v number) → GoneSays s number name
 
 -- and it runs
@@ -55,8 +55,8 @@ pub record MayMove (w : World) (name : ℕ) (c : Cause) (x : Node) (s : Group) :
 
 -- a sequencer has its view's line, and numbers what fits, and no Leave but of a name that leaves
 pub record NeedsNumber (s : Group) (name : ℕ) (x : Node) (e : Entry) : Type 0 where
-  pub chain : s.views.line (key (stamp_of_list (s.node name).list)) ≡ (s.node name).list
-  pub fit : fits (image_of x) e ≡ true
+  pub chain : s.views.line (key_of_stamp (stamp_of_list (s.node name).list)) ≡ (s.node name).list
+  pub fit : fits (image_of_node x) e ≡ true
   pub named : NamesNamed e
   pub may : MayNumber s.node name e
 
@@ -67,43 +67,43 @@ IsOthers name x e = (view x).by ≡ name → is_view e ≡ true
 -- what is stored comes next in the line of the promise, which is another name's and was decided
 pub record NeedsEntry (s : Group) (name : ℕ) (x : Node) (e : Entry) : Type 0 where
   pub others : IsOthers name x e
-  pub decided : s.views.decided (key (s.node name).promise) ≡ true
+  pub decided : s.views.decided (key_of_stamp (s.node name).promise) ≡ true
   pub other : (s.node name).promise.by ≢ name
   pub stays : IsOngoing (s.node name).list name
-  pub next : slice_get (s.views.line (key (s.node name).promise)) (length (s.node name).list) ≡ Some e
+  pub next : slice_get (s.views.line (key_of_stamp (s.node name).promise)) (length (s.node name).list) ≡ Some e
 
 -- what a coordinator fetches comes next in a list that was shown to its ballot, and sent of
 pub record NeedsShown (s : Group) (name : ℕ) (x : Node) (e : Entry) : Type 0 where
   pub others : IsOthers name x e
   pub from : ℕ
   pub list : List Entry
-  pub served : s.served (key (s.node name).promise) from ≡ true
-  pub shown : s.shown (key (s.node name).promise) from ≡ Some list
+  pub served : s.served (key_of_stamp (s.node name).promise) from ≡ true
+  pub shown : s.shown (key_of_stamp (s.node name).promise) from ≡ Some list
   pub next : slice_get list (length (s.node name).list) ≡ Some e
 
 pub data NeedsPiece (s : Group) (name : ℕ) (x : Node) (e : Entry) : Type 0 where
   of_line : NeedsEntry s name x e → NeedsPiece s name x e
-  of_shown : is_unfinished x.ballot ≡ true → NeedsShown s name x e → NeedsPiece s name x e
+  of_shown : is_unfinished_ballot x.ballot ≡ true → NeedsShown s name x e → NeedsPiece s name x e
 
 -- a joiner has nothing yet, and the image tells what the group accepted up to the base
 pub record NeedsWelcome (s : Group) (name : ℕ) (v : Stamp) (base join : ℕ) (image : Image) : Type 0 where
   pub may : GroupMayWelcome s name v base join
   pub blank : (s.node name).list ≡ []
   pub within : base ≤ length s.group
-  pub image_ : image ≡ whole.image_of (take base s.group)
+  pub image_ : image ≡ whole.image_of_list (take base s.group)
 
 -- a coordinator may decide: by the group's own test, with a stamp of which nothing was decided and no View stands in its list; and the
 -- members that its View names are the members then
 pub record NeedsDecision (s : Group) (name : ℕ) (x : Node) (b : Ballot) : Type 0 where
-  pub may : CoordinatorMayDecide s name (decided_view x b (left_in b (need_of x b)))
+  pub may : CoordinatorMayDecide s name (decided_view x b (need_set_without_given_up b (need_set_of x b)))
   pub own : x.core.promise.by ≡ name
-  pub fresh : s.views.decided (key x.core.promise) ≡ false
+  pub fresh : s.views.decided (key_of_stamp x.core.promise) ≡ false
   pub unseen : list_any (is_view_of x.core.promise) (s.node name).list ≡ false
-  pub members_ : members (looks.decided_view_node x b) ≡ left_in b (need_of x b)
-  pub set : IsSet (left_in b (need_of x b))
-  pub voted : AllVoted s name (λ j. has (left_in b (need_of x b)) j ≡ true)
+  pub members_ : members (looks.decided_view_node x b) ≡ need_set_without_given_up b (need_set_of x b)
+  pub set : IsSetOfNames (need_set_without_given_up b (need_set_of x b))
+  pub voted : AllVoted s name (λ j. has (need_set_without_given_up b (need_set_of x b)) j ≡ true)
 
-abbrev pub NeedsLook : {m : Node} {b : Ballot} {v : Verdict} → Group → ℕ → Looks m b v → Type 0
+abbrev pub NeedsLook : {m : Node} {b : Ballot} {v : BallotVerdict} → Group → ℕ → LooksAtBallot m b v → Type 0
 NeedsLook {m = m} {b = b} s name (decides may) = NeedsDecision s name m b
 NeedsLook s name _ = Unit {0}
 
@@ -124,8 +124,8 @@ Needs s name _ = Unit {0}
 abbrev pub world_noting : World → Decided → World
 world_noting w d = record w { views = w.views ++ d ∷ [] }
 
-abbrev pub after_look : {m : Node} {b : Ballot} {v : Verdict} → Looks m b v → World → World
-after_look {v = v} (decides may) w = world_noting w (last_view v.node)
+abbrev pub after_look : {m : Node} {b : Ballot} {v : BallotVerdict} → LooksAtBallot m b v → World → World
+after_look {v = v} (decides may) w = world_noting w (last_view_of v.node)
 after_look _ w = w
 
 abbrev pub after_change : {c : Cause} {o : Outcome} {m n : Node} → Change c o m n → World → World
@@ -152,14 +152,14 @@ ChangesStand = (w : World) (name : ℕ) (c : Cause) (o : Outcome) (x y : Node) (
 
 -- ---- events that no node does
 
-abbrev pub IsNoStep : {w : World} {e : Event} {v : World} → Happens w e v → Type 0
+abbrev pub IsNoStep : {w : World} {e : Event} {v : World} → EventHappens w e v → Type 0
 IsNoStep (steps c s runs cause effect) = ⊥
 IsNoStep _ = Unit {0}
 
 -- each of these is no move of the group, or that a name stops
 pub data EventStands (v : World) (s : Group) : Type 0 where
   no_move : Stands v s → EventStands v s
-  stop : (i : ℕ) → Stands v (with_node s i (record (s.node i) { stopped = true })) → EventStands v s
+  stop : (i : ℕ) → Stands v (group_with_node s i (record (s.node i) { stopped = true })) → EventStands v s
 
 abbrev pub EventsStand : Type 0
-EventsStand = (w : World) (e : Event) (v : World) (s : Group) (z : Happens w e v) → IsNoStep z → Stands w s → EventStands v s
+EventsStand = (w : World) (e : Event) (v : World) (s : Group) (z : EventHappens w e v) → IsNoStep z → Stands w s → EventStands v s

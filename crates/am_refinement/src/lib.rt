@@ -8,7 +8,7 @@ ghost use Rattle.am_refinement.specs.Accepting.{RefreshAccepts, RefreshLearns, C
 ghost use Rattle.am_refinement.specs.Branches.{MovesBranch, MovesNamed, DecisionsAreNew, BranchesBegin};
 ghost use Rattle.am_refinement.specs.Ends.{EndsStand, CloseStands};
 ghost use Rattle.am_refinement.specs.Growing.{LettersStay, MovesGrow};
-ghost use Rattle.am_refinement.specs.Keeping.{StartKeeps, ChangesGoOn, RefreshesKeep, OthersKeep};
+ghost use Rattle.am_refinement.specs.Keeping.{StartKeeps, PlainChangesKeepStepping, RefreshesKeep, OthersKeep};
 ghost use Rattle.am_refinement.specs.Lawful.{LawfulRunsGoOn};
 ghost use Rattle.am_refinement.specs.Standing.{StartStands};
 ghost use Rattle.am_refinement.specs.Sending.{SentSays, DepartedSilent};
@@ -90,7 +90,7 @@ pub fn decisions_find_leavers()
 /// accepts; and so does each node that does nothing, while the group goes on. At the start each node keeps it.
 pub fn steps_go_on()
     ensures start { StartKeeps }
-    ensures change { ChangesGoOn }
+    ensures change { PlainChangesKeepStepping }
     ensures refresh { RefreshesKeep }
     ensures others { OthersKeep }
 {}

@@ -1,8 +1,8 @@
 -- The last two rounds: the sequencer accepts what all have reported, and all learn of it.
 use Rattle.am_repair.proofs.RepairWords.{◌≡◌, inl, inr, ℕ, ◌+◌, ◌≤◌, ◌==◌, not, true, false, List, length, Option, Some, None, refl, sym, ap, ◌∙◌, subst, arith}
-use Rattle.am_repair.proofs.RepairWords.{length-append, All, nat_tests, All-weaker, Data, Image, Outcome, Rules, place_of, has, names_of, counted_at, Event}
-use Rattle.am_repair.proofs.RepairWords.{OwnSend, Node, top, image_of, view, acts, is_sequencer, has_room, waiting, push_entry, Plan, finish, step, row, would_emit}
-use Rattle.am_repair.proofs.RepairWords.{emit, tick_row, and_result, put_off, event_at, running, World, happens, split_on_bool, both_of_and, node_of_either_plan, image_of_pushed_entry, plain_entry_keeps_image_view}
+use Rattle.am_repair.proofs.RepairWords.{length-append, All, nat_tests, All-weaker, Data, Image, Outcome, Rules, place_of_name, has, names_of, counting_names_at, Event}
+use Rattle.am_repair.proofs.RepairWords.{OwnSend, Node, top, image_of_node, view, acts_in_its_view, is_sequencer, has_room, waiting_send_of, push_entry, Plan, finish, step, row, would_emit_send}
+use Rattle.am_repair.proofs.RepairWords.{emit_waiting_send, tick_row, with_result_told_again, tick_outcome_of_waiting_send, event_at, running_places, World, happens, split_on_bool, both_of_and, node_of_either_plan, image_of_pushed_entry, plain_entry_keeps_image_view}
 use Rattle.am_repair.proofs.RepairWords.{IsAtRest, HasReported, HasReports, Repair, LeadsCalmly, IsOurs, our_ticks, Act}
 use Rattle.am_base.specs.declared.event.NodeEvent.TheVariants as does
 use Rattle.am_repair.proofs.FirstWave.{ReachesHighNumber, SequencerKnowsStored, first_wave_reports, MemberAcceptsHigh, first_wave_accepts}
@@ -22,8 +22,8 @@ reports_pushed m high req body h =
     let e = Data m.core.who req body in
     let stored = h.stored in
     let more : top (push_entry m e) ≡ top m + 1 = simp length-append (omega arith) in
-    let number : (image_of (push_entry m e)).view_number ≡ (image_of m).view_number = ap (λ (i : Image). i.view_number) (image_of_pushed_entry m e)
-    ∙ (plain_entry_keeps_image_view (image_of m) (top m + 1) e refl).number in
+    let number : (image_of_node (push_entry m e)).view_number ≡ (image_of_node m).view_number = ap (λ (i : Image). i.view_number) (image_of_pushed_entry m e)
+    ∙ (plain_entry_keeps_image_view (image_of_node m) (top m + 1) e refl).number in
     record {
       stored = omega arith;
       view = omega arith;
@@ -31,10 +31,10 @@ reports_pushed m high req body h =
           (sym (counted_at_in_grown_log m.core.log (push_entry m e).core.log k (log_grows_by_push m.core.log e) (omega arith))) (h.each k above within (omega arith));
     }
 
-emit_reports : (m : Node) (w : Option OwnSend) (o : Outcome) (high : ℕ) → HasReports m high → HasReports (emit m w o).node high
+emit_reports : (m : Node) (w : Option OwnSend) (o : Outcome) (high : ℕ) → HasReports m high → HasReports (emit_waiting_send m w o).node high
 emit_reports m None o high h = h
 emit_reports m (Some s) o high h =
-    node_of_either_plan (λ n. HasReports n high) (not (would_emit m (Some s))) _ _ (λ t. h)
+    node_of_either_plan (λ n. HasReports n high) (not (would_emit_send m (Some s))) _ _ (λ t. h)
     (λ f. node_of_either_plan (λ n. HasReports n high) (not (is_sequencer m)) _ _ (λ t. node_of_either_plan (λ n. HasReports n high) _ _ _ (λ u. h) (λ u. h))
     (λ g. node_of_either_plan (λ n. HasReports n high) (has_room m) _ _ (λ t. reports_pushed m high s.req s.body h) (λ t. h)))
 
@@ -46,12 +46,12 @@ accepts_done m p high stays leads h = rw stays (fronts_rise p.node high leads h)
 tick_accepts : (m : Node) (high : ℕ) → is_sequencer m ≡ true → IsAtRest m → HasReports m high → high ≤ (step m does.Tick).node.core.acc
 unfolding step row
 tick_accepts m high leads rest h =
-    let both = both_of_and (acts m) ((view m).by == m.core.who) leads in
-    let o = put_off m (waiting m) in
-    let p = and_result (record (emit m (waiting m) o) { polls = true }) in
-    let e = emitted_plan_leads m (waiting m) o leads in
+    let both = both_of_and (acts_in_its_view m) ((view m).by == m.core.who) leads in
+    let o = tick_outcome_of_waiting_send m (waiting_send_of m) in
+    let p = with_result_told_again (record (emit_waiting_send m (waiting_send_of m) o) { polls = true }) in
+    let e = emitted_plan_leads m (waiting_send_of m) o leads in
     let is : tick_row m ≡ p = tick_row_of_acting_node m both.0 rest ∙ tick_acting_of_sequencer m both.0 both.1 ∙ going_of_node_that_stays m p rest.stays in
-    subst (λ (q : Plan). high ≤ (finish m q).node.core.acc) (sym is) (accepts_done m p high e.stays e.leads (emit_reports m (waiting m) o high h))
+    subst (λ (q : Plan). high ≤ (finish m q).node.core.acc) (sym is) (accepts_done m p high e.stays e.leads (emit_reports m (waiting_send_of m) o high h))
 
 -- ---- all have reported
 
@@ -66,14 +66,14 @@ leads_reports r q l who known =
       view = omega arith;
       each = λ k above within low. All-weaker (λ name. has r.members name ≡ true) (HasReported q r.high) (λ name there. split_on_bool (name == r.by)
           (λ t. let same : name ≡ r.by = grind (arith, nat_tests) in inl (same ∙ sym who))
-          (λ f. inr (known name there f))) (names_of (counted_at q.core.log k)) (l.counted k above within (omega arith));
+          (λ f. inr (known name there f))) (names_of (counting_names_at q.core.log k)) (l.counted k above within (omega arith));
     }
 
 known_bound : (rules : Rules) (r : Repair) → TickAcceptsAtLeast rules r (AllMembersAreKnown r) r.high
 known_bound rules r = record {
   keeps = λ w e is h x i there other. (let a = (world_grows_by_own_event rules r w e is h).kept i there in let b = x i there other in omega arith);
   gives = λ w h x.
-      (let e = event_at (place_of r.by) Act.Tick in
+      (let e = event_at (place_of_name r.by) Act.Tick in
       let q = w.nodes r.by in
       let is = tick_of_running_name_steps w r.by (member_of_repair_runs_now rules r w r.by h h.calm.listed) in
       let node = node_after_step_of_event w e r.by (step q does.Tick) is in
@@ -119,7 +119,7 @@ round_accepts_what_is_known rules r i w low there other h known =
 -- and the sequencer itself
 leader_ticks : (rules : Rules) (r : Repair) (w : World) → WorldKeepsLawsAndCalm rules r w → AllMembersAreKnown r w → MemberAcceptsHigh rules r r.by (world_after_ticks w)
 leader_ticks rules r w h known =
-    let z = acts_bring_property P Q Act.Tick (place_of r.by) hits (running w) w (running_name_is_in_running w r.by (member_of_repair_runs_now rules r w r.by h h.calm.listed)) (h, known) in
+    let z = acts_bring_property P Q Act.Tick (place_of_name r.by) hits (running_places w) w (running_name_is_in_running w r.by (member_of_repair_runs_now rules r w r.by h h.calm.listed)) (h, known) in
     record { fine = z.0.0; high = z.1 }
   where
     P : World → Type 0
@@ -128,7 +128,7 @@ leader_ticks rules r w h known =
     Q : World → Type 0
     Q u = r.high ≤ (u.nodes r.by).core.acc
 
-    hits : ActBringsProperty P Q Act.Tick (place_of r.by)
+    hits : ActBringsProperty P Q Act.Tick (place_of_name r.by)
     hits = record {
       keeps = λ p u k. (
         laws_and_calm_stay rules r u (event_at p Act.Tick) (our_ticks p) k.0,

@@ -1,6 +1,6 @@
 -- What the changes of anybody else keep while a schedule runs.
 use Rattle.am_repair.proofs.RepairWords.{eqb-true, ◌≡◌, ◌==◌, true, false, sym, ap, ◌∙◌, subst, Stamp, Outcome, Node, Ballot, view, is_member, is_sequencer}
-use Rattle.am_repair.proofs.RepairWords.{has_departed, overtake, World, Cause, HasOpen, Promises, invited, overtaken_by, told_result, Change, refreshes}
+use Rattle.am_repair.proofs.RepairWords.{has_departed, overtake_lower_ballot, World, Cause, HasOpenBallot, MayPromise, invited, overtaken_by, told_result, Change, refreshes}
 use Rattle.am_repair.proofs.RepairWords.{settles, takes_report, admits, numbers, begins_list, departs, promises, opens, looks, queues, collects, takes}
 use Rattle.am_repair.proofs.RepairWords.{asks_to_join, asks_to_leave, closes, Repair, IsApart}
 use Rattle.am_repair.proofs.Nodes.{CalmCause, acting_member_promised_its_view, sequencer_acts_by_own_view, other_name_is_not_sequencer, NodesStandAlike, refreshed_node_stands_alike, settled_node_stands_alike}
@@ -30,10 +30,10 @@ no_leader r m x by other h t =
     let view_ : (view x).by ≡ r.by = ap (λ (v : Stamp). v.by) (sym is.1 ∙ h.apart.promised is.0) ∙ by in
     other_name_is_not_sequencer x r.by view_ (ap (λ k. k == r.by) h.who ∙ other) t
 
-not_open : (r : Repair) (m x : Node) → StaysApartFromRepair r m x → (b : Ballot) → HasOpen x b → ⊥
+not_open : (r : Repair) (m x : Node) → StaysApartFromRepair r m x → (b : Ballot) → HasOpenBallot x b → ⊥
 not_open r m x h b o = let none = h.apart.no_ballot in let some = o.last in cc
 
-promised_view : (r : Repair) (w : World) (c : Cause) (x : Node) (v : Stamp) → CalmCause r w c → Promises c x v → v ≡ r.view
+promised_view : (r : Repair) (w : World) (c : Cause) (x : Node) (v : Stamp) → CalmCause r w c → MayPromise c x v → v ≡ r.view
 promised_view r w c x v calm (invited s v_ is heard own) = absurd (subst (CalmCause r w) is calm)
 promised_view r w c x v calm (overtaken_by s v_ vote is heard above) = absurd (subst (CalmCause r w) is calm)
 promised_view r w c x v calm (told_result s base number u is heard own other) = (subst (CalmCause r w) is calm) (eqb-true v.by s own)
@@ -49,7 +49,7 @@ node_stays_apart_by_change r w c o m x y by other calm (begins_list s v base joi
     assumption (subst (CalmCause r w) is calm)
 node_stays_apart_by_change r w c o m x y by other calm (departs s v number is heard leaves) h = absurd (let a = h.apart.stays in cc)
 node_stays_apart_by_change r w c o m x y by other calm (promises v low why) h =
-    assumption (ap (overtake v) h.apart.no_ballot, promised_view r w c x v calm why)
+    assumption (ap (overtake_lower_ballot v) h.apart.no_ballot, promised_view r w c x v calm why)
 node_stays_apart_by_change r w c o m x y by other calm (opens least resilience begins may) h = absurd (no_ballot_begins_in_calm r w c x calm begins)
 node_stays_apart_by_change r w c o m x y by other calm (looks b verdict over why look is) h = absurd (let k = balloting_node_has_open_ballot c x b why in not_open r m x h k.0 k.1)
 node_stays_apart_by_change r w c o m x y by other calm (queues body is says member stays few) h = absurd (subst (CalmCause r w) is calm)

@@ -1,7 +1,7 @@
 -- Worlds along a schedule: laws of every run, and calm. What an event of the schedule does there.
 use Rattle.am_repair.proofs.RepairWords.{◌≡◌, ℕ, zero, suc, ◌+◌, ◌<◌, ◌≤◌, ◌==◌, true, false, List, ◌++◌, length, Some, slice_get, refl, ap, ◌∙◌, arith, Act}
-use Rattle.am_repair.proofs.RepairWords.{length-append, Contains, nat_tests, slice_get-get_or, Rules, place_of, has, Letter, Event, is_for, letter_at, slice_get_of_append_back}
-use Rattle.am_repair.proofs.RepairWords.{Step, step, hear, event_at, World, current, is_stopped, with_step, does_event, hears_letter, happens, world_begins_after_event}
+use Rattle.am_repair.proofs.RepairWords.{length-append, Contains, nat_tests, slice_get-get_or, Rules, place_of_name, has, Letter, Event, is_for, letter_at, slice_get_of_append_back}
+use Rattle.am_repair.proofs.RepairWords.{StepResult, step, hear_packet, event_at, World, current, is_stopped, world_with_step, world_after_node_event, world_after_hearing, happens, world_begins_after_event}
 use Rattle.am_repair.proofs.RepairWords.{slice_get_of_front, events_have_effects, WorldTrimsOnlyTaken, events_trim_only_taken, Repair, Calm, IsOurs}
 use Rattle.am_base.specs.declared.event.NodeEvent.TheVariants as does
 use Rattle.am_repair.proofs.Saying.{RepairWorldGrows}
@@ -43,29 +43,29 @@ letters_grow_by_event w e =
 -- ---- an event of a name that is there
 
 pub record NameRunsNow (w : World) (name : ℕ) : Type 0 where
-  pub current_ : current w (place_of name) ≡ name
+  pub current_ : current w (place_of_name name) ≡ name
   pub runs : is_stopped w name ≡ false
 
 pub member_of_repair_runs_now : (rules : Rules) (r : Repair) (w : World) (name : ℕ) → WorldKeepsLawsAndCalm rules r w → has r.members name ≡ true → NameRunsNow w name
 member_of_repair_runs_now rules r w name h there = record { current_ = h.calm.current_ name there; runs = h.calm.runs name there }
 
-acts_now : (w : World) (name : ℕ) → NameRunsNow w name → current w (place_of (place_of name)) ≡ name
-acts_now w name h = let same : place_of (place_of name) ≡ place_of name = omega arith in ap (current w) same ∙ h.current_
+acts_now : (w : World) (name : ℕ) → NameRunsNow w name → current w (place_of_name (place_of_name name)) ≡ name
+acts_now w name h = let same : place_of_name (place_of_name name) ≡ place_of_name name = omega arith in ap (current w) same ∙ h.current_
 
 pub tick_of_running_name_steps : (w : World) (name : ℕ) → NameRunsNow w name
-    → (let e = event_at (place_of name) Act.Tick in happens w e ≡ with_step w e name (step (w.nodes name) does.Tick))
+    → (let e = event_at (place_of_name name) Act.Tick in happens w e ≡ world_with_step w e name (step (w.nodes name) does.Tick))
 unfolding happens
 tick_of_running_name_steps w name h =
-    let e = event_at (place_of name) Act.Tick in
-    ap (λ x. does_event w e x does.Tick) (acts_now w name h) ∙ rw (h.runs) refl
+    let e = event_at (place_of_name name) Act.Tick in
+    ap (λ x. world_after_node_event w e x does.Tick) (acts_now w name h) ∙ rw (h.runs) refl
 
 pub hearing_of_running_name_steps : (w : World) (name k : ℕ) (l : Letter) → NameRunsNow w name → letter_at w.letters k ≡ Some l → is_for l name ≡ true
-    → (let e = event_at (place_of name) (Act.Hear k) in happens w e ≡ with_step w e name (hear (w.nodes name) l.packet))
+    → (let e = event_at (place_of_name name) (Act.Hear k) in happens w e ≡ world_with_step w e name (hear_packet (w.nodes name) l.packet))
 unfolding happens
 hearing_of_running_name_steps w name k l h there meant =
-    let e = event_at (place_of name) (Act.Hear k) in
-    ap (λ x. hears_letter w e x (hear (w.nodes x)) (letter_at w.letters k)) (acts_now w name h)
-    ∙ ap (hears_letter w e name (hear (w.nodes name))) there ∙ rw (meant, h.runs) refl
+    let e = event_at (place_of_name name) (Act.Hear k) in
+    ap (λ x. world_after_hearing w e x (hear_packet (w.nodes x)) (letter_at w.letters k)) (acts_now w name h)
+    ∙ ap (world_after_hearing w e name (hear_packet (w.nodes name))) there ∙ rw (meant, h.runs) refl
 
 -- ---- what a step sends is there
 
@@ -75,14 +75,14 @@ append_at xs ys j l there =
     ap (letter_at (xs ++ ys)) at ∙ slice_get_of_append_back xs ys j ∙ there
 
 -- by its number in the world after it
-pub letter_sent_at_number : (w : World) (e : Event) (name : ℕ) (s : Step) (j : ℕ) (l : Letter) → slice_get s.letters j ≡ Some l
-    → letter_at (with_step w e name s).letters (length w.letters + 1 + j) ≡ Some l
-unfolding with_step
+pub letter_sent_at_number : (w : World) (e : Event) (name : ℕ) (s : StepResult) (j : ℕ) (l : Letter) → slice_get s.letters j ≡ Some l
+    → letter_at (world_with_step w e name s).letters (length w.letters + 1 + j) ≡ Some l
+unfolding world_with_step
 letter_sent_at_number w e name s j l there = append_at w.letters s.letters j l there
 
 pub contained_letter_has_index : (ls : List Letter) (l : Letter) → Contains ls l → (j : ℕ) × (slice_get ls j ≡ Some l)
 contained_letter_has_index ls l h = (h.0, slice_get-get_or ls h.0 l h.1 ∙ ap Some h.2)
 
-pub node_after_own_step : (w : World) (e : Event) (name : ℕ) (s : Step) → (with_step w e name s).nodes name ≡ s.node
-unfolding with_step
+pub node_after_own_step : (w : World) (e : Event) (name : ℕ) (s : StepResult) → (world_with_step w e name s).nodes name ≡ s.node
+unfolding world_with_step
 node_after_own_step w e name s = let t : (name == name) ≡ true = grind (arith, nat_tests) in rw t refl

@@ -1,9 +1,9 @@
 -- What the first wave of a round brings about: a member asks for what is missing, the sequencer keeps reports, and a member accepts.
 use Rattle.am_repair.proofs.RepairWords.{and_from, stamp_eq_of_itself, has_member_is_in_row, ◌≡◌, ℕ, zero, suc, ◌<◌, ◌≤◌, ◌==◌, not, nat_le, true, false, List, length, Some, refl, sym}
-use Rattle.am_repair.proofs.RepairWords.{ap, ◌∙◌, subst, arith, Contains, nat_tests, Stamp, Report, Rules, place_of, life_of, has, stamp_eq, at_place, Packet}
-use Rattle.am_repair.proofs.RepairWords.{Accept, Letter, letter_to, Event, is_for, letter_at, Node, top, image_of, view, members, only_name, report_of, Act}
-use Rattle.am_repair.proofs.RepairWords.{report_fits, nack_of, hear, event_at, hearings, is_unknown, hears_sequencer, hears_as_sequencer, World, is_stopped}
-use Rattle.am_repair.proofs.RepairWords.{happens, happen, UnusedPlacesHaveNoLife, Cause, hears, IsCause, told_image_is_used, PacketIsReport, ack, nack, request, spread, Asks}
+use Rattle.am_repair.proofs.RepairWords.{ap, ◌∙◌, subst, arith, Contains, nat_tests, Stamp, Report, Rules, place_of_name, life_of_name, has, stamps_are_equal, row_at_place, Packet}
+use Rattle.am_repair.proofs.RepairWords.{Accept, Letter, letter_to, Event, is_for, letter_at, Node, top, image_of_node, view, members, set_of_one_name, own_report_of, Act}
+use Rattle.am_repair.proofs.RepairWords.{report_fits, nack_packet_of, hear_packet, event_at, hearings, has_no_join, hears_packet_of_sequencer, sequencer_hears_packet, World, is_stopped}
+use Rattle.am_repair.proofs.RepairWords.{happens, world_after_events, UnusedPlacesHaveNoLife, Cause, hears, IsCause, told_image_is_used, PacketIsReport, ack, nack, request, spread, Asks}
 use Rattle.am_repair.proofs.RepairWords.{HearsFront, Repair, LeadsCalmly, FollowsView, ReportIs, IsCalm, Calm, IsSentAfter, Polled, Reported, MissingIsAsked, hears_}
 use Rattle.am_repair.proofs.Sets.{only_name_has_name}
 use Rattle.am_repair.proofs.Nodes.{acting_member_promised_its_view, sequencer_acts_by_own_view}
@@ -21,8 +21,8 @@ use Rattle.am_repair.proofs.Fine.{member_of_repair_is_small, world_grows_by_own_
 use Rattle.am_repair.proofs.Ticking.{letter_stays_sent_by_event}
 use Rattle.am_repair.proofs.Ticking.{letter_of_step_is_sent, node_after_step_of_event}
 
-same_stamp_test : (a b : Stamp) → a ≡ b → stamp_eq a b ≡ true
-same_stamp_test a b same = ap (stamp_eq a) (sym same) ∙ stamp_eq_of_itself a
+same_stamp_test : (a b : Stamp) → a ≡ b → stamps_are_equal a b ≡ true
+same_stamp_test a b same = ap (stamps_are_equal a) (sym same) ∙ stamp_eq_of_itself a
 
 other_test : (a b : ℕ) → (a == b) ≡ false → not (b == a) ≡ true
 other_test a b f = let g : (b == a) ≡ false = grind (arith, nat_tests) in rw g refl
@@ -30,7 +30,7 @@ other_test a b f = let g : (b == a) ≡ false = grind (arith, nat_tests) in rw g
 -- ---- who is heard
 
 pub member_hears_its_sequencer : (r : Repair) (q m : Node) (i : ℕ) → r.view.by ≡ r.by → FollowsView r q m → m.core.who ≡ i → (i == r.by) ≡ false
-    → hears_sequencer m r.by r.view ≡ true
+    → hears_packet_of_sequencer m r.by r.view ≡ true
 member_hears_its_sequencer r q m i own f who other =
     let t : not (r.by == m.core.who) ≡ true = other_test m.core.who r.by (ap (λ k. k == r.by) who ∙ other) in
     let member = (acting_member_promised_its_view m f.acts_).0 in
@@ -38,7 +38,7 @@ member_hears_its_sequencer r q m i own f who other =
     let by : (r.view.by == r.by) ≡ true = grind (arith, nat_tests) in
     and_from _ _ (and_from _ _ (and_from _ _ t member) (and_from _ _ f.acts_ view_)) by
 
-pub sequencer_hears_its_members : (r : Repair) (q : Node) (i : ℕ) → LeadsCalmly r q → q.core.who ≡ r.by → (i == r.by) ≡ false → hears_as_sequencer q i r.view ≡ true
+pub sequencer_hears_its_members : (r : Repair) (q : Node) (i : ℕ) → LeadsCalmly r q → q.core.who ≡ r.by → (i == r.by) ≡ false → sequencer_hears_packet q i r.view ≡ true
 sequencer_hears_its_members r q i l who other =
     let acts_ = (sequencer_acts_by_own_view q l.leads).0 in
     let differs : (i == q.core.who) ≡ false = ap (λ k. i == k) who ∙ other in
@@ -48,10 +48,10 @@ sequencer_hears_its_members r q i l who other =
     and_from _ _ (and_from _ _ (and_from _ _ t member) (and_from _ _ acts_ view_)) l.leads
 
 -- a member's Join stands in the sequencer's list
-pub member_name_is_not_unknown : (m : Node) (i : ℕ) → UnusedPlacesHaveNoLife (image_of m) → has (members m) i ≡ true → is_unknown m i ≡ false
+pub member_name_is_not_unknown : (m : Node) (i : ℕ) → UnusedPlacesHaveNoLife (image_of_node m) → has (members m) i ≡ true → has_no_join m i ≡ false
 member_name_is_not_unknown m i used there =
-    let k = has_member_is_in_row (image_of m) i used.places there in
-    let same : ((at_place (image_of m) i).life == life_of i) ≡ true = grind (arith, nat_tests) in
+    let k = has_member_is_in_row (image_of_node m) i used.places there in
+    let same : ((row_at_place (image_of_node m) i).life == life_of_name i) ≡ true = grind (arith, nat_tests) in
     rw same (grind (arith, nat_tests))
 
 -- ---- a wave's letters
@@ -114,31 +114,31 @@ member_node rules r i v n fine there other node =
 asked_hear : (rules : Rules) (r : Repair) (i after stored k : ℕ) (l : Letter) (base acc high : ℕ) (u : World) → WorldKeepsLawsAndCalm rules r u
     → has r.members i ≡ true → (i == r.by) ≡ false → r.sent < k → after ≤ length u.letters → top (u.nodes i) ≡ stored → stored < r.high
     → letter_at u.letters k ≡ Some l → is_for l i ≡ true → l.packet ≡ Accept r.by r.view base acc high true → r.high ≤ high
-    → MissingIsAsked r i after stored (happens u (event_at (place_of i) (Act.Hear k)))
+    → MissingIsAsked r i after stored (happens u (event_at (place_of_name i) (Act.Hear k)))
 asked_hear rules r i after stored k l base acc high u h there other late low at short letter meant is_ far =
-    let e = event_at (place_of i) (Act.Hear k) in
+    let e = event_at (place_of_name i) (Act.Hear k) in
     let m = u.nodes i in
     let q = u.nodes r.by in
-    let s = hear m l.packet in
+    let s = hear_packet m l.packet in
     let is = hearing_of_running_name_steps u i k l (member_of_repair_runs_now rules r u i h there) letter meant in
     let v = happens u e in
-    let fine = laws_and_calm_stay rules r u e (hears_ (place_of i) k late) h in
+    let fine = laws_and_calm_stay rules r u e (hears_ (place_of_name i) k late) h in
     let node = node_after_step_of_event u e i s is in
     let n = s.node in
     let f = h.calm.follows i there other in
     let heard = member_hears_its_sequencer r q m i h.calm.own f (h.calm.who i) other in
     let used = (h.laws.each r.by (member_of_repair_is_small rules r u r.by h h.calm.listed)).fronts.used in
     let here = subst (λ j. has r.members j ≡ true) (sym (h.calm.who i)) there in
-    let asks = subst (λ p. Asks m r.by (hear m p)) (sym is_) (gaps_are_asked m r.by r.view base acc high true heard (omega arith)
+    let asks = subst (λ p. Asks m r.by (hear_packet m p)) (sym is_) (gaps_are_asked m r.by r.view base acc high true heard (omega arith)
     (member_has_no_own_leave r q m h.calm.leads used f here (omega arith))) in
     let mine = member_node rules r i v n fine there other node in
-    let answer = letter_to (only_name r.by) (nack_of n) in
+    let answer = letter_to (set_of_one_name r.by) (nack_packet_of n) in
     record {
       letter = answer;
       sent = letter_of_step_is_sent u e i r.by after s answer is (subst (λ (ls : List Letter). Contains ls answer) (sym asks.letters) (0, omega arith, refl))
           (only_name_has_name r.by) low;
       asks = record {
-        report = report_of n;
+        report = own_report_of n;
         is = cc;
         fits = mine.given;
         exact = asks.stored ∙ at;
@@ -146,7 +146,7 @@ asked_hear rules r i after stored k l base acc high u h there other late low at 
     }
 
 pub sent_letter_is_heard : (rules : Rules) (r : Repair) (w : World) (after name : ℕ) (l : Letter) → WorldKeepsLawsAndCalm rules r w → has r.members name ≡ true
-    → (s : IsSentAfter w after name l) → LetterIsHeardInWave w after s.number (place_of name)
+    → (s : IsSentAfter w after name l) → LetterIsHeardInWave w after s.number (place_of_name name)
 sent_letter_is_heard rules r w after name l h there s =
     let at = member_of_repair_runs_now rules r w name h there in
     record {
@@ -166,9 +166,9 @@ pub record HasAskedForMissing (rules : Rules) (r : Repair) (i after stored : ℕ
 
 pub first_wave_asks : (rules : Rules) (r : Repair) (i after stored accepted : ℕ) (w : World) → r.sent ≤ after → MemberWaitsForNumber rules r i after stored w
     → Polled r i after accepted w → has r.members i ≡ true → (i == r.by) ≡ false → stored < r.high
-    → HasAskedForMissing rules r i (length w.letters) stored (happen w (hearings w after))
+    → HasAskedForMissing rules r i (length w.letters) stored (world_after_events w (hearings w after))
 first_wave_asks rules r i after stored accepted w low x poll there other short =
-    let z = wave_brings_property P (MissingIsAsked r i (length w.letters) stored) w after poll.sent.number (place_of i)
+    let z = wave_brings_property P (MissingIsAsked r i (length w.letters) stored) w after poll.sent.number (place_of_name i)
     (sent_letter_is_heard rules r w after i poll.letter x.fine there poll.sent) hits (x.fine, x.stored, letters_stay_in_same_world w) in
     record { fine = z.0.0; stored_ = z.0.1; asked = z.1 }
   where
@@ -185,7 +185,7 @@ first_wave_asks rules r i after stored accepted w low x poll there other short =
           letters_stay_by_event w u e k.2,
         )
 
-    hits : WaveBringsProperty P (MissingIsAsked r i (length w.letters) stored) after (length w.letters) poll.sent.number (place_of i)
+    hits : WaveBringsProperty P (MissingIsAsked r i (length w.letters) stored) after (length w.letters) poll.sent.number (place_of_name i)
     hits = record {
       keeps = keeps;
       hits = λ u k. asked_hear rules r i (length w.letters) stored poll.sent.number poll.letter poll.base poll.acc poll.high u k.0 there other
@@ -213,11 +213,11 @@ calm_report_fits_list r u i report h there other is fits =
 
 report_hear : (rules : Rules) (r : Repair) (i k high : ℕ) (l : Letter) (report : Report) (u : World) → WorldKeepsLawsAndCalm rules r u → has r.members i ≡ true
     → (i == r.by) ≡ false → r.sent < k → letter_at u.letters k ≡ Some l → is_for l r.by ≡ true → PacketIsReport l.packet i r.view report
-    → report.taken ≤ report.stored → high ≤ report.stored → high ≤ (((happens u (event_at (place_of r.by) (Act.Hear k))).nodes r.by).reports i).stored
+    → report.taken ≤ report.stored → high ≤ report.stored → high ≤ (((happens u (event_at (place_of_name r.by) (Act.Hear k))).nodes r.by).reports i).stored
 report_hear rules r i k high l report u h there other late letter meant is_ fits much =
-    let e = event_at (place_of r.by) (Act.Hear k) in
+    let e = event_at (place_of_name r.by) (Act.Hear k) in
     let q = u.nodes r.by in
-    let s = hear q l.packet in
+    let s = hear_packet q l.packet in
     let is = hearing_of_running_name_steps u r.by k l (member_of_repair_runs_now rules r u r.by h h.calm.listed) letter meant in
     let node = node_after_step_of_event u e r.by s is in
     let heard = sequencer_hears_its_members r q i h.calm.leads (h.calm.who r.by) other in
@@ -238,9 +238,9 @@ abbrev pub SequencerKnowsStored : Rules → Repair → ℕ → World → Type 0
 SequencerKnowsStored rules r i = ReachesHighNumber rules r (λ u. ((u.nodes r.by).reports i).stored)
 
 pub first_wave_reports : (rules : Rules) (r : Repair) (i after : ℕ) (w : World) → r.sent ≤ after → WorldKeepsLawsAndCalm rules r w → Reported r i after r.high w
-    → has r.members i ≡ true → (i == r.by) ≡ false → SequencerKnowsStored rules r i (happen w (hearings w after))
+    → has r.members i ≡ true → (i == r.by) ≡ false → SequencerKnowsStored rules r i (world_after_events w (hearings w after))
 first_wave_reports rules r i after w low h x there other =
-    let z = wave_brings_property P Q w after x.sent.number (place_of r.by) (sent_letter_is_heard rules r w after r.by x.letter h h.calm.listed x.sent) hits
+    let z = wave_brings_property P Q w after x.sent.number (place_of_name r.by) (sent_letter_is_heard rules r w after r.by x.letter h h.calm.listed x.sent) hits
     (h, letters_stay_in_same_world w) in
     record { fine = z.0.0; high = z.1 }
   where
@@ -250,7 +250,7 @@ first_wave_reports rules r i after w low h x there other =
     Q : World → Type 0
     Q u = r.high ≤ ((u.nodes r.by).reports i).stored
 
-    hits : WaveBringsProperty P Q after (length w.letters) x.sent.number (place_of r.by)
+    hits : WaveBringsProperty P Q after (length w.letters) x.sent.number (place_of_name r.by)
     hits = record {
       keeps = λ p n u late within k. (
         laws_and_calm_stay rules r u (event_at p (Act.Hear n)) (hears_ p n (omega arith)) k.0,
@@ -267,15 +267,15 @@ first_wave_reports rules r i after w low h x there other =
 
 front_hear : (rules : Rules) (r : Repair) (i k : ℕ) (l : Letter) (base acc high : ℕ) (u : World) → WorldKeepsLawsAndCalm rules r u → has r.members i ≡ true
     → (i == r.by) ≡ false → letter_at u.letters k ≡ Some l → is_for l i ≡ true → l.packet ≡ Accept r.by r.view base acc high true → r.high ≤ acc
-    → r.high ≤ top (u.nodes i) → r.high ≤ ((happens u (event_at (place_of i) (Act.Hear k))).nodes i).core.acc
+    → r.high ≤ top (u.nodes i) → r.high ≤ ((happens u (event_at (place_of_name i) (Act.Hear k))).nodes i).core.acc
 front_hear rules r i k l base acc high u h there other letter meant is_ far stored =
-    let e = event_at (place_of i) (Act.Hear k) in
+    let e = event_at (place_of_name i) (Act.Hear k) in
     let m = u.nodes i in
-    let s = hear m l.packet in
+    let s = hear_packet m l.packet in
     let is = hearing_of_running_name_steps u i k l (member_of_repair_runs_now rules r u i h there) letter meant in
     let node = node_after_step_of_event u e i s is in
     let heard = member_hears_its_sequencer r (u.nodes r.by) m i h.calm.own (h.calm.follows i there other) (h.calm.who i) other in
-    let hears_ = subst (λ p. HearsFront m acc (hear m p).node) (sym is_) (fronts_are_heard m r.by r.view base acc high true heard) in
+    let hears_ = subst (λ p. HearsFront m acc (hear_packet m p).node) (sym is_) (fronts_are_heard m r.by r.view base acc high true heard) in
     let same = ap (λ (x : Node). x.core.acc) node in
     omega arith
 
@@ -284,9 +284,9 @@ abbrev pub MemberAcceptsHigh : Rules → Repair → ℕ → World → Type 0
 MemberAcceptsHigh rules r i = ReachesHighNumber rules r (λ u. (u.nodes i).core.acc)
 
 pub first_wave_accepts : (rules : Rules) (r : Repair) (i after : ℕ) (w : World) → r.sent ≤ after → WorldKeepsLawsAndCalm rules r w → Polled r i after r.high w
-    → has r.members i ≡ true → (i == r.by) ≡ false → r.high ≤ top (w.nodes i) → MemberAcceptsHigh rules r i (happen w (hearings w after))
+    → has r.members i ≡ true → (i == r.by) ≡ false → r.high ≤ top (w.nodes i) → MemberAcceptsHigh rules r i (world_after_events w (hearings w after))
 first_wave_accepts rules r i after w low h poll there other stored =
-    let z = wave_brings_property P Q w after poll.sent.number (place_of i) (sent_letter_is_heard rules r w after i poll.letter h there poll.sent) hits
+    let z = wave_brings_property P Q w after poll.sent.number (place_of_name i) (sent_letter_is_heard rules r w after i poll.letter h there poll.sent) hits
     (h, stored, letters_stay_in_same_world w) in
     record { fine = z.0.0; high = z.1 }
   where
@@ -296,7 +296,7 @@ first_wave_accepts rules r i after w low h poll there other stored =
     Q : World → Type 0
     Q u = r.high ≤ (u.nodes i).core.acc
 
-    hits : WaveBringsProperty P Q after (length w.letters) poll.sent.number (place_of i)
+    hits : WaveBringsProperty P Q after (length w.letters) poll.sent.number (place_of_name i)
     hits = record {
       keeps = λ p n u late within k.
           (let grow = (world_grows_by_own_event rules r u (event_at p (Act.Hear n)) (hears_ p n (omega arith)) k.0).stored i there in

@@ -1,8 +1,8 @@
 -- What a member's changes keep while a schedule runs.
 use Rattle.am_repair.proofs.RepairWords.{eqb-true, not-false, stamp_eq_gives_equality, ◌≡◌, ℕ, ◌+◌, ◌≤◌, ◌==◌, true, false, Option, Some, None, refl, sym, ap, ◌∙◌, subst}
-use Rattle.am_repair.proofs.RepairWords.{arith, length-append, ◌≢◌, Stamp, Image, Entry, Data, Outcome, Log, top_of, told_by, entry_at, image_at, after}
-use Rattle.am_repair.proofs.RepairWords.{image_at_next_number, Node, Ballot, top, image_of, is_sequencer, push_entry, is_unfinished, overtake, with_promise, is_view}
-use Rattle.am_repair.proofs.RepairWords.{bodies_after, World, Cause, hears, Promises, invited, overtaken_by, told_result, Carries, whole_entry, by_number}
+use Rattle.am_repair.proofs.RepairWords.{arith, length-append, ◌≢◌, Stamp, Image, Entry, Data, Outcome, Log, top_of_log, image_of_log, log_entry_at, log_image_at, after}
+use Rattle.am_repair.proofs.RepairWords.{image_at_next_number, Node, Ballot, top, image_of_node, is_sequencer, push_entry, is_unfinished_ballot, overtake_lower_ballot, node_with_promise, is_view}
+use Rattle.am_repair.proofs.RepairWords.{bodies_after_stored_entry, World, Cause, hears, MayPromise, invited, overtaken_by, told_result, CarriesEntry, whole_entry, by_number}
 use Rattle.am_repair.proofs.RepairWords.{Change, refreshes, settles, takes_report, admits, numbers, stores, begins_list, departs, promises, opens, looks}
 use Rattle.am_repair.proofs.RepairWords.{fetches, stores_view, queues, collects, takes, asks_to_join, asks_to_leave, closes, image_of_pushed_entry, view_of_pushed_plain_entry, Packet}
 use Rattle.am_repair.proofs.RepairWords.{acts_after_pushed_entry, Repair, FollowsView, SequencerHas}
@@ -29,7 +29,7 @@ pub record MemberFollowsOn (r : Repair) (c : Cause) (q m x : Node) : Type 0 wher
 follows_as : (r : Repair) (c : Cause) (q m x y : Node) → NodesStandAlike x y → MemberFollowsOn r c q m x → MemberFollowsOn r c q m y
 follows_as r c q m x y a h =
     let f = h.follows in
-    let same = ap (λ (l : Log). top_of l) a.log in
+    let same = ap (λ (l : Log). top_of_log l) a.log in
     let low = f.low in let within = f.within in let base = f.base in let reported = f.reported in let reached = f.reached in
     let stored = h.stored in let taken = h.taken in let acc = h.acc in
     let who = ap (λ k. (q.reports k).taken) a.who in
@@ -43,7 +43,7 @@ follows_as r c q m x y a h =
           reached = omega arith;
           low = omega arith;
           within = omega arith;
-          told_ = ap told_by a.log ∙ f.told_ ∙ ap (image_at q.core.log) (sym same);
+          told_ = ap image_of_log a.log ∙ f.told_ ∙ ap (log_image_at q.core.log) (sym same);
           base = omega arith;
           reported = omega arith;
         };
@@ -56,8 +56,8 @@ follows_as r c q m x y a h =
 
 -- it stores what comes next in the sequencer's list
 follows_pushed : (r : Repair) (c : Cause) (q m x : Node) (e there : Entry) → (CauseSkipsNumber (top m) c → top x + 1 ≢ top m + 1) → is_view e ≡ false
-    → entry_at q.core.log (top x + 1) ≡ Some there → ((image : Image) → after image (top x + 1) e ≡ after image (top x + 1) there)
-    → MemberFollowsOn r c q m x → MemberFollowsOn r c q m (record (push_entry x e) { bodies = bodies_after x.bodies e })
+    → log_entry_at q.core.log (top x + 1) ≡ Some there → ((image : Image) → after image (top x + 1) e ≡ after image (top x + 1) there)
+    → MemberFollowsOn r c q m x → MemberFollowsOn r c q m (record (push_entry x e) { bodies = bodies_after_stored_entry x.bodies e })
 follows_pushed r c q m x e there skips plain is same h =
     let f = h.follows in
     let low = f.low in let stored = h.stored in let reached = f.reached in
@@ -71,35 +71,35 @@ follows_pushed r c q m x e there skips plain is same h =
     assumption (
       acts_after_pushed_entry x e plain ∙ f.acts_,
       view_of_pushed_plain_entry x e plain ∙ f.view_,
-      image_of_pushed_entry x e ∙ same (image_of x) ∙ ap (λ (i : Image). after i (top x + 1) there) f.told_ ∙ sym next ∙ ap (image_at q.core.log) (sym more),
+      image_of_pushed_entry x e ∙ same (image_of_node x) ∙ ap (λ (i : Image). after i (top x + 1) there) f.told_ ∙ sym next ∙ ap (log_image_at q.core.log) (sym more),
     )
 
 -- what is carried stands above no number that it skips
-carried_skips : (high : ℕ) (c : Cause) (x : Node) (s : ℕ) (v : Stamp) (base acc number : ℕ) (e : Entry) → Carries c x s v base acc number e → CauseSkipsNumber high c
+carried_skips : (high : ℕ) (c : Cause) (x : Node) (s : ℕ) (v : Stamp) (base acc number : ℕ) (e : Entry) → CarriesEntry c x s v base acc number e → CauseSkipsNumber high c
     → number ≢ high + 1
 carried_skips high c x s v base acc number e (whole_entry e_ is) k = subst (CauseSkipsNumber high) is k
 carried_skips high c x s v base acc number e (by_number from req body is there) k = subst (CauseSkipsNumber high) is k
 
 -- what is carried stands in the sequencer's list
 carried : (r : Repair) (w : World) (c : Cause) (x : Node) (s : ℕ) (v : Stamp) (base acc number : ℕ) (e : Entry) → CalmCause r w c
-    → Carries c x s v base acc number e
+    → CarriesEntry c x s v base acc number e
     → (there : Entry) × SequencerHas r w number there × ((image : Image) → after image number e ≡ after image number there)
 carried r w c x s v base acc number e calm (whole_entry e_ is) = (e, subst (CalmCause r w) is calm, λ image. refl)
 carried r w c x s v base acc number e calm (by_number from req body is there) =
     let k = subst (CalmCause r w) is calm in (Data from req k.0, k.1, λ image. after_data_of_any_body image number from req body k.0)
 
 -- a promise of its own view changes nothing
-pub overtake_without_open_ballot : (v : Stamp) (o : Option Ballot) → is_unfinished o ≡ false → overtake v o ≡ o
+pub overtake_without_open_ballot : (v : Stamp) (o : Option Ballot) → is_unfinished_ballot o ≡ false → overtake_lower_ballot v o ≡ o
 overtake_without_open_ballot v None h = refl
 overtake_without_open_ballot v (Some b) h = let over = not-false b.is_over h in rw over refl
 
-promised_same : (r : Repair) (w : World) (c : Cause) (q x : Node) (v : Stamp) → CalmCause r w c → FollowsView r q x → Promises c x v → NodesStandAlike x (with_promise x v)
+promised_same : (r : Repair) (w : World) (c : Cause) (q x : Node) (v : Stamp) → CalmCause r w c → FollowsView r q x → MayPromise c x v → NodesStandAlike x (node_with_promise x v)
 promised_same r w c q x v calm f (invited s v_ is heard own) = absurd (subst (CalmCause r w) is calm)
 promised_same r w c q x v calm f (overtaken_by s v_ vote is heard above) = absurd (subst (CalmCause r w) is calm)
 promised_same r w c q x v calm f (told_result s base number u is heard own other) =
     let same : v ≡ r.view = (subst (CalmCause r w) is calm) (eqb-true v.by s own) in
     let promise = same ∙ sym f.view_ ∙ sym (acting_member_promised_its_view x f.acts_).1 in
-    nodes_stand_alike_by_parts x (with_promise x v) refl refl promise refl refl (overtake_without_open_ballot v x.ballot f.rest.no_ballot) (omega arith) (omega arith)
+    nodes_stand_alike_by_parts x (node_with_promise x v) refl refl promise refl refl (overtake_without_open_ballot v x.ballot f.rest.no_ballot) (omega arith) (omega arith)
 
 no_leader : (r : Repair) (c : Cause) (q m x : Node) → r.view.by ≡ r.by → (m.core.who == r.by) ≡ false → MemberFollowsOn r c q m x → is_sequencer x ≡ true → ⊥
 no_leader r c q m x by other h t = other_name_is_not_sequencer x r.by (ap (λ (v : Stamp). v.by) h.follows.view_ ∙ by) (ap (λ k. k == r.by) h.who ∙ other) t

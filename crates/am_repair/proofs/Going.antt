@@ -1,8 +1,8 @@
 -- A calm world stays calm while a schedule runs.
 use Rattle.am_repair.proofs.RepairWords.{not-false, ◌≡◌, ◌⊎◌, inl, inr, ℕ, ◌<◌, ◌==◌, not, Bool, true, false, if◌then◌else◌, Option, Some, None, refl, sym}
-use Rattle.am_repair.proofs.RepairWords.{ap, ◌∙◌, Outcome, Rules, Letter, Event, is_for, letter_at, Node, is_member, has_departed, Step, step, hear, Status}
-use Rattle.am_repair.proofs.RepairWords.{event_at, World, is_stopped, with_record, with_step, happens, hears_letter, Cause, calls, hears, Changes, Act}
-use Rattle.am_repair.proofs.RepairWords.{no_change, changed, Effect, actor, IsCause, tick, steps_have_effects, hearing_has_effects, HeardStampsHaveNames, HeardWelcomeImageIsUsed}
+use Rattle.am_repair.proofs.RepairWords.{ap, ◌∙◌, Outcome, Rules, Letter, Event, is_for, letter_at, Node, is_member, has_departed, StepResult, step, hear_packet, Status}
+use Rattle.am_repair.proofs.RepairWords.{event_at, World, is_stopped, world_with_record, world_with_step, happens, world_after_hearing, Cause, calls, hears, Changes, Act}
+use Rattle.am_repair.proofs.RepairWords.{no_change, changed, Effect, acting_name, IsCause, tick, steps_have_effects, hearing_has_effects, HeardStampsHaveNames, HeardWelcomeImageIsUsed}
 use Rattle.am_repair.proofs.RepairWords.{TrimsOnlyTakenAlongStep, changes_trim_only_taken, IsOurs, hears_, Repair, Calm}
 use Rattle.am_repair.specs.Rounds.{ticks}
 use Rattle.am_base.specs.declared.outcome.Outcome.TheVariants as said
@@ -18,17 +18,17 @@ use Rattle.am_refinement.proofs.Changes.{member_has_not_departed}
 -- ---- the events of a schedule
 
 -- a step of a schedule, with its cause
-pub record StepOfSchedule (r : Repair) (w : World) (e : Event) (s : Step) : Type 0 where
+pub record StepOfSchedule (r : Repair) (w : World) (e : Event) (s : StepResult) : Type 0 where
   pub cause : Cause
   pub calm : CalmCause r w cause
-  pub is : IsCause w (actor w e) e.act cause
-  pub effect : Effect (w.nodes (actor w e)) cause s
-  pub runs : is_stopped w (actor w e) ≡ false
-  pub still : has_departed (w.nodes (actor w e)).status ≡ true → StepIsStill (w.nodes (actor w e)) s
+  pub is : IsCause w (acting_name w e) e.act cause
+  pub effect : Effect (w.nodes (acting_name w e)) cause s
+  pub runs : is_stopped w (acting_name w e) ≡ false
+  pub still : has_departed (w.nodes (acting_name w e)).status ≡ true → StepIsStill (w.nodes (acting_name w e)) s
 
 pub data WorldAfterScheduledEvent (r : Repair) (w : World) (e : Event) : World → Type 0 where
-  idles : (o : Outcome) → WorldAfterScheduledEvent r w e (with_record w e o)
-  steps : (s : Step) → StepOfSchedule r w e s → WorldAfterScheduledEvent r w e (with_step w e (actor w e) s)
+  idles : (o : Outcome) → WorldAfterScheduledEvent r w e (world_with_record w e o)
+  steps : (s : StepResult) → StepOfSchedule r w e s → WorldAfterScheduledEvent r w e (world_with_step w e (acting_name w e) s)
 
 ours_if : (r : Repair) (w : World) (e : Event) (b : Bool) (u v : World) → WorldAfterScheduledEvent r w e u → (b ≡ false → WorldAfterScheduledEvent r w e v) → WorldAfterScheduledEvent r w e (if b then u else v)
 ours_if r w e true u v f g = f
@@ -38,8 +38,8 @@ our_tick : (r : Repair) (w : World) (place : ℕ) → WorldAfterScheduledEvent r
 unfolding happens
 our_tick r w place =
     let e = event_at place Act.Tick in
-    let m = w.nodes (actor w e) in
-    ours_if r w e (is_stopped w (actor w e)) _ _ (idles said.IsStopped)
+    let m = w.nodes (acting_name w e) in
+    ours_if r w e (is_stopped w (acting_name w e)) _ _ (idles said.IsStopped)
     (λ f. steps (step m does.Tick) (record {
       cause = calls does.Tick;
       calm = tt;
@@ -50,14 +50,14 @@ our_tick r w place =
     }))
 
 our_letter : (r : Repair) (w : World) (place number : ℕ) (l : Option Letter) → letter_at w.letters number ≡ l → r.sent < number → Calm r w
-    → (let e = event_at place (Act.Hear number) in WorldAfterScheduledEvent r w e (hears_letter w e (actor w e) (hear (w.nodes (actor w e))) l))
+    → (let e = event_at place (Act.Hear number) in WorldAfterScheduledEvent r w e (world_after_hearing w e (acting_name w e) (hear_packet (w.nodes (acting_name w e))) l))
 our_letter r w place number None is late h = idles said.NoPacket
 our_letter r w place number (Some l) is late h =
     let e = event_at place (Act.Hear number) in
-    let m = w.nodes (actor w e) in
-    ours_if r w e (not (is_for l (actor w e))) _ _ (idles said.NotAddressed)
-    (λ f. ours_if r w e (is_stopped w (actor w e)) _ _ (idles said.IsStopped)
-    (λ g. steps (hear m l.packet) (record {
+    let m = w.nodes (acting_name w e) in
+    ours_if r w e (not (is_for l (acting_name w e))) _ _ (idles said.NotAddressed)
+    (λ f. ours_if r w e (is_stopped w (acting_name w e)) _ _ (idles said.IsStopped)
+    (λ g. steps (hear_packet m l.packet) (record {
       cause = hears l.packet;
       calm = h.letters number l late is;
       is = record { letter = l; there = is; addressed = not-false _ f; is = refl };

@@ -1,8 +1,8 @@
 -- Letters among those of a step.
 use Rattle.am_repair.proofs.RepairWords.{◌≡◌, ℕ, ◌+◌, ◌==◌, true, false, nat_le, List, [], ◌∷◌, ◌++◌, length, take, drop, refl, sym, ap, ◌∙◌, append_assoc}
 use Rattle.am_repair.proofs.RepairWords.{append-nil, arith, All, Contains, prefix_len, take_all, drop_all, All-nil, All-cons, All-head, All-tail, All-push}
-use Rattle.am_repair.proofs.RepairWords.{All-weaker, Contains-append_right, Entry, size, Packet, Letter, letter_to, place_for, with_letter, kind_of, Node, others}
-use Rattle.am_repair.proofs.RepairWords.{Plan, bcast_of, accept_of, put_all, tells_accepted, with_accept, nat_tests, split_on_bool, bcasts}
+use Rattle.am_repair.proofs.RepairWords.{All-weaker, Contains-append_right, Entry, size, Packet, Letter, letter_to, place_for, with_letter, kind_of, Node, other_members}
+use Rattle.am_repair.proofs.RepairWords.{Plan, bcast_packet_of, accept_packet_of, letters_of_entries, sends_accept, letters_with_accept, nat_tests, split_on_bool, bcasts}
 
 -- ---- one letter more
 
@@ -36,12 +36,12 @@ put_last to p letters low some =
 
 -- entries are sent in their order
 pub put_all_appends_bcasts : (n : Node) (to : List ℕ) (number : ℕ) (es : List Entry) (letters : List Letter) → All (IsLow 3) letters → (size to == 0) ≡ false
-    → put_all (bcast_of n) to number es letters ≡ letters ++ bcasts n to number es
-unfolding put_all bcasts
+    → letters_of_entries (bcast_packet_of n) to number es letters ≡ letters ++ bcasts n to number es
+unfolding letters_of_entries bcasts
 put_all_appends_bcasts n to number [] letters low some = sym (append-nil letters)
 put_all_appends_bcasts n to number (e ∷ es) letters low some =
-    let l = letter_to to (bcast_of n number e) in
-    ap (put_all (bcast_of n) to (number + 1) es) (put_last to (bcast_of n number e) letters low some)
+    let l = letter_to to (bcast_packet_of n number e) in
+    ap (letters_of_entries (bcast_packet_of n) to (number + 1) es) (put_last to (bcast_packet_of n number e) letters low some)
     ∙ put_all_appends_bcasts n to (number + 1) es (letters ++ l ∷ []) (All-push (IsLow 3) letters l low refl) some
     ∙ append_assoc letters (l ∷ []) (bcasts n to (number + 1) es)
 
@@ -55,13 +55,13 @@ lower l h = grind (arith, nat_tests)
 
 -- and how far the list is accepted comes behind them
 pub with_accept_appends_letters : (m : Node) (p : Plan) (n : Node) (letters : List Letter) → All (IsLow 3) letters
-    → (more : List Letter) × (with_accept m p n letters ≡ letters ++ more)
-with_accept_appends_letters m p n letters low = split_on_bool (tells_accepted m p n)
-    (λ t. split_on_bool (size (others n) == 0)
+    → (more : List Letter) × (letters_with_accept m p n letters ≡ letters ++ more)
+with_accept_appends_letters m p n letters low = split_on_bool (sends_accept m p n)
+    (λ t. split_on_bool (size (other_members n) == 0)
     (λ none. ([], rw (t, none) (sym (append-nil letters))))
     (λ some. (
-      letter_to (others n) (accept_of n p.polls) ∷ [],
-      rw t (put_last (others n) (accept_of n p.polls) letters
+      letter_to (other_members n) (accept_packet_of n p.polls) ∷ [],
+      rw t (put_last (other_members n) (accept_packet_of n p.polls) letters
           (All-weaker (IsLow 3) (IsLow 5) lower letters low) some),
     )))
     (λ f. ([], rw f (sym (append-nil letters))))

@@ -1,9 +1,9 @@
 -- What the second and the third wave of a round bring about: what is missing is sent again, and stored.
 use Rattle.am_repair.proofs.RepairWords.{◌≡◌, ℕ, zero, suc, ◌+◌, ◌-◌, ◌<◌, ◌≤◌, ◌==◌, min, true, false, List, [], ◌∷◌, length, drop, Some, slice_get, refl, sym, ap}
-use Rattle.am_repair.proofs.RepairWords.{◌∙◌, subst, arith, length-drop, nat_tests, length-take, Stamp, Report, Entry, Packet, Rules, place_of, has, Log, top_of}
-use Rattle.am_repair.proofs.RepairWords.{entry_at, fits, Bcast, Nack, Letter, letter_to, slice_get-drop, Event, is_for, letter_at, Node, top, only_name, Act}
-use Rattle.am_repair.proofs.RepairWords.{node_with_report, Step, bcast_of, entries_to_serve, hear, event_at, hearings, take_report, World, happens, happen, Cause}
-use Rattle.am_repair.proofs.RepairWords.{hears, BringsReport, with_send, by_request, by_spread, by_ack, by_nack, by_leave_ask, IsCause, slice_get_of_take}
+use Rattle.am_repair.proofs.RepairWords.{◌∙◌, subst, arith, length-drop, nat_tests, length-take, Stamp, Report, Entry, Packet, Rules, place_of_name, has, Log, top_of_log}
+use Rattle.am_repair.proofs.RepairWords.{log_entry_at, fits, Bcast, Nack, Letter, letter_to, slice_get-drop, Event, is_for, letter_at, Node, top, set_of_one_name, Act}
+use Rattle.am_repair.proofs.RepairWords.{node_with_report, StepResult, bcast_packet_of, entries_to_serve, hear_packet, event_at, hearings, take_report, World, happens, world_after_events, Cause}
+use Rattle.am_repair.proofs.RepairWords.{hears, CauseHasReport, with_send, by_request, by_spread, by_ack, by_nack, by_leave_ask, IsCause, slice_get_of_take}
 use Rattle.am_repair.proofs.RepairWords.{slice_get_of_front, NodeTrimFronts, lower_own_report_keeps_fronts, told_image_is_used, bcasts, Serves, Repair, LeadsCalmly, IsCalm, IsServed, Served, IsOurs, hears_}
 use Rattle.am_repair.specs.Rows as rows
 use Rattle.am_repair.proofs.RepairLeading.{TrustsReportsTaken, CauseTellsTaken, told_report_is_of_sender, repair_member_is_member_now, alike_node_leads_repair, trusts_reports_with_report, trusts_reports_after_refresh}
@@ -22,16 +22,16 @@ use Rattle.am_repair.proofs.Ticking.{node_after_step_of_event}
 -- ---- what a Nack is answered with
 
 bcasts_get : (n : Node) (to : List ℕ) (number : ℕ) (es : List Entry) (k : ℕ) (e : Entry) → slice_get es k ≡ Some e
-    → slice_get (bcasts n to number es) k ≡ Some (letter_to to (bcast_of n (number + k) e))
+    → slice_get (bcasts n to number es) k ≡ Some (letter_to to (bcast_packet_of n (number + k) e))
 unfolding bcasts
 bcasts_get n to number [] k e there = absurd (cc)
 bcasts_get n to number (x ∷ es) zero e there =
     let same : x ≡ e = cc in
     let at : number ≡ number + 0 = omega arith in
-    ap (λ y. Some (letter_to to (bcast_of n number y))) same ∙ ap (λ j. Some (letter_to to (bcast_of n j e))) at
+    ap (λ y. Some (letter_to to (bcast_packet_of n number y))) same ∙ ap (λ j. Some (letter_to to (bcast_packet_of n j e))) at
 bcasts_get n to number (x ∷ es) (suc k) e there =
     let at : number + 1 + k ≡ number + suc k = omega arith in
-    bcasts_get n to (number + 1) es k e there ∙ ap (λ j. Some (letter_to to (bcast_of n j e))) at
+    bcasts_get n to (number + 1) es k e there ∙ ap (λ j. Some (letter_to to (bcast_packet_of n j e))) at
 
 -- the entries above a number
 served_long : (q : Node) (stored : ℕ) → q.core.log.start ≤ stored → length (entries_to_serve q stored) ≡ min 8 (top q - stored)
@@ -43,7 +43,7 @@ served_long q stored low =
     omega arith
 
 served_get : (q : Node) (stored k : ℕ) (e : Entry) → q.core.log.start ≤ stored → slice_get (entries_to_serve q stored) k ≡ Some e
-    → entry_at q.core.log (stored + 1 + k) ≡ Some e
+    → log_entry_at q.core.log (stored + 1 + k) ≡ Some e
 served_get q stored k e low there =
     let entries = q.core.log.entries in
     let skip = stored - q.core.log.start in
@@ -89,11 +89,11 @@ served_goes rules r i after stored u e ours h there s = record {
 -- ---- the sequencer hears what is missing
 
 same_bcast : (n : Node) (s : ℕ) (v : Stamp) (number : ℕ) (e : Entry) → n.core.who ≡ s → n.core.promise ≡ v
-    → bcast_of n number e ≡ Bcast s v n.core.base n.core.acc number e
+    → bcast_packet_of n number e ≡ Bcast s v n.core.base n.core.acc number e
 same_bcast n s v number e a b = cc
 
 -- the world after it, where it serves
-served_by : (rules : Rules) (r : Repair) (i stored : ℕ) (u v : World) (s : Step) → WorldKeepsLawsAndCalm rules r u → WorldKeepsLawsAndCalm rules r v → has r.members i ≡ true
+served_by : (rules : Rules) (r : Repair) (i stored : ℕ) (u v : World) (s : StepResult) → WorldKeepsLawsAndCalm rules r u → WorldKeepsLawsAndCalm rules r v → has r.members i ≡ true
     → (i == r.by) ≡ false → (u.nodes r.by).core.log.start ≤ stored → v.nodes r.by ≡ s.node → Serves (u.nodes r.by) i stored s
     → ((j : ℕ) (l : Letter) → slice_get s.letters j ≡ Some l → letter_at v.letters (length u.letters + 1 + j) ≡ Some l)
     → Served rules r i (length u.letters) stored v
@@ -106,7 +106,7 @@ served_by rules r i stored u v s h fine there other low node serves sent =
     let long = served_long q stored low in
     let few = (fine.laws.kept r.by).few in
     let base = ap (λ (x : Node). x.core.base) node in
-    let top_ = ap (λ (x : Node). top x) node ∙ ap (λ (x : Log). top_of x) serves.same in
+    let top_ = ap (λ (x : Node). top x) node ∙ ap (λ (x : Log). top_of_log x) serves.same in
     let trims = (fine.calm.follows i there other).base in
     record {
       first = length u.letters;
@@ -119,13 +119,13 @@ served_by rules r i stored u v s h fine there other low node serves sent =
           let stands = served_get q stored k e low some.1 in
           let within = (entry_at_is_within_log q.core.log (stored + 1 + k) e stands).1 in
           let letter = ap (λ ls. slice_get ls k) serves.letters ∙ slice_get_of_front _ serves.more k _
-          (bcasts_get n (only_name i) (stored + 1) (entries_to_serve q stored) k e some.1) in
+          (bcasts_get n (set_of_one_name i) (stored + 1) (entries_to_serve q stored) k e some.1) in
           record {
             base = n.core.base;
             acc = n.core.acc;
             entry = e;
-            there = sent k _ letter ∙ ap (λ p. Some (letter_to (only_name i) p)) (same_bcast n r.by r.view (stored + 1 + k) e who promise);
-            stands = ap (λ (x : Node). entry_at x.core.log (stored + 1 + k)) node ∙ ap (λ (x : Log). entry_at x (stored + 1 + k)) serves.same ∙ stands;
+            there = sent k _ letter ∙ ap (λ p. Some (letter_to (set_of_one_name i) p)) (same_bcast n r.by r.view (stored + 1 + k) e who promise);
+            stands = ap (λ (x : Node). log_entry_at x.core.log (stored + 1 + k)) node ∙ ap (λ (x : Log). log_entry_at x (stored + 1 + k)) serves.same ∙ stands;
             taken = omega arith;
             within = omega arith;
           });
@@ -134,13 +134,13 @@ served_by rules r i stored u v s h fine there other low node serves sent =
 nack_hear : (rules : Rules) (r : Repair) (taken : ℕ → ℕ) (i stored k : ℕ) (l : Letter) (report : Report) (u : World) → WorldKeepsLawsAndCalm rules r u
     → TrustsReportsTaken r taken (u.nodes r.by) → taken i ≤ stored → has r.members i ≡ true → (i == r.by) ≡ false → r.sent < k → letter_at u.letters k ≡ Some l
     → is_for l r.by ≡ true → l.packet ≡ Nack i r.view report → report.taken ≤ report.stored → report.taken ≤ taken i → report.stored ≡ stored
-    → Served rules r i (length u.letters) stored (happens u (event_at (place_of r.by) (Act.Hear k)))
+    → Served rules r i (length u.letters) stored (happens u (event_at (place_of_name r.by) (Act.Hear k)))
 nack_hear rules r taken i stored k l report u h t bound there other late letter meant is_ fits low exact =
-    let e = event_at (place_of r.by) (Act.Hear k) in
+    let e = event_at (place_of_name r.by) (Act.Hear k) in
     let q = u.nodes r.by in
-    let s = hear q l.packet in
+    let s = hear_packet q l.packet in
     let is = hearing_of_running_name_steps u r.by k l (member_of_repair_runs_now rules r u r.by h h.calm.listed) letter meant in
-    let fine = laws_and_calm_stay rules r u e (hears_ (place_of r.by) k late) h in
+    let fine = laws_and_calm_stay rules r u e (hears_ (place_of_name r.by) k late) h in
     let node = node_after_step_of_event u e r.by s is in
     let few = member_of_repair_is_small rules r u r.by h h.calm.listed in
     let fronts = (h.laws.each r.by few).fronts in
@@ -152,11 +152,11 @@ nack_hear rules r taken i stored k l report u h t bound there other late letter 
     let trims = report_trims rules r taken q i report h.calm.leads (h.calm.who r.by) fronts t there other low in
     let serves = nacks_are_served q i r.view report heard known (calm_report_fits_list r u i report h.calm there other calm fits) (omega arith) in
     served_by rules r i stored u (happens u e) s h fine there other (omega arith) node
-    (subst (λ p. Serves q i stored (hear q p)) (sym is_) (subst (λ x. Serves q i x (hear q (Nack i r.view report))) exact serves))
+    (subst (λ p. Serves q i stored (hear_packet q p)) (sym is_) (subst (λ x. Serves q i x (hear_packet q (Nack i r.view report))) exact serves))
     (λ j x there_. ap (λ (v : World). letter_at v.letters (length u.letters + 1 + j)) is ∙ letter_sent_at_number u e r.by s j x there_)
 
 -- a report is heard
-heard_report : {c : Cause} {s : ℕ} {v : Stamp} {report : Report} → BringsReport c s v report → (p : Packet) × (c ≡ hears p)
+heard_report : {c : Cause} {s : ℕ} {v : Stamp} {report : Report} → CauseHasReport c s v report → (p : Packet) × (c ≡ hears p)
 heard_report (with_send s v report req body (by_request s1 v1 report1 req1 body1)) = (_, refl)
 heard_report (with_send s v report req body (by_spread s1 v1 report1 req1 body1)) = (_, refl)
 heard_report (by_ack s v report) = (_, refl)
@@ -178,9 +178,9 @@ pub record SequencerServesMissing (rules : Rules) (r : Repair) (i after stored :
   pub served_ : Served rules r i after stored u
 
 pub second_wave_serves : (rules : Rules) (r : Repair) (i after stored : ℕ) (w : World) → r.sent ≤ after → HasAskedForMissing rules r i after stored w
-    → has r.members i ≡ true → (i == r.by) ≡ false → SequencerServesMissing rules r i (length w.letters) stored (happen w (hearings w after))
+    → has r.members i ≡ true → (i == r.by) ≡ false → SequencerServesMissing rules r i (length w.letters) stored (world_after_events w (hearings w after))
 second_wave_serves rules r i after stored w low x there other =
-    let z = wave_brings_property P (Served rules r i (length w.letters) stored) w after x.asked.sent.number (place_of r.by)
+    let z = wave_brings_property P (Served rules r i (length w.letters) stored) w after x.asked.sent.number (place_of_name r.by)
     (sent_letter_is_heard rules r w after r.by x.asked.letter x.fine x.fine.calm.listed x.asked.sent) hits (x.fine, trusts_first, letters_stay_in_same_world w) in
     record { fine = z.0.0; served_ = z.1 }
   where
@@ -218,7 +218,7 @@ second_wave_serves rules r i after stored w low x there other =
         → Served rules r i (length w.letters) stored v
     later u long v s = let late = s.late in record { first = s.first; late = omega arith; many = s.many; enough = s.enough; each = s.each }
 
-    hits : WaveBringsProperty P (Served rules r i (length w.letters) stored) after (length w.letters) x.asked.sent.number (place_of r.by)
+    hits : WaveBringsProperty P (Served rules r i (length w.letters) stored) after (length w.letters) x.asked.sent.number (place_of_name r.by)
     hits = record {
       keeps = keeps;
       hits = λ u k. (let s = x.asked.sent in let late = s.late in

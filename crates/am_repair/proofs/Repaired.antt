@@ -1,7 +1,7 @@
 -- Many rounds: all is stored, then reported, then accepted.
 use Rattle.am_repair.proofs.RepairWords.{eqb-true, ◌≡◌, ℕ, zero, suc, ◌+◌, ◌*◌, ◌/◌, ◌≤◌, ◌==◌, min, true, false, List, [], length, refl, sym, ap, ◌∙◌, subst}
-use Rattle.am_repair.proofs.RepairWords.{arith, Rules, has, Event, Settling, settle_then, ticks, hearings, waves, round, rounds, round_count, settle_events, World}
-use Rattle.am_repair.proofs.RepairWords.{happen, HasCaughtUp, split_on_bool, runs_go_on, Repair}
+use Rattle.am_repair.proofs.RepairWords.{arith, Rules, has, Event, Settling, settle_then, ticks_of_places, hearings, settle_waves, round, settle_rounds, round_count, settle_events, World}
+use Rattle.am_repair.proofs.RepairWords.{world_after_events, HasCaughtUp, split_on_bool, runs_go_on, Repair}
 use Rattle.am_repair.proofs.Fine.{WorldKeepsLawsAndCalm, laws_and_calm_stay, letters_grow_by_event}
 use Rattle.am_repair.proofs.ThirdWave.{MemberHasStored}
 use Rattle.am_repair.proofs.Rounds.{world_after_waves, round_world_is_after_waves, StaysThroughSchedule}
@@ -20,32 +20,32 @@ unfolding many
 many_more zero w = refl
 many_more (suc k) w = many_more k (world_after_waves w)
 
-rounds_are : (k : ℕ) (s : Settling) → (rounds k s).world ≡ many k s.world
-unfolding rounds many
+rounds_are : (k : ℕ) (s : Settling) → (settle_rounds k s).world ≡ many k s.world
+unfolding settle_rounds many
 rounds_are zero s = refl
 rounds_are (suc k) s = rounds_are k (round s) ∙ ap (many k) (round_world_is_after_waves s)
 
 -- a settling world is that of its events
 abbrev Settles : World → Settling → Type 0
-Settles w s = s.world ≡ happen w s.events
+Settles w s = s.world ≡ world_after_events w s.events
 
 settles_then : (w : World) (s : Settling) (events : List Event) → Settles w s → Settles w (settle_then s events)
-settles_then w s events h = ap (λ u. happen u events) h ∙ sym (runs_go_on w s.events events)
+settles_then w s events h = ap (λ u. world_after_events u events) h ∙ sym (runs_go_on w s.events events)
 
-settles_waves : (k after : ℕ) (w : World) (s : Settling) → Settles w s → Settles w (waves k after s)
-unfolding waves
+settles_waves : (k after : ℕ) (w : World) (s : Settling) → Settles w s → Settles w (settle_waves k after s)
+unfolding settle_waves
 settles_waves zero after w s h = h
 settles_waves (suc k) after w s h = settles_waves k (length s.world.letters) w (settle_then s (hearings s.world after))
     (settles_then w s (hearings s.world after) h)
 
-settles_rounds : (k : ℕ) (w : World) (s : Settling) → Settles w s → Settles w (rounds k s)
-unfolding rounds
+settles_rounds : (k : ℕ) (w : World) (s : Settling) → Settles w s → Settles w (settle_rounds k s)
+unfolding settle_rounds
 settles_rounds zero w s h = h
-settles_rounds (suc k) w s h = settles_rounds k w (round s) (settles_waves 5 (length s.world.letters) w (settle_then s (ticks s.world))
-    (settles_then w s (ticks s.world) h))
+settles_rounds (suc k) w s h = settles_rounds k w (round s) (settles_waves 5 (length s.world.letters) w (settle_then s (ticks_of_places s.world))
+    (settles_then w s (ticks_of_places s.world) h))
 
-settled_is : (rules : Rules) (w : World) → happen w (settle_events rules w) ≡ many (round_count rules) w
-unfolding settle_events happen
+settled_is : (rules : Rules) (w : World) → world_after_events w (settle_events rules w) ≡ many (round_count rules) w
+unfolding settle_events world_after_events
 settled_is rules w =
     let s : Settling = record { world = w; events = [] } in
     sym (settles_rounds (round_count rules) w s refl) ∙ rounds_are (round_count rules) s
@@ -99,11 +99,11 @@ last_rounds rules r stored w far h i there =
 
 -- from a calm world in which each member has at least what leaves no more than the window and 15
 pub all_members_catch_up : (rules : Rules) (r : Repair) (base : ℕ) (w : World) → r.high ≤ base + (rules.window + 15) → AllMembersHaveStored rules r base w → (i : ℕ)
-    → has r.members i ≡ true → HasCaughtUp ((happen w (settle_events rules w)).nodes i) r.high
+    → has r.members i ≡ true → HasCaughtUp ((world_after_events w (settle_events rules w)).nodes i) r.high
 all_members_catch_up rules r base w near h i there =
     let k = (rules.window + 22) / 8 in
     let enough : r.high ≤ base + 8 * k = omega arith in
     let count : round_count rules ≡ suc (suc k) = omega arith in
-    let is : happen w (settle_events rules w) ≡ world_after_waves (world_after_waves (many k w)) = settled_is rules w ∙ ap (λ n. many n w) count ∙ many_more (suc k) w
+    let is : world_after_events w (settle_events rules w) ≡ world_after_waves (world_after_waves (many k w)) = settled_is rules w ∙ ap (λ n. many n w) count ∙ many_more (suc k) w
     ∙ ap world_after_waves (many_more k w) in
     subst (λ v. HasCaughtUp (v.nodes i) r.high) (sym is) (last_rounds rules r (base + 8 * k) (many k w) enough (many_rounds k rules r base w h) i there)

@@ -1,6 +1,6 @@
 -- What a round brings about, and what is kept by all of its events.
 use Rattle.am_repair.proofs.RepairWords.{◌≡◌, inl, inr, ℕ, ◌+◌, ◌≤◌, ◌==◌, min, true, false, length, refl, ap, ◌∙◌, arith, length-append, cases_lt, Rules, has}
-use Rattle.am_repair.proofs.RepairWords.{Event, top, Settling, event_at, running, ticks, hearings, waves, round, World, happens, happen, world_begins_after_events, Repair}
+use Rattle.am_repair.proofs.RepairWords.{Event, top, Settling, event_at, running_places, ticks_of_places, hearings, settle_waves, round, World, happens, world_after_events, world_begins_after_events, Repair}
 use Rattle.am_repair.proofs.RepairWords.{IsOurs, our_ticks, hears_, Act}
 use Rattle.am_repair.proofs.Schedules.{property_stays_through_acts, property_stays_through_hearings}
 use Rattle.am_repair.proofs.Fine.{laws_and_calm_stay, world_grows_by_own_event}
@@ -13,10 +13,10 @@ use Rattle.am_repair.proofs.ThirdWave.{MemberHasStored, third_wave_stores}
 -- ---- the world after a round
 
 abbrev pub world_after_ticks : World → World
-world_after_ticks w = happen w (ticks w)
+world_after_ticks w = world_after_events w (ticks_of_places w)
 
 abbrev after_wave : ℕ → World → World
-after_wave after w = happen w (hearings w after)
+after_wave after w = world_after_events w (hearings w after)
 
 -- after the third of five waves, each of what the wave before it sent
 abbrev after_third : World → World
@@ -38,7 +38,7 @@ world_after_waves w =
     after_wave (length d.letters) e
 
 pub round_world_is_after_waves : (s : Settling) → (round s).world ≡ world_after_waves s.world
-unfolding waves
+unfolding settle_waves
 round_world_is_after_waves s = refl
 
 -- ---- what all events keep
@@ -47,13 +47,13 @@ pub record StaysThroughSchedule (r : Repair) (P : World → Type 0) : Type 0 whe
   pub keeps : (w : World) (e : Event) → IsOurs r e → P w → P (happens w e)
 
 pub property_stays_through_ticks : (r : Repair) (P : World → Type 0) → StaysThroughSchedule r P → (w : World) → P w → P (world_after_ticks w)
-property_stays_through_ticks r P s w h = property_stays_through_acts P Act.Tick (λ p u k. s.keeps u (event_at p Act.Tick) (our_ticks p) k) (running w) w h
+property_stays_through_ticks r P s w h = property_stays_through_acts P Act.Tick (λ p u k. s.keeps u (event_at p Act.Tick) (our_ticks p) k) (running_places w) w h
 
 pub property_stays_through_wave : (r : Repair) (P : World → Type 0) → StaysThroughSchedule r P → (after : ℕ) → r.sent ≤ after → (w : World) → P w → P (after_wave after w)
 property_stays_through_wave r P s after low w h = property_stays_through_hearings P w after (λ p k u late x. s.keeps u (event_at p (Act.Hear k)) (hears_ p k (omega arith)) x) h
 
 long_ticks : (w : World) → length w.letters ≤ length (world_after_ticks w).letters
-long_ticks w = let more = (world_begins_after_events w (ticks w)).letters in let long = ap length more.1 ∙ length-append w.letters more.0 in omega arith
+long_ticks w = let more = (world_begins_after_events w (ticks_of_places w)).letters in let long = ap length more.1 ∙ length-append w.letters more.0 in omega arith
 
 long_wave : (after : ℕ) (w : World) → length w.letters ≤ length (after_wave after w).letters
 long_wave after w = let more = (world_begins_after_events w (hearings w after)).letters in let long = ap length more.1 ∙ length-append w.letters more.0 in omega arith

@@ -1,7 +1,7 @@
 -- The letters that a schedule's steps send.
 use Rattle.am_repair.proofs.RepairWords.{◌≡◌, ℕ, suc, ◌+◌, ◌-◌, ◌≤◌, nat_le, true, false, List, Some, slice_get, sym, ap, ◌∙◌, subst, arith, nat_tests}
-use Rattle.am_repair.proofs.RepairWords.{Report, Entry, Data, has, Log, entry_at, Packet, Node, Ballot, top, is_sequencer, report_of, is_unfinished}
-use Rattle.am_repair.proofs.RepairWords.{next_stamp, World, Cause, MayInvite, has_begun, goes_on, MayTell, Says, bcast, order, welcome, leave_ask, invite}
+use Rattle.am_repair.proofs.RepairWords.{Report, Entry, Data, has, Log, log_entry_at, Packet, Node, Ballot, top, is_sequencer, own_report_of, is_unfinished_ballot}
+use Rattle.am_repair.proofs.RepairWords.{next_stamp, World, Cause, MayInvite, has_begun, goes_on, MayTellResult, Says, bcast, order, welcome, leave_ask, invite}
 use Rattle.am_repair.proofs.RepairWords.{vote, result, Repair, ReportIs, SequencerHas, IsCalm}
 use Rattle.am_step_laws.specs.Letters.{request, spread, ack, nack, hand_over}
 use Rattle.am_step_laws.specs.Letters as letters
@@ -44,9 +44,9 @@ packet_stays_calm_later r w v _ g h = h
 pub record SendsOfCalmStep (r : Repair) (v : World) (m n : Node) : Type 0 where
   pub node : v.nodes n.core.who ≡ n
   pub leaves : n.leaving ≡ true → r.gone n.core.who ≡ true
-  pub no_ballot : is_unfinished m.ballot ≡ false
+  pub no_ballot : is_unfinished_ballot m.ballot ≡ false
   pub begins_none : (b : Ballot) → n.ballot ≡ Some b → n.core.promise ≡ next_stamp m → ⊥
-  pub tells : MayTell n → n.core.promise.by ≡ n.core.who → n.core.promise ≡ r.view
+  pub tells : MayTellResult n → n.core.promise.by ≡ n.core.who → n.core.promise ≡ r.view
   -- only one leads
   pub stays : is_sequencer n ≡ true → n.leaving ≡ false
   pub own : is_sequencer n ≡ true → n.core.who ≡ r.by
@@ -54,21 +54,21 @@ pub record SendsOfCalmStep (r : Repair) (v : World) (m n : Node) : Type 0 where
   pub base : is_sequencer n ≡ true → n.core.log.start ≤ m.core.base
 
 pub entry_at_of_list_item : (log : Log) (index number : ℕ) (e : Entry) → slice_get log.entries index ≡ Some e → number ≡ log.start + index + 1
-    → entry_at log number ≡ Some e
+    → log_entry_at log number ≡ Some e
 entry_at_of_list_item log index number e there is =
     let before = log.start + index in
     let at : number ≡ suc before = omega arith in
     let low : nat_le log.start before ≡ true = grind (arith, nat_tests) in
     let skip : before - log.start ≡ index = omega arith in
-    ap (entry_at log) at ∙ rw low (ap (slice_get log.entries) skip ∙ there)
+    ap (log_entry_at log) at ∙ rw low (ap (slice_get log.entries) skip ∙ there)
 
 numbered_stands : (r : Repair) (v : World) (m n : Node) (number : ℕ) (e : Entry) → SendsOfCalmStep r v m n → is_sequencer n ≡ true
     → letters.EntryStands n.core.log m.core.base number e → SequencerHas r v number e
 numbered_stands r v m n number e h t s =
     let node = ap (λ k. v.nodes k) (sym (h.own t)) ∙ h.node in
-    ap (λ (x : Node). entry_at x.core.log number) node ∙ entry_at_of_list_item n.core.log s.index number e s.there (s.at (h.base t))
+    ap (λ (x : Node). log_entry_at x.core.log number) node ∙ entry_at_of_list_item n.core.log s.index number e s.there (s.at (h.base t))
 
-report_sent : (r : Repair) (v : World) (m n : Node) → SendsOfCalmStep r v m n → ReportIs r v n.core.who (report_of n)
+report_sent : (r : Repair) (v : World) (m n : Node) → SendsOfCalmStep r v m n → ReportIs r v n.core.who (own_report_of n)
 report_sent r v m n h =
     let stored = ap (λ (x : Node). top x) h.node in
     let taken = ap (λ (x : Node). x.core.taken) h.node in

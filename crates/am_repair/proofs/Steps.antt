@@ -1,10 +1,10 @@
 -- Each event of a schedule keeps a world calm.
 use Rattle.am_repair.proofs.RepairWords.{eq-eqb, eqb-true, ◌≡◌, ◌⊎◌, inl, inr, either, ℕ, zero, suc, ◌≤◌, ◌==◌, true, false, List, [], ◌∷◌, ◌++◌, Some}
 use Rattle.am_repair.proofs.RepairWords.{slice_get, refl, sym, ap, ◌∙◌, subst, arith, All, nat_tests, Stamp, Outcome, Rules, has, Letter, Event, letter_at}
-use Rattle.am_repair.proofs.RepairWords.{Node, top, is_sequencer, has_departed, is_unfinished, next_stamp, Step, World, with_record, with_step, happens}
-use Rattle.am_repair.proofs.RepairWords.{split_on_bool, Cause, LetterSays, Effect, actor, IsCause, all_gives_slice_get, actor_is_below_256, heard_stamps_have_names, TrimsOnlyTakenAlongStep, WorldTrimsOnlyTaken, heard_welcome_image_is_used}
+use Rattle.am_repair.proofs.RepairWords.{Node, top, is_sequencer, has_departed, is_unfinished_ballot, next_stamp, StepResult, World, world_with_record, world_with_step, happens}
+use Rattle.am_repair.proofs.RepairWords.{split_on_bool, Cause, LetterSays, Effect, acting_name, IsCause, item_of_index_has_property, actor_is_below_256, heard_stamps_have_names, TrimsOnlyTakenAlongStep, WorldTrimsOnlyTaken, heard_welcome_image_is_used}
 use Rattle.am_repair.proofs.RepairWords.{each_node_trims_only_taken, Repair, LeadsCalmly, FollowsView, IsApart, IsLeaver, IsElsewhere, IsCalm, Calm, IsOurs, is_stopped}
-use Rattle.am_repair.proofs.RepairWords.{MayTell, leads, decided, Ballot, ◌<◌}
+use Rattle.am_repair.proofs.RepairWords.{MayTellResult, leads, decided, Ballot, ◌<◌}
 use Rattle.am_repair.proofs.Going.{StepOfSchedule, WorldAfterScheduledEvent, idles, steps, scheduled_event_steps_or_idles, sequencer_goes_on_by_changes, member_follows_on_by_changes, node_stays_apart_by_changes, leaver_stays_left_by_changes, sender_with_same_status, member_status_has_not_departed}
 use Rattle.am_repair.proofs.Nodes.{CalmCause, acting_member_promised_its_view, sequencer_acts_by_own_view, other_name_is_not_sequencer}
 use Rattle.am_repair.proofs.RepairLeading.{SequencerGoesOn, told_report_is_of_sender, TrustsReportsTaken}
@@ -46,10 +46,10 @@ same_grows r w v same = subst (λ nodes. RepairWorldGrows r w (record v { nodes 
       kept = λ name there. omega arith;
     })
 
-calm_unchanged : (r : Repair) (w : World) (e : Event) (o : Outcome) → Calm r w → Calm r (with_record w e o)
-unfolding with_record
+calm_unchanged : (r : Repair) (w : World) (e : Event) (o : Outcome) → Calm r w → Calm r (world_with_record w e o)
+unfolding world_with_record
 calm_unchanged r w e o h =
-    let v = with_record w e o in
+    let v = world_with_record w e o in
     let letters : (number : ℕ) (l : Letter) → r.sent < number → letter_at v.letters number ≡ Some l → IsCalm r v l.packet
     = λ number l late there. packet_stays_calm_later r w v l.packet (same_grows r w v refl) (h.letters number l late there) in
     assumption (letters)
@@ -57,7 +57,7 @@ calm_unchanged r w e o h =
 -- ---- a step
 
 -- what is so of the world after a name's step, by what it made of that name's node
-record StepKeeps (r : Repair) (w v : World) (name : ℕ) (s : Step) : Type 0 where
+record StepKeeps (r : Repair) (w v : World) (name : ℕ) (s : StepResult) : Type 0 where
   who : s.node.core.who ≡ name
   leads : LeadsCalmly r (v.nodes r.by)
   follows : (other : ℕ) → has r.members other ≡ true → (other == r.by) ≡ false → FollowsView r (v.nodes r.by) (v.nodes other)
@@ -65,11 +65,11 @@ record StepKeeps (r : Repair) (w v : World) (name : ℕ) (s : Step) : Type 0 whe
   grow : RepairWorldGrows r w v
   letters : (k : ℕ) (l : Letter) → slice_get s.letters k ≡ Some l → IsCalm r v l.packet
 
-calm_stepped : (r : Repair) (w : World) (e : Event) (name : ℕ) (s : Step) → Calm r w → StepKeeps r w (with_step w e name s) name s
-    → Calm r (with_step w e name s)
-unfolding with_step
+calm_stepped : (r : Repair) (w : World) (e : Event) (name : ℕ) (s : StepResult) → Calm r w → StepKeeps r w (world_with_step w e name s) name s
+    → Calm r (world_with_step w e name s)
+unfolding world_with_step
 calm_stepped r w e name s h k =
-    let v = with_step w e name s in
+    let v = world_with_step w e name s in
     let who : (other : ℕ) → (v.nodes other).core.who ≡ other
     = λ other. split_on_bool (other == name) (λ t. rw t (k.who ∙ sym (eqb-true other name t))) (λ f. rw f (h.who other)) in
     let letters : (number : ℕ) (l : Letter) → r.sent < number → letter_at v.letters number ≡ Some l → IsCalm r v l.packet = λ number l late there.
@@ -81,7 +81,7 @@ calm_stepped r w e name s h k =
 -- the letters of a step
 sent_calm : (r : Repair) (w v : World) (m n : Node) (c : Cause) (letters : List Letter) → CalmCause r w c → SendsOfCalmStep r v m n → All (LetterSays m c n) letters
     → (k : ℕ) (l : Letter) → slice_get letters k ≡ Some l → IsCalm r v l.packet
-sent_calm r w v m n c letters calm h all k l there = calm_step_sends_calm_letter r w v m n c l.to l.packet calm h (all_gives_slice_get (LetterSays m c n) letters k l all there).says
+sent_calm r w v m n c letters calm h all k l there = calm_step_sends_calm_letter r w v m n c l.to l.packet calm h (item_of_index_has_property (LetterSays m c n) letters k l all there).says
 
 -- a promise of its own is of a later round
 later_round : (a b : Node) (v : Stamp) → a.core.promise ≡ v → b.core.promise ≡ v → b.core.promise ≡ next_stamp a → ⊥
@@ -93,8 +93,8 @@ record OneChanged (w v : World) (name : ℕ) (n : Node) : Type 0 where
   here : v.nodes name ≡ n
   others : (other : ℕ) → (other == name) ≡ false → v.nodes other ≡ w.nodes other
 
-one_changed : (w : World) (e : Event) (name : ℕ) (s : Step) → OneChanged w (with_step w e name s) name s.node
-unfolding with_step
+one_changed : (w : World) (e : Event) (name : ℕ) (s : StepResult) → OneChanged w (world_with_step w e name s) name s.node
+unfolding world_with_step
 one_changed w e name s = record { here = (let t = eq-eqb name name refl in rw t refl); others = λ other f. rw f refl }
 
 abbrev NoLess : Node → Node → Type 0
@@ -167,14 +167,14 @@ follows_on r w n name h there other g =
       subst (λ k. (n.reports k).taken ≤ (w.nodes name).core.taken) (sym (h.who name)) (g.trusts.reported name there other),
     )
 
-leader_step : (rules : Rules) (r : Repair) (w : World) (e : Event) (s : Step) → WorldTrimsOnlyTaken rules w → Calm r w → (k : StepOfSchedule r w e s) → actor w e ≡ r.by
-    → StepKeeps r w (with_step w e (actor w e) s) (actor w e) s
+leader_step : (rules : Rules) (r : Repair) (w : World) (e : Event) (s : StepResult) → WorldTrimsOnlyTaken rules w → Calm r w → (k : StepOfSchedule r w e s) → acting_name w e ≡ r.by
+    → StepKeeps r w (world_with_step w e (acting_name w e) s) (acting_name w e) s
 leader_step rules r w e s laws h k same =
-    let name = actor w e in
+    let name = acting_name w e in
     let n = s.node in
     let q = w.nodes r.by in
     let c = k.cause in
-    let v = with_step w e name s in
+    let v = world_with_step w e name s in
     let ch = one_changed w e name s in
     let effect = subst (λ i. Effect (w.nodes i) c s) same k.effect in
     let along = subst (λ i. TrimsOnlyTakenAlongStep rules (w.nodes i)) same (each_node_trims_only_taken rules w name (actor_is_below_256 rules w e laws.blanks.base.named) laws) in
@@ -218,17 +218,17 @@ leader_step rules r w e s laws h k same =
 record Aside (r : Repair) (m n : Node) : Type 0 where
   who : n.core.who ≡ m.core.who
   leaves : n.leaving ≡ true → r.gone n.core.who ≡ true
-  no_ballot : is_unfinished m.ballot ≡ false
+  no_ballot : is_unfinished_ballot m.ballot ≡ false
   begins_none : (b : Ballot) → n.ballot ≡ Some b → n.core.promise ≡ next_stamp m → ⊥
-  tells : MayTell n → n.core.promise.by ≡ n.core.who → n.core.promise ≡ r.view
+  tells : MayTellResult n → n.core.promise.by ≡ n.core.who → n.core.promise ≡ r.view
   no_leader : is_sequencer n ≡ true → ⊥
 
-aside_calm : (r : Repair) (w : World) (e : Event) (s : Step) → Calm r w → (k : StepOfSchedule r w e s) → Aside r (w.nodes (actor w e)) s.node
-    → k.effect.sender ≡ s.node → (i : ℕ) (l : Letter) → slice_get s.letters i ≡ Some l → IsCalm r (with_step w e (actor w e) s) l.packet
+aside_calm : (r : Repair) (w : World) (e : Event) (s : StepResult) → Calm r w → (k : StepOfSchedule r w e s) → Aside r (w.nodes (acting_name w e)) s.node
+    → k.effect.sender ≡ s.node → (i : ℕ) (l : Letter) → slice_get s.letters i ≡ Some l → IsCalm r (world_with_step w e (acting_name w e) s) l.packet
 aside_calm r w e s h k a sender =
-    let name = actor w e in
+    let name = acting_name w e in
     let m = w.nodes name in
-    let v = with_step w e name s in
+    let v = world_with_step w e name s in
     let sends : SendsOfCalmStep r v m s.node = record {
       node = ap (λ i. v.nodes i) (a.who ∙ h.who name) ∙ (one_changed w e name s).here;
       leaves = a.leaves;
@@ -242,14 +242,14 @@ aside_calm r w e s h k a sender =
     } in
     sent_calm r w v m s.node k.cause s.letters k.calm sends (subst (λ (x : Node). All (LetterSays m k.cause x) s.letters) sender k.effect.letters)
 
-member_step : (r : Repair) (w : World) (e : Event) (s : Step) → Calm r w → (k : StepOfSchedule r w e s) → (actor w e == r.by) ≡ false
-    → has r.members (actor w e) ≡ true → StepKeeps r w (with_step w e (actor w e) s) (actor w e) s
+member_step : (r : Repair) (w : World) (e : Event) (s : StepResult) → Calm r w → (k : StepOfSchedule r w e s) → (acting_name w e == r.by) ≡ false
+    → has r.members (acting_name w e) ≡ true → StepKeeps r w (world_with_step w e (acting_name w e) s) (acting_name w e) s
 member_step r w e s h k other there =
-    let name = actor w e in
+    let name = acting_name w e in
     let m = w.nodes name in
     let n = s.node in
     let q = w.nodes r.by in
-    let v = with_step w e name s in
+    let v = world_with_step w e name s in
     let ch = one_changed w e name s in
     let own : (m.core.who == r.by) ≡ false = ap (λ i. i == r.by) (h.who name) ∙ other in
     let f = h.follows name there other in
@@ -285,15 +285,15 @@ member_step r w e s h k other there =
 -- ---- anybody else's
 
 -- it changes no member
-elsewhere_step : (r : Repair) (w : World) (e : Event) (s : Step) → Calm r w → (actor w e == r.by) ≡ false → has r.members (actor w e) ≡ false
-    → s.node.core.who ≡ actor w e
+elsewhere_step : (r : Repair) (w : World) (e : Event) (s : StepResult) → Calm r w → (acting_name w e == r.by) ≡ false → has r.members (acting_name w e) ≡ false
+    → s.node.core.who ≡ acting_name w e
     → (has_departed s.node.status ≡ false → IsElsewhere r s.node) → ((k : ℕ) (l : Letter) → slice_get s.letters k ≡ Some l
-    → IsCalm r (with_step w e (actor w e) s) l.packet) → StepKeeps r w (with_step w e (actor w e) s) (actor w e) s
+    → IsCalm r (world_with_step w e (acting_name w e) s) l.packet) → StepKeeps r w (world_with_step w e (acting_name w e) s) (acting_name w e) s
 elsewhere_step r w e s h other none who apart letters =
-    let name = actor w e in
+    let name = acting_name w e in
     let n = s.node in
     let q = w.nodes r.by in
-    let v = with_step w e name s in
+    let v = world_with_step w e name s in
     let ch = one_changed w e name s in
     let node : v.nodes r.by ≡ q = ch.others r.by (is_other name r.by other) in
     record {
@@ -312,24 +312,24 @@ elsewhere_step r w e s h other none who apart letters =
     }
 
 -- whoever isn't the leader, nor a member of its view, and hasn't departed
-module _ (r : Repair) (w : World) (e : Event) (s : Step) (h : Calm r w) (k : StepOfSchedule r w e s) (other : (actor w e == r.by) ≡ false)
-    (none : has r.members (actor w e) ≡ false) (there : has_departed (w.nodes (actor w e)).status ≡ false) where
+module _ (r : Repair) (w : World) (e : Event) (s : StepResult) (h : Calm r w) (k : StepOfSchedule r w e s) (other : (acting_name w e == r.by) ≡ false)
+    (none : has r.members (acting_name w e) ≡ false) (there : has_departed (w.nodes (acting_name w e)).status ≡ false) where
   abbrev was_ : Node
-  was_ = w.nodes (actor w e)
+  was_ = w.nodes (acting_name w e)
 
   abbrev now_ : Node
   now_ = s.node
 
-  apart_step : IsApart r was_ → StepKeeps r w (with_step w e (actor w e) s) (actor w e) s
+  apart_step : IsApart r was_ → StepKeeps r w (world_with_step w e (acting_name w e) s) (acting_name w e) s
   apart_step a =
-      let own : (was_.core.who == r.by) ≡ false = ap (λ i. i == r.by) (h.who (actor w e)) ∙ other in
+      let own : (was_.core.who == r.by) ≡ false = ap (λ i. i == r.by) (h.who (acting_name w e)) ∙ other in
       let g = node_stays_apart_by_changes r w was_ was_ now_ h.own own k.calm k.effect.changes (record { who = refl; there = there; apart = a }) in
       let no_leader : is_sequencer now_ ≡ true → ⊥ = λ t. (let acts_ = acting_member_promised_its_view now_ (sequencer_acts_by_own_view now_ t).0 in
       other_name_is_not_sequencer now_ r.by (ap (λ (x : Stamp). x.by) (sym acts_.1 ∙ g.apart.promised acts_.0) ∙ h.own) (ap (λ i. i == r.by) g.who ∙ own) t) in
-      elsewhere_step r w e s h other none (g.who ∙ h.who (actor w e)) (λ here. inl g.apart) (aside_calm r w e s h k (record {
+      elsewhere_step r w e s h other none (g.who ∙ h.who (acting_name w e)) (λ here. inl g.apart) (aside_calm r w e s h k (record {
         who = g.who;
         leaves = λ t. absurd (let f = g.apart.stays in cc);
-        no_ballot = ap is_unfinished a.no_ballot;
+        no_ballot = ap is_unfinished_ballot a.no_ballot;
         begins_none = λ b some next. (let x = g.apart.no_ballot in cc);
         tells = λ t mine. absurd (elim t [
           | leads t ↦ no_leader t
@@ -339,10 +339,10 @@ module _ (r : Repair) (w : World) (e : Event) (s : Step) (h : Calm r w) (k : Ste
       }) (sender_with_same_status now_ k.effect.sender k.effect.is k.effect.stays g.there))
 
   -- a leaver departs, and sends nothing, or goes on
-  left_step : IsLeaver r was_ → StepKeeps r w (with_step w e (actor w e) s) (actor w e) s
+  left_step : IsLeaver r was_ → StepKeeps r w (world_with_step w e (acting_name w e) s) (acting_name w e) s
   left_step a =
       let g = leaver_stays_left_by_changes r w was_ was_ now_ k.calm k.effect.changes (record { who = refl; left = a; promise = inl refl }) in
-      elsewhere_step r w e s h other none (g.who ∙ h.who (actor w e)) (λ here. inr g.left) (either (step_sends_nothing_or_stays was_ s.letters now_ k.effect.ending there)
+      elsewhere_step r w e s h other none (g.who ∙ h.who (acting_name w e)) (λ here. inr g.left) (either (step_sends_nothing_or_stays was_ s.letters now_ k.effect.ending there)
       (λ nothing. λ i l there_. absurd (let z = ap (λ ls. slice_get ls i) nothing in cc))
       (λ here. aside_calm r w e s h k (record {
         who = g.who;
@@ -359,30 +359,30 @@ module _ (r : Repair) (w : World) (e : Event) (s : Step) (h : Calm r w) (k : Ste
           (λ other. let by = ap (λ (u : Stamp). u.by) next in
           let z : ⊥ = grind (arith, nat_tests) in z)
 
-gone_step : (r : Repair) (w : World) (e : Event) (s : Step) → Calm r w → (k : StepOfSchedule r w e s) → (actor w e == r.by) ≡ false
-    → has r.members (actor w e) ≡ false → has_departed (w.nodes (actor w e)).status ≡ true → StepKeeps r w (with_step w e (actor w e) s) (actor w e) s
+gone_step : (r : Repair) (w : World) (e : Event) (s : StepResult) → Calm r w → (k : StepOfSchedule r w e s) → (acting_name w e == r.by) ≡ false
+    → has r.members (acting_name w e) ≡ false → has_departed (w.nodes (acting_name w e)).status ≡ true → StepKeeps r w (world_with_step w e (acting_name w e) s) (acting_name w e) s
 gone_step r w e s h k other none gone =
     let still = k.still gone in
-    elsewhere_step r w e s h other none (still.who ∙ h.who (actor w e)) (λ here. absurd (cc))
+    elsewhere_step r w e s h other none (still.who ∙ h.who (acting_name w e)) (λ here. absurd (cc))
     (λ i l there. absurd (let nothing = ap (λ ls. slice_get ls i) still.letters in cc))
 
 -- ---- each event
 
-step_keeps : (rules : Rules) (r : Repair) (w : World) (e : Event) (s : Step) → WorldTrimsOnlyTaken rules w → Calm r w → StepOfSchedule r w e s
-    → StepKeeps r w (with_step w e (actor w e) s) (actor w e) s
-step_keeps rules r w e s laws h k = split_on_bool (actor w e == r.by)
-    (λ t. leader_step rules r w e s laws h k (eqb-true (actor w e) r.by t))
-    (λ f. split_on_bool (has r.members (actor w e))
+step_keeps : (rules : Rules) (r : Repair) (w : World) (e : Event) (s : StepResult) → WorldTrimsOnlyTaken rules w → Calm r w → StepOfSchedule r w e s
+    → StepKeeps r w (world_with_step w e (acting_name w e) s) (acting_name w e) s
+step_keeps rules r w e s laws h k = split_on_bool (acting_name w e == r.by)
+    (λ t. leader_step rules r w e s laws h k (eqb-true (acting_name w e) r.by t))
+    (λ f. split_on_bool (has r.members (acting_name w e))
     (λ there. member_step r w e s h k f there)
-    (λ none. split_on_bool (has_departed (w.nodes (actor w e)).status)
+    (λ none. split_on_bool (has_departed (w.nodes (acting_name w e)).status)
     (λ gone. gone_step r w e s h k f none gone)
-    (λ here. either (h.apart (actor w e) none k.runs here)
+    (λ here. either (h.apart (acting_name w e) none k.runs here)
     (λ a. apart_step r w e s h k f none here a)
     (λ a. left_step r w e s h k f none here a))))
 
 calm_ours : (rules : Rules) (r : Repair) (w : World) (e : Event) (v : World) → WorldTrimsOnlyTaken rules w → Calm r w → WorldAfterScheduledEvent r w e v → Calm r v
 calm_ours rules r w e v laws h (idles o) = calm_unchanged r w e o h
-calm_ours rules r w e v laws h (steps s k) = calm_stepped r w e (actor w e) s h (step_keeps rules r w e s laws h k)
+calm_ours rules r w e v laws h (steps s k) = calm_stepped r w e (acting_name w e) s h (step_keeps rules r w e s laws h k)
 
 pub calm_stays_by_scheduled_event : (rules : Rules) (r : Repair) (w : World) (e : Event) → IsOurs r e → WorldTrimsOnlyTaken rules w → Calm r w → Calm r (happens w e)
 calm_stays_by_scheduled_event rules r w e is laws h = calm_ours rules r w e (happens w e) laws h (scheduled_event_steps_or_idles r w e is h)
@@ -390,7 +390,7 @@ calm_stays_by_scheduled_event rules r w e is laws h = calm_ours rules r w e (hap
 -- ---- what it makes more
 
 ours_grow_by : (rules : Rules) (r : Repair) (w : World) (e : Event) (v : World) → WorldTrimsOnlyTaken rules w → Calm r w → WorldAfterScheduledEvent r w e v → RepairWorldGrows r w v
-unfolding with_record
+unfolding world_with_record
 ours_grow_by rules r w e v laws h (idles o) = same_grows r w v refl
 ours_grow_by rules r w e v laws h (steps s k) = (step_keeps rules r w e s laws h k).grow
 
@@ -398,11 +398,11 @@ pub repair_world_grows_by_event : (rules : Rules) (r : Repair) (w : World) (e : 
 repair_world_grows_by_event rules r w e is laws h = ours_grow_by rules r w e (happens w e) laws h (scheduled_event_steps_or_idles r w e is h)
 
 -- a member whose letter isn't the next entry stores nothing
-skip_step : (r : Repair) (w : World) (e : Event) (s : Step) (i : ℕ) → Calm r w → (k : StepOfSchedule r w e s) → has r.members i ≡ true → (i == r.by) ≡ false
-    → CauseSkipsNumber (top (w.nodes i)) k.cause → top ((with_step w e (actor w e) s).nodes i) ≡ top (w.nodes i)
-skip_step r w e s i h k there other skips = split_on_bool (i == actor w e)
+skip_step : (r : Repair) (w : World) (e : Event) (s : StepResult) (i : ℕ) → Calm r w → (k : StepOfSchedule r w e s) → has r.members i ≡ true → (i == r.by) ≡ false
+    → CauseSkipsNumber (top (w.nodes i)) k.cause → top ((world_with_step w e (acting_name w e) s).nodes i) ≡ top (w.nodes i)
+skip_step r w e s i h k there other skips = split_on_bool (i == acting_name w e)
     (λ t.
-    let name = actor w e in
+    let name = acting_name w e in
     let m = w.nodes name in
     let same = eqb-true i name t in
     let here = subst (λ j. has r.members j ≡ true) same there in
@@ -412,25 +412,25 @@ skip_step r w e s i h k there other skips = split_on_bool (i == actor w e)
     (record { who = refl; follows = f; stored = omega arith; taken = omega arith; acc = omega arith; skips = λ x. refl }) in
     let stays = g.skips (subst (λ j. CauseSkipsNumber (top (w.nodes j)) k.cause) same skips) in
     let ch = one_changed w e name s in
-    ap (λ j. top ((with_step w e name s).nodes j)) same ∙ ap (λ (x : Node). top x) ch.here ∙ stays ∙ ap (λ j. top (w.nodes j)) (sym same))
-    (λ f. ap (λ (x : Node). top x) ((one_changed w e (actor w e) s).others i f))
+    ap (λ j. top ((world_with_step w e name s).nodes j)) same ∙ ap (λ (x : Node). top x) ch.here ∙ stays ∙ ap (λ j. top (w.nodes j)) (sym same))
+    (λ f. ap (λ (x : Node). top x) ((one_changed w e (acting_name w e) s).others i f))
 
 ours_skip_by : (r : Repair) (w : World) (e : Event) (v : World) (i : ℕ) → Calm r w → WorldAfterScheduledEvent r w e v → has r.members i ≡ true → (i == r.by) ≡ false
-    → ((c : Cause) → IsCause w (actor w e) e.act c → CauseSkipsNumber (top (w.nodes i)) c) → top (v.nodes i) ≡ top (w.nodes i)
-unfolding with_record
+    → ((c : Cause) → IsCause w (acting_name w e) e.act c → CauseSkipsNumber (top (w.nodes i)) c) → top (v.nodes i) ≡ top (w.nodes i)
+unfolding world_with_record
 ours_skip_by r w e v i h (idles o) there other skips = refl
 ours_skip_by r w e v i h (steps s k) there other skips = skip_step r w e s i h k there other (skips k.cause k.is)
 
 pub skipped_cause_keeps_top : (r : Repair) (w : World) (e : Event) (i : ℕ) → IsOurs r e → Calm r w → has r.members i ≡ true → (i == r.by) ≡ false
-    → ((c : Cause) → IsCause w (actor w e) e.act c → CauseSkipsNumber (top (w.nodes i)) c) → top ((happens w e).nodes i) ≡ top (w.nodes i)
+    → ((c : Cause) → IsCause w (acting_name w e) e.act c → CauseSkipsNumber (top (w.nodes i)) c) → top ((happens w e).nodes i) ≡ top (w.nodes i)
 skipped_cause_keeps_top r w e i is h there other skips = ours_skip_by r w e (happens w e) i h (scheduled_event_steps_or_idles r w e is h) there other skips
 
 -- the sequencer goes on to trust what was taken at some time
-trust_step : (rules : Rules) (r : Repair) (taken : ℕ → ℕ) (w : World) (e : Event) (s : Step) → WorldTrimsOnlyTaken rules w → Calm r w → (k : StepOfSchedule r w e s)
-    → CauseTellsTaken r taken k.cause → TrustsReportsTaken r taken (w.nodes r.by) → TrustsReportsTaken r taken ((with_step w e (actor w e) s).nodes r.by)
-trust_step rules r taken w e s laws h k tells t = split_on_bool (actor w e == r.by)
+trust_step : (rules : Rules) (r : Repair) (taken : ℕ → ℕ) (w : World) (e : Event) (s : StepResult) → WorldTrimsOnlyTaken rules w → Calm r w → (k : StepOfSchedule r w e s)
+    → CauseTellsTaken r taken k.cause → TrustsReportsTaken r taken (w.nodes r.by) → TrustsReportsTaken r taken ((world_with_step w e (acting_name w e) s).nodes r.by)
+trust_step rules r taken w e s laws h k tells t = split_on_bool (acting_name w e == r.by)
     (λ same_.
-    let name = actor w e in
+    let name = acting_name w e in
     let same = eqb-true name r.by same_ in
     let q = w.nodes r.by in
     let c = k.cause in
@@ -446,16 +446,16 @@ trust_step rules r taken w e s laws h k tells t = split_on_bool (actor w e == r.
       acc = omega arith;
       kept = λ i there. omega arith;
     }) in
-    let node : (with_step w e name s).nodes r.by ≡ s.node = ap (λ i. (with_step w e name s).nodes i) (sym same) ∙ (one_changed w e name s).here in
+    let node : (world_with_step w e name s).nodes r.by ≡ s.node = ap (λ i. (world_with_step w e name s).nodes i) (sym same) ∙ (one_changed w e name s).here in
     subst (TrustsReportsTaken r taken) (sym node) g.trusts)
-    (λ f. subst (TrustsReportsTaken r taken) (sym ((one_changed w e (actor w e) s).others r.by (is_other (actor w e) r.by f))) t)
+    (λ f. subst (TrustsReportsTaken r taken) (sym ((one_changed w e (acting_name w e) s).others r.by (is_other (acting_name w e) r.by f))) t)
 
 ours_trust_by : (rules : Rules) (r : Repair) (taken : ℕ → ℕ) (w : World) (e : Event) (v : World) → WorldTrimsOnlyTaken rules w → Calm r w → WorldAfterScheduledEvent r w e v
-    → ((c : Cause) → IsCause w (actor w e) e.act c → CauseTellsTaken r taken c) → TrustsReportsTaken r taken (w.nodes r.by) → TrustsReportsTaken r taken (v.nodes r.by)
-unfolding with_record
+    → ((c : Cause) → IsCause w (acting_name w e) e.act c → CauseTellsTaken r taken c) → TrustsReportsTaken r taken (w.nodes r.by) → TrustsReportsTaken r taken (v.nodes r.by)
+unfolding world_with_record
 ours_trust_by rules r taken w e v laws h (idles o) tells t = t
 ours_trust_by rules r taken w e v laws h (steps s k) tells t = trust_step rules r taken w e s laws h k (tells k.cause k.is) t
 
 pub reports_stay_trusted_by_event : (rules : Rules) (r : Repair) (taken : ℕ → ℕ) (w : World) (e : Event) → IsOurs r e → WorldTrimsOnlyTaken rules w → Calm r w
-    → ((c : Cause) → IsCause w (actor w e) e.act c → CauseTellsTaken r taken c) → TrustsReportsTaken r taken (w.nodes r.by) → TrustsReportsTaken r taken ((happens w e).nodes r.by)
+    → ((c : Cause) → IsCause w (acting_name w e) e.act c → CauseTellsTaken r taken c) → TrustsReportsTaken r taken (w.nodes r.by) → TrustsReportsTaken r taken ((happens w e).nodes r.by)
 reports_stay_trusted_by_event rules r taken w e is laws h tells t = ours_trust_by rules r taken w e (happens w e) laws h (scheduled_event_steps_or_idles r w e is h) tells t

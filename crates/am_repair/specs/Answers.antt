@@ -5,19 +5,19 @@ use Rattle.am_base.specs.declared.entry.Entry.TheVariants.{Data}
 use Rattle.am_base.specs.declared.outcome.Outcome.TheVariants as said
 use Rattle.am_base.specs.declared.event.NodeEvent.TheVariants as does
 use Rattle.am_base.specs.Founding.{Rules, MayFound}
-use Rattle.am_base.specs.Lists.{entry_at}
+use Rattle.am_base.specs.Lists.{log_entry_at}
 use Rattle.am_base.specs.Names.{has}
 use Rattle.am_group.specs.declared.event.Event.{Event}
 use Rattle.am_model.specs.Node.{Node, top, members, is_member}
 use Rattle.am_model.specs.Step.{step}
 use Rattle.am_group_defs.specs.Lawful.{lawful_front}
 use Rattle.am_group_defs.specs.Settle.{settle_events}
-use Rattle.am_group_defs.specs.World.{current, happen, run}
+use Rattle.am_group_defs.specs.World.{current, world_after_events, run}
 use Rattle.am_repair.specs.Claim.{MayRepair}
 
 -- no own send is pending that stands in a node's list from where the node joined up to this number
 abbrev pub AnswersUpTo : Node → ℕ → Type 0
-AnswersUpTo m last = (number req : ℕ) (body : List ℕ) → m.core.start ≤ number → number ≤ last → entry_at m.core.log number ≡ Some (Data m.core.who req body)
+AnswersUpTo m last = (number req : ℕ) (body : List ℕ) → m.core.start ≤ number → number ≤ last → log_entry_at m.core.log number ≡ Some (Data m.core.who req body)
     → (step m (does.Done req)).outcome ≢ said.Pending req
 
 -- in every run, up to what a node has accepted
@@ -30,13 +30,13 @@ abbrev pub RepairedAreAnswered : Type 0
 RepairedAreAnswered = (rules : Rules) (events : List Event) (place : ℕ) → MayFound rules → place < 16 → lawful_front rules events ≡ events
     → MayRepair (run rules events) place
     → (name : ℕ) → has (members ((run rules events).nodes (current (run rules events) place))) name ≡ true
-    → AnswersUpTo ((happen (run rules events) (settle_events rules (run rules events))).nodes name)
+    → AnswersUpTo ((world_after_events (run rules events) (settle_events rules (run rules events))).nodes name)
     (top ((run rules events).nodes (current (run rules events) place)))
 
 -- so many Takes give the next entries of a node's list, one each
 unfoldable pub Gives : ℕ → Node → Type 0
 Gives zero m = Unit {0}
-Gives (suc many) m = ((e : Entry) × (entry_at m.core.log (m.core.taken + 1) ≡ Some e) × ((step m does.Take).outcome ≡ said.Took (m.core.taken + 1) e))
+Gives (suc many) m = ((e : Entry) × (log_entry_at m.core.log (m.core.taken + 1) ≡ Some e) × ((step m does.Take).outcome ≡ said.Took (m.core.taken + 1) e))
     × Gives many (step m does.Take).node
 
 -- a Member's up to a number
@@ -53,5 +53,5 @@ abbrev pub RepairedAreGiven : Type 0
 RepairedAreGiven = (rules : Rules) (events : List Event) (place : ℕ) → MayFound rules → place < 16 → lawful_front rules events ≡ events
     → MayRepair (run rules events) place
     → (name : ℕ) → name < 256 → has (members ((run rules events).nodes (current (run rules events) place))) name ≡ true
-    → GivesUpTo ((happen (run rules events) (settle_events rules (run rules events))).nodes name)
+    → GivesUpTo ((world_after_events (run rules events) (settle_events rules (run rules events))).nodes name)
     (top ((run rules events).nodes (current (run rules events) place)))

@@ -5,18 +5,18 @@ use Rattle.am_base.specs.declared.image.Report.{Report}
 use Rattle.am_base.specs.declared.image.Image.{Image}
 use Rattle.am_base.specs.declared.entry.Entry.{Entry}
 use Rattle.am_base.specs.declared.entry.Entry.TheVariants.{Data}
-use Rattle.am_base.specs.Names.{place_of, life_of, has, names_of}
-use Rattle.am_base.specs.Lists.{at_place, image_at, entry_at, members_at, fits}
-use Rattle.am_base.specs.Fronts.{counted_at}
+use Rattle.am_base.specs.Names.{place_of_name, life_of_name, has, names_of}
+use Rattle.am_base.specs.Lists.{row_at_place, log_image_at, log_entry_at, log_members_at, fits}
+use Rattle.am_base.specs.Fronts.{counting_names_at}
 use Rattle.am_packet.specs.declared.packet.Packet.{Packet}
 use Rattle.am_packet.specs.declared.packet.Packet.TheVariants.{Request, Spread, Bcast, Order, Accept, Ack, Nack, Hold, JoinAsk, Welcome, LeaveAsk, Gone, Fetch}
 use Rattle.am_packet.specs.declared.packet.Packet.TheVariants.{Piece, Result}
 use Rattle.am_packet.specs.Boxes.{Letter}
 use Rattle.am_group.specs.Journals.{letter_at}
-use Rattle.am_model.specs.Node.{Node, top, image_of, view, acts, is_member, is_sequencer, has_log, has_departed}
-use Rattle.am_model.specs.Calls.{is_unfinished}
+use Rattle.am_model.specs.Node.{Node, top, image_of_node, view, acts_in_its_view, is_member, is_sequencer, has_log_by_status, has_departed}
+use Rattle.am_model.specs.Calls.{is_unfinished_ballot}
 use Rattle.am_group_defs.specs.World.{World, current, is_stopped}
-use Rattle.am_step_laws.specs.Letters.{MayTell}
+use Rattle.am_step_laws.specs.Letters.{MayTellResult}
 use Rattle.am_repair.specs.Rows.{IsAtRest}
 
 -- what a schedule is about: the sequencer, its view and where its View stands, the members of its list as it began, and whose membership had
@@ -32,8 +32,8 @@ pub record Repair : Type 0 where
 
 -- a name was a member, and is none: it has left or was given up, or its place has a later life
 abbrev pub is_past : Image → ℕ → Bool
-is_past image name = nat_lt 0 (at_place image name).joined && (nat_lt (life_of name) (at_place image name).life
-    || (((at_place image name).life == life_of name) && nat_lt 0 (at_place image name).left))
+is_past image name = nat_lt 0 (row_at_place image name).joined && (nat_lt (life_of_name name) (row_at_place image name).life
+    || (((row_at_place image name).life == life_of_name name) && nat_lt 0 (row_at_place image name).left))
 
 -- ---- nodes
 
@@ -42,14 +42,14 @@ is_past image name = nat_lt 0 (at_place image name).joined && (nat_lt (life_of n
 pub record LeadsCalmly (r : Repair) (m : Node) : Type 0 where
   pub leads : is_sequencer m ≡ true
   pub view_ : view m ≡ r.view
-  pub number : (image_of m).view_number ≡ r.at
+  pub number : (image_of_node m).view_number ≡ r.at
   pub rest : IsAtRest m
   pub high : r.high ≤ top m
   pub reached : r.at ≤ r.high
-  pub fit : (k : ℕ) (e : Entry) → k ≤ r.high → entry_at m.core.log k ≡ Some e → fits (image_at m.core.log (k - 1)) e ≡ true
-  pub members_ : (name k : ℕ) → has r.members name ≡ true → r.high ≤ k → k ≤ top m → has (members_at m.core.log k) name ≡ true
-  pub gone : (name : ℕ) → r.gone name ≡ true → is_past (image_of m) name ≡ true
-  pub counted : (k : ℕ) → m.core.acc < k → k ≤ r.high → r.at ≤ k → All (λ name. has r.members name ≡ true) (names_of (counted_at m.core.log k))
+  pub fit : (k : ℕ) (e : Entry) → k ≤ r.high → log_entry_at m.core.log k ≡ Some e → fits (log_image_at m.core.log (k - 1)) e ≡ true
+  pub members_ : (name k : ℕ) → has r.members name ≡ true → r.high ≤ k → k ≤ top m → has (log_members_at m.core.log k) name ≡ true
+  pub gone : (name : ℕ) → r.gone name ≡ true → is_past (image_of_node m) name ≡ true
+  pub counted : (k : ℕ) → m.core.acc < k → k ≤ r.high → r.at ≤ k → All (λ name. has r.members name ≡ true) (names_of (counting_names_at m.core.log k))
 
 -- a member's list goes to this number at least, and tells what the sequencer's tells up to there; and the sequencer trims and knows no more of
 -- it than it has taken
@@ -57,13 +57,13 @@ pub record AgreesFrom (at : ℕ) (q m : Node) : Type 0 where
   pub reached : at ≤ top m
   pub low : q.core.log.start ≤ top m
   pub within : top m ≤ top q
-  pub told_ : image_of m ≡ image_at q.core.log (top m)
+  pub told_ : image_of_node m ≡ log_image_at q.core.log (top m)
   pub base : q.core.base ≤ m.core.taken
   pub reported : (q.reports m.core.who).taken ≤ m.core.taken
 
 -- a member, whose list has the view's View
 pub record FollowsView (r : Repair) (q m : Node) : Type 0 where
-  pub acts_ : acts m ≡ true
+  pub acts_ : acts_in_its_view m ≡ true
   pub view_ : view m ≡ r.view
   pub rest : IsAtRest m
   pub agrees : AgreesFrom r.at q m
@@ -79,9 +79,9 @@ pub record IsApart (r : Repair) (m : Node) : Type 0 where
 pub record IsLeaver (r : Repair) (m : Node) : Type 0 where
   pub gone : r.gone m.core.who ≡ true
   pub leaves : m.leaving ≡ true
-  pub log : has_log m.status ≡ true
-  pub no_ballot : is_unfinished m.ballot ≡ false
-  pub tells : MayTell m → m.core.promise.by ≡ m.core.who → ⊥
+  pub log : has_log_by_status m.status ≡ true
+  pub no_ballot : is_unfinished_ballot m.ballot ≡ false
+  pub tells : MayTellResult m → m.core.promise.by ≡ m.core.who → ⊥
 
 -- the one or the other
 abbrev pub IsElsewhere : Repair → Node → Type 0
@@ -95,7 +95,7 @@ pub record ReportIs (r : Repair) (w : World) (s : ℕ) (report : Report) : Type 
   pub taken : has r.members s ≡ true → report.taken ≤ (w.nodes s).core.taken
 
 abbrev pub SequencerHas : Repair → World → ℕ → Entry → Type 0
-SequencerHas r w number e = entry_at (w.nodes r.by).core.log number ≡ Some e
+SequencerHas r w number e = log_entry_at (w.nodes r.by).core.log number ≡ Some e
 
 abbrev pub IsCalm : Repair → World → Packet → Type 0
 IsCalm r w (Request s v report req body) = ReportIs r w s report
@@ -130,7 +130,7 @@ pub record Calm (r : Repair) (w : World) : Type 0 where
   pub nodes : CalmNodes r w.nodes
   pub open nodes use *
   -- members are there
-  pub current_ : (name : ℕ) → has r.members name ≡ true → current w (place_of name) ≡ name
+  pub current_ : (name : ℕ) → has r.members name ≡ true → current w (place_of_name name) ≡ name
   pub runs : (name : ℕ) → has r.members name ≡ true → is_stopped w name ≡ false
   -- and anybody else that runs is apart, or leaves
   pub apart : (name : ℕ) → has r.members name ≡ false → is_stopped w name ≡ false → has_departed (w.nodes name).status ≡ false

@@ -3,27 +3,27 @@ use Rattle.std.specs.Prelude.{◌≡◌, ℕ, List, length, take, ◌-◌, ◌<�
 use Rattle.am_base.specs.declared.entry.Entry.{Entry}
 use Rattle.am_base.specs.Founding.{Rules, MayFound}
 use Rattle.am_base.specs.Names.{has, names_of}
-use Rattle.am_base.specs.Lists.{image_at, entry_at, fits}
-use Rattle.am_base.specs.Fronts.{counted_at}
+use Rattle.am_base.specs.Lists.{log_image_at, log_entry_at, fits}
+use Rattle.am_base.specs.Fronts.{counting_names_at}
 use Rattle.am_group.specs.declared.event.Event.{Event}
-use Rattle.am_model.specs.Node.{Node, top, image_of, members, is_member}
+use Rattle.am_model.specs.Node.{Node, top, image_of_node, members, is_member}
 use Rattle.am_group_defs.specs.Settle.{settle_events}
-use Rattle.am_group_defs.specs.World.{World, current, is_stopped, happen, run}
+use Rattle.am_group_defs.specs.World.{World, current, is_stopped, world_after_events, run}
 use Rattle.am_base.specs.Whole as whole
 use Rattle.am_group_defs.specs.Lawful as lists
 use Rattle.am_group_defs.specs.Lawful.{lawful_front}
-use Rattle.am_step_laws.specs.Letters.{MayTell}
+use Rattle.am_step_laws.specs.Letters.{MayTellResult}
 use Rattle.am_repair.specs.Claim.{MayRepair, HasCaughtUp}
 use Rattle.am_repair.specs.Calm.{AgreesFrom, is_past}
 
 -- a member's list has the sequencer's last View, and agrees with it from there
 abbrev pub Agrees : Node → Node → Type 0
-Agrees q m = AgreesFrom (image_of q).view_number q m
+Agrees q m = AgreesFrom (image_of_node q).view_number q m
 
 -- its membership has ended in the sequencer's list, and it tells no View of its own
 pub record HasLeft (q m : Node) : Type 0 where
-  pub past : is_past (image_of q) m.core.who ≡ true
-  pub tells : MayTell m → m.core.promise.by ≡ m.core.who → ⊥
+  pub past : is_past (image_of_node q) m.core.who ≡ true
+  pub tells : MayTellResult m → m.core.promise.by ≡ m.core.who → ⊥
 
 -- of the sequencer of a group that may be repaired
 pub record Agree (w : World) (q : Node) : Type 0 where
@@ -33,17 +33,17 @@ pub record Agree (w : World) (q : Node) : Type 0 where
       → has (members q) name ≡ true
   pub left : (name : ℕ) → is_member (w.nodes name).status ≡ true → is_stopped w name ≡ false → (w.nodes name).leaving ≡ true → HasLeft q (w.nodes name)
   -- its entries fit
-  pub fit : (number : ℕ) (e : Entry) → entry_at q.core.log number ≡ Some e → fits (image_at q.core.log (number - 1)) e ≡ true
+  pub fit : (number : ℕ) (e : Entry) → log_entry_at q.core.log number ≡ Some e → fits (log_image_at q.core.log (number - 1)) e ≡ true
   -- from the last View on, whose storage counts for what isn't accepted yet is a member still
-  pub counted : (number : ℕ) → q.core.acc < number → number ≤ top q → (image_of q).view_number ≤ number
-      → All (λ name. has (members q) name ≡ true) (names_of (counted_at q.core.log number))
+  pub counted : (number : ℕ) → q.core.acc < number → number ≤ top q → (image_of_node q).view_number ≤ number
+      → All (λ name. has (members q) name ≡ true) (names_of (counting_names_at q.core.log number))
 
 -- where lists agree so, a lossless schedule brings each member to where the sequencer stood
 abbrev pub RepairsWhereListsAgree : Type 0
 RepairsWhereListsAgree = (rules : Rules) (events : List Event) (place : ℕ) → MayFound rules → place < 16 → MayRepair (run rules events) place
     → Agree (run rules events) ((run rules events).nodes (current (run rules events) place))
     → (name : ℕ) → has (members ((run rules events).nodes (current (run rules events) place))) name ≡ true
-    → HasCaughtUp ((happen (run rules events) (settle_events rules (run rules events))).nodes name)
+    → HasCaughtUp ((world_after_events (run rules events) (settle_events rules (run rules events))).nodes name)
     (top ((run rules events).nodes (current (run rules events) place)))
 
 -- ---- what of this one list gives
@@ -51,26 +51,26 @@ RepairsWhereListsAgree = (rules : Rules) (events : List Event) (place : ℕ) →
 -- a node's whole list begins the sequencer's; and where it begins itself, the group had accepted so much, and its image tells just that
 pub record IsBeginning (w : World) (q m : Node) : Type 0 where
   pub within : m.core.log.start ≤ length w.group
-  pub image : m.core.log.image ≡ whole.image_of (take m.core.log.start w.group)
-  pub begins : whole.Begins (lists.whole w m) (lists.whole w q)
+  pub image : m.core.log.image ≡ whole.image_of_list (take m.core.log.start w.group)
+  pub begins : whole.IsBeginningOf (lists.whole w m) (lists.whole w q)
 
 -- The sequencer's whole list fits, and the one of each Member that runs begins it. Each of them is a member by it, or was one and leaves. And
 -- nobody else of them tells a View of its own.
 pub record IsOneList (w : World) (q : Node) : Type 0 where
-  pub good : whole.IsGood (lists.whole w q)
+  pub good : whole.IsGoodList (lists.whole w q)
   pub each : (name : ℕ) → is_member (w.nodes name).status ≡ true → is_stopped w name ≡ false → IsBeginning w q (w.nodes name)
   pub listed : (name : ℕ) → is_member (w.nodes name).status ≡ true → is_stopped w name ≡ false → (w.nodes name).leaving ≡ false
-      → whole.mem (lists.whole w q) name ≡ true
-  pub past : (name : ℕ) → is_member (w.nodes name).status ≡ true → is_stopped w name ≡ false → whole.mem (lists.whole w q) name ≡ false
-      → is_past (whole.image_of (lists.whole w q)) name ≡ true
-  pub tells : (name : ℕ) → is_member (w.nodes name).status ≡ true → is_stopped w name ≡ false → MayTell (w.nodes name)
+      → whole.is_member_at_end (lists.whole w q) name ≡ true
+  pub past : (name : ℕ) → is_member (w.nodes name).status ≡ true → is_stopped w name ≡ false → whole.is_member_at_end (lists.whole w q) name ≡ false
+      → is_past (whole.image_of_list (lists.whole w q)) name ≡ true
+  pub tells : (name : ℕ) → is_member (w.nodes name).status ≡ true → is_stopped w name ≡ false → MayTellResult (w.nodes name)
       → (w.nodes name).core.promise.by ≡ (w.nodes name).core.who → name ≡ q.core.who
 
 -- what is left: the sequencer trims no more than each member has taken, and who has left is accepted to have left
 pub record IsSettled (w : World) (q : Node) : Type 0 where
   pub trims : (name : ℕ) → has (members q) name ≡ true → q.core.base ≤ (w.nodes name).core.taken
-  pub counted : (number : ℕ) → q.core.acc < number → number ≤ top q → (image_of q).view_number ≤ number
-      → All (λ name. has (members q) name ≡ true) (names_of (counted_at q.core.log number))
+  pub counted : (number : ℕ) → q.core.acc < number → number ≤ top q → (image_of_node q).view_number ≤ number
+      → All (λ name. has (members q) name ≡ true) (names_of (counting_names_at q.core.log number))
 
 abbrev pub OneListAgrees : Type 0
 OneListAgrees = (rules : Rules) (events : List Event) (place : ℕ) → MayFound rules → place < 16 → MayRepair (run rules events) place

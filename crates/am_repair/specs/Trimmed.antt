@@ -2,17 +2,17 @@
 use Rattle.std.specs.Prelude.{◌≡◌, ℕ, ◌<◌, ◌≤◌, List, All, true}
 use Rattle.am_base.specs.Founding.{Rules, MayFound}
 use Rattle.am_base.specs.Names.{has, names_of}
-use Rattle.am_base.specs.Fronts.{counted_at}
+use Rattle.am_base.specs.Fronts.{counting_names_at}
 use Rattle.am_group.specs.declared.event.Event.{Event}
-use Rattle.am_model.specs.Node.{Node, top, image_of, members}
+use Rattle.am_model.specs.Node.{Node, top, image_of_node, members}
 use Rattle.am_group_defs.specs.World.{World, current, run}
 use Rattle.am_group_defs.specs.Lawful.{lawful_front}
 use Rattle.am_repair.specs.Claim.{MayRepair}
 
 -- from the last View on, whose storage counts for what isn't accepted yet is a member still
 abbrev pub CountsMembers : Node → Type 0
-CountsMembers q = (number : ℕ) → q.core.acc < number → number ≤ top q → (image_of q).view_number ≤ number
-    → All (λ name. has (members q) name ≡ true) (names_of (counted_at q.core.log number))
+CountsMembers q = (number : ℕ) → q.core.acc < number → number ≤ top q → (image_of_node q).view_number ≤ number
+    → All (λ name. has (members q) name ≡ true) (names_of (counting_names_at q.core.log number))
 
 abbrev pub RepairableCounts : Type 0
 RepairableCounts = (rules : Rules) (events : List Event) (place : ℕ) → MayFound rules → place < 16 → lawful_front rules events ≡ events

@@ -3,13 +3,13 @@ use Rattle.std.specs.Prelude.{◌≡◌, ℕ, ◌+◌, ◌-◌, ◌<◌, ◌≤�
 use Rattle.am_base.specs.declared.image.Report.{Report}
 use Rattle.am_base.specs.declared.entry.Entry.{Entry}
 use Rattle.am_base.specs.Founding.{Rules}
-use Rattle.am_base.specs.Lists.{entry_at}
+use Rattle.am_base.specs.Lists.{log_entry_at}
 use Rattle.am_packet.specs.declared.packet.Packet.{Packet}
 use Rattle.am_packet.specs.declared.packet.Packet.TheVariants.{Bcast, Accept, Nack}
 use Rattle.am_packet.specs.Boxes.{Letter, letter_to}
 use Rattle.am_group.specs.Addressed.{is_for}
 use Rattle.am_group.specs.Journals.{letter_at}
-use Rattle.am_model.specs.Node.{only_name}
+use Rattle.am_model.specs.Node.{set_of_one_name}
 use Rattle.am_group_defs.specs.World.{World}
 use Rattle.am_repair.specs.Rows.{PacketIsReport}
 use Rattle.am_repair.specs.Calm.{Repair}
@@ -70,8 +70,8 @@ pub record IsServed (rules : Rules) (r : Repair) (i letter number : ℕ) (w : Wo
   pub base : ℕ
   pub acc : ℕ
   pub entry : Entry
-  pub there : letter_at w.letters letter ≡ Some (letter_to (only_name i) (Bcast r.by r.view base acc number entry))
-  pub stands : entry_at (w.nodes r.by).core.log number ≡ Some entry
+  pub there : letter_at w.letters letter ≡ Some (letter_to (set_of_one_name i) (Bcast r.by r.view base acc number entry))
+  pub stands : log_entry_at (w.nodes r.by).core.log number ≡ Some entry
   pub taken : base ≤ (w.nodes i).core.taken
   pub within : number - base ≤ rules.window + 15
 

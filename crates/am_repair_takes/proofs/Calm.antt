@@ -1,13 +1,13 @@
 -- A calm world stays calm where applications take.
 use Rattle.am_repair_takes.proofs.Words.{◌≡◌, inl, inr, either, ℕ, ◌+◌, ◌<◌, ◌≤◌, ◌==◌, true, false, List, [], ◌∷◌, refl, sym, ap, ◌∙◌, subst, arith}
-use Rattle.am_repair_takes.proofs.Words.{split_on_bool, nat_tests, All, All-head, All-tail, eqb-true, eq-eqb, Outcome, Rules, has, Log, top_of}
-use Rattle.am_repair_takes.proofs.Words.{told_by, image_at, Event, Node, top, is_member, has_departed, is_unfinished, Step, step, refresh, refresh_at_end}
-use Rattle.am_repair_takes.proofs.Words.{settle_changes_only_sends, World, is_stopped, run, start, with_record, with_step, happens, happen, runs_go_on}
-use Rattle.am_repair_takes.proofs.Words.{events_have_effects, actor, MayTell, leads, decided, WorldTrimsOnlyTaken, each_node_trims_only_taken, events_trim_only_taken, actor_is_below_256, run_trims_only_taken, NodeTrimFronts, event_at, Act}
+use Rattle.am_repair_takes.proofs.Words.{split_on_bool, nat_tests, All, All-head, All-tail, eqb-true, eq-eqb, Outcome, Rules, has, Log, top_of_log}
+use Rattle.am_repair_takes.proofs.Words.{image_of_log, log_image_at, Event, Node, top, is_member, has_departed, is_unfinished_ballot, StepResult, step, refresh, refresh_at_end}
+use Rattle.am_repair_takes.proofs.Words.{settle_changes_only_sends, World, is_stopped, run, start, world_with_record, world_with_step, happens, world_after_events, runs_go_on}
+use Rattle.am_repair_takes.proofs.Words.{events_have_effects, acting_name, MayTellResult, leads, decided, WorldTrimsOnlyTaken, each_node_trims_only_taken, events_trim_only_taken, actor_is_below_256, run_trims_only_taken, NodeTrimFronts, event_at, Act}
 use Rattle.am_repair_takes.proofs.Words.{Repair, LeadsCalmly, FollowsView, IsElsewhere, Calm, CalmNodes, NodesStandAlike}
 use Rattle.am_repair_takes.proofs.Words.{views_of_alike_nodes, acts_of_alike_nodes, is_sequencer_of_alike_nodes, alike_node_is_at_rest, TrustsReportsTaken, alike_node_leads_repair, trusts_reports_after_refresh, LogGrows, log_grows_to_itself, stored_reports_after_end, RepairWorldGrows}
 use Rattle.am_repair_takes.proofs.Words.{packet_stays_calm_later, WorldKeepsLawsAndCalm, laws_and_calm_stay, letter_at_of_appended_letters, IsTaking, ours, takes_one, TakingStaysCalm}
-use Rattle.am_repair_takes.proofs.Words.{has_log, Stamp, Bool, if◌then◌else◌}
+use Rattle.am_repair_takes.proofs.Words.{has_log_by_status, Stamp, Bool, if◌then◌else◌}
 use Rattle.am_base.specs.declared.outcome.Outcome.TheVariants as said
 use Rattle.am_base.specs.declared.event.NodeEvent.TheVariants as does
 use Rattle.am_repair_takes.proofs.Rows.{Took, nothing, next, take_is, take_node, take_letters, take_alike, took_alike}
@@ -23,7 +23,7 @@ record IsAlike (r : Repair) (w v : World) : Type 0 where
 grows_alike : (r : Repair) (w v : World) → IsAlike r w v → RepairWorldGrows r w v
 grows_alike r w v a = record {
   log = subst (λ (l : Log). LogGrows (w.nodes r.by).core.log l) (sym (a.each r.by).log) (log_grows_to_itself (w.nodes r.by).core.log);
-  stored = λ name there. (let same = ap (λ (l : Log). top_of l) (a.each name).log in omega arith);
+  stored = λ name there. (let same = ap (λ (l : Log). top_of_log l) (a.each name).log in omega arith);
   taken = λ name there. (a.each name).taken;
   acc = λ name there. (a.each name).acc;
   kept = λ name there. a.kept name;
@@ -35,8 +35,8 @@ follows_alike r w v name h a there other =
     let f = h.follows name there other in
     let x = a.each name in
     let q = a.each r.by in
-    let same = ap (λ (l : Log). top_of l) x.log in
-    let high = ap (λ (l : Log). top_of l) q.log in
+    let same = ap (λ (l : Log). top_of_log l) x.log in
+    let high = ap (λ (l : Log). top_of_log l) q.log in
     let from = ap (λ (l : Log). l.start) q.log in
     let reached = f.reached in let low = f.low in let within = f.within in
     let base = a.trusts.base name there other in
@@ -51,13 +51,13 @@ follows_alike r w v name h a there other =
         reached = omega arith;
         low = omega arith;
         within = omega arith;
-        told_ = ap told_by x.log ∙ f.told_ ∙ ap (λ (l : Log). image_at l (top (w.nodes name))) (sym q.log) ∙ ap (image_at (v.nodes r.by).core.log) (sym same);
+        told_ = ap image_of_log x.log ∙ f.told_ ∙ ap (λ (l : Log). log_image_at l (top (w.nodes name))) (sym q.log) ∙ ap (log_image_at (v.nodes r.by).core.log) (sym same);
         base = omega arith;
         reported = omega arith;
       };
     }
 
-tells_alike : (m n : Node) → NodesStandAlike m n → MayTell n → MayTell m
+tells_alike : (m n : Node) → NodesStandAlike m n → MayTellResult n → MayTellResult m
 tells_alike m n a (leads t) = leads (sym (is_sequencer_of_alike_nodes a) ∙ t)
 tells_alike m n a (decided b number names is answer same) = decided b number names (sym a.ballot ∙ is) answer (sym (views_of_alike_nodes a) ∙ same)
 
@@ -70,8 +70,8 @@ apart_alike r m n a (inl h) = inl (record {
 apart_alike r m n a (inr h) = inr (record {
   gone = ap r.gone a.who ∙ h.gone;
   leaves = a.leaving ∙ h.leaves;
-  log = subst (λ x. has_log x ≡ true) (sym a.status) h.log;
-  no_ballot = ap is_unfinished a.ballot ∙ h.no_ballot;
+  log = subst (λ x. has_log_by_status x ≡ true) (sym a.status) h.log;
+  no_ballot = ap is_unfinished_ballot a.ballot ∙ h.no_ballot;
   tells = λ t mine. h.tells (tells_alike m n a t) (ap (λ (s : Stamp). s.by) (sym a.promise) ∙ mine ∙ a.who);
 })
 
@@ -99,10 +99,10 @@ same_alike r w v h same = subst (λ nodes. IsAlike r w (record v { nodes = nodes
       reported = λ name there other. subst (λ k. ((w.nodes r.by).reports k).taken ≤ (w.nodes name).core.taken) (h.who name) (h.follows name there other).reported;
     }
 
-calm_recorded : (r : Repair) (w : World) (e : Event) (o : Outcome) → Calm r w → Calm r (with_record w e o) × RepairWorldGrows r w (with_record w e o)
-unfolding with_record
+calm_recorded : (r : Repair) (w : World) (e : Event) (o : Outcome) → Calm r w → Calm r (world_with_record w e o) × RepairWorldGrows r w (world_with_record w e o)
+unfolding world_with_record
 calm_recorded r w e o h =
-    let v = with_record w e o in
+    let v = world_with_record w e o in
     let a = same_alike r w v h refl in
     let grow = grows_alike r w v a in (
       record {
@@ -172,8 +172,8 @@ record OneChanged (w v : World) (name : ℕ) (n : Node) : Type 0 where
   here : v.nodes name ≡ n
   others : (other : ℕ) → (other == name) ≡ false → v.nodes other ≡ w.nodes other
 
-one_changed : (w : World) (e : Event) (name : ℕ) (s : Step) → OneChanged w (with_step w e name s) name s.node
-unfolding with_step
+one_changed : (w : World) (e : Event) (name : ℕ) (s : StepResult) → OneChanged w (world_with_step w e name s) name s.node
+unfolding world_with_step
 one_changed w e name s = record { here = (let t = eq-eqb name name refl in rw t refl); others = λ other f. rw f refl }
 
 take_is_alike : (rules : Rules) (r : Repair) (w v : World) (name : ℕ) → WorldTrimsOnlyTaken rules w → Calm r w → name < 256
@@ -198,11 +198,11 @@ take_is_alike rules r w v name laws h few ch =
     }
 
 calm_taken : (rules : Rules) (r : Repair) (w : World) (e : Event) (name : ℕ) → WorldTrimsOnlyTaken rules w → Calm r w → name < 256
-    → (let v = with_step w e name (step (w.nodes name) does.Take) in Calm r v × RepairWorldGrows r w v)
-unfolding with_step
+    → (let v = world_with_step w e name (step (w.nodes name) does.Take) in Calm r v × RepairWorldGrows r w v)
+unfolding world_with_step
 calm_taken rules r w e name laws h few =
     let s = step (w.nodes name) does.Take in
-    let v = with_step w e name s in
+    let v = world_with_step w e name s in
     let a = take_is_alike rules r w v name laws h few (one_changed w e name s) in
     let grow = grows_alike r w v a in (
       record {
@@ -227,7 +227,7 @@ pub take_goes : (rules : Rules) (r : Repair) (w : World) (place : ℕ) → World
 unfolding happens
 take_goes rules r w place h =
     let e = event_at place Act.Take in
-    let name = actor w e in
+    let name = acting_name w e in
     by_if (λ v. Calm r v × RepairWorldGrows r w v) (is_stopped w name) _ _ (calm_recorded r w e said.IsStopped h.calm)
     (calm_taken rules r w e name h.laws h.calm (actor_is_below_256 rules w e h.laws.blanks.base.named))
 
@@ -242,8 +242,8 @@ pub one_fine : (rules : Rules) (r : Repair) (w : World) (e : Event) → IsTaking
 one_fine rules r w e (ours e_ is) h = laws_and_calm_stay rules r w e is h
 one_fine rules r w e (takes_one place) h = take_fine rules r w place h
 
-all_fine : (rules : Rules) (r : Repair) (w : World) (more : List Event) → All (IsTaking r) more → WorldKeepsLawsAndCalm rules r w → WorldKeepsLawsAndCalm rules r (happen w more)
-unfolding happen
+all_fine : (rules : Rules) (r : Repair) (w : World) (more : List Event) → All (IsTaking r) more → WorldKeepsLawsAndCalm rules r w → WorldKeepsLawsAndCalm rules r (world_after_events w more)
+unfolding world_after_events
 all_fine rules r w [] all h = h
 all_fine rules r w (e ∷ es) all h = all_fine rules r (happens w e) es (All-tail (IsTaking r) e es all) (one_fine rules r w e (All-head (IsTaking r) e es all) h)
 

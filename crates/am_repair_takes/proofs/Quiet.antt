@@ -1,21 +1,21 @@
 -- What stays so while a schedule with takes runs in a group in one view in which nobody asks to join: its sequencer's list goes on by sends
 -- of its members alone, each of which was waiting.
 use Rattle.am_repair.proofs.RepairWords.{◌≡◌, ◌⊎◌, inl, inr, either, ℕ, zero, suc, ◌+◌, ◌-◌, ◌<◌, ◌≤◌, ◌==◌, Bool, true, false, List, [], ◌∷◌, ◌++◌, length, Some}
-use Rattle.am_repair.proofs.RepairWords.{slice_get, refl, sym, ap, ◌∙◌, subst, arith, split_on_bool, nat_tests, eqb-true, eq-eqb, All, all_gives_slice_get, cases_lt, length-append}
-use Rattle.am_repair.proofs.RepairWords.{if◌then◌else◌, MayFound, Act, Rules, place_of, has, names_of, Packet, Letter, Letter, letter_to, letter_at, Event, Entry, Data, Leave}
-use Rattle.am_repair.proofs.RepairWords.{Image, Log, top_of, told_by, members_of, members_at, entry_at, image_at, counted_at, counted_of, with_entry, fits, after}
-use Rattle.am_repair.proofs.RepairWords.{image_at_top_is_told, slice_get_of_append_back, Node, Ballot, top, image_of, members, push_entry, is_sequencer, is_asking, has_departed, others, size}
-use Rattle.am_repair.proofs.RepairWords.{accept_of, tells_accepted, Plan, quiet, finish, step, row, refresh, refresh_at_end, settle, lead, own_report, tell, go_on}
-use Rattle.am_repair.proofs.RepairWords.{let_go, accept, pass_over, CoreState, Stamp, Report, Outcome, Verdict, Step, World, is_stopped, run, start, happens, happen}
-use Rattle.am_repair.proofs.RepairWords.{with_record, with_step, event_at, runs_go_on, Cause, calls, hears, refuses, BringsReport, Looks, Numbers, asked_send, own_send}
+use Rattle.am_repair.proofs.RepairWords.{slice_get, refl, sym, ap, ◌∙◌, subst, arith, split_on_bool, nat_tests, eqb-true, eq-eqb, All, item_of_index_has_property, cases_lt, length-append}
+use Rattle.am_repair.proofs.RepairWords.{if◌then◌else◌, MayFound, Act, Rules, place_of_name, has, names_of, Packet, Letter, Letter, letter_to, letter_at, Event, Entry, Data, Leave}
+use Rattle.am_repair.proofs.RepairWords.{Image, Log, top_of_log, image_of_log, members_of_image, log_members_at, log_entry_at, log_image_at, counting_names_at, counting_names_of_entry, log_with_entry, fits, after}
+use Rattle.am_repair.proofs.RepairWords.{image_at_top_is_told, slice_get_of_append_back, Node, Ballot, top, image_of_node, members, push_entry, is_sequencer, is_asking_status, has_departed, other_members, size}
+use Rattle.am_repair.proofs.RepairWords.{accept_packet_of, sends_accept, Plan, plan_without_letters, finish, step, row, refresh, refresh_at_end, settle_waiting_send, refresh_as_sequencer, raise_own_report, tell_accept_front, advance_with_reports}
+use Rattle.am_repair.proofs.RepairWords.{trim_to_least_taken, raise_accepted_to_told, pass_over_below_join, CoreState, Stamp, Report, Outcome, BallotVerdict, StepResult, World, is_stopped, run, start, happens, world_after_events}
+use Rattle.am_repair.proofs.RepairWords.{world_with_record, world_with_step, event_at, runs_go_on, Cause, calls, hears, refuses, CauseHasReport, LooksAtBallot, IsNumberedBy, asked_send, own_send}
 use Rattle.am_repair.proofs.RepairWords.{asked_join, asked_leave, Change, refreshes, settles, takes_report, admits, numbers, keeps_body, notes, stores, begins_list}
 use Rattle.am_repair.proofs.RepairWords.{departs, promises, opens, looks, fetches, stores_view, queues, collects, takes, asks_to_join, asks_to_leave, closes}
-use Rattle.am_repair.proofs.RepairWords.{invited, overtaken, told_result, Changes, no_change, changed, settle_changes_only_sends, refresh_rests_with_list, end_refresh_rests_with_list, stamp_eq_gives_equality, actor, IsCause}
-use Rattle.am_repair.proofs.RepairWords.{WasSentTo, heard_by, Effect, LetterSays, Says, actor_is_below_256, heard_stamps_have_names, HeardStampsHaveNames, HeardWelcomeImageIsUsed, heard_welcome_image_is_used, TrimsOnlyTakenAlongStep, changes_trim_only_taken}
+use Rattle.am_repair.proofs.RepairWords.{invited, overtaken, told_result, Changes, no_change, changed, settle_changes_only_sends, refresh_rests_with_list, end_refresh_rests_with_list, stamp_eq_gives_equality, acting_name, IsCause}
+use Rattle.am_repair.proofs.RepairWords.{WasSentTo, packet_heard_by_act, Effect, LetterSays, Says, actor_is_below_256, heard_stamps_have_names, HeardStampsHaveNames, HeardWelcomeImageIsUsed, heard_welcome_image_is_used, TrimsOnlyTakenAlongStep, changes_trim_only_taken}
 use Rattle.am_repair.proofs.RepairWords.{each_node_trims_only_taken, WorldTrimsOnlyTaken, run_trims_only_taken, NodeTrimFronts, told_image_is_used, UnusedPlacesHaveNoLife, Repair, LeadsCalmly, Calm, IsOurs, our_ticks, hears_}
 use Rattle.am_step_laws.specs.Looks.{finds_itself_out}
 use Rattle.am_step_laws.specs.Letters.{join_ask}
-use Rattle.am_step_laws.specs.Causes.{BringsSend, by_request, by_spread}
+use Rattle.am_step_laws.specs.Causes.{CauseHasSend, by_request, by_spread}
 use Rattle.am_base.specs.declared.event.NodeEvent.TheVariants as does
 use Rattle.am_base.specs.declared.outcome.Outcome.TheVariants as said
 use Rattle.am_node_defs.proofs.{Members.members_of_after_data, Ends.told_by_pushed_entry, Lines.waiting_request_le_last}
@@ -24,7 +24,7 @@ use Rattle.am_step_laws.proofs.Numbers.Counts.{base_after_keeps_lower_bound}
 use Rattle.am_step_laws.proofs.Rests.{settle_keeps_property}
 use Rattle.am_step_laws.proofs.Nodes.{heard_packet_has_property}
 use Rattle.am_step_laws.proofs.Hearing.{steps_have_effects}
-use Rattle.am_step_laws.proofs.Words.{refresh_changes_only_fronts, row_of}
+use Rattle.am_step_laws.proofs.Words.{refresh_changes_only_fronts, row_of_name}
 use Rattle.am_repair.proofs.Nodes.{CalmCause, acting_member_promised_its_view, sequencer_acts_by_own_view, finished_ballot_is_not_open}
 use Rattle.am_repair.proofs.Ends.{hearer_of_sequencer_leads_not, after_report_is_no_less}
 use Rattle.am_repair.proofs.Saying.{entry_at_of_list_item}
@@ -37,7 +37,7 @@ use Rattle.am_repair.proofs.Silent.{step_sends_nothing_or_stays, sender_of_effec
 use Rattle.am_repair.proofs.Fine.{WorldKeepsLawsAndCalm, letters_grow_by_event}
 use Rattle.am_repair.proofs.Answered.Outs.{AllSendsHaveGoneOut, greatest_requests_gone_out, PacketHasGoneOut, run_sends_have_gone_out}
 use Rattle.am_repair_takes.specs.Taking.{IsTaking, ours, takes_one}
-use Rattle.am_repair_takes.specs.Resting.{NobodyAsks, unnumbered}
+use Rattle.am_repair_takes.specs.Resting.{NobodyAsks, count_of_unnumbered_sends}
 use Rattle.am_repair_takes.proofs.Rows.{Took, nothing as none_taken, next as one_taken, take_is, take_node, take_alike}
 use Rattle.am_repair_takes.proofs.Calm.{one_fine}
 use Rattle.am_repair_takes.proofs.Sums.{set_falls}
@@ -49,69 +49,69 @@ use Rattle.am_repair_takes.proofs.Stands.{IsNumbered, last_rises, member_stays, 
 -- From where it went on it told the same members, and by sends alone; its entries fit. And as many entries as it has, with the sends that it
 -- hasn't numbered, are no more than so many.
 pub record Ours (r : Repair) (last : ℕ → ℕ) (total : ℕ) (log : Log) : Type 0 where
-  pub members_ : (k : ℕ) → r.high ≤ k → k ≤ top_of log → members_at log k ≡ r.members
-  pub counted_ : (k : ℕ) → r.high < k → k ≤ top_of log → counted_at log k ≡ r.members
-  pub fit_ : (k : ℕ) (e : Entry) → entry_at log k ≡ Some e → fits (image_at log (k - 1)) e ≡ true
-  pub few : top_of log + unnumbered last (told_by log) (names_of r.members) ≤ total
+  pub members_ : (k : ℕ) → r.high ≤ k → k ≤ top_of_log log → log_members_at log k ≡ r.members
+  pub counted_ : (k : ℕ) → r.high < k → k ≤ top_of_log log → counting_names_at log k ≡ r.members
+  pub fit_ : (k : ℕ) (e : Entry) → log_entry_at log k ≡ Some e → fits (log_image_at log (k - 1)) e ≡ true
+  pub few : top_of_log log + count_of_unnumbered_sends last (image_of_log log) (names_of r.members) ≤ total
 
-pub members_now : (r : Repair) (last : ℕ → ℕ) (total : ℕ) (log : Log) → r.high ≤ top_of log → Ours r last total log → members_of (told_by log) ≡ r.members
-members_now r last total log high h = ap members_of (sym (image_at_top_is_told log)) ∙ h.members_ (top_of log) high (omega arith)
+pub members_now : (r : Repair) (last : ℕ → ℕ) (total : ℕ) (log : Log) → r.high ≤ top_of_log log → Ours r last total log → members_of_image (image_of_log log) ≡ r.members
+members_now r last total log high h = ap members_of_image (sym (image_at_top_is_told log)) ∙ h.members_ (top_of_log log) high (omega arith)
 
-entry_last : (log : Log) (e : Entry) → entry_at (with_entry log e) (top_of log + 1) ≡ Some e
-entry_last log e = entry_at_of_list_item (with_entry log e) (length log.entries + 0) (top_of log + 1) e (slice_get_of_append_back log.entries (e ∷ []) 0) (omega arith)
+entry_last : (log : Log) (e : Entry) → log_entry_at (log_with_entry log e) (top_of_log log + 1) ≡ Some e
+entry_last log e = entry_at_of_list_item (log_with_entry log e) (length log.entries + 0) (top_of_log log + 1) e (slice_get_of_append_back log.entries (e ∷ []) 0) (omega arith)
 
 -- one send fewer has no number
-numbered_one : (last : ℕ → ℕ) (image : Image) (n from req : ℕ) (body : List ℕ) (set : List ℕ) → length set ≡ 16 → UnusedPlacesHaveNoLife image → members_of image ≡ set
+numbered_one : (last : ℕ → ℕ) (image : Image) (n from req : ℕ) (body : List ℕ) (set : List ℕ) → length set ≡ 16 → UnusedPlacesHaveNoLife image → members_of_image image ≡ set
     → fits image (Data from req body) ≡ true → has set from ≡ true → req ≤ last from
-    → unnumbered last (after image n (Data from req body)) (names_of set) + 1 ≤ unnumbered last image (names_of set)
+    → count_of_unnumbered_sends last (after image n (Data from req body)) (names_of set) + 1 ≤ count_of_unnumbered_sends last image (names_of set)
 numbered_one last image n from req body set long used is fit there low =
     let e = Data from req body in
     let goes = data_row_goes_on image n from req body fit in
     let next = goes.0 in
     let now = goes.1 in
-    set_falls (λ name. last name - (row_of (after image n e) name).last) (λ name. last name - (row_of image name).last) set from long there
+    set_falls (λ name. last name - (row_of_name (after image n e) name).last) (λ name. last name - (row_of_name image name).last) set from long there
     (λ other here. (let up = last_rises image n e other used fit
     (member_stays image other used.places (subst (λ s. has s other ≡ true) (sym is) here)) in omega arith))
     (omega arith)
 
-ours_pushed : (r : Repair) (last : ℕ → ℕ) (total : ℕ) (log : Log) (from req : ℕ) (body : List ℕ) → length r.members ≡ 16 → UnusedPlacesHaveNoLife (told_by log)
-    → r.high ≤ top_of log → fits (told_by log) (Data from req body) ≡ true → has r.members from ≡ true → req ≤ last from → Ours r last total log
-    → Ours r last total (with_entry log (Data from req body))
+ours_pushed : (r : Repair) (last : ℕ → ℕ) (total : ℕ) (log : Log) (from req : ℕ) (body : List ℕ) → length r.members ≡ 16 → UnusedPlacesHaveNoLife (image_of_log log)
+    → r.high ≤ top_of_log log → fits (image_of_log log) (Data from req body) ≡ true → has r.members from ≡ true → req ≤ last from → Ours r last total log
+    → Ours r last total (log_with_entry log (Data from req body))
 ours_pushed r last total log from req body long used high fit there low h =
     let e = Data from req body in
-    let new = with_entry log e in
-    let more : top_of new ≡ top_of log + 1 = simp length-append (omega arith) in
+    let new = log_with_entry log e in
+    let more : top_of_log new ≡ top_of_log log + 1 = simp length-append (omega arith) in
     let grows = log_grows_by_push log e in
     let told_ = told_by_pushed_entry log e in
     let members_new = members_now r last total log high h in
     record {
-      members_ = λ k above within. elim (cases_lt k (top_of log + 1)) [
-        | inl old ↦ ap members_of (grows.image k (omega arith)) ∙ h.members_ k above (omega arith)
-        | inr now ↦ (let at : k ≡ top_of new = omega arith in
-            ap (members_at new) at ∙ ap members_of (image_at_top_is_told new ∙ told_) ∙ members_of_after_data (told_by log) (top_of log + 1) from req body ∙ members_new)
+      members_ = λ k above within. elim (cases_lt k (top_of_log log + 1)) [
+        | inl old ↦ ap members_of_image (grows.image k (omega arith)) ∙ h.members_ k above (omega arith)
+        | inr now ↦ (let at : k ≡ top_of_log new = omega arith in
+            ap (log_members_at new) at ∙ ap members_of_image (image_at_top_is_told new ∙ told_) ∙ members_of_after_data (image_of_log log) (top_of_log log + 1) from req body ∙ members_new)
       ];
-      counted_ = λ k above within. elim (cases_lt k (top_of log + 1)) [
+      counted_ = λ k above within. elim (cases_lt k (top_of_log log + 1)) [
         | inl old ↦ counted_at_in_grown_log log new k grows (omega arith) ∙ h.counted_ k above (omega arith)
-        | inr now ↦ (let at : k ≡ top_of log + 1 = omega arith in
-            let entry : entry_at new k ≡ Some e = ap (entry_at new) at ∙ entry_last log e in
-            let before : k - 1 ≡ top_of log = omega arith in
-            ap (λ x. counted_of x (members_at new (k - 1))) entry ∙ ap (members_at new) before
-            ∙ ap members_of (grows.image (top_of log) (omega arith)) ∙ h.members_ (top_of log) high (omega arith))
+        | inr now ↦ (let at : k ≡ top_of_log log + 1 = omega arith in
+            let entry : log_entry_at new k ≡ Some e = ap (log_entry_at new) at ∙ entry_last log e in
+            let before : k - 1 ≡ top_of_log log = omega arith in
+            ap (λ x. counting_names_of_entry x (log_members_at new (k - 1))) entry ∙ ap (log_members_at new) before
+            ∙ ap members_of_image (grows.image (top_of_log log) (omega arith)) ∙ h.members_ (top_of_log log) high (omega arith))
       ];
-      fit_ = λ k x is. elim (cases_lt k (top_of log + 1)) [
+      fit_ = λ k x is. elim (cases_lt k (top_of_log log + 1)) [
         | inl old ↦ ap (λ (i : Image). fits i x) (grows.image (k - 1) (omega arith)) ∙ h.fit_ k x (sym (grows.entry k (omega arith)) ∙ is)
         | inr now ↦ (let within = entry_at_is_within_log new k x is in
             let high_ = within.1 in
-            let at : k ≡ top_of log + 1 = omega arith in
-            let same : Some e ≡ Some x = sym (entry_last log e) ∙ ap (entry_at new) (sym at) ∙ is in
+            let at : k ≡ top_of_log log + 1 = omega arith in
+            let same : Some e ≡ Some x = sym (entry_last log e) ∙ ap (log_entry_at new) (sym at) ∙ is in
             let entry : e ≡ x = cc in
-            let before : k - 1 ≡ top_of log = omega arith in
-            ap (λ y. fits (image_at new (k - 1)) y) (sym entry) ∙ ap (λ j. fits (image_at new j) e) before
-            ∙ ap (λ (i : Image). fits i e) (grows.image (top_of log) (omega arith) ∙ image_at_top_is_told log) ∙ fit)
+            let before : k - 1 ≡ top_of_log log = omega arith in
+            ap (λ y. fits (log_image_at new (k - 1)) y) (sym entry) ∙ ap (λ j. fits (log_image_at new j) e) before
+            ∙ ap (λ (i : Image). fits i e) (grows.image (top_of_log log) (omega arith) ∙ image_at_top_is_told log) ∙ fit)
       ];
       few =
-          (let less = numbered_one last (told_by log) (top_of log + 1) from req body r.members long used members_new fit there low in
-          let same = ap (λ (i : Image). unnumbered last i (names_of r.members)) told_ in
+          (let less = numbered_one last (image_of_log log) (top_of_log log + 1) from req body r.members long used members_new fit there low in
+          let same = ap (λ (i : Image). count_of_unnumbered_sends last i (names_of r.members)) told_ in
           let few = h.few in
           omega arith);
     }
@@ -120,7 +120,7 @@ ours_pushed r last total log from req body long used high fit there low h =
 
 -- of a cause that brings a send: that was sent
 abbrev pub AsksFew : (ℕ → ℕ) → Cause → Type 0
-AsksFew last c = (s : ℕ) (v : Stamp) (report : Report) (req : ℕ) (body : List ℕ) → BringsSend c s v report req body → req ≤ last s
+AsksFew last c = (s : ℕ) (v : Stamp) (report : Report) (req : ℕ) (body : List ℕ) → CauseHasSend c s v report req body → req ≤ last s
 
 -- it trims and knows no less
 pub record Kept (r : Repair) (q m : Node) : Type 0 where
@@ -134,7 +134,7 @@ pub record Leading (r : Repair) (last : ℕ → ℕ) (total : ℕ) (q m : Node) 
   pub kept : Kept r q m
 
 base_refreshed : (m : Node) → m.core.base ≤ (refresh m).core.base
-unfolding refresh lead own_report tell go_on let_go accept pass_over
+unfolding refresh refresh_as_sequencer raise_own_report tell_accept_front advance_with_reports trim_to_least_taken raise_accepted_to_told pass_over_below_join
 base_refreshed m = split_on_bool (is_sequencer m)
     (λ t. rw t (base_after_keeps_lower_bound m.core.base m.core.base _ (omega arith)))
     (λ f. rw f (omega arith))
@@ -145,7 +145,7 @@ kept_refreshed r q m h =
     let base = h.base in
     record { base = omega arith; taken = λ name. (let a = h.taken name in let b = refreshed_taken m name in omega arith) }
 
-settled_last : (m : Node) → (settle m).sends.last ≡ m.sends.last
+settled_last : (m : Node) → (settle_waiting_send m).sends.last ≡ m.sends.last
 settled_last m = settle_keeps_property (λ (n : Node). n.sends.last ≡ m.sends.last) m refl (λ s k w at. refl)
 
 leading_refreshed : (r : Repair) (last : ℕ → ℕ) (total : ℕ) (q m : Node) → Leading r last total q m → Leading r last total q (refresh m)
@@ -157,9 +157,9 @@ leading_refreshed r last total q m h =
       kept = kept_refreshed r q m h.kept;
     }
 
-leading_settled : (r : Repair) (last : ℕ → ℕ) (total : ℕ) (q m : Node) → Leading r last total q m → Leading r last total q (settle m)
+leading_settled : (r : Repair) (last : ℕ → ℕ) (total : ℕ) (q m : Node) → Leading r last total q m → Leading r last total q (settle_waiting_send m)
 leading_settled r last total q m h =
-    let same : (settle m).core ≡ m.core = ap (λ (x : Node). x.core) (settle_changes_only_sends m) in
+    let same : (settle_waiting_send m).core ≡ m.core = ap (λ (x : Node). x.core) (settle_changes_only_sends m) in
     record {
       list = subst (λ (c : CoreState). Ours r last total c.log) (sym same) h.list;
       numbered = numbered_settled m h.numbered;
@@ -168,25 +168,25 @@ leading_settled r last total q m h =
     }
 
 leading_pushed : (r : Repair) (last : ℕ → ℕ) (total : ℕ) (c : Cause) (q m : Node) (from req : ℕ) (body : List ℕ) → length r.members ≡ 16 → NodeTrimFronts m
-    → has (members m) m.core.who ≡ true → LeadsCalmly r m → Numbers c m (Data from req body) → has r.members from ≡ true → req ≤ last from
+    → has (members m) m.core.who ≡ true → LeadsCalmly r m → IsNumberedBy c m (Data from req body) → has r.members from ≡ true → req ≤ last from
     → Leading r last total q m → Leading r last total q (push_entry m (Data from req body))
 leading_pushed r last total c q m from req body long f own_ l why there low h =
     let used = told_image_is_used m f in
     let fit = numbers_fit c m (Data from req body) why used.places own_ h.numbered in
     record {
       list = ours_pushed r last total m.core.log from req body long used l.high fit there low h.list;
-      numbered = numbered_fits m (Data from req body) used fit (member_stays (image_of m) m.core.who used.places own_) h.numbered;
+      numbered = numbered_fits m (Data from req body) used fit (member_stays (image_of_node m) m.core.who used.places own_) h.numbered;
       sent = h.sent;
       kept = record { base = h.kept.base; taken = h.kept.taken };
     }
 
 -- what is numbered is a send of a member, and was sent
 leading_numbers : (r : Repair) (w : World) (last : ℕ → ℕ) (total : ℕ) (c : Cause) (q m : Node) (e : Entry) → CalmCause r w c → CauseIsNoJoin c → AsksFew last c
-    → length r.members ≡ 16 → has r.members r.by ≡ true → m.core.who ≡ r.by → NodeTrimFronts m → has (members m) m.core.who ≡ true → LeadsCalmly r m → Numbers c m e
+    → length r.members ≡ 16 → has r.members r.by ≡ true → m.core.who ≡ r.by → NodeTrimFronts m → has (members m) m.core.who ≡ true → LeadsCalmly r m → IsNumberedBy c m e
     → Leading r last total q m → Leading r last total q (push_entry m e)
 leading_numbers r w last total c q m e calm none few long listed own f own_ l (asked_send s v report req body by known left next) h =
     let used = told_image_is_used m f in
-    let member = known_member (image_of m) s used.places known left in
+    let member = known_member (image_of_node m) s used.places known left in
     let there = subst (λ set. has set s ≡ true) (members_now r last total m.core.log l.high h.list) member in
     leading_pushed r last total c q m s req body long f own_ l (asked_send s v report req body by known left next) there (few s v report req body by) h
 leading_numbers r w last total c q m e calm none few long listed own f own_ l (own_send s is above) h =
@@ -197,7 +197,7 @@ leading_numbers r w last total c q m e calm none few long listed own f own_ l (o
     leading_pushed r last total c q m m.core.who s.req s.body long f own_ l (own_send s is above) there (omega arith) h
 leading_numbers r w last total c q m e calm none few long listed own f own_ l (asked_join s v is other fit) h = absurd (none s v is)
 leading_numbers r w last total c q m e calm none few long listed own f own_ l (asked_leave s v report is other known stays) h = absurd
-    (let k = subst (CalmCause r w) is calm in past_name_has_left (image_of m) s (l.gone s k.0) known stays)
+    (let k = subst (CalmCause r w) is calm in past_name_has_left (image_of_node m) s (l.gone s k.0) known stays)
 
 leading_change : (r : Repair) (taken : ℕ → ℕ) (w : World) (last : ℕ → ℕ) (total : ℕ) (q : Node) (c : Cause) (o : Outcome) (m n : Node) → r.view.by ≡ r.by
     → CalmCause r w c → CauseIsNoJoin c → AsksFew last c → length r.members ≡ 16 → has r.members r.by ≡ true → NodeTrimFronts m
@@ -285,16 +285,16 @@ calm_mild r w _ h = tt
 
 -- it isn't asking, and has sent no more
 record IsSame (m n : Node) : Type 0 where
-  asks : is_asking m.status ≡ false → is_asking n.status ≡ false
+  asks : is_asking_status m.status ≡ false → is_asking_status n.status ≡ false
   last : n.sends.last ≡ m.sends.last
 
-same_looked : (m : Node) (b : Ballot) (v : Verdict) → Looks m b v → IsSame m v.node
+same_looked : (m : Node) (b : Ballot) (v : BallotVerdict) → LooksAtBallot m b v → IsSame m v.node
 same_looked m b v (finds_itself_out x) = record { asks = λ f. f; last = refl }
 same_looked m b v _ = record { asks = λ f. f; last = refl }
 
 same_change : {c : Cause} {o : Outcome} (m n : Node) → IsMild c → Change c o m n → IsSame m n
-same_change m n mild refreshes = let r = (refresh_rests_with_list m).rests in record { asks = λ f. ap is_asking r.status ∙ f; last = r.asked }
-same_change m n mild settles = record { asks = λ f. ap (λ (x : Node). is_asking x.status) (settle_changes_only_sends m) ∙ f; last = settled_last m }
+same_change m n mild refreshes = let r = (refresh_rests_with_list m).rests in record { asks = λ f. ap is_asking_status r.status ∙ f; last = r.asked }
+same_change m n mild settles = record { asks = λ f. ap (λ (x : Node). is_asking_status x.status) (settle_changes_only_sends m) ∙ f; last = settled_last m }
 same_change m n mild (begins_list s v base join image is says may) = record { asks = λ f. refl; last = refl }
 same_change m n mild (departs s v number is heard leaves) = record { asks = λ f. refl; last = refl }
 same_change m n mild (looks b verdict over why look is) = same_looked m b verdict look
@@ -317,7 +317,7 @@ abbrev pub NoAsk : Packet → Type 0
 NoAsk (Packet.JoinAsk s v) = ⊥
 NoAsk _ = Unit {0}
 
-says_no_ask : (m n : Node) (c : Cause) (to : List ℕ) (p : Packet) → is_asking n.status ≡ false → Says m c n to p → NoAsk p
+says_no_ask : (m n : Node) (c : Cause) (to : List ℕ) (p : Packet) → is_asking_status n.status ≡ false → Says m c n to p → NoAsk p
 says_no_ask m n c to p f (join_ask _ asks) = absurd (cc)
 says_no_ask m n c to p f _ = tt
 
@@ -328,13 +328,13 @@ none_asked : (letters : List Letter) → letters ≡ [] → AreNoAsks letters
 unfolding AreNoAsks
 none_asked letters nothing k l there = absurd (let z = ap (λ ls. slice_get ls k) nothing in cc)
 
-said_no_ask : (m n : Node) (c : Cause) (letters : List Letter) → is_asking n.status ≡ false → All (LetterSays m c n) letters → AreNoAsks letters
+said_no_ask : (m n : Node) (c : Cause) (letters : List Letter) → is_asking_status n.status ≡ false → All (LetterSays m c n) letters → AreNoAsks letters
 unfolding AreNoAsks
-said_no_ask m n c letters f all k l there = says_no_ask m n c l.to l.packet f (all_gives_slice_get (LetterSays m c n) letters k l all there).says
+said_no_ask m n c letters f all k l there = says_no_ask m n c l.to l.packet f (item_of_index_has_property (LetterSays m c n) letters k l all there).says
 
-sent_no_ask : (r : Repair) (w : World) (e : Event) (s : Step) → StepOfSchedule r w e s → is_asking (w.nodes (actor w e)).status ≡ false → AreNoAsks s.letters
+sent_no_ask : (r : Repair) (w : World) (e : Event) (s : StepResult) → StepOfSchedule r w e s → is_asking_status (w.nodes (acting_name w e)).status ≡ false → AreNoAsks s.letters
 sent_no_ask r w e s k f =
-    let m = w.nodes (actor w e) in
+    let m = w.nodes (acting_name w e) in
     let now = (same_changes m s.node (calm_mild r w k.cause k.calm) k.effect.changes).asks f in
     split_on_bool (has_departed m.status)
     (λ t. none_asked s.letters (k.still t).letters)
@@ -382,8 +382,8 @@ kept_same : (r : Repair) (m n : Node) → n ≡ m → Kept r m n
 kept_same r m n same = subst (Kept r m) (sym same) (record { base = omega arith; taken = λ name. omega arith })
 
 next_recorded : (rules : Rules) (r : Repair) (last : ℕ → ℕ) (total : ℕ) (w : World) (e : Event) (o : Outcome) → Quiet rules r last total w
-    → Next rules r last total w (with_record w e o)
-unfolding with_record
+    → Next rules r last total w (world_with_record w e o)
+unfolding world_with_record
 next_recorded rules r last total w e o h = record {
   list = h.list;
   kept = kept_same r (w.nodes r.by) (w.nodes r.by) refl;
@@ -393,17 +393,17 @@ next_recorded rules r last total w e o h = record {
 }
 
 -- a step of a name that runs, of which its node's part is known
-record IsStep (rules : Rules) (r : Repair) (last : ℕ → ℕ) (total : ℕ) (w : World) (name : ℕ) (s : Step) : Type 0 where
+record IsStep (rules : Rules) (r : Repair) (last : ℕ → ℕ) (total : ℕ) (w : World) (name : ℕ) (s : StepResult) : Type 0 where
   runs : is_stopped w name ≡ false
   same : IsSame (w.nodes name) s.node
   letters : AreNoAsks s.letters
   leads : name ≡ r.by → Ours r last total s.node.core.log × Kept r (w.nodes r.by) s.node
 
-next_stepped : (rules : Rules) (r : Repair) (last : ℕ → ℕ) (total : ℕ) (w : World) (e : Event) (name : ℕ) (s : Step) → Quiet rules r last total w
-    → IsStep rules r last total w name s → Next rules r last total w (with_step w e name s)
-unfolding with_step AreNoAsks
+next_stepped : (rules : Rules) (r : Repair) (last : ℕ → ℕ) (total : ℕ) (w : World) (e : Event) (name : ℕ) (s : StepResult) → Quiet rules r last total w
+    → IsStep rules r last total w name s → Next rules r last total w (world_with_step w e name s)
+unfolding world_with_step AreNoAsks
 next_stepped rules r last total w e name s h k =
-    let v = with_step w e name s in
+    let v = world_with_step w e name s in
     record {
       list = split_on_bool (r.by == name)
           (λ t. let same : name ≡ r.by = sym (eqb-true r.by name t) in rw t (k.leads same).0)
@@ -425,13 +425,13 @@ next_stepped rules r last total w e name s h k =
 -- ---- ticks and letters
 
 no_join_heard : (w : World) (e : Event) (c : Cause) (name : ℕ) → IsCause w name e.act c
-    → ((l : Letter) → letter_at w.letters (heard_by e.act) ≡ Some l → NoAsk l.packet) → CauseIsNoJoin c
+    → ((l : Letter) → letter_at w.letters (packet_heard_by_act e.act) ≡ Some l → NoAsk l.packet) → CauseIsNoJoin c
 no_join_heard w e c name cause none s v is =
     let was : WasSentTo w name e.act (Packet.JoinAsk s v) = subst (IsCause w name e.act) is cause in
     subst NoAsk was.is (none was.letter was.there)
 
 asks_few : (rules : Rules) (r : Repair) (last : ℕ → ℕ) (total : ℕ) (w : World) (e : Event) (c : Cause) → Quiet rules r last total w
-    → IsCause w (actor w e) e.act c → AsksFew last c
+    → IsCause w (acting_name w e) e.act c → AsksFew last c
 asks_few rules r last total w e c h cause s v report req body (by_request s_ v_ report_ req_ body_) =
     let all = out_of rules r last total w h in
     let low : req ≤ greatest_requests_gone_out w s = heard_packet_has_property (PacketHasGoneOut (greatest_requests_gone_out w)) w e c (Packet.Request s v report req body) cause refl all.letters in
@@ -446,14 +446,14 @@ asks_few rules r last total w e c h cause s v report req body (by_spread s_ v_ r
 -- the letter that an event of a schedule hears is one of it
 ours_heard : (r : Repair) (w : World) (e : Event) → IsOurs r e
     → ((number : ℕ) (l : Letter) → r.sent < number → letter_at w.letters number ≡ Some l → NoAsk l.packet)
-    → (l : Letter) → letter_at w.letters (heard_by e.act) ≡ Some l → NoAsk l.packet
+    → (l : Letter) → letter_at w.letters (packet_heard_by_act e.act) ≡ Some l → NoAsk l.packet
 ours_heard r w e (our_ticks place) h l there = absurd (cc)
 ours_heard r w e (hears_ place number late) h l there = h number l late there
 
-our_step : (rules : Rules) (r : Repair) (last : ℕ → ℕ) (total : ℕ) (w : World) (e : Event) (s : Step) → IsOurs r e → Quiet rules r last total w
-    → StepOfSchedule r w e s → IsStep rules r last total w (actor w e) s
+our_step : (rules : Rules) (r : Repair) (last : ℕ → ℕ) (total : ℕ) (w : World) (e : Event) (s : StepResult) → IsOurs r e → Quiet rules r last total w
+    → StepOfSchedule r w e s → IsStep rules r last total w (acting_name w e) s
 our_step rules r last total w e s is h k =
-    let name = actor w e in
+    let name = acting_name w e in
     let laws = laws_of rules r last total w h in
     let c = k.cause in
     record {
@@ -481,21 +481,21 @@ our_step rules r last total w e s is h k =
 next_ours : (rules : Rules) (r : Repair) (last : ℕ → ℕ) (total : ℕ) (w : World) (e : Event) (v : World) → IsOurs r e → Quiet rules r last total w
     → Does r w e v → Next rules r last total w v
 next_ours rules r last total w e v is h (idles o) = next_recorded rules r last total w e o h
-next_ours rules r last total w e v is h (steps s k) = next_stepped rules r last total w e (actor w e) s h (our_step rules r last total w e s is h k)
+next_ours rules r last total w e v is h (steps s k) = next_stepped rules r last total w e (acting_name w e) s h (our_step rules r last total w e s is h k)
 
 -- ---- takes
 
 -- it sends a front at most
-front_letters : (m x : Node) (o : Outcome) → AreNoAsks (finish m (quiet x o)).letters
+front_letters : (m x : Node) (o : Outcome) → AreNoAsks (finish m (plan_without_letters x o)).letters
 unfolding finish AreNoAsks
-front_letters m x o k l there = split_on_bool (tells_accepted m (quiet x o) (refresh_at_end x))
-    (λ t. split_on_bool (size (others (refresh_at_end x)) == 0)
+front_letters m x o k l there = split_on_bool (sends_accept m (plan_without_letters x o) (refresh_at_end x))
+    (λ t. split_on_bool (size (other_members (refresh_at_end x)) == 0)
     (λ u. absurd (let z = rw (t, u) at there in cc))
     (λ u. one k (rw (t, u) at there)))
     (λ f. absurd (let z = rw f at there in cc))
   where
-    one : (k : ℕ) → slice_get (letter_to (others (refresh_at_end x)) (accept_of (refresh_at_end x) false) ∷ []) k ≡ Some l → NoAsk l.packet
-    one zero is = let same : letter_to (others (refresh_at_end x)) (accept_of (refresh_at_end x) false) ≡ l = cc in subst (λ (y : Letter). NoAsk y.packet) same tt
+    one : (k : ℕ) → slice_get (letter_to (other_members (refresh_at_end x)) (accept_packet_of (refresh_at_end x) false) ∷ []) k ≡ Some l → NoAsk l.packet
+    one zero is = let same : letter_to (other_members (refresh_at_end x)) (accept_packet_of (refresh_at_end x) false) ≡ l = cc in subst (λ (y : Letter). NoAsk y.packet) same tt
     one (suc k) is = absurd (cc)
 
 take_asks : (m : Node) → AreNoAsks (step m does.Take).letters
@@ -517,7 +517,7 @@ kept_take r m =
     subst (Kept r m) (sym (take_node m)) (kept_end r m k.node a)
 
 next_taken : (rules : Rules) (r : Repair) (last : ℕ → ℕ) (total : ℕ) (w : World) (e : Event) (name : ℕ) → is_stopped w name ≡ false
-    → Quiet rules r last total w → Next rules r last total w (with_step w e name (step (w.nodes name) does.Take))
+    → Quiet rules r last total w → Next rules r last total w (world_with_step w e name (step (w.nodes name) does.Take))
 next_taken rules r last total w e name runs h =
     let m = w.nodes name in
     let s = step m does.Take in
@@ -536,7 +536,7 @@ next_take : (rules : Rules) (r : Repair) (last : ℕ → ℕ) (total : ℕ) (w :
 unfolding happens
 next_take rules r last total w place h =
     let e = event_at place Act.Take in
-    by_if (is_stopped w (actor w e)) _ _ (next_recorded rules r last total w e said.IsStopped h) (λ runs. next_taken rules r last total w e (actor w e) runs h)
+    by_if (is_stopped w (acting_name w e)) _ _ (next_recorded rules r last total w e said.IsStopped h) (λ runs. next_taken rules r last total w e (acting_name w e) runs h)
   where
     by_if : (b : Bool) (u v : World) → Next rules r last total w u → (b ≡ false → Next rules r last total w v) → Next rules r last total w (if b then u else v)
     by_if true u v f g = f
@@ -550,7 +550,7 @@ next_of rules r last total w e (ours e_ is) h = next_ours rules r last total w e
 next_of rules r last total w e (takes_one place) h = next_take rules r last total w place h
 
 one_more : (rules : Rules) (before : List Event) (e : Event) → happens (run rules before) e ≡ run rules (before ++ e ∷ [])
-unfolding happen
+unfolding world_after_events
 one_more rules before e = sym (runs_go_on (start rules) before (e ∷ []))
 
 pub quiet_goes : (rules : Rules) (r : Repair) (last : ℕ → ℕ) (total : ℕ) (w : World) (e : Event) → IsTaking r e → Quiet rules r last total w

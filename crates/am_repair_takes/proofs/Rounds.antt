@@ -1,6 +1,6 @@
 -- Rounds in which applications take: all is stored, then reported, then accepted, then given.
 use Rattle.am_repair_takes.proofs.Words.{◌≡◌, ℕ, zero, suc, ◌+◌, ◌*◌, ◌≤◌, ◌==◌, true, false, [], length, refl, sym, ap, ◌∙◌, subst, arith, split_on_bool, eqb-true}
-use Rattle.am_repair_takes.proofs.Words.{Rules, has, top, Settling, settle_then, World, run, happens, happen, run_trims_only_taken, event_at, Act, Repair}
+use Rattle.am_repair_takes.proofs.Words.{Rules, has, top, Settling, settle_then, World, run, happens, world_after_events, run_trims_only_taken, event_at, Act, Repair}
 use Rattle.am_repair_takes.proofs.Words.{WorldKeepsLawsAndCalm, laws_and_calm_stay, letters_grow_by_event, takes, taking_round, taking_rounds, after_rounds, HasAll, TakingRepairs, HasCaughtUp}
 use Rattle.am_repair_takes.proofs.Words.{world_after_waves, round_world_is_after_waves, StaysThroughSchedule, property_stays_through_round, round_stores_eight_more, MemberHasStored, AllMembersHaveStored, AllMembersAreKnown, round_makes_storage_known, round_accepts_what_is_known}
 use Rattle.am_repair_takes.proofs.Words.{sequencer_accepts_after_waves, ◌-◌, ◌/◌, repair_of_place, repairable_run_is_calm, repairable_lists_agree, round_count, RepairedByTaking, current}
@@ -10,7 +10,7 @@ use Rattle.am_repair_takes.proofs.Given.{takes_keep, takes_give}
 -- ---- the schedule's worlds
 
 abbrev pub after_takes : World → World
-after_takes w = happen w (takes w)
+after_takes w = world_after_events w (takes w)
 
 many_rounds : ℕ → World → World
 many_rounds zero w = w

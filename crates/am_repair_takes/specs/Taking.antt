@@ -6,8 +6,8 @@ use Rattle.am_group.specs.declared.event.Act.TheVariants as act
 use Rattle.am_group.specs.declared.event.Event.{Event}
 use Rattle.am_model.specs.Node.{top, members}
 use Rattle.am_group_defs.specs.Lawful.{lawful_front}
-use Rattle.am_group_defs.specs.Settle.{Settling, settle_then, event_at, running, round, round_count}
-use Rattle.am_group_defs.specs.World.{World, current, happen, run}
+use Rattle.am_group_defs.specs.Settle.{Settling, settle_then, event_at, running_places, round, round_count}
+use Rattle.am_group_defs.specs.World.{World, current, world_after_events, run}
 use Rattle.am_repair.specs.Claim.{MayRepair, HasCaughtUp}
 use Rattle.am_repair.specs.Answers.{AnswersUpTo}
 use Rattle.am_repair.specs.Calm.{Repair, Calm}
@@ -29,7 +29,7 @@ takes_at w (place ∷ places) = takes_of w place ++ takes_at w places
 
 -- so does the one of each place that runs
 abbrev pub takes : World → List Event
-takes w = takes_at w (running w)
+takes w = takes_at w (running_places w)
 
 -- and then there is a round
 abbrev pub taking_round : Settling → Settling
@@ -58,7 +58,7 @@ after_rounds many w = (taking_rounds many (record { world = w; events = [] })).w
 -- a member has stored and accepted all up to a number, and where all take once more, its application has it
 pub record HasAll (w : World) (name number : ℕ) : Type 0 where
   pub caught : HasCaughtUp (w.nodes name) number
-  pub given : number ≤ ((happen w (takes w)).nodes name).core.taken
+  pub given : number ≤ ((world_after_events w (takes w)).nodes name).core.taken
 
 -- From a calm world of a run in which no member is more than so many entries behind, eight a round: two rounds more, and each member has all
 -- up to where the sequencer stood.

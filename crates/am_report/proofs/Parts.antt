@@ -4,7 +4,7 @@ use Rattle.std.proofs.lemmas.List.{drop_more, drop_all}
 use Rattle.am_base.specs.declared.entry.Entry.{Entry}
 use Rattle.am_base.specs.Founding.{Rules}
 use Rattle.am_group.specs.declared.event.Record.{Record}
-use Rattle.am_group.specs.Journals.{letters_of}
+use Rattle.am_group.specs.Journals.{letters_of_records}
 use Rattle.am_packet.specs.Boxes.{Letter}
 use Rattle.am_group_defs.specs.Text.{numbers_text, letter_text, letters_text, lines_from, record_line, group_from, group_line}
 
@@ -21,11 +21,11 @@ pub lines_from_past_last_record : (rules : Rules) (number before : ℕ) (records
 lines_from_past_last_record rules number before records i h = ap (lines_from rules number before) (drop_all i records h)
 
 pub letters_of_records_left : (records : List Record) (i : ℕ) (item : Record) → i < length records → item ≡ slice_index_or records i item
-    → length (letters_of (drop i records)) ≡ length item.packets + length (letters_of (drop (i + 1) records))
+    → length (letters_of_records (drop i records)) ≡ length item.packets + length (letters_of_records (drop (i + 1) records))
 letters_of_records_left records i item h is =
-    ap (λ rs. length (letters_of rs)) (drop_more records i item h)
-    ∙ ap (λ (r : Record). length (letters_of (r ∷ drop (i + 1) records))) (sym is)
-    ∙ length-append item.packets (letters_of (drop (i + 1) records))
+    ap (λ rs. length (letters_of_records rs)) (drop_more records i item h)
+    ∙ ap (λ (r : Record). length (letters_of_records (r ∷ drop (i + 1) records))) (sym is)
+    ∙ length-append item.packets (letters_of_records (drop (i + 1) records))
 
 pub group_from_with_next_entry : (rules : Rules) (number : ℕ) (group : List Entry) (i : ℕ) (entry : Entry) → i < length group → entry ≡ slice_index_or group i entry
     → group_from rules number (drop i group) ≡ group_line rules number entry ++ group_from rules (number + 1) (drop (i + 1) group)

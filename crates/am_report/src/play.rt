@@ -1,8 +1,8 @@
 ghost use Rattle.std.specs.Prelude.{◌≡◌, ◌≤◌, ◌<◌, ◌++◌, length, nat_lt, IfOk};
 ghost use Rattle.std.specs.Fmt.{WritesInCalls};
-ghost use Rattle.am_base.specs.Most.{most_events};
-ghost use Rattle.am_group.specs.Deliveries.{given_to, deliveries};
-ghost use Rattle.am_group.specs.Journals.{letters_of};
+ghost use Rattle.am_base.specs.Most.{most_events_of_run};
+ghost use Rattle.am_group.specs.Deliveries.{entries_given_to, deliveries};
+ghost use Rattle.am_group.specs.Journals.{letters_of_records};
 ghost use Rattle.am_group_defs.specs.Text.{records_text, group_text, log_text, logs_text, play_text};
 ghost use Rattle.am_report.specs.Logs.{logs_for, given_lines};
 
@@ -18,8 +18,8 @@ use am_journal::journal::Journal;
 // Adds the lines of a run's events.
 #[tactic(auto, unfolding(am_group_defs::specs::Text::records_text))]
 fn push_records<O: Writer>(out: &mut O, founding: &Founding, records: &[Record])
-    requires events { length records.now ≤ most_events }
-    requires letters { length (letters_of records.now) ≤ 2400000 }
+    requires events { length records.now ≤ most_events_of_run }
+    requires letters { length (letters_of_records records.now) ≤ 2400000 }
     ensures { WritesInCalls O.writes out.old (records_text founding.now records.now) out.new }
 {
     let mut before = 0;
@@ -42,8 +42,8 @@ fn push_group<O: Writer>(out: &mut O, founding: &Founding, group: &[Entry])
 
 // Adds the line of what a record gave to a name, where it gave something; whether it did.
 fn push_given<O: Writer>(out: &mut O, founding: &Founding, name: Name, item: &Record) -> bool
-    ensures text { WritesInCalls O.writes out.old (given_lines founding.now name (given_to name item.now)) out.new }
-    ensures some { result ≡ nat_lt 0 (length (given_to name item.now)) }
+    ensures text { WritesInCalls O.writes out.old (given_lines founding.now name (entries_given_to name item.now)) out.new }
+    ensures some { result ≡ nat_lt 0 (length (entries_given_to name item.now)) }
 {
     let Some(given) = given_to(item, name) else {
         return false;

@@ -1,7 +1,7 @@
 -- A ballot that was taken out, with a vote more or a name given up, and one that begins.
-use Rattle.am_resetting.proofs.VotingWords.{◌≡◌, ◌≢◌, ℕ, ◌+◌, ◌<◌, min, nat_lt, List, Bool, true, false, not, ◌==◌, Option, None, refl, ap, ◌∙◌, arith, most_number}
-use Rattle.am_resetting.proofs.VotingWords.{minus, stamp_lt, Shown, best_vote, split_on_bool_of_log, Node, Ballot, those, top, view, has_log, with_vote, without_voter, next_stamp}
-use Rattle.am_resetting.proofs.VotingWords.{new_ballot, keep_vote, give_up, decide, best_of, own_vote, has_voted, newly_needed, IsInOrder, Vote, IsTakenOut, nat_tests}
+use Rattle.am_resetting.proofs.VotingWords.{◌≡◌, ◌≢◌, ℕ, ◌+◌, ◌<◌, min, nat_lt, List, Bool, true, false, not, ◌==◌, Option, None, refl, ap, ◌∙◌, arith, greatest_number}
+use Rattle.am_resetting.proofs.VotingWords.{names_without, stamp_is_less, NamedVote, best_vote, split_on_bool_of_log, Node, Ballot, names_that_pass, top, view, has_log_by_status, ballot_with_vote, ballot_without_voter, next_stamp}
+use Rattle.am_resetting.proofs.VotingWords.{new_ballot, keep_vote_in_ballot, give_up_in_ballot, decide, best_vote_for_ballot, own_vote, has_voted, newly_needed_names, IsInOrder, Vote, IsTakenOut, nat_tests}
 use Rattle.am_resetting.proofs.VotingWords.{NodeKeeps, stamp_lt_next_round}
 
 -- ---- a ballot that was taken out, with a vote more or a name given up
@@ -30,19 +30,19 @@ taken_with m b votes given_up same_vote same_given is =
       number = is.number;
     }
 
-pub taken_out_ballot_with_vote : (m : Node) (b : Ballot) (name : ℕ) (vote : Vote) → name ≢ m.core.who → IsTakenOut m b → IsTakenOut m (with_vote b name vote)
+pub taken_out_ballot_with_vote : (m : Node) (b : Ballot) (name : ℕ) (vote : Vote) → name ≢ m.core.who → IsTakenOut m b → IsTakenOut m (ballot_with_vote b name vote)
 taken_out_ballot_with_vote m b name vote other is =
     let apart = other_place name m.core.who other in
-    taken_with m b (with_vote b name vote).votes b.given_up (rw apart refl) refl is
+    taken_with m b (ballot_with_vote b name vote).votes b.given_up (rw apart refl) refl is
 
-pub taken_out_ballot_without_voter : (m : Node) (b : Ballot) (name : ℕ) → name ≢ m.core.who → IsTakenOut m b → IsTakenOut m (without_voter b name)
+pub taken_out_ballot_without_voter : (m : Node) (b : Ballot) (name : ℕ) → name ≢ m.core.who → IsTakenOut m b → IsTakenOut m (ballot_without_voter b name)
 taken_out_ballot_without_voter m b name other is =
     let apart = other_place name m.core.who other in
-    taken_with m b (without_voter b name).votes (without_voter b name).given_up (rw apart refl) (rw apart refl) is
+    taken_with m b (ballot_without_voter b name).votes (ballot_without_voter b name).given_up (rw apart refl) (rw apart refl) is
 
 -- ---- a ballot that begins
 
-pub next_stamp_above_promise : (m : Node) → stamp_lt (next_stamp m) m.core.promise ≡ false
+pub next_stamp_above_promise : (m : Node) → stamp_is_less (next_stamp m) m.core.promise ≡ false
 next_stamp_above_promise m =
     let t : nat_lt (m.core.promise.round + 1) m.core.promise.round ≡ false = grind (arith, nat_tests) in
     let e : (m.core.promise.round + 1 == m.core.promise.round) ≡ false = grind (arith, nat_tests) in
@@ -52,7 +52,7 @@ next_stamp_above_promise m =
 abbrev pub node_with_next_stamp : Node → Node
 node_with_next_stamp m = record m { core = record (m.core) { promise = next_stamp m }; ballot = None }
 
-pub new_ballot_is_taken_out : (m : Node) (least resilience : ℕ) → IsInOrder m.core → NodeKeeps m → has_log m.status ≡ true → top m < most_number
+pub new_ballot_is_taken_out : (m : Node) (least resilience : ℕ) → IsInOrder m.core → NodeKeeps m → has_log_by_status m.status ≡ true → top m < greatest_number
     → IsTakenOut (node_with_next_stamp m) (new_ballot (next_stamp m) least (min resilience 15))
 new_ballot_is_taken_out m least resilience order keeps logged number = record {
   order = record { kept = order.kept; let_go = order.let_go; given = order.given; accepted = order.accepted };
@@ -72,21 +72,21 @@ new_ballot_is_taken_out m least resilience order keeps logged number = record {
 
 -- ---- the ballot of the node itself isn't looked at
 
-pub keep_vote_without_own_ballot : (m : Node) (o : Option Ballot) (b : Ballot) (name : ℕ) (vote : Vote) → keep_vote (record m { ballot = o }) b name vote ≡ keep_vote m b name vote
-unfolding keep_vote decide best_of
+pub keep_vote_without_own_ballot : (m : Node) (o : Option Ballot) (b : Ballot) (name : ℕ) (vote : Vote) → keep_vote_in_ballot (record m { ballot = o }) b name vote ≡ keep_vote_in_ballot m b name vote
+unfolding keep_vote_in_ballot decide best_vote_for_ballot
 keep_vote_without_own_ballot m o b name vote = refl
 
-pub give_up_without_own_ballot : (m : Node) (o : Option Ballot) (b : Ballot) (name : ℕ) → give_up (record m { ballot = o }) b name ≡ give_up m b name
-unfolding give_up decide best_of
+pub give_up_without_own_ballot : (m : Node) (o : Option Ballot) (b : Ballot) (name : ℕ) → give_up_in_ballot (record m { ballot = o }) b name ≡ give_up_in_ballot m b name
+unfolding give_up_in_ballot decide best_vote_for_ballot
 give_up_without_own_ballot m o b name = refl
 
 -- who is newly needed, by the two best votes
-pub minus_is_newly_needed : (m : Node) (old new kept : Ballot) (who : ℕ) (own : Vote) (before needed : Shown) (set less more : List ℕ) → kept ≡ new
+pub minus_is_newly_needed : (m : Node) (old new kept : Ballot) (who : ℕ) (own : Vote) (before needed : NamedVote) (set less more : List ℕ) → kept ≡ new
     → who ≡ m.core.who → own ≡ own_vote m → before ≡ best_vote old.votes who own → needed ≡ best_vote kept.votes who own → less ≡ before.vote.members
-    → more ≡ needed.vote.members → set ≡ those (λ name. not (has_voted who kept name)) (minus more less) → set ≡ newly_needed m old new
-unfolding best_of
+    → more ≡ needed.vote.members → set ≡ names_that_pass (λ name. not (has_voted who kept name)) (names_without more less) → set ≡ newly_needed_names m old new
+unfolding best_vote_for_ballot
 minus_is_newly_needed m old new kept who own before needed set less more k w o b n l r is =
     let bo : before ≡ best_vote old.votes m.core.who (own_vote m) = b ∙ (λ i. best_vote old.votes (w i) (o i)) in
     let bn : needed ≡ best_vote new.votes m.core.who (own_vote m) = n ∙ (λ i. best_vote (k i).votes (w i) (o i)) in
-    is ∙ (λ i. those (λ name. not (has_voted (w i) (k i) name))
-    (minus ((r ∙ ap (λ (x : Shown). x.vote.members) bn) i) ((l ∙ ap (λ (x : Shown). x.vote.members) bo) i)))
+    is ∙ (λ i. names_that_pass (λ name. not (has_voted (w i) (k i) name))
+    (names_without ((r ∙ ap (λ (x : NamedVote). x.vote.members) bn) i) ((l ∙ ap (λ (x : NamedVote). x.vote.members) bo) i)))

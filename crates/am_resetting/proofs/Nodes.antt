@@ -1,23 +1,23 @@
 -- What the parts of a node keep where its list is trimmed or gets one entry more.
 use Rattle.am_resetting.proofs.DecidingWords.{◌≡◌, ◌⊎◌, ⊎_elim, inl, inr, ℕ, ◌+◌, ◌≤◌, [], ◌∷◌, Bool, true, false, ◌==◌, ◌&&◌, nat_lt, Some, refl, sym, ap}
-use Rattle.am_resetting.proofs.DecidingWords.{subst, ◌∙◌, length-append, arith, nat_tests, Image, Stamp, Entry, Data, Join, Leave, View, has, stamp_lt}
-use Rattle.am_resetting.proofs.DecidingWords.{stamp_eq, Log, top_of, with_entry, after, fits, members_of, CoreState, Keeps, trim_to, top_of_end_is_top, told_by_end_is_told}
-use Rattle.am_resetting.proofs.DecidingWords.{told_by_pushed_entry, untrimmed_core_keeps_own_log, split_on_bool_of_log, has_log, Node, Ballot, top, image_of, view, members, acts, is_member, is_sequencer}
+use Rattle.am_resetting.proofs.DecidingWords.{subst, ◌∙◌, length-append, arith, nat_tests, Image, Stamp, Entry, Data, Join, Leave, View, has, stamp_is_less}
+use Rattle.am_resetting.proofs.DecidingWords.{stamps_are_equal, Log, top_of_log, log_with_entry, after, fits, members_of_image, CoreState, CoreChangesAlike, trim_core_to, top_of_end_is_top, end_has_image_of_whole_log}
+use Rattle.am_resetting.proofs.DecidingWords.{told_by_pushed_entry, untrimmed_core_keeps_own_log, split_on_bool_of_log, has_log_by_status, Node, Ballot, top, image_of_node, view, members, acts_in_its_view, is_member, is_sequencer}
 use Rattle.am_resetting.proofs.DecidingWords.{push_entry, IsKept, next_request, NodeKeeps, IsSteady, due_request_after_push, steady_node_keeps_order, ended_ballot_counts_as_own, IsTakenOut, IsUpTo}
 use Rattle.am_resetting.proofs.DecidingWords.{CatcherMayStore}
 use Rattle.am_node_defs.specs.Reports as reports
 use Rattle.am_resetting.proofs.{Orders.stamp_lt_not_equal, Views.members_after_view_have_by, Views.view_after_view_is_stamp, Views.view_stays_after_data, Views.view_stays_after_join, Views.view_stays_after_leave}
 
 -- who doesn't act doesn't lead
-idle_leads : (m : Node) → acts m ≡ false → is_sequencer m ≡ false
+idle_leads : (m : Node) → acts_in_its_view m ≡ false → is_sequencer m ≡ false
 idle_leads m h = rw h refl
 
-steady_acts : (m n : Node) → IsSteady m n → acts n ≡ acts m
-steady_acts m n s = λ k. is_member (s.status k) && stamp_eq (s.promise k) (s.told k).view
+steady_acts : (m n : Node) → IsSteady m n → acts_in_its_view n ≡ acts_in_its_view m
+steady_acts m n s = λ k. is_member (s.status k) && stamps_are_equal (s.promise k) (s.told k).view
 
 -- ---- a trim
 
-pub trimmed_core_is_steady : (m : Node) (core : CoreState) (base : ℕ) → m.core.base ≡ m.core.log.start → Keeps (trim_to base) m.core core
+pub trimmed_core_is_steady : (m : Node) (core : CoreState) (base : ℕ) → m.core.base ≡ m.core.log.start → CoreChangesAlike (trim_core_to base) m.core core
     → IsSteady m (record m { core = core })
 trimmed_core_is_steady m core base e keeps =
     let one = keeps m.core.log (untrimmed_core_keeps_own_log m.core e) in
@@ -25,7 +25,7 @@ trimmed_core_is_steady m core base e keeps =
     record {
       who = ap (λ (c : CoreState). c.who) one.1;
       promise = ap (λ (c : CoreState). c.promise) one.1;
-      told = told_by_end_is_told m.core.log core.log end;
+      told = end_has_image_of_whole_log m.core.log core.log end;
       top = top_of_end_is_top m.core.log core.log end;
       status = refl;
       ballot = refl;
@@ -33,7 +33,7 @@ trimmed_core_is_steady m core base e keeps =
       sends = refl;
     }
 
-pub node_keeps_by_trim : (m : Node) (core : CoreState) (base : ℕ) → m.core.base ≡ m.core.log.start → Keeps (trim_to base) m.core core → NodeKeeps m
+pub node_keeps_by_trim : (m : Node) (core : CoreState) (base : ℕ) → m.core.base ≡ m.core.log.start → CoreChangesAlike (trim_core_to base) m.core core → NodeKeeps m
     → NodeKeeps (record m { core = core })
 node_keeps_by_trim m core base e keeps is =
     let n : Node = record m { core = core } in
@@ -46,7 +46,7 @@ node_keeps_by_trim m core base e keeps is =
 
 -- ---- one entry more
 
-pub top_after_pushed_entry : (log : Log) (e : Entry) → top_of (with_entry log e) ≡ top_of log + 1
+pub top_after_pushed_entry : (log : Log) (e : Entry) → top_of_log (log_with_entry log e) ≡ top_of_log log + 1
 top_after_pushed_entry log e = let h = length-append log.entries (e ∷ []) in omega arith
 
 pub steady_nodes_after_same_push : (m n : Node) (e : Entry) → IsSteady m n → IsSteady (push_entry m e) (push_entry n e)
@@ -63,40 +63,40 @@ steady_nodes_after_same_push m n e s = record {
 
 -- the view stays, or it is one that may be there, whose name is a member
 record HasView (m n : Node) : Type 0 where
-  pub up_to : stamp_lt m.core.promise (view n) ≡ false
+  pub up_to : stamp_is_less m.core.promise (view n) ≡ false
   pub own : has (members n) (view n).by ≡ true
 
-view_pushed : (m : Node) (e : Entry) → fits (image_of m) e ≡ true → IsUpTo m.core.promise e → (view (push_entry m e) ≡ view m) ⊎ HasView m (push_entry m e)
+view_pushed : (m : Node) (e : Entry) → fits (image_of_node m) e ≡ true → IsUpTo m.core.promise e → (view (push_entry m e) ≡ view m) ⊎ HasView m (push_entry m e)
 view_pushed m (Data from req body) fit up_to = inl (ap (λ (i : Image). i.view) (told_by_pushed_entry m.core.log (Data from req body))
-    ∙ view_stays_after_data (image_of m) (top m + 1) from req body)
-view_pushed m (Join name) fit up_to = inl (ap (λ (i : Image). i.view) (told_by_pushed_entry m.core.log (Join name)) ∙ view_stays_after_join (image_of m) (top m + 1) name)
-view_pushed m (Leave name) fit up_to = inl (ap (λ (i : Image). i.view) (told_by_pushed_entry m.core.log (Leave name)) ∙ view_stays_after_leave (image_of m) (top m + 1) name)
+    ∙ view_stays_after_data (image_of_node m) (top m + 1) from req body)
+view_pushed m (Join name) fit up_to = inl (ap (λ (i : Image). i.view) (told_by_pushed_entry m.core.log (Join name)) ∙ view_stays_after_join (image_of_node m) (top m + 1) name)
+view_pushed m (Leave name) fit up_to = inl (ap (λ (i : Image). i.view) (told_by_pushed_entry m.core.log (Leave name)) ∙ view_stays_after_leave (image_of_node m) (top m + 1) name)
 view_pushed m (View w) fit up_to =
     let e : Entry = View w in
     let same = told_by_pushed_entry m.core.log e in
-    let v : view (push_entry m e) ≡ w.stamp = ap (λ (i : Image). i.view) same ∙ view_after_view_is_stamp (image_of m) (top m + 1) w in
+    let v : view (push_entry m e) ≡ w.stamp = ap (λ (i : Image). i.view) same ∙ view_after_view_is_stamp (image_of_node m) (top m + 1) w in
     inr (record {
-      up_to = ap (stamp_lt m.core.promise) v ∙ up_to;
-      own = (λ k. has (members_of (same k)) (v k).by) ∙ members_after_view_have_by (image_of m) (top m + 1) w fit;
+      up_to = ap (stamp_is_less m.core.promise) v ∙ up_to;
+      own = (λ k. has (members_of_image (same k)) (v k).by) ∙ members_after_view_have_by (image_of_node m) (top m + 1) w fit;
     })
 
-pub node_keeps_by_push : (m : Node) (e : Entry) (capacity : ℕ) → IsKept m.core.log capacity → NodeKeeps m → fits (image_of m) e ≡ true → IsUpTo m.core.promise e
-    → acts m ≡ false → has_log m.status ≡ true → ((b : Ballot) → m.ballot ≡ Some b → b.is_over ≡ true) → NodeKeeps (push_entry m e)
+pub node_keeps_by_push : (m : Node) (e : Entry) (capacity : ℕ) → IsKept m.core.log capacity → NodeKeeps m → fits (image_of_node m) e ≡ true → IsUpTo m.core.promise e
+    → acts_in_its_view m ≡ false → has_log_by_status m.status ≡ true → ((b : Ballot) → m.ballot ≡ Some b → b.is_over ≡ true) → NodeKeeps (push_entry m e)
 node_keeps_by_push m e capacity kept keeps fit up_to idle logged over = record {
   own = keeps.own;
   leads = λ is. ⊎_elim
       (λ (same : view (push_entry m e) ≡ view m).
-      let none : is_sequencer (push_entry m e) ≡ false = ap (λ (v : Stamp). (is_member m.status && stamp_eq m.core.promise v) && (v.by == m.core.who)) same
+      let none : is_sequencer (push_entry m e) ≡ false = ap (λ (v : Stamp). (is_member m.status && stamps_are_equal m.core.promise v) && (v.by == m.core.who)) same
       ∙ idle_leads m idle in
       absurd (let x = sym none ∙ is in cc))
       (λ (new : HasView m (push_entry m e)).
       let by : ((view (push_entry m e)).by == m.core.who) ≡ true =
-      split_right (is_member m.status && stamp_eq m.core.promise (view (push_entry m e))) ((view (push_entry m e)).by == m.core.who) is in
+      split_right (is_member m.status && stamps_are_equal m.core.promise (view (push_entry m e))) ((view (push_entry m e)).by == m.core.who) is in
       let who : (view (push_entry m e)).by ≡ m.core.who = grind (arith, nat_tests) in
       sym (ap (has (members (push_entry m e))) who) ∙ new.own)
       (view_pushed m e fit up_to);
   promised = ⊎_elim
-      (λ (same : view (push_entry m e) ≡ view m). ap (stamp_lt m.core.promise) same ∙ keeps.promised)
+      (λ (same : view (push_entry m e) ≡ view m). ap (stamp_is_less m.core.promise) same ∙ keeps.promised)
       (λ (new : HasView m (push_entry m e)). new.up_to)
       (view_pushed m e fit up_to);
   blank = λ none. absurd (let x = sym logged ∙ none in cc);
@@ -117,25 +117,25 @@ node_keeps_by_stored_piece m n base e capacity kept may s keeps = node_keeps_by_
     (ap (λ (i : Image). fits i e) s.told ∙ may.fits)
     (subst (λ (p : Stamp). IsUpTo p e) (sym s.promise) may.up_to)
     (steady_acts m n s ∙ may.idle)
-    (ap has_log s.status ∙ may.logged)
+    (ap has_log_by_status s.status ∙ may.logged)
     (λ b there. may.over b (sym s.ballot ∙ there))
 
 -- ---- an unfinished ballot that was taken out
 
 -- its node doesn't act
-pub node_without_ballot_acts_not : (m : Node) (b : Ballot) → IsTakenOut m b → acts m ≡ false
+pub node_without_ballot_acts_not : (m : Node) (b : Ballot) → IsTakenOut m b → acts_in_its_view m ≡ false
 node_without_ballot_acts_not m b is =
     let stamp = (is.own).stamp is.is_open in
     let ahead = (is.own).ahead is.is_open in
-    let e : stamp_eq m.core.promise (view m) ≡ false = ap (λ (p : Stamp). stamp_eq p (view m)) (sym stamp) ∙ stamp_lt_not_equal (view m) b.stamp ahead in
-    and_false (is_member m.status) (stamp_eq m.core.promise (view m)) e
+    let e : stamps_are_equal m.core.promise (view m) ≡ false = ap (λ (p : Stamp). stamps_are_equal p (view m)) (sym stamp) ∙ stamp_lt_not_equal (view m) b.stamp ahead in
+    and_false (is_member m.status) (stamps_are_equal m.core.promise (view m)) e
   where
     and_false : (a b : Bool) → b ≡ false → (a && b) ≡ false
     and_false true b h = h
     and_false false b h = refl
 
 -- the reports begin anew
-pub node_keeps_by_new_reports : (m : Node) (base : ℕ) → base ≤ m.core.taken → NodeKeeps m → NodeKeeps (record m { reports = reports.reports_from base })
-node_keeps_by_new_reports m base low keeps = steady_node_keeps_order m (record m { reports = reports.reports_from base })
+pub node_keeps_by_new_reports : (m : Node) (base : ℕ) → base ≤ m.core.taken → NodeKeeps m → NodeKeeps (record m { reports = reports.reports_beginning_at base })
+node_keeps_by_new_reports m base low keeps = steady_node_keeps_order m (record m { reports = reports.reports_beginning_at base })
     (record { who = refl; promise = refl; told = refl; top = refl; status = refl; ballot = refl; leaving = refl; sends = refl }) keeps
     (split_on_bool_of_log (nat_lt m.core.who 256) (λ t. rw t low) (λ f. rw f (omega arith)))

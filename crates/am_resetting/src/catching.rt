@@ -1,13 +1,13 @@
 ghost use Rattle.std.specs.Prelude.{◌≡◌, ◌≢◌, ◌<◌, ◌≤◌, ◌+◌, ◌==◌, ◌||◌, ◌&&◌, max, not, Option, Some, None, IfNone, IfSome, true, false, []};
-ghost use Rattle.am_node_parts.specs.Prelude.{most_number, IsEntry, fits, top_of, stamp_eq, stamp_lt, IsInOrder, has_log, Node, only_name, push_entry, image_of, trim_up_to, view, is_within_bound, IsOwnBallot, node_of};
+ghost use Rattle.am_node_parts.specs.Prelude.{greatest_number, EntryIsInRange, fits, top_of_log, stamps_are_equal, stamp_is_less, IsInOrder, has_log_by_status, Node, set_of_one_name, push_entry, image_of_node, trim_node_up_to, view, number_is_within_bound, IsOwnBallot, node_of};
 ghost use Rattle.am_base.specs.declared.entry.Entry.TheVariants.{View};
 ghost use Rattle.am_ballots.specs.Kept.{ballot_of};
 ghost use Rattle.am_model.specs.Node as node;
-ghost use Rattle.am_model.specs.Emit.{Plan, telling, ack_of};
-ghost use Rattle.am_model.specs.Resets.{piece_row, result_row, hears_result, push_fetched, is_view_past, decide_anew, piece_promised, piece_for};
-ghost use Rattle.am_resetting.specs.Catching.{unless_denied, IsPlain, with_ballot, CatchesNext, FollowsAsView, IsBelow};
+ghost use Rattle.am_model.specs.Emit.{Plan, plan_with_letter, ack_packet_of};
+ghost use Rattle.am_model.specs.Resets.{piece_row, result_row, row_of_promised_result, push_fetched, is_unfetchable_view, look_at_ballot_anew, piece_promised, piece_for};
+ghost use Rattle.am_resetting.specs.Catching.{unless_denied, IsPlain, node_with_ballot, CatchesNext, FollowsAsView, IsBelow};
 ghost use Rattle.am_resetting.specs.Deciding.{IsTakenOut};
-ghost use Rattle.am_node_parts.specs.Replies.{Replies, unless};
+ghost use Rattle.am_node_parts.specs.Replies.{Replies, refusal_or_plan};
 
 use crate::deciding::{decide, store};
 use crate::promising::{put_back, raise_promise, take_ballot};
@@ -57,9 +57,9 @@ impl<'a> Denial<'a> {
 
 /// Whether a view's stamp is above another, or in a ballot is that.
 fn is_past(stamp: &Stamp, in_ballot: bool, view: &Stamp) -> bool
-    ensures value { result ≡ (stamp_lt stamp.now view.now
-        || (in_ballot && stamp_eq view.now stamp.now)) }
-    ensures below { in_ballot ≡ true → result ≡ false → stamp_lt view.now stamp.now ≡ true }
+    ensures value { result ≡ (stamp_is_less stamp.now view.now
+        || (in_ballot && stamps_are_equal view.now stamp.now)) }
+    ensures below { in_ballot ≡ true → result ≡ false → stamp_is_less view.now stamp.now ≡ true }
 {
     let same = is_same(view, stamp);
     copy_of(stamp).is_below(copy_of(view)) || (in_ballot && same)
@@ -67,7 +67,7 @@ fn is_past(stamp: &Stamp, in_ballot: bool, view: &Stamp) -> bool
 
 /// Whether an entry is a View that can't come by fetching: one above the stamp, or in a ballot of it.
 fn is_view_past(stamp: &Stamp, in_ballot: bool, entry: &EntryRef) -> bool
-    ensures value { result ≡ is_view_past stamp.now in_ballot entry.now }
+    ensures value { result ≡ is_unfetchable_view stamp.now in_ballot entry.now }
     ensures below { in_ballot ≡ true → result ≡ false → IsBelow stamp.now entry.now }
 {
     match entry.parts() {
@@ -80,7 +80,7 @@ fn is_view_past(stamp: &Stamp, in_ballot: bool, entry: &EntryRef) -> bool
 
 /// Whether an entry fits behind the list.
 fn fits(parts: &Parts, entry: &EntryRef) -> bool
-    ensures { result ≡ fits (image_of (node_of parts.now)) entry.now }
+    ensures { result ≡ fits (image_of_node (node_of parts.now)) entry.now }
 {
     parts.core.log.fits(entry)
 }
@@ -88,10 +88,10 @@ fn fits(parts: &Parts, entry: &EntryRef) -> bool
 /// Why a fetched entry isn't stored; None where it is the next one and nothing is against it.
 fn refusal(parts: &Parts, arrival: &Arrival, entry: &EntryRef, in_ballot: bool) -> Option<Outcome>
     ensures value { (x : Option node.Ballot) (then_ : Node → Plan)
-        → push_fetched (with_ballot (node_of parts.now) x) arrival.now.stamp arrival.now.base
+        → push_fetched (node_with_ballot (node_of parts.now) x) arrival.now.stamp arrival.now.base
         arrival.now.number entry.now in_ballot then_
-        ≡ unless result (with_ballot (node_of parts.now) x)
-        (then_ (push_entry (trim_up_to (with_ballot (node_of parts.now) x) arrival.now.base)
+        ≡ refusal_or_plan result (node_with_ballot (node_of parts.now) x)
+        (then_ (push_entry (trim_node_up_to (node_with_ballot (node_of parts.now) x) arrival.now.base)
         entry.now)) }
     ensures next { IfNone result (CatchesNext (node_of parts.now)
         arrival.now.stamp arrival.now.base arrival.now.number entry.now in_ballot) }
@@ -120,8 +120,8 @@ fn refusal(parts: &Parts, arrival: &Arrival, entry: &EntryRef, in_ballot: bool) 
 
 /// Whether a stamp isn't the promise, or is the view.
 fn is_apart(parts: &Parts, stamp: &Stamp) -> bool
-    ensures { result ≡ (not (stamp_eq stamp.now parts.now.core.promise)
-        || stamp_eq (view (node_of parts.now)) stamp.now) }
+    ensures { result ≡ (not (stamps_are_equal stamp.now parts.now.core.promise)
+        || stamps_are_equal (view (node_of parts.now)) stamp.now) }
 {
     !is_same(stamp, &promise_of(parts)) || is_view(parts, stamp)
 }
@@ -129,12 +129,12 @@ fn is_apart(parts: &Parts, stamp: &Stamp) -> bool
 /// What a node that has no unfinished ballot does with an entry of the view that it has promised.
 fn piece_promised<'a>(parts: &mut Parts, arrival: &Arrival, entry: &EntryRef) -> Reply<'a>
     requires order { IsInOrder parts.old.core }
-    requires logged { has_log parts.old.status ≡ true }
+    requires logged { has_log_by_status parts.old.status ≡ true }
     requires promise { arrival.now.stamp ≡ parts.old.core.promise }
-    requires view { stamp_eq (view (node_of parts.old)) arrival.now.stamp ≡ false }
+    requires view { stamps_are_equal (view (node_of parts.old)) arrival.now.stamp ≡ false }
     requires over { (b : node.Ballot) → (node_of parts.old).ballot ≡ Some b → b.is_over ≡ true }
-    requires entry { IsEntry entry.now }
-    requires number { top_of parts.old.core.log < most_number }
+    requires entry { EntryIsInRange entry.now }
+    requires number { top_of_log parts.old.core.log < greatest_number }
     ensures { Replies (piece_promised (node_of parts.old) arrival.now.from arrival.now.stamp
         arrival.now.base arrival.now.number entry.now) result
         (node_of parts.new) }
@@ -165,11 +165,11 @@ fn piece_in_ballot<'a>(
 ) -> Reply<'a>
     requires ballot { IsTakenOut (node_of parts.old) (ballot_of ballot) }
     requires promise { arrival.now.stamp ≡ parts.old.core.promise }
-    requires entry { IsEntry entry.now }
-    requires number { top_of parts.old.core.log + 1 < most_number }
-    ensures { Replies (push_fetched (with_ballot (node_of parts.old)
+    requires entry { EntryIsInRange entry.now }
+    requires number { top_of_log parts.old.core.log + 1 < greatest_number }
+    ensures { Replies (push_fetched (node_with_ballot (node_of parts.old)
         (Some (ballot_of ballot))) arrival.now.stamp arrival.now.base arrival.now.number entry.now
-        true (decide_anew (ballot_of ballot))) result (node_of parts.new) }
+        true (look_at_ballot_anew (ballot_of ballot))) result (node_of parts.new) }
 {
     match refusal(parts, arrival, entry, true) {
         Some(outcome) => {
@@ -194,12 +194,12 @@ fn piece_for<'a>(
     requires order { IsInOrder parts.old.core }
     requires out { (node_of parts.old).ballot ≡ None }
     requires own { IsOwnBallot (node_of parts.old) (ballot_of ballot) }
-    requires logged { has_log parts.old.status ≡ true }
+    requires logged { has_log_by_status parts.old.status ≡ true }
     requires promise { arrival.now.stamp ≡ parts.old.core.promise }
-    requires view { stamp_eq (view (node_of parts.old)) arrival.now.stamp ≡ false }
-    requires entry { IsEntry entry.now }
-    requires number { top_of parts.old.core.log + 1 < most_number }
-    ensures { Replies (piece_for (with_ballot (node_of parts.old) (Some (ballot_of ballot)))
+    requires view { stamps_are_equal (view (node_of parts.old)) arrival.now.stamp ≡ false }
+    requires entry { EntryIsInRange entry.now }
+    requires number { top_of_log parts.old.core.log + 1 < greatest_number }
+    ensures { Replies (piece_for (node_with_ballot (node_of parts.old) (Some (ballot_of ballot)))
         arrival.now.from arrival.now.stamp arrival.now.base arrival.now.number entry.now
         (Some (ballot_of ballot))) result (node_of parts.new) }
 {
@@ -219,9 +219,9 @@ fn piece_for<'a>(
 /// the view is reached. The node must have a list.
 #[inline(never)]
 pub fn on_piece<'a>(parts: &mut Parts, arrival: &Arrival, entry: &EntryRef) -> Reply<'a>
-    requires logged { has_log parts.old.status ≡ true }
-    requires entry { IsEntry entry.now }
-    requires number { top_of parts.old.core.log + 1 < most_number }
+    requires logged { has_log_by_status parts.old.status ≡ true }
+    requires entry { EntryIsInRange entry.now }
+    requires number { top_of_log parts.old.core.log + 1 < greatest_number }
     ensures { Replies (piece_row (node_of parts.old) arrival.now.from arrival.now.stamp
         arrival.now.base arrival.now.number entry.now) result
         (node_of parts.new) }
@@ -245,20 +245,20 @@ fn view_entry<'a>(view: &GroupView) -> EntryRef<'a>
 
 /// Whether an entry doesn't fit behind the list, or is beyond the bound.
 fn is_unfit(parts: &Parts, entry: &EntryRef, base: u32, number: u32) -> bool
-    ensures { result ≡ (not (fits (image_of (node_of parts.now)) entry.now)
-        || not (is_within_bound (node_of parts.now) (max parts.now.core.base base) number)) }
+    ensures { result ≡ (not (fits (image_of_node (node_of parts.now)) entry.now)
+        || not (number_is_within_bound (node_of parts.now) (max parts.now.core.base base) number)) }
 {
     !fits(parts, entry) || is_beyond(parts, base, number)
 }
 
 /// What is replied where a decided view isn't stored; None where it comes next and nothing is against it.
 fn result_refusal<'a>(parts: &Parts, arrival: &Arrival, view: &GroupView) -> Option<Denial<'a>>
-    ensures value { hears_result (node_of parts.now) arrival.now.from
+    ensures value { row_of_promised_result (node_of parts.now) arrival.now.from
         arrival.now.base arrival.now.number view.now
         ≡ unless_denied result (node_of parts.now)
-        (telling (push_entry (trim_up_to (node_of parts.now) arrival.now.base)
+        (plan_with_letter (push_entry (trim_node_up_to (node_of parts.now) arrival.now.base)
         (View view.now))
-        (Outcome.Stored arrival.now.number) (only_name arrival.now.from) ack_of) }
+        (Outcome.Stored arrival.now.number) (set_of_one_name arrival.now.from) ack_packet_of) }
     ensures next { IfNone result (FollowsAsView (node_of parts.now)
         arrival.now.base arrival.now.number view.now) }
     ensures plain { IfSome result (λ refusal. IsPlain refusal.telling) }
@@ -295,12 +295,12 @@ fn result_refusal<'a>(parts: &Parts, arrival: &Arrival, view: &GroupView) -> Opt
 /// What a node does with a decided view that it has promised.
 fn hears_result<'a>(parts: &mut Parts, arrival: &Arrival, view: &GroupView) -> Reply<'a>
     requires order { IsInOrder parts.old.core }
-    requires logged { has_log parts.old.status ≡ true }
+    requires logged { has_log_by_status parts.old.status ≡ true }
     requires promise { view.now.stamp ≡ parts.old.core.promise }
     requires other { view.now.stamp.by ≢ parts.old.core.who }
-    requires within { IsEntry (View view.now) }
-    requires number { top_of parts.old.core.log < most_number }
-    ensures { Replies (hears_result (node_of parts.old) arrival.now.from
+    requires within { EntryIsInRange (View view.now) }
+    requires number { top_of_log parts.old.core.log < greatest_number }
+    ensures { Replies (row_of_promised_result (node_of parts.old) arrival.now.from
         arrival.now.base arrival.now.number view.now)
         result (node_of parts.new) }
 {
@@ -317,7 +317,7 @@ fn hears_result<'a>(parts: &mut Parts, arrival: &Arrival, view: &GroupView) -> R
 /// Whether a stamp is of the node's own, or below its promise.
 fn is_passed(parts: &Parts, stamp: &Stamp) -> bool
     ensures { result ≡ ((stamp.now.by == parts.now.core.who)
-        || stamp_lt stamp.now parts.now.core.promise) }
+        || stamp_is_less stamp.now parts.now.core.promise) }
 {
     stamp.by == name_of(parts) || copy_of(stamp).is_below(promise_of(parts))
 }
@@ -326,9 +326,9 @@ fn is_passed(parts: &Parts, stamp: &Stamp) -> bool
 /// is promised; Known where it is the view; Unfit, Behind or Catching, with a Fetch, where it isn't the next entry or can't be
 /// stored; else Stored, with an Ack. The node must have a list.
 pub fn on_result<'a>(parts: &mut Parts, arrival: &Arrival, view: &GroupView) -> Reply<'a>
-    requires logged { has_log parts.old.status ≡ true }
-    requires within { IsEntry (View view.now) }
-    requires number { top_of parts.old.core.log < most_number }
+    requires logged { has_log_by_status parts.old.status ≡ true }
+    requires within { EntryIsInRange (View view.now) }
+    requires number { top_of_log parts.old.core.log < greatest_number }
     ensures { Replies (result_row (node_of parts.old) arrival.now.from
         arrival.now.base arrival.now.number view.now)
         result (node_of parts.new) }

@@ -1,9 +1,9 @@
 ghost use Rattle.std.specs.Prelude.{◌≡◌, ◌<◌, ◌≤◌, ◌+◌, ◌-◌, max, nat_lt, Some, true, false, length, unwrap_or};
-ghost use Rattle.am_node_parts.specs.Prelude.{most_number, IsEntry, fits, told_by, top_of, has, names_of, size, IsInOrder, Node, push_entry, trim_up_to, ChangesAllAlike, IsEndOf, IsOwnBallot, IsSteady, NodeKeeps, node_of};
-ghost use Rattle.am_base.specs.Outcomes.{is_took};
+ghost use Rattle.am_node_parts.specs.Prelude.{greatest_number, EntryIsInRange, fits, image_of_log, top_of_log, has, names_of, size, IsInOrder, Node, push_entry, trim_node_up_to, ChangesAllAlike, IsEndOf, IsOwnBallot, IsSteady, NodeKeeps, node_of};
+ghost use Rattle.am_base.specs.Outcomes.{is_outcome_took};
 ghost use Rattle.am_base.specs.declared.entry.Entry.TheVariants.{View};
-ghost use Rattle.am_model.specs.Ballots.{with_end, with_answer, decide, decided_view, decide_view, trim_for, taken_by};
-ghost use Rattle.am_node_defs.specs.Reports.{reports_from, least_of};
+ghost use Rattle.am_model.specs.Ballots.{ballot_with_end, ballot_with_answer, decide, decided_view, decide_view, trim_to_least_taken_by, taken_number_of_voter};
+ghost use Rattle.am_node_defs.specs.Reports.{reports_beginning_at, least_of_names};
 ghost use Rattle.am_ballots.specs.Kept.{ballot_of};
 ghost use Rattle.am_resetting.specs.Deciding.{BallotIsAnswered, IsTakenOut, MayBeView, CatcherMayStore, put_back};
 ghost use Rattle.am_node_parts.specs.Verdicts.{VerdictComesTo, IsTold};
@@ -22,7 +22,7 @@ use am_node_storage::log::Log;
 pub fn trim(parts: &mut Parts, base: u32)
     requires order { IsInOrder parts.old.core }
     requires taken { base ≤ parts.old.core.taken }
-    ensures changes { ChangesAllAlike (λ m. trim_up_to m base) (node_of parts.old) (node_of parts.new) }
+    ensures changes { ChangesAllAlike (λ m. trim_node_up_to m base) (node_of parts.old) (node_of parts.new) }
     ensures steady { IsSteady (node_of parts.old) (node_of parts.new) }
     ensures base { parts.new.core.base ≡ max parts.old.core.base base }
     ensures rules { parts.new.core.rules ≡ parts.old.core.rules }
@@ -34,10 +34,10 @@ pub fn trim(parts: &mut Parts, base: u32)
 
 /// Adds an entry at the end of the list.
 fn push(parts: &mut Parts, entry: &EntryRef)
-    requires fits { fits (told_by parts.old.core.log) entry.now ≡ true }
+    requires fits { fits (image_of_log parts.old.core.log) entry.now ≡ true }
     requires room { length parts.old.core.log.entries < parts.old.core.rules.window + 15 }
-    requires entry { IsEntry entry.now }
-    requires number { top_of parts.old.core.log < most_number }
+    requires entry { EntryIsInRange entry.now }
+    requires number { top_of_log parts.old.core.log < greatest_number }
     requires keeps { NodeKeeps (push_entry (node_of parts.old) entry.now) }
     ensures value { node_of parts.new ≡ push_entry (node_of parts.old) entry.now }
     ensures changes { ChangesAllAlike (λ m. push_entry m entry.now) (node_of parts.old) (node_of parts.new) }
@@ -49,7 +49,7 @@ fn push(parts: &mut Parts, entry: &EntryRef)
 /// Trims the list up to a base, where that is greater, and stores an entry behind it.
 pub fn store(parts: &mut Parts, base: u32, entry: &EntryRef)
     requires { CatcherMayStore (node_of parts.old) base entry.now }
-    ensures changes { ChangesAllAlike (λ m. push_entry (trim_up_to m base) entry.now) (node_of parts.old)
+    ensures changes { ChangesAllAlike (λ m. push_entry (trim_node_up_to m base) entry.now) (node_of parts.old)
         (node_of parts.new) }
     ensures steady { IsSteady (push_entry (node_of parts.old) entry.now) (node_of parts.new) }
     ensures order { IsInOrder parts.new.core }
@@ -61,8 +61,8 @@ pub fn store(parts: &mut Parts, base: u32, entry: &EntryRef)
 
 /// The ballot ends with this answer.
 fn close(ballot: &mut Ballot, answer: Outcome) -> Outcome
-    requires plain { is_took answer ≡ false }
-    ensures { BallotIsAnswered (with_end (ballot_of ballot.old) answer) answer result (ballot_of ballot.new) }
+    requires plain { is_outcome_took answer ≡ false }
+    ensures { BallotIsAnswered (ballot_with_end (ballot_of ballot.old) answer) answer result (ballot_of ballot.new) }
 {
     ballot.end(&answer);
     answer
@@ -70,8 +70,8 @@ fn close(ballot: &mut Ballot, answer: Outcome) -> Outcome
 
 /// The ballot goes on, and this is its answer.
 fn keep_on(ballot: &mut Ballot, answer: Outcome) -> Outcome
-    requires plain { is_took answer ≡ false }
-    ensures { BallotIsAnswered (with_answer (ballot_of ballot.old) answer) answer result (ballot_of ballot.new) }
+    requires plain { is_outcome_took answer ≡ false }
+    ensures { BallotIsAnswered (ballot_with_answer (ballot_of ballot.old) answer) answer result (ballot_of ballot.new) }
 {
     ballot.go_on(&answer);
     answer
@@ -80,7 +80,7 @@ fn keep_on(ballot: &mut Ballot, answer: Outcome) -> Outcome
 /// Whether there is no room for a View of so many.
 fn is_crowded(parts: &Parts, names: Names) -> bool
     ensures { result ≡ nat_lt (parts.now.core.rules.window + 16 - size names)
-        (top_of parts.now.core.log + 1 - parts.now.core.base) }
+        (top_of_log parts.now.core.log + 1 - parts.now.core.base) }
 {
     let room = u32::from(parts.core.rules.window()) + 16 - names.len();
     room < parts.core.log.top() + 1 - parts.core.log.base()
@@ -88,7 +88,7 @@ fn is_crowded(parts: &Parts, names: Names) -> bool
 
 /// The answer where there is no room.
 fn crowded_answer(parts: &Parts) -> Outcome
-    ensures { result ≡ Outcome.Crowded parts.now.core.base (top_of parts.now.core.log) }
+    ensures { result ≡ Outcome.Crowded parts.now.core.base (top_of_log parts.now.core.log) }
 {
     Outcome::Crowded {
         base: parts.core.log.base(),
@@ -98,8 +98,8 @@ fn crowded_answer(parts: &Parts) -> Outcome
 
 /// The answer where the next entry is the view of these members.
 fn decided_answer(parts: &Parts, names: Names) -> Outcome
-    requires { top_of parts.now.core.log < most_number }
-    ensures value { result ≡ Outcome.Decided (top_of parts.now.core.log + 1) names }
+    requires { top_of_log parts.now.core.log < greatest_number }
+    ensures value { result ≡ Outcome.Decided (top_of_log parts.now.core.log + 1) names }
     ensures told { IsTold result }
 {
     Outcome::Decided {
@@ -113,7 +113,7 @@ fn view_of<'a>(parts: &Parts, ballot: &Ballot, names: Names) -> EntryRef<'a>
     requires stamp { ballot.now.stamp ≡ parts.now.core.promise }
     requires resilience { ballot.now.resilience ≤ 15 }
     ensures value { result ≡ View (decided_view (node_of parts.now) (ballot_of ballot.now) names) }
-    ensures within { IsEntry result }
+    ensures within { EntryIsInRange result }
 {
     EntryRef::of(EntryParts::View(GroupView {
         stamp: ballot.stamp(),
@@ -125,7 +125,7 @@ fn view_of<'a>(parts: &Parts, ballot: &Ballot, names: Names) -> EntryRef<'a>
 /// All reports begin anew at the base.
 fn restart(parts: &mut Parts, base: u32)
     requires { base ≤ parts.old.core.taken }
-    ensures { node_of parts.new ≡ record (node_of parts.old) { reports = reports_from base } }
+    ensures { node_of parts.new ≡ record (node_of parts.old) { reports = reports_beginning_at base } }
 {
     parts.fronts.restart(base);
 }
@@ -135,7 +135,7 @@ fn push_view(parts: &mut Parts, ballot: &mut Ballot, names: Names) -> Outcome
     requires ballot { IsTakenOut (node_of parts.old) (ballot_of ballot.old) }
     requires names { MayBeView (node_of parts.old) names }
     requires room { nat_lt (parts.old.core.rules.window + 16 - size names)
-        (top_of parts.old.core.log + 1 - parts.old.core.base) ≡ false }
+        (top_of_log parts.old.core.log + 1 - parts.old.core.base) ≡ false }
     ensures comes { (all : Node) → IsEndOf all (node_of parts.old)
         → VerdictComesTo (decide_view all (ballot_of ballot.old) names) result
         (put_back (node_of parts.new) (ballot_of ballot.new)) }
@@ -168,7 +168,7 @@ fn decide_view(parts: &mut Parts, ballot: &mut Ballot, names: Names) -> Outcome
 
 /// The least that these have taken, 0 where there is nobody.
 fn least_taken(parts: &Parts, ballot: &Ballot, names: Names) -> u32
-    ensures value { result ≡ unwrap_or (least_of (taken_by parts.now.core.who parts.now.core.taken
+    ensures value { result ≡ unwrap_or (least_of_names (taken_number_of_voter parts.now.core.who parts.now.core.taken
         (ballot_of ballot.now)) (names_of names)) 0 }
     ensures own { has names parts.now.core.who ≡ true → result ≤ parts.now.core.taken }
 {
@@ -181,7 +181,7 @@ fn trim_and_decide(parts: &mut Parts, ballot: &mut Ballot, names: Names) -> Outc
     requires ballot { IsTakenOut (node_of parts.old) (ballot_of ballot.old) }
     requires names { MayBeView (node_of parts.old) names }
     ensures comes { (all : Node) → IsEndOf all (node_of parts.old)
-        → VerdictComesTo (decide_view (trim_for all (ballot_of ballot.old) names) (ballot_of ballot.old) names)
+        → VerdictComesTo (decide_view (trim_to_least_taken_by all (ballot_of ballot.old) names) (ballot_of ballot.old) names)
         result (put_back (node_of parts.new) (ballot_of ballot.new)) }
     ensures told { IsTold result }
     ensures own { IsOwnBallot (node_of parts.new) (ballot_of ballot.new) }

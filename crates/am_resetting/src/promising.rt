@@ -1,7 +1,7 @@
 ghost use Rattle.std.specs.Prelude.{◌≡◌, Some, None, IfSome, false, option_map};
-ghost use Rattle.am_node_parts.specs.Prelude.{IsStamp, stamp_lt, IsOwnBallot, node_of};
+ghost use Rattle.am_node_parts.specs.Prelude.{StampIsInRange, stamp_is_less, IsOwnBallot, node_of};
 ghost use Rattle.am_ballots.specs.Kept.{ballot_of};
-ghost use Rattle.am_model.specs.Ballots.{with_promise, overtake};
+ghost use Rattle.am_model.specs.Ballots.{node_with_promise, overtake_lower_ballot};
 
 use crate::reading::{is_same, promise_of};
 use am_ballots::ballot::Ballot;
@@ -12,7 +12,7 @@ use am_node_storage::state::Core;
 
 /// An unfinished ballot of a lower stamp is overtaken.
 fn overtake(ballot: &mut Option<Ballot>, by: &Stamp)
-    ensures { option_map ballot_of ballot.new ≡ overtake by.now (option_map ballot_of ballot.old) }
+    ensures { option_map ballot_of ballot.new ≡ overtake_lower_ballot by.now (option_map ballot_of ballot.old) }
 {
     if let Some(ballot) = ballot {
         ballot.overtake(Stamp {
@@ -24,7 +24,7 @@ fn overtake(ballot: &mut Option<Ballot>, by: &Stamp)
 
 /// The promise is this stamp.
 fn raise(core: &mut Core<History>, stamp: Stamp)
-    requires { IsStamp stamp }
+    requires { StampIsInRange stamp }
     ensures { core.new ≡ record core.old { promise = stamp } }
 {
     core.promise = stamp;
@@ -32,9 +32,9 @@ fn raise(core: &mut Core<History>, stamp: Stamp)
 
 /// The promise becomes this stamp; an unfinished ballot of a lower one is overtaken.
 pub fn raise_promise(parts: &mut Parts, stamp: Stamp)
-    requires within { IsStamp stamp }
-    requires higher { stamp_lt stamp parts.old.core.promise ≡ false }
-    ensures { node_of parts.new ≡ with_promise (node_of parts.old) stamp }
+    requires within { StampIsInRange stamp }
+    requires higher { stamp_is_less stamp parts.old.core.promise ≡ false }
+    ensures { node_of parts.new ≡ node_with_promise (node_of parts.old) stamp }
 {
     if is_same(&stamp, &promise_of(parts)) {
         return;

@@ -1,5 +1,5 @@
 ghost use Rattle.std.specs.Prelude.{◌≡◌, ◌<◌, ◌≤◌, max, not};
-ghost use Rattle.am_node_parts.specs.Prelude.{most_number, top_of, stamp_eq, IsInOrder, has_own_leave, is_within_bound, view, node_of};
+ghost use Rattle.am_node_parts.specs.Prelude.{greatest_number, top_of_log, stamps_are_equal, IsInOrder, has_own_leave, number_is_within_bound, view, node_of};
 
 use am_base::name::{Name, Stamp};
 use am_node_parts::parts::Parts;
@@ -7,7 +7,7 @@ use am_node_storage::log::Log;
 
 /// Whether two stamps are one.
 pub fn is_same(a: &Stamp, b: &Stamp) -> bool
-    ensures value { result ≡ stamp_eq a.now b.now }
+    ensures value { result ≡ stamps_are_equal a.now b.now }
     ensures small { (a.now.by < 256) × (b.now.by < 256) }
 {
     let (one, other) = (a.by.get(), b.by.get());
@@ -55,8 +55,8 @@ pub fn taken_of(parts: &Parts) -> u32
 
 /// The number of its last entry.
 pub fn last_of(parts: &Parts) -> u32
-    ensures value { result ≡ top_of parts.now.core.log }
-    ensures within { result ≤ most_number }
+    ensures value { result ≡ top_of_log parts.now.core.log }
+    ensures within { result ≤ greatest_number }
     ensures order { IsInOrder parts.now.core }
 {
     parts.core.log.top()
@@ -64,7 +64,7 @@ pub fn last_of(parts: &Parts) -> u32
 
 /// Whether this is the view.
 pub fn is_view(parts: &Parts, stamp: &Stamp) -> bool
-    ensures { result ≡ stamp_eq (view (node_of parts.now)) stamp.now }
+    ensures { result ≡ stamps_are_equal (view (node_of parts.now)) stamp.now }
 {
     let here = parts.core.log.view();
     here.round == stamp.round && here.by == stamp.by
@@ -79,7 +79,7 @@ pub fn has_own_leave(parts: &Parts) -> bool
 
 /// Whether a number is beyond the bound of the greater of two bases.
 pub fn is_beyond(parts: &Parts, base: u32, number: u32) -> bool
-    ensures { result ≡ not (is_within_bound (node_of parts.now)
+    ensures { result ≡ not (number_is_within_bound (node_of parts.now)
         (max parts.now.core.base base) number) }
 {
     let greater = parts.core.log.base().max(base);

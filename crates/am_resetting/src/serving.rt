@@ -1,5 +1,5 @@
 ghost use Rattle.std.specs.Prelude.{◌≡◌, ◌||◌, ◌&&◌, ◌==◌, nat_lt};
-ghost use Rattle.am_node_parts.specs.Prelude.{top_of, node_of};
+ghost use Rattle.am_node_parts.specs.Prelude.{top_of_log, node_of};
 ghost use Rattle.am_model.specs.Resets.{fetch_row, may_fetch};
 ghost use Rattle.am_node_parts.specs.Replies.{Replies};
 
@@ -22,7 +22,7 @@ fn may_fetch(parts: &Parts, from: Name, stamp: &Stamp) -> bool
 /// Whether a number is below the base or above the last entry.
 fn is_out_of_reach(parts: &Parts, number: u32) -> bool
     ensures { result ≡ (nat_lt number parts.now.core.base
-        || nat_lt (top_of parts.now.core.log) number) }
+        || nat_lt (top_of_log parts.now.core.log) number) }
 {
     number < parts.core.log.base() || parts.core.log.top() < number
 }

@@ -1,10 +1,10 @@
 ghost use Rattle.std.specs.Prelude.{◌≡◌, ◌≢◌, ◌<◌, ◌+◌, Some, None, true, false, not, ◌&&◌, ◌||◌};
-ghost use Rattle.am_node_parts.specs.Prelude.{image_of, most_number, IsStamp, top_of, has, stamp_lt, IsInOrder, has_log, is_member, members, others, Node, IsOwnBallot, node_of};
+ghost use Rattle.am_node_parts.specs.Prelude.{image_of_node, greatest_number, StampIsInRange, top_of_log, has, stamp_is_less, IsInOrder, has_log_by_status, is_member, members, other_members, Node, IsOwnBallot, node_of};
 ghost use Rattle.am_ballots.specs.Kept.{ballot_of};
 ghost use Rattle.am_model.specs.Emit as emit;
-ghost use Rattle.am_model.specs.Ballots.{keep_vote, give_up, begin, next_stamp};
-ghost use Rattle.am_model.specs.Resets.{invite_row, vote_row, take_vote, is_open};
-ghost use Rattle.am_model.specs.Calls.{reset_row, ask_row, ask_of, give_up_row, give_up_of};
+ghost use Rattle.am_model.specs.Ballots.{keep_vote_in_ballot, give_up_in_ballot, begin_ballot, next_stamp};
+ghost use Rattle.am_model.specs.Resets.{invite_row, vote_row, take_vote, is_open_ballot};
+ghost use Rattle.am_model.specs.Calls.{reset_row, ask_row, answer_ask_of_ballot, give_up_row, give_up_in_open_ballot};
 ghost use Rattle.am_resetting.specs.Deciding.{IsTakenOut};
 ghost use Rattle.am_node_parts.specs.Replies.{Replies};
 
@@ -26,7 +26,7 @@ use am_node_storage::log::Log;
 /// The members without the node itself.
 fn others_of(parts: &Parts) -> Names
     requires { IsInOrder parts.now.core }
-    ensures { result ≡ others (node_of parts.now) }
+    ensures { result ≡ other_members (node_of parts.now) }
 {
     parts.others()
 }
@@ -43,7 +43,7 @@ fn is_member(parts: &Parts) -> bool
 fn keep_vote<'a>(parts: &mut Parts, from: Name, vote: &Vote, ballot: Ballot) -> Reply<'a>
     requires ballot { IsTakenOut (node_of parts.old) (ballot_of ballot) }
     requires other { from ≢ parts.old.core.who }
-    ensures { Replies (keep_vote (node_of parts.old) (ballot_of ballot) from vote.now)
+    ensures { Replies (keep_vote_in_ballot (node_of parts.old) (ballot_of ballot) from vote.now)
         result (node_of parts.new) }
 {
     let own = own_vote(parts);
@@ -61,7 +61,7 @@ fn keep_vote<'a>(parts: &mut Parts, from: Name, vote: &Vote, ballot: Ballot) -> 
 fn give_up<'a>(parts: &mut Parts, name: Name, ballot: Ballot) -> Reply<'a>
     requires ballot { IsTakenOut (node_of parts.old) (ballot_of ballot) }
     requires other { name ≢ parts.old.core.who }
-    ensures { Replies (give_up (node_of parts.old) (ballot_of ballot) name) result (node_of parts.new) }
+    ensures { Replies (give_up_in_ballot (node_of parts.old) (ballot_of ballot) name) result (node_of parts.new) }
 {
     let mut ballot = ballot;
     ballot.give_up(name);
@@ -71,8 +71,8 @@ fn give_up<'a>(parts: &mut Parts, name: Name, ballot: Ballot) -> Reply<'a>
 
 /// Whether a vote of this stamp is none for an unfinished ballot.
 fn is_stale(parts: &Parts, stamp: &Stamp, ballot: &Ballot) -> bool
-    ensures { result ≡ (stamp_lt stamp.now parts.now.core.promise
-        || not (is_open stamp.now (ballot_of ballot.now))) }
+    ensures { result ≡ (stamp_is_less stamp.now parts.now.core.promise
+        || not (is_open_ballot stamp.now (ballot_of ballot.now))) }
 {
     copy_of(stamp).is_below(promise_of(parts)) || !ballot.is_open(copy_of(stamp))
 }
@@ -88,7 +88,7 @@ fn take_vote<'a>(
     requires order { IsInOrder parts.old.core }
     requires out { (node_of parts.old).ballot ≡ None }
     requires own { IsOwnBallot (node_of parts.old) (ballot_of ballot) }
-    requires number { top_of parts.old.core.log < most_number }
+    requires number { top_of_log parts.old.core.log < greatest_number }
     requires other { from ≢ parts.old.core.who }
     ensures { Replies (take_vote (record (node_of parts.old)
         { ballot = Some (ballot_of ballot) }) from stamp vote.now (Some (ballot_of ballot)))
@@ -109,8 +109,8 @@ fn take_vote<'a>(
 /// the name was given up; else what the ballot comes to.
 #[inline(never)]
 pub fn on_vote<'a>(parts: &mut Parts, from: Name, stamp: Stamp, vote: &Vote) -> Reply<'a>
-    requires within { IsStamp stamp }
-    requires number { top_of parts.old.core.log < most_number }
+    requires within { StampIsInRange stamp }
+    requires number { top_of_log parts.old.core.log < greatest_number }
     requires other { from ≢ parts.old.core.who }
     ensures { Replies (vote_row (node_of parts.old) from stamp vote.now) result (node_of parts.new) }
 {
@@ -128,7 +128,7 @@ pub fn on_vote<'a>(parts: &mut Parts, from: Name, stamp: Stamp, vote: &Vote) -> 
 /// Somebody asks for a vote (docs/PROTOCOL.md, "Ballots and views"): Newer where more is promised, else Voted. Either way a Vote
 /// goes back.
 pub fn on_invite<'a>(parts: &mut Parts, from: Name, stamp: Stamp) -> Reply<'a>
-    requires { IsStamp stamp }
+    requires { StampIsInRange stamp }
     ensures { Replies (invite_row (node_of parts.old) from stamp) result (node_of parts.new) }
 {
     let promise = promise_of(parts);
@@ -145,8 +145,8 @@ fn give_up_of<'a>(parts: &mut Parts, name: Name, ballot: Ballot) -> Reply<'a>
     requires order { IsInOrder parts.old.core }
     requires out { (node_of parts.old).ballot ≡ None }
     requires own { IsOwnBallot (node_of parts.old) (ballot_of ballot) }
-    requires number { top_of parts.old.core.log < most_number }
-    ensures { Replies (give_up_of (record (node_of parts.old)
+    requires number { top_of_log parts.old.core.log < greatest_number }
+    ensures { Replies (give_up_in_open_ballot (record (node_of parts.old)
         { ballot = Some (ballot_of ballot) }) name (Some (ballot_of ballot))) result (node_of parts.new) }
 {
     if ballot.is_over() {
@@ -164,7 +164,7 @@ fn give_up_of<'a>(parts: &mut Parts, name: Name, ballot: Ballot) -> Reply<'a>
 /// ballot comes to.
 #[inline(never)]
 pub fn on_give_up<'a>(parts: &mut Parts, name: Name) -> Reply<'a>
-    requires number { top_of parts.old.core.log < most_number }
+    requires number { top_of_log parts.old.core.log < greatest_number }
     ensures { Replies (give_up_row (node_of parts.old) name) result
         (node_of parts.new) }
 {
@@ -177,10 +177,10 @@ pub fn on_give_up<'a>(parts: &mut Parts, name: Name) -> Reply<'a>
 
 /// The stamp of the next round of the node's own.
 fn next_stamp(parts: &Parts) -> Stamp
-    requires { parts.now.core.promise.round < most_number }
+    requires { parts.now.core.promise.round < greatest_number }
     ensures value { result ≡ next_stamp (node_of parts.now) }
-    ensures within { IsStamp result }
-    ensures higher { stamp_lt result parts.now.core.promise ≡ false }
+    ensures within { StampIsInRange result }
+    ensures higher { stamp_is_less result parts.now.core.promise ≡ false }
 {
     let promise = promise_of(parts);
     Stamp {
@@ -199,10 +199,10 @@ fn drop_ballot(parts: &mut Parts)
 /// A ballot begins in place of the last one.
 fn begin<'a>(parts: &mut Parts, least: u8, resilience: u8) -> Reply<'a>
     requires order { IsInOrder parts.old.core }
-    requires round { parts.old.core.promise.round < most_number }
-    requires number { top_of parts.old.core.log < most_number }
-    requires logged { has_log parts.old.status ≡ true }
-    ensures { Replies (begin (node_of parts.old) least resilience) result (node_of parts.new) }
+    requires round { parts.old.core.promise.round < greatest_number }
+    requires number { top_of_log parts.old.core.log < greatest_number }
+    requires logged { has_log_by_status parts.old.status ≡ true }
+    ensures { Replies (begin_ballot (node_of parts.old) least resilience) result (node_of parts.new) }
 {
     let stamp = next_stamp(parts);
     let invited = others_of(parts);
@@ -215,8 +215,8 @@ fn begin<'a>(parts: &mut Parts, least: u8, resilience: u8) -> Reply<'a>
 
 /// A ballot is to begin for a view of at least so many members: NotMember or Leaving where it may not, else what it comes to.
 pub fn on_reset<'a>(parts: &mut Parts, least: u8, resilience: u8) -> Reply<'a>
-    requires round { parts.old.core.promise.round < most_number }
-    requires number { top_of parts.old.core.log < most_number }
+    requires round { parts.old.core.promise.round < greatest_number }
+    requires number { top_of_log parts.old.core.log < greatest_number }
     ensures { Replies (reset_row (node_of parts.old) least resilience) result (node_of parts.new) }
 {
     let _front = parts.accept_front();
@@ -231,7 +231,7 @@ pub fn on_reset<'a>(parts: &mut Parts, least: u8, resilience: u8) -> Reply<'a>
 
 /// What a ballot answers to who asks for a round.
 fn answer_of(ballot: &Ballot, round: u32) -> Outcome
-    ensures { (m : Node) → ask_of m round (Some (ballot_of ballot.now)) ≡ emit.quiet m result }
+    ensures { (m : Node) → answer_ask_of_ballot m round (Some (ballot_of ballot.now)) ≡ emit.plan_without_letters m result }
 {
     let stamp = ballot.stamp();
     if stamp.round < round {
@@ -246,7 +246,7 @@ fn answer_of(ballot: &Ballot, round: u32) -> Outcome
 /// What the last ballot answers to who asks for a round; Unknown where there is none.
 #[tactic(auto, unfolding(am_model::specs::Calls::ask_row))]
 fn ask(parts: &Parts, round: u32) -> Outcome
-    ensures { ask_row (node_of parts.now) round ≡ emit.quiet (node_of parts.now) result }
+    ensures { ask_row (node_of parts.now) round ≡ emit.plan_without_letters (node_of parts.now) result }
 {
     match &parts.ballot {
         None => Outcome::Unknown,
@@ -256,9 +256,9 @@ fn ask(parts: &Parts, round: u32) -> Outcome
 
 /// The sequencer hands over: as a reset with least size 1 and the list's resilience.
 pub fn on_hand_over<'a>(parts: &mut Parts) -> Reply<'a>
-    requires round { parts.old.core.promise.round < most_number }
-    requires number { top_of parts.old.core.log < most_number }
-    ensures { Replies (reset_row (node_of parts.old) 1 (image_of (node_of parts.old)).resilience)
+    requires round { parts.old.core.promise.round < greatest_number }
+    requires number { top_of_log parts.old.core.log < greatest_number }
+    ensures { Replies (reset_row (node_of parts.old) 1 (image_of_node (node_of parts.old)).resilience)
         result (node_of parts.new) }
 {
     let resilience = parts.core.log.resilience();

@@ -1,10 +1,10 @@
 -- A step of any name, and of the first founder.
 use Rattle.am_run_laws.proofs.UnballotedWords.{◌≡◌, ◌≢◌, ⊎_elim, ℕ, zero, suc, ◌-◌, ◌≤◌, ◌==◌, true, false, List, [], ◌∷◌, ◌++◌, length, take, drop, None, refl}
 use Rattle.am_run_laws.proofs.UnballotedWords.{sym, ap, ◌∙◌, subst, append_assoc, append-nil, arith, All, nat_tests, take-append-le, length-take-le, All-weaker}
-use Rattle.am_run_laws.proofs.UnballotedWords.{Stamp, Entry, View, Outcome, Rules, Log, CoreState, Letter, Act, Event, Record, Departed, Node, view, set_at}
-use Rattle.am_run_laws.proofs.UnballotedWords.{has_log, Step, World, record_of, group_after, with_step, heard_by, split_on_bool, Cause, hears, Change, refreshes, settles}
-use Rattle.am_run_laws.proofs.UnballotedWords.{numbers, stores, begins_list, opens, looks, fetches, stores_view, closes, LetterSays, AnswersCause, WasQueued, AnswersAsk}
-use Rattle.am_run_laws.proofs.UnballotedWords.{Effect, actor, IsCause, all_gives_item_at, refresh_rests_with_list, own_leave_rests, settle_changes_only_sends, NodeBodiesWereSent, CauseCarriesSentBodies, change_keeps_sent_bodies, WorldBodiesWereSent}
+use Rattle.am_run_laws.proofs.UnballotedWords.{Stamp, Entry, View, Outcome, Rules, Log, CoreState, Letter, Act, Event, Record, Departed, Node, view, map_with_value}
+use Rattle.am_run_laws.proofs.UnballotedWords.{has_log_by_status, StepResult, World, record_of, list_after_step, world_with_step, packet_heard_by_act, split_on_bool, Cause, hears, Change, refreshes, settles}
+use Rattle.am_run_laws.proofs.UnballotedWords.{numbers, stores, begins_list, opens, looks, fetches, stores_view, closes, LetterSays, OutcomeTells, WasQueued, AnswersAsk}
+use Rattle.am_run_laws.proofs.UnballotedWords.{Effect, acting_name, IsCause, all_gives_item_at, refresh_rests_with_list, own_leave_rests, settle_changes_only_sends, NodeBodiesWereSent, CauseCarriesSentBodies, change_keeps_sent_bodies, WorldBodiesWereSent}
 use Rattle.am_run_laws.proofs.UnballotedWords.{all_sent_in_longer_records, records_after_step, cause_of_step_was_sent, member_status_has_log}
 use Rattle.am_base.specs.declared.outcome.Outcome.TheVariants as said
 use Rattle.am_run_laws.proofs.Chains.{no_ballot_after_none_before, changes_without_ballot_keep, changes_keep_start_without_welcome, last_request_le_after_changes, GaveByAnswer, nothing, each_change_gives_by_answer}
@@ -19,24 +19,24 @@ use Rattle.am_run_laws.proofs.{Steps.no_ballot_answers_no_ask, Goes.step_keeps_u
 cause_ok : (rules : Rules) (list : List Entry) (acc i : ℕ) (w : World) (a : Act) (c : Cause) → All (UnballotedLetterSays rules list acc) w.letters → IsCause w i a c
     → UnballotedCauseSays rules list acc i c
 cause_ok rules list acc i w a (hears p) h is =
-    let l = all_gives_item_at (UnballotedLetterSays rules list acc) w.letters (heard_by a) is.letter h is.there in
+    let l = all_gives_item_at (UnballotedLetterSays rules list acc) w.letters (packet_heard_by_act a) is.letter h is.there in
     subst (UnballotedPacketSays rules list acc i) is.is (l.heard i is.addressed)
 cause_ok rules list acc i w a _ h is = tt
 
-asked_step : (w : World) (e : Event) (c : Cause) (s : Step) → RequestsAreAskedOnce w.records w.nodes → Effect (w.nodes (actor w e)) c s → s.node.ballot ≡ None
-    → RequestsAreAskedOnce (records_after_step w e s) (set_at w.nodes (actor w e) s.node)
+asked_step : (w : World) (e : Event) (c : Cause) (s : StepResult) → RequestsAreAskedOnce w.records w.nodes → Effect (w.nodes (acting_name w e)) c s → s.node.ballot ≡ None
+    → RequestsAreAskedOnce (records_after_step w e s) (map_with_value w.nodes (acting_name w e) s.node)
 asked_step w e c s h effect none =
-    let i = actor w e in
+    let i = acting_name w e in
     let m = w.nodes i in
     send_record_keeps_requests_once w.records w.nodes i s.node (record_of w e s.outcome s.letters) refl (last_request_le_after_changes effect.changes none)
     (λ req body is. ⊎_elim
     (λ (x : WasQueued m s.node req). (let next = x.next in let more = x.more in (next, omega arith)))
     (λ (x : AnswersAsk m c (said.Queued req)). absurd (no_ballot_answers_no_ask m c _ (no_ballot_after_none_before effect.changes none) x))
-    (subst (AnswersCause m c s.node) is.answered effect.answer)) h
+    (subst (OutcomeTells m c s.node) is.answered effect.answer)) h
 
 -- ---- the sender of its letters
 
-sends_of : (rules : Rules) (list : List Entry) (acc i : ℕ) (m : Node) (c : Cause) (s : Step) (effect : Effect m c s) → UnballotedNodeKeeps rules list acc i s.node
+sends_of : (rules : Rules) (list : List Entry) (acc i : ℕ) (m : Node) (c : Cause) (s : StepResult) (effect : Effect m c s) → UnballotedNodeKeeps rules list acc i s.node
     → s.node.ballot ≡ None → UnballotedSender rules list acc i m effect.sender
 sends_of rules list acc i m c s effect h none =
     let core : s.node.core ≡ effect.sender.core = ap (λ (x : Node). x.core) effect.is in
@@ -45,13 +45,13 @@ sends_of rules list acc i m c s effect h none =
       log = subst (λ (x : CoreState). ListIsOfTheWhole list acc x.log) core h.log;
       fronts = subst (λ (x : CoreState). UnballotedFrontsAreInOrder (first_founder_of rules) acc i x) core h.fronts;
       promise = λ t. ap (λ (x : CoreState). x.promise) (sym core)
-          ∙ h.status.promise (⊎_elim (λ (x : s.node.status ≡ effect.sender.status). ap has_log x
-          ∙ member_status_has_log effect.sender.status t) (λ (x : s.node.status ≡ Departed). ap has_log x) effect.stays);
+          ∙ h.status.promise (⊎_elim (λ (x : s.node.status ≡ effect.sender.status). ap has_log_by_status x
+          ∙ member_status_has_log effect.sender.status t) (λ (x : s.node.status ≡ Departed). ap has_log_by_status x) effect.stays);
       none = ap (λ (x : Node). x.ballot) (sym effect.is) ∙ none;
       before = no_ballot_after_none_before effect.changes none;
     }
 
-fetched_of : (rules : Rules) (list : List Entry) (acc i : ℕ) (m : Node) (c : Cause) (s : Step) (effect : Effect m c s) → UnballotedNodeKeeps rules list acc i m
+fetched_of : (rules : Rules) (list : List Entry) (acc i : ℕ) (m : Node) (c : Cause) (s : StepResult) (effect : Effect m c s) → UnballotedNodeKeeps rules list acc i m
     → s.node.ballot ≡ None → FetchedNodeKeepsStart c m effect.sender
 fetched_of rules list acc i m c s effect h none name v stored is =
     let same = changes_keep_start_without_welcome (λ a b d f g heard. (let z = sym is ∙ heard in absurd (cc))) effect.changes none in
@@ -66,7 +66,7 @@ record OtherOk (rules : Rules) (list : List Entry) (acc i : ℕ) (all : List Rec
   pub gave : GaveByAnswer c o m x
 
 -- nobody but the first founder accepts more
-pub group_after_of_low_accepted : (group : List Entry) (n : Node) → n.core.acc ≤ length group → group_after group n ≡ group
+pub group_after_of_low_accepted : (group : List Entry) (n : Node) → n.core.acc ≤ length group → list_after_step group n ≡ group
 group_after_of_low_accepted group n low =
     let z : n.core.acc - length group ≡ 0 = omega arith in
     split_on_bool ((view n).by == n.core.who)
@@ -76,13 +76,13 @@ group_after_of_low_accepted group n low =
 accepted_within : (rules : Rules) (m : Node) → FirstFounderBase rules m → m.core.acc ≤ length m.core.log.entries
 accepted_within rules m h = let w = h.node.fronts.within in let s = h.start in omega arith
 
-module _ (rules : Rules) (w : World) (e : Event) (c : Cause) (s : Step) (h : UnballotedWorldHolds rules w) (sent : WorldBodiesWereSent w) (d : actor w e ≢ first_founder_of rules)
-    (cause : IsCause w (actor w e) e.act c) (effect : Effect (w.nodes (actor w e)) c s) (none : s.node.ballot ≡ None) where
+module _ (rules : Rules) (w : World) (e : Event) (c : Cause) (s : StepResult) (h : UnballotedWorldHolds rules w) (sent : WorldBodiesWereSent w) (d : acting_name w e ≢ first_founder_of rules)
+    (cause : IsCause w (acting_name w e) e.act c) (effect : Effect (w.nodes (acting_name w e)) c s) (none : s.node.ballot ≡ None) where
   abbrev i : ℕ
-  i = actor w e
+  i = acting_name w e
 
   abbrev m : Node
-  m = w.nodes (actor w e)
+  m = w.nodes (acting_name w e)
 
   abbrev first : Node
   first = w.nodes (first_founder_of rules)
@@ -93,7 +93,7 @@ module _ (rules : Rules) (w : World) (e : Event) (c : Cause) (s : Step) (h : Unb
   abbrev acc : ℕ
   acc = (w.nodes (first_founder_of rules)).core.acc
 
-  asked : RequestsAreAskedOnce (records_after_step w e s) (set_at w.nodes i s.node)
+  asked : RequestsAreAskedOnce (records_after_step w e s) (map_with_value w.nodes i s.node)
   asked = asked_step w e c s h.asked effect none
 
   within : acc ≤ length list
@@ -111,7 +111,7 @@ module _ (rules : Rules) (w : World) (e : Event) (c : Cause) (s : Step) (h : Unb
       let heard : HeardInUnballotedRun rules list acc i all s.outcome c = record {
         cause = ok;
         within = within;
-        unique = asked_once_means_one_body all (set_at w.nodes i s.node) asked;
+        unique = asked_once_means_one_body all (map_with_value w.nodes i s.node) asked;
         sent = (old.each (first_founder_of rules)).entries;
       } in
       let before : OtherOk rules list acc i all c s.outcome m m = record { sent = old.each i; node = h.kept.each i; gave = nothing refl refl refl } in
@@ -123,8 +123,8 @@ module _ (rules : Rules) (w : World) (e : Event) (c : Cause) (s : Step) (h : Unb
       })
       effect.changes none before
 
-  pub other_step_keeps_unballoted_world : UnballotedWorldHolds rules (with_step w e i s)
-  unfolding with_step
+  pub other_step_keeps_unballoted_world : UnballotedWorldHolds rules (world_with_step w e i s)
+  unfolding world_with_step
   other_step_keeps_unballoted_world =
       let p = other_chain in
       let back = append-nil list in
@@ -137,16 +137,16 @@ module _ (rules : Rules) (w : World) (e : Event) (c : Cause) (s : Step) (h : Unb
       let low : s.node.core.acc ≤ length w.group = (let a = p.node.fronts.accepted in let b = length-take-le acc list within in let g = ap length h.kept.group
       in
       omega arith) in
-      let group : group_after w.group s.node ≡ take acc (list ++ []) = group_after_of_low_accepted w.group s.node low ∙ h.kept.group ∙ ap (take acc) (sym back) in
+      let group : list_after_step w.group s.node ≡ take acc (list ++ []) = group_after_of_low_accepted w.group s.node low ∙ h.kept.group ∙ ap (take acc) (sym back) in
       let kept = step_keeps_unballoted_list rules list [] acc acc w e c s h.kept within (omega arith) node group
       (All-weaker (LetterSays m c effect.sender) (UnballotedLetterSays rules (list ++ []) acc) says s.letters effect.letters) p.gave cause effect.answer
       (no_ballot_after_none_before effect.changes none) in
       let differs : (first_founder_of rules == i) ≡ false = split_on_bool (first_founder_of rules == i) (λ t. absurd (d (grind (arith, nat_tests)))) (λ f. f) in
-      let same : first ≡ set_at w.nodes i s.node (first_founder_of rules) = rw differs refl in
+      let same : first ≡ map_with_value w.nodes i s.node (first_founder_of rules) = rw differs refl in
       record {
         first = subst (FirstFounderStaysMember rules) same h.first;
-        kept = subst (λ (n : Node). WorldKeepsWholeList rules n.core.log.entries n.core.acc (with_step w e i s)) same
-            (subst (λ l. WorldKeepsWholeList rules l acc (with_step w e i s)) back kept);
+        kept = subst (λ (n : Node). WorldKeepsWholeList rules n.core.log.entries n.core.acc (world_with_step w e i s)) same
+            (subst (λ l. WorldKeepsWholeList rules l acc (world_with_step w e i s)) back kept);
         asked = asked;
       }
 
@@ -202,7 +202,7 @@ take_rest (x ∷ xs) (suc a) (suc b) low =
 
 -- the first founder's list grows, and the group's with what it accepts
 first_group : (rules : Rules) (group list more : List Entry) (acc : ℕ) (n : Node) → FirstFounderBase rules n → n.core.log.entries ≡ list ++ more → acc ≤ n.core.acc
-    → acc ≤ length list → group ≡ take acc list → group_after group n ≡ take n.core.acc (list ++ more)
+    → acc ≤ length list → group ≡ take acc list → list_after_step group n ≡ take n.core.acc (list ++ more)
 first_group rules group list more acc n h is up low same =
     let v = view_of_first_founder rules n h in
     let by : ((view n).by == n.core.who) ≡ true = (let b = ap (λ (x : Stamp). x.by) v in grind (arith, nat_tests)) in
@@ -218,10 +218,10 @@ record FirstNow (rules : Rules) (w : World) (i : ℕ) (c : Cause) : Type 0 where
   kept : WorldKeepsWholeList rules (w.nodes i).core.log.entries (w.nodes i).core.acc w
   cause : UnballotedCauseSays rules (w.nodes i).core.log.entries (w.nodes i).core.acc i c
 
-first_now : (rules : Rules) (w : World) (e : Event) (c : Cause) → UnballotedWorldHolds rules w → actor w e ≡ first_founder_of rules → IsCause w (actor w e) e.act c
-    → FirstNow rules w (actor w e) c
+first_now : (rules : Rules) (w : World) (e : Event) (c : Cause) → UnballotedWorldHolds rules w → acting_name w e ≡ first_founder_of rules → IsCause w (acting_name w e) e.act c
+    → FirstNow rules w (acting_name w e) c
 first_now rules w e c h eq cause =
-    let i = actor w e in
+    let i = acting_name w e in
     let m = w.nodes i in
     let here : w.nodes (first_founder_of rules) ≡ m = ap w.nodes (sym eq) in
     let kept : WorldKeepsWholeList rules m.core.log.entries m.core.acc w = subst (λ (x : Node). WorldKeepsWholeList rules x.core.log.entries x.core.acc w) here h.kept in
@@ -231,10 +231,10 @@ first_now rules w e c h eq cause =
       cause = cause_ok rules m.core.log.entries m.core.acc i w e.act c kept.letters cause;
     }
 
-first_chain : (rules : Rules) (w : World) (e : Event) (c : Cause) (s : Step) → UnballotedWorldHolds rules w → actor w e ≡ first_founder_of rules → IsCause w (actor w e) e.act c
-    → Effect (w.nodes (actor w e)) c s → s.node.ballot ≡ None → FirstGoes rules c s.outcome (w.nodes (actor w e)) s.node
+first_chain : (rules : Rules) (w : World) (e : Event) (c : Cause) (s : StepResult) → UnballotedWorldHolds rules w → acting_name w e ≡ first_founder_of rules → IsCause w (acting_name w e) e.act c
+    → Effect (w.nodes (acting_name w e)) c s → s.node.ballot ≡ None → FirstGoes rules c s.outcome (w.nodes (acting_name w e)) s.node
 first_chain rules w e c s h eq cause effect none =
-    let i = actor w e in
+    let i = acting_name w e in
     let m = w.nodes i in
     let now = first_now rules w e c h eq cause in
     let ok_first : UnballotedCauseSays rules m.core.log.entries m.core.acc (first_founder_of rules) c = subst (λ x. UnballotedCauseSays rules m.core.log.entries m.core.acc x c) eq now.cause in
@@ -251,11 +251,11 @@ first_chain rules w e c s h eq cause effect none =
     })
     effect.changes none before
 
-pub founder_step_keeps_unballoted_world : (rules : Rules) (w : World) (e : Event) (c : Cause) (s : Step) → UnballotedWorldHolds rules w → actor w e ≡ first_founder_of rules → IsCause w (actor w e) e.act c
-    → Effect (w.nodes (actor w e)) c s → s.node.ballot ≡ None → UnballotedWorldHolds rules (with_step w e (actor w e) s)
-unfolding with_step
+pub founder_step_keeps_unballoted_world : (rules : Rules) (w : World) (e : Event) (c : Cause) (s : StepResult) → UnballotedWorldHolds rules w → acting_name w e ≡ first_founder_of rules → IsCause w (acting_name w e) e.act c
+    → Effect (w.nodes (acting_name w e)) c s → s.node.ballot ≡ None → UnballotedWorldHolds rules (world_with_step w e (acting_name w e) s)
+unfolding world_with_step
 founder_step_keeps_unballoted_world rules w e c s h eq cause effect none =
-    let i = actor w e in
+    let i = acting_name w e in
     let m = w.nodes i in
     let list = m.core.log.entries in
     let acc = m.core.acc in
@@ -285,18 +285,18 @@ founder_step_keeps_unballoted_world rules w e c s h eq cause effect none =
     (All-weaker (LetterSays m c effect.sender) (UnballotedLetterSays rules (list ++ g.more) to) says s.letters effect.letters) p.gave cause effect.answer
     (no_ballot_after_none_before effect.changes none) in
     let mine : (first_founder_of rules == i) ≡ true = grind (arith, nat_tests) in
-    let same : n ≡ set_at w.nodes i n (first_founder_of rules) = rw mine refl in
+    let same : n ≡ map_with_value w.nodes i n (first_founder_of rules) = rw mine refl in
     record {
       first = subst (FirstFounderStaysMember rules) same p.ok;
-      kept = subst (λ (x : Node). WorldKeepsWholeList rules x.core.log.entries x.core.acc (with_step w e i s)) same
-          (subst (λ l. WorldKeepsWholeList rules l to (with_step w e i s)) (sym g.is) kept);
+      kept = subst (λ (x : Node). WorldKeepsWholeList rules x.core.log.entries x.core.acc (world_with_step w e i s)) same
+          (subst (λ l. WorldKeepsWholeList rules l to (world_with_step w e i s)) (sym g.is) kept);
       asked = asked_step w e c s h.asked effect none;
     }
 
 -- ---- what was given
 
-pub step_gives_what_it_answers : (rules : Rules) (w : World) (e : Event) (c : Cause) (s : Step) → UnballotedWorldHolds rules w → WorldBodiesWereSent w → IsCause w (actor w e) e.act c
-    → Effect (w.nodes (actor w e)) c s → s.node.ballot ≡ None → GaveByAnswer c s.outcome (w.nodes (actor w e)) s.node
-step_gives_what_it_answers rules w e c s h sent cause effect none = split_on_bool (actor w e == first_founder_of rules)
-    (λ t. let is : actor w e ≡ first_founder_of rules = grind (arith, nat_tests) in (first_chain rules w e c s h is cause effect none).gave)
+pub step_gives_what_it_answers : (rules : Rules) (w : World) (e : Event) (c : Cause) (s : StepResult) → UnballotedWorldHolds rules w → WorldBodiesWereSent w → IsCause w (acting_name w e) e.act c
+    → Effect (w.nodes (acting_name w e)) c s → s.node.ballot ≡ None → GaveByAnswer c s.outcome (w.nodes (acting_name w e)) s.node
+step_gives_what_it_answers rules w e c s h sent cause effect none = split_on_bool (acting_name w e == first_founder_of rules)
+    (λ t. let is : acting_name w e ≡ first_founder_of rules = grind (arith, nat_tests) in (first_chain rules w e c s h is cause effect none).gave)
     (λ f. (other_chain rules w e c s h sent (λ q. let z : ⊥ = grind (arith, nat_tests) in z) cause effect none).gave)

@@ -1,8 +1,8 @@
 -- What some changes in turn keep.
 use Rattle.am_run_laws.proofs.UnballotedWords.{◌≡◌, ℕ, ◌+◌, ◌-◌, ◌<◌, ◌≤◌, max, min, ◌==◌, ◌&&◌, nat_lt, not, true, false, if◌then◌else◌, List, Option, Some, None}
-use Rattle.am_run_laws.proofs.UnballotedWords.{refl, sym, ap, ◌∙◌, subst, arith, nat_tests, Stamp, Entry, Leave, Image, Outcome, Rules, stamp_lt, accept, pass_over}
-use Rattle.am_run_laws.proofs.UnballotedWords.{own_report, tell, go_on, let_go, Status, Node, Ballot, acts, is_member, is_sequencer, push_entry, has_log, advance_node}
-use Rattle.am_run_laws.proofs.UnballotedWords.{lead, refresh, settle, refresh_at_end, overtake, begin_list, split_on_bool, both_of_and, Cause, hears, MayBeWelcomed, Change}
+use Rattle.am_run_laws.proofs.UnballotedWords.{refl, sym, ap, ◌∙◌, subst, arith, nat_tests, Stamp, Entry, Leave, Image, Outcome, Rules, stamp_is_less, raise_accepted_to_told, pass_over_below_join}
+use Rattle.am_run_laws.proofs.UnballotedWords.{raise_own_report, tell_accept_front, advance_with_reports, trim_to_least_taken, Status, Node, Ballot, acts_in_its_view, is_member, is_sequencer, push_entry, has_log_by_status, advance_node}
+use Rattle.am_run_laws.proofs.UnballotedWords.{refresh_as_sequencer, refresh, settle_waiting_send, refresh_at_end, overtake_lower_ballot, node_of_welcomed, split_on_bool, both_of_and, Cause, hears, MayBeWelcomed, Change}
 use Rattle.am_run_laws.proofs.UnballotedWords.{refreshes, settles, begins_list, departs, promises, opens, looks, queues, collects, takes, asks_to_join, closes}
 use Rattle.am_run_laws.proofs.UnballotedWords.{Changes, unchanged, changed, refresh_rests_with_list, own_leave_rests, settle_changes_only_sends, member_status_has_log, asking_status_has_no_log, welcomed_node_is_asking, Packet}
 use Rattle.am_base.specs.declared.outcome.Outcome.TheVariants as said
@@ -17,9 +17,9 @@ none_before m n refreshes h = sym (refresh_rests_with_list m).rests.ballot ∙ h
 none_before m n settles h = subst (λ (x : Node). x.ballot ≡ None → m.ballot ≡ None) (sym (settle_changes_only_sends m)) (λ z. z) h
 none_before m n (promises v low why) h = still v m.ballot h
   where
-    still : (by : Stamp) (b : Option Ballot) → overtake by b ≡ None → b ≡ None
+    still : (by : Stamp) (b : Option Ballot) → overtake_lower_ballot by b ≡ None → b ≡ None
     still by None x = refl
-    still by (Some b) x = split_on_bool (not b.is_over && stamp_lt b.stamp by) (λ t. let y = rw t at x in absurd (cc)) (λ f. let y = rw f at x in absurd (cc))
+    still by (Some b) x = split_on_bool (not b.is_over && stamp_is_less b.stamp by) (λ t. let y = rw t at x in absurd (cc)) (λ f. let y = rw f at x in absurd (cc))
 none_before m n (opens least resilience by may) h = absurd (cc)
 none_before m n (looks b verdict over why look is) h = absurd (look_leaves_a_ballot m b verdict look h)
 none_before m n (closes leads leaves last room) h = sym (own_leave_rests m).ballot ∙ h
@@ -65,7 +65,7 @@ last_kept low m n refreshes none h = subst (λ k. low ≤ k) (sym (refresh_rests
 last_kept low m n settles none h = subst (λ (x : Node). low ≤ x.sends.last) (sym (settle_changes_only_sends m)) h
 last_kept low m n (looks b verdict over why look is) none h = absurd (look_leaves_a_ballot m b verdict look none)
 last_kept low m n (queues body is says member stays few) none h = omega arith
-last_kept low m n (collects req is) none h = split_on_bool (own.is_settled req m.sends) (λ t. rw t h) (λ f. rw f h)
+last_kept low m n (collects req is) none h = split_on_bool (own.has_settled_send req m.sends) (λ t. rw t h) (λ f. rw f h)
 last_kept low m n (closes leads leaves last room) none h = subst (λ k. low ≤ k) (sym (own_leave_rests m).asked) h
 last_kept low m n _ none h = h
 
@@ -80,14 +80,14 @@ front_of_given m = max m.core.taken (m.core.start - 1)
 
 -- by what is answered: nothing was given, the next entry was, or a list has begun
 pub data GaveByAnswer (c : Cause) (o : Outcome) (m n : Node) : Type 0 where
-  nothing : front_of_given n ≡ front_of_given m → n.core.start ≡ m.core.start → has_log n.status ≡ has_log m.status → GaveByAnswer c o m n
+  nothing : front_of_given n ≡ front_of_given m → n.core.start ≡ m.core.start → has_log_by_status n.status ≡ has_log_by_status m.status → GaveByAnswer c o m n
   took : (k : ℕ) (e : Entry) → o ≡ said.Took (k + 1) e → front_of_given m ≡ k → front_of_given n ≡ k + 1 → n.core.start ≡ m.core.start → n.core.start - 1 ≤ k
-      → has_log n.status ≡ true → has_log m.status ≡ true → GaveByAnswer c o m n
+      → has_log_by_status n.status ≡ true → has_log_by_status m.status ≡ true → GaveByAnswer c o m n
   began : (s : ℕ) (v : Stamp) (base join : ℕ) (image : Image) → c ≡ hears (Packet.Welcome s v base join image) → o ≡ said.Welcomed join
-      → has_log m.status ≡ false → has_log n.status ≡ true → n.core.start ≡ join → front_of_given n ≡ join - 1 → 0 < join → GaveByAnswer c o m n
+      → has_log_by_status m.status ≡ false → has_log_by_status n.status ≡ true → n.core.start ≡ join → front_of_given n ≡ join - 1 → 0 < join → GaveByAnswer c o m n
 
 -- a change that moves no front
-pub still_change_gives_nothing : {c : Cause} {o : Outcome} (k m n : Node) → front_of_given n ≡ front_of_given m → n.core.start ≡ m.core.start → has_log n.status ≡ has_log m.status → GaveByAnswer c o k m
+pub still_change_gives_nothing : {c : Cause} {o : Outcome} (k m n : Node) → front_of_given n ≡ front_of_given m → n.core.start ≡ m.core.start → has_log_by_status n.status ≡ has_log_by_status m.status → GaveByAnswer c o k m
     → GaveByAnswer c o k n
 still_change_gives_nothing k m n a b d (nothing x y z) = nothing (a ∙ x) (b ∙ y) (d ∙ z)
 still_change_gives_nothing k m n a b d (took j e is x y z w u v) = took j e is x (a ∙ y) (b ∙ z) (let s = ap (λ t. t - 1) b in omega arith) (d ∙ u) v
@@ -98,14 +98,14 @@ front_after_pass_over taken acc start = split_on_bool (nat_lt taken (start - 1))
     rw t (omega arith)) (λ f. rw f refl)
 
 advance_front : (m : Node) → (front_of_given (advance_node m) ≡ front_of_given m) × ((advance_node m).core.start ≡ m.core.start)
-unfolding accept pass_over
+unfolding raise_accepted_to_told pass_over_below_join
 advance_front m = (front_after_pass_over m.core.taken _ m.core.start, refl)
 
 refresh_front : (m : Node) → (front_of_given (refresh m) ≡ front_of_given m) × ((refresh m).core.start ≡ m.core.start)
-unfolding refresh lead own_report tell go_on let_go accept pass_over
+unfolding refresh refresh_as_sequencer raise_own_report tell_accept_front advance_with_reports trim_to_least_taken raise_accepted_to_told pass_over_below_join
 refresh_front m = split_on_bool (is_sequencer m) (λ t. rw t ((front_after_pass_over m.core.taken _ m.core.start, refl))) (λ f. rw f (advance_front m))
 
-settle_front : (m : Node) → (front_of_given (settle m) ≡ front_of_given m) × ((settle m).core.start ≡ m.core.start)
+settle_front : (m : Node) → (front_of_given (settle_waiting_send m) ≡ front_of_given m) × ((settle_waiting_send m).core.start ≡ m.core.start)
 settle_front m = (ap front_of_given (settle_changes_only_sends m), ap (λ (x : Node). x.core.start) (settle_changes_only_sends m))
 
 end_front : (m : Node) → (front_of_given (refresh_at_end m) ≡ front_of_given m) × ((refresh_at_end m).core.start ≡ m.core.start)
@@ -130,7 +130,7 @@ gave_taken rules list acc i k m n e h member some says is (nothing x y z) =
     let new = ap front_of_given is in
     let start = ap (λ (x : Node). x.core.start) is in
     let log = member_status_has_log m.status member in
-    took m.core.taken e says (omega arith) (omega arith) (start ∙ y) (omega arith) (ap (λ (x : Node). has_log x.status) is ∙ log) (sym z ∙ log)
+    took m.core.taken e says (omega arith) (omega arith) (start ∙ y) (omega arith) (ap (λ (x : Node). has_log_by_status x.status) is ∙ log) (sym z ∙ log)
 gave_taken rules list acc i k m n e h member some says is (took j g was x y z w u v) =
     let same : said.Took (m.core.taken + 1) e ≡ said.Took (j + 1) g = sym says ∙ was in
     let number : m.core.taken + 1 ≡ j + 1 = ap number_of same in
@@ -139,11 +139,11 @@ gave_taken rules list acc i k m n e h member some says is (began s v base join i
 
 -- ---- each change
 
-pub departed_member_has_log_still : (s : Status) → is_member s ≡ true → has_log Status.Departed ≡ has_log s
+pub departed_member_has_log_still : (s : Status) → is_member s ≡ true → has_log_by_status Status.Departed ≡ has_log_by_status s
 departed_member_has_log_still s t = sym (member_status_has_log s t)
 
 pub welcome_gives_begun_list : {c : Cause} {o : Outcome} (k m : Node) (s : ℕ) (v : Stamp) (base join : ℕ) (image : Image) → c ≡ hears (Packet.Welcome s v base join image)
-    → o ≡ said.Welcomed join → MayBeWelcomed m s v base join image → GaveByAnswer c o k m → GaveByAnswer c o k (begin_list m v base join image)
+    → o ≡ said.Welcomed join → MayBeWelcomed m s v base join image → GaveByAnswer c o k m → GaveByAnswer c o k (node_of_welcomed m v base join image)
 welcome_gives_begun_list k m s v base join image is says may (nothing x y z) =
     let no = asking_status_has_no_log m.status (welcomed_node_is_asking m s v base join image may) in
     began s v base join image is says (sym z ∙ no) refl refl (omega arith) (omega arith)
@@ -153,16 +153,16 @@ welcome_gives_begun_list k m s v base join image is says may (began s1 v1 base1 
 
 pub each_change_gives_by_answer : {c : Cause} {o : Outcome} (rules : Rules) (list : List Entry) (acc i : ℕ) (k m n : Node) → UnballotedNodeKeeps rules list acc i m → Change c o m n
     → n.ballot ≡ None → GaveByAnswer c o k m → GaveByAnswer c o k n
-each_change_gives_by_answer rules list acc i k m n h refreshes none g = let f = refresh_front m in still_change_gives_nothing k m n f.0 f.1 (ap has_log (refresh_rests_with_list m).rests.status) g
-each_change_gives_by_answer rules list acc i k m n h settles none g = let f = settle_front m in still_change_gives_nothing k m n f.0 f.1 (ap (λ (x : Node). has_log x.status) (settle_changes_only_sends m)) g
+each_change_gives_by_answer rules list acc i k m n h refreshes none g = let f = refresh_front m in still_change_gives_nothing k m n f.0 f.1 (ap has_log_by_status (refresh_rests_with_list m).rests.status) g
+each_change_gives_by_answer rules list acc i k m n h settles none g = let f = settle_front m in still_change_gives_nothing k m n f.0 f.1 (ap (λ (x : Node). has_log_by_status x.status) (settle_changes_only_sends m)) g
 each_change_gives_by_answer rules list acc i k m n h (begins_list s v base join image is says may) none g = welcome_gives_begun_list k m s v base join image is says may g
 each_change_gives_by_answer rules list acc i k m n h (departs s v number is heard leaves) none g =
     still_change_gives_nothing k m n refl refl (departed_member_has_log_still m.status (both_of_and (not (s == m.core.who)) (is_member m.status) heard).1) g
 each_change_gives_by_answer rules list acc i k m n h (opens least resilience by may) none g = absurd (cc)
 each_change_gives_by_answer rules list acc i k m n h (looks b verdict over why look is) none g = absurd (look_leaves_a_ballot m b verdict look none)
 each_change_gives_by_answer rules list acc i k m n h (takes e is says member some there) none g = gave_taken rules list acc i k m n e h member some says refl g
-each_change_gives_by_answer rules list acc i k m n h (asks_to_join is was) none g = still_change_gives_nothing k m n refl refl (sym (ap has_log was)) g
+each_change_gives_by_answer rules list acc i k m n h (asks_to_join is was) none g = still_change_gives_nothing k m n refl refl (sym (ap has_log_by_status was)) g
 each_change_gives_by_answer rules list acc i k m n h (closes leads leaves last room) none g =
     let f = end_front (push_entry m (Leave m.core.who)) in
-    still_change_gives_nothing k m n f.0 f.1 (departed_member_has_log_still m.status (both_of_and (is_member m.status) _ (both_of_and (acts m) _ leads).0).0) g
+    still_change_gives_nothing k m n f.0 f.1 (departed_member_has_log_still m.status (both_of_and (is_member m.status) _ (both_of_and (acts_in_its_view m) _ leads).0).0) g
 each_change_gives_by_answer rules list acc i k m n h _ none g = still_change_gives_nothing k m n refl refl refl g

@@ -1,6 +1,6 @@
 -- Lists of fronts, by names.
 use Rattle.am_run_laws.proofs.UnballotedWords.{◌≡◌, ℕ, zero, suc, ◌+◌, ◌<◌, ◌≤◌, ◌==◌, true, false, List, [], ◌∷◌, ◌++◌, map, Some, slice_get, slice_set, refl, sym}
-use Rattle.am_run_laws.proofs.UnballotedWords.{ap, subst, ◌∙◌, append_assoc, append-nil, arith, range_with_len, nat_tests, Entry, set_at, FrontsGroup, FrontsMove, append, FrontsGrow}
+use Rattle.am_run_laws.proofs.UnballotedWords.{ap, subst, ◌∙◌, append_assoc, append-nil, arith, range_with_len, nat_tests, Entry, map_with_value, FrontsGroup, FrontsMove, append, FrontsGrow}
 use Rattle.am_run_laws.proofs.UnballotedWords.{none, more}
 
 pub map_of_equal_functions : {A : Type 0} (f g : ℕ → A) (a n : ℕ) → ((j : ℕ) → a ≤ j → f j ≡ g j) → map f (range_with_len a n) ≡ map g (range_with_len a n)
@@ -16,18 +16,18 @@ slice_get_of_mapped_range f a (suc n) zero low = let z : a ≡ a + zero = omega 
 slice_get_of_mapped_range f a (suc n) (suc k) low = let z : (a + 1) + k ≡ a + suc k = omega arith in slice_get_of_mapped_range f (a + 1) n k (omega arith) ∙ ap (λ x. Some (f x)) z
 
 -- one name's value set
-pub slice_set_of_mapped_range : {A : Type 0} (f : ℕ → A) (x : A) (a n k : ℕ) → k < n → slice_set (map f (range_with_len a n)) k x ≡ map (set_at f (a + k) x) (range_with_len a n)
+pub slice_set_of_mapped_range : {A : Type 0} (f : ℕ → A) (x : A) (a n k : ℕ) → k < n → slice_set (map f (range_with_len a n)) k x ≡ map (map_with_value f (a + k) x) (range_with_len a n)
 slice_set_of_mapped_range f x a zero k low = absurd (omega arith)
 slice_set_of_mapped_range f x a (suc n) zero low =
     let here : (a == a + zero) ≡ true = grind (arith, nat_tests) in
-    let first : x ≡ set_at f (a + zero) x a = rw here refl in
-    let rest = map_of_equal_functions f (set_at f (a + zero) x) (a + 1) n (λ j up. let t : (j == a + zero) ≡ false = grind (arith, nat_tests) in rw t refl) in
+    let first : x ≡ map_with_value f (a + zero) x a = rw here refl in
+    let rest = map_of_equal_functions f (map_with_value f (a + zero) x) (a + 1) n (λ j up. let t : (j == a + zero) ≡ false = grind (arith, nat_tests) in rw t refl) in
     λ i. first i ∷ rest i
 slice_set_of_mapped_range f x a (suc n) (suc k) low =
     let there : (a == a + suc k) ≡ false = grind (arith, nat_tests) in
-    let first : f a ≡ set_at f (a + suc k) x a = rw there refl in
+    let first : f a ≡ map_with_value f (a + suc k) x a = rw there refl in
     let z : (a + 1) + k ≡ a + suc k = omega arith in
-    let rest = slice_set_of_mapped_range f x (a + 1) n k (omega arith) ∙ ap (λ y. map (set_at f y x) (range_with_len (a + 1) n)) z in
+    let rest = slice_set_of_mapped_range f x (a + 1) n k (omega arith) ∙ ap (λ y. map (map_with_value f y x) (range_with_len (a + 1) n)) z in
     λ i. first i ∷ rest i
 
 -- ---- the list grows entry by entry

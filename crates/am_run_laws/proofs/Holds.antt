@@ -1,7 +1,7 @@
 -- What holds of each run in which nobody began a ballot.
-use Rattle.am_run_laws.proofs.PromisedWords.{◌≡◌, ℕ, ◌+◌, true, List, [], Some, refl, sym, ◌∙◌, subst, arith, Entry, Data, Rules, World, run, has_log, split_on_bool}
-use Rattle.am_run_laws.proofs.PromisedWords.{all_gives_slice_get, Once, ListFits, UnballotedListsFit, nil_from_length}
-use Rattle.am_run_laws.proofs.UnballotedWords.{◌≢◌, Join, blank, AllFit, item_at, deliveries, accepted_sends, BeginsAt, UnballotedHolds, beginning_of_good_is_good, take_begins_list}
+use Rattle.am_run_laws.proofs.PromisedWords.{◌≡◌, ℕ, ◌+◌, true, List, [], Some, refl, sym, ◌∙◌, subst, arith, Entry, Data, Rules, World, run, has_log_by_status, split_on_bool}
+use Rattle.am_run_laws.proofs.PromisedWords.{item_of_index_has_property, Once, GroupListFits, UnballotedListsFit, nil_from_length}
+use Rattle.am_run_laws.proofs.UnballotedWords.{◌≢◌, Join, blank, AllEntriesFit, item_at, deliveries, accepted_sends, BeginsAt, RunsWithoutBallotHold, beginning_of_good_is_good, taken_front_begins_list}
 use Rattle.am_run_laws.proofs.UnballotedWords.{sends_of_sender_in_order, each_send_stands_once, node_bounds_hold_in_runs, bodies_were_sent_in_runs}
 use Rattle.std.specs.List.{All}
 use Rattle.am_run_laws.proofs.Worlds.{AcceptedSendStandsAt, WorldKeepsWholeList, UnballotedWorldHolds}
@@ -14,14 +14,14 @@ in_group rules list acc w number e h a = subst (λ g. item_at g number ≡ Some 
 
 -- who was given something has a list
 given_log : (rules : Rules) (list : List Entry) (acc : ℕ) (w : World) (name : ℕ) → WorldKeepsWholeList rules list acc w → deliveries w.records name ≢ []
-    → has_log (w.nodes name).status ≡ true
-given_log rules list acc w name h some = split_on_bool (has_log (w.nodes name).status) (λ t. t)
+    → has_log_by_status (w.nodes name).status ≡ true
+given_log rules list acc w name h some = split_on_bool (has_log_by_status (w.nodes name).status) (λ t. t)
     (λ f.
     let b = (h.each name).status.blank f in
     let count = (h.given name).count in
     absurd (some (nil_from_length (deliveries w.records name) (omega arith))))
 
-begins_there : (rules : Rules) (list : List Entry) (acc : ℕ) (w : World) (name : ℕ) → WorldKeepsWholeList rules list acc w → has_log (w.nodes name).status ≡ true
+begins_there : (rules : Rules) (list : List Entry) (acc : ℕ) (w : World) (name : ℕ) → WorldKeepsWholeList rules list acc w → has_log_by_status (w.nodes name).status ≡ true
     → BeginsAt rules w name (w.nodes name).core.start
 begins_there rules list acc w name h log =
     let b = (h.each name).status.begins log in
@@ -30,21 +30,21 @@ begins_there rules list acc w name h log =
       joiner = λ f. (h.welcomed name f ∙ rw log refl, in_group rules list acc w (w.nodes name).core.start (Join name) h (b.joiner f));
     }
 
-group_fits : (rules : Rules) (w : World) → UnballotedWorldHolds rules w → AllFit blank 1 w.group
+group_fits : (rules : Rules) (w : World) → UnballotedWorldHolds rules w → AllEntriesFit blank 1 w.group
 group_fits rules w h =
     let m = w.nodes (first_founder_of rules) in
-    subst (AllFit blank 1) (sym h.kept.group) (beginning_of_good_is_good (take_begins_list m.core.acc m.core.log.entries) h.first.base.good).fit
+    subst (AllEntriesFit blank 1) (sym h.kept.group) (beginning_of_good_is_good (taken_front_begins_list m.core.acc m.core.log.entries) h.first.base.good).fit
 
 -- where what is accepted stands in the group's list, each accepted send stands there once
-pub accepted_sends_stand_once : (w : World) (list : List Entry) (acc : ℕ) → AllFit blank 1 w.group → All (AcceptedSendStandsAt list acc) (accepted_sends w.records)
+pub accepted_sends_stand_once : (w : World) (list : List Entry) (acc : ℕ) → AllEntriesFit blank 1 w.group → All (AcceptedSendStandsAt list acc) (accepted_sends w.records)
     → ((number : ℕ) (e : Entry) → AcceptedStandsAt list acc number e → item_at w.group number ≡ Some e) → Once w
 accepted_sends_stand_once w list acc fit accepted there = record {
   each = λ k s is.
-      let a = all_gives_slice_get (AcceptedSendStandsAt list acc) (accepted_sends w.records) k s accepted is in
+      let a = item_of_index_has_property (AcceptedSendStandsAt list acc) (accepted_sends w.records) k s accepted is in
       each_send_stands_once w fit s.name s.req s.number a.0 (there s.number (Data s.name s.req a.0) a.1);
 }
 
-pub unballoted_runs_hold : UnballotedHolds
+pub unballoted_runs_hold : RunsWithoutBallotHold
 unballoted_runs_hold rules events may none =
     let w = run rules events in
     let h = run_without_ballot_keeps_world rules events may none in
@@ -66,7 +66,7 @@ unballoted_runs_hold rules events may none =
       bounded = node_bounds_hold_in_runs rules events may;
     }
 
-lists_fit : (rules : Rules) (w : World) → UnballotedWorldHolds rules w → ListFits w
+lists_fit : (rules : Rules) (w : World) → UnballotedWorldHolds rules w → GroupListFits w
 lists_fit rules w h =
     let m = w.nodes (first_founder_of rules) in
     record { fits = group_fits rules w h; listed = λ name some. given_log rules m.core.log.entries m.core.acc w name h.kept some }

@@ -1,7 +1,7 @@
 -- Items of lists, and lists that begin one another.
 use Rattle.am_run_laws.proofs.UnballotedWords.{◌≡◌, ℕ, zero, suc, ◌+◌, ◌<◌, ◌≤◌, List, [], ◌∷◌, ◌++◌, length, take, drop, Some, slice_get, sym, ap, ◌∙◌, subst}
 use Rattle.am_run_laws.proofs.UnballotedWords.{append_assoc, length-append, arith, slice_get_within, take-append-le, take-append-drop, Entry, item_at, slice_get_of_append_back}
-use Rattle.am_run_laws.proofs.UnballotedWords.{slice_get_of_front, Begins, begins_push_next_entry, length_take}
+use Rattle.am_run_laws.proofs.UnballotedWords.{slice_get_of_front, IsBeginningOf, begins_push_next_entry, length_of_taken_list}
 use Rattle.std.proofs.lemmas.List.{append-nil}
 
 -- ---- items by number
@@ -39,13 +39,13 @@ item_at_of_take n xs (suc k) x low h = get_taken n xs k x (omega arith) h
 -- its entries are those of the whole list above its start, as far as they go
 pub record EntriesAreWithinWhole (whole : List Entry) (start : ℕ) (entries : List Entry) : Type 0 where
   pub low : start ≤ length whole
-  pub begins : Begins (take start whole ++ entries) whole
+  pub begins : IsBeginningOf (take start whole ++ entries) whole
 
 pub slice_get_within_whole : (whole : List Entry) (start : ℕ) (entries : List Entry) (k : ℕ) (e : Entry) → EntriesAreWithinWhole whole start entries → slice_get entries k ≡ Some e
     → slice_get whole (start + k) ≡ Some e
 slice_get_within_whole whole start entries k e h is =
     let front = take start whole in
-    let long : length front ≡ start = length_take start whole h.low in
+    let long : length front ≡ start = length_of_taken_list start whole h.low in
     let at : slice_get (front ++ entries) (length front + k) ≡ Some e = slice_get_of_append_back front entries k ∙ is in
     let there : slice_get whole (length front + k) ≡ Some e =
     subst (λ l. slice_get l (length front + k) ≡ Some e) h.begins.same (slice_get_of_front (front ++ entries) h.begins.rest (length front + k) e at) in
@@ -56,10 +56,10 @@ pub pushed_entries_are_within_whole : (whole : List Entry) (start : ℕ) (entrie
     → slice_get whole (start + length entries) ≡ Some e → EntriesAreWithinWhole whole start (entries ++ e ∷ [])
 pushed_entries_are_within_whole whole start entries e h is =
     let front = take start whole in
-    let long : length front ≡ start = length_take start whole h.low in
+    let long : length front ≡ start = length_of_taken_list start whole h.low in
     let all : length (front ++ entries) ≡ start + length entries = length-append front entries ∙ ap (λ n. n + length entries) long in
     let next : slice_get whole (length (front ++ entries)) ≡ Some e = ap (slice_get whole) all ∙ is in
-    record { low = h.low; begins = subst (λ l. Begins l whole) (append_assoc front entries (e ∷ [])) (begins_push_next_entry e h.begins next) }
+    record { low = h.low; begins = subst (λ l. IsBeginningOf l whole) (append_assoc front entries (e ∷ [])) (begins_push_next_entry e h.begins next) }
 
 -- of a whole list that goes on
 pub entries_within_longer_whole : (whole more : List Entry) (start : ℕ) (entries : List Entry) → EntriesAreWithinWhole whole start entries → EntriesAreWithinWhole (whole ++ more) start entries

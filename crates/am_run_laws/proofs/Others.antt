@@ -1,9 +1,9 @@
 -- What each change of another name than the first founder keeps, as long as its ballot is none.
 use Rattle.am_run_laws.proofs.UnballotedWords.{◌≡◌, ◌≢◌, ℕ, ◌+◌, ◌-◌, ◌<◌, ◌≤◌, max, min, ◌==◌, not, nat_lt, true, false, if◌then◌else◌, List, [], ◌∷◌, length}
 use Rattle.am_run_laws.proofs.UnballotedWords.{Some, None, slice_get, refl, sym, ap, ◌∙◌, subst, length-append, arith, All, nat_tests, Stamp, Image, Entry}
-use Rattle.am_run_laws.proofs.UnballotedWords.{Data, View, Outcome, Rules, has, CoreState, accept, pass_over, Record, item_at, Status, Node, Ballot, top, is_member}
-use Rattle.am_run_laws.proofs.UnballotedWords.{is_sequencer, push_entry, trim_up_to, founding_stamp, has_log, advance_node, refresh, Verdict, begin_list, split_on_bool}
-use Rattle.am_run_laws.proofs.UnballotedWords.{both_of_and, Cause, BringsFronts, alone, Looks, finds_itself_out, Carries, whole_entry, by_number, Promises, invited}
+use Rattle.am_run_laws.proofs.UnballotedWords.{Data, View, Outcome, Rules, has, CoreState, raise_accepted_to_told, pass_over_below_join, Record, item_at, Status, Node, Ballot, top, is_member}
+use Rattle.am_run_laws.proofs.UnballotedWords.{is_sequencer, push_entry, trim_node_up_to, founding_stamp, has_log_by_status, advance_node, refresh, BallotVerdict, node_of_welcomed, split_on_bool}
+use Rattle.am_run_laws.proofs.UnballotedWords.{both_of_and, Cause, CauseHasFronts, alone, LooksAtBallot, finds_itself_out, CarriesEntry, whole_entry, by_number, MayPromise, invited}
 use Rattle.am_run_laws.proofs.UnballotedWords.{overtaken, told_result, Change, refreshes, settles, takes_report, admits, numbers, notes, stores, begins_list}
 use Rattle.am_run_laws.proofs.UnballotedWords.{departs, promises, opens, looks, fetches, stores_view, queues, collects, takes, asks_to_join, closes, WasSentByRecord}
 use Rattle.am_run_laws.proofs.UnballotedWords.{EntryWasSent, NodeBodiesWereSent, FoundBodyWasSent, found_body_was_sent, all_gives_item_at, member_status_has_log, asking_status_has_no_log, welcomed_node_is_asking}
@@ -40,7 +40,7 @@ noted_ok rules list acc i m base to up low h =
     let base_ : m.core.log.start ≤ base = let a = h.fronts.base in omega arith in
     assumption (low, base_)
 
-pub status_keeps_unballoted_node : (rules : Rules) (list : List Entry) (acc i : ℕ) (m : Node) (s : Status) → has_log s ≡ has_log m.status → UnballotedNodeKeeps rules list acc i m
+pub status_keeps_unballoted_node : (rules : Rules) (list : List Entry) (acc i : ℕ) (m : Node) (s : Status) → has_log_by_status s ≡ has_log_by_status m.status → UnballotedNodeKeeps rules list acc i m
     → UnballotedNodeKeeps rules list acc i (record m { status = s })
 status_keeps_unballoted_node rules list acc i m s b h =
     let status : StatusFitsItsBeginning rules list acc i s m.core = record {
@@ -63,11 +63,11 @@ take_keeps_unballoted_node rules list acc i m member some h =
     let f = h.fronts in
     let p = f.passed in
     let less : m.core.taken < m.core.acc = grind (arith, nat_tests) in
-    let stays : has_log m.status ≡ true = member_status_has_log m.status member in
+    let stays : has_log_by_status m.status ≡ true = member_status_has_log m.status member in
     let taken : m.core.taken + 1 ≤ m.core.acc = omega arith in
     let passed : m.core.taken + 1 < m.core.start - 1 → m.core.acc ≤ m.core.taken + 1 = λ b.
     (let z : m.core.taken < m.core.start - 1 = omega arith in let q = p z in absurd (omega arith)) in
-    let blank : has_log m.status ≡ false → (m.core.taken + 1 ≡ 0) × (m.core.start ≡ 0) = λ z. absurd (cc) in
+    let blank : has_log_by_status m.status ≡ false → (m.core.taken + 1 ≡ 0) × (m.core.start ≡ 0) = λ z. absurd (cc) in
     assumption (taken, passed, blank)
 
 -- ---- what is accepted goes on
@@ -79,9 +79,9 @@ blank_passed taken acc start a b =
 
 advance_ok : (rules : Rules) (list : List Entry) (acc to i : ℕ) (m : Node) → acc ≤ to → m.core.told ≤ to → StatusFitsItsBeginning rules list to i m.status m.core
     → ListIsOfTheWhole list to m.core.log → All (OwnSendIsSettledRight list to i) m.sends.queue → UnballotedNodeKeeps rules list acc i m → UnballotedNodeKeeps rules list to i (advance_node m)
-unfolding accept pass_over
+unfolding raise_accepted_to_told pass_over_below_join
 advance_ok rules list acc to i m up low st l q h =
-    let blank : has_log m.status ≡ false → ((advance_node m).core.taken ≡ 0) × (m.core.start ≡ 0) = λ t. (let b = st.blank t in
+    let blank : has_log_by_status m.status ≡ false → ((advance_node m).core.taken ≡ 0) × (m.core.start ≡ 0) = λ t. (let b = st.blank t in
     (blank_passed m.core.taken _ m.core.start b.0 b.1, b.1)) in
     assumption (blank, st, l, q, fronts_after_accept_and_pass (first_founder_of rules) acc to i m.core up low h.fronts)
 
@@ -96,7 +96,7 @@ refreshed_ok rules list acc i m other h = split_on_bool (is_sequencer m)
 
 begun_ok : (rules : Rules) (list : List Entry) (acc i s : ℕ) (v : Stamp) (base join : ℕ) (image : Image) (m : Node) → acc ≤ length list
     → has rules.founders i ≡ false → WelcomeTellsWholeListFront rules list acc i v base join image → base < join → UnballotedNodeKeeps rules list acc i m
-    → UnballotedNodeKeeps rules list acc i (begin_list m v base join image)
+    → UnballotedNodeKeeps rules list acc i (node_of_welcomed m v base join image)
 begun_ok rules list acc i s v base join image m within no_founder w above h =
     let low = w.low in
     let begins : ListBeginsAtJoin rules list acc i join = record {
@@ -107,7 +107,7 @@ begun_ok rules list acc i s v base join image m within no_founder w above h =
     record {
       who = h.who;
       log = record { start = omega arith; image = w.tells above; within = no_entries_are_within_whole list base (omega arith) };
-      fronts = unballoted_fronts_are_in_order (first_founder_of rules) acc i (begin_list m v base join image).core (omega arith) (omega arith) (omega arith) (omega arith)
+      fronts = unballoted_fronts_are_in_order (first_founder_of rules) acc i (node_of_welcomed m v base join image).core (omega arith) (omega arith) (omega arith) (omega arith)
           (λ d. omega arith) (λ b. omega arith);
       status = record { promise = λ t. w.stamp; founder = λ t. refl; blank = λ t. absurd (cc); begins = λ t. begins };
       sends = h.sends;
@@ -119,13 +119,13 @@ begun_ok rules list acc i s v base join image m within no_founder w above h =
 pub record SendsHaveOneBody (all : List Record) : Type 0 where
   pub one : (name req : ℕ) (body other : List ℕ) → WasSentByRecord all name req body → WasSentByRecord all name req other → body ≡ other
 
-fronts_told : (rules : Rules) (list : List Entry) (acc i : ℕ) (c : Cause) (s : ℕ) (v : Stamp) (base a : ℕ) → BringsFronts c s v base a
+fronts_told : (rules : Rules) (list : List Entry) (acc i : ℕ) (c : Cause) (s : ℕ) (v : Stamp) (base a : ℕ) → CauseHasFronts c s v base a
     → UnballotedCauseSays rules list acc i c → a ≤ acc
 fronts_told rules list acc i c s v base a (alone s1 v1 base1 acc1 high poll) h = h
 fronts_told rules list acc i c s v base a _ h = h.0
 
 carried_ok : (rules : Rules) (list : List Entry) (acc i : ℕ) (all : List Record) (c : Cause) (m : Node) (s : ℕ) (v : Stamp) (base a number : ℕ) (e : Entry)
-    → SendsHaveOneBody all → All (EntryWasSent all) list → NodeBodiesWereSent all i m → Carries c m s v base a number e → UnballotedCauseSays rules list acc i c → item_at list number ≡ Some e
+    → SendsHaveOneBody all → All (EntryWasSent all) list → NodeBodiesWereSent all i m → CarriesEntry c m s v base a number e → UnballotedCauseSays rules list acc i c → item_at list number ≡ Some e
 carried_ok rules list acc i all c m s v base a number e one sent k (whole_entry x is) h = (subst (UnballotedCauseSays rules list acc i) is h).1
 carried_ok rules list acc i all c m s v base a number e one sent k (by_number from req body is found) h =
     let p = subst (UnballotedCauseSays rules list acc i) is h in
@@ -136,11 +136,11 @@ carried_ok rules list acc i all c m s v base a number e one sent k (by_number fr
 -- ---- ballots
 
 -- a look leaves a ballot
-pub look_leaves_a_ballot : (m : Node) (b : Ballot) (v : Verdict) → Looks m b v → v.node.ballot ≡ None → ⊥
+pub look_leaves_a_ballot : (m : Node) (b : Ballot) (v : BallotVerdict) → LooksAtBallot m b v → v.node.ballot ≡ None → ⊥
 look_leaves_a_ballot m b v (finds_itself_out x) h = absurd (cc)
 look_leaves_a_ballot m b v _ h = absurd (cc)
 
-pub unballoted_promise_is_founding_stamp : (rules : Rules) (list : List Entry) (acc i : ℕ) (c : Cause) (m : Node) (v : Stamp) → Promises c m v → UnballotedCauseSays rules list acc i c
+pub unballoted_promise_is_founding_stamp : (rules : Rules) (list : List Entry) (acc i : ℕ) (c : Cause) (m : Node) (v : Stamp) → MayPromise c m v → UnballotedCauseSays rules list acc i c
     → v ≡ founding_stamp rules
 unballoted_promise_is_founding_stamp rules list acc i c m v (invited s w is heard own) h = absurd (subst (UnballotedCauseSays rules list acc i) is h)
 unballoted_promise_is_founding_stamp rules list acc i c m v (overtaken s w vote is heard above) h = absurd (subst (UnballotedCauseSays rules list acc i) is h)
@@ -151,7 +151,7 @@ unballoted_promise_is_founding_stamp rules list acc i c m v (told_result s base 
 next_is : (list : List Entry) (m : Node) (number : ℕ) (e : Entry) → number ≡ top m + 1 → item_at list number ≡ Some e → slice_get list (top m) ≡ Some e
 next_is list m number e next is = item_at_is_slice_get list number (top m) e next is
 
-pub logless_node_is_no_founder : (rules : Rules) (list : List Entry) (acc i : ℕ) (m : Node) → UnballotedNodeKeeps rules list acc i m → has_log m.status ≡ false
+pub logless_node_is_no_founder : (rules : Rules) (list : List Entry) (acc i : ℕ) (m : Node) → UnballotedNodeKeeps rules list acc i m → has_log_by_status m.status ≡ false
     → has rules.founders i ≡ false
 logless_node_is_no_founder rules list acc i m h none = split_on_bool (has rules.founders i) (λ t. let l = h.status.founder t in absurd (cc)) (λ f. f)
 
@@ -189,14 +189,14 @@ change_keeps_other_unballoted_node rules list acc i all c o m n w d (looks b ver
 change_keeps_other_unballoted_node rules list acc i all c o m n w d (fetches s v base number e is heard promise below from may) none k h =
     let at = subst (UnballotedCauseSays rules list acc i) is w.cause in
     let t = noted_ok rules list acc i m (max m.core.base base) m.core.told (omega arith) h.fronts.told h in
-    next_entry_keeps_unballoted_node rules list acc i (trim_up_to m base) e (next_is list m number e may.next at) t
+    next_entry_keeps_unballoted_node rules list acc i (trim_node_up_to m base) e (next_is list m number e may.next at) t
 change_keeps_other_unballoted_node rules list acc i all c o m n w d (stores_view s base number v is heard own other promise below may) none k h =
     let at = subst (UnballotedCauseSays rules list acc i) is w.cause in
     let t = noted_ok rules list acc i m (max m.core.base base) m.core.told (omega arith) h.fronts.told h in
-    next_entry_keeps_unballoted_node rules list acc i (trim_up_to m base) (View v) (next_is list m number (View v) may.next at.1) t
+    next_entry_keeps_unballoted_node rules list acc i (trim_node_up_to m base) (View v) (next_is list m number (View v) may.next at.1) t
 change_keeps_other_unballoted_node rules list acc i all c o m n w d (queues body is says member stays few) none k h = submit_keeps_unballoted_node rules list acc i m body h
 change_keeps_other_unballoted_node rules list acc i all c o m n w d (collects req is) none k h = collect_keeps_unballoted_node rules list acc i m req h
 change_keeps_other_unballoted_node rules list acc i all c o m n w d (takes e is says member some there) none k h = take_keeps_unballoted_node rules list acc i m member some h
-change_keeps_other_unballoted_node rules list acc i all c o m n w d (asks_to_join is was) none k h = status_keeps_unballoted_node rules list acc i m Status.Asking (sym (ap has_log was)) h
+change_keeps_other_unballoted_node rules list acc i all c o m n w d (asks_to_join is was) none k h = status_keeps_unballoted_node rules list acc i m Status.Asking (sym (ap has_log_by_status was)) h
 change_keeps_other_unballoted_node rules list acc i all c o m n w d (closes leads leaves last room) none k h = absurd (d (unballoted_sequencer_is_first_founder rules list acc i m h leads))
 change_keeps_other_unballoted_node rules list acc i all c o m n w d _ none k h = same_parts_keep_unballoted_node rules list acc i m n refl refl refl h

@@ -1,22 +1,22 @@
 -- One record more, and letters more.
 use Rattle.am_run_laws.proofs.UnballotedWords.{◌≡◌, ◌≢◌, ◌⊎◌, ⊎_elim, inl, inr, ℕ, zero, suc, ◌+◌, ◌≤◌, ◌==◌, ◌&&◌, Bool, true, false, if◌then◌else◌, List, [], ◌∷◌}
 use Rattle.am_run_laws.proofs.UnballotedWords.{◌++◌, length, refl, sym, ap, ◌∙◌, subst, append-nil, arith, All, flat_map, flat_map-append, nat_tests, All-head}
-use Rattle.am_run_laws.proofs.UnballotedWords.{All-tail, All-append, All-weaker, Entry, Data, Outcome, Letter, Record, letter_at, name_of, taken_in, given_to}
-use Rattle.am_run_laws.proofs.UnballotedWords.{deliveries, slice_get_of_append_front, Node, Accepted, sent_in, accepted_sends, heard_by, is_welcome, welcomed_in, split_on_bool, IsIdle}
+use Rattle.am_run_laws.proofs.UnballotedWords.{All-tail, All-append, All-weaker, Entry, Data, Outcome, Letter, Record, letter_at, acting_name_of_record, entry_taken_by_outcome, entries_given_to}
+use Rattle.am_run_laws.proofs.UnballotedWords.{deliveries, slice_get_of_append_front, Node, AcceptedSend, accepted_send_of_outcome, accepted_sends, packet_heard_by_act, is_welcome, welcome_number_of_outcome, split_on_bool, IsIdle}
 use Rattle.am_base.specs.declared.outcome.Outcome.TheVariants as said
 use Rattle.am_run_laws.proofs.{UnballotedKept.accepted_stands_in_longer_list, Worlds.GivenAreListEntries, Worlds.WelcomeRecordTellsEarlierLetter, Worlds.AcceptedSendStandsAt}
 
 -- ---- what an idle answer tells
 
-pub idle_outcome_takes_nothing : (o : Outcome) → IsIdle o → taken_in o ≡ []
+pub idle_outcome_takes_nothing : (o : Outcome) → IsIdle o → entry_taken_by_outcome o ≡ []
 idle_outcome_takes_nothing (said.Took number e) h = absurd h
 idle_outcome_takes_nothing _ h = refl
 
-pub idle_outcome_welcomes_nobody : (o : Outcome) → IsIdle o → welcomed_in o ≡ []
+pub idle_outcome_welcomes_nobody : (o : Outcome) → IsIdle o → welcome_number_of_outcome o ≡ []
 idle_outcome_welcomes_nobody (said.Welcomed number) h = absurd h
 idle_outcome_welcomes_nobody _ h = refl
 
-pub idle_outcome_sends_nothing : (name : ℕ) (o : Outcome) → IsIdle o → sent_in name o ≡ []
+pub idle_outcome_sends_nothing : (name : ℕ) (o : Outcome) → IsIdle o → accepted_send_of_outcome name o ≡ []
 idle_outcome_sends_nothing name (said.Sent req number) h = absurd h
 idle_outcome_sends_nothing name _ h = refl
 
@@ -26,20 +26,20 @@ idle_outcome_queues_nothing o req h is = absurd (subst IsIdle is h)
 
 -- ---- deliveries
 
-pub deliveries_of_pushed_record : (records : List Record) (r : Record) (name : ℕ) → deliveries (records ++ r ∷ []) name ≡ deliveries records name ++ given_to name r
-deliveries_of_pushed_record records r name = flat_map-append (given_to name) records (r ∷ []) ∙ ap (λ l. deliveries records name ++ l) (append-nil (given_to name r))
+pub deliveries_of_pushed_record : (records : List Record) (r : Record) (name : ℕ) → deliveries (records ++ r ∷ []) name ≡ deliveries records name ++ entries_given_to name r
+deliveries_of_pushed_record records r name = flat_map-append (entries_given_to name) records (r ∷ []) ∙ ap (λ l. deliveries records name ++ l) (append-nil (entries_given_to name r))
 
 -- a record that gives this name nothing
-pub record_of_nothing_keeps_given : (list : List Entry) (acc : ℕ) (m : Node) (records : List Record) (r : Record) (name : ℕ) → given_to name r ≡ []
+pub record_of_nothing_keeps_given : (list : List Entry) (acc : ℕ) (m : Node) (records : List Record) (r : Record) (name : ℕ) → entries_given_to name r ≡ []
     → GivenAreListEntries list acc m (deliveries records name) → GivenAreListEntries list acc m (deliveries (records ++ r ∷ []) name)
 record_of_nothing_keeps_given list acc m records r name none h = subst (GivenAreListEntries list acc m)
     (sym (deliveries_of_pushed_record records r name ∙ ap (λ l. deliveries records name ++ l) none ∙ append-nil (deliveries records name))) h
 
-pub record_of_other_gives_nothing : (r : Record) (name : ℕ) → name_of r ≢ name → given_to name r ≡ []
-record_of_other_gives_nothing r name other = let f : (name_of r == name) ≡ false = split_on_bool (name_of r == name) (λ t. absurd (other (grind (arith, nat_tests)))) (λ g. g) in rw f refl
+pub record_of_other_gives_nothing : (r : Record) (name : ℕ) → acting_name_of_record r ≢ name → entries_given_to name r ≡ []
+record_of_other_gives_nothing r name other = let f : (acting_name_of_record r == name) ≡ false = split_on_bool (acting_name_of_record r == name) (λ t. absurd (other (grind (arith, nat_tests)))) (λ g. g) in rw f refl
 
-pub record_without_take_gives_nothing : (r : Record) (name : ℕ) → taken_in r.outcome ≡ [] → given_to name r ≡ []
-record_without_take_gives_nothing r name none = split_on_bool (name_of r == name) (λ t. rw t none) (λ f. rw f refl)
+pub record_without_take_gives_nothing : (r : Record) (name : ℕ) → entry_taken_by_outcome r.outcome ≡ [] → entries_given_to name r ≡ []
+record_without_take_gives_nothing r name none = split_on_bool (acting_name_of_record r == name) (λ t. rw t none) (λ f. rw f refl)
 
 pub given_holds_in_longer_list : (list more : List Entry) (acc to : ℕ) (m : Node) (given : List (ℕ × Entry)) → acc ≤ to → GivenAreListEntries list acc m given
     → GivenAreListEntries (list ++ more) to m given
@@ -50,27 +50,27 @@ given_holds_in_longer_list list more acc to m given up h = record {
 
 -- ---- accepted sends
 
-accepted_push : (records : List Record) (r : Record) → accepted_sends (records ++ r ∷ []) ≡ accepted_sends records ++ sent_in (name_of r) r.outcome
-accepted_push records r = flat_map-append (λ x. sent_in (name_of x) x.outcome) records (r ∷ [])
-    ∙ ap (λ l. accepted_sends records ++ l) (append-nil (sent_in (name_of r) r.outcome))
+accepted_push : (records : List Record) (r : Record) → accepted_sends (records ++ r ∷ []) ≡ accepted_sends records ++ accepted_send_of_outcome (acting_name_of_record r) r.outcome
+accepted_push records r = flat_map-append (λ x. accepted_send_of_outcome (acting_name_of_record x) x.outcome) records (r ∷ [])
+    ∙ ap (λ l. accepted_sends records ++ l) (append-nil (accepted_send_of_outcome (acting_name_of_record r) r.outcome))
 
-pub accepted_sends_in_longer_list : (list more : List Entry) (acc to : ℕ) (sends : List Accepted) → acc ≤ to → All (AcceptedSendStandsAt list acc) sends
+pub accepted_sends_in_longer_list : (list more : List Entry) (acc to : ℕ) (sends : List AcceptedSend) → acc ≤ to → All (AcceptedSendStandsAt list acc) sends
     → All (AcceptedSendStandsAt (list ++ more) to) sends
 accepted_sends_in_longer_list list more acc to sends up h = All-weaker (AcceptedSendStandsAt list acc) (AcceptedSendStandsAt (list ++ more) to)
     (λ s x. (x.0, accepted_stands_in_longer_list list more acc to s.number (Data s.name s.req x.0) up x.1)) sends h
 
-pub accepted_sends_with_next_record : (list : List Entry) (acc : ℕ) (records : List Record) (r : Record) → All (AcceptedSendStandsAt list acc) (sent_in (name_of r) r.outcome)
+pub accepted_sends_with_next_record : (list : List Entry) (acc : ℕ) (records : List Record) (r : Record) → All (AcceptedSendStandsAt list acc) (accepted_send_of_outcome (acting_name_of_record r) r.outcome)
     → All (AcceptedSendStandsAt list acc) (accepted_sends records) → All (AcceptedSendStandsAt list acc) (accepted_sends (records ++ r ∷ []))
 accepted_sends_with_next_record list acc records r new h = subst (All (AcceptedSendStandsAt list acc)) (sym (accepted_push records r))
-    (All-append (AcceptedSendStandsAt list acc) (accepted_sends records) (sent_in (name_of r) r.outcome) h new)
+    (All-append (AcceptedSendStandsAt list acc) (accepted_sends records) (accepted_send_of_outcome (acting_name_of_record r) r.outcome) h new)
 
 -- ---- who was welcomed
 
 -- what a record tells of it, by these letters
 abbrev pub welcomes_in_record : List Letter → ℕ → Record → List ℕ
-welcomes_in_record letters name r = if (name_of r == name) && is_welcome (letter_at letters (heard_by r.event.act)) then welcomed_in r.outcome else []
+welcomes_in_record letters name r = if (acting_name_of_record r == name) && is_welcome (letter_at letters (packet_heard_by_act r.event.act)) then welcome_number_of_outcome r.outcome else []
 
-pub outcome_welcomes_or_not : (o : Outcome) → (welcomed_in o ≡ []) ⊎ (welcomed_in o ≢ [])
+pub outcome_welcomes_or_not : (o : Outcome) → (welcome_number_of_outcome o ≡ []) ⊎ (welcome_number_of_outcome o ≢ [])
 outcome_welcomes_or_not (said.Welcomed number) = inr (λ e. absurd (cc))
 outcome_welcomes_or_not _ = inl refl
 
@@ -85,9 +85,9 @@ letter_before letters more (suc k) low = slice_get_of_append_front letters more 
 same_welcome : (letters more : List Letter) (name : ℕ) (r : Record) → WelcomeRecordTellsEarlierLetter (length letters) r
     → welcomes_in_record (letters ++ more) name r ≡ welcomes_in_record letters name r
 same_welcome letters more name r h = ⊎_elim
-    (λ (x : welcomed_in r.outcome ≡ []). none_either _ (welcomed_in r.outcome) x ∙ sym (none_either _ (welcomed_in r.outcome) x))
-    (λ (x : welcomed_in r.outcome ≢ []). ap (λ l. if (name_of r == name) && is_welcome l then welcomed_in r.outcome else [])
-    (letter_before letters more (heard_by r.event.act) (h x)))
+    (λ (x : welcome_number_of_outcome r.outcome ≡ []). none_either _ (welcome_number_of_outcome r.outcome) x ∙ sym (none_either _ (welcome_number_of_outcome r.outcome) x))
+    (λ (x : welcome_number_of_outcome r.outcome ≢ []). ap (λ l. if (acting_name_of_record r == name) && is_welcome l then welcome_number_of_outcome r.outcome else [])
+    (letter_before letters more (packet_heard_by_act r.event.act) (h x)))
     (outcome_welcomes_or_not r.outcome)
 
 same_welcomes : (letters more : List Letter) (name : ℕ) (records : List Record) → All (WelcomeRecordTellsEarlierLetter (length letters)) records
@@ -105,12 +105,12 @@ welcomes_of_pushed_record letters more name records r h =
     flat_map-append (welcomes_in_record (letters ++ more) name) records (r ∷ [])
     ∙ (λ i. same_welcomes letters more name records h i ++ append-nil (welcomes_in_record (letters ++ more) name r) i)
 
-pub record_without_welcome_welcomes_none : (letters : List Letter) (name : ℕ) (r : Record) → welcomed_in r.outcome ≡ [] → welcomes_in_record letters name r ≡ []
-record_without_welcome_welcomes_none letters name r none = none_either _ (welcomed_in r.outcome) none
+pub record_without_welcome_welcomes_none : (letters : List Letter) (name : ℕ) (r : Record) → welcome_number_of_outcome r.outcome ≡ [] → welcomes_in_record letters name r ≡ []
+record_without_welcome_welcomes_none letters name r none = none_either _ (welcome_number_of_outcome r.outcome) none
 
-pub record_of_other_welcomes_none : (letters : List Letter) (name : ℕ) (r : Record) → name_of r ≢ name → welcomes_in_record letters name r ≡ []
-record_of_other_welcomes_none letters name r other = let f : (name_of r == name) ≡ false =
-    split_on_bool (name_of r == name) (λ t. absurd (other (grind (arith, nat_tests)))) (λ g. g) in rw f refl
+pub record_of_other_welcomes_none : (letters : List Letter) (name : ℕ) (r : Record) → acting_name_of_record r ≢ name → welcomes_in_record letters name r ≡ []
+record_of_other_welcomes_none letters name r other = let f : (acting_name_of_record r == name) ≡ false =
+    split_on_bool (acting_name_of_record r == name) (λ t. absurd (other (grind (arith, nat_tests)))) (λ g. g) in rw f refl
 
 pub record_holds_with_more_letters : (letters more : ℕ) (r : Record) → letters ≤ more → WelcomeRecordTellsEarlierLetter letters r → WelcomeRecordTellsEarlierLetter more r
 record_holds_with_more_letters letters more r up h some = let low = h some in omega arith

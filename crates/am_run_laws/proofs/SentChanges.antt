@@ -1,11 +1,11 @@
 -- What each change keeps, and what letters carry.
 use Rattle.am_run_laws.proofs.PromisedWords.{◌≡◌, ℕ, ◌+◌, List, Option, subst, All}
 use Rattle.am_run_laws.proofs.PromisedWords.{All-nil, All-weaker, Stamp, Report, Entry, Leave, View, Outcome, Packet, Record, OwnSend}
-use Rattle.am_run_laws.proofs.PromisedWords.{Node, Ballot, push_entry, trim_up_to, body_of}
-use Rattle.am_run_laws.proofs.PromisedWords.{Verdict, Step, Cause, calls, hears, BringsSend, by_request, by_spread, Looks, decides, Numbers, asked_send}
-use Rattle.am_run_laws.proofs.PromisedWords.{own_send, Carries, whole_entry, by_number, Change, refreshes, settles, numbers, keeps_body, stores, begins_list, looks}
-use Rattle.am_run_laws.proofs.PromisedWords.{fetches, stores_view, queues, collects, closes, HasSend, EntryStands, Says, request, spread, bcast, piece, LetterSays}
-use Rattle.am_run_laws.proofs.PromisedWords.{Effect, all_gives_slice_get, changes_keep_property}
+use Rattle.am_run_laws.proofs.PromisedWords.{Node, Ballot, push_entry, trim_node_up_to, body_of_spread_send}
+use Rattle.am_run_laws.proofs.PromisedWords.{BallotVerdict, StepResult, Cause, calls, hears, CauseHasSend, by_request, by_spread, LooksAtBallot, decides, IsNumberedBy, asked_send}
+use Rattle.am_run_laws.proofs.PromisedWords.{own_send, CarriesEntry, whole_entry, by_number, Change, refreshes, settles, numbers, keeps_body, stores, begins_list, looks}
+use Rattle.am_run_laws.proofs.PromisedWords.{fetches, stores_view, queues, collects, closes, HasOwnSend, EntryStands, Says, request, spread, bcast, piece, LetterSays}
+use Rattle.am_run_laws.proofs.PromisedWords.{Effect, item_of_index_has_property, changes_keep_property}
 use Rattle.am_base.specs.declared.outcome.Outcome.TheVariants as said
 use Rattle.am_base.specs.declared.event.NodeEvent.TheVariants as does
 use Rattle.am_step_laws.proofs.Bounds.NodeLimits.{HoldsOfFoundBody, found_body_has_property, kept_bodies_have_property}
@@ -21,11 +21,11 @@ CauseCarriesSentBodies all who o (calls (does.Send body)) = (req : ℕ) → o �
 CauseCarriesSentBodies all who o _ = Unit {0}
 
 brought_sent : (all : List Record) (who : ℕ) (o : Outcome) (c : Cause) (s : ℕ) (v : Stamp) (report : Report) (req : ℕ) (body : List ℕ)
-    → BringsSend c s v report req body → CauseCarriesSentBodies all who o c → WasSentByRecord all s req body
+    → CauseHasSend c s v report req body → CauseCarriesSentBodies all who o c → WasSentByRecord all s req body
 brought_sent all who o c s v report req body (by_request s1 v1 report1 req1 body1) sent = sent
 brought_sent all who o c s v report req body (by_spread s1 v1 report1 req1 body1) sent = sent
 
-numbered_sent : (all : List Record) (who : ℕ) (o : Outcome) (c : Cause) (m : Node) (e : Entry) → Numbers c m e → CauseCarriesSentBodies all who o c → NodeBodiesWereSent all who m
+numbered_sent : (all : List Record) (who : ℕ) (o : Outcome) (c : Cause) (m : Node) (e : Entry) → IsNumberedBy c m e → CauseCarriesSentBodies all who o c → NodeBodiesWereSent all who m
     → EntryWasSent all e
 numbered_sent all who o c m e (asked_send s v report req body by known stays next) sent h = brought_sent all who o c s v report req body by sent
 numbered_sent all who o c m e (own_send s is last) sent h = sent_under_node_name all who m s.req s.body h (waiting_send_was_sent all who m s h is)
@@ -37,20 +37,20 @@ numbered_sent all who o c m e _ sent h = tt
 abbrev pub FoundBodyWasSent : List Record → ℕ → ℕ → Option (List ℕ) → Type 0
 FoundBodyWasSent all = HoldsOfFoundBody (WasSentByRecord all)
 
-pub found_body_was_sent : (all : List Record) (who : ℕ) (m : Node) (from req : ℕ) → NodeBodiesWereSent all who m → FoundBodyWasSent all from req (body_of m from req)
+pub found_body_was_sent : (all : List Record) (who : ℕ) (m : Node) (from req : ℕ) → NodeBodiesWereSent all who m → FoundBodyWasSent all from req (body_of_spread_send m from req)
 found_body_was_sent all who m from req h =
     let own = All-weaker (OwnSendWasSent all who) (λ (s : OwnSend). WasSentByRecord all m.core.who s.req s.body) (λ s. sent_under_node_name all who m s.req s.body h) m.sends.queue h.sends in
     found_body_has_property (WasSentByRecord all) m from req own h.bodies
 
 carried_sent : (all : List Record) (who : ℕ) (o : Outcome) (c : Cause) (m : Node) (s : ℕ) (v : Stamp) (base acc number : ℕ) (e : Entry)
-    → Carries c m s v base acc number e → CauseCarriesSentBodies all who o c → NodeBodiesWereSent all who m → EntryWasSent all e
+    → CarriesEntry c m s v base acc number e → CauseCarriesSentBodies all who o c → NodeBodiesWereSent all who m → EntryWasSent all e
 carried_sent all who o c m s v base acc number e (whole_entry x is) sent h = subst (CauseCarriesSentBodies all who o) is sent
 carried_sent all who o c m s v base acc number e (by_number from req body is found) sent h =
     subst (FoundBodyWasSent all from req) found (found_body_was_sent all who m from req h)
 
 -- ---- each change
 
-look_sent : (all : List Record) (who : ℕ) (m : Node) (b : Ballot) (v : Verdict) → Looks m b v → NodeBodiesWereSent all who m → NodeBodiesWereSent all who v.node
+look_sent : (all : List Record) (who : ℕ) (m : Node) (b : Ballot) (v : BallotVerdict) → LooksAtBallot m b v → NodeBodiesWereSent all who m → NodeBodiesWereSent all who v.node
 look_sent all who m b v (decides may) h = pushed_entry_keeps_sent_bodies all who m (View _) tt h
 look_sent all who m b v _ h = h
 
@@ -67,9 +67,9 @@ change_keeps_sent_bodies all who c o m n sent (begins_list s v base join image i
     record { name = h.name; entries = All-nil (EntryWasSent all); sends = h.sends; bodies = h.bodies }
 change_keeps_sent_bodies all who c o m n sent (looks b verdict over why look is) h = look_sent all who m b verdict look h
 change_keeps_sent_bodies all who c o m n sent (fetches s v base number e is heard promise below from may) h =
-    pushed_entry_keeps_sent_bodies all who (trim_up_to m base) e (subst (CauseCarriesSentBodies all who o) is sent) h
+    pushed_entry_keeps_sent_bodies all who (trim_node_up_to m base) e (subst (CauseCarriesSentBodies all who o) is sent) h
 change_keeps_sent_bodies all who c o m n sent (stores_view s base number v is heard own other promise below may) h =
-    pushed_entry_keeps_sent_bodies all who (trim_up_to m base) (View v) tt h
+    pushed_entry_keeps_sent_bodies all who (trim_node_up_to m base) (View v) tt h
 change_keeps_sent_bodies all who c o m n sent (queues body is a member stays few) h =
     queued_send_keeps_sent_bodies all who m body ((subst (CauseCarriesSentBodies all who o) is sent) (m.sends.last + 1) a) h
 change_keeps_sent_bodies all who c o m n sent (collects req is) h = collect_keeps_sent_bodies all who m req h
@@ -80,11 +80,11 @@ change_keeps_sent_bodies all who c o m n sent _ h = h
 -- ---- letters
 
 stands_sent : (all : List Record) (who : ℕ) (n : Node) (base number : ℕ) (e : Entry) → EntryStands n.core.log base number e → NodeBodiesWereSent all who n → EntryWasSent all e
-stands_sent all who n base number e s h = all_gives_slice_get (EntryWasSent all) n.core.log.entries s.index e h.entries s.there
+stands_sent all who n base number e s h = item_of_index_has_property (EntryWasSent all) n.core.log.entries s.index e h.entries s.there
 
-own_sent : (all : List Record) (who : ℕ) (n : Node) (req : ℕ) (body : List ℕ) → HasSend n req body → NodeBodiesWereSent all who n → WasSentByRecord all n.core.who req body
+own_sent : (all : List Record) (who : ℕ) (n : Node) (req : ℕ) (body : List ℕ) → HasOwnSend n req body → NodeBodiesWereSent all who n → WasSentByRecord all n.core.who req body
 own_sent all who n req body s h =
-    let was = all_gives_slice_get (OwnSendWasSent all who) n.sends.queue s.index s.send h.sends s.there in
+    let was = item_of_index_has_property (OwnSendWasSent all who) n.sends.queue s.index s.send h.sends s.there in
     sent_under_node_name all who n req body h (subst (λ b. WasSentByRecord all who req b) s.body_ (subst (λ r. WasSentByRecord all who r s.send.body) s.request was))
 
 said_sent : (all : List Record) (who : ℕ) (m : Node) (c : Cause) (n : Node) (to : List ℕ) (p : Packet) → Says m c n to p → NodeBodiesWereSent all who n
@@ -98,11 +98,11 @@ said_sent all who m c n to p _ h = tt
 -- ---- a step
 
 -- what a step leaves and sends
-pub record StepCarriesSentBodies (all : List Record) (who : ℕ) (s : Step) : Type 0 where
+pub record StepCarriesSentBodies (all : List Record) (who : ℕ) (s : StepResult) : Type 0 where
   pub node : NodeBodiesWereSent all who s.node
   pub letters : All (LetterBodiesWereSent all) s.letters
 
-pub step_carries_sent_bodies : (all : List Record) (who : ℕ) (c : Cause) (m : Node) (s : Step) → Effect m c s → CauseCarriesSentBodies all who s.outcome c → NodeBodiesWereSent all who m
+pub step_carries_sent_bodies : (all : List Record) (who : ℕ) (c : Cause) (m : Node) (s : StepResult) → Effect m c s → CauseCarriesSentBodies all who s.outcome c → NodeBodiesWereSent all who m
     → StepCarriesSentBodies all who s
 step_carries_sent_bodies all who c m s effect sent h =
     let k = changes_keep_property (NodeBodiesWereSent all who) (λ x y. change_keeps_sent_bodies all who c s.outcome x y sent) effect.changes h in

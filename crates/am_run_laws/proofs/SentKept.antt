@@ -1,8 +1,8 @@
 -- What each step of a node keeps: all that it has was sent by its sender, and the changes that keep this.
 use Rattle.am_run_laws.proofs.PromisedWords.{◌≡◌, ℕ, ◌+◌, ◌==◌, nat_le, not, List, ◌++◌, drop, length, Some, slice_get, sym, subst, All, list_any, All-push}
-use Rattle.am_run_laws.proofs.PromisedWords.{All-drop, All-filter, All-map, All-weaker, Entry, Data, Packet, Request, Spread, Bcast, Piece, Letter, accept}
-use Rattle.am_run_laws.proofs.PromisedWords.{pass_over, own_report, tell, go_on, let_go, Record, OwnSend, KeptBody, is_body_of, with_body, keep_body, Node, is_sequencer}
-use Rattle.am_run_laws.proofs.PromisedWords.{push_entry, waiting, lead, refresh, settle, refresh_at_end, with_queued, IsSend, split_on_bool, slice_get_of_front, all_gives_found_item}
+use Rattle.am_run_laws.proofs.PromisedWords.{All-drop, All-filter, All-map, All-weaker, Entry, Data, Packet, Request, Spread, Bcast, Piece, Letter, raise_accepted_to_told}
+use Rattle.am_run_laws.proofs.PromisedWords.{pass_over_below_join, raise_own_report, tell_accept_front, advance_with_reports, trim_to_least_taken, Record, OwnSend, KeptBody, is_body_of_send, bodies_with_newest, keep_body, Node, is_sequencer}
+use Rattle.am_run_laws.proofs.PromisedWords.{push_entry, waiting_send_of, refresh_as_sequencer, refresh, settle_waiting_send, refresh_at_end, node_with_queued_send, IsSend, split_on_bool, slice_get_of_front, all_gives_found_item}
 use Rattle.am_node_defs.specs.Sends as own
 use Rattle.am_step_laws.proofs.Rests.{settle_keeps_property}
 
@@ -84,7 +84,7 @@ pub pushed_entry_keeps_sent_bodies : (all : List Record) (who : ℕ) (m : Node) 
 pushed_entry_keeps_sent_bodies all who m e sent h = assumption (All-push (EntryWasSent all) m.core.log.entries e h.entries sent)
 
 pub queued_send_keeps_sent_bodies : (all : List Record) (who : ℕ) (m : Node) (body : List ℕ) → WasSentByRecord all who (m.sends.last + 1) body → NodeBodiesWereSent all who m
-    → NodeBodiesWereSent all who (with_queued m body)
+    → NodeBodiesWereSent all who (node_with_queued_send m body)
 queued_send_keeps_sent_bodies all who m body sent h = record {
   name = h.name;
   entries = h.entries;
@@ -93,28 +93,28 @@ queued_send_keeps_sent_bodies all who m body sent h = record {
 }
 
 pub collect_keeps_sent_bodies : (all : List Record) (who : ℕ) (m : Node) (req : ℕ) → NodeBodiesWereSent all who m → NodeBodiesWereSent all who (record m { sends = own.collect req m.sends })
-collect_keeps_sent_bodies all who m req h = split_on_bool (own.is_settled req m.sends)
-    (λ t. rw t (assumption (All-filter (λ s. not (own.is_request req s)) (OwnSendWasSent all who) m.sends.queue h.sends)))
+collect_keeps_sent_bodies all who m req h = split_on_bool (own.has_settled_send req m.sends)
+    (λ t. rw t (assumption (All-filter (λ s. not (own.send_has_request req s)) (OwnSendWasSent all who) m.sends.queue h.sends)))
     (λ f. rw f h)
 
 -- ---- bodies
 
 all_with_body : (all : List Record) (kept : KeptBody) (bodies : List KeptBody) → KeptBodyWasSent all kept → All (KeptBodyWasSent all) bodies
-    → All (KeptBodyWasSent all) (with_body bodies kept)
+    → All (KeptBodyWasSent all) (bodies_with_newest bodies kept)
 all_with_body all kept bodies sent h = split_on_bool (nat_le 16 (length bodies))
     (λ t. rw t (All-push (KeptBodyWasSent all) (drop 1 bodies) kept (All-drop (KeptBodyWasSent all) 1 bodies h) sent))
     (λ f. rw f (All-push (KeptBodyWasSent all) bodies kept h sent))
 
 pub kept_body_keeps_sent_bodies : (all : List Record) (who : ℕ) (m : Node) (from req : ℕ) (body : List ℕ) → WasSentByRecord all from req body → NodeBodiesWereSent all who m
     → NodeBodiesWereSent all who (record m { bodies = keep_body from req body m.bodies })
-kept_body_keeps_sent_bodies all who m from req body sent h = split_on_bool (list_any (is_body_of from req) m.bodies)
+kept_body_keeps_sent_bodies all who m from req body sent h = split_on_bool (list_any (is_body_of_send from req) m.bodies)
     (λ t. rw t h)
     (λ f. rw f (assumption (all_with_body all (record { from = from; req = req; body = body }) m.bodies sent h.bodies)))
 
 -- ---- the refresh
 
 pub refresh_keeps_sent_bodies : (all : List Record) (who : ℕ) (m : Node) → NodeBodiesWereSent all who m → NodeBodiesWereSent all who (refresh m)
-unfolding refresh lead own_report tell go_on let_go accept pass_over
+unfolding refresh refresh_as_sequencer raise_own_report tell_accept_front advance_with_reports trim_to_least_taken raise_accepted_to_told pass_over_below_join
 refresh_keeps_sent_bodies all who m h = split_on_bool (is_sequencer m) (λ t. rw t (h)) (λ f. rw f (h))
 
 -- ---- the end of a step
@@ -122,7 +122,7 @@ refresh_keeps_sent_bodies all who m h = split_on_bool (is_sequencer m) (λ t. rw
 same_send : (all : List Record) (who req number : ℕ) (s : OwnSend) → OwnSendWasSent all who s → OwnSendWasSent all who (own.settle_send req number s)
 same_send all who req number s h = split_on_bool (s.req == req) (λ t. rw t h) (λ f. rw f h)
 
-pub settle_keeps_sent_bodies : (all : List Record) (who : ℕ) (m : Node) → NodeBodiesWereSent all who m → NodeBodiesWereSent all who (settle m)
+pub settle_keeps_sent_bodies : (all : List Record) (who : ℕ) (m : Node) → NodeBodiesWereSent all who m → NodeBodiesWereSent all who (settle_waiting_send m)
 settle_keeps_sent_bodies all who m h = settle_keeps_property (NodeBodiesWereSent all who) m h (λ s k w at.
     let f = own.settle_send s.req (m.core.base + 1 + k) in
     assumption (
@@ -136,5 +136,5 @@ end_refresh_keeps_sent_bodies all who m h = settle_keeps_sent_bodies all who (re
 
 -- ---- the waiting send
 
-pub waiting_send_was_sent : (all : List Record) (who : ℕ) (m : Node) (s : OwnSend) → NodeBodiesWereSent all who m → waiting m ≡ Some s → OwnSendWasSent all who s
+pub waiting_send_was_sent : (all : List Record) (who : ℕ) (m : Node) (s : OwnSend) → NodeBodiesWereSent all who m → waiting_send_of m ≡ Some s → OwnSendWasSent all who s
 waiting_send_was_sent all who m s h is = (all_gives_found_item (OwnSendWasSent all who) own.is_unsettled m.sends.queue s h.sends is).0

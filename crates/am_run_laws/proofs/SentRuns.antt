@@ -1,9 +1,9 @@
 -- What every run keeps.
 use Rattle.am_run_laws.proofs.PromisedWords.{◌≡◌, ℕ, ◌-◌, ◌<◌, ◌==◌, List, [], ◌∷◌, ◌++◌, length, take, slice_get, Some, refl, subst, arith, All, slice_get_within}
 use Rattle.am_run_laws.proofs.PromisedWords.{length-take, nat_tests, All-nil, All-cons, All-append, All-take, All-drop, All-weaker, Entry, Data, NodeEvent, Rules}
-use Rattle.am_run_laws.proofs.PromisedWords.{has, Letter, Act, Event, Record, Node, view, set_at, founder, stranger, founders_entry, Step, World, start, record_of}
-use Rattle.am_run_laws.proofs.PromisedWords.{group_after, with_record, with_step, run, heard_by, split_on_bool, Cause, calls, hears, refuses, actor, IsCall, IsCause, steps}
-use Rattle.am_run_laws.proofs.PromisedWords.{slice_get_of_front, slice_get_of_pushed, all_gives_item_at, EventsKeep, runs_keep_what_events_keep, SentHolds, one_record_each, run_begins_longer_run}
+use Rattle.am_run_laws.proofs.PromisedWords.{has, Letter, Act, Event, Record, Node, view, map_with_value, founder, stranger_node, founders_entry, StepResult, World, start, record_of}
+use Rattle.am_run_laws.proofs.PromisedWords.{list_after_step, world_with_record, world_with_step, run, packet_heard_by_act, split_on_bool, Cause, calls, hears, refuses, acting_name, IsCall, IsCause, steps}
+use Rattle.am_run_laws.proofs.PromisedWords.{slice_get_of_front, slice_get_of_pushed, all_gives_item_at, EventsKeep, runs_keep_what_events_keep, EachDataWasSent, one_record_each, run_begins_longer_run}
 use Rattle.am_step_laws.specs.Events as event
 use Rattle.am_run_laws.proofs.SentKept.{WasSentByRecord, EntryWasSent, PacketBodiesWereSent, LetterBodiesWereSent, NodeBodiesWereSent, entry_sent_in_more_records, letter_sent_in_more_records, bodies_sent_in_more_records}
 use Rattle.am_run_laws.proofs.SentChanges.{CauseCarriesSentBodies, StepCarriesSentBodies, step_carries_sent_bodies}
@@ -31,24 +31,24 @@ all_sent_in_longer_records all more nodes letters group h = record {
 -- ---- a step
 
 set_kept : (all : List Record) (nodes : ℕ → Node) (name : ℕ) (n : Node) → ((other : ℕ) → NodeBodiesWereSent all other (nodes other)) → NodeBodiesWereSent all name n → (other : ℕ)
-    → NodeBodiesWereSent all other (set_at nodes name n other)
+    → NodeBodiesWereSent all other (map_with_value nodes name n other)
 set_kept all nodes name n h k other = split_on_bool (other == name)
     (λ t. let is : name ≡ other = grind (arith, nat_tests) in rw t (subst (λ i. NodeBodiesWereSent all i n) is k))
     (λ f. rw f (h other))
 
 -- what each entry of a group list and of a node is, each of the list is after the node's step
-pub group_entries_keep_after_step : (P : Entry → Type 0) (group : List Entry) (m : Node) → All P group → All P m.core.log.entries → All P (group_after group m)
+pub group_entries_keep_after_step : (P : Entry → Type 0) (group : List Entry) (m : Node) → All P group → All P m.core.log.entries → All P (list_after_step group m)
 group_entries_keep_after_step P group m h k = split_on_bool ((view m).by == m.core.who)
     (λ t. rw t (All-append P group _ h (All-take P (m.core.acc - length group) _ (All-drop P (length group - m.core.log.start) m.core.log.entries k))))
     (λ f. rw f h)
 
 -- the records with that of a step
-abbrev pub records_after_step : World → Event → Step → List Record
+abbrev pub records_after_step : World → Event → StepResult → List Record
 records_after_step w e s = w.records ++ record_of w e s.outcome s.letters ∷ []
 
 -- a step of a name
-sent_stepped : (w : World) (e : Event) (name : ℕ) (s : Step) → WorldBodiesWereSent w → StepCarriesSentBodies (records_after_step w e s) name s → WorldBodiesWereSent (with_step w e name s)
-unfolding with_step
+sent_stepped : (w : World) (e : Event) (name : ℕ) (s : StepResult) → WorldBodiesWereSent w → StepCarriesSentBodies (records_after_step w e s) name s → WorldBodiesWereSent (world_with_step w e name s)
+unfolding world_with_step
 sent_stepped w e name s h k =
     let all = records_after_step w e s in
     let old = all_sent_in_longer_records w.records (record_of w e s.outcome s.letters ∷ []) w.nodes w.letters w.group h.all in
@@ -61,8 +61,8 @@ sent_stepped w e name s h k =
 -- ---- events
 
 -- a Send that is answered as queued stands among the records
-called_sent : (w : World) (e : Event) (s : Step) (ev : NodeEvent) (a : Act) → e.act ≡ a → IsCall w a ev
-    → CauseCarriesSentBodies (records_after_step w e s) (actor w e) s.outcome (calls ev)
+called_sent : (w : World) (e : Event) (s : StepResult) (ev : NodeEvent) (a : Act) → e.act ≡ a → IsCall w a ev
+    → CauseCarriesSentBodies (records_after_step w e s) (acting_name w e) s.outcome (calls ev)
 called_sent w e s ev a is (event.send body) = λ req answered. record {
   index = length w.records;
   send = record_of w e s.outcome s.letters;
@@ -71,20 +71,20 @@ called_sent w e s ev a is (event.send body) = λ req answered. record {
 }
 called_sent w e s ev a is _ = tt
 
-pub cause_of_step_was_sent : (w : World) (e : Event) (s : Step) (c : Cause) → WorldBodiesWereSent w → IsCause w (actor w e) e.act c
-    → CauseCarriesSentBodies (records_after_step w e s) (actor w e) s.outcome c
+pub cause_of_step_was_sent : (w : World) (e : Event) (s : StepResult) (c : Cause) → WorldBodiesWereSent w → IsCause w (acting_name w e) e.act c
+    → CauseCarriesSentBodies (records_after_step w e s) (acting_name w e) s.outcome c
 cause_of_step_was_sent w e s (calls ev) h is = called_sent w e s ev e.act refl is
 cause_of_step_was_sent w e s (hears p) h is =
-    let sent = all_gives_item_at (LetterBodiesWereSent w.records) w.letters (heard_by e.act) is.letter h.all.sent is.there in
+    let sent = all_gives_item_at (LetterBodiesWereSent w.records) w.letters (packet_heard_by_act e.act) is.letter h.all.sent is.there in
     subst (PacketBodiesWereSent (records_after_step w e s)) is.is (letter_sent_in_more_records w.records (record_of w e s.outcome s.letters ∷ []) is.letter sent)
 cause_of_step_was_sent w e s refuses h is = tt
 
 pub events_keep_world_bodies_sent : EventsKeep WorldBodiesWereSent
-unfolding with_record
+unfolding world_with_record
 events_keep_world_bodies_sent w e v (steps c s runs cause effect) h =
     let old = all_sent_in_longer_records w.records (record_of w e s.outcome s.letters ∷ []) w.nodes w.letters w.group h.all in
-    sent_stepped w e (actor w e) s h (step_carries_sent_bodies (records_after_step w e s) (actor w e) c (w.nodes (actor w e)) s effect (cause_of_step_was_sent w e s c h cause)
-    (old.each (actor w e)))
+    sent_stepped w e (acting_name w e) s h (step_carries_sent_bodies (records_after_step w e s) (acting_name w e) c (w.nodes (acting_name w e)) s effect (cause_of_step_was_sent w e s c h cause)
+    (old.each (acting_name w e)))
 events_keep_world_bodies_sent w e v _ h = record { all = all_sent_in_longer_records w.records _ w.nodes w.letters w.group h.all }
 
 -- ---- the start
@@ -96,7 +96,7 @@ view_sent rules = All-cons (EntryWasSent []) (founders_entry rules) [] tt (All-n
 kept_founder : (rules : Rules) (name : ℕ) → NodeBodiesWereSent [] name (founder rules name)
 kept_founder rules name = record { name = refl; entries = view_sent rules; sends = All-nil _; bodies = All-nil _ }
 
-kept_stranger : (rules : Rules) (name : ℕ) → NodeBodiesWereSent [] name (stranger rules name)
+kept_stranger : (rules : Rules) (name : ℕ) → NodeBodiesWereSent [] name (stranger_node rules name)
 kept_stranger rules name = record { name = refl; entries = All-nil _; sends = All-nil _; bodies = All-nil _ }
 
 pub start_has_all_bodies_sent : (rules : Rules) → WorldBodiesWereSent (start rules)
@@ -116,7 +116,7 @@ before rules events moment k r at =
     let few = length-take moment events in
     omega arith
 
-pub bodies_were_sent_in_runs : SentHolds
+pub bodies_were_sent_in_runs : EachDataWasSent
 bodies_were_sent_in_runs rules events founds = record {
   each = λ moment number name req body there.
       let w = run rules (take moment events) in

@@ -76,7 +76,7 @@ settled_low low next last r (x ∷ q) h t = split_on_bool (own.is_unsettled x)
     (λ n. settled_low low next last r q (h.1 u).1 (rw n at t)))
 
 without : (low next last r : ℕ) (queue : List OwnSend) → r < low → low ≤ next → UnsettledSendsAreInTurn low next queue last
-    → UnsettledSendsAreInTurn low next (filter (λ s. not (own.is_request r s)) queue) last
+    → UnsettledSendsAreInTurn low next (filter (λ s. not (own.send_has_request r s)) queue) last
 unfolding UnsettledSendsAreInTurn
 without low next last r [] a b h = h
 without low next last r (x ∷ q) a b h = split_on_bool (x.req == r)
@@ -87,6 +87,6 @@ without low next last r (x ∷ q) a b h = split_on_bool (x.req == r)
 
 -- a settled send is collected
 pub turn_after_collect : (low next last r : ℕ) (sends : own.Sends) → low ≤ next → UnsettledSendsAreInTurn low next sends.queue last → UnsettledSendsAreInTurn low next (own.collect r sends).queue last
-turn_after_collect low next last r sends up h = split_on_bool (own.is_settled r sends)
+turn_after_collect low next last r sends up h = split_on_bool (own.has_settled_send r sends)
     (λ t. rw t (without low next last r sends.queue (settled_low low next last r sends.queue h t) up h))
     (λ f. rw f h)

@@ -1,8 +1,8 @@
 -- What each change of a node keeps, as long as its ballot is none: of any name but the first founder, and of that.
 use Rattle.am_run_laws.proofs.UnballotedWords.{◌≡◌, ℕ, ◌+◌, ◌-◌, ◌<◌, ◌≤◌, ◌==◌, nat_lt, true, not, List, take, get_or, Some, slice_get, sym, ap, ◌∙◌, subst, arith}
 use Rattle.am_run_laws.proofs.UnballotedWords.{All, nat_tests, length-take, position-Some, slice_get-get_or, All-push, All-filter, All-map, All-weaker, Stamp}
-use Rattle.am_run_laws.proofs.UnballotedWords.{Entry, Data, Join, Rules, stamp_eq, CoreState, accept, pass_over, slice_get-drop, OwnSend, item_at, Node, view}
-use Rattle.am_run_laws.proofs.UnballotedWords.{is_member, acts, is_sequencer, entries_above, is_data_of, accepted_at, settle, split_on_bool, both_of_and, data_of_own_request, member_status_has_log}
+use Rattle.am_run_laws.proofs.UnballotedWords.{Entry, Data, Join, Rules, stamps_are_equal, CoreState, raise_accepted_to_told, pass_over_below_join, slice_get-drop, OwnSend, item_at, Node, view}
+use Rattle.am_run_laws.proofs.UnballotedWords.{is_member, acts_in_its_view, is_sequencer, entries_above, is_data_of, accepted_number_of_send, settle_waiting_send, split_on_bool, both_of_and, data_of_own_request, member_status_has_log}
 use Rattle.am_run_laws.proofs.UnballotedWords.{slice_get_of_take}
 use Rattle.am_node_defs.specs.Sends as own
 use Rattle.am_run_laws.proofs.UnballotedKept.{first_founder_of, AcceptedStandsAt, UnballotedFrontsAreInOrder, OwnSendIsSettledRight, UnballotedNodeKeeps}
@@ -14,8 +14,8 @@ use Rattle.am_run_laws.proofs.{Lists.slice_get_is_item_at, Lists.slice_get_withi
 -- a sequencer's name is in its promise
 leads_own : (m : Node) → is_sequencer m ≡ true → (is_member m.status ≡ true) × (m.core.promise.by ≡ m.core.who)
 leads_own m t =
-    let a = both_of_and (acts m) ((view m).by == m.core.who) t in
-    let b = both_of_and (is_member m.status) (stamp_eq m.core.promise (view m)) a.0 in
+    let a = both_of_and (acts_in_its_view m) ((view m).by == m.core.who) t in
+    let b = both_of_and (is_member m.status) (stamps_are_equal m.core.promise (view m)) a.0 in
     let v = view m in
     (b.0, grind (arith, nat_tests))
 
@@ -28,8 +28,8 @@ unballoted_sequencer_is_first_founder rules list acc i m h t =
 
 -- what is accepted goes on to what is told, and a joiner passes over what is below its Join
 pub fronts_after_accept_and_pass : (first acc to i : ℕ) (core : CoreState) → acc ≤ to → core.told ≤ to → UnballotedFrontsAreInOrder first acc i core
-    → UnballotedFrontsAreInOrder first to i (pass_over (accept core))
-unfolding pass_over accept
+    → UnballotedFrontsAreInOrder first to i (pass_over_below_join (raise_accepted_to_told core))
+unfolding pass_over_below_join raise_accepted_to_told
 fronts_after_accept_and_pass first acc to i core up low h =
     split_on_bool (nat_lt core.taken (core.start - 1))
     (λ y. rw y (record {
@@ -58,7 +58,7 @@ pub record FoundAmongAccepted (m : Node) (req k : ℕ) : Type 0 where
   pub there : slice_get m.core.log.entries ((m.core.base - m.core.log.start) + k) ≡ Some (Data m.core.who req body)
   pub low : m.core.base + k < m.core.acc
 
-pub accepted_at_gives_found_send : (m : Node) (req k : ℕ) → accepted_at m req ≡ Some k → FoundAmongAccepted m req k
+pub accepted_at_gives_found_send : (m : Node) (req k : ℕ) → accepted_number_of_send m req ≡ Some k → FoundAmongAccepted m req k
 accepted_at_gives_found_send m req k is =
     let test = is_data_of m.core.who req in
     let above = entries_above m m.core.base in
@@ -73,7 +73,7 @@ accepted_at_gives_found_send m req k is =
     sym (slice_get-drop (m.core.base - m.core.log.start) k m.core.log.entries) ∙ slice_get_of_take few above k e here in
     record { body = found.0; there = there ∙ ap Some found.1; low = omega arith }
 
-settled_stands : (rules : Rules) (list : List Entry) (acc i : ℕ) (m : Node) (req k : ℕ) → UnballotedNodeKeeps rules list acc i m → accepted_at m req ≡ Some k
+settled_stands : (rules : Rules) (list : List Entry) (acc i : ℕ) (m : Node) (req k : ℕ) → UnballotedNodeKeeps rules list acc i m → accepted_number_of_send m req ≡ Some k
     → (body : List ℕ) × AcceptedStandsAt list acc (m.core.base + 1 + k) (Data i req body)
 settled_stands rules list acc i m req k h is =
     let f = accepted_at_gives_found_send m req k is in
@@ -93,7 +93,7 @@ with_queue : (rules : Rules) (list : List Entry) (acc i : ℕ) (m : Node) (sends
     → UnballotedNodeKeeps rules list acc i (record m { sends = sends })
 with_queue rules list acc i m sends q h = record { who = h.who; log = h.log; fronts = h.fronts; status = h.status; sends = q }
 
-pub settle_keeps_unballoted_node : (rules : Rules) (list : List Entry) (acc i : ℕ) (m : Node) → UnballotedNodeKeeps rules list acc i m → UnballotedNodeKeeps rules list acc i (settle m)
+pub settle_keeps_unballoted_node : (rules : Rules) (list : List Entry) (acc i : ℕ) (m : Node) → UnballotedNodeKeeps rules list acc i m → UnballotedNodeKeeps rules list acc i (settle_waiting_send m)
 settle_keeps_unballoted_node rules list acc i m h = settle_keeps_property (UnballotedNodeKeeps rules list acc i) m h (λ s k w is.
     let number = m.core.base + 1 + k in
     let stands = settled_stands rules list acc i m s.req k h is in
@@ -105,11 +105,11 @@ settle_keeps_unballoted_node rules list acc i m h = settle_keeps_property (Unbal
 -- ---- sends
 
 pub submit_keeps_unballoted_node : (rules : Rules) (list : List Entry) (acc i : ℕ) (m : Node) (body : List ℕ) → UnballotedNodeKeeps rules list acc i m
-    → UnballotedNodeKeeps rules list acc i (record m { sends = own.submit body m.sends })
-submit_keeps_unballoted_node rules list acc i m body h = with_queue rules list acc i m (own.submit body m.sends) (All-push (OwnSendIsSettledRight list acc i) m.sends.queue _ h.sends tt) h
+    → UnballotedNodeKeeps rules list acc i (record m { sends = own.queue_send body m.sends })
+submit_keeps_unballoted_node rules list acc i m body h = with_queue rules list acc i m (own.queue_send body m.sends) (All-push (OwnSendIsSettledRight list acc i) m.sends.queue _ h.sends tt) h
 
 pub collect_keeps_unballoted_node : (rules : Rules) (list : List Entry) (acc i : ℕ) (m : Node) (req : ℕ) → UnballotedNodeKeeps rules list acc i m
     → UnballotedNodeKeeps rules list acc i (record m { sends = own.collect req m.sends })
-collect_keeps_unballoted_node rules list acc i m req h = split_on_bool (own.is_settled req m.sends)
-    (λ t. rw t (with_queue rules list acc i m _ (All-filter (λ s. not (own.is_request req s)) (OwnSendIsSettledRight list acc i) m.sends.queue h.sends) h))
+collect_keeps_unballoted_node rules list acc i m req h = split_on_bool (own.has_settled_send req m.sends)
+    (λ t. rw t (with_queue rules list acc i m _ (All-filter (λ s. not (own.send_has_request req s)) (OwnSendIsSettledRight list acc i) m.sends.queue h.sends) h))
     (λ f. rw f h)

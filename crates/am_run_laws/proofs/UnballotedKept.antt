@@ -1,8 +1,8 @@
 -- What a run without a ballot keeps. The whole list is that of the first founder, which is the sequencer; so much of it is accepted.
 use Rattle.am_run_laws.proofs.UnballotedWords.{◌≡◌, ◌≢◌, ℕ, ◌-◌, ◌<◌, ◌≤◌, true, false, List, ◌++◌, length, take, Option, Some, None, sym, ap, ◌∙◌, arith, All}
-use Rattle.am_run_laws.proofs.UnballotedWords.{take-append-le, All-weaker, Stamp, Image, Entry, Data, Join, View, Rules, has, Log, top_of, CoreState, Packet, Bcast}
+use Rattle.am_run_laws.proofs.UnballotedWords.{take-append-le, All-weaker, Stamp, Image, Entry, Data, Join, View, Rules, has, Log, top_of_log, CoreState, Packet, Bcast}
 use Rattle.am_run_laws.proofs.UnballotedWords.{Order, Accept, Welcome, Invite, Vote, Piece, Result, Letter, is_for, item_at, OwnSend, Status, Node, founding_stamp}
-use Rattle.am_run_laws.proofs.UnballotedWords.{has_log, Cause, hears, image_of}
+use Rattle.am_run_laws.proofs.UnballotedWords.{has_log_by_status, Cause, hears, image_of_list}
 use Rattle.am_run_laws.proofs.Lists.{item_at_of_appended, EntriesAreWithinWhole, entries_within_longer_whole}
 
 -- the founder whose view it is
@@ -19,19 +19,19 @@ pub record AcceptedStandsAt (list : List Entry) (acc number : ℕ) (e : Entry) :
 -- its list is the whole one's from its start on, as far as it goes
 pub record ListIsOfTheWhole (list : List Entry) (acc : ℕ) (log : Log) : Type 0 where
   pub start : log.start ≤ acc
-  pub image : log.image ≡ image_of (take log.start list)
+  pub image : log.image ≡ image_of_list (take log.start list)
   pub within : EntriesAreWithinWhole list log.start log.entries
 
 -- its numbers stand in their order, and it passes over what is below its Join as soon as that is accepted
 pub record UnballotedFrontsAreInOrder (first acc i : ℕ) (core : CoreState) : Type 0 where
   pub accepted : core.acc ≤ acc
-  pub within : core.acc ≤ top_of core.log
+  pub within : core.acc ≤ top_of_log core.log
   pub taken : core.taken ≤ core.acc
   pub base : core.log.start ≤ core.base
   pub told : i ≢ first → core.told ≤ acc
   pub passed : core.taken < core.start - 1 → core.acc ≤ core.taken
 
-pub unballoted_fronts_are_in_order : (first acc i : ℕ) (core : CoreState) → core.acc ≤ acc → core.acc ≤ top_of core.log → core.taken ≤ core.acc → core.log.start ≤ core.base
+pub unballoted_fronts_are_in_order : (first acc i : ℕ) (core : CoreState) → core.acc ≤ acc → core.acc ≤ top_of_log core.log → core.taken ≤ core.acc → core.log.start ≤ core.base
     → (i ≢ first → core.told ≤ acc) → (core.taken < core.start - 1 → core.acc ≤ core.taken) → UnballotedFrontsAreInOrder first acc i core
 unballoted_fronts_are_in_order first acc i core accepted within taken base told passed =
     record { accepted = accepted; within = within; taken = taken; base = base; told = told; passed = passed }
@@ -43,10 +43,10 @@ pub record ListBeginsAtJoin (rules : Rules) (list : List Entry) (acc i start : �
   pub joiner : has rules.founders i ≡ false → AcceptedStandsAt list acc start (Join i)
 
 pub record StatusFitsItsBeginning (rules : Rules) (list : List Entry) (acc i : ℕ) (status : Status) (core : CoreState) : Type 0 where
-  pub promise : has_log status ≡ true → core.promise ≡ founding_stamp rules
-  pub founder : has rules.founders i ≡ true → has_log status ≡ true
-  pub blank : has_log status ≡ false → (core.taken ≡ 0) × (core.start ≡ 0)
-  pub begins : has_log status ≡ true → ListBeginsAtJoin rules list acc i core.start
+  pub promise : has_log_by_status status ≡ true → core.promise ≡ founding_stamp rules
+  pub founder : has rules.founders i ≡ true → has_log_by_status status ≡ true
+  pub blank : has_log_by_status status ≡ false → (core.taken ≡ 0) × (core.start ≡ 0)
+  pub begins : has_log_by_status status ≡ true → ListBeginsAtJoin rules list acc i core.start
 
 -- a send that is settled stands at its number
 abbrev pub SettledSendStands : List Entry → ℕ → ℕ → ℕ → Option ℕ → Type 0
@@ -69,7 +69,7 @@ pub record UnballotedNodeKeeps (rules : Rules) (list : List Entry) (acc i : ℕ)
 pub record WelcomeTellsWholeListFront (rules : Rules) (list : List Entry) (acc i : ℕ) (v : Stamp) (base join : ℕ) (image : Image) : Type 0 where
   pub stamp : v ≡ founding_stamp rules
   pub low : join ≤ acc
-  pub tells : base < join → image ≡ image_of (take base list)
+  pub tells : base < join → image ≡ image_of_list (take base list)
   pub joined : has rules.founders i ≡ false → item_at list join ≡ Some (Join i)
 
 abbrev pub UnballotedPacketSays : Rules → List Entry → ℕ → ℕ → Packet → Type 0
@@ -103,7 +103,7 @@ settled_more list more acc to i req (Some number) up h = (h.0, accepted_stands_i
 list_more : (list more : List Entry) (acc to : ℕ) (log : Log) → acc ≤ to → ListIsOfTheWhole list acc log → ListIsOfTheWhole (list ++ more) to log
 list_more list more acc to log up h = record {
   start = let low = h.start in omega arith;
-  image = h.image ∙ ap image_of (sym (take-append-le log.start list more h.within.low));
+  image = h.image ∙ ap image_of_list (sym (take-append-le log.start list more h.within.low));
   within = entries_within_longer_whole list more log.start log.entries h.within;
 }
 
@@ -120,7 +120,7 @@ sends_settled_in_longer_list list more acc to i queue up h = All-weaker (OwnSend
 status_more : (rules : Rules) (list more : List Entry) (acc to i : ℕ) (status : Status) (core : CoreState) → acc ≤ to
     → StatusFitsItsBeginning rules list acc i status core → StatusFitsItsBeginning rules (list ++ more) to i status core
 status_more rules list more acc to i status core up h =
-    assumption (λ (t : has_log status ≡ true). list_begins_in_longer_list rules list more acc to i core.start up (h.begins t))
+    assumption (λ (t : has_log_by_status status ≡ true). list_begins_in_longer_list rules list more acc to i core.start up (h.begins t))
 
 pub unballoted_node_in_longer_list : (rules : Rules) (list more : List Entry) (acc to i : ℕ) (m : Node) → acc ≤ to → UnballotedNodeKeeps rules list acc i m → UnballotedNodeKeeps rules (list ++ more) to i m
 unballoted_node_in_longer_list rules list more acc to i m up h =
@@ -144,7 +144,7 @@ packet_more rules list more acc to i (Accept s v base a high poll) low up h = om
 packet_more rules list more acc to i (Welcome s v base join image) low up h = record {
   stamp = h.stamp;
   low = let a = h.low in omega arith;
-  tells = λ b. (let a = h.low in let z : base ≤ length list = omega arith in h.tells b ∙ ap image_of (sym (take-append-le base list more z)));
+  tells = λ b. (let a = h.low in let z : base ≤ length list = omega arith in h.tells b ∙ ap image_of_list (sym (take-append-le base list more z)));
   joined = λ f. item_at_of_appended list more join (Join i) (h.joined f);
 }
 packet_more rules list more acc to i (Invite s v) low up h = absurd h

@@ -1,9 +1,9 @@
 -- Each run in which nobody began a ballot keeps what a world keeps.
 use Rattle.am_model.specs.Node.{founding_view}
 use Rattle.am_run_laws.proofs.UnballotedWords.{◌≡◌, ℕ, ◌<◌, ◌≤◌, ◌==◌, nat_le, true, false, List, [], ◌∷◌, None, refl, ap, ◌∙◌, subst, arith, nat_tests, All-nil}
-use Rattle.am_run_laws.proofs.UnballotedWords.{Entry, Rules, MayFound, has, fold, AllFit, fits, top_of, CoreState, Event, Node, set_at, founder, stranger}
-use Rattle.am_run_laws.proofs.UnballotedWords.{founders_entry, World, start, record_of, with_record, with_step, run, NoBallot, split_on_bool, actor, idles, stops, returns}
-use Rattle.am_run_laws.proofs.UnballotedWords.{steps, EventsKeep, runs_keep_what_events_keep, IsGood, AllSmall, mem, name_in_view_is_member, lowest_founder_founds, WorldBodiesWereSent, start_has_all_bodies_sent}
+use Rattle.am_run_laws.proofs.UnballotedWords.{Entry, Rules, MayFound, has, image_after_entries, AllEntriesFit, fits, top_of_log, CoreState, Event, Node, map_with_value, founder, stranger_node}
+use Rattle.am_run_laws.proofs.UnballotedWords.{founders_entry, World, start, record_of, world_with_record, world_with_step, run, NoBallot, split_on_bool, acting_name, idles, stops, returns}
+use Rattle.am_run_laws.proofs.UnballotedWords.{steps, EventsKeep, runs_keep_what_events_keep, IsGoodList, AllViewNamesAreBytes, is_member_at_end, name_in_view_is_member, lowest_founder_founds, WorldBodiesWereSent, start_has_all_bodies_sent}
 use Rattle.am_run_laws.proofs.SentRuns as sent
 use Rattle.am_run_laws.proofs.{Lists.whole_list_is_within_itself, Lists.no_entries_are_within_whole, UnballotedKept.first_founder_of, UnballotedKept.UnballotedFrontsAreInOrder, UnballotedKept.unballoted_fronts_are_in_order}
 use Rattle.am_run_laws.proofs.{UnballotedKept.UnballotedNodeKeeps, First.FirstFounderStaysMember, Turns.UnsettledSendsAreInTurn, Chains.no_ballot_after_none_before, Worlds.GivenAreListEntries, Worlds.start_of_joined_list, Worlds.WorldKeepsWholeList, Worlds.UnballotedWorldHolds}
@@ -17,19 +17,19 @@ pub record UnballotedWorldKeeps (rules : Rules) (w : World) : Type 0 where
   pub ok : NoBallot w → UnballotedWorldHolds rules w
 
 -- nobody had begun one before
-pub acting_name_had_no_ballot : (nodes : ℕ → Node) (i : ℕ) (n : Node) → ((j : ℕ) → (set_at nodes i n j).ballot ≡ None) → n.ballot ≡ None
+pub acting_name_had_no_ballot : (nodes : ℕ → Node) (i : ℕ) (n : Node) → ((j : ℕ) → (map_with_value nodes i n j).ballot ≡ None) → n.ballot ≡ None
 acting_name_had_no_ballot nodes i n h =
     let t : (i == i) ≡ true = grind (arith, nat_tests) in
     rw t at (h i)
 
-pub no_name_had_a_ballot : (nodes : ℕ → Node) (i : ℕ) (n : Node) → ((j : ℕ) → (set_at nodes i n j).ballot ≡ None) → (nodes i).ballot ≡ None → (j : ℕ)
+pub no_name_had_a_ballot : (nodes : ℕ → Node) (i : ℕ) (n : Node) → ((j : ℕ) → (map_with_value nodes i n j).ballot ≡ None) → (nodes i).ballot ≡ None → (j : ℕ)
     → (nodes j).ballot ≡ None
 no_name_had_a_ballot nodes i n h own j = split_on_bool (j == i)
     (λ t. let e : j ≡ i = grind (arith, nat_tests) in ap (λ x. (nodes x).ballot) e ∙ own)
     (λ f. rw f at (h j))
 
 pub events_keep_unballoted_worlds : (rules : Rules) → EventsKeep (UnballotedWorldKeeps rules)
-unfolding with_record with_step
+unfolding world_with_record world_with_step
 events_keep_unballoted_worlds rules w e v (idles o idle) h = record {
   sent = sent.events_keep_world_bodies_sent w e v (idles o idle) h.sent;
   ok = λ none. idle_event_keeps_unballoted_world rules w _ (record_of w e o []) refl refl refl refl idle (h.ok none);
@@ -45,10 +45,10 @@ events_keep_unballoted_worlds rules w e v (returns place is gone more) h = recor
 events_keep_unballoted_worlds rules w e v (steps c s runs cause effect) h = record {
   sent = sent.events_keep_world_bodies_sent w e v (steps c s runs cause effect) h.sent;
   ok = λ none.
-      (let own = acting_name_had_no_ballot w.nodes (actor w e) s.node none in
-      let before : NoBallot w = no_name_had_a_ballot w.nodes (actor w e) s.node none (no_ballot_after_none_before effect.changes own) in
-      split_on_bool (actor w e == first_founder_of rules)
-      (λ t. let is : actor w e ≡ first_founder_of rules = grind (arith, nat_tests) in founder_step_keeps_unballoted_world rules w e c s (h.ok before) is cause effect own)
+      (let own = acting_name_had_no_ballot w.nodes (acting_name w e) s.node none in
+      let before : NoBallot w = no_name_had_a_ballot w.nodes (acting_name w e) s.node none (no_ballot_after_none_before effect.changes own) in
+      split_on_bool (acting_name w e == first_founder_of rules)
+      (λ t. let is : acting_name w e ≡ first_founder_of rules = grind (arith, nat_tests) in founder_step_keeps_unballoted_world rules w e c s (h.ok before) is cause effect own)
       (λ f. other_step_keeps_unballoted_world rules w e c s (h.ok before) h.sent (λ q. let z : ⊥ = grind (arith, nat_tests) in z) cause effect own));
 }
 
@@ -63,21 +63,21 @@ first_founds rules may = (lowest_founder_founds rules may).founds
 first_low : (rules : Rules) → MayFound rules → first_founder_of rules < 256
 first_low rules may = let low = (lowest_founder_founds rules may).few in omega arith
 
-good_start : (rules : Rules) → MayFound rules → IsGood (founders_list rules)
-unfolding AllFit fits AllSmall
+good_start : (rules : Rules) → MayFound rules → IsGoodList (founders_list rules)
+unfolding AllEntriesFit fits AllViewNamesAreBytes
 good_start rules may =
     let a = first_founds rules may in
     let b : nat_le 0 rules.resilience ≡ true = grind (arith, nat_tests) in
     record { fit = (rw (a, b) refl, tt); small = (first_low rules may, tt) }
 
 -- at the start nobody has anything to pass over
-start_fronts : (rules : Rules) (i : ℕ) (core : CoreState) → core.acc ≤ 1 → core.acc ≤ top_of core.log → core.taken ≤ core.acc → core.log.start ≤ core.base
+start_fronts : (rules : Rules) (i : ℕ) (core : CoreState) → core.acc ≤ 1 → core.acc ≤ top_of_log core.log → core.taken ≤ core.acc → core.log.start ≤ core.base
     → core.told ≤ 1 → core.start ≤ 1 → UnballotedFrontsAreInOrder (first_founder_of rules) 1 i core
 start_fronts rules i core accepted within taken base told start =
     unballoted_fronts_are_in_order (first_founder_of rules) 1 i core accepted within taken base (λ d. told) (λ b. absurd (omega arith))
 
 founder_ok : (rules : Rules) (i : ℕ) → has rules.founders i ≡ true → UnballotedNodeKeeps rules (founders_list rules) 1 i (founder rules i)
-unfolding fold
+unfolding image_after_entries
 founder_ok rules i there = record {
   who = refl;
   log = record { start = omega arith; image = refl; within = whole_list_is_within_itself (founders_list rules) };
@@ -91,18 +91,18 @@ founder_ok rules i there = record {
   sends = All-nil _;
 }
 
-stranger_ok : (rules : Rules) (i : ℕ) → has rules.founders i ≡ false → UnballotedNodeKeeps rules (founders_list rules) 1 i (stranger rules i)
-unfolding fold
+stranger_ok : (rules : Rules) (i : ℕ) → has rules.founders i ≡ false → UnballotedNodeKeeps rules (founders_list rules) 1 i (stranger_node rules i)
+unfolding image_after_entries
 stranger_ok rules i none = record {
   who = refl;
   log = record { start = omega arith; image = refl; within = no_entries_are_within_whole (founders_list rules) 0 (omega arith) };
-  fronts = start_fronts rules i (stranger rules i).core (omega arith) (omega arith) (omega arith) (omega arith) (omega arith) (omega arith);
+  fronts = start_fronts rules i (stranger_node rules i).core (omega arith) (omega arith) (omega arith) (omega arith) (omega arith) (omega arith);
   status = record { promise = λ t. absurd (cc); founder = λ t. absurd (cc); blank = λ t. (refl, refl); begins = λ t. absurd (cc) };
   sends = All-nil _;
 }
 
 by_founding : (rules : Rules) (P : ℕ → Node → Type 0) → ((i : ℕ) → has rules.founders i ≡ true → P i (founder rules i))
-    → ((i : ℕ) → has rules.founders i ≡ false → P i (stranger rules i)) → (i : ℕ) → P i ((start rules).nodes i)
+    → ((i : ℕ) → has rules.founders i ≡ false → P i (stranger_node rules i)) → (i : ℕ) → P i ((start rules).nodes i)
 by_founding rules P f g i = split_on_bool (has rules.founders i) (λ t. rw t (f i t)) (λ h. rw h (g i h))
 
 start_kept : (rules : Rules) → WorldKeepsWholeList rules (founders_list rules) 1 (start rules)
@@ -118,7 +118,7 @@ start_kept rules = record {
 }
 
 first_start : (rules : Rules) → MayFound rules → FirstFounderStaysMember rules (founder rules (first_founder_of rules))
-unfolding UnsettledSendsAreInTurn mem
+unfolding UnsettledSendsAreInTurn is_member_at_end
 first_start rules may =
     let there = first_founds rules may in
     let good = good_start rules may in

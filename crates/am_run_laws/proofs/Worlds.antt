@@ -1,7 +1,7 @@
 -- What a world keeps in a run without a ballot.
 use Rattle.am_run_laws.proofs.UnballotedWords.{◌≡◌, ◌≢◌, ⊎_elim, ℕ, ◌+◌, ◌-◌, ◌≤◌, ◌==◌, true, false, if◌then◌else◌, List, [], ◌∷◌, ◌++◌, length, take, Some}
-use Rattle.am_run_laws.proofs.UnballotedWords.{slice_get, refl, sym, ap, ◌∙◌, subst, arith, All, nat_tests, Entry, Data, Rules, has, Act, Record, name_of, deliveries}
-use Rattle.am_run_laws.proofs.UnballotedWords.{Node, set_at, has_log, World, Accepted, accepted_sends, IsSend, heard_by, welcomed_in, welcomes, split_on_bool, slice_get_after_push}
+use Rattle.am_run_laws.proofs.UnballotedWords.{slice_get, refl, sym, ap, ◌∙◌, subst, arith, All, nat_tests, Entry, Data, Rules, has, Act, Record, acting_name_of_record, deliveries}
+use Rattle.am_run_laws.proofs.UnballotedWords.{Node, map_with_value, has_log_by_status, World, AcceptedSend, accepted_sends, IsSend, packet_heard_by_act, welcome_number_of_outcome, welcome_numbers_of, split_on_bool, slice_get_after_push}
 use Rattle.am_run_laws.proofs.{UnballotedKept.first_founder_of, UnballotedKept.AcceptedStandsAt, UnballotedKept.UnballotedNodeKeeps, UnballotedKept.UnballotedLetterSays, Others.SendsHaveOneBody, First.FirstFounderStaysMember, Chains.front_of_given}
 
 -- ---- what was given, and who was welcomed
@@ -13,14 +13,14 @@ pub record GivenAreListEntries (list : List Entry) (acc : ℕ) (m : Node) (given
 
 -- the numbers with which it was welcomed
 abbrev pub start_of_joined_list : Node → List ℕ
-start_of_joined_list m = if has_log m.status then m.core.start ∷ [] else []
+start_of_joined_list m = if has_log_by_status m.status then m.core.start ∷ [] else []
 
 -- a record of a Welcome tells a letter that was there
 abbrev pub WelcomeRecordTellsEarlierLetter : ℕ → Record → Type 0
-WelcomeRecordTellsEarlierLetter letters r = welcomed_in r.outcome ≢ [] → heard_by r.event.act ≤ letters
+WelcomeRecordTellsEarlierLetter letters r = welcome_number_of_outcome r.outcome ≢ [] → packet_heard_by_act r.event.act ≤ letters
 
 -- a send that was answered as sent stands at its number
-abbrev pub AcceptedSendStandsAt : List Entry → ℕ → Accepted → Type 0
+abbrev pub AcceptedSendStandsAt : List Entry → ℕ → AcceptedSend → Type 0
 AcceptedSendStandsAt list acc s = (body : List ℕ) × AcceptedStandsAt list acc s.number (Data s.name s.req body)
 
 -- ---- requests
@@ -64,9 +64,9 @@ other_record_keeps_requests_once records nodes new isnt h = record {
 }
 
 -- a record more of a name whose last request number is greater by it
-pub send_record_keeps_requests_once : (records : List Record) (nodes : ℕ → Node) (i : ℕ) (n : Node) (new : Record) → name_of new ≡ i → (nodes i).sends.last ≤ n.sends.last
+pub send_record_keeps_requests_once : (records : List Record) (nodes : ℕ → Node) (i : ℕ) (n : Node) (new : Record) → acting_name_of_record new ≡ i → (nodes i).sends.last ≤ n.sends.last
     → ((req : ℕ) (body : List ℕ) → IsSend new i req body → (req ≡ (nodes i).sends.last + 1) × (req ≤ n.sends.last)) → RequestsAreAskedOnce records nodes
-    → RequestsAreAskedOnce (records ++ new ∷ []) (set_at nodes i n)
+    → RequestsAreAskedOnce (records ++ new ∷ []) (map_with_value nodes i n)
 send_record_keeps_requests_once records nodes i n new by up may h = record {
   low = λ k r name req body there is. ⊎_elim (λ (x : slice_get records k ≡ Some r). old name req (h.low k r name req body x is))
       (λ (x : (k ≡ length records) × (new ≡ r)). (let mine = subst (λ y. IsSend y name req body) (sym x.1) is in
@@ -82,7 +82,7 @@ send_record_keeps_requests_once records nodes i n new by up may h = record {
       (λ (y : (l ≡ length records) × (new ≡ s)). x.0 ∙ sym y.0) (slice_get_after_push records new l s b)) (slice_get_after_push records new k r a);
 }
   where
-    old : (name req : ℕ) → req ≤ (nodes name).sends.last → req ≤ (set_at nodes i n name).sends.last
+    old : (name req : ℕ) → req ≤ (nodes name).sends.last → req ≤ (map_with_value nodes i n name).sends.last
     old name req low = split_on_bool (name == i)
         (λ t. let e : name ≡ i = grind (arith, nat_tests) in let z = ap (λ x. (nodes x).sends.last) e in rw t (omega arith))
         (λ f. rw f low)
@@ -102,7 +102,7 @@ pub record WorldKeepsWholeList (rules : Rules) (list : List Entry) (acc : ℕ) (
   pub group : w.group ≡ take acc list
   pub letters : All (UnballotedLetterSays rules list acc) w.letters
   pub given : (i : ℕ) → GivenAreListEntries list acc (w.nodes i) (deliveries w.records i)
-  pub welcomed : (i : ℕ) → has rules.founders i ≡ false → welcomes w i ≡ start_of_joined_list (w.nodes i)
+  pub welcomed : (i : ℕ) → has rules.founders i ≡ false → welcome_numbers_of w i ≡ start_of_joined_list (w.nodes i)
   pub heard : All (WelcomeRecordTellsEarlierLetter (length w.letters)) w.records
   pub accepted : All (AcceptedSendStandsAt list acc) (accepted_sends w.records)
 

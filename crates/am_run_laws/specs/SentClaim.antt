@@ -5,5 +5,5 @@ use Rattle.am_group.specs.declared.event.Event.{Event}
 use Rattle.am_group_defs.specs.Claims.{Sent}
 
 -- In each run of every founding each Data was sent by its sender, before the list got it.
-abbrev pub SentHolds : Type 0
-SentHolds = (rules : Rules) (events : List Event) → MayFound rules → Sent rules events
+abbrev pub EachDataWasSent : Type 0
+EachDataWasSent = (rules : Rules) (events : List Event) → MayFound rules → Sent rules events

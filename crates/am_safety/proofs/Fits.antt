@@ -1,10 +1,10 @@
 -- How far above its base a name's entries lie, by the members at each: within a step.
 use Rattle.am_lawful_runs.proofs.Words.{◌≡◌, ◌⊎◌, either, inl, inr, ℕ, suc, ◌+◌, ◌-◌, ◌<◌, ◌≤◌, ◌==◌, ◌&&◌, not, nat_lt, Bool, true, if◌then◌else◌, List, [], ◌∷◌}
 use Rattle.am_lawful_runs.proofs.Words.{length, slice_index, refl, sym, ap, ◌∙◌, subst, length-append, arith, nat_tests, length-map, get_or-map, Packet}
-use Rattle.am_lawful_runs.proofs.Words.{count_by-le-length, Entry, Leave, View, Image, Row, GroupView, Stamp, Outcome, Rules, size, Log, blank_row, member_life}
-use Rattle.am_lawful_runs.proofs.Words.{members_of, members_at, image_at, top_of, with_entry, after, image_at_below_push, image_at_top_is_told, count_by_of_cons, IsMemberRow, row_of_place, sixteen_rows_after_entry}
-use Rattle.am_lawful_runs.proofs.Words.{member_row_has_view_life, Node, Ballot, top, image_of, has_room, push_entry, Verdict, need_of, left_in, trim_for, split_on_bool, Cause, hears}
-use Rattle.am_lawful_runs.proofs.Words.{Looks, decides, Carries, whole_entry, by_number, Change, refreshes, settles, numbers, stores, begins_list, looks, fetches}
+use Rattle.am_lawful_runs.proofs.Words.{count_by-le-length, Entry, Leave, View, Image, Row, GroupView, Stamp, Outcome, Rules, size, Log, blank_row, member_life_of_row}
+use Rattle.am_lawful_runs.proofs.Words.{members_of_image, log_members_at, log_image_at, top_of_log, log_with_entry, after, image_at_below_push, image_at_top_is_told, count_by_of_cons, IsMemberRow, row_of_place, sixteen_rows_after_entry}
+use Rattle.am_lawful_runs.proofs.Words.{member_row_has_view_life, Node, Ballot, top, image_of_node, has_room, push_entry, BallotVerdict, need_set_of, need_set_without_given_up, trim_to_least_taken_by, split_on_bool, Cause, hears}
+use Rattle.am_lawful_runs.proofs.Words.{LooksAtBallot, decides, CarriesEntry, whole_entry, by_number, Change, refreshes, settles, numbers, stores, begins_list, looks, fetches}
 use Rattle.am_lawful_runs.proofs.Words.{stores_view, closes, Changes, unchanged, changed, refresh_rests_with_list, end_refresh_rests_with_list, settle_changes_only_sends, image_of_pushed_entry, change_keeps_list_blank}
 use Rattle.am_lawful_runs.proofs.Words.{HeardWelcomeImageIsUsed, change_keeps_trimmed_taken, TrimsOnlyTakenAlongStep, NodeTrimFronts, told_image_is_used, HeardStampsHaveNames, change_keeps_stamp_names, change_keeps_list_and_ballot, length_of_selection, change_keeps_node_bounds}
 use Rattle.am_lawful_runs.proofs.Words.{decided_view, le_or_gt}
@@ -34,24 +34,24 @@ size_within (x ∷ xs) (y ∷ ys) long h =
     let first : size (x ∷ xs) ≡ 0 + size xs = one ∙ ap (λ (b : Bool). (if b then 1 else 0) + size xs) f in
     omega arith)
 
-in_life : (r : Row) → 0 < member_life r → IsMemberRow r (member_life r)
+in_life : (r : Row) → 0 < member_life_of_row r → IsMemberRow r (member_life_of_row r)
 in_life r h = split_on_bool (nat_lt 0 r.joined && (r.left == 0))
     (λ t. rw t (record { joined = grind (arith, nat_tests); left = grind (arith, nat_tests); is = refl }))
     (λ f. absurd (let z : 0 < 0 = rw f at h in omega arith))
 
 -- after a View there are no more members than it names
 viewed_few : (image : Image) (n : ℕ) (v : GroupView) → length image.rows ≡ 16 → 0 < n → length v.members ≡ 16
-    → size (members_of (after image n (View v))) ≤ size v.members
+    → size (members_of_image (after image n (View v))) ≤ size v.members
 viewed_few image n v long some sixteen =
     let next = after image n (View v) in
     let rows = sixteen_rows_after_entry image n (View v) long in
-    let count = length-map next.rows member_life in
-    size_within (members_of next) v.members (omega arith) (λ p low above.
+    let count = length-map next.rows member_life_of_row in
+    size_within (members_of_image next) v.members (omega arith) (λ p low above.
     (let place : p < 16 = omega arith in
     let within : p < length next.rows = omega arith in
-    let at : slice_index (members_of next) p ≡ member_life (row_of_place next p) = get_or-map member_life next.rows p blank_row 0 within in
-    let life : 0 < member_life (row_of_place next p) = omega arith in
-    let is = member_row_has_view_life image n v p (member_life (row_of_place next p)) place some life (in_life (row_of_place next p) life) in
+    let at : slice_index (members_of_image next) p ≡ member_life_of_row (row_of_place next p) = get_or-map member_life_of_row next.rows p blank_row 0 within in
+    let life : 0 < member_life_of_row (row_of_place next p) = omega arith in
+    let is = member_row_has_view_life image n v p (member_life_of_row (row_of_place next p)) place some life (in_life (row_of_place next p) life) in
     omega arith))
 
 -- ---- a number that fits, or that a packet tells
@@ -64,7 +64,7 @@ pub data CauseBringsEntry (c : Cause) (number : ℕ) : Type 0 where
   by_result : (s base : ℕ) (v : GroupView) → c ≡ hears (Packet.Result s base number v) → CauseBringsEntry c number
 
 abbrev pub EntryFitsAboveBase : Rules → Node → ℕ → Type 0
-EntryFitsAboveBase rules x number = number - x.core.base ≤ rules.window + 16 - size (members_at x.core.log number)
+EntryFitsAboveBase rules x number = number - x.core.base ≤ rules.window + 16 - size (log_members_at x.core.log number)
 
 -- each number fits, but for that which was heard
 abbrev Fitting : Rules → Cause → Node → Type 0
@@ -75,42 +75,42 @@ Fitting rules c x = (number : ℕ) → x.core.base < number → number ≤ top x
 -- the same list, and no lower base
 same_fits : (rules : Rules) (c : Cause) (x y : Node) → y.core.log ≡ x.core.log → x.core.base ≤ y.core.base → Fitting rules c x → Fitting rules c y
 same_fits rules c x y log up h number above within =
-    let t = ap top_of log in
+    let t = ap top_of_log log in
     either (h number (omega arith) (omega arith))
-    (λ a. inl (let same = ap (λ (l : Log). size (members_at l number)) log in omega arith))
+    (λ a. inl (let same = ap (λ (l : Log). size (log_members_at l number)) log in omega arith))
     (λ a. inr a)
 
 -- with one entry more
-push_fits : (rules : Rules) (c : Cause) (x y : Node) (e : Entry) → y.core.log ≡ with_entry x.core.log e → x.core.base ≤ y.core.base
+push_fits : (rules : Rules) (c : Cause) (x y : Node) (e : Entry) → y.core.log ≡ log_with_entry x.core.log e → x.core.base ≤ y.core.base
     → EntryFitsAboveBase rules y (top x + 1) ⊎ CauseBringsEntry c (top x + 1) → Fitting rules c x → Fitting rules c y
 push_fits rules c x y e log up new h number above within =
     let long = length-append x.core.log.entries (e ∷ []) in
-    let t = ap top_of log in
+    let t = ap top_of_log log in
     either (le_or_gt number (top x))
     (λ low. either (h number (omega arith) low)
     (λ a. inl (
-    let same : members_at y.core.log number ≡ members_at x.core.log number = ap (λ (l : Log). members_at l number) log
-    ∙ ap members_of (image_at_below_push x.core.log e number low) in
+    let same : log_members_at y.core.log number ≡ log_members_at x.core.log number = ap (λ (l : Log). log_members_at l number) log
+    ∙ ap members_of_image (image_at_below_push x.core.log e number low) in
     let sizes = ap size same in omega arith))
     (λ a. inr a))
     (λ high. (let is : top x + 1 ≡ number = omega arith in
     subst (λ k. EntryFitsAboveBase rules y k ⊎ CauseBringsEntry c k) is new))
 
 -- what is told at an entry more
-image_more : (x : Node) (e : Entry) → image_at (with_entry x.core.log e) (top x + 1) ≡ after (image_of x) (top x + 1) e
+image_more : (x : Node) (e : Entry) → log_image_at (log_with_entry x.core.log e) (top x + 1) ≡ after (image_of_node x) (top x + 1) e
 image_more x e =
     let long = length-append x.core.log.entries (e ∷ []) in
-    let all : top_of (with_entry x.core.log e) ≡ top x + 1 = omega arith in
-    ap (image_at (with_entry x.core.log e)) (sym all) ∙ image_at_top_is_told (with_entry x.core.log e) ∙ image_of_pushed_entry x e
+    let all : top_of_log (log_with_entry x.core.log e) ≡ top x + 1 = omega arith in
+    ap (log_image_at (log_with_entry x.core.log e)) (sym all) ∙ image_at_top_is_told (log_with_entry x.core.log e) ∙ image_of_pushed_entry x e
 
 -- there are at most sixteen members after an entry
-few_members : (x : Node) (e : Entry) → NodeTrimFronts x → size (members_at (with_entry x.core.log e) (top x + 1)) ≤ 16
+few_members : (x : Node) (e : Entry) → NodeTrimFronts x → size (log_members_at (log_with_entry x.core.log e) (top x + 1)) ≤ 16
 few_members x e h =
     let used = told_image_is_used x h in
-    let rows = sixteen_rows_after_entry (image_of x) (top x + 1) e used.places in
-    let count = length-map (after (image_of x) (top x + 1) e).rows member_life in
-    let most = set_size_le_length (members_of (after (image_of x) (top x + 1) e)) in
-    let same = ap (λ i. size (members_of i)) (image_more x e) in
+    let rows = sixteen_rows_after_entry (image_of_node x) (top x + 1) e used.places in
+    let count = length-map (after (image_of_node x) (top x + 1) e).rows member_life_of_row in
+    let most = set_size_le_length (members_of_image (after (image_of_node x) (top x + 1) e)) in
+    let same = ap (λ i. size (members_of_image i)) (image_more x e) in
     omega arith
 
 -- what is numbered fits where there is room
@@ -123,23 +123,23 @@ room_fits rules c x e same fronts room h =
     push_fits rules c x (push_entry x e) e refl (omega arith) (inl (omega arith)) h
 
 -- and a View that is decided
-look_fits : (rules : Rules) (c : Cause) (x : Node) (b : Ballot) (v : Verdict) → x.core.rules ≡ rules → NodeTrimFronts x → Looks x b v → Fitting rules c x
+look_fits : (rules : Rules) (c : Cause) (x : Node) (b : Ballot) (v : BallotVerdict) → x.core.rules ≡ rules → NodeTrimFronts x → LooksAtBallot x b v → Fitting rules c x
     → Fitting rules c v.node
 look_fits rules c x b v same fronts (decides may) h =
-    let names = left_in b (need_of x b) in
-    let before = trim_for x b names in
+    let names = need_set_without_given_up b (need_set_of x b) in
+    let before = trim_to_least_taken_by x b names in
     let e = View (decided_view x b names) in
     let used = told_image_is_used x fronts in
-    let few = viewed_few (image_of x) (top x + 1) (decided_view x b names) used.places (omega arith)
-    (length_of_selection (λ name. not (b.given_up name)) (need_of x b)) in
-    let sizes = ap (λ i. size (members_of i)) (image_more x e) in
+    let few = viewed_few (image_of_node x) (top x + 1) (decided_view x b names) used.places (omega arith)
+    (length_of_selection (λ name. not (b.given_up name)) (need_set_of x b)) in
+    let sizes = ap (λ i. size (members_of_image i)) (image_more x e) in
     let window = ap (λ (r : Rules). r.window) same in
     let low : top x + 1 - before.core.base ≤ x.core.rules.window + 16 - size names = grind (arith, nat_tests) in
     push_fits rules c x v.node e refl (omega arith) (inl (omega arith)) h
 look_fits rules c x b v same fronts _ h = same_fits rules c x v.node refl (omega arith) h
 
 -- what a packet carries has the number that it tells
-carried : (c : Cause) (m : Node) (s : ℕ) (v : Stamp) (base acc number : ℕ) (e : Entry) → Carries c m s v base acc number e → CauseBringsEntry c number
+carried : (c : Cause) (m : Node) (s : ℕ) (v : Stamp) (base acc number : ℕ) (e : Entry) → CarriesEntry c m s v base acc number e → CauseBringsEntry c number
 carried c m s v base acc number e (whole_entry x is) = by_bcast s v base acc x is
 carried c m s v base acc number e (by_number from req body is there) = by_order s v base acc from req is
 

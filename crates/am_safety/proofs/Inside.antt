@@ -2,12 +2,12 @@
 use Rattle.am_lawful_runs.proofs.Words.{status_without_log_is_nonmember, member_has_not_departed, still_change_gives_nothing, front_after_pass_over, or_false_first_is_false, no_waiting_send_after_filter, ◌≡◌, ◌⊎◌, either, inl, inr, ℕ, ◌+◌, ◌-◌, ◌<◌}
 use Rattle.am_lawful_runs.proofs.Words.{◌≤◌, max, min, ◌==◌, not, nat_lt, Bool, true, false, if◌then◌else◌, List, [], ◌∷◌, ◌++◌, find, count_by, Option, Some}
 use Rattle.am_lawful_runs.proofs.Words.{None, slice_get, refl, sym, ap, ◌∙◌, subst, arith, All, nat_tests, sum_by-cons, All-push, All-filter, All-map, Packet}
-use Rattle.am_lawful_runs.proofs.Words.{All-weaker, Entry, Data, Leave, Image, Stamp, Outcome, CoreState, accept, pass_over, own_report, tell, go_on, Log}
-use Rattle.am_lawful_runs.proofs.Words.{OwnSend, Status, Node, is_member, is_asking, is_sequencer, waiting, node_unsettled_count, push_entry, has_log, has_departed}
-use Rattle.am_lawful_runs.proofs.Words.{begin_list, advance_node, lead, refresh, settle, settle_waiting, settle_at, accepted_at, refresh_at_end, split_on_bool, both_of_and}
+use Rattle.am_lawful_runs.proofs.Words.{All-weaker, Entry, Data, Leave, Image, Stamp, Outcome, CoreState, raise_accepted_to_told, pass_over_below_join, raise_own_report, tell_accept_front, advance_with_reports, Log}
+use Rattle.am_lawful_runs.proofs.Words.{OwnSend, Status, Node, is_member, is_asking_status, is_sequencer, waiting_send_of, node_unsettled_count, push_entry, has_log_by_status, has_departed}
+use Rattle.am_lawful_runs.proofs.Words.{node_of_welcomed, advance_node, refresh_as_sequencer, refresh, settle_waiting_send, settle_send_where_accepted, settle_send_at, accepted_number_of_send, refresh_at_end, split_on_bool, both_of_and}
 use Rattle.am_lawful_runs.proofs.Words.{item_at, Cause, hears, MayBeWelcomed, slice_get_of_front, refresh_rests_with_list, refresh_changes_only_fronts, settle_changes_only_sends, welcomed_node_is_asking, member_status_has_log, asking_status_has_no_log, front_of_given}
 use Rattle.am_lawful_runs.proofs.Words.{GaveByAnswer, nothing, took, began, taken_below_accepted_passes_low, welcome_gives_begun_list, departed_member_has_log_still, accepted_at_gives_found_send}
-use Rattle.am_node_defs.specs.Refresh.{let_go}
+use Rattle.am_node_defs.specs.Refresh.{trim_to_least_taken}
 use Rattle.am_base.specs.declared.outcome.Outcome.TheVariants as said
 use Rattle.am_node_defs.specs.Sends as own
 use Rattle.am_lawful_runs.proofs.Ways.{ListAndNamesGoOn, ChangeByItsKind, push_lets_list_go_on}
@@ -52,9 +52,9 @@ pub record NodeWithinItsStep (group : List Entry) (i : ℕ) (c : Cause) (o : Out
   -- who leaves has no send that waits
   pub leaves : m.leaving ≡ true → x.leaving ≡ true
   pub gone : has_departed x.status ≡ true → x.leaving ≡ true
-  pub silent : x.leaving ≡ true → waiting x ≡ None
+  pub silent : x.leaving ≡ true → waiting_send_of x ≡ None
   -- who has no list has accepted nothing
-  pub bare : has_log x.status ≡ false → x.core.acc ≡ 0
+  pub bare : has_log_by_status x.status ≡ false → x.core.acc ≡ 0
   pub sends : All (SendIsInGroupInStep group i m x) x.sends.queue
 
 -- ---- fronts
@@ -74,14 +74,14 @@ passing taken acc new start up low h = split_on_bool (nat_lt taken (start - 1))
     (λ t. rw t (omega arith, λ below. omega arith))
     (λ f. let z : start - 1 ≤ taken = grind (arith, nat_tests) in rw f (omega arith, λ below. absurd (omega arith)))
 
-lead_fronts : (m : Node) → m.core.taken ≤ m.core.acc → (m.core.taken < m.core.start - 1 → m.core.acc ≤ m.core.taken) → Fronts m (lead m)
-unfolding lead own_report tell go_on let_go accept pass_over
+lead_fronts : (m : Node) → m.core.taken ≤ m.core.acc → (m.core.taken < m.core.start - 1 → m.core.acc ≤ m.core.taken) → Fronts m (refresh_as_sequencer m)
+unfolding refresh_as_sequencer raise_own_report tell_accept_front advance_with_reports trim_to_least_taken raise_accepted_to_told pass_over_below_join
 lead_fronts m low h =
-    let p = passing m.core.taken m.core.acc (lead m).core.acc m.core.start (omega arith) low h in
+    let p = passing m.core.taken m.core.acc (refresh_as_sequencer m).core.acc m.core.start (omega arith) low h in
     record { front_ = front_after_pass_over m.core.taken _ m.core.start; start = refl; taken = p.0; passed = p.1 }
 
 advance_fronts : (m : Node) → m.core.taken ≤ m.core.acc → (m.core.taken < m.core.start - 1 → m.core.acc ≤ m.core.taken) → Fronts m (advance_node m)
-unfolding accept pass_over
+unfolding raise_accepted_to_told pass_over_below_join
 advance_fronts m low h =
     let p = passing m.core.taken m.core.acc (advance_node m).core.acc m.core.start (omega arith) low h in
     record { front_ = front_after_pass_over m.core.taken _ m.core.start; start = refl; taken = p.0; passed = p.1 }
@@ -113,7 +113,7 @@ gave_taken k m e low passed member some says (began s v base join image a b x y 
 
 -- ---- statuses
 
-pub asking_status_has_not_departed : (s : Status) → is_asking s ≡ true → has_departed s ≡ false
+pub asking_status_has_not_departed : (s : Status) → is_asking_status s ≡ true → has_departed s ≡ false
 asking_status_has_not_departed Status.Departed h = absurd (cc)
 asking_status_has_not_departed _ h = refl
 
@@ -159,8 +159,8 @@ sends_on group i m x y queue f h = All-weaker (SendIsInGroupInStep group i m x) 
 
 -- ---- who has no list
 
-bare_refresh : (x : Node) → has_log x.status ≡ false → x.core.acc ≡ 0 → x.core.told ≡ 0 → (refresh x).core.acc ≡ 0
-unfolding refresh accept pass_over
+bare_refresh : (x : Node) → has_log_by_status x.status ≡ false → x.core.acc ≡ 0 → x.core.told ≡ 0 → (refresh x).core.acc ≡ 0
+unfolding refresh raise_accepted_to_told pass_over_below_join
 bare_refresh x none acc told = split_on_bool (is_sequencer x)
     (λ t. absurd (let a = (both_of_and (is_member x.status) _ (both_of_and _ _ t).0).0 in let b = status_without_log_is_nonmember x.status none in cc))
     (λ f. rw f (omega arith))
@@ -170,7 +170,7 @@ bare_refresh x none acc told = split_on_bool (is_sequencer x)
 module _ (group : List Entry) (i : ℕ) (c : Cause) (o : Outcome) (m : Node) where
   inside_alike : (x y : Node) → ListAndNamesGoOn x y → NodeWithinItsStep group i c o m x → NodeWithinItsStep group i c o m y
   inside_alike x y a h =
-      let log = ap has_log a.status in
+      let log = ap has_log_by_status a.status in
       let front_ : front_of_given y ≡ front_of_given x = λ j. max (a.taken j) (a.start j - 1) in
       record {
         gave = still_change_gives_nothing m x y front_ a.start log h.gave;
@@ -189,12 +189,12 @@ module _ (group : List Entry) (i : ℕ) (c : Cause) (o : Outcome) (m : Node) whe
             h.sends);
       }
 
-  inside_refreshed : (x : Node) → (has_log x.status ≡ false → x.core.told ≡ 0) → NodeWithinItsStep group i c o m x → NodeWithinItsStep group i c o m (refresh x)
+  inside_refreshed : (x : Node) → (has_log_by_status x.status ≡ false → x.core.told ≡ 0) → NodeWithinItsStep group i c o m x → NodeWithinItsStep group i c o m (refresh x)
   inside_refreshed x bare h =
       let y = refresh x in
       let r = refresh_rests_with_list x in
       let f = refresh_fronts x h.taken h.passed in
-      let log = ap has_log r.rests.status in
+      let log = ap has_log_by_status r.rests.status in
       let sends_ : y.sends ≡ x.sends = ap (λ (z : Node). z.sends) (refresh_changes_only_fronts x) in
       let kept = h.kept in
       let more : (rest : List Entry) × (y.core.log.entries ≡ x.core.log.entries ++ rest) = (r.rests.more, r.rests.entries) in
@@ -211,7 +211,7 @@ module _ (group : List Entry) (i : ℕ) (c : Cause) (o : Outcome) (m : Node) whe
       }
 
   -- nobody who had departed settles anything
-  stays_up : (x : Node) (s : OwnSend) → waiting x ≡ Some s → NodeWithinItsStep group i c o m x → has_departed m.status ≡ false
+  stays_up : (x : Node) (s : OwnSend) → waiting_send_of x ≡ Some s → NodeWithinItsStep group i c o m x → has_departed m.status ≡ false
   stays_up x s is h = split_on_bool (has_departed m.status)
       (λ t. absurd (let none = h.silent (h.gone (h.departed t).0) in cc))
       (λ f. f)
@@ -222,12 +222,12 @@ module _ (group : List Entry) (i : ℕ) (c : Cause) (o : Outcome) (m : Node) whe
   inside_sends x q silent sends h =
       assumption (still_change_gives_nothing m x (record x { sends = q }) refl refl refl h.gave, silent, sends)
 
-  inside_settled_at : (x : Node) (req : ℕ) (at : Option ℕ) → accepted_at x req ≡ at → has_departed m.status ≡ false → x.leaving ≡ false
-      → NodeWithinItsStep group i c o m x → NodeWithinItsStep group i c o m (settle_at x req at)
+  inside_settled_at : (x : Node) (req : ℕ) (at : Option ℕ) → accepted_number_of_send x req ≡ at → has_departed m.status ≡ false → x.leaving ≡ false
+      → NodeWithinItsStep group i c o m x → NodeWithinItsStep group i c o m (settle_send_at x req at)
   inside_settled_at x req None is up stays h = h
   inside_settled_at x req (Some k) is up stays h =
       let number = x.core.base + 1 + k in
-      let y = settle_at x req (Some k) in
+      let y = settle_send_at x req (Some k) in
       let f = accepted_at_gives_found_send x req k is in
       let low = f.low in
       let fresh : IsFreshEntryForNode m y req number = record {
@@ -249,15 +249,15 @@ module _ (group : List Entry) (i : ℕ) (c : Cause) (o : Outcome) (m : Node) whe
           (λ t. let same : req ≡ s.req = grind (arith, nat_tests) in rw t (inr (subst (λ r. IsFreshEntryForNode m y r number) same fresh)))
           (λ f. rw f old)
 
-  inside_settled : (x : Node) (w : Option OwnSend) → waiting x ≡ w → NodeWithinItsStep group i c o m x → NodeWithinItsStep group i c o m (settle_waiting x w)
+  inside_settled : (x : Node) (w : Option OwnSend) → waiting_send_of x ≡ w → NodeWithinItsStep group i c o m x → NodeWithinItsStep group i c o m (settle_send_where_accepted x w)
   inside_settled x None is h = h
-  inside_settled x (Some s) is h = inside_settled_at x s.req (accepted_at x s.req) refl (stays_up x s is h)
+  inside_settled x (Some s) is h = inside_settled_at x s.req (accepted_number_of_send x s.req) refl (stays_up x s is h)
       (split_on_bool x.leaving (λ t. absurd (let none = h.silent t in cc)) (λ f. f)) h
 
   inside_begun : (x : Node) (s : ℕ) (v : Stamp) (base join : ℕ) (image : Image) → c ≡ hears (Packet.Welcome s v base join image) → o ≡ said.Welcomed join
-      → MayBeWelcomed x s v base join image → NodeWithinItsStep group i c o m x → NodeWithinItsStep group i c o m (begin_list x v base join image)
+      → MayBeWelcomed x s v base join image → NodeWithinItsStep group i c o m x → NodeWithinItsStep group i c o m (node_of_welcomed x v base join image)
   inside_begun x s v base join image is says may h =
-      let y = begin_list x v base join image in
+      let y = node_of_welcomed x v base join image in
       let none = asking_status_has_no_log x.status (welcomed_node_is_asking x s v base join image may) in
       let bare = h.bare none in
       record {
@@ -272,18 +272,18 @@ module _ (group : List Entry) (i : ℕ) (c : Cause) (o : Outcome) (m : Node) whe
       }
 
   -- only the status changes
-  inside_status : (x : Node) (s : Status) → has_log s ≡ has_log x.status → (has_departed m.status ≡ true → has_departed s ≡ true)
+  inside_status : (x : Node) (s : Status) → has_log_by_status s ≡ has_log_by_status x.status → (has_departed m.status ≡ true → has_departed s ≡ true)
       → (has_departed s ≡ true → x.leaving ≡ true) → NodeWithinItsStep group i c o m x → NodeWithinItsStep group i c o m (record x { status = s })
   inside_status x s log stays leaves h =
       let y = record x { status = s } in
       let departed : has_departed m.status ≡ true → (has_departed s ≡ true) × (front_of_given y ≡ front_of_given m) = λ t. (stays t, (h.departed t).1) in
-      let bare : has_log s ≡ false → x.core.acc ≡ 0 = λ t. h.bare (sym log ∙ t) in
+      let bare : has_log_by_status s ≡ false → x.core.acc ≡ 0 = λ t. h.bare (sym log ∙ t) in
       assumption (still_change_gives_nothing m x y refl refl log h.gave, departed, bare)
 
   inside_collected : (x : Node) (req : ℕ) → NodeWithinItsStep group i c o m x → NodeWithinItsStep group i c o m (record x { sends = own.collect req x.sends })
-  inside_collected x req h = split_on_bool (own.is_settled req x.sends)
-      (λ t. rw t (inside_sends x (own.without_request req x.sends) (λ u. no_waiting_send_after_filter (λ s. not (own.is_request req s)) x.sends.queue (h.silent u))
-      (All-filter (λ s. not (own.is_request req s)) (SendIsInGroupInStep group i m x) x.sends.queue h.sends) h))
+  inside_collected x req h = split_on_bool (own.has_settled_send req x.sends)
+      (λ t. rw t (inside_sends x (own.sends_without_request req x.sends) (λ u. no_waiting_send_after_filter (λ s. not (own.send_has_request req s)) x.sends.queue (h.silent u))
+      (All-filter (λ s. not (own.send_has_request req s)) (SendIsInGroupInStep group i m x) x.sends.queue h.sends) h))
       (λ f. rw f (inside_sends x x.sends h.silent h.sends h))
 
   inside_took : (x : Node) (e : Entry) → o ≡ said.Took (x.core.taken + 1) e → is_member x.status ≡ true → (x.core.taken == x.core.acc) ≡ false
@@ -302,18 +302,18 @@ module _ (group : List Entry) (i : ℕ) (c : Cause) (o : Outcome) (m : Node) whe
       let y = record x { leaving = true } in
       assumption (still_change_gives_nothing m x y refl refl refl h.gave, none_waits x.sends.queue none)
 
-  pub node_within_step_by_kind : (x y : Node) → ChangeByItsKind c o x y → (has_log x.status ≡ false → x.core.told ≡ 0) → NodeWithinItsStep group i c o m x → NodeWithinItsStep group i c o m y
-  unfolding settle refresh_at_end
+  pub node_within_step_by_kind : (x y : Node) → ChangeByItsKind c o x y → (has_log_by_status x.status ≡ false → x.core.told ≡ 0) → NodeWithinItsStep group i c o m x → NodeWithinItsStep group i c o m y
+  unfolding settle_waiting_send refresh_at_end
   node_within_step_by_kind x y (kinds.alike a) bare h = inside_alike x y a h
   node_within_step_by_kind x y kinds.refreshed bare h = inside_refreshed x bare h
-  node_within_step_by_kind x y kinds.settled bare h = inside_settled x (waiting x) refl h
+  node_within_step_by_kind x y kinds.settled bare h = inside_settled x (waiting_send_of x) refl h
   node_within_step_by_kind x y (kinds.began s v base join image is says may) bare h = inside_begun x s v base join image is says may h
   node_within_step_by_kind x y (kinds.left member leaves) bare h = inside_status x Status.Departed (departed_member_has_log_still x.status member) (λ t. refl) (λ t. leaves) h
   node_within_step_by_kind x y (kinds.sent body stays) bare h =
-      inside_sends x (own.submit body x.sends) (λ t. absurd (cc)) (All-push (SendIsInGroupInStep group i m x) x.sends.queue _ h.sends tt) h
+      inside_sends x (own.queue_send body x.sends) (λ t. absurd (cc)) (All-push (SendIsInGroupInStep group i m x) x.sends.queue _ h.sends tt) h
   node_within_step_by_kind x y (kinds.collected req) bare h = inside_collected x req h
   node_within_step_by_kind x y (kinds.took e says member some) bare h = inside_took x e says member some h
-  node_within_step_by_kind x y (kinds.asked_in was) bare h = inside_status x Status.Asking (sym (ap has_log was))
+  node_within_step_by_kind x y (kinds.asked_in was) bare h = inside_status x Status.Asking (sym (ap has_log_by_status was))
       (λ t. absurd (let d = (h.departed t).0 in let s = ap has_departed was in cc)) (λ t. absurd (cc)) h
   node_within_step_by_kind x y (kinds.asked_out was done) bare h = inside_asked x (or_false_first_is_false _ _ done) h
   node_within_step_by_kind x y (kinds.gone member leaves) bare h =
@@ -322,7 +322,7 @@ module _ (group : List Entry) (i : ℕ) (c : Cause) (o : Outcome) (m : Node) whe
       let a = inside_alike x p (push_lets_list_go_on x (Leave x.core.who)) h in
       let b = inside_refreshed p (λ none. absurd (cc)) a in
       let r = (refresh_rests_with_list p).rests in
-      let d = inside_settled (refresh p) (waiting (refresh p)) refl b in
-      let st : (settle (refresh p)).status ≡ x.status = ap (λ (z : Node). z.status) (settle_changes_only_sends (refresh p)) ∙ r.status in
-      let lv : (settle (refresh p)).leaving ≡ x.leaving = ap (λ (z : Node). z.leaving) (settle_changes_only_sends (refresh p)) ∙ r.leaving in
-      inside_status (settle (refresh p)) Status.Departed (departed_member_has_log_still x.status member ∙ ap has_log (sym st)) (λ t. refl) (λ t. lv ∙ leaves) d
+      let d = inside_settled (refresh p) (waiting_send_of (refresh p)) refl b in
+      let st : (settle_waiting_send (refresh p)).status ≡ x.status = ap (λ (z : Node). z.status) (settle_changes_only_sends (refresh p)) ∙ r.status in
+      let lv : (settle_waiting_send (refresh p)).leaving ≡ x.leaving = ap (λ (z : Node). z.leaving) (settle_changes_only_sends (refresh p)) ∙ r.leaving in
+      inside_status (settle_waiting_send (refresh p)) Status.Departed (departed_member_has_log_still x.status member ∙ ap has_log_by_status (sym st)) (λ t. refl) (λ t. lv ∙ leaves) d

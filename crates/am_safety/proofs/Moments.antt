@@ -1,7 +1,7 @@
 -- What a record of a run tells of the moment when its event was done.
 use Rattle.am_lawful_runs.proofs.Words.{◌≡◌, ℕ, zero, suc, ◌+◌, ◌<◌, List, [], ◌∷◌, ◌++◌, length, take, Some, slice_get, refl, sym, ap, ◌∙◌, subst, arith}
-use Rattle.am_lawful_runs.proofs.Words.{length-take-le, slice_get_within, Entry, Outcome, Rules, MayFound, Event, Record, name_of, slice_get_of_append_front, World, record_of}
-use Rattle.am_lawful_runs.proofs.Words.{with_record, with_step, happens, run, run_begins_longer_run, one_record_each, actor, IsIdle, Happens, idles, returns, steps, slice_get_of_pushed}
+use Rattle.am_lawful_runs.proofs.Words.{length-take-le, slice_get_within, Entry, Outcome, Rules, MayFound, Event, Record, acting_name_of_record, slice_get_of_append_front, World, record_of}
+use Rattle.am_lawful_runs.proofs.Words.{world_with_record, world_with_step, happens, run, run_begins_longer_run, one_record_each, acting_name, IsIdle, EventHappens, idles, returns, steps, slice_get_of_pushed}
 use Rattle.am_base.specs.declared.outcome.Outcome.TheVariants as said
 use Rattle.am_step_laws.specs.Events as event
 use Rattle.am_lawful_runs.proofs.OneStep.{run_of_pushed_event}
@@ -49,8 +49,8 @@ record_was_done_at_moment rules events k r at =
 
 -- by which name, and where it stood then
 pub record EntryGivenAtMoment (w : World) (e : Event) (number : ℕ) (x : Entry) (r : Record) : Type 0 where
-  pub by : name_of r ≡ actor w e
-  pub taking_ : EntryMayBeTaken (w.nodes (actor w e)) number x
+  pub by : acting_name_of_record r ≡ acting_name w e
+  pub taking_ : EntryMayBeTaken (w.nodes (acting_name w e)) number x
 
 some_record : (a b : Record) → Some a ≡ Some b → a ≡ b
 some_record a b h = cc
@@ -62,9 +62,9 @@ none_idle : (o : Outcome) (number : ℕ) (x : Entry) → IsIdle o → o ≡ said
 none_idle o number x idle is = subst IsIdle is idle
 
 pub given_entry_has_its_moment : (rules : Rules) (events : List Event) (e : Event) (v : World) (number : ℕ) (x : Entry) (r : Record) → MayFound rules
-    → NamesHaveTakenInTurn rules (run rules events) → Happens (run rules events) e v → slice_get v.records (length (run rules events).records) ≡ Some r
+    → NamesHaveTakenInTurn rules (run rules events) → EventHappens (run rules events) e v → slice_get v.records (length (run rules events).records) ≡ Some r
     → r.outcome ≡ said.Took number x → EntryGivenAtMoment (run rules events) e number x r
-unfolding with_record with_step
+unfolding world_with_record world_with_step
 given_entry_has_its_moment rules events e v number x r may h (idles o idle) at says =
     let w = run rules events in
     let same = last_of w.records (record_of w e o []) r at in
@@ -82,4 +82,4 @@ given_entry_has_its_moment rules events e v number x r may h (steps c step runs 
     let w = run rules events in
     let same = last_of w.records (record_of w e step.outcome step.letters) r at in
     let says_ = ap (λ (y : Record). y.outcome) same ∙ says in
-    record { by = ap name_of (sym same); taking_ = entry_taken_by_step rules events e c step may cause effect h number x says_ }
+    record { by = ap acting_name_of_record (sym same); taking_ = entry_taken_by_step rules events e c step may cause effect h number x says_ }

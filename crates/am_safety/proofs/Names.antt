@@ -1,11 +1,11 @@
 -- Each entry that a node has, a letter tells or a group lists speaks of names that there are.
 use Rattle.am_step_laws.proofs.Words.{◌≡◌, ℕ, ◌<◌, ◌==◌, ◌&&◌, not, List, [], ◌∷◌, Option, Some, None, refl, sym, subst, arith, nat_tests, All, All-nil, All-cons}
-use Rattle.am_step_laws.proofs.Words.{All-append, All-weaker, split_on_bool, Stamp, Report, stamp_lt, Entry, Data, Join, Leave, View, Outcome, Rules, MayFound, Packet}
-use Rattle.am_step_laws.proofs.Words.{Letter, Event, Node, Ballot, push_entry, set_at, founders_entry, overtake, Verdict, refresh, settle, refresh_at_end, Step}
-use Rattle.am_step_laws.proofs.Words.{World, start, run, with_record, with_step, heard_by, Cause, hears, Looks, decides, HasOpen, Balloting, with_more, without_one}
-use Rattle.am_step_laws.proofs.Words.{as_it_is, Numbers, asked_send, own_send, asked_join, asked_leave, Carries, whole_entry, by_number, BringsSend, by_request}
+use Rattle.am_step_laws.proofs.Words.{All-append, All-weaker, split_on_bool, Stamp, Report, stamp_is_less, Entry, Data, Join, Leave, View, Outcome, Rules, MayFound, Packet}
+use Rattle.am_step_laws.proofs.Words.{Letter, Event, Node, Ballot, push_entry, map_with_value, founders_entry, overtake_lower_ballot, BallotVerdict, refresh, settle_waiting_send, refresh_at_end, StepResult}
+use Rattle.am_step_laws.proofs.Words.{World, start, run, world_with_record, world_with_step, packet_heard_by_act, Cause, hears, LooksAtBallot, decides, HasOpenBallot, BallotIsLookedAt, with_more, without_one}
+use Rattle.am_step_laws.proofs.Words.{as_it_is, IsNumberedBy, asked_send, own_send, asked_join, asked_leave, CarriesEntry, whole_entry, by_number, CauseHasSend, by_request}
 use Rattle.am_step_laws.proofs.Words.{by_spread, Change, refreshes, settles, numbers, stores, begins_list, promises, opens, looks, fetches, stores_view, closes}
-use Rattle.am_step_laws.proofs.Words.{Says, bcast, order, piece, LetterSays, Effect, actor, IsCause, steps, all_gives_slice_get, all_gives_item_at, refresh_changes_only_fronts}
+use Rattle.am_step_laws.proofs.Words.{Says, bcast, order, piece, LetterSays, Effect, acting_name, IsCause, steps, item_of_index_has_property, all_gives_item_at, refresh_changes_only_fronts}
 use Rattle.am_step_laws.proofs.Words.{settle_changes_only_sends, changes_keep_property, EventsKeep, runs_keep_what_events_keep, sender_of, lowest_founder_founds, first_node_has_property}
 use Rattle.am_step_laws.proofs.Named.{NodesHaveTheirNames, actor_is_below_256, events_keep_names, start_has_names}
 use Rattle.am_step_laws.proofs.Numbers.RunCounts.{heard_packet_was_sent}
@@ -47,33 +47,33 @@ record CauseNamed (c : Cause) : Type 0 where
 pushed_named : (m : Node) (e : Entry) → EntryHasSmallNames e → NodeHasSmallNames m → NodeHasSmallNames (push_entry m e)
 pushed_named m e is h = assumption (All-append EntryHasSmallNames m.core.log.entries (e ∷ []) h.entries (All-cons EntryHasSmallNames e [] is (All-nil EntryHasSmallNames)))
 
-brought_named : (c : Cause) (s : ℕ) (v : Stamp) (report : Report) (req : ℕ) (body : List ℕ) → BringsSend c s v report req body → CauseNamed c → s < 256
+brought_named : (c : Cause) (s : ℕ) (v : Stamp) (report : Report) (req : ℕ) (body : List ℕ) → CauseHasSend c s v report req body → CauseNamed c → s < 256
 brought_named c s v report req body (by_request s1 v1 report1 req1 body1) from = from.senders (Packet.Request s v report req body) refl
 brought_named c s v report req body (by_spread s1 v1 report1 req1 body1) from = from.senders (Packet.Spread s v report req body) refl
 
-numbered_named : (c : Cause) (m : Node) (e : Entry) → Numbers c m e → CauseNamed c → NodeHasSmallNames m → EntryHasSmallNames e
+numbered_named : (c : Cause) (m : Node) (e : Entry) → IsNumberedBy c m e → CauseNamed c → NodeHasSmallNames m → EntryHasSmallNames e
 numbered_named c m e (asked_send s v report req body by known stays next) from h = brought_named c s v report req body by from
 numbered_named c m e (own_send s is last) from h = h.who
 numbered_named c m e (asked_join s v is other fit) from h = from.senders (Packet.JoinAsk s v) is
 numbered_named c m e (asked_leave s v report is other known stays) from h = from.senders (Packet.LeaveAsk s v report) is
 
-carried_named : (c : Cause) (m : Node) (s : ℕ) (v : Stamp) (base acc number : ℕ) (e : Entry) → Carries c m s v base acc number e → CauseNamed c → EntryHasSmallNames e
+carried_named : (c : Cause) (m : Node) (s : ℕ) (v : Stamp) (base acc number : ℕ) (e : Entry) → CarriesEntry c m s v base acc number e → CauseNamed c → EntryHasSmallNames e
 carried_named c m s v base acc number e (whole_entry x is) from = from.heard (Packet.Bcast s v base acc number e) is
 carried_named c m s v base acc number e (by_number name req body is found) from = from.heard (Packet.Order s v base acc number name req) is
 
-overtaken_named : (by : Stamp) (ballot : Option Ballot) → BallotNamed ballot → BallotNamed (overtake by ballot)
+overtaken_named : (by : Stamp) (ballot : Option Ballot) → BallotNamed ballot → BallotNamed (overtake_lower_ballot by ballot)
 overtaken_named by None h = tt
-overtaken_named by (Some b) h = split_on_bool (not b.is_over && stamp_lt b.stamp by) (λ t. rw t h) (λ f. rw f h)
+overtaken_named by (Some b) h = split_on_bool (not b.is_over && stamp_is_less b.stamp by) (λ t. rw t h) (λ f. rw f h)
 
-open_named : (m : Node) (b : Ballot) → HasOpen m b → NodeHasSmallNames m → b.stamp.by < 256
+open_named : (m : Node) (b : Ballot) → HasOpenBallot m b → NodeHasSmallNames m → b.stamp.by < 256
 open_named m b open_ h = subst BallotNamed open_.last h.ballot
 
-looked_named : (c : Cause) (m : Node) (b : Ballot) → Balloting c m b → NodeHasSmallNames m → b.stamp.by < 256
+looked_named : (c : Cause) (m : Node) (b : Ballot) → BallotIsLookedAt c m b → NodeHasSmallNames m → b.stamp.by < 256
 looked_named c m b (with_more old s v shown is by low high open_ same stays) h = open_named m old open_ h
 looked_named c m b (without_one old name is open_ other) h = open_named m old open_ h
 looked_named c m b (as_it_is old open_ on) h = open_named m old open_ h
 
-look_named : (m : Node) (b : Ballot) (v : Verdict) → Looks m b v → b.stamp.by < 256 → NodeHasSmallNames m → NodeHasSmallNames v.node
+look_named : (m : Node) (b : Ballot) (v : BallotVerdict) → LooksAtBallot m b v → b.stamp.by < 256 → NodeHasSmallNames m → NodeHasSmallNames v.node
 look_named m b v (decides may) by h =
     let p = pushed_named m (View _) by h in
     record { who = p.who; entries = p.entries; ballot = by }
@@ -82,7 +82,7 @@ look_named m b v _ by h = record { who = h.who; entries = h.entries; ballot = by
 refresh_named : (m : Node) → NodeHasSmallNames m → NodeHasSmallNames (refresh m)
 refresh_named m h = subst NodeHasSmallNames (sym (refresh_changes_only_fronts m)) (record { who = h.who; entries = h.entries; ballot = h.ballot })
 
-settle_named : (m : Node) → NodeHasSmallNames m → NodeHasSmallNames (settle m)
+settle_named : (m : Node) → NodeHasSmallNames m → NodeHasSmallNames (settle_waiting_send m)
 settle_named m h = subst NodeHasSmallNames (sym (settle_changes_only_sends m)) (record { who = h.who; entries = h.entries; ballot = h.ballot })
 
 at_end_named : (m : Node) → NodeHasSmallNames m → NodeHasSmallNames (refresh_at_end m)
@@ -116,10 +116,10 @@ change_keeps from m n _ h = record { who = h.who; entries = h.entries; ballot = 
 -- ---- letters
 
 says_named : (m n : Node) (c : Cause) (to : List ℕ) (p : Packet) → CauseNamed c → Says m c n to p → NodeHasSmallNames n → PacketNamed p
-says_named m n c to p from (bcast _ number e l s) h = all_gives_slice_get EntryHasSmallNames n.core.log.entries s.index e h.entries s.there
+says_named m n c to p from (bcast _ number e l s) h = item_of_index_has_property EntryHasSmallNames n.core.log.entries s.index e h.entries s.there
 says_named m n c to p from (order _ number name req v report body is l s) h =
     from.senders (Packet.Spread name v report req body) is
-says_named m n c to p from (piece s v stored number e is may at) h = all_gives_slice_get EntryHasSmallNames n.core.log.entries at.index e h.entries at.there
+says_named m n c to p from (piece s v stored number e is may at) h = item_of_index_has_property EntryHasSmallNames n.core.log.entries at.index e h.entries at.there
 says_named m n c to p from _ h = tt
 
 -- ---- worlds
@@ -130,13 +130,13 @@ pub record AllNamesSaidAreSmall (rules : Rules) (w : World) : Type 0 where
   pub letters : All LetterNamed w.letters
   pub group : All EntryHasSmallNames w.group
 
-cause_named : (rules : Rules) (w : World) (e : Event) (c : Cause) → AllNamesSaidAreSmall rules w → IsCause w (actor w e) e.act c → CauseNamed c
+cause_named : (rules : Rules) (w : World) (e : Event) (c : Cause) → AllNamesSaidAreSmall rules w → IsCause w (acting_name w e) e.act c → CauseNamed c
 cause_named rules w e c h cause = record {
   heard = λ p is. (let was = heard_packet_was_sent w e c p is cause in
-      subst PacketNamed was.is (all_gives_item_at LetterNamed w.letters (heard_by e.act) was.letter h.letters was.there));
+      subst PacketNamed was.is (all_gives_item_at LetterNamed w.letters (packet_heard_by_act e.act) was.letter h.letters was.there));
   senders = λ p is. (let was = heard_packet_was_sent w e c p is cause in
       subst (λ (x : Packet). sender_of x < 256) was.is (all_gives_item_at (λ (l : Letter). sender_of l.packet < 256) w.letters
-      (heard_by e.act) was.letter h.base.senders was.there));
+      (packet_heard_by_act e.act) was.letter h.base.senders was.there));
 }
 
 sender_is : (n sender : Node) → n ≡ record sender { status = n.status } → NodeHasSmallNames n → NodeHasSmallNames sender
@@ -144,14 +144,14 @@ sender_is n sender is h = let k : NodeHasSmallNames (record sender { status = n.
     record { who = k.who; entries = k.entries; ballot = k.ballot }
 
 set_named : (nodes : ℕ → Node) (name : ℕ) (n : Node) → ((other : ℕ) → other < 256 → NodeHasSmallNames (nodes other)) → NodeHasSmallNames n → (other : ℕ) → other < 256
-    → NodeHasSmallNames (set_at nodes name n other)
+    → NodeHasSmallNames (map_with_value nodes name n other)
 set_named nodes name n h k other low = split_on_bool (other == name) (λ t. rw t k) (λ f. rw f (h other low))
 
-stepped_named : (rules : Rules) (w : World) (e : Event) (c : Cause) (s : Step) → NodesHaveTheirNames rules (with_step w e (actor w e) s)
-    → IsCause w (actor w e) e.act c → Effect (w.nodes (actor w e)) c s → AllNamesSaidAreSmall rules w → AllNamesSaidAreSmall rules (with_step w e (actor w e) s)
-unfolding with_step
+stepped_named : (rules : Rules) (w : World) (e : Event) (c : Cause) (s : StepResult) → NodesHaveTheirNames rules (world_with_step w e (acting_name w e) s)
+    → IsCause w (acting_name w e) e.act c → Effect (w.nodes (acting_name w e)) c s → AllNamesSaidAreSmall rules w → AllNamesSaidAreSmall rules (world_with_step w e (acting_name w e) s)
+unfolding world_with_step
 stepped_named rules w e c s base cause effect h =
-    let name = actor w e in
+    let name = acting_name w e in
     let m = w.nodes name in
     let low = actor_is_below_256 rules w e h.base in
     let from = cause_named rules w e c h cause in
@@ -167,7 +167,7 @@ stepped_named rules w e c s base cause effect h =
     }
 
 said_keeps : (rules : Rules) → EventsKeep (AllNamesSaidAreSmall rules)
-unfolding with_record
+unfolding world_with_record
 said_keeps rules w e v (steps c s runs cause effect) h =
     stepped_named rules w e c s (events_keep_names rules w e v (steps c s runs cause effect) h.base) cause effect h
 said_keeps rules w e v other h = record { base = events_keep_names rules w e v other h.base; each = h.each; letters = h.letters; group = h.group }

@@ -1,7 +1,7 @@
 -- What a name accepted of its own list stands in the group list.
 use Rattle.am_lawful_runs.proofs.Words.{◌≡◌, either, ℕ, suc, ◌+◌, ◌-◌, ◌<◌, ◌≤◌, ◌==◌, List, ◌++◌, length, take, drop, Some, slice_get, refl, sym, ap, ◌∙◌}
-use Rattle.am_lawful_runs.proofs.Words.{subst, arith, length-take-le, Entry, slice_get-drop, item_at, slice_get_of_append_back, Begins, Group, GroupKeeps, Node, view, whole, World}
-use Rattle.am_lawful_runs.proofs.Words.{group_with, group_after, split_on_bool, NameStands, FrontsStand, slice_get_is_item_at, item_at_of_take, le_or_gt}
+use Rattle.am_lawful_runs.proofs.Words.{subst, arith, length-take-le, Entry, slice_get-drop, item_at, slice_get_of_append_back, IsBeginningOf, Group, GroupKeeps, Node, view, whole, World}
+use Rattle.am_lawful_runs.proofs.Words.{list_with_accepted, list_after_step, split_on_bool, NameStands, FrontsStand, slice_get_is_item_at, item_at_of_take, le_or_gt}
 use Rattle.am_lawful_runs.proofs.Lists.{item_stays_in_longer_list}
 use Rattle.am_lawful_runs.proofs.Shapes.{ListGoesAlong}
 
@@ -29,7 +29,7 @@ accepted_item_is_in_group w s i number e k h f group low at =
 
 -- a new number of the group list has the entry of the name's list
 grown_item : (group : List Entry) (n : Node) (index number : ℕ) (e : Entry) → n.core.log.start ≤ length group → number ≡ n.core.log.start + index + 1
-    → length group < number → number ≤ n.core.acc → slice_get n.core.log.entries index ≡ Some e → item_at (group_with group n.core) number ≡ Some e
+    → length group < number → number ≤ n.core.acc → slice_get n.core.log.entries index ≡ Some e → item_at (list_with_accepted group n.core) number ≡ Some e
 grown_item group n index number e start is above low at =
     let j = number - length group - 1 in
     let more = take (n.core.acc - length group) (drop (length group - n.core.log.start) n.core.log.entries) in
@@ -46,15 +46,15 @@ grown_item group n index number e start is above low at =
     next xs j = let z : suc j ≡ j + 1 = omega arith in ap (item_at xs) z
 
 after_item : (group : List Entry) (n : Node) (index number : ℕ) (e : Entry) → n.core.log.start ≤ length group → number ≡ n.core.log.start + index + 1
-    → length group < number → number ≤ n.core.acc → n.core.acc ≤ length (group_after group n) → slice_get n.core.log.entries index ≡ Some e
-    → item_at (group_after group n) number ≡ Some e
+    → length group < number → number ≤ n.core.acc → n.core.acc ≤ length (list_after_step group n) → slice_get n.core.log.entries index ≡ Some e
+    → item_at (list_after_step group n) number ≡ Some e
 after_item group n index number e start is above low within at = split_on_bool ((view n).by == n.core.who)
     (λ t. rw t (grown_item group n index number e start is above low at))
     (λ f. absurd (let z : n.core.acc ≤ length group = rw f at within in omega arith))
 
 -- what is accepted of the list that a name has after its step, whether it departs then or not
 pub step_item_is_in_group : (w v : World) (s t : Group) (i index number : ℕ) (e : Entry) (n : Node) → ListGoesAlong s t i → s.group ≡ w.group → NameStands v i n (t.node i)
-    → v.group ≡ group_after w.group n → Begins w.group v.group → n.core.log.start ≤ length w.group → n.core.log.start ≤ length v.group
+    → v.group ≡ list_after_step w.group n → IsBeginningOf w.group v.group → n.core.log.start ≤ length w.group → n.core.log.start ≤ length v.group
     → number ≡ n.core.log.start + index + 1 → number ≤ n.core.acc → n.core.acc ≤ length v.group → slice_get n.core.log.entries index ≡ Some e
     → item_at v.group number ≡ Some e
 step_item_is_in_group w v s t i index number e n along group stands after grows start start_v is low within at = either (le_or_gt number (length w.group))

@@ -1,10 +1,10 @@
 -- In each run no View has less resilience than the founding, whoever stops.
-use Rattle.am_lawful_runs.proofs.Words.{Record, AnswersCause, IsIdle, actor_is_below_256, sequencer_is_member, ballots_are_of_own_names}
+use Rattle.am_lawful_runs.proofs.Words.{Record, OutcomeTells, IsIdle, actor_is_below_256, sequencer_is_member, ballots_are_of_own_names}
 use Rattle.am_step_laws.proofs.Words.{◌≡◌, inl, ℕ, ◌<◌, ◌≤◌, ◌==◌, true, List, [], ◌∷◌, ◌++◌, Some, slice_get, refl, sym, ap, ◌∙◌, subst, arith, nat_tests, All}
 use Rattle.am_step_laws.proofs.Words.{All-nil, All-cons, All-append, All-weaker, split_on_bool, Entry, Image, Outcome, Stamp, Rules, MayFound, Packet, Event, Node, Ballot}
-use Rattle.am_step_laws.proofs.Words.{top, image_of, has_log, founder, stranger, founders_entry, is_view, Verdict, Step, World, start, run, happen, happens}
-use Rattle.am_step_laws.proofs.Words.{with_record, with_step, heard_by, Cause, hears, Looks, finds_itself_out, Change, refreshes, settles, begins_list, looks}
-use Rattle.am_step_laws.proofs.Words.{closes, push_entry, Leave, Says, welcome, piece, result, LetterSays, Effect, actor, IsCause, Happens, idles, steps, all_gives_slice_get}
+use Rattle.am_step_laws.proofs.Words.{top, image_of_node, has_log_by_status, founder, stranger_node, founders_entry, is_view, BallotVerdict, StepResult, World, start, run, world_after_events, happens}
+use Rattle.am_step_laws.proofs.Words.{world_with_record, world_with_step, packet_heard_by_act, Cause, hears, LooksAtBallot, finds_itself_out, Change, refreshes, settles, begins_list, looks}
+use Rattle.am_step_laws.proofs.Words.{closes, push_entry, Leave, Says, welcome, piece, result, LetterSays, Effect, acting_name, IsCause, EventHappens, idles, steps, item_of_index_has_property}
 use Rattle.am_step_laws.proofs.Words.{all_gives_item_at, number_equals_itself, changes_keep_property, EventsKeep, StepsKeepLaw, HasSameWorldParts, events_keep_by_steps, runs_keep_what_events_keep, first_node_has_property, refresh_rests_with_list, end_refresh_rests_with_list}
 use Rattle.am_step_laws.proofs.Words.{settle_changes_only_sends, events_have_effects, member_status_has_log}
 use Rattle.am_refinement.proofs.Words.{either}
@@ -13,7 +13,7 @@ use Rattle.am_step_laws.proofs.Numbers.RunCounts.{heard_packet_was_sent, set_nod
 use Rattle.am_step_laws.proofs.Trimming.Trims.{TrimsNoMoreThanTaken}
 use Rattle.am_step_laws.proofs.Trimming.TakenRuns.{WorldTrimsOnlyTaken, events_trim_only_taken, start_trims_only_taken}
 use Rattle.am_run_laws.proofs.SentRuns.{group_entries_keep_after_step}
-use Rattle.am_run_laws.specs.Ballots.{BallotsOk}
+use Rattle.am_run_laws.specs.Ballots.{BallotsAreSound}
 use Rattle.am_safety.specs.Resiliences.{IsRaised, GivesRaised, GaveRaised, FirstIsView, ListRaised, NodeRaised, PacketRaised, LetterRaised, ResiliencesHold}
 use Rattle.am_safety.proofs.Raised.{told_resilience_ge_founding, image_at_base_is_raised, empty_log_tells_blank, acting_node_has_nonempty_list, sequencer_node_acts, CauseRaisesResilience, node_is_raised_by_change}
 use Rattle.am_safety.proofs.Sound.{entry_at_has_property, answered_ask_is_of_ballot, property_of_prefix_goes_on}
@@ -21,7 +21,7 @@ use Rattle.am_lawful_runs.proofs.OneStep.{run_of_pushed_event}
 
 -- ---- letters
 
-look_start : (m : Node) (b : Ballot) (v : Verdict) → Looks m b v → v.node.core.log.start ≡ m.core.log.start
+look_start : (m : Node) (b : Ballot) (v : BallotVerdict) → LooksAtBallot m b v → v.node.core.log.start ≡ m.core.log.start
 look_start m b v (finds_itself_out x) = refl
 look_start m b v _ = refl
 
@@ -39,7 +39,7 @@ start_stays s v stored asked m n _ = refl
 -- what is so of the sender of letters
 record Tells (rules : Rules) (c : Cause) (m n : Node) : Type 0 where
   list : ListRaised rules n.core.log
-  promised : has_log n.status ≡ true → 0 < n.core.promise.round
+  promised : has_log_by_status n.status ≡ true → 0 < n.core.promise.round
   kept : n.core.log.start ≤ n.core.base
   fetched : (s : ℕ) (v : Stamp) (stored : ℕ) → c ≡ hears (Packet.Fetch s v stored) → n.core.log.start ≤ m.core.base
 
@@ -53,7 +53,7 @@ says_raised rules m n c to p h (welcome s leads may) = (
   image_at_base_is_raised rules n.core.log n.core.base h.list (acting_node_has_nonempty_list rules n (sequencer_node_acts n leads) h.list h.promised) h.kept,
 )
 says_raised rules m n c to p h (piece s v stored number e is may at) = (
-  all_gives_slice_get (IsRaised rules) n.core.log.entries at.index e h.list.entries at.there,
+  item_of_index_has_property (IsRaised rules) n.core.log.entries at.index e h.list.entries at.there,
   λ one.
       let there = at.at (h.fetched s v stored is) in
       let none : n.core.log.start ≡ 0 = omega arith in
@@ -63,7 +63,7 @@ says_raised rules m n c to p h (piece s v stored number e is may at) = (
 says_raised rules m n c to p h (result _ number names is viewed tells) = λ some.
     told_resilience_ge_founding rules n.core.log h.list (split_on_bool (top n == 0)
     (λ t. let empty : top n ≡ 0 = grind (arith, nat_tests) in
-    let none : (image_of n).view_number ≡ 0 = ap (λ (i : Image). i.view_number) (empty_log_tells_blank rules n.core.log h.list empty) in
+    let none : (image_of_node n).view_number ≡ 0 = ap (λ (i : Image). i.view_number) (empty_log_tells_blank rules n.core.log h.list empty) in
     absurd (omega arith))
     (λ f. grind (arith, nat_tests)))
 says_raised rules m n c to p h _ = tt
@@ -76,17 +76,17 @@ record AllRaised (rules : Rules) (w : World) : Type 0 where
   letters : All (LetterRaised rules) w.letters
   group : All (IsRaised rules) w.group
 
-heard_raised : (rules : Rules) (w : World) (e : Event) (c : Cause) → AllRaised rules w → IsCause w (actor w e) e.act c → CauseRaisesResilience rules c
+heard_raised : (rules : Rules) (w : World) (e : Event) (c : Cause) → AllRaised rules w → IsCause w (acting_name w e) e.act c → CauseRaisesResilience rules c
 heard_raised rules w e c h cause p is =
     let was = heard_packet_was_sent w e c p is cause in
-    subst (PacketRaised rules) was.is (all_gives_item_at (LetterRaised rules) w.letters (heard_by e.act) was.letter h.letters was.there)
+    subst (PacketRaised rules) was.is (all_gives_item_at (LetterRaised rules) w.letters (packet_heard_by_act e.act) was.letter h.letters was.there)
 
 -- the sender is the node after the step, but for its status
-tells_by : (rules : Rules) (c : Cause) (m : Node) (s : Step) → NodeRaised rules s.node → TrimsNoMoreThanTaken m → TrimsNoMoreThanTaken s.node
+tells_by : (rules : Rules) (c : Cause) (m : Node) (s : StepResult) → NodeRaised rules s.node → TrimsNoMoreThanTaken m → TrimsNoMoreThanTaken s.node
     → (e : Effect m c s) → Tells rules c m e.sender
 tells_by rules c m s node before after e = record {
   list = subst (λ (x : Node). ListRaised rules x.core.log) e.is node.list;
-  promised = λ t. subst (λ (x : Node). 0 < x.core.promise.round) e.is (node.promised (either e.stays (λ same. ap has_log same ∙ t) (λ gone. ap has_log gone)));
+  promised = λ t. subst (λ (x : Node). 0 < x.core.promise.round) e.is (node.promised (either e.stays (λ same. ap has_log_by_status same ∙ t) (λ gone. ap has_log_by_status gone)));
   kept = subst (λ (x : Node). x.core.log.start ≤ x.core.base) e.is after.fronts.kept;
   fetched = λ from v stored asked.
       let stays : s.node.core.log.start ≡ m.core.log.start =
@@ -96,9 +96,9 @@ tells_by rules c m s node before after e = record {
 }
 
 raised_step : (rules : Rules) → StepsKeepLaw (WorldTrimsOnlyTaken rules) (AllRaised rules)
-unfolding with_step
+unfolding world_with_step
 raised_step rules w e c s cause effect base h =
-    let name = actor w e in
+    let name = acting_name w e in
     let m = w.nodes name in
     let few = actor_is_below_256 rules w e h.base.blanks.base.named in
     let node = changes_keep_property (NodeRaised rules) (node_is_raised_by_change rules (heard_raised rules w e c h cause)) effect.changes (h.each name) in
@@ -131,7 +131,7 @@ founder_raised rules name = record {
   balloted = λ b is. absurd (cc);
 }
 
-stranger_raised : (rules : Rules) (name : ℕ) → NodeRaised rules (stranger rules name)
+stranger_raised : (rules : Rules) (name : ℕ) → NodeRaised rules (stranger_node rules name)
 stranger_raised rules name = record {
   list = record { begins = inl (refl, refl); first = λ start. tt; entries = All-nil (IsRaised rules) };
   promised = λ t. absurd (cc);
@@ -151,8 +151,8 @@ run_raised rules events may = runs_keep_what_events_keep (AllRaised rules) (each
 
 -- ---- what is given out
 
-answer_raised : (rules : Rules) (w : World) (name : ℕ) (c : Cause) (n : Node) (o : Outcome) → ListRaised rules (w.nodes name).core.log → BallotsOk w
-    → AnswersCause (w.nodes name) c n o → GivesRaised rules o
+answer_raised : (rules : Rules) (w : World) (name : ℕ) (c : Cause) (n : Node) (o : Outcome) → ListRaised rules (w.nodes name).core.log → BallotsAreSound w
+    → OutcomeTells (w.nodes name) c n o → GivesRaised rules o
 answer_raised rules w name c n (said.Took number e) list ballots answer = either answer
     (λ t. (entry_at_has_property (IsRaised rules) (w.nodes name).core.log number e list.entries t.there).0)
     (λ ask. absurd (answered_ask_is_of_ballot w name c (said.Took number e) ballots ask))
@@ -166,12 +166,12 @@ with_one : (rules : Rules) (records : List Record) (r : Record) → GaveRaised r
     → All (GaveRaised rules) (records ++ r ∷ [])
 with_one rules records r one all = All-append (GaveRaised rules) records (r ∷ []) all (All-cons (GaveRaised rules) r [] one (All-nil (GaveRaised rules)))
 
-given_by : (rules : Rules) (w : World) (e : Event) (v : World) → Happens w e v → AllRaised rules w → BallotsOk w → All (GaveRaised rules) w.records
+given_by : (rules : Rules) (w : World) (e : Event) (v : World) → EventHappens w e v → AllRaised rules w → BallotsAreSound w → All (GaveRaised rules) w.records
     → All (GaveRaised rules) v.records
-unfolding with_record with_step
+unfolding world_with_record world_with_step
 given_by rules w e v (idles o idle) h ballots all = with_one rules w.records _ (idle_raised rules o idle) all
 given_by rules w e v (steps c s runs cause effect) h ballots all =
-    with_one rules w.records _ (answer_raised rules w (actor w e) c s.node s.outcome (h.each (actor w e)).list ballots effect.answer) all
+    with_one rules w.records _ (answer_raised rules w (acting_name w e) c s.node s.outcome (h.each (acting_name w e)).list ballots effect.answer) all
 given_by rules w e v _ h ballots all = with_one rules w.records _ tt all
 
 given_more : (rules : Rules) → MayFound rules → (es : List Event) (e : Event) → All (GaveRaised rules) (run rules es).records
@@ -182,7 +182,7 @@ given_more rules may es e h =
     (given_by rules w e (happens w e) (events_have_effects w e) (run_raised rules es may) (ballots_are_of_own_names rules es may) h)
 
 given_raised : (rules : Rules) (events : List Event) → MayFound rules → All (GaveRaised rules) (run rules events).records
-unfolding happen
+unfolding world_after_events
 given_raised rules events may =
     property_of_prefix_goes_on (λ es. All (GaveRaised rules) (run rules es).records) (given_more rules may) [] events (All-nil (GaveRaised rules))
 

@@ -1,8 +1,8 @@
 -- A send of a node's own that is settled has a number that the node has accepted, and who has no list has no sends.
 use Rattle.am_step_laws.proofs.Words.{◌≡◌, ℕ, ◌+◌, ◌-◌, ◌<◌, ◌≤◌, ◌==◌, not, Bool, true, false, ◌||◌, filter, List, [], ◌∷◌, length, take, Option, Some, None, refl}
 use Rattle.am_step_laws.proofs.Words.{sym, ap, ◌∙◌, subst, arith, nat_tests, All, All-nil, All-cons, All-append, All-map, All-filter, All-weaker, length-take, split_on_bool}
-use Rattle.am_step_laws.proofs.Words.{Leave, Outcome, Rules, OwnSend, Event, Node, Ballot, push_entry, waiting, has_log, is_member, is_asking, founder, stranger}
-use Rattle.am_step_laws.proofs.Words.{accepted_at, settle_at, settle_waiting, settle, refresh, refresh_at_end, Verdict, run, Cause, nat_lt, Looks, finds_itself_out}
+use Rattle.am_step_laws.proofs.Words.{Leave, Outcome, Rules, OwnSend, Event, Node, Ballot, push_entry, waiting_send_of, has_log_by_status, is_member, is_asking_status, founder, stranger_node}
+use Rattle.am_step_laws.proofs.Words.{accepted_number_of_send, settle_send_at, settle_send_where_accepted, settle_waiting_send, refresh, refresh_at_end, BallotVerdict, run, Cause, nat_lt, LooksAtBallot, finds_itself_out}
 use Rattle.am_step_laws.proofs.Words.{Change, refreshes, settles, begins_list, looks, queues, collects, closes, departs, asks_to_join, refresh_changes_only_fronts, refresh_rests_with_list}
 use Rattle.am_step_laws.proofs.Words.{member_status_has_log, asking_status_has_no_log}
 use Rattle.std.proofs.Common.{cond, map}
@@ -18,7 +18,7 @@ abbrev pub SendIsSettledUpTo : ℕ → OwnSend → Type 0
 SendIsSettledUpTo most s = (number : ℕ) → s.number ≡ Some number → number ≤ most
 
 pub record SendsAreSettledUpTo (m : Node) : Type 0 where
-  pub blank : has_log m.status ≡ false → m.sends.queue ≡ []
+  pub blank : has_log_by_status m.status ≡ false → m.sends.queue ≡ []
   pub settled : All (SendIsSettledUpTo m.core.acc) m.sends.queue
 
 up_to_more : (least most : ℕ) (s : OwnSend) → least ≤ most → SendIsSettledUpTo least s → SendIsSettledUpTo most s
@@ -41,7 +41,7 @@ settled_up most req number s low h = split_on_bool (s.req == req)
     (λ t. rw t (λ n is. let same : number ≡ n = cc in omega arith))
     (λ f. rw f h)
 
-at_ok : (m : Node) (req : ℕ) (at : Option ℕ) → accepted_at m req ≡ at → SendsAreSettledUpTo m → SendsAreSettledUpTo (settle_at m req at)
+at_ok : (m : Node) (req : ℕ) (at : Option ℕ) → accepted_number_of_send m req ≡ at → SendsAreSettledUpTo m → SendsAreSettledUpTo (settle_send_at m req at)
 at_ok m req None is h = h
 at_ok m req (Some k) is h =
     let kept = take (m.core.acc - m.core.base) (entries_above m m.core.base) in
@@ -56,13 +56,13 @@ at_ok m req (Some k) is h =
           (λ s x. settled_up m.core.acc req number s within x) m.sends.queue h.settled);
     }
 
-waiting_ok : (m : Node) (s : Option OwnSend) → SendsAreSettledUpTo m → SendsAreSettledUpTo (settle_waiting m s)
+waiting_ok : (m : Node) (s : Option OwnSend) → SendsAreSettledUpTo m → SendsAreSettledUpTo (settle_send_where_accepted m s)
 waiting_ok m None h = h
-waiting_ok m (Some s) h = at_ok m s.req (accepted_at m s.req) refl h
+waiting_ok m (Some s) h = at_ok m s.req (accepted_number_of_send m s.req) refl h
 
-settle_ok : (m : Node) → SendsAreSettledUpTo m → SendsAreSettledUpTo (settle m)
-unfolding settle
-settle_ok m h = waiting_ok m (waiting m) h
+settle_ok : (m : Node) → SendsAreSettledUpTo m → SendsAreSettledUpTo (settle_waiting_send m)
+unfolding settle_waiting_send
+settle_ok m h = waiting_ok m (waiting_send_of m) h
 
 refresh_ok : (m : Node) → SendsAreSettledUpTo m → SendsAreSettledUpTo (refresh m)
 refresh_ok m h =
@@ -70,7 +70,7 @@ refresh_ok m h =
     let same : (refresh m).sends ≡ m.sends = ap (λ (x : Node). x.sends) (refresh_changes_only_fronts m) in
     let up = r.rises.acc in
     record {
-      blank = λ none. ap (λ (s : own.Sends). s.queue) same ∙ h.blank (ap has_log (sym r.status) ∙ none);
+      blank = λ none. ap (λ (s : own.Sends). s.queue) same ∙ h.blank (ap has_log_by_status (sym r.status) ∙ none);
       settled = subst (λ (s : own.Sends). All (SendIsSettledUpTo (refresh m).core.acc) s.queue) (sym same)
           (all_more m.core.acc (refresh m).core.acc m.sends.queue up h.settled);
     }
@@ -81,7 +81,7 @@ end_ok m h = settle_ok (refresh m) (refresh_ok m h)
 
 -- ---- each change
 
-look_ok : (m : Node) (b : Ballot) (v : Verdict) → Looks m b v → SendsAreSettledUpTo m → SendsAreSettledUpTo v.node
+look_ok : (m : Node) (b : Ballot) (v : BallotVerdict) → LooksAtBallot m b v → SendsAreSettledUpTo m → SendsAreSettledUpTo v.node
 look_ok m b v (finds_itself_out x) h = record { blank = h.blank; settled = h.settled }
 look_ok m b v _ h = record { blank = h.blank; settled = h.settled }
 
@@ -89,8 +89,8 @@ change_ok : {c : Cause} {o : Outcome} (m n : Node) → Change c o m n → SendsA
 change_ok m n refreshes h = refresh_ok m h
 change_ok m n settles h = settle_ok m h
 change_ok m n (begins_list s v base join image is o may) h =
-    let asks = (and_parts (not (s == m.core.who)) (is_member m.status || is_asking m.status) may.asks).1 in
-    let asking : is_asking m.status ≡ true = ap (λ b. b || is_asking m.status) (sym may.no_member) ∙ asks in
+    let asks = (and_parts (not (s == m.core.who)) (is_member m.status || is_asking_status m.status) may.asks).1 in
+    let asking : is_asking_status m.status ≡ true = ap (λ b. b || is_asking_status m.status) (sym may.no_member) ∙ asks in
     let none = h.blank (asking_status_has_no_log m.status asking) in
     record { blank = λ f. none; settled = subst (All (SendIsSettledUpTo n.core.acc)) (sym none) (All-nil (SendIsSettledUpTo n.core.acc)) }
 change_ok m n (looks b verdict over why look is) h = look_ok m b verdict look h
@@ -101,14 +101,14 @@ change_ok m n (queues body is o member stays few) h =
       settled = All-append (SendIsSettledUpTo m.core.acc) m.sends.queue (new ∷ []) h.settled
           (All-cons (SendIsSettledUpTo m.core.acc) new [] (λ number is. absurd (cc)) (All-nil (SendIsSettledUpTo m.core.acc)));
     }
-change_ok m n (collects req is) h = split_on_bool (own.is_settled req m.sends)
+change_ok m n (collects req is) h = split_on_bool (own.has_settled_send req m.sends)
     (λ t. rw t (record {
-      blank = λ none. ap (λ (queue : List OwnSend). filter (λ s. not (own.is_request req s)) queue) (h.blank none);
-      settled = All-filter (λ s. not (own.is_request req s)) (SendIsSettledUpTo m.core.acc) m.sends.queue h.settled;
+      blank = λ none. ap (λ (queue : List OwnSend). filter (λ s. not (own.send_has_request req s)) queue) (h.blank none);
+      settled = All-filter (λ s. not (own.send_has_request req s)) (SendIsSettledUpTo m.core.acc) m.sends.queue h.settled;
     }))
     (λ f. rw f h)
 change_ok m n (departs s v number is by leaving) h = record { blank = λ none. absurd (cc); settled = h.settled }
-change_ok m n (asks_to_join is status) h = record { blank = λ none. h.blank (ap has_log status); settled = h.settled }
+change_ok m n (asks_to_join is status) h = record { blank = λ none. h.blank (ap has_log_by_status status); settled = h.settled }
 change_ok m n (closes leads leaves alone room) h =
     let k = end_ok (push_entry m (Leave m.core.who)) (record { blank = h.blank; settled = h.settled }) in
     record { blank = λ none. absurd (cc); settled = k.settled }
@@ -117,7 +117,7 @@ change_ok m n _ h = record { blank = h.blank; settled = h.settled }
 founder_ok : (rules : Rules) (name : ℕ) → SendsAreSettledUpTo (founder rules name)
 founder_ok rules name = record { blank = λ none. refl; settled = All-nil (SendIsSettledUpTo 1) }
 
-stranger_ok : (rules : Rules) (name : ℕ) → SendsAreSettledUpTo (stranger rules name)
+stranger_ok : (rules : Rules) (name : ℕ) → SendsAreSettledUpTo (stranger_node rules name)
 stranger_ok rules name = record { blank = λ none. refl; settled = All-nil (SendIsSettledUpTo 0) }
 
 sends_own : (rules : Rules) → IsKeptFromTheFirst rules SendsAreSettledUpTo

@@ -1,7 +1,7 @@
 -- What one name does in a run, alone.
 use Rattle.std.specs.Prelude.{◌≡◌, ℕ, List, [], ◌∷◌, ◌++◌, take, Option, Some, None, Ok, not, ◌==◌, if◌then◌else◌, All}
 use Rattle.am_base.specs.Founding.{Rules, MayFound}
-use Rattle.am_base.specs.Names.{place_of}
+use Rattle.am_base.specs.Names.{place_of_name}
 use Rattle.am_base.specs.declared.outcome.Outcome.{Outcome}
 use Rattle.am_base.specs.declared.event.NodeEvent.{NodeEvent}
 use Rattle.am_base.specs.declared.event.NodeEvent.TheVariants as does
@@ -19,7 +19,7 @@ use Rattle.am_model.specs.Node.{Node}
 use Rattle.am_model.specs.Nodes.{HasNumbersLeft}
 use Rattle.am_model.specs.Step.{step}
 use Rattle.am_group_defs.specs.World.{World, start, first_node, current, is_stopped, happens, run}
-use Rattle.am_step_laws.specs.Bytes.{BodyWithin, IsShort, run_of_bytes}
+use Rattle.am_step_laws.specs.Bytes.{BodyIsWithinLimit, IsRunWithinScriptLimits, run_of_bytes}
 
 -- what a node did: an event of its own or bytes that it heard, what it answered, and what it sent
 pub record NodeStep : Type 0 where
@@ -63,8 +63,8 @@ own_event w name act.Return = None
 
 -- a node that does an event has numbers left before it
 abbrev pub HasNumbersAt : World → Event → Type 0
-HasNumbersAt w e = (what : NodeEvent) → own_event w (current w (place_of e.node)) e.act ≡ Some what
-    → HasNumbersLeft (w.nodes (current w (place_of e.node)))
+HasNumbersAt w e = (what : NodeEvent) → own_event w (current w (place_of_name e.node)) e.act ≡ Some what
+    → HasNumbersLeft (w.nodes (current w (place_of_name e.node)))
 
 -- each that does one of these does
 unfoldable pub HaveNumbers : World → List Event → Type 0
@@ -74,12 +74,12 @@ HaveNumbers w (e ∷ es) = HasNumbersAt w e × HaveNumbers (happens w e) es
 -- a founding and events whose nodes have numbers left
 pub record StaysInRange (rules : Rules) (events : List Event) : Type 0 where
   pub founds : MayFound rules
-  pub bodies : All (λ (e : Event). BodyWithin e.act) events
+  pub bodies : All (λ (e : Event). BodyIsWithinLimit e.act) events
   pub numbers : HaveNumbers (start rules) events
 
 -- each run of at most 100,000 events is such a run
 abbrev pub ShortRunsStayInRange : Type 0
-ShortRunsStayInRange = (rules : Rules) (events : List Event) → IsShort rules events → StaysInRange rules events
+ShortRunsStayInRange = (rules : Rules) (events : List Event) → IsRunWithinScriptLimits rules events → StaysInRange rules events
 
 -- each letter of such a run holds a packet within a packet's limits
 abbrev pub LettersStayPackets : Type 0
@@ -103,7 +103,7 @@ step_of_record happened (Some event) = record { event = event; outcome = happene
 
 abbrev pub part_at : ℕ → World → Event → Record → List NodeStep
 part_at name w e happened =
-    if name == current w (place_of e.node) then step_of_record happened (own_event w (current w (place_of e.node)) e.act) else []
+    if name == current w (place_of_name e.node) then step_of_record happened (own_event w (current w (place_of_name e.node)) e.act) else []
 
 unfoldable pub steps_of_records : ℕ → World → List Event → List Record → List NodeStep
 steps_of_records name w [] records = []

@@ -1,9 +1,9 @@
 -- A group of processes, each of one node, between which letters are carried: lost, late, repeated or cut as may be.
 use Rattle.std.specs.Prelude.{◌≡◌, ℕ, ◌+◌, ◌<◌, ◌≤◌, ◌==◌, ◌||◌, List, [], ◌∷◌, ◌++◌, length, take, Some, Bool, true, false, if◌then◌else◌}
 use Rattle.std.specs.List.{list_any}
-use Rattle.am_base.specs.Most.{most_body}
+use Rattle.am_base.specs.Most.{most_bytes_of_body}
 use Rattle.am_base.specs.Founding.{Rules, MayFound}
-use Rattle.am_base.specs.Names.{name_at}
+use Rattle.am_base.specs.Names.{name_of_place_and_life}
 use Rattle.am_base.specs.declared.event.NodeEvent.{NodeEvent}
 use Rattle.am_base.specs.declared.event.NodeEvent.TheVariants as does
 use Rattle.am_packet.specs.Boxes.{Letter}
@@ -11,7 +11,7 @@ use Rattle.am_packet.specs.Spelling.{spelling}
 use Rattle.am_group.specs.declared.event.Event.{Event}
 use Rattle.am_group.specs.Journals.{letter_at}
 use Rattle.am_group.specs.Addressed.{is_for}
-use Rattle.am_model.specs.Node.{Node, has_departed, set_at}
+use Rattle.am_model.specs.Node.{Node, has_departed, map_with_value}
 use Rattle.am_model.specs.Nodes.{HasNumbersLeft}
 use Rattle.am_model.specs.Step.{step}
 use Rattle.am_group_defs.specs.World.{start, first_node, run}
@@ -31,7 +31,7 @@ begun rules = record { lives = λ place. 1; nodes = first_node rules; parts = λ
 
 -- the name of a place's process
 abbrev pub process_name : Processes → ℕ → ℕ
-process_name p place = name_at place (p.lives place)
+process_name p place = name_of_place_and_life place (p.lives place)
 
 abbrev pub process_has_stopped : Processes → ℕ → Bool
 process_has_stopped p name = list_any (λ x. x == name) p.stopped
@@ -41,7 +41,7 @@ process_has_stopped p name = list_any (λ x. x == name) p.stopped
 -- what a name's process may be given: calls and ticks, a stopped name to give up, and a letter's bytes, or the first of them, where it was sent
 -- to that name
 pub data MayBeGiven (p : Processes) (name : ℕ) : NodeEvent → Type 0 where
-  send : (body : List ℕ) → length body ≤ most_body → MayBeGiven p name (does.Send body)
+  send : (body : List ℕ) → length body ≤ most_bytes_of_body → MayBeGiven p name (does.Send body)
   done : (req : ℕ) → MayBeGiven p name (does.Done req)
   take_ : MayBeGiven p name does.Take
   join : MayBeGiven p name does.Join
@@ -62,8 +62,8 @@ process_step m what = record { event = what; outcome = (step m what).outcome; le
 
 abbrev pub has_done : Processes → ℕ → NodeEvent → Processes
 has_done p name what = record p {
-  nodes = set_at p.nodes name (step (p.nodes name) what).node;
-  parts = set_at p.parts name (p.parts name ++ process_step (p.nodes name) what ∷ []);
+  nodes = map_with_value p.nodes name (step (p.nodes name) what).node;
+  parts = map_with_value p.parts name (p.parts name ++ process_step (p.nodes name) what ∷ []);
   letters = p.letters ++ (step (p.nodes name) what).letters;
 }
 
@@ -73,7 +73,7 @@ end_process p name = record p { stopped = p.stopped ++ name ∷ [] }
 -- the next life of a place begins, and the name before it has stopped
 abbrev pub process_lives_on : Processes → ℕ → Processes
 process_lives_on p place = record p {
-  lives = set_at p.lives place (p.lives place + 1);
+  lives = map_with_value p.lives place (p.lives place + 1);
   stopped = if process_has_stopped p (process_name p place) then p.stopped else p.stopped ++ process_name p place ∷ [];
 }
 

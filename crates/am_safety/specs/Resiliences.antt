@@ -1,7 +1,7 @@
 -- That no View of a run has less resilience than the founding.
 use Rattle.std.specs.Prelude.{◌≡◌, ◌⊎◌, ℕ, ◌<◌, ◌≤◌, List, [], ◌∷◌, Some, true, All}
 use Rattle.am_base.specs.Founding.{Rules, MayFound}
-use Rattle.am_base.specs.Lists.{Log, blank, top_of}
+use Rattle.am_base.specs.Lists.{Log, blank, top_of_log}
 use Rattle.am_base.specs.declared.image.Image.{Image}
 use Rattle.am_base.specs.declared.entry.Entry.{Entry}
 use Rattle.am_base.specs.declared.entry.Entry.TheVariants as entries
@@ -12,7 +12,7 @@ use Rattle.am_packet.specs.declared.packet.Packet.{Packet}
 use Rattle.am_packet.specs.declared.packet.Packet.TheVariants as packet
 use Rattle.am_group.specs.declared.event.Event.{Event}
 use Rattle.am_group.specs.declared.event.Record.{Record}
-use Rattle.am_model.specs.Node.{Node, Ballot, has_log}
+use Rattle.am_model.specs.Node.{Node, Ballot, has_log_by_status}
 use Rattle.am_model.specs.Receiving.{is_view}
 use Rattle.am_group_defs.specs.World.{World, run}
 
@@ -49,8 +49,8 @@ pub record ListRaised (rules : Rules) (log : Log) : Type 0 where
 -- who has or had a list promised a round that isn't 0, and who has a ballot has a list with entries
 pub record NodeRaised (rules : Rules) (m : Node) : Type 0 where
   pub list : ListRaised rules m.core.log
-  pub promised : has_log m.status ≡ true → 0 < m.core.promise.round
-  pub balloted : (b : Ballot) → m.ballot ≡ Some b → (has_log m.status ≡ true) × (0 < top_of m.core.log)
+  pub promised : has_log_by_status m.status ≡ true → 0 < m.core.promise.round
+  pub balloted : (b : Ballot) → m.ballot ≡ Some b → (has_log_by_status m.status ≡ true) × (0 < top_of_log m.core.log)
 
 -- ---- letters
 

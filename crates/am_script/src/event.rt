@@ -1,6 +1,6 @@
 ghost use Rattle.std.specs.Prelude.{◌≡◌, ◌≤◌, ◌%◌, length};
 ghost use Rattle.std.specs.List.{list_all};
-ghost use Rattle.am_base.specs.Most.{most_number};
+ghost use Rattle.am_base.specs.Most.{greatest_number};
 ghost use Rattle.am_script_defs.specs.Refusals.{Answers};
 ghost use Rattle.am_script.specs.Seen.{seen};
 ghost use Rattle.am_script_defs.specs.Values.{of_object, is_digit, are_hex_pairs, body_from, number_at_key};
@@ -73,7 +73,7 @@ fn body(text: &str, place: u64) -> Read<Body>
 
 /// The number of a request, a round or a packet at a key of an event.
 fn count(event: &Value, key: ScriptKey, place: u64) -> Read<u32>
-    ensures { result ≡ number_at_key key place 1 most_number (seen event.now) }
+    ensures { result ≡ number_at_key key place 1 greatest_number (seen event.now) }
 {
     Ok(number_in(event, key, place, 1, u64::from(MOST_NUMBER))? as u32)
 }

@@ -1,6 +1,6 @@
 ghost use Rattle.std.specs.Prelude.{◌≡◌};
 ghost use Rattle.am_script.specs.Seen.{seen, items_seen};
-ghost use Rattle.am_base.specs.Names.{nobody};
+ghost use Rattle.am_base.specs.Names.{empty_set_of_names};
 ghost use Rattle.am_script_defs.specs.Founders.{each_founder, founders_from, founding_in};
 
 use crate::fields::{number, number_or, value_in};
@@ -15,7 +15,7 @@ use json::Value;
 
 /// The names of places, each of which is new.
 fn each_founder(list: &[Value]) -> Read<Names>
-    ensures { result ≡ each_founder nobody (items_seen list.now) }
+    ensures { result ≡ each_founder empty_set_of_names (items_seen list.now) }
 {
     let mut names = Names::empty();
     for value in list {

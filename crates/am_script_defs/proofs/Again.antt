@@ -16,9 +16,9 @@ use Rattle.std.proofs.lemmas.Str.{is_utf8-from_IsUtf8, IsUtf8-string_bytes}
 use Rattle.std.proofs.lemmas.List.Sums.{count_by-le-length}
 use Rattle.serde_json.specs.Events.{items_len}
 use Rattle.serde_json.specs.Data.{object, array, string, no_members, member}
-use Rattle.am_base.specs.Most.{most_number, most_body, most_packet, most_window}
+use Rattle.am_base.specs.Most.{greatest_number, most_bytes_of_body, most_bytes_of_packet, greatest_window}
 use Rattle.am_base.specs.Founding.{Rules, MayFound}
-use Rattle.am_base.specs.Names.{place_of, life_of, name_at, names_from, names_of, nobody, has, with_name, size}
+use Rattle.am_base.specs.Names.{place_of_name, life_of_name, name_of_place_and_life, names_from, names_of, empty_set_of_names, has, with_name, size}
 use Rattle.am_group.specs.declared.event.Act.{Act}
 use Rattle.am_group.specs.declared.event.Act.TheVariants as acts
 use Rattle.am_group.specs.declared.event.Event.{Event}
@@ -68,14 +68,14 @@ hex_digits (b ∷ bytes) h =
 hex_length : (bytes : List ℕ) → IsBytes bytes → length (flat_map hex_byte bytes) ≡ 2 * length bytes
 hex_length bytes h = ap length (sym (encode_lower_is_hex_bytes bytes h)) ∙ length-encode_with lower_digits bytes
 
-body_again : (number : ℕ) (bytes : List ℕ) → IsBytes bytes → length bytes ≤ most_body → body_from number (flat_map hex_byte bytes) ≡ Ok bytes
+body_again : (number : ℕ) (bytes : List ℕ) → IsBytes bytes → length bytes ≤ most_bytes_of_body → body_from number (flat_map hex_byte bytes) ≡ Ok bytes
 unfolding body_from
 body_again number bytes h few =
     let long = hex_length bytes h in
     let even : length (flat_map hex_byte bytes) % 2 ≡ 0 = omega (arith, long) in
-    let half : length (flat_map hex_byte bytes) / 2 ≤ most_body = omega (arith, long, few) in
+    let half : length (flat_map hex_byte bytes) / 2 ≤ most_bytes_of_body = omega (arith, long, few) in
     let same : decode_of (flat_map hex_byte bytes) ≡ Ok bytes = ap decode_of (sym (encode_lower_is_hex_bytes bytes h)) ∙ decode_of-encode_lower bytes h in
-    rw (same, even, hex_digits bytes h, le-leb (length (flat_map hex_byte bytes) / 2) most_body half) refl
+    rw (same, even, hex_digits bytes h, le-leb (length (flat_map hex_byte bytes) / 2) most_bytes_of_body half) refl
 
 -- ---- an event
 
@@ -90,14 +90,14 @@ resets_again rules number node least r true same h limits =
 resets_again rules number node least r false same h limits =
     rw (seat_within key.Node number node h, within key.Least number 1 16 least limits.0 limits.1, within key.Resilience number 0 15 r (omega arith) limits.2) refl
 
-gives_up_again : (founding number node name : ℕ) (b : Bool) → (life_of name == 1) ≡ b → node < 16 → name < 256
+gives_up_again : (founding number node name : ℕ) (b : Bool) → (life_of_name name == 1) ≡ b → node < 16 → name < 256
     → event_from founding number (object (member (codes "do") (string (codes "giveup"))
     (if b then member (codes "name") (number_of_script_as_data (name % 16)) (member (codes "node") (number_of_script_as_data (node % 16)) no_members)
     else member (codes "life") (number_of_script_as_data (name / 16 + 1)) (member (codes "name") (number_of_script_as_data (name % 16)) (member (codes "node") (number_of_script_as_data (node % 16)) no_members)))))
     ≡ Ok (record { node = node; act = acts.GiveUp name })
 unfolding event_from event_kind_in kind_of_word event_as act_in give_up_in
 gives_up_again founding number node name true same h few =
-    let one : life_of name ≡ 1 = eqb-true (life_of name) 1 same in
+    let one : life_of_name name ≡ 1 = eqb-true (life_of_name name) 1 same in
     let is : name % 16 + 16 * (1 - 1) ≡ name = omega (arith, one) in
     rw (seat_within key.Node number node h, within key.Name number 0 15 (name % 16) (omega arith) (omega arith)) (ap (λ (n : ℕ). Ok (record { node = node; act = acts.GiveUp n })) is)
 gives_up_again founding number node name false same h few =
@@ -109,19 +109,19 @@ event_again : (rules : Rules) (number node : ℕ) (act : Act) → node < 16 → 
     → event_from rules.resilience number (data_of_script_event rules (record { node = node; act = act })) ≡ Ok (record { node = node; act = act })
 unfolding event_from event_kind_in kind_of_word event_as act_in send_in cut_in act_word
 event_again rules number node (acts.Send body) h w bytes = rw (seat_within key.Node number node h, body_again number body bytes w) refl
-event_again rules number node (acts.Done req) h w bytes = rw (seat_within key.Node number node h, within key.Req number 1 most_number req w.0 w.1) refl
+event_again rules number node (acts.Done req) h w bytes = rw (seat_within key.Node number node h, within key.Req number 1 greatest_number req w.0 w.1) refl
 event_again rules number node acts.Take h w bytes = rw (seat_within key.Node number node h) refl
 event_again rules number node acts.Join h w bytes = rw (seat_within key.Node number node h) refl
 event_again rules number node acts.State h w bytes = rw (seat_within key.Node number node h) refl
 event_again rules number node acts.Leave h w bytes = rw (seat_within key.Node number node h) refl
 event_again rules number node (acts.Reset least resilience) h w bytes = resets_again rules number node least resilience (resilience == rules.resilience) refl h w
-event_again rules number node (acts.Ask round) h w bytes = rw (seat_within key.Node number node h, within key.Round number 1 most_number round w.0 w.1) refl
-event_again rules number node (acts.GiveUp name) h w bytes = gives_up_again rules.resilience number node name (life_of name == 1) refl h w
+event_again rules number node (acts.Ask round) h w bytes = rw (seat_within key.Node number node h, within key.Round number 1 greatest_number round w.0 w.1) refl
+event_again rules number node (acts.GiveUp name) h w bytes = gives_up_again rules.resilience number node name (life_of_name name == 1) refl h w
 event_again rules number node acts.Stop h w bytes = rw (seat_within key.Node number node h) refl
 event_again rules number node acts.Tick h w bytes = rw (seat_within key.Node number node h) refl
-event_again rules number node (acts.Hear packet) h w bytes = rw (seat_within key.Node number node h, within key.Packet number 1 most_number packet w.0 w.1) refl
+event_again rules number node (acts.Hear packet) h w bytes = rw (seat_within key.Node number node h, within key.Packet number 1 greatest_number packet w.0 w.1) refl
 event_again rules number node (acts.Cut packet keep) h w bytes =
-    rw (seat_within key.Node number node h, within key.Packet number 1 most_number packet w.0.0 w.0.1, within key.Keep number 0 most_packet keep (omega arith) w.1) refl
+    rw (seat_within key.Node number node h, within key.Packet number 1 greatest_number packet w.0.0 w.0.1, within key.Keep number 0 most_bytes_of_packet keep (omega arith) w.1) refl
 event_again rules number node acts.Return h w bytes = rw (seat_within key.Node number node h) refl
 
 each_again : (rules : Rules) (number : ℕ) (events : List Event) → All EventWithin events → AreOfBytes events
@@ -150,9 +150,9 @@ founders_again before (suc zero ∷ lives) place at sum first =
     let long : length longer ≡ place + 1 = length-append before (1 ∷ []) ∙ ap (λ (n : ℕ). n + 1) at in
     let rest = founders_again longer lives (place + 1) long (omega (arith, sum)) (λ k h. first (suc k) (omega (arith, h))) in
     let low : place < 16 = omega (arith, sum) in
-    let is : place_of (name_at place 1) ≡ place = omega (arith, low) in
+    let is : place_of_name (name_of_place_and_life place 1) ≡ place = omega (arith, low) in
     let there : place % 16 ≡ place = omega (arith, low) in
-    let life : life_of place ≡ 1 = omega (arith, low) in
+    let life : life_of_name place ≡ 1 = omega (arith, low) in
     let empty : slice_index (before ++ 0 ∷ zeros) place ≡ 0 = rw (sym at) (get_or-append_seam before 0 zeros 0) in
     let hasnt : has (before ++ 0 ∷ zeros) place ≡ false = rw (there, life, empty) refl in
     let with_it : with_name (before ++ 0 ∷ zeros) place ≡ before ++ 1 ∷ zeros = rw (there, life, sym at) (set-append_seam before 0 zeros 1) in
@@ -171,7 +171,7 @@ some_founders rules may =
     let lives = rules.founders in
     let many : items_len (items_of_script_places (names_of lives)) ≡ size lives = places_count (names_of lives) ∙ names_from_length_is_size 0 lives in
     let most : size lives ≤ length lives = count_by-le-length (λ life. nat_lt 0 life) lives in
-    let zeros : nobody ≡ replicate (length lives) 0 = rw may.names.places refl in
+    let zeros : empty_set_of_names ≡ replicate (length lives) 0 = rw may.names.places refl in
     rw (many, le-leb 1 (size lives) may.somebody, le-leb (size lives) 16 (omega (arith, most, may.names.places)), zeros)
     (founders_again [] lives 0 refl (omega (arith, may.names.places)) may.first_lives)
 
@@ -185,8 +185,8 @@ play_again rules events w bytes =
     rw (
       some_founders rules may,
       within key.Resilience 0 0 15 rules.resilience (omega arith) may.resilience_within,
-      within key.Window 0 1 most_window rules.window may.window_least may.window_most,
-      within key.PbUpTo 0 0 most_body rules.pb_up_to (omega arith) may.pb_up_to_within,
+      within key.Window 0 1 greatest_window rules.window may.window_least may.window_most,
+      within key.PbUpTo 0 0 most_bytes_of_body rules.pb_up_to (omega arith) may.pb_up_to_within,
       each_again rules 1 events w.each bytes,
     ) refl
 

@@ -5,10 +5,10 @@ use Rattle.std.specs.Option.{ok_or}
 use Rattle.std.proofs.lemmas.Bool.{leb-true}
 use Rattle.std.proofs.lemmas.Grind.{common_steps}
 use Rattle.std.proofs.lemmas.List.Sums.{get_or-le-sum_by}
-use Rattle.am_base.specs.Most.{most_number, most_window, most_body, most_packet}
+use Rattle.am_base.specs.Most.{greatest_number, greatest_window, most_bytes_of_body, most_bytes_of_packet}
 use Rattle.hex.specs.Hex.{decode_of}
 use Rattle.hex.proofs.HexLemmas.{decode_of-ok}
-use Rattle.am_base.specs.Names.{nobody, has, with_name, size, name_at}
+use Rattle.am_base.specs.Names.{empty_set_of_names, has, with_name, size, name_of_place_and_life}
 use Rattle.am_base.specs.Founding.{Rules, MayFound}
 use Rattle.am_group.specs.declared.event.Act.{Act}
 use Rattle.am_group.specs.declared.event.Act.TheVariants as act
@@ -37,11 +37,11 @@ decoded_within : {E : Type 0} (place : ℕ) (decoded : Result (List ℕ) E) (byt
 decoded_within place (Ok found) bytes h = cc
 decoded_within place (Err e) bytes h = cc
 
-pub body_read_is_within : (place : ℕ) (text bytes : List ℕ) → body_from place text ≡ Ok bytes → length bytes ≤ most_body
+pub body_read_is_within : (place : ℕ) (text bytes : List ℕ) → body_from place text ≡ Ok bytes → length bytes ≤ most_bytes_of_body
 unfolding body_from
-body_read_is_within place text bytes h = ok_of_read_if_true (are_hex_pairs text) _ _ bytes h (λ pairs told. ok_of_read_if_true (nat_le (length text / 2) most_body) _ _ bytes told (λ short is.
+body_read_is_within place text bytes h = ok_of_read_if_true (are_hex_pairs text) _ _ bytes h (λ pairs told. ok_of_read_if_true (nat_le (length text / 2) most_bytes_of_body) _ _ bytes told (λ short is.
     let decoded = decode_of-ok text bytes (decoded_within place (decode_of text) bytes is) in
-    let few = leb-true (length text / 2) most_body short in
+    let few = leb-true (length text / 2) most_bytes_of_body short in
     omega (arith, few, decoded.2)))
 
 -- ---- events
@@ -68,33 +68,33 @@ give_up_within place d a h = ok_of_bound_read (number_at_key key.Name place 0 15
     (λ seat there rest. ok_of_bound_read (number_or 1 key.Life place 1 16 d) _ a rest (λ life told is.
     let low = number_in_range_is_within key.Name place 0 15 d seat there in
     let lives = number_or_other_is_within 1 key.Life place 1 16 d life (omega arith) (omega arith) told in
-    act_as (act.GiveUp (name_at seat life)) a is (omega (arith, low, lives))))
+    act_as (act.GiveUp (name_of_place_and_life seat life)) a is (omega (arith, low, lives))))
 
-count_within : (k : ScriptKey) (place : ℕ) (d : Data) (n : ℕ) → number_at_key k place 1 most_number d ≡ Ok n → IsCount n
-count_within k place d n h = let fits = number_in_range_is_within k place 1 most_number d n h in (omega (arith, fits.0), fits.1)
+count_within : (k : ScriptKey) (place : ℕ) (d : Data) (n : ℕ) → number_at_key k place 1 greatest_number d ≡ Ok n → IsCount n
+count_within k place d n h = let fits = number_in_range_is_within k place 1 greatest_number d n h in (omega (arith, fits.0), fits.1)
 
 cut_within : (place : ℕ) (d : Data) (a : Act) → cut_in place d ≡ Ok a → ActWithin a
 unfolding cut_in
-cut_within place d a h = ok_of_bound_read (number_at_key key.Packet place 1 most_number d) _ a h
-    (λ packet there rest. ok_of_bound_read (number_at_key key.Keep place 0 most_packet d) _ a rest (λ keep told is.
-    act_as (act.Cut packet keep) a is (count_within key.Packet place d packet there, (number_in_range_is_within key.Keep place 0 most_packet d keep told).1)))
+cut_within place d a h = ok_of_bound_read (number_at_key key.Packet place 1 greatest_number d) _ a h
+    (λ packet there rest. ok_of_bound_read (number_at_key key.Keep place 0 most_bytes_of_packet d) _ a rest (λ keep told is.
+    act_as (act.Cut packet keep) a is (count_within key.Packet place d packet there, (number_in_range_is_within key.Keep place 0 most_bytes_of_packet d keep told).1)))
 
 act_within : (kind : EventKind) (founding place : ℕ) (d : Data) (a : Act) → founding ≤ 15 → act_in kind founding place d ≡ Ok a → ActWithin a
 unfolding act_in
 act_within Send founding place d a low h = send_within place d a h
-act_within Done founding place d a low h = ok_of_bound_read (number_at_key key.Req place 1 most_number d) _ a h
+act_within Done founding place d a low h = ok_of_bound_read (number_at_key key.Req place 1 greatest_number d) _ a h
     (λ n told is. act_as (act.Done n) a is (count_within key.Req place d n told))
 act_within Take founding place d a low h = act_as act.Take a h tt
 act_within Join founding place d a low h = act_as act.Join a h tt
 act_within State founding place d a low h = act_as act.State a h tt
 act_within Leave founding place d a low h = act_as act.Leave a h tt
 act_within Reset founding place d a low h = reset_within founding place d a low h
-act_within Ask founding place d a low h = ok_of_bound_read (number_at_key key.Round place 1 most_number d) _ a h
+act_within Ask founding place d a low h = ok_of_bound_read (number_at_key key.Round place 1 greatest_number d) _ a h
     (λ n told is. act_as (act.Ask n) a is (count_within key.Round place d n told))
 act_within GiveUp founding place d a low h = give_up_within place d a h
 act_within Stop founding place d a low h = act_as act.Stop a h tt
 act_within Tick founding place d a low h = act_as act.Tick a h tt
-act_within Hear founding place d a low h = ok_of_bound_read (number_at_key key.Packet place 1 most_number d) _ a h
+act_within Hear founding place d a low h = ok_of_bound_read (number_at_key key.Packet place 1 greatest_number d) _ a h
     (λ n told is. act_as (act.Hear n) a is (count_within key.Packet place d n told))
 act_within Cut founding place d a low h = cut_within place d a h
 act_within Return founding place d a low h = act_as act.Return a h tt
@@ -149,22 +149,22 @@ founders_good names (item d ds) out h good = ok_of_bound_read (number_within key
     let done = founders_good (with_name names place) ds out later next.0 in
     (done.0, λ _. done.1 next.1)))
 
-nobody_good : Good nobody
+nobody_good : Good empty_set_of_names
 nobody_good = record { places = refl; first_lives = λ k lt. grind (arith, common_steps) }
 
-some_founder : (ds : Items) (names : List ℕ) → nat_le 1 (items_len ds) ≡ true → each_founder nobody ds ≡ Ok names → 0 < size names
+some_founder : (ds : Items) (names : List ℕ) → nat_le 1 (items_len ds) ≡ true → each_founder empty_set_of_names ds ≡ Ok names → 0 < size names
 some_founder no_items names some h = cc
 some_founder (item d ds) names some h = ok_of_bound_read (number_within key.Founders 0 0 15 d) _ names h
-    (λ place told rest. ok_of_read_if_false (has nobody place) _ _ names rest (λ later.
+    (λ place told rest. ok_of_read_if_false (has empty_set_of_names place) _ _ names rest (λ later.
     let fits = number_from_is_within key.Founders 0 0 15 d place told in
-    let next = good_with nobody place fits.1 nobody_good in
-    (founders_good (with_name nobody place) ds names later next.0).1 next.1))
+    let next = good_with empty_set_of_names place fits.1 nobody_good in
+    (founders_good (with_name empty_set_of_names place) ds names later next.0).1 next.1))
 
 pub founders_read_are_founders : (d : Data) (names : List ℕ) → founders_from d ≡ Ok names → AreFounders names
 unfolding founders_from
 founders_read_are_founders d names h = ok_of_bound_read (ok_or (as_array d) (BadValue key.Founders 0)) _ names h
     (λ ds there told. ok_of_read_if_true (nat_le 1 (items_len ds) && nat_le (items_len ds) 16) _ _ names told (λ count inner.
-    let good = (founders_good nobody ds names inner nobody_good).0 in
+    let good = (founders_good empty_set_of_names ds names inner nobody_good).0 in
     record {
       set = record { places = good.places; lives = λ k lt. grind (arith, good.first_lives k) };
       somebody = some_founder ds names (both_of_tests _ _ count).0 inner;
@@ -177,12 +177,12 @@ pub founding_read_may_found : (d : Data) (rules : Rules) → founding_in d ≡ O
 unfolding founding_in
 founding_read_may_found d rules h = ok_of_bound_read (value_in key.Founders 0 d) _ rules h (λ v there rest. ok_of_bound_read (founders_from v) _ rules rest (λ names named more.
     ok_of_bound_read (number_or 0 key.Resilience 0 0 15 d) _ rules more
-    (λ resilience kept later. ok_of_bound_read (number_or 64 key.Window 0 1 most_window d) _ rules later
-    (λ window wide last. ok_of_bound_read (number_or 256 key.PbUpTo 0 0 most_body d) _ rules last (λ pb_up_to short is.
+    (λ resilience kept later. ok_of_bound_read (number_or 64 key.Window 0 1 greatest_window d) _ rules later
+    (λ window wide last. ok_of_bound_read (number_or 256 key.PbUpTo 0 0 most_bytes_of_body d) _ rules last (λ pb_up_to short is.
     let are = founders_read_are_founders v names named in
     let low = number_or_other_is_within 0 key.Resilience 0 0 15 d resilience (omega arith) (omega arith) kept in
-    let room = number_or_other_is_within 64 key.Window 0 1 most_window d window (omega arith) (omega arith) wide in
-    let bytes = number_or_other_is_within 256 key.PbUpTo 0 0 most_body d pb_up_to (omega arith) (omega arith) short in
+    let room = number_or_other_is_within 64 key.Window 0 1 greatest_window d window (omega arith) (omega arith) wide in
+    let bytes = number_or_other_is_within 256 key.PbUpTo 0 0 most_bytes_of_body d pb_up_to (omega arith) (omega arith) short in
     subst (λ (x : Rules). MayFound x) (ok_of_read_is_injective _ rules is) (record {
       names = are.set;
       somebody = are.somebody;

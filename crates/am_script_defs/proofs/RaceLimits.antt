@@ -3,7 +3,7 @@ use Rattle.std.proofs.Common.{◌≡◌, ℕ, suc, ◌+◌, ◌<◌, ◌≤◌, 
 use Rattle.std.specs.Option.{ok_or}
 use Rattle.std.proofs.lemmas.Bool.{leb-true}
 use Rattle.std.proofs.lemmas.List.Elements.{All-cons}
-use Rattle.am_base.specs.Most.{most_events}
+use Rattle.am_base.specs.Most.{most_events_of_run}
 use Rattle.am_group.specs.declared.event.Act.{Act}
 use Rattle.am_group.specs.declared.event.Act.TheVariants as act
 use Rattle.am_group.specs.declared.plan.ThreadPlan.{ThreadPlan}
@@ -124,13 +124,13 @@ threads_read_le_sixteen founding d threads low h = (threads_within founding d th
 record RightSize (plan found : RacePlan) : Type 0 where
   same : plan ≡ found
   calls : calls_in_all plan.threads ≤ most_calls
-  records : records_of plan ≤ most_events
+  records : records_of plan ≤ most_events_of_run
 
 right_size : (plan found : RacePlan) → of_right_size plan ≡ Ok found → RightSize plan found
 unfolding of_right_size
 right_size plan found h = ok_of_read_if_true (nat_le (calls_in_all plan.threads) most_calls) _ _ found h
-    (λ few inner. ok_of_read_if_true (nat_le (records_of plan) most_events) _ _ found inner (λ short is.
-    record { same = ok_of_read_is_injective plan found is; calls = leb-true (calls_in_all plan.threads) most_calls few; records = leb-true (records_of plan) most_events short }))
+    (λ few inner. ok_of_read_if_true (nat_le (records_of plan) most_events_of_run) _ _ found inner (λ short is.
+    record { same = ok_of_read_is_injective plan found is; calls = leb-true (calls_in_all plan.threads) most_calls few; records = leb-true (records_of plan) most_events_of_run short }))
 
 race_parts_within : (d : Data) (plan : RacePlan) → parts_of_race d ≡ Ok plan → RaceWithin plan
 unfolding parts_of_race

@@ -15,9 +15,9 @@ use Rattle.serde_json.specs.Read.{read, max_depth, of_json, of_items}
 use Rattle.serde_json.specs.Written.{compact_text, outline, items_outline}
 use Rattle.serde_json.proofs.Numbers.{number_of-decimal}
 use Rattle.serde_json.proofs.Texts.{print-outline}
-use Rattle.am_base.specs.Most.{most_number}
+use Rattle.am_base.specs.Most.{greatest_number}
 use Rattle.am_base.specs.Founding.{Rules}
-use Rattle.am_base.specs.Names.{place_of, life_of, names_of}
+use Rattle.am_base.specs.Names.{place_of_name, life_of_name, names_of}
 use Rattle.am_group.specs.declared.event.Act.{Act}
 use Rattle.am_group.specs.declared.event.Act.TheVariants as acts
 use Rattle.am_group.specs.declared.event.Event.{Event}
@@ -44,7 +44,7 @@ read_text d r =
 
 -- ---- a count
 
-small : (n : ℕ) → n ≤ most_number → n < 2 ^ 64
+small : (n : ℕ) → n ≤ greatest_number → n < 2 ^ 64
 small n h = omega (arith, h)
 
 -- ---- an event
@@ -59,7 +59,7 @@ seat : (place : ℕ) → place % 16 < 2 ^ 64
 seat place = omega arith
 
 -- an event with nothing but its word and its node
-worded : (word : List ℕ) (place : ℕ) → Reads (object (member (codes "do") (string word) (member (codes "node") (number_of_script_as_data (place_of place)) no_members)))
+worded : (word : List ℕ) (place : ℕ) → Reads (object (member (codes "do") (string word) (member (codes "node") (number_of_script_as_data (place_of_name place)) no_members)))
 unfolding json_on_literals
 worded word place =
     let p = seat place in
@@ -67,9 +67,9 @@ worded word place =
 
 -- with a number behind its node
 numbered : (word : List ℕ) (place n : ℕ) (key : List ℕ) → n < 2 ^ 64
-    → ((d : Data) → put key d (member (codes "do") (string word) (member (codes "node") (number_of_script_as_data (place_of place)) no_members))
-    ≡ member (codes "do") (string word) (member (codes "node") (number_of_script_as_data (place_of place)) (member key d no_members)))
-    → Reads (object (member (codes "do") (string word) (member (codes "node") (number_of_script_as_data (place_of place)) (member key (number_of_script_as_data n) no_members))))
+    → ((d : Data) → put key d (member (codes "do") (string word) (member (codes "node") (number_of_script_as_data (place_of_name place)) no_members))
+    ≡ member (codes "do") (string word) (member (codes "node") (number_of_script_as_data (place_of_name place)) (member key d no_members)))
+    → Reads (object (member (codes "do") (string word) (member (codes "node") (number_of_script_as_data (place_of_name place)) (member key (number_of_script_as_data n) no_members))))
 unfolding json_on_literals
 numbered word place n key h last =
     let p = seat place in
@@ -79,14 +79,14 @@ numbered word place n key h last =
       same = rw (number_of-decimal (place % 16) p, number_of-decimal n h) (ap (λ ms. Some (object ms)) (last (number_of_script_as_data n)));
     }
 
-sends : (place : ℕ) (hex : List ℕ) → Reads (object (member (codes "body") (string hex) (member (codes "do") (string (codes "send")) (member (codes "node") (number_of_script_as_data (place_of place)) no_members))))
+sends : (place : ℕ) (hex : List ℕ) → Reads (object (member (codes "body") (string hex) (member (codes "do") (string (codes "send")) (member (codes "node") (number_of_script_as_data (place_of_name place)) no_members))))
 unfolding json_on_literals
 sends place hex =
     let p = seat place in
     record { numbers = (tt, (tt, (IsNumber-decimal (place % 16) p, tt))); shallow = omega arith; same = rw (number_of-decimal (place % 16) p) refl }
 
 resets : (place least r : ℕ) (b : Bool) → least < 2 ^ 64 → r < 2 ^ 64 → Reads (object (member (codes "do") (string (codes "reset")) (member (codes "least") (number_of_script_as_data least)
-    (member (codes "node") (number_of_script_as_data (place_of place)) (if b then no_members else member (codes "resilience") (number_of_script_as_data r) no_members)))))
+    (member (codes "node") (number_of_script_as_data (place_of_name place)) (if b then no_members else member (codes "resilience") (number_of_script_as_data r) no_members)))))
 unfolding json_on_literals
 resets place least r true h k =
     let p = seat place in
@@ -104,8 +104,8 @@ resets place least r false h k =
     }
 
 gives_up : (place name life : ℕ) (b : Bool) → life < 2 ^ 64 → Reads (object (member (codes "do") (string (codes "giveup"))
-    (if b then member (codes "name") (number_of_script_as_data (place_of name)) (member (codes "node") (number_of_script_as_data (place_of place)) no_members)
-    else member (codes "life") (number_of_script_as_data life) (member (codes "name") (number_of_script_as_data (place_of name)) (member (codes "node") (number_of_script_as_data (place_of place)) no_members)))))
+    (if b then member (codes "name") (number_of_script_as_data (place_of_name name)) (member (codes "node") (number_of_script_as_data (place_of_name place)) no_members)
+    else member (codes "life") (number_of_script_as_data life) (member (codes "name") (number_of_script_as_data (place_of_name name)) (member (codes "node") (number_of_script_as_data (place_of_name place)) no_members)))))
 unfolding json_on_literals
 gives_up place name life true h =
     let p = seat place in let q = seat name in
@@ -123,7 +123,7 @@ gives_up place name life false h =
     }
 
 cuts : (place packet keep : ℕ) → packet < 2 ^ 64 → keep < 2 ^ 64 → Reads (object (member (codes "do") (string (codes "cut")) (member (codes "keep") (number_of_script_as_data keep)
-    (member (codes "node") (number_of_script_as_data (place_of place)) (member (codes "packet") (number_of_script_as_data packet) no_members)))))
+    (member (codes "node") (number_of_script_as_data (place_of_name place)) (member (codes "packet") (number_of_script_as_data packet) no_members)))))
 unfolding json_on_literals
 cuts place packet keep h k =
     let p = seat place in
@@ -144,7 +144,7 @@ event_reads rules place acts.Leave h = worded (codes "leave") place
 event_reads rules place (acts.Reset least resilience) h =
     resets place least resilience (resilience == rules.resilience) (omega (arith, h.1)) (omega (arith, h.2))
 event_reads rules place (acts.Ask round) h = numbered (codes "ask") place round (codes "round") (small round h.1) (λ d. refl)
-event_reads rules place (acts.GiveUp name) h = gives_up place name (life_of name) (life_of name == 1) (omega (arith, h))
+event_reads rules place (acts.GiveUp name) h = gives_up place name (life_of_name name) (life_of_name name == 1) (omega (arith, h))
 event_reads rules place acts.Stop h = worded (codes "stop") place
 event_reads rules place acts.Tick h = worded (codes "tick") place
 event_reads rules place (acts.Hear packet) h = numbered (codes "hear") place packet (codes "packet") (small packet h.1) (λ d. refl)

@@ -10,7 +10,7 @@ use Rattle.json.proofs.OnLiterals.{json_on_literals}
 use Rattle.serde_json.specs.Data.{string, array, Members, no_members, member}
 use Rattle.serde_json.specs.Written.{compact_text, items_text, members_text}
 use Rattle.am_base.specs.Founding.{Rules, MayFound}
-use Rattle.am_base.specs.Names.{place_of, life_of, names_from, names_of, size}
+use Rattle.am_base.specs.Names.{place_of_name, life_of_name, names_from, names_of, size}
 use Rattle.am_group.specs.declared.event.Act.{Act}
 use Rattle.am_group.specs.declared.event.Act.TheVariants as acts
 use Rattle.am_group.specs.declared.event.Event.{Event}
@@ -66,18 +66,18 @@ behind rules acts.Tick = refl
 behind rules acts.Return = refl
 
 name_before : (name : ℕ) (rest : Members) (b : Bool) → members_text true
-    (if b then member (codes "name") (number_of_script_as_data (place_of name)) rest else member (codes "life") (number_of_script_as_data (life_of name)) (member (codes "name") (number_of_script_as_data (place_of name)) rest))
-    ≡ ((if b then [] else codes ",\"life\":" ++ decimal (life_of name)) ++ (codes ",\"name\":" ++ decimal (place_of name))) ++ members_text true rest
+    (if b then member (codes "name") (number_of_script_as_data (place_of_name name)) rest else member (codes "life") (number_of_script_as_data (life_of_name name)) (member (codes "name") (number_of_script_as_data (place_of_name name)) rest))
+    ≡ ((if b then [] else codes ",\"life\":" ++ decimal (life_of_name name)) ++ (codes ",\"name\":" ++ decimal (place_of_name name))) ++ members_text true rest
 unfolding json_on_literals
 name_before name rest true = refl
 name_before name rest false =
-    ap (λ (xs : List ℕ). codes ",\"life\":" ++ xs) (sym (append_assoc (decimal (life_of name)) (codes ",\"name\":" ++ decimal (place_of name)) (members_text true rest)))
+    ap (λ (xs : List ℕ). codes ",\"life\":" ++ xs) (sym (append_assoc (decimal (life_of_name name)) (codes ",\"name\":" ++ decimal (place_of_name name)) (members_text true rest)))
 
 -- what stands between the word and the node
 before : (act : Act) (rest : Members) → members_text true (members_before_node_of_act act rest) ≡ keys_before act ++ members_text true rest
 unfolding keys_before life_json json_on_literals
 before (acts.Reset least resilience) rest = refl
-before (acts.GiveUp name) rest = name_before name rest (life_of name == 1)
+before (acts.GiveUp name) rest = name_before name rest (life_of_name name == 1)
 before (acts.Cut packet keep) rest = refl
 before (acts.Done req) rest = refl
 before (acts.Ask round) rest = refl
@@ -113,10 +113,10 @@ said (acts.Cut packet keep) rest = ap (λ (xs : List ℕ). codes "\"do\":\"cut\"
 said acts.Return rest = ap (λ (xs : List ℕ). codes "\"do\":\"return\"" ++ xs) (before acts.Return rest)
 
 -- the node and what is behind it
-node : (rules : Rules) (event : Event) → members_text true (member (codes "node") (number_of_script_as_data (place_of event.node)) (members_after_node_of_act rules event.act))
-    ≡ codes ",\"node\":" ++ (decimal (place_of event.node) ++ (keys_behind rules event.act ++ codes "}"))
+node : (rules : Rules) (event : Event) → members_text true (member (codes "node") (number_of_script_as_data (place_of_name event.node)) (members_after_node_of_act rules event.act))
+    ≡ codes ",\"node\":" ++ (decimal (place_of_name event.node) ++ (keys_behind rules event.act ++ codes "}"))
 unfolding json_on_literals
-node rules event = ap (λ (xs : List ℕ). codes ",\"node\":" ++ (decimal (place_of event.node) ++ xs)) (behind rules event.act)
+node rules event = ap (λ (xs : List ℕ). codes ",\"node\":" ++ (decimal (place_of_name event.node) ++ xs)) (behind rules event.act)
 
 -- a body before the word
 bodied : (act : Act) (rest : Members) → members_text false (members_of_body_and_more act (member (codes "do") (string (act_word act)) (members_before_node_of_act act rest))) ≡ body_json act ++ worded act rest
@@ -142,7 +142,7 @@ bodied acts.Return rest = refl
 event_written : (rules : Rules) (event : Event) → compact_text (data_of_script_event rules event) ≡ event_json rules event
 unfolding event_json
 event_written rules event =
-    let rest = member (codes "node") (number_of_script_as_data (place_of event.node)) (members_after_node_of_act rules event.act) in
+    let rest = member (codes "node") (number_of_script_as_data (place_of_name event.node)) (members_after_node_of_act rules event.act) in
     ap (λ (xs : List ℕ). 123 ∷ xs) (bodied event.act rest
     ∙ ap (λ (xs : List ℕ). body_json event.act ++ xs) (said event.act rest ∙ ap (λ (xs : List ℕ). word_json event.act ++ xs) (node rules event)))
 
@@ -168,9 +168,9 @@ events_written rules (event ∷ events) =
 -- names of life 1 are their places
 abbrev AreFirst : List ℕ → Type 0
 AreFirst [] = Unit {0}
-AreFirst (name ∷ names) = (life_of name ≡ 1) × AreFirst names
+AreFirst (name ∷ names) = (life_of_name name ≡ 1) × AreFirst names
 
-name_is : (name : ℕ) → life_of name ≡ 1 → decimal (place_of name) ≡ name_text name
+name_is : (name : ℕ) → life_of_name name ≡ 1 → decimal (place_of_name name) ≡ name_text name
 unfolding name_text
 name_is name is = rw is refl
 

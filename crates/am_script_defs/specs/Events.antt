@@ -1,10 +1,10 @@
 -- Events of a script.
 use Rattle.std.specs.Prelude.{ℕ, List, [], ◌∷◌, if◌then◌else◌, Option, Some, None, Ok, Err, codes, bytes_eq}
 use Rattle.std.specs.Option.{ok_or}
-use Rattle.am_base.specs.Most.{most_number, most_packet}
+use Rattle.am_base.specs.Most.{greatest_number, most_bytes_of_packet}
 use Rattle.serde_json.specs.Data.{Data}
 use Rattle.serde_json.specs.Find.{as_array}
-use Rattle.am_base.specs.Names.{name_at}
+use Rattle.am_base.specs.Names.{name_of_place_and_life}
 use Rattle.am_group.specs.declared.event.Act.{Act}
 use Rattle.am_group.specs.declared.event.Act.TheVariants as act
 use Rattle.am_group.specs.declared.event.Event.{Event}
@@ -69,28 +69,28 @@ unfoldable pub give_up_in : ℕ → Data → ReadOrRefused Act
 give_up_in place d = do
   seat ← number_at_key key.Name place 0 15 d
   life ← number_or 1 key.Life place 1 16 d
-  Ok (act.GiveUp (name_at seat life))
+  Ok (act.GiveUp (name_of_place_and_life seat life))
 
 unfoldable pub cut_in : ℕ → Data → ReadOrRefused Act
 cut_in place d = do
-  packet ← number_at_key key.Packet place 1 most_number d
-  keep ← number_at_key key.Keep place 0 most_packet d
+  packet ← number_at_key key.Packet place 1 greatest_number d
+  keep ← number_at_key key.Keep place 0 most_bytes_of_packet d
   Ok (act.Cut packet keep)
 
 -- the act of an event of a kind, of a founding of this resilience
 unfoldable pub act_in : EventKind → ℕ → ℕ → Data → ReadOrRefused Act
 act_in Send founding place d = send_in place d
-act_in Done founding place d = number_at_key key.Req place 1 most_number d >>= λ req. Ok (act.Done req)
+act_in Done founding place d = number_at_key key.Req place 1 greatest_number d >>= λ req. Ok (act.Done req)
 act_in Take founding place d = Ok act.Take
 act_in Join founding place d = Ok act.Join
 act_in State founding place d = Ok act.State
 act_in Leave founding place d = Ok act.Leave
 act_in Reset founding place d = reset_in founding place d
-act_in Ask founding place d = number_at_key key.Round place 1 most_number d >>= λ round. Ok (act.Ask round)
+act_in Ask founding place d = number_at_key key.Round place 1 greatest_number d >>= λ round. Ok (act.Ask round)
 act_in GiveUp founding place d = give_up_in place d
 act_in Stop founding place d = Ok act.Stop
 act_in Tick founding place d = Ok act.Tick
-act_in Hear founding place d = number_at_key key.Packet place 1 most_number d >>= λ packet. Ok (act.Hear packet)
+act_in Hear founding place d = number_at_key key.Packet place 1 greatest_number d >>= λ packet. Ok (act.Hear packet)
 act_in Cut founding place d = cut_in place d
 act_in Return founding place d = Ok act.Return
 

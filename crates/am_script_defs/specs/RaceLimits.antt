@@ -1,6 +1,6 @@
 -- What every race keeps to.
 use Rattle.std.specs.Prelude.{◌<◌, ◌≤◌, length, All}
-use Rattle.am_base.specs.Most.{most_events}
+use Rattle.am_base.specs.Most.{most_events_of_run}
 use Rattle.am_base.specs.Founding.{MayFound}
 use Rattle.am_group.specs.declared.event.Act.{Act}
 use Rattle.am_group.specs.declared.event.Act.TheVariants as act
@@ -35,4 +35,4 @@ pub record RaceWithin (plan : RacePlan) : Type 0 where
   pub few_threads : length plan.threads ≤ 16
   pub each : All ThreadWithin plan.threads
   pub few_calls : calls_in_all plan.threads ≤ most_calls
-  pub few_records : records_of plan ≤ most_events
+  pub few_records : records_of plan ≤ most_events_of_run

@@ -1,7 +1,7 @@
 -- Races of scripts: threads, each with the calls that it makes at its node.
 use Rattle.std.specs.Prelude.{ℕ, ◌+◌, ◌*◌, ◌&&◌, nat_le, List, [], ◌∷◌, length, sum_by, Bool, true, false, if◌then◌else◌, Ok, Err}
 use Rattle.std.specs.Option.{ok_or, option_map_or}
-use Rattle.am_base.specs.Most.{most_events}
+use Rattle.am_base.specs.Most.{most_events_of_run}
 use Rattle.serde_json.specs.Data.{Data, Items, no_items, item}
 use Rattle.serde_json.specs.Events.{items_len}
 use Rattle.serde_json.specs.Find.{as_array}
@@ -117,7 +117,7 @@ records_of plan = calls_in_all plan.threads * (plan.turns + 2)
 unfoldable pub of_right_size : RacePlan → ReadOrRefused RacePlan
 of_right_size plan =
     if nat_le (calls_in_all plan.threads) most_calls
-    then (if nat_le (records_of plan) most_events then Ok plan else Err (OutOfRange key.Threads 0 (records_of plan) 0 most_events))
+    then (if nat_le (records_of plan) most_events_of_run then Ok plan else Err (OutOfRange key.Threads 0 (records_of plan) 0 most_events_of_run))
     else Err (OutOfRange key.Threads 0 (calls_in_all plan.threads) 0 most_calls)
 
 abbrev pub race_keys : List ScriptKey

@@ -3,7 +3,7 @@ use Rattle.std.specs.Prelude.{ℕ, ◌==◌, if◌then◌else◌, List, [], ◌�
 use Rattle.std.specs.List.{flat_map}
 use Rattle.hex.specs.Hex.{IsBytes}
 use Rattle.am_base.specs.Founding.{Rules}
-use Rattle.am_base.specs.Names.{place_of, life_of}
+use Rattle.am_base.specs.Names.{place_of_name, life_of_name}
 use Rattle.am_group.specs.declared.event.Act.{Act}
 use Rattle.am_group.specs.declared.event.Act.TheVariants as acts
 use Rattle.am_group.specs.declared.event.Event.{Event}
@@ -11,7 +11,7 @@ use Rattle.am_group_defs.specs.Text.{names_text, hex_byte, act_word}
 
 -- a life other than the first
 unfoldable pub life_json : ℕ → List ℕ
-life_json name = if life_of name == 1 then [] else codes ",\"life\":" ++ decimal (life_of name)
+life_json name = if life_of_name name == 1 then [] else codes ",\"life\":" ++ decimal (life_of_name name)
 
 -- a resilience, where it isn't the founding's
 unfoldable pub resilience_json : Rules → ℕ → List ℕ
@@ -25,7 +25,7 @@ body_json act = []
 -- an act's keys between its word and the node
 unfoldable pub keys_before : Act → List ℕ
 keys_before (acts.Reset least resilience) = codes ",\"least\":" ++ decimal least
-keys_before (acts.GiveUp name) = life_json name ++ (codes ",\"name\":" ++ decimal (place_of name))
+keys_before (acts.GiveUp name) = life_json name ++ (codes ",\"name\":" ++ decimal (place_of_name name))
 keys_before (acts.Cut packet keep) = codes ",\"keep\":" ++ decimal keep
 keys_before act = []
 
@@ -45,7 +45,7 @@ word_json act = codes "\"do\":\"" ++ (act_word act ++ (codes "\"" ++ keys_before
 unfoldable pub event_json : Rules → Event → List ℕ
 event_json rules event =
     codes "{" ++ (body_json event.act ++ (word_json event.act
-    ++ (codes ",\"node\":" ++ (decimal (place_of event.node) ++ (keys_behind rules event.act ++ codes "}")))))
+    ++ (codes ",\"node\":" ++ (decimal (place_of_name event.node) ++ (keys_behind rules event.act ++ codes "}")))))
 
 -- events with a comma before each
 abbrev pub others_json : Rules → List Event → List ℕ

@@ -3,7 +3,7 @@ use Rattle.std.specs.Prelude.{ℕ, ◌+◌, ◌/◌, ◌%◌, ◌==◌, ◌&&◌
 use Rattle.std.specs.Prelude.{option_and_then}
 use Rattle.std.specs.List.{list_all}
 use Rattle.std.specs.Option.{option_map_or, ok_or}
-use Rattle.am_base.specs.Most.{most_body}
+use Rattle.am_base.specs.Most.{most_bytes_of_body}
 use Rattle.hex.specs.Hex.{decode_of}
 use Rattle.serde_json.specs.Data.{Data, Items, no_items, item}
 use Rattle.serde_json.specs.Find.{as_bool, as_str, as_number, as_u64, as_object}
@@ -69,5 +69,5 @@ bytes_of_hex place (Err e) = Err (BadValue Body place)
 unfoldable pub body_from : ℕ → List ℕ → ReadOrRefused (List ℕ)
 body_from place text =
     if are_hex_pairs text
-    then (if nat_le (length text / 2) most_body then bytes_of_hex place (decode_of text) else Err (OutOfRange Body place (length text / 2) 0 most_body))
+    then (if nat_le (length text / 2) most_bytes_of_body then bytes_of_hex place (decode_of text) else Err (OutOfRange Body place (length text / 2) 0 most_bytes_of_body))
     else Err (BadValue Body place)

@@ -6,11 +6,11 @@ use Rattle.std.proofs.lemmas.List.{length-take-le}
 use Rattle.std.proofs.lemmas.List.Concat.{flat_map-append}
 use Rattle.std.proofs.lemmas.Option.{slice_get_within}
 use Rattle.byteorder.specs.Endian.{big_from}
-use Rattle.am_base.specs.Names.{place_of}
+use Rattle.am_base.specs.Names.{place_of_name}
 use Rattle.am_base.specs.declared.entry.Entry.{Entry}
 use Rattle.am_base.specs.declared.entry.Entry.TheVariants.{Data, Join, Leave, View}
 use Rattle.am_service_defs.specs.Parts.{part_count}
-use Rattle.am_service_defs.specs.Messages.{sent_from, from_place, parts_from, last_so_many, message_of, message_by, message_at, MessagesEnd}
+use Rattle.am_service_defs.specs.Messages.{sent_from, from_place, parts_from, last_so_many, message_of, message_by, message_at, ComputedMessagesEnd}
 use Rattle.am_service_defs.proofs.Spelled.{part_count_in_written_part}
 use Rattle.am_service_defs.proofs.Endings.{BodiesEndWithMessage, bodies_found_end_with_message, message_at_end_of_bodies, last_body_ends_message}
 
@@ -56,8 +56,8 @@ pub from_place-more : (place : ℕ) (list : List Entry) (e : Entry) → from_pla
 unfolding from_place
 from_place-more place list e = flat_map-append (sent_from place) list (e ∷ []) ∙ ap (λ xs. from_place place list ++ xs) (append-nil (sent_from place e))
 
-pub sent_from_own_place : (from req : ℕ) (body : List ℕ) → sent_from (place_of from) (Data from req body) ≡ (from, body) ∷ []
-sent_from_own_place from req body = cond-true (place_of from == place_of from) ((from, body) ∷ []) [] (eq-eqb (place_of from) (place_of from) refl)
+pub sent_from_own_place : (from req : ℕ) (body : List ℕ) → sent_from (place_of_name from) (Data from req body) ≡ (from, body) ∷ []
+sent_from_own_place from req body = cond-true (place_of_name from == place_of_name from) ((from, body) ∷ []) [] (eq-eqb (place_of_name from) (place_of_name from) refl)
 
 -- ---- what ends is found
 
@@ -77,34 +77,34 @@ message_found_at_last_body sent whose body name message ending =
 
 -- by the last entry
 ends_by : (list : List Entry) (e : Option Entry) (name : ℕ) (message : List ℕ) → message_by list e ≡ Some (name, message)
-    → (req : ℕ) × (body : List ℕ) × (e ≡ Some (Data name req body)) × BodiesEndWithMessage (from_place (place_of name) list) name message
+    → (req : ℕ) × (body : List ℕ) × (e ≡ Some (Data name req body)) × BodiesEndWithMessage (from_place (place_of_name name) list) name message
 ends_by list None name message h = absurd (cc)
 ends_by list (Some (Data from req body)) name message h =
-    let is = bodies_found_end_with_message (from_place (place_of from) list) (big_from 3 2 body) from name message h in (
+    let is = bodies_found_end_with_message (from_place (place_of_name from) list) (big_from 3 2 body) from name message h in (
       req,
       body,
       ap (λ n. Some (Data n req body)) (sym is.0),
-      subst (λ n. BodiesEndWithMessage (from_place (place_of n) list) n message) (sym is.0) is.1,
+      subst (λ n. BodiesEndWithMessage (from_place (place_of_name n) list) n message) (sym is.0) is.1,
     )
 ends_by list (Some (Join joiner)) name message h = absurd (cc)
 ends_by list (Some (Leave leaver)) name message h = absurd (cc)
 ends_by list (Some (View v)) name message h = absurd (cc)
 
 found_by : (list : List Entry) (name req : ℕ) (body message : List ℕ) → slice_get list (length list - 1) ≡ Some (Data name req body)
-    → BodiesEndWithMessage (from_place (place_of name) list) name message → message_at list ≡ Some (name, message)
+    → BodiesEndWithMessage (from_place (place_of_name name) list) name message → message_at list ≡ Some (name, message)
 found_by list name req body message last ending =
     let within = slice_get_within list (length list - 1) (Data name req body) last in
     let long : length list ≡ (length list - 1) + 1 = omega arith in
     let cut : list ≡ take (length list - 1) list ++ Data name req body ∷ [] = list_is_front_and_last list (length list - 1) (Data name req body) last long in
     let init = take (length list - 1) list in
-    let sent : from_place (place_of name) list ≡ from_place (place_of name) init ++ (name, body) ∷ [] =
-    ap (from_place (place_of name)) cut ∙ from_place-more (place_of name) init (Data name req body)
-    ∙ ap (λ xs. from_place (place_of name) init ++ xs) (sent_from_own_place name req body) in
+    let sent : from_place (place_of_name name) list ≡ from_place (place_of_name name) init ++ (name, body) ∷ [] =
+    ap (from_place (place_of_name name)) cut ∙ from_place-more (place_of_name name) init (Data name req body)
+    ∙ ap (λ xs. from_place (place_of_name name) init ++ xs) (sent_from_own_place name req body) in
     message_at-by list (Data name req body) last
     ∙ ap (λ xs. message_of name (last_so_many xs (big_from 3 2 body))) sent
-    ∙ message_found_at_last_body (from_place (place_of name) init) name body name message (subst (λ xs. BodiesEndWithMessage xs name message) sent ending)
+    ∙ message_found_at_last_body (from_place (place_of_name name) init) name body name message (subst (λ xs. BodiesEndWithMessage xs name message) sent ending)
 
-pub messages_end : MessagesEnd
+pub messages_end : ComputedMessagesEnd
 unfolding message_at
 messages_end list number name message within =
     let long : length (take number list) ≡ number = length-take-le number list within in (

@@ -9,7 +9,7 @@ use Rattle.std.proofs.lemmas.Option.{same_Some}
 use Rattle.std.proofs.lemmas.List.{get_or-replicate}
 use Rattle.byteorder.specs.Endian.{big_from}
 use Rattle.am_base.proofs.Greatest.{split_on_bool}
-use Rattle.am_base.specs.Names.{place_of}
+use Rattle.am_base.specs.Names.{place_of_name}
 use Rattle.am_base.specs.declared.entry.Entry.{Entry}
 use Rattle.am_base.specs.declared.entry.Entry.TheVariants.{Data, Join, Leave, View}
 use Rattle.am_service_defs.specs.declared.fed.Fed.TheVariants as feds
@@ -32,18 +32,18 @@ sixteen_after a (View v) long = long
 place_after : (a : Assembly) (e : Entry) (place : ℕ) → length a.begun ≡ 16 → place < 16
     → get_or (after_entry a e).begun place None ≡ fold begun_message_with_next_body (get_or a.begun place None) (sent_from place e)
 unfolding after_entry
-place_after a (Data from req body) place long there = split_on_bool (place_of from == place)
+place_after a (Data from req body) place long there = split_on_bool (place_of_name from == place)
     (λ here.
-    let at : place_of from ≡ place = eqb-true (place_of from) place here in
-    let within : place_of from < length a.begun = omega (arith, at) in
+    let at : place_of_name from ≡ place = eqb-true (place_of_name from) place here in
+    let within : place_of_name from < length a.begun = omega (arith, at) in
     let next = begun_by (taken_at a from body) in
-    ap (λ p. get_or (set a.begun (place_of from) next) p None) (sym at) ∙ get_or-set_same a.begun (place_of from) next None within
+    ap (λ p. get_or (set a.begun (place_of_name from) next) p None) (sym at) ∙ get_or-set_same a.begun (place_of_name from) next None within
     ∙ ap (λ p. begun_by (taken_with (get_or a.begun p None) from body)) at
-    ∙ ap (fold begun_message_with_next_body (get_or a.begun place None)) (sym (cond-true (place_of from == place) ((from, body) ∷ []) [] here)))
+    ∙ ap (fold begun_message_with_next_body (get_or a.begun place None)) (sym (cond-true (place_of_name from == place) ((from, body) ∷ []) [] here)))
     (λ other.
-    let not_at : place ≡ place_of from → ⊥ = λ e. eqb-false (place_of from) place other (sym e) in
-    get_or-set_other a.begun (place_of from) place _ None not_at
-    ∙ ap (fold begun_message_with_next_body (get_or a.begun place None)) (sym (cond-false (place_of from == place) ((from, body) ∷ []) [] other)))
+    let not_at : place ≡ place_of_name from → ⊥ = λ e. eqb-false (place_of_name from) place other (sym e) in
+    get_or-set_other a.begun (place_of_name from) place _ None not_at
+    ∙ ap (fold begun_message_with_next_body (get_or a.begun place None)) (sym (cond-false (place_of_name from == place) ((from, body) ∷ []) [] other)))
 place_after a (Join name) place long there = refl
 place_after a (Leave name) place long there = refl
 place_after a (View v) place long there = refl
@@ -83,11 +83,11 @@ data_ends sent whose body = same_messages _ _
 taken_data : (list : List Entry) (from req : ℕ) (body : List ℕ)
     → ended_by from (taken_at (assembled list) from body) ≡ message_at (list ++ Data from req body ∷ [])
 taken_data list from req body =
-    let there : place_of from < 16 = omega arith in
-    ap (λ b. ended_by from (taken_with b from body)) (begun_at list (place_of from) there)
-    ∙ data_ends (from_place (place_of from) list) from body
+    let there : place_of_name from < 16 = omega arith in
+    ap (λ b. ended_by from (taken_with b from body)) (begun_at list (place_of_name from) there)
+    ∙ data_ends (from_place (place_of_name from) list) from body
     ∙ ap (λ xs. message_of from (last_so_many xs (big_from 3 2 body)))
-    (ap (λ xs. from_place (place_of from) list ++ xs) (sym (sent_from_own_place from req body)) ∙ sym (from_place-more (place_of from) list (Data from req body)))
+    (ap (λ xs. from_place (place_of_name from) list ++ xs) (sym (sent_from_own_place from req body)) ∙ sym (from_place-more (place_of_name from) list (Data from req body)))
     ∙ sym (message_at-more list (Data from req body))
 
 -- after one entry more it has what ends with it

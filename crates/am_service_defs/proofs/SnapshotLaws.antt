@@ -13,8 +13,8 @@ use Rattle.std.proofs.lemmas.Bool.Decides.{nat_tests}
 use Rattle.std.proofs.lemmas.List.{drop_at}
 use Rattle.byteorder.specs.Endian.{big_bytes, big_number}
 use Rattle.byteorder.specs.Numbers.{big_number-reads_back, length-bytes_high_first}
-use Rattle.am_base.specs.Most.{most_number}
-use Rattle.am_base.specs.Limits.{IsNumber}
+use Rattle.am_base.specs.Most.{greatest_number}
+use Rattle.am_base.specs.Limits.{NumberIsInRange}
 use Rattle.am_packet.specs.Laws.{IsBytes}
 use Rattle.am_packet.proofs.Numbers.{dropped_bytes_are_bytes, big_number-lt, bytes_front_is_big_bytes}
 use Rattle.am_service_defs.specs.declared.setting.Setting.{Setting}
@@ -61,15 +61,15 @@ numbered_is count bytes n fits h =
 
 record IsLimited (bytes : List ℕ) (n : Numbered) : Type 0 where
   pub numbered : IsNumbered 4 bytes n
-  pub number : IsNumber n.number
+  pub number : NumberIsInRange n.number
 
 limited_is : (bytes : List ℕ) (n : Numbered) → IsBytes bytes → limited_in bytes ≡ Some n → IsLimited bytes n
 unfolding limited_in
 limited_is bytes n fits h =
     let b = bound_option_is_some (number_in 4 bytes) _ n h in
-    let p = passed_test_of_option (nat_le b.0.number most_number) (Some b.0) n b.2 in
+    let p = passed_test_of_option (nat_le b.0.number greatest_number) (Some b.0) n b.2 in
     let same : b.0 ≡ n = cc (p.1) in
-    let number : IsNumber b.0.number = grind (arith, nat_tests, p.0) in
+    let number : NumberIsInRange b.0.number = grind (arith, nat_tests, p.0) in
     subst (λ (m : Numbered). IsLimited bytes m) same (record { numbered = numbered_is 4 bytes b.0 fits b.1; number = number })
 
 -- the bytes behind a front of bytes
@@ -83,7 +83,7 @@ record IsRead (last : Option (List ℕ)) (bytes : List ℕ) (read : ReadKey) : T
   pub rest : IsBytes read.rest
   pub follows : may_follow last read.key ≡ true
   pub key : IsKey read.key
-  pub number : IsNumber read.setting.number
+  pub number : NumberIsInRange read.setting.number
   pub value : IsValue read.setting.value
 
 behind_is : (last : Option (List ℕ)) (bytes : List ℕ) (key : Cut) (read : ReadKey) → IsBytes bytes → bytes ≡ field_bytes key.field ++ key.rest → IsKey key.field
@@ -130,7 +130,7 @@ record AreRead (count : ℕ) (last : Option (List ℕ)) (bytes : List ℕ) (cont
   pub follow : AllByRecursion (λ key. may_follow last key ≡ true) (keys_of contents)
   pub keys : All IsKey (keys_of contents)
   pub values : All (λ setting. IsValue setting.value) (values_of contents)
-  pub numbers : All (λ setting. IsNumber setting.number) (values_of contents)
+  pub numbers : All (λ setting. NumberIsInRange setting.number) (values_of contents)
 
 no_more : (last : Option (List ℕ)) (bytes : List ℕ) (contents : Contents) → cond (is_empty bytes) (Some []) None ≡ Some contents
     → AreRead 0 last bytes contents
@@ -145,7 +145,7 @@ no_more last bytes contents h =
       follow = tt;
       keys = none_has IsKey;
       values = none_has (λ (s : Setting). IsValue s.value);
-      numbers = none_has (λ (s : Setting). IsNumber s.number);
+      numbers = none_has (λ (s : Setting). NumberIsInRange s.number);
     } in
     subst (λ (c : Contents). AreRead 0 last bytes c) same blank
 
@@ -175,7 +175,7 @@ one_more count last bytes read others r a = record {
   follow = (r.follows, follow_on last read.key (keys_of others) r.follows a.follow);
   keys = all_cons IsKey read.key (keys_of others) r.key a.keys;
   values = all_cons (λ (s : Setting). IsValue s.value) read.setting (values_of others) r.value a.values;
-  numbers = all_cons (λ (s : Setting). IsNumber s.number) read.setting (values_of others) r.number a.numbers;
+  numbers = all_cons (λ (s : Setting). NumberIsInRange s.number) read.setting (values_of others) r.number a.numbers;
 }
 
 are_read : (count : ℕ) (last : Option (List ℕ)) (bytes : List ℕ) (contents : Contents) → IsBytes bytes → settings_in count last bytes ≡ Some contents
@@ -192,7 +192,7 @@ are_read (suc count) last bytes contents fits h =
 record IsHead (bytes : List ℕ) (head : SnapshotHead) : Type 0 where
   pub same : bytes ≡ head_bytes head.join head.count ++ head.rest
   pub rest : IsBytes head.rest
-  pub join : IsNumber head.join
+  pub join : NumberIsInRange head.join
   pub few : head.count ≤ most_keys
 
 head_behind_is : (bytes : List ℕ) (head : SnapshotHead) → IsBytes bytes → head_behind bytes ≡ Some head → IsHead (4 ∷ bytes) head
@@ -261,15 +261,15 @@ number_reads count number rest below =
     ∙ ap (λ (n : ℕ). Some (record { number = n; rest = drop count (big_bytes count number ++ rest) })) (big_number-reads_back count number rest below)
     ∙ ap (λ (r : List ℕ). Some (record { number = number; rest = r })) (drop_at (big_bytes count number) rest count (length-bytes_high_first count number))
 
-limited_reads : (number : ℕ) (rest : List ℕ) → IsNumber number → limited_in (big_bytes 4 number ++ rest) ≡ Some (record { number = number; rest = rest })
+limited_reads : (number : ℕ) (rest : List ℕ) → NumberIsInRange number → limited_in (big_bytes 4 number ++ rest) ≡ Some (record { number = number; rest = rest })
 unfolding limited_in
 limited_reads number rest is =
     let below : number < 4294967296 = omega (arith, is) in
     let test : nat_le number 2000000000 ≡ true = grind (arith, nat_tests) in
-    ap (λ (o : Option Numbered). o >>= λ n. cond (nat_le n.number most_number) (Some n) None) (number_reads 4 number rest below)
+    ap (λ (o : Option Numbered). o >>= λ n. cond (nat_le n.number greatest_number) (Some n) None) (number_reads 4 number rest below)
     ∙ ap (λ (b : Bool). cond b (Some (record { number = number; rest = rest })) None) test
 
-behind_reads : (key : List ℕ) (setting : Setting) (rest : List ℕ) → IsNumber setting.number → IsValue setting.value
+behind_reads : (key : List ℕ) (setting : Setting) (rest : List ℕ) → NumberIsInRange setting.number → IsValue setting.value
     → setting_behind (record { field = key; rest = big_bytes 4 setting.number ++ (field_bytes setting.value ++ rest) }) ≡ Some (record {
       key = key;
       setting = setting;
@@ -296,7 +296,7 @@ behind_reads key setting rest is_number is =
     (field_in_of_written_field 0 64 setting.value rest (omega arith) is)
 
 setting_reads : (last : Option (List ℕ)) (key : List ℕ) (setting : Setting) (rest : List ℕ) → may_follow last key ≡ true → IsKey key
-    → IsNumber setting.number → IsValue setting.value
+    → NumberIsInRange setting.number → IsValue setting.value
     → setting_in last (setting_bytes (key, setting) ++ rest) ≡ Some (record { key = key; setting = setting; rest = rest })
 unfolding setting_in
 setting_reads last key setting rest follows is_a_key is_number is =
@@ -323,23 +323,23 @@ follow_first (Some low) (k ∷ keys) all = (ap (λ o. is_lt o) all.0, follow_fir
 settings_read : (last : Option (List ℕ)) (contents : Contents) → AllByRecursion (λ k. may_follow last k ≡ true) (keys_of contents)
     → IsStrictlySortedBy key_cmp (keys_of contents)
     → All IsKey (keys_of contents) → All (λ setting. IsValue setting.value) (values_of contents)
-    → All (λ setting. IsNumber setting.number) (values_of contents)
+    → All (λ setting. NumberIsInRange setting.number) (values_of contents)
     → settings_in (length contents) last (flat_map setting_bytes contents) ≡ Some contents
 unfolding settings_in IsStrictlySortedBy
 settings_read last [] follow ordered keys values numbers = refl
 settings_read last (e ∷ contents) follow ordered keys values numbers =
     let first = setting_reads last e.0 e.1 (flat_map setting_bytes contents) follow.0 (all_holds_of_first IsKey e.0 (keys_of contents) keys)
-    (all_holds_of_first (λ (s : Setting). IsNumber s.number) e.1 (values_of contents) numbers) (all_holds_of_first (λ (s : Setting). IsValue s.value) e.1 (values_of
+    (all_holds_of_first (λ (s : Setting). NumberIsInRange s.number) e.1 (values_of contents) numbers) (all_holds_of_first (λ (s : Setting). IsValue s.value) e.1 (values_of
     contents) values) in
     let others = settings_read (Some e.0) contents (follow_first (Some e.0) (keys_of contents) ordered.0) ordered.1 (all_holds_of_rest IsKey e.0 (keys_of
     contents) keys)
-    (all_holds_of_rest (λ (s : Setting). IsValue s.value) e.1 (values_of contents) values) (all_holds_of_rest (λ (s : Setting). IsNumber s.number) e.1 (values_of contents)
+    (all_holds_of_rest (λ (s : Setting). IsValue s.value) e.1 (values_of contents) values) (all_holds_of_rest (λ (s : Setting). NumberIsInRange s.number) e.1 (values_of contents)
     numbers) in
     ap (λ (o : Option ReadKey). o >>= λ read. option_map (λ more. (read.key, read.setting) ∷ more) (settings_in (length contents) (Some read.key)
     read.rest)) first
     ∙ ap (λ (o : Option Contents). option_map (λ more. e ∷ more) o) others
 
-head_reads : (join count : ℕ) (rest : List ℕ) → IsNumber join → count ≤ most_keys
+head_reads : (join count : ℕ) (rest : List ℕ) → NumberIsInRange join → count ≤ most_keys
     → head_in (head_bytes join count ++ rest) ≡ Some (record { join = join; count = count; rest = rest })
 unfolding head_in head_behind
 head_reads join count rest is_number few =
@@ -362,7 +362,7 @@ follow_none [] = tt
 follow_none (k ∷ keys) = (refl, follow_none keys)
 
 -- the snapshot of contents is read as them
-pub snapshot_in_of_snapshot_of : (contents : Contents) (join : ℕ) → IsContents contents → IsNumber join → snapshot_in (snapshot_of contents join) ≡ Some (join, contents)
+pub snapshot_in_of_snapshot_of : (contents : Contents) (join : ℕ) → IsContents contents → NumberIsInRange join → snapshot_in (snapshot_of contents join) ≡ Some (join, contents)
 unfolding snapshot_in snapshot_of
 snapshot_in_of_snapshot_of contents join c is_number =
     let d = c.directory in

@@ -2,7 +2,7 @@
 use Rattle.std.proofs.Common.{◌≡◌, ℕ, List, Bool, true, false, cond, not, ◌&&◌, ◌||◌, Option, Some, None, refl, ◌⊎◌, inl, inr}
 use Rattle.std.specs.BTreeMap.{is_at}
 use Rattle.std.proofs.lemmas.Map.Views.{All-values-insert_entry, All-map-remove_entry}
-use Rattle.am_base.specs.Limits.{IsNumber}
+use Rattle.am_base.specs.Limits.{NumberIsInRange}
 use Rattle.am_service_defs.specs.declared.setting.Setting.{Setting}
 use Rattle.am_service_defs.specs.Values.{IsKey, IsValue}
 use Rattle.am_service_defs.specs.Commands.{Command, Put, Delete, Claim, IsCommand, command_of}
@@ -11,19 +11,19 @@ use Rattle.am_service_defs.specs.Snapshots.{IsContents, ContentsStayWithin}
 use Rattle.am_service_defs.proofs.Keeping.{directory_with_setting, directory_without_key}
 use Rattle.am_service_defs.proofs.Limits.{command_read_is_command}
 
-stay_set : (contents : Contents) (number : ℕ) (key value : List ℕ) → IsContents contents → IsNumber number → IsKey key → IsValue value
+stay_set : (contents : Contents) (number : ℕ) (key value : List ℕ) → IsContents contents → NumberIsInRange number → IsKey key → IsValue value
     → (has_key contents key ≡ true) ⊎ (contents_has_room contents ≡ true) → IsContents (with_setting contents key (record { number = number; value = value }))
 stay_set contents number key value c n is_key is_value room =
     let setting : Setting = record { number = number; value = value } in
     record {
       directory = directory_with_setting contents key setting c.directory is_key is_value room;
-      numbers = All-values-insert_entry key_cmp key setting (λ s. IsNumber s.number) contents c.numbers n;
+      numbers = All-values-insert_entry key_cmp key setting (λ s. NumberIsInRange s.number) contents c.numbers n;
     }
 
 stay_removed : (contents : Contents) (key : List ℕ) → IsContents contents → IsContents (without_key contents key)
 stay_removed contents key c = record {
   directory = directory_without_key contents key c.directory;
-  numbers = All-map-remove_entry (is_at (key_cmp key)) (λ e. e.1) (λ s. IsNumber s.number) contents c.numbers;
+  numbers = All-map-remove_entry (is_at (key_cmp key)) (λ e. e.1) (λ s. NumberIsInRange s.number) contents c.numbers;
 }
 
 either : (a b : Bool) → (a || b) ≡ true → (a ≡ true) ⊎ (b ≡ true)
@@ -34,7 +34,7 @@ second : (a b : Bool) → (a && b) ≡ true → b ≡ true
 second true b h = h
 second false b h = cc
 
-stay_command : (contents : Contents) (number : ℕ) (command : Command) → IsContents contents → IsNumber number → IsCommand command
+stay_command : (contents : Contents) (number : ℕ) (command : Command) → IsContents contents → NumberIsInRange number → IsCommand command
     → IsContents (after_command contents number command)
 stay_command contents number (Put key value) c n k = by (has_key contents key || contents_has_room contents) refl
   where

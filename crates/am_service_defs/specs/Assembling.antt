@@ -1,7 +1,7 @@
 -- How messages are put together from the entries of a list, one entry after the other.
 use Rattle.std.specs.Prelude.{◌≡◌, ◌↔◌, ℕ, ◌+◌, ◌-◌, List, [], ◌∷◌, ◌++◌, replicate, slice_set, slice_index_or, fold, Option, Some, None, Bool, false, ◌&&◌}
 use Rattle.std.specs.Prelude.{◌==◌, if◌then◌else◌}
-use Rattle.am_base.specs.Names.{place_of}
+use Rattle.am_base.specs.Names.{place_of_name}
 use Rattle.am_base.specs.declared.entry.Entry.{Entry}
 use Rattle.am_base.specs.declared.entry.Entry.TheVariants.{Data, Join, Leave, View}
 use Rattle.am_service_defs.specs.declared.fed.Fed.{Fed}
@@ -83,11 +83,11 @@ abbrev pub no_parts : Assembly
 no_parts = record { begun = replicate 16 None; ended = None }
 
 abbrev pub taken_at : Assembly → ℕ → List ℕ → Taken
-taken_at a from body = taken_with (slice_index_or a.begun (place_of from) None) from body
+taken_at a from body = taken_with (slice_index_or a.begun (place_of_name from) None) from body
 
 -- after a Data of a name
 abbrev pub after_data : Assembly → ℕ → Taken → Assembly
-after_data a from taken = record { begun = slice_set a.begun (place_of from) (begun_by taken); ended = ended_by from taken }
+after_data a from taken = record { begun = slice_set a.begun (place_of_name from) (begun_by taken); ended = ended_by from taken }
 
 -- after one entry more
 unfoldable pub after_entry : Assembly → Entry → Assembly

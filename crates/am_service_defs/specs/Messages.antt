@@ -4,10 +4,10 @@ use Rattle.std.specs.Prelude.{nat_le, if◌then◌else◌}
 use Rattle.std.specs.List.{flat_map}
 use Rattle.std.specs.Cmp.Lexicographic.{pointwise}
 use Rattle.byteorder.specs.Endian.{big_from}
-use Rattle.am_base.specs.Names.{place_of}
+use Rattle.am_base.specs.Names.{place_of_name}
 use Rattle.am_base.specs.declared.entry.Entry.{Entry}
 use Rattle.am_base.specs.declared.entry.Entry.TheVariants.{Data, Join, Leave, View}
-use Rattle.am_service_defs.specs.Parts.{most_message, parts_of}
+use Rattle.am_service_defs.specs.Parts.{most_bytes_of_message, parts_of}
 
 -- the entries that were given, without their numbers
 abbrev pub entries_of : List (ℕ × Entry) → List Entry
@@ -15,7 +15,7 @@ entries_of given = map (λ one. one.1) given
 
 -- the Data of an entry, where it is of a name of this place: its sender and its body
 abbrev pub sent_from : ℕ → Entry → List (ℕ × List ℕ)
-sent_from place (Data from req body) = if place_of from == place then (from, body) ∷ [] else []
+sent_from place (Data from req body) = if place_of_name from == place then (from, body) ∷ [] else []
 sent_from place (Join name) = []
 sent_from place (Leave name) = []
 sent_from place (View v) = []
@@ -35,8 +35,8 @@ parts_from name message = map (λ body. (name, body)) (parts_of message)
 pub record EndsAt (list : List Entry) (number name : ℕ) (message : List ℕ) : Type 0 where
   pub from_one : 0 < number
   pub last : (req : ℕ) × (body : List ℕ) × (slice_get list (number - 1) ≡ Some (Data name req body))
-  pub few : length message ≤ most_message
-  pub parts : (before : List (ℕ × List ℕ)) × (from_place (place_of name) (take number list) ≡ before ++ parts_from name message)
+  pub few : length message ≤ most_bytes_of_message
+  pub parts : (before : List (ℕ × List ℕ)) × (from_place (place_of_name name) (take number list) ≡ before ++ parts_from name message)
 
 -- ---- the same, computed
 
@@ -53,7 +53,7 @@ is_same a b = (a.0 == b.0) && pointwise nat_eq a.1 b.1
 
 -- they are just the parts of that message
 abbrev pub are_parts_of_message : ℕ → List ℕ → List (ℕ × List ℕ) → Bool
-are_parts_of_message name message parts = nat_le (length message) most_message && pointwise is_same parts (parts_from name message)
+are_parts_of_message name message parts = nat_le (length message) most_bytes_of_message && pointwise is_same parts (parts_from name message)
 
 abbrev pub message_of : ℕ → List (ℕ × List ℕ) → Option (ℕ × List ℕ)
 message_of name parts = if are_parts_of_message name (payloads_of parts) parts then Some (name, payloads_of parts) else None
@@ -61,7 +61,7 @@ message_of name parts = if are_parts_of_message name (payloads_of parts) parts t
 -- by the last entry: as many parts as it says there are
 abbrev pub message_by : List Entry → Option Entry → Option (ℕ × List ℕ)
 message_by list None = None
-message_by list (Some (Data from req body)) = message_of from (last_so_many (from_place (place_of from) list) (big_from 3 2 body))
+message_by list (Some (Data from req body)) = message_of from (last_so_many (from_place (place_of_name from) list) (big_from 3 2 body))
 message_by list (Some (Join name)) = None
 message_by list (Some (Leave name)) = None
 message_by list (Some (View v)) = None
@@ -72,6 +72,6 @@ message_at list = message_by list (slice_get list (length list - 1))
 
 -- ---- what is claimed of it
 
-abbrev pub MessagesEnd : Type 0
-MessagesEnd = (list : List Entry) (number name : ℕ) (message : List ℕ) → number ≤ length list
+abbrev pub ComputedMessagesEnd : Type 0
+ComputedMessagesEnd = (list : List Entry) (number name : ℕ) (message : List ℕ) → number ≤ length list
     → (message_at (take number list) ≡ Some (name, message)) ↔ EndsAt list number name message

@@ -6,8 +6,8 @@ use Rattle.std.specs.List.{range_with_len}
 use Rattle.byteorder.specs.Endian.{big_bytes, big_from}
 
 -- how many bytes a message has at most
-abbrev pub most_message : ℕ
-most_message = 65535
+abbrev pub most_bytes_of_message : ℕ
+most_bytes_of_message = 65535
 
 -- how many parts that is at most
 abbrev pub most_parts : ℕ
@@ -50,7 +50,7 @@ part_fields_of body = record { index = big_from 1 2 body; count = big_from 3 2 b
 
 -- a message of so many bytes ends with this part
 abbrev pub ends_message : ℕ → ℕ → Bool
-ends_message size count = nat_le size most_message && (part_count size == count)
+ends_message size count = nat_le size most_bytes_of_message && (part_count size == count)
 
 -- some message has such a part: each but the last is full
 abbrev pub fits_message : Part → Bool
@@ -64,7 +64,7 @@ part_in body = if (nat_le 5 (length body) && (slice_index body 0 == 83)) && fits
 -- a body is a part of some message
 pub record IsPart (body : List ℕ) (p : Part) : Type 0 where
   pub message : List ℕ
-  pub few : length message ≤ most_message
+  pub few : length message ≤ most_bytes_of_message
   pub within : p.index < part_count (length message)
   pub same : body ≡ part_of message p.index
   pub count : p.count ≡ part_count (length message)

@@ -5,8 +5,8 @@ use Rattle.std.specs.Option.{option_map}
 use Rattle.std.specs.List.{All, flat_map}
 use Rattle.std.specs.Ordering.{is_lt}
 use Rattle.byteorder.specs.Endian.{big_bytes}
-use Rattle.am_base.specs.Most.{most_number}
-use Rattle.am_base.specs.Limits.{IsNumber}
+use Rattle.am_base.specs.Most.{greatest_number}
+use Rattle.am_base.specs.Limits.{NumberIsInRange}
 use Rattle.am_packet.specs.Laws.{IsBytes}
 use Rattle.am_service_defs.specs.declared.setting.Setting.{Setting}
 use Rattle.am_service_defs.specs.Lengths.{◌>>=◌, Cut, Numbered, field_bytes, field_in, number_in}
@@ -34,11 +34,11 @@ snapshot_of contents join = head_bytes join (length contents) ++ flat_map settin
 -- contents that a snapshot can have
 pub record IsContents (contents : Contents) : Type 0 where
   pub directory : IsDirectory contents
-  pub numbers : All (λ setting. IsNumber setting.number) (values_of contents)
+  pub numbers : All (λ setting. NumberIsInRange setting.number) (values_of contents)
 
 -- these bytes are these contents for this Join
 pub record IsSnapshot (bytes : List ℕ) (join : ℕ) (contents : Contents) : Type 0 where
-  pub number : IsNumber join
+  pub number : NumberIsInRange join
   pub within : IsContents contents
   pub same : bytes ≡ snapshot_of contents join
 
@@ -48,7 +48,7 @@ pub record IsSnapshot (bytes : List ℕ) (join : ℕ) (contents : Contents) : Ty
 unfoldable pub limited_in : List ℕ → Option Numbered
 limited_in bytes = do
   number ← number_in 4 bytes
-  if nat_le number.number most_number then Some number else None
+  if nat_le number.number greatest_number then Some number else None
 
 -- a key may stand behind another, or first
 abbrev pub may_follow : Option (List ℕ) → List ℕ → Bool
@@ -106,4 +106,4 @@ SnapshotsAreTheirBytes = (bytes : List ℕ) (join : ℕ) (contents : Contents) �
 
 -- contents stay such as a snapshot can have, whatever is applied
 abbrev pub ContentsStayWithin : Type 0
-ContentsStayWithin = (contents : Contents) (number : ℕ) (body : List ℕ) → IsContents contents → IsNumber number → IsContents (applied contents number body)
+ContentsStayWithin = (contents : Contents) (number : ℕ) (body : List ℕ) → IsContents contents → NumberIsInRange number → IsContents (applied contents number body)

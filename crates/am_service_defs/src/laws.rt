@@ -1,4 +1,4 @@
-ghost use Rattle.am_service_defs.specs.{Parts.PartsAreRead, Messages.MessagesEnd, Assembling.MessagesAssemble};
+ghost use Rattle.am_service_defs.specs.{Parts.PartsAreRead, Messages.ComputedMessagesEnd, Assembling.MessagesAssemble};
 ghost use Rattle.am_service_defs.specs.{Commands.CommandsAreTheirBytes, Replicas.ReplicasShow, Snapshots.SnapshotsAreTheirBytes, Snapshots.ContentsStayWithin};
 
 /// What is read as a part is a part of some message, and each part of a message is read as what it is.
@@ -8,7 +8,7 @@ pub fn parts_are_read()
 
 /// The computed message of a list's beginning is the one that ends there.
 pub fn messages_end()
-    ensures { MessagesEnd }
+    ensures { ComputedMessagesEnd }
 {}
 
 /// An assembler that is fed a list finds just the messages that end in it.

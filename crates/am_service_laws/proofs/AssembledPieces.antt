@@ -1,7 +1,7 @@
 -- A gapless piece of a list, and the messages that end in both.
 use Rattle.am_service_laws.proofs.Words.{◌≡◌, ℕ, zero, suc, ◌+◌, ◌-◌, ◌<◌, ◌≤◌, List, [], ◌∷◌, ◌++◌, length, take, drop, slice_get, Option, Some, None, refl}
 use Rattle.am_service_laws.proofs.Words.{sym, ap, ◌∙◌, arith, append_assoc, length-append, option_map, take-add, take-append-le, drop-append-le, drop_at}
-use Rattle.am_service_laws.proofs.Words.{flat_map-append, slice_get-map, slice_get_within, place_of, Entry, item_at, slice_get_of_append_front, IsSegment, part_count}
+use Rattle.am_service_laws.proofs.Words.{flat_map-append, slice_get-map, slice_get_within, place_of_name, Entry, item_at, slice_get_of_append_front, IsSegment, part_count}
 use Rattle.am_service_laws.proofs.Words.{entries_of, sent_from, from_place, parts_from, EndsAt, length-parts_from, part_count_fits_size}
 use Rattle.am_step_laws.proofs.EffectWords.{slice_get-drop}
 
@@ -84,27 +84,27 @@ piece_message_ends_in_list given start list k from message some segment ends =
       );
       few = ends.few;
       parts = (
-        from_place (place_of from) (take (start - 1) list) ++ ends.parts.0,
-        ap (λ n. from_place (place_of from) (take n list)) (sym number) ∙ up_to (entries_of given) list (start - 1) k s (place_of from) low
-            ∙ ap (λ xs. from_place (place_of from) (take (start - 1) list) ++ xs) ends.parts.1
-            ∙ sym (append_assoc (from_place (place_of from) (take (start - 1) list)) ends.parts.0 (parts_from from message)),
+        from_place (place_of_name from) (take (start - 1) list) ++ ends.parts.0,
+        ap (λ n. from_place (place_of_name from) (take n list)) (sym number) ∙ up_to (entries_of given) list (start - 1) k s (place_of_name from) low
+            ∙ ap (λ xs. from_place (place_of_name from) (take (start - 1) list) ++ xs) ends.parts.1
+            ∙ sym (append_assoc (from_place (place_of_name from) (take (start - 1) list)) ends.parts.0 (parts_from from message)),
       );
     }
 
 pub list_message_ends_in_piece : (given : List (ℕ × Entry)) (start : ℕ) (list : List Entry) (k from : ℕ) (message : List ℕ) → 0 < start → IsSegment given start list
     → EndsAt list (start + k - 1) from message → k ≤ length (entries_of given)
-    → part_count (length message) ≤ length (from_place (place_of from) (take k (entries_of given))) → EndsAt (entries_of given) k from message
+    → part_count (length message) ≤ length (from_place (place_of_name from) (take k (entries_of given))) → EndsAt (entries_of given) k from message
 list_message_ends_in_piece given start list (zero) from message some segment ends low all =
-    let none = ap length (from_place-none (place_of from)) in
+    let none = ap length (from_place-none (place_of_name from)) in
     absurd (omega (arith, none, all, (part_count_fits_size (length message)).some))
 list_message_ends_in_piece given start list (suc k) from message some segment ends low all =
     let s = stands given start list some segment in
     let within : suc k - 1 < length (entries_of given) = omega arith in
     let number : (start - 1) + suc k ≡ start + suc k - 1 = omega arith in
     let place : (start - 1) + (suc k - 1) ≡ start + suc k - 1 - 1 = omega arith in
-    let whole : from_place (place_of from) (take (start - 1) list) ++ from_place (place_of from) (take (suc k) (entries_of given))
+    let whole : from_place (place_of_name from) (take (start - 1) list) ++ from_place (place_of_name from) (take (suc k) (entries_of given))
     ≡ ends.parts.0 ++ parts_from from message =
-    sym (up_to (entries_of given) list (start - 1) (suc k) s (place_of from) low) ∙ ap (λ n. from_place (place_of from) (take n list)) number ∙ ends.parts.1 in
+    sym (up_to (entries_of given) list (start - 1) (suc k) s (place_of_name from) low) ∙ ap (λ n. from_place (place_of_name from) (take n list)) number ∙ ends.parts.1 in
     record {
       from_one = omega arith;
       last = (
@@ -115,7 +115,7 @@ list_message_ends_in_piece given start list (suc k) from message some segment en
       );
       few = ends.few;
       parts = (
-        drop (length (from_place (place_of from) (take (start - 1) list))) ends.parts.0,
+        drop (length (from_place (place_of_name from) (take (start - 1) list))) ends.parts.0,
         tail_within _ _ ends.parts.0 (parts_from from message) whole (omega (arith, all, length-parts_from from message)),
       );
     }

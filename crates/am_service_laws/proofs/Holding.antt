@@ -1,7 +1,7 @@
 -- What replicas have in runs.
 use Rattle.am_service_laws.proofs.Words.{◌≡◌, ◌≢◌, ℕ, zero, suc, ◌+◌, List, [], ◌∷◌, length, Option, Some, None, Bool, true, false, ◌==◌, slice_get, refl, sym}
 use Rattle.am_service_laws.proofs.Words.{ap, ◌∙◌, subst, arith, add-zero, option_map, nat_tests, Entry, has, Rules, Event, deliveries, item_at, founders_entry}
-use Rattle.am_service_laws.proofs.Words.{World, start, happen, run, lawful_front, BeginsAt, IsSegment, Segment, run_begins_longer_run, headline_holds, Contents}
+use Rattle.am_service_laws.proofs.Words.{World, start, world_after_events, run, lawful_front, BeginsAt, IsSegment, Segment, run_begins_longer_run, headline_holds, Contents}
 use Rattle.am_service_laws.proofs.Words.{contents_with, contents_from, contents_after, first_snapshot, replica_contents, last_number, contents_up_to}
 use Rattle.am_service_laws.proofs.Words.{FoundersHold, JoinerHolds, JoinersHold, ReplicasHold}
 use Rattle.am_service_laws.proofs.{Starts.name_list_begins_at_start, Pieces.contents_from_segment, Pieces.last_number_of_segment, Pieces.segment_splits_at_first, Waiting.replica_contents_of_joiner, Waiting.waiting_replica_has_no_snapshot, Waiting.replica_waits_without_snapshot}
@@ -35,7 +35,7 @@ founder_replicas_hold rules events name may founder =
 
 -- the list begins with the founders' View, so nobody's Join is its first entry
 first_entry : (rules : Rules) (events : List Event) → item_at (run rules events).group 1 ≡ Some (founders_entry rules)
-unfolding happen
+unfolding world_after_events
 first_entry rules events = let b = (run_begins_longer_run rules events 0).group in ap (λ (es : List Entry). item_at es 1) b.1
 
 not_first : (rules : Rules) (events : List Event) (name s : ℕ) → item_at (run rules events).group s ≡ Some (entries.Join name) → s ≡ 1 → ⊥

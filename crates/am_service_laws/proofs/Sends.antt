@@ -1,7 +1,7 @@
 -- The claims of runs.
 use Rattle.am_service_laws.proofs.Words.{◌≡◌, ◌≢◌, ℕ, zero, suc, ◌+◌, ◌-◌, ◌<◌, List, [], ◌∷◌, ◌++◌, length, take, Some, slice_get, ap, ◌∙◌, subst, arith}
-use Rattle.am_service_laws.proofs.Words.{take-length, length-take-le, slice_get_within, split_on_bool, has, place_of, Rules, MayFound, Data, Join, Event, item_at}
-use Rattle.am_service_laws.proofs.Words.{deliveries, World, run, IsSegment, BeginsAt, IsSend, lawful_front, IsGood, take_begins_list, beginning_of_good_is_good, slice_get_of_take}
+use Rattle.am_service_laws.proofs.Words.{take-length, length-take-le, slice_get_within, split_on_bool, has, place_of_name, Rules, MayFound, Data, Join, Event, item_at}
+use Rattle.am_service_laws.proofs.Words.{deliveries, World, run, IsSegment, BeginsAt, IsSend, lawful_front, IsGoodList, taken_front_begins_list, beginning_of_good_is_good, slice_get_of_take}
 use Rattle.am_service_laws.proofs.Words.{headline_holds, part_count, part_of, from_place, EndsAt, part_count_fits_size, list_is_front_and_last, slice_get-take, world_at_front}
 use Rattle.am_service_laws.proofs.Words.{DeliveredMessagesEnd, WholeMessagesAreDelivered, SentInParts, SentMessagesEnd}
 use Rattle.am_service_laws.proofs.{AssembledPieces.piece_message_ends_in_list, AssembledPieces.list_message_ends_in_piece, Runs.front_group_list_is_good, Runs.recorded_request_has_one_body, Runs.recorded_request_is_positive}
@@ -71,7 +71,7 @@ ends_there rules events name first (suc k) message body may sent above at =
     let cut : take (suc k) w.group ≡ take k (take (suc k) w.group) ++ Data name req body ∷ [] =
     list_is_front_and_last (take (suc k) w.group) k (Data name req body) last long in
     let init = take k (take (suc k) w.group) in
-    let good : IsGood (init ++ Data name req body ∷ []) = subst IsGood cut (beginning_of_good_is_good (take_begins_list (suc k) w.group) (front_group_list_is_good rules events may)) in
+    let good : IsGoodList (init ++ Data name req body ∷ []) = subst IsGoodList cut (beginning_of_good_is_good (taken_front_begins_list (suc k) w.group) (front_group_list_is_good rules events may)) in
     let parts : SendsOfNameAreParts name first message (init ++ Data name req body ∷ []) = subst (SendsOfNameAreParts name first message) cut
     (λ j r b there. sends_parts rules events name first (suc k) message may sent j r b (slice_get_of_take (suc k) w.group j (Data name r b) there)) in
     let ends = list_tail_ends_with_parts name first message init req body good above (omega (arith, some)) parts in
@@ -79,7 +79,7 @@ ends_there rules events name first (suc k) message body may sent above at =
       from_one = omega arith;
       last = (req, body, ap (slice_get w.group) place ∙ at);
       few = sent.few;
-      parts = (ends.0, ap (from_place (place_of name)) cut ∙ ends.1);
+      parts = (ends.0, ap (from_place (place_of_name name)) cut ∙ ends.1);
     }
 
 pub sent_messages_end_in_list : SentMessagesEnd

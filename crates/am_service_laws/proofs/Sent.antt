@@ -1,6 +1,6 @@
 -- A snapshot that was sent in parts makes its joiner's replica ready.
 use Rattle.am_service_laws.proofs.Words.{◌≡◌, ◌≢◌, ℕ, zero, suc, ◌+◌, ◌-◌, ◌≤◌, ◌<◌, List, [], ◌∷◌, ◌++◌, length, take, Option, Some, None, ap, ◌∙◌, subst}
-use Rattle.am_service_laws.proofs.Words.{arith, append_assoc, enumerate_from, length-take, Entry, most_number, IsNumber, deliveries, run, lawful_front}
+use Rattle.am_service_laws.proofs.Words.{arith, append_assoc, enumerate_from, length-take, Entry, greatest_number, NumberIsInRange, deliveries, run, lawful_front}
 use Rattle.am_service_laws.proofs.Words.{entries_of, EndsAt, message_at, messages_end, Whole, Contents, contents_with, contents_from, contents_after, IsContents}
 use Rattle.am_service_laws.proofs.Words.{snapshot_of, or_else, for_join, snapshot_for, first_behind, first_snapshot, empty_contents_are_directory, snapshot_in_of_snapshot_of, contents_stay_within_limits}
 use Rattle.am_service_laws.proofs.Words.{NoneBefore, SentSnapshotsRestore}
@@ -10,11 +10,11 @@ use Rattle.am_base.specs.declared.entry.Entry.TheVariants as entries
 
 -- ---- the contents of a list can be a snapshot's
 
-entry_within : (contents : Contents) (number : ℕ) (e : Entry) → IsContents contents → IsNumber number → IsContents (contents_with contents (number, e))
+entry_within : (contents : Contents) (number : ℕ) (e : Entry) → IsContents contents → NumberIsInRange number → IsContents (contents_with contents (number, e))
 entry_within contents number (entries.Data from req body) c n = contents_stay_within_limits contents number body c n
 entry_within contents number _ c n = c
 
-list_within : (from : ℕ) (list : List Entry) (contents : Contents) → IsContents contents → from + length list ≤ most_number + 1
+list_within : (from : ℕ) (list : List Entry) (contents : Contents) → IsContents contents → from + length list ≤ greatest_number + 1
     → IsContents (contents_from contents (enumerate_from from list))
 list_within from [] contents c below = c
 list_within from (e ∷ list) contents c below =
@@ -23,7 +23,7 @@ list_within from (e ∷ list) contents c below =
 nothing_is : IsContents []
 nothing_is = record { directory = empty_contents_are_directory; numbers = λ k d below. absurd (omega arith) }
 
-contents_within : (list : List Entry) (number : ℕ) → IsNumber number → IsContents (contents_after list number)
+contents_within : (list : List Entry) (number : ℕ) → NumberIsInRange number → IsContents (contents_after list number)
 contents_within list number n = list_within 1 (take number list) [] nothing_is (omega (arith, n, length-take number list))
 
 -- ---- the first snapshot is found
@@ -44,7 +44,7 @@ first_found start before (e ∷ rest) (suc k) contents below is none =
 
 -- ---- a snapshot that was sent
 
-found_at : (group : List Entry) (given : List (ℕ × Entry)) (sender start k : ℕ) → IsNumber start → suc k ≤ length given
+found_at : (group : List Entry) (given : List (ℕ × Entry)) (sender start k : ℕ) → NumberIsInRange start → suc k ≤ length given
     → EndsAt (entries_of given) (suc k) sender (snapshot_of (contents_after group start) start) → NoneBefore start given (suc k)
     → first_snapshot start given ≡ Some (contents_after group start)
 unfolding first_snapshot
@@ -60,7 +60,7 @@ found_at group given sender start k number below ends none =
     (λ j less. snapshot_for_without_contents start (message_at (take (suc j) (entries_of given)))
     (λ name m c at read. none (suc j) name m c (omega (arith, less)) at read))
 
-found_by : (group : List Entry) (given : List (ℕ × Entry)) (sender start place : ℕ) → IsNumber start → place ≤ length given
+found_by : (group : List Entry) (given : List (ℕ × Entry)) (sender start place : ℕ) → NumberIsInRange start → place ≤ length given
     → EndsAt (entries_of given) place sender (snapshot_of (contents_after group start) start) → NoneBefore start given place
     → first_snapshot start given ≡ Some (contents_after group start)
 found_by group given sender start zero number below ends none = let from : 0 < 0 = ends.from_one in absurd (omega arith)

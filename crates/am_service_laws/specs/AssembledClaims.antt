@@ -1,6 +1,6 @@
 -- What is claimed of the messages of runs.
 use Rattle.std.specs.Prelude.{◌≡◌, ◌≢◌, ℕ, ◌+◌, ◌-◌, ◌<◌, ◌≤◌, List, [], length, take, Some, slice_get}
-use Rattle.am_base.specs.Names.{place_of}
+use Rattle.am_base.specs.Names.{place_of_name}
 use Rattle.am_base.specs.Founding.{Rules, MayFound}
 use Rattle.am_base.specs.declared.entry.Entry.{Entry}
 use Rattle.am_group.specs.declared.event.Event.{Event}
@@ -10,7 +10,7 @@ use Rattle.am_group_defs.specs.World.{World, run}
 use Rattle.am_group_defs.specs.Group.{accepted_sends}
 use Rattle.am_group_defs.specs.Claims.{BeginsAt, IsSend}
 use Rattle.am_group_defs.specs.Lawful.{lawful_front}
-use Rattle.am_service_defs.specs.Parts.{most_message, part_count, part_of}
+use Rattle.am_service_defs.specs.Parts.{most_bytes_of_message, part_count, part_of}
 use Rattle.am_service_defs.specs.Messages.{entries_of, from_place, EndsAt}
 
 -- what a name was given
@@ -36,7 +36,7 @@ DeliveredMessagesEnd = (rules : Rules) (events : List Event) (name : ℕ) → Ma
 pub record Whole (rules : Rules) (w : World) (name start : ℕ) : Type 0 where
   pub begins : BeginsAt rules w name start
   pub ends : (k from : ℕ) (message : List ℕ) → EndsAt w.group (start + k - 1) from message → k ≤ length (given_in w name)
-      → part_count (length message) ≤ length (from_place (place_of from) (take k (given_in w name))) → EndsAt (given_in w name) k from message
+      → part_count (length message) ≤ length (from_place (place_of_name from) (take k (given_in w name))) → EndsAt (given_in w name) k from message
 
 abbrev pub WholeMessagesAreDelivered : Type 0
 WholeMessagesAreDelivered = (rules : Rules) (events : List Event) (name : ℕ) → MayFound rules → deliveries (world_at_front rules events).records name ≢ []
@@ -46,7 +46,7 @@ WholeMessagesAreDelivered = (rules : Rules) (events : List Event) (name : ℕ) �
 
 -- the parts of a message were sent in order, with no other send of the name between them, and the last was answered as sent
 pub record SentInParts (w : World) (name first number : ℕ) (message : List ℕ) : Type 0 where
-  pub few : length message ≤ most_message
+  pub few : length message ≤ most_bytes_of_message
   pub sends : (index : ℕ) → index < part_count (length message) → (k : ℕ) × (r : Record) × (slice_get w.records k ≡ Some r)
       × IsSend r name (first + index) (part_of message index)
   pub answer : ℕ

@@ -1,12 +1,12 @@
 -- What is claimed of replicas in runs.
 use Rattle.std.specs.Prelude.{◌≡◌, ◌≢◌, ◌↔◌, ℕ, ◌+◌, ◌-◌, ◌<◌, ◌≤◌, List, [], ◌∷◌, length, take, Some, None, true, false}
 use Rattle.am_base.specs.declared.entry.Entry.{Entry}
-use Rattle.am_base.specs.Limits.{IsNumber}
-use Rattle.am_base.specs.Names.{has, place_of}
+use Rattle.am_base.specs.Limits.{NumberIsInRange}
+use Rattle.am_base.specs.Names.{has, place_of_name}
 use Rattle.am_base.specs.Founding.{Rules, MayFound}
 use Rattle.am_group.specs.declared.event.Event.{Event}
 use Rattle.am_group.specs.Deliveries.{deliveries}
-use Rattle.am_model.specs.Node.{has_log}
+use Rattle.am_model.specs.Node.{has_log_by_status}
 use Rattle.am_group_defs.specs.World.{World, run}
 use Rattle.am_group_defs.specs.Lawful.{lawful_front}
 use Rattle.am_group_defs.specs.Claims.{BeginsAt}
@@ -70,7 +70,7 @@ pub record ReplicaHolds (rules : Rules) (w : World) (name : ℕ) : Type 0 where
   pub joiner : has rules.founders name ≡ false → JoinerHolds w.group (deliveries w.records name) (w.nodes name).core.start
 
 abbrev pub ReplicasHold : Type 0
-ReplicasHold = (rules : Rules) (events : List Event) (name : ℕ) → MayFound rules → has_log ((run rules (lawful_front rules events)).nodes name).status ≡ true
+ReplicasHold = (rules : Rules) (events : List Event) (name : ℕ) → MayFound rules → has_log_by_status ((run rules (lawful_front rules events)).nodes name).status ≡ true
     → ReplicaHolds rules (run rules (lawful_front rules events)) name
 
 -- ---- who was sent a snapshot
@@ -84,13 +84,13 @@ NoneBefore start given place = (k name : ℕ) (message : List ℕ) (contents : C
 -- a name sent the snapshot of the group's contents at a Join part by part, and was answered; whose Join that is was given all of it, up to
 -- this place of what it was given, and no other snapshot for the Join ended there before
 pub record SentSnapshot (w : World) (sender first number joiner start place : ℕ) : Type 0 where
-  pub small : IsNumber start
+  pub small : NumberIsInRange start
   pub sent : SentInParts w sender first number (snapshot_of (contents_after w.group start) start)
   pub from_one : 0 < place
   pub there : number ≡ start + place - 1
   pub within : place ≤ length (deliveries w.records joiner)
   pub behind : part_count (length (snapshot_of (contents_after w.group start) start))
-      ≤ length (from_place (place_of sender) (take place (entries_of (deliveries w.records joiner))))
+      ≤ length (from_place (place_of_name sender) (take place (entries_of (deliveries w.records joiner))))
   pub alone : NoneBefore start (deliveries w.records joiner) place
 
 -- then the joiner's replica is ready, and right

@@ -5,7 +5,7 @@ use Rattle.std.proofs.lemmas.List.{drop_more, drop_all}
 use Rattle.std.proofs.lemmas.List.Sums.{fold-append}
 use Rattle.am_base.specs.declared.entry.Entry.{Entry}
 use Rattle.am_group.specs.declared.event.Record.{Record}
-use Rattle.am_group.specs.Deliveries.{deliveries, given_to}
+use Rattle.am_group.specs.Deliveries.{deliveries, entries_given_to}
 use Rattle.am_report.specs.Logs.{logs_for}
 use Rattle.am_report.proofs.Logs.{deliveries_with_next_record, deliveries_past_last_record}
 use Rattle.am_services.specs.Telling.{told}
@@ -14,9 +14,9 @@ use Rattle.am_services.specs.Telling.{told}
 
 pub fold_deliveries_with_next : {B : Type 0} (next : B → ℕ × Entry → B) (b : B) (records : List Record) (name i : ℕ) (d : Record) → i < length records
     → fold next b (deliveries (drop i records) name)
-    ≡ fold next (fold next b (given_to name (slice_index_or records i d))) (deliveries (drop (i + 1) records) name)
+    ≡ fold next (fold next b (entries_given_to name (slice_index_or records i d))) (deliveries (drop (i + 1) records) name)
 fold_deliveries_with_next next b records name i d within = ap (fold next b) (deliveries_with_next_record records name i d within)
-    ∙ fold-append next b (given_to name (slice_index_or records i d)) (deliveries (drop (i + 1) records) name)
+    ∙ fold-append next b (entries_given_to name (slice_index_or records i d)) (deliveries (drop (i + 1) records) name)
 
 pub fold_deliveries_past_last : {B : Type 0} (next : B → ℕ × Entry → B) (b : B) (records : List Record) (name i : ℕ) → length records ≤ i
     → fold next b (deliveries (drop i records) name) ≡ b
@@ -31,10 +31,10 @@ told_append next line s (x ∷ xs) ys = ap (λ rest. line x (next s x) ++ rest) 
     ∙ sym (append_assoc (line x (next s x)) (told next line (next s x) xs) (told next line (fold next (next s x) xs) ys))
 
 pub told_deliveries_with_next : {S : Type 0} (next : S → ℕ × Entry → S) (line : ℕ × Entry → S → List ℕ) (s : S) (records : List Record) (name i : ℕ) (d : Record)
-    → i < length records → told next line s (deliveries (drop i records) name) ≡ told next line s (given_to name (slice_index_or records i d))
-    ++ told next line (fold next s (given_to name (slice_index_or records i d))) (deliveries (drop (i + 1) records) name)
+    → i < length records → told next line s (deliveries (drop i records) name) ≡ told next line s (entries_given_to name (slice_index_or records i d))
+    ++ told next line (fold next s (entries_given_to name (slice_index_or records i d))) (deliveries (drop (i + 1) records) name)
 told_deliveries_with_next next line s records name i d within = ap (told next line s) (deliveries_with_next_record records name i d within)
-    ∙ told_append next line s (given_to name (slice_index_or records i d)) (deliveries (drop (i + 1) records) name)
+    ∙ told_append next line s (entries_given_to name (slice_index_or records i d)) (deliveries (drop (i + 1) records) name)
 
 pub told_deliveries_past_last : {S : Type 0} (next : S → ℕ × Entry → S) (line : ℕ × Entry → S → List ℕ) (s : S) (records : List Record) (name i : ℕ)
     → length records ≤ i → told next line s (deliveries (drop i records) name) ≡ []

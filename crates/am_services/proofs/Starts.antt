@@ -4,13 +4,13 @@ use Rattle.am_base.specs.declared.entry.Entry.{Entry}
 use Rattle.am_base.specs.Founding.{Rules}
 use Rattle.am_base.specs.Names.{has}
 use Rattle.am_group.specs.declared.event.Record.{Record}
-use Rattle.am_group.specs.Deliveries.{deliveries, given_to}
+use Rattle.am_group.specs.Deliveries.{deliveries, entries_given_to}
 use Rattle.am_report.proofs.Logs.{deliveries_with_next_record, deliveries_past_last_record}
 use Rattle.am_services.specs.Texts.{start_of}
 
 -- by the first record that gave something
 pub start_of_log_at_first : (rules : Rules) (records : List Record) (name i : ℕ) (d : Record) (number : ℕ) (entry : Entry) → i < length records
-    → deliveries (drop i records) name ≡ deliveries records name → (number, entry) ∷ [] ≡ given_to name (slice_index_or records i d)
+    → deliveries (drop i records) name ≡ deliveries records name → (number, entry) ∷ [] ≡ entries_given_to name (slice_index_or records i d)
     → number ≡ start_of rules (name, deliveries records name)
 unfolding start_of
 start_of_log_at_first rules records name i d number entry within same given =
@@ -18,7 +18,7 @@ start_of_log_at_first rules records name i d number entry within same given =
     ∙ ap (λ g. g ++ deliveries (drop (i + 1) records) name) (sym given) in
     rw first refl
 
-pub deliveries_past_record_without_given : (records : List Record) (name i : ℕ) (d : Record) → i < length records → [] ≡ given_to name (slice_index_or records i d)
+pub deliveries_past_record_without_given : (records : List Record) (name i : ℕ) (d : Record) → i < length records → [] ≡ entries_given_to name (slice_index_or records i d)
     → deliveries (drop i records) name ≡ deliveries records name → deliveries (drop (i + 1) records) name ≡ deliveries records name
 deliveries_past_record_without_given records name i d within none same =
     ap (λ g. g ++ deliveries (drop (i + 1) records) name) none ∙ sym (deliveries_with_next_record records name i d within) ∙ same

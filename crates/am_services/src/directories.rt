@@ -1,6 +1,6 @@
 ghost use Rattle.std.specs.Prelude.{◌≡◌, ◌++◌, length, decimal, OnOk, IfOk, string_bytes};
 ghost use Rattle.std.specs.List.{fold};
-ghost use Rattle.am_group.specs.Deliveries.{given_to, deliveries};
+ghost use Rattle.am_group.specs.Deliveries.{entries_given_to, deliveries};
 ghost use Rattle.am_report.specs.Logs.{logs_for};
 ghost use Rattle.am_service_defs.specs.Replicas.{shown};
 ghost use Rattle.am_services.specs.Texts.{start_of, last_given_number, directory_line, setting_line, directory_lines, directory_of, directories_text};
@@ -88,8 +88,8 @@ fn push_replica(out: &mut String, name: Name, front: u32, replica: &Replica) -> 
 
 /// Feeds what a record gave to a name, where it gave something; the number of the last entry that it was given.
 fn feed_given(replica: &mut Replica, front: u32, name: Name, item: &Record) -> Result<u32, NoMemory>
-    ensures fed { OnOk result (replica.new ≡ replayed_with replica.old (given_to name item.now)) }
-    ensures front { IfOk result (λ last. last ≡ fold (λ f pair. pair.0) front (given_to name item.now)) }
+    ensures fed { OnOk result (replica.new ≡ replayed_with replica.old (entries_given_to name item.now)) }
+    ensures front { IfOk result (λ last. last ≡ fold (λ f pair. pair.0) front (entries_given_to name item.now)) }
 {
     let Some((number, entry)) = given_to(item, name) else {
         return Ok(front);

@@ -1,7 +1,7 @@
 ghost use Rattle.std.specs.Prelude.{◌≡◌, ◌≤◌, ◌<◌, ◌++◌, ℕ, length, OnOk, IfOk, string_bytes};
 ghost use Rattle.am_group.specs.Deliveries.{deliveries};
 ghost use Rattle.am_report.specs.Logs.{logs_for};
-ghost use Rattle.am_service_defs.specs.Parts.{most_message, part_count, part_of};
+ghost use Rattle.am_service_defs.specs.Parts.{most_bytes_of_message, part_count, part_of};
 ghost use Rattle.am_services.specs.Texts.{parts_text, message_line, messages_of, messages_text};
 ghost use Rattle.am_services.specs.Telling.{assembled_then, message_told};
 
@@ -18,7 +18,7 @@ use std::alloc::Global;
 
 /// The parts of a message, a line of hexadecimal digits each.
 pub fn parts_text(alloc: Global, message: &[u8]) -> Result<String, NoMemory>
-    requires { length message.now ≤ most_message }
+    requires { length message.now ≤ most_bytes_of_message }
     ensures { IfOk result (λ text. string_bytes text ≡ parts_text message.now) }
 {
     let mut out = String::new(alloc);

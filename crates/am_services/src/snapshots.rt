@@ -3,7 +3,7 @@ ghost use Rattle.std.specs.List.{flat_map};
 ghost use Rattle.am_group.specs.Deliveries.{deliveries};
 ghost use Rattle.am_report.specs.Logs.{logs_for};
 ghost use Rattle.am_service_defs.specs.Replicas.{shown};
-ghost use Rattle.am_service_defs.specs.Parts.{most_message, parts_of};
+ghost use Rattle.am_service_defs.specs.Parts.{most_bytes_of_message, parts_of};
 ghost use Rattle.am_services.specs.Texts.{snapshot_line, snapshot_at, snapshots_of, snapshots_text};
 ghost use Rattle.am_services.specs.Telling.{replayed_then, snapshot_told};
 
@@ -33,7 +33,7 @@ fn push_part(out: &mut String, name: Name, join: u32, part: &[u8]) -> Result<(),
 
 /// Adds the lines of all parts of a message.
 fn push_parts(out: &mut String, name: Name, join: u32, message: &[u8]) -> Result<(), NoMemory>
-    requires { length message.now ≤ most_message }
+    requires { length message.now ≤ most_bytes_of_message }
     ensures { OnOk result (string_bytes out.new
         ≡ string_bytes out.old ++ flat_map (snapshot_line name join) (parts_of message.now)) }
 {

@@ -1,7 +1,7 @@
 ghost use Rattle.std.specs.Prelude.{◌≡◌, ◌++◌, ℕ, List, OnOk, string_bytes};
 ghost use Rattle.std.specs.List.{fold};
 ghost use Rattle.am_base.specs.declared.entry.Entry.{Entry};
-ghost use Rattle.am_group.specs.Deliveries.{given_to, deliveries};
+ghost use Rattle.am_group.specs.Deliveries.{entries_given_to, deliveries};
 ghost use Rattle.am_services.specs.Telling.{told};
 
 use am_base::NoMemory;
@@ -33,8 +33,8 @@ fn push_given<T: TellsEntries>(
     item: &Record,
 ) -> Result<(), NoMemory>
     ensures text { OnOk result (string_bytes out.new ≡ string_bytes out.old
-        ++ told T.next (T.lines name) teller.old (given_to name item.now)) }
-    ensures next { OnOk result (teller.new ≡ fold T.next teller.old (given_to name item.now)) }
+        ++ told T.next (T.lines name) teller.old (entries_given_to name item.now)) }
+    ensures next { OnOk result (teller.new ≡ fold T.next teller.old (entries_given_to name item.now)) }
 {
     match given_to(item, name) {
         Some((number, entry)) => teller.tell(out, name, (number, entry.to_entry())),

@@ -1,6 +1,6 @@
 -- What a commit leaves.
 use Rattle.am_shared_journal.proofs.Words.{◌≡◌, ℕ, ◌+◌, ◌<◌, false, List, [], ◌∷◌, ◌++◌, length, take, drop, Result, Ok, Err, IfOk, OnOk, OnErr, sym, refl}
-use Rattle.am_shared_journal.proofs.Words.{ap, ◌∙◌, subst, arith, most_events, TableId, Record, SharerKey, Terms, SeatView, WireRefusal}
+use Rattle.am_shared_journal.proofs.Words.{ap, ◌∙◌, subst, arith, most_events_of_run, TableId, Record, SharerKey, Terms, SeatView, WireRefusal}
 use Rattle.am_shared_journal.proofs.Words.{times, Sat, seat_view, GoesOn, EachComesNext, SeatIsIdle, HasTurn, SeatTakes, Unites, Parts, AddsRecord, Known, known_by, Sees, Committed}
 use Rattle.am_shared_journal.proofs.Words.{times_of_append, records_go_on_through_both}
 use Rattle.am_shared_journal.proofs.{Keeps.log_follows_with_next_record, Passing.PassSitsAtSeat, Passing.records_go_on_equal_keys, Passing.first_key_splits_off, Passing.pass_sees_view_of_seat}
@@ -108,7 +108,7 @@ pub record SeatsHaveTheirBadges (p q : Known) (m o : Sat) (mine theirs : TableId
 pub commit_adds_record : (next : Terms → List Record → Record → Type 0) (p q : Known) (t : Sat) (item : Record) (answer : Result ℕ WireRefusal) (a m o : Sat)
     (mine theirs : TableId) (views others : List SeatView)
     → CommitHoldsRule next p q t → SatAfterCommit t item answer a → CommitLeavesSeats p q a m o → SeatsHaveTheirBadges p q m o mine theirs views others → IfOk answer (λ n. n ≡ length t.0.seen + 1)
-    → OnOk answer (length t.0.seen < most_events)
+    → OnOk answer (length t.0.seen < most_events_of_run)
     → IfOk answer (λ n. Committed (next p.terms) p q item n (known_by mine views) (known_by theirs others))
 commit_adds_record next p q t item (Ok n) a m o mine theirs views others holds later left badges number room = record {
   before = t.0.seen;

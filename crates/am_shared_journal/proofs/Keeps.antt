@@ -1,9 +1,9 @@
 -- Taking the slot, giving it back and counting a record keep the rule of a wire.
 use Rattle.am_shared_journal.proofs.Words.{◌≡◌, ◌≢◌, ◌⊎◌, ℕ, zero, suc, ◌+◌, ◌%◌, ◌^◌, ◌<◌, ◌≤◌, Bool, cond, true, false, true≢false, eqb, List, [], ◌∷◌, ◌++◌, length}
 use Rattle.am_shared_journal.proofs.Words.{take, drop, set, sym, refl, ap, ◌∙◌, subst, inl, inr, arith, append-nil, append_assoc, length-append, ap₂, slice_index, All}
-use Rattle.am_shared_journal.proofs.Words.{if◌then◌else◌, most_events, Option, none, some, some-injective, some-ne-none, get_elem?, either, ltb-true, eqb-true}
+use Rattle.am_shared_journal.proofs.Words.{if◌then◌else◌, most_events_of_run, Option, none, some, some-injective, some-ne-none, get_elem?, either, ltb-true, eqb-true}
 use Rattle.am_shared_journal.proofs.Words.{take-append_seam, drop-append_seam, All-append, step, keeps, takes, gives, stepped, Allows, put_back, rest, at_set, at_snoc}
-use Rattle.am_shared_journal.proofs.Words.{at_longer, set_again, set_else, place_of, Record, SharerKey, Place, Caller, Sight, Terms, SeatView, is_of, of_key, times, is_key}
+use Rattle.am_shared_journal.proofs.Words.{at_longer, set_again, set_else, place_of_name, Record, SharerKey, Place, Caller, Sight, Terms, SeatView, is_of, of_key, times, is_key}
 use Rattle.am_shared_journal.proofs.Words.{Page, seat_view, StartsWith, EachComesNext, ShownJournal, Sat, seats_with_key, Fits, IsFree, IsTaken, Stands, SeatIsIdle, HasTurn, take_step}
 use Rattle.am_shared_journal.proofs.Words.{page_records, count_step, give_step, log_is_start_and_rest, append_starts_with_front, starts_with_through_both, of_key_of_append, records_go_on_to_themselves}
 use Rattle.am_shared_journal.proofs.Views.{standing_after_set_view, keys_of_view_le_standing, two_view_keys_le_standing}
@@ -272,8 +272,8 @@ rule_allows_give_of_slot next terms slots id me has s k len at small =
 
 -- ---- counting a record
 
-is_own : (key : SharerKey) (r : Record) → is_of key r ≡ true → (key ≡ Place (place_of r.event.node)) ⊎ (key ≡ Caller r.by.caller)
-is_own (Place place) r is = inl (ap Place (sym (eqb-true (place_of r.event.node) place is)))
+is_own : (key : SharerKey) (r : Record) → is_of key r ≡ true → (key ≡ Place (place_of_name r.event.node)) ⊎ (key ≡ Caller r.by.caller)
+is_own (Place place) r is = inl (ap Place (sym (eqb-true (place_of_name r.event.node) place is)))
 is_own (Caller caller) r is = inr (ap Caller (sym (eqb-true r.by.caller caller is)))
 
 lone : (key : SharerKey) (r : Record) (b : Bool) → is_of key r ≡ b → of_key key (r ∷ []) ≡ cond b (r ∷ []) []
@@ -351,8 +351,8 @@ view_key_is_wire_key next terms s k key id v at has = let t = keys_of_view_le_st
 pub record MayCountRecord (next : Terms → List Record → Record → Type 0) (me : Sat) (r : Record) : Type 0 where
   pub turn : me.0.turn ≡ true
   pub page : me.1 ≡ (0, record { founding = me.0.terms.founding; records = me.0.seen ++ r ∷ [] }) ∷ []
-  pub room : length me.0.seen < most_events
-  pub place : 0 < times (Place (place_of r.event.node)) me.0.keys
+  pub room : length me.0.seen < most_events_of_run
+  pub place : 0 < times (Place (place_of_name r.event.node)) me.0.keys
   pub caller : 0 < times (Caller r.by.caller) me.0.keys
   pub lawful : next me.0.terms me.0.seen r
 

@@ -1,6 +1,6 @@
 -- What was looked through for a place needn't be looked through again.
 use Rattle.am_shared_journal.proofs.Words.{◌≡◌, ℕ, ◌<◌, ◌≤◌, List, [], ◌∷◌, ◌++◌, length, None, replicate, slice_index_or, slice_set, sym, ◌∙◌, subst, arith, All}
-use Rattle.am_shared_journal.proofs.Words.{length-set, length-replicate, All-set, All-weaker, All-replicate, Letter, Record, next_for, IsSeen, letters_of}
+use Rattle.am_shared_journal.proofs.Words.{length-set, length-replicate, All-set, All-weaker, All-replicate, Letter, Record, next_for, IsSeen, letters_of_records}
 use Rattle.am_shared_journal.proofs.Words.{letters_of_pushed_record, LetterLook, IsLook, AreLooks}
 use Rattle.am_group.proofs.Seen.{next_for_from_seen, letters_seen_of_append, letters_seen_up_to_number, letters_seen_without_next}
 
@@ -12,12 +12,12 @@ looks_without_letter_are_looks letters look after seen = record {
 }
 
 -- where letters come
-pub looks_after_one_record_more : (before : List Record) (item : Record) (looks : List LetterLook) → AreLooks (letters_of before) looks → AreLooks (letters_of (before ++ item ∷ [])) looks
+pub looks_after_one_record_more : (before : List Record) (item : Record) (looks : List LetterLook) → AreLooks (letters_of_records before) looks → AreLooks (letters_of_records (before ++ item ∷ [])) looks
 looks_after_one_record_more before item looks are = record {
   count = are.count;
   each = subst (λ letters. All (IsLook letters) looks) (sym (letters_of_pushed_record before item))
-      (All-weaker (IsLook (letters_of before)) (IsLook (letters_of before ++ item.packets))
-      (λ look is. letters_seen_of_append (letters_of before) item.packets look.name look.after look.seen is) looks are.each);
+      (All-weaker (IsLook (letters_of_records before)) (IsLook (letters_of_records before ++ item.packets))
+      (λ look is. letters_seen_of_append (letters_of_records before) item.packets look.name look.after look.seen is) looks are.each);
 }
 
 -- a letter for a name is found behind what was looked through for it

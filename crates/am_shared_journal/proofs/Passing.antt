@@ -1,5 +1,5 @@
 -- What a pass tells of its seat.
-use Rattle.am_shared_journal.proofs.Words.{◌≡◌, ◌<◌, ◌≤◌, List, [], ◌∷◌, ◌++◌, length, take, drop, sym, refl, ap, ◌∙◌, subst, arith, most_events}
+use Rattle.am_shared_journal.proofs.Words.{◌≡◌, ◌<◌, ◌≤◌, List, [], ◌∷◌, ◌++◌, length, take, drop, sym, refl, ap, ◌∙◌, subst, arith, most_events_of_run}
 use Rattle.am_shared_journal.proofs.Words.{TableId, Terms, SeatView, Record, SharerKey, Sat, longer_list, GoesOn, EachComesNext, SeatIsIdle, Unites, Parts, Known, known_by, OneSeatRests}
 use Rattle.am_shared_journal.proofs.Words.{Sees}
 
@@ -59,7 +59,7 @@ pub record PassesMeetAtSeat (next : Terms → List Record → Record → Type 0)
   pub keyed : (0 < length m.0.keys) × (0 < length o.0.keys)
   pub terms : (m.0.terms ≡ p.terms) × (o.0.terms ≡ q.terms)
   pub lawful : EachComesNext (next p.terms) m.0.seen
-  pub few : length m.0.seen ≤ most_events
+  pub few : length m.0.seen ≤ most_events_of_run
   pub keys : (m.0.keys ≡ p.keys) × (o.0.keys ≡ q.keys)
   pub goes : GoesOn p.keys p.seen m.0.seen × GoesOn q.keys q.seen o.0.seen
   pub longer : m.0.seen ≡ longer_list p.seen q.seen
@@ -78,7 +78,7 @@ passes_meet_at_seat next p q id other s r u m o sits its agree one unites parts 
       keyed = (subst (λ (ks : List SharerKey). 0 < length ks) (sym m_keys) sits.keyed, subst (λ (ks : List SharerKey). 0 < length ks) (sym o_keys) its.keyed);
       terms = (parts.terms ∙ terms, parts.other_terms ∙ terms ∙ sym agree);
       lawful = subst (EachComesNext (next p.terms)) (sym parts.seen) (subst (λ (x : Terms). EachComesNext (next x) u.0.seen) terms unites.lawful);
-      few = subst (λ (rs : List Record). length rs ≤ most_events) (sym parts.seen) unites.few;
+      few = subst (λ (rs : List Record). length rs ≤ most_events_of_run) (sym parts.seen) unites.few;
       keys = (m_keys ∙ sym sits.keys, o_keys ∙ sym its.keys);
       goes = (
         records_go_on_equal_keys s.0.keys p.keys s.0.seen p.seen u.0.seen m.0.seen (sym sits.keys) (sym sits.seen) (sym parts.seen) unites.mine,

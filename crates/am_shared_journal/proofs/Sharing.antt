@@ -1,8 +1,8 @@
 -- Looking at the count, splitting and joining seats keep the rule of a wire; how it begins, and what its last seat finds.
 use Rattle.am_shared_journal.proofs.Words.{◌≡◌, ℕ, zero, suc, ◌+◌, ◌<◌, ◌≤◌, Bool, cond, true, false, true≢false, List, [], ◌∷◌, ◌++◌, length, take, drop, map, set}
-use Rattle.am_shared_journal.proofs.Words.{sym, refl, ap, ◌∙◌, subst, inl, inr, arith, append-nil, length-append, eq-eqb, slice_index, All, if◌then◌else◌, most_events}
+use Rattle.am_shared_journal.proofs.Words.{sym, refl, ap, ◌∙◌, subst, inl, inr, arith, append-nil, length-append, eq-eqb, slice_index, All, if◌then◌else◌, most_events_of_run}
 use Rattle.am_shared_journal.proofs.Words.{none, some, some-injective, some-ne-none, get_elem?, lt-ltb, take-append-drop, length-take, mod-lt, step, opening, keeps}
-use Rattle.am_shared_journal.proofs.Words.{Allows, Splits, Joins, Final, Seen, rest, at_set, at_snoc, set_else, place_of, Record, SharerKey, Place, Caller, Sight, Terms}
+use Rattle.am_shared_journal.proofs.Words.{Allows, Splits, Joins, Final, Seen, rest, at_set, at_snoc, set_else, place_of_name, Record, SharerKey, Place, Caller, Sight, Terms}
 use Rattle.am_shared_journal.proofs.Words.{SeatView, is_of, of_key, same_key, times, all_keys, Page, seat_view, sight_of, no_terms, longer_list, StartsWith, GoesOn, EachComesNext, ShownJournal}
 use Rattle.am_shared_journal.proofs.Words.{Sat, seats_with_key, Fits, Stands, SeatLooks, look_step, Unites, HasEachKey, log_is_start_and_rest, of_key_of_append, records_go_on_to_themselves, times_of_append, times_of_cons}
 use Rattle.am_shared_journal.proofs.Words.{BothRecordsGoOn, both_records_go_on}
@@ -13,7 +13,7 @@ use Rattle.am_shared_journal.proofs.{Dealt.each_key_dealt_once}
 
 -- ---- looking
 
-no_longer : (log seen : List Record) → StartsWith log seen → length log ≤ most_events → length seen ≤ most_events
+no_longer : (log seen : List Record) → StartsWith log seen → length log ≤ most_events_of_run → length seen ≤ most_events_of_run
 no_longer log seen begins most = omega (arith, length-take (length seen) log, ap length begins)
 
 pub rule_allows_look_at_count : (next : Terms → List Record → Record → Type 0) (terms : Terms) (slots id : ℕ) (me : Sat) → me.0.turn ≡ false → me.1 ≡ []
@@ -136,11 +136,11 @@ rule_allows_join_of_seats next terms id other v w off gone keyed s k at apart th
 -- ---- the end
 
 all_rest : (seen rest : List Record)
-    → ((r : Record) → of_key (Place (place_of r.event.node)) (seen ++ rest) ≡ of_key (Place (place_of r.event.node)) seen) → rest ≡ []
+    → ((r : Record) → of_key (Place (place_of_name r.event.node)) (seen ++ rest) ≡ of_key (Place (place_of_name r.event.node)) seen) → rest ≡ []
 all_rest seen [] same = refl
 all_rest seen (r ∷ rest) same =
-    let key : SharerKey = Place (place_of r.event.node) in
-    let its : is_of key r ≡ true = eq-eqb (place_of r.event.node) (place_of r.event.node) refl in
+    let key : SharerKey = Place (place_of_name r.event.node) in
+    let its : is_of key r ≡ true = eq-eqb (place_of_name r.event.node) (place_of_name r.event.node) refl in
     let first : of_key key (r ∷ rest) ≡ r ∷ of_key key rest = ap (λ (b : Bool). cond b (r ∷ of_key key rest) (of_key key rest)) its in
     let whole : of_key key (seen ++ (r ∷ rest)) ≡ of_key key seen ++ (r ∷ of_key key rest) = of_key_of_append key seen (r ∷ rest)
     ∙ ap (λ (l : List Record). of_key key seen ++ l) first in
@@ -173,8 +173,8 @@ saw_all next terms s k id v at all =
     let goes = (k.fits id v at).goes in
     let is : k.log ≡ v.seen ++ drop (length v.seen) k.log = log_is_start_and_rest k.log v.seen goes.begins in
     is ∙ ap (λ (l : List Record). v.seen ++ l) (all_rest v.seen (drop (length v.seen) k.log) (λ r.
-    let key : SharerKey = Place (place_of r.event.node) in
-    ap (of_key key) (sym is) ∙ goes.own key (all key (lt-ltb (place_of r.event.node) 16 (mod-lt r.event.node (omega arith)))))) ∙ append-nil v.seen
+    let key : SharerKey = Place (place_of_name r.event.node) in
+    ap (of_key key) (sym is) ∙ goes.own key (all key (lt-ltb (place_of_name r.event.node) 16 (mod-lt r.event.node (omega arith)))))) ∙ append-nil v.seen
 
 ends : (next : Terms → List Record → Record → Type 0) (terms : Terms) (s : ShownJournal) → Stands next terms s → (id : ℕ) (v : SeatView)
     → get_elem? s.views id ≡ some v → v.turn ≡ false

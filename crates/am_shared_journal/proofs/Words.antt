@@ -17,10 +17,10 @@ pub use mathlib.Core.Logic.{dite}
 pub use mathlib.Core.Option.{Option, none, some, some-injective, some-ne-none}
 pub use native.Mathlib.Decide.{ℕ_discrete}
 pub use prog.Atomic.{either}
-pub use Rattle.am_base.specs.{Most.most_events, Names.place_of}
+pub use Rattle.am_base.specs.{Most.most_events_of_run, Names.place_of_name}
 pub use Rattle.am_packet.specs.Boxes.{Letter}
 pub use Rattle.am_group.proofs.Places.{letters_of_pushed_record}
-pub use Rattle.am_group.specs.{Addressed.next_for, Addressed.IsSeen, Journals.letters_of, declared.event.Record.Record}
+pub use Rattle.am_group.specs.{Addressed.next_for, Addressed.IsSeen, Journals.letters_of_records, declared.event.Record.Record}
 pub use Rattle.am_shared_journal_defs.proofs.Sights.{log_is_start_and_rest, append_starts_with_front, starts_with_through_both, of_key_of_append, records_go_on_to_themselves, records_go_on_through_both, times_of_append, times_of_cons, BothRecordsGoOn, both_records_go_on}
 pub use Rattle.am_shared_journal_defs.specs.Keys.{same_key, times, is_key, all_keys, is_of, of_key}
 pub use Rattle.am_shared_journal_defs.specs.Passes.{Known, Sees, Committed, fresh, Joined, Gathered, HasEachKey}

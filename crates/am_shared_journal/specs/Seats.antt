@@ -1,7 +1,7 @@
 -- The rule of the wire, and what its steps tell.
 use Rattle.std.specs.Prelude.{◌≡◌, ◌≢◌, ◌⊎◌, ℕ, ◌<◌, ◌≤◌, Bool, true, false, List, [], ◌∷◌, ◌++◌, length, take, drop, slice_index}
 use Rattle.std.specs.Prelude.{if◌then◌else◌, All, sum_by}
-use Rattle.am_base.specs.Most.{most_events}
+use Rattle.am_base.specs.Most.{most_events_of_run}
 use Rattle.am_base.specs.Founding.{Rules}
 use mathlib.Core.Option.{none, some}
 use lib.ListN.{get_elem?}
@@ -72,7 +72,7 @@ pub record Stands (next : Terms → List Record → Record → Type 0) (terms : 
   pub log : List Record
   pub two : length s.words ≡ 2
   pub count : slice_index s.words 1 ≡ length log
-  pub most : length log ≤ most_events
+  pub most : length log ≤ most_events_of_run
   pub lawful : EachComesNext (next terms) log
   pub callers : All (λ r. r.by.caller < terms.callers) log
   pub once : (key : SharerKey) → seats_with_key key s.views ≡ (if is_key terms.callers key then 1 else 0)
@@ -99,7 +99,7 @@ pub record SeatTakes (next : Terms → List Record → Record → Type 0) (m m' 
   pub turn : HasTurn m'
   pub keys : m'.0.keys ≡ m.0.keys
   pub goes : GoesOn m.0.keys m.0.seen m'.0.seen
-  pub most : length m'.0.seen ≤ most_events
+  pub most : length m'.0.seen ≤ most_events_of_run
   pub terms : m'.0.terms ≡ m.0.terms
   pub lawful : EachComesNext (next m'.0.terms) m'.0.seen
 
@@ -122,7 +122,7 @@ pub record SeatLooks (next : Terms → List Record → Record → Type 0) (m m' 
   pub same : m' ≡ (seat_view m.0.terms m.0.keys m.0.seen [] false, [])
   pub goes : All (λ o. GoesOn o.keys o.seen m.0.seen) m.0.older
   pub lawful : 0 < length m.0.keys → EachComesNext (next m.0.terms) m.0.seen
-  pub few : length m.0.seen ≤ most_events
+  pub few : length m.0.seen ≤ most_events_of_run
 
 abbrev pub look_step : (Terms → List Record → Record → Type 0) → Step Page → Sat → ℕ → Sat → Type 0
 look_step next st m n m' = SeatLooks next m m'
@@ -132,7 +132,7 @@ pub record Unites (next : Terms → List Record → Record → Type 0) (v w : Se
   pub idle : SeatIsIdle m
   pub terms : m.0.terms ≡ v.terms
   pub lawful : EachComesNext (next m.0.terms) m.0.seen
-  pub few : length m.0.seen ≤ most_events
+  pub few : length m.0.seen ≤ most_events_of_run
   pub keys : m.0.keys ≡ w.keys ++ v.keys
   pub seen : m.0.seen ≡ longer_list v.seen w.seen
   pub mine : GoesOn v.keys v.seen m.0.seen

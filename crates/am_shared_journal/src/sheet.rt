@@ -1,7 +1,7 @@
 ghost use Rattle.std.specs.Prelude.{◌≡◌, ◌<◌, ◌≤◌, ◌++◌, ◌∷◌, [], length, OnOk, OnErr, if◌then◌else◌};
-ghost use Rattle.am_base.specs.Most.{most_events};
+ghost use Rattle.am_base.specs.Most.{most_events_of_run};
 ghost use Rattle.am_group.specs.Addressed.{next_for};
-ghost use Rattle.am_group.specs.Journals.{letters_of, letter_at};
+ghost use Rattle.am_group.specs.Journals.{letters_of_records, letter_at};
 ghost use Rattle.am_shared_journal_defs.specs.Stops.{is_stop, with_stop, stopped_names};
 
 use am_base::NoMemory;
@@ -33,7 +33,7 @@ pub struct Sheet {
 
 impl Model for Sheet {
     ghost use Rattle.std.specs.Prelude.{◌≡◌};
-    ghost use Rattle.am_group.specs.Journals.{letters_of};
+    ghost use Rattle.am_group.specs.Journals.{letters_of_records};
     ghost use Rattle.am_shared_journal_defs.specs.Stops.{stopped_names};
     ghost use Rattle.am_shared_journal.specs.Looks.{AreLooks};
     ghost use Rattle.am_shared_journal.specs.Seats.{Page};
@@ -43,7 +43,7 @@ impl Model for Sheet {
     ghost view = { λ s. record { founding = s.journal.founding; records = s.journal.records } };
 
     ghost invariant = { λ s. (s.stopped ≡ stopped_names s.journal.records)
-        × AreLooks (letters_of s.journal.records) s.looks };
+        × AreLooks (letters_of_records s.journal.records) s.looks };
 }
 
 /// Whether an act is a stop.
@@ -86,7 +86,7 @@ impl Sheet {
     /// How many records there are.
     pub fn len(&self) -> usize
         ensures value { result ≡ length self.now.records }
-        ensures few { result ≤ most_events }
+        ensures few { result ≤ most_events_of_run }
     {
         self.journal.records().len()
     }
@@ -94,7 +94,7 @@ impl Sheet {
     /// Adds a record, or leaves all as it was where there is no memory.
     #[tactic(auto, using(crate::proofs::Looks::looks_after_one_record_more))]
     pub fn add(&mut self, item: Record) -> Result<(), NoMemory>
-        requires few { length self.old.records < most_events }
+        requires few { length self.old.records < most_events_of_run }
         requires letters { length item.packets ≤ 24 }
         ensures founding { self.new.founding ≡ self.old.founding }
         ensures ok { OnOk result (self.new.records ≡ self.old.records ++ item ∷ []) }
@@ -108,7 +108,7 @@ impl Sheet {
 
     /// A letter by its number, from 1.
     pub fn letter(&self, number: u32) -> Option<LetterCopy>
-        ensures { result ≡ letter_at (letters_of self.now.records) number }
+        ensures { result ≡ letter_at (letters_of_records self.now.records) number }
     {
         match self.journal.packet(number) {
             Some(letter) => Some(letter.copy()),
@@ -119,8 +119,8 @@ impl Sheet {
     /// From where on the letters above a number are to be looked through for a name.
     #[tactic(auto, using(crate::proofs::Looks::next_for_from_last_look))]
     fn from(&self, node: Name, after: u32) -> u32
-        ensures { next_for (letters_of self.now.records) node result
-            ≡ next_for (letters_of self.now.records) node after }
+        ensures { next_for (letters_of_records self.now.records) node result
+            ≡ next_for (letters_of_records self.now.records) node after }
     {
         let look = self.looks[usize::from(node.place())];
         if look.name == node && look.after == after {
@@ -134,7 +134,7 @@ impl Sheet {
     /// again.
     #[tactic(auto, using(crate::proofs::Looks::looks_after_one_look_more))]
     pub fn next_for(&mut self, node: Name, after: u32) -> Option<u32>
-        ensures value { result ≡ next_for (letters_of self.old.records) node after }
+        ensures value { result ≡ next_for (letters_of_records self.old.records) node after }
         ensures same { self.new ≡ self.old }
     {
         let from = self.from(node, after);

@@ -1,8 +1,8 @@
 ghost use Rattle.std.specs.Prelude.{◌≡◌, ◌+◌, ◌*◌, ◌<◌, ◌≤◌, ◌↔◌, [], ◌∷◌, false, length, take, drop, map, All, IfOk, IfErr, IfSome, OnOk, OnErr};
-ghost use Rattle.am_base.specs.Most.{most_events};
-ghost use Rattle.am_base.specs.Names.{place_of};
+ghost use Rattle.am_base.specs.Most.{most_events_of_run};
+ghost use Rattle.am_base.specs.Names.{place_of_name};
 ghost use Rattle.am_group.specs.Addressed.{next_for};
-ghost use Rattle.am_group.specs.Journals.{letters_of, letter_at};
+ghost use Rattle.am_group.specs.Journals.{letters_of_records, letter_at};
 ghost use Rattle.am_shared_journal_defs.specs.declared.terms.SharerKey.TheVariants.{Place, Caller};
 ghost use Rattle.am_shared_journal_defs.specs.declared.terms.WireRefusal.TheVariants as refusals;
 ghost use Rattle.am_shared_journal_defs.specs.Keys.{place_keys, caller_keys, all_keys, times};
@@ -167,18 +167,18 @@ impl<L: Law> Wire<L> {
     fn add(&self, seat: &mut TableSeat, item: Record) -> Result<u32, WireRefusal>
         requires own { seat.old.table_id ≡ self.now.id }
         requires turn { HasTurn seat.old.me }
-        requires most { length seat.old.me.0.seen ≤ most_events }
-        requires place { 0 < times (Place (place_of item.event.node)) seat.old.me.0.keys }
+        requires most { length seat.old.me.0.seen ≤ most_events_of_run }
+        requires place { 0 < times (Place (place_of_name item.event.node)) seat.old.me.0.keys }
         requires caller { 0 < times (Caller item.by.caller) seat.old.me.0.keys }
         requires few { length item.packets ≤ 24 }
         requires next { L.next seat.old.me.0.terms seat.old.me.0.seen item }
         ensures same { seat.new.table_id ≡ seat.old.table_id }
         ensures ok { OnOk result (AddsRecord seat.old.me item seat.new.me) }
         ensures number { IfOk result (λ n. n ≡ length seat.old.me.0.seen + 1) }
-        ensures room { OnOk result (length seat.old.me.0.seen < most_events) }
+        ensures room { OnOk result (length seat.old.me.0.seen < most_events_of_run) }
         ensures err { OnErr result (seat.new.me ≡ seat.old.me) }
         ensures spent { IfErr result (λ e. e ≡ refusals.Spent
-            ↔ (length seat.old.me.0.seen ≡ most_events)) }
+            ↔ (length seat.old.me.0.seen ≡ most_events_of_run)) }
     {
         let sheet = seat.slot_mut(&self.table.shared, 0);
         let count = sheet.len();
@@ -261,7 +261,7 @@ impl<L: Law> Wire<L> {
         ensures longer { pass.new.seen ≡ longer_list pass.old.seen share.old.seen }
         ensures lawful { EachComesNext (L.next pass.old.terms) pass.new.seen }
         ensures both { share.new.seen ≡ pass.new.seen }
-        ensures few { length pass.new.seen ≤ most_events }
+        ensures few { length pass.new.seen ≤ most_events_of_run }
     {
         let mut seat = seat_in(&mut pass.badge);
         self.unite(&mut seat, seat_in(&mut share.badge));
@@ -286,7 +286,7 @@ impl<L: Law> Wire<L> {
         ensures lawful { EachComesNext (L.next pass.old.terms) pass.new.seen }
         ensures both { share.new.seen ≡ pass.new.seen }
         ensures spent { IfErr result (λ e. e ≡ refusals.Spent
-            ↔ (length pass.new.seen ≡ most_events)) }
+            ↔ (length pass.new.seen ≡ most_events_of_run)) }
     {
         let mut seat = seat_in(&mut pass.badge);
         self.unite(&mut seat, seat_in(&mut share.badge));
@@ -302,7 +302,7 @@ impl<L: Law> Wire<L> {
     pub fn read<R: Wait>(&self, rt: &R, pass: &mut Pass, number: u32) -> Option<LetterCopy>
         requires own { pass.old.wire ≡ self.now.id }
         ensures sees { Sees pass.old pass.new }
-        ensures letter { result ≡ letter_at (letters_of pass.new.seen) number }
+        ensures letter { result ≡ letter_at (letters_of_records pass.new.seen) number }
         ensures lawful { EachComesNext (L.next pass.old.terms) pass.new.seen }
     {
         let mut seat = seat_in(&mut pass.badge);
@@ -318,7 +318,7 @@ impl<L: Law> Wire<L> {
     pub fn next_for<R: Wait>(&self, rt: &R, pass: &mut Pass, node: Name, after: u32) -> Option<u32>
         requires own { pass.old.wire ≡ self.now.id }
         ensures sees { Sees pass.old pass.new }
-        ensures value { result ≡ next_for (letters_of pass.new.seen) node after }
+        ensures value { result ≡ next_for (letters_of_records pass.new.seen) node after }
         ensures lawful { EachComesNext (L.next pass.old.terms) pass.new.seen }
     {
         let mut seat = seat_in(&mut pass.badge);

@@ -1,14 +1,14 @@
 -- Keys: whose records a pass knows.
 use Rattle.std.specs.Prelude.{ℕ, List, ◌++◌, map, Bool, false, ◌==◌, nat_lt, filter, count_by}
 use Rattle.std.specs.List.{range_with_len}
-use Rattle.am_base.specs.Names.{place_of}
+use Rattle.am_base.specs.Names.{place_of_name}
 use Rattle.am_group.specs.declared.event.Record.{Record}
 use Rattle.am_shared_journal_defs.specs.declared.terms.SharerKey.{SharerKey}
 use Rattle.am_shared_journal_defs.specs.declared.terms.SharerKey.TheVariants.{Place, Caller}
 
 -- whether a record was done at a place, or by a caller
 abbrev pub is_of : SharerKey → Record → Bool
-is_of (Place place) r = place_of r.event.node == place
+is_of (Place place) r = place_of_name r.event.node == place
 is_of (Caller caller) r = r.by.caller == caller
 
 -- the records of a key, in order

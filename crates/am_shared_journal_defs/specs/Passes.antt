@@ -1,7 +1,7 @@
 -- What a pass to a shared journal knows of it.
 use Rattle.std.specs.Prelude.{◌≡◌, ℕ, ◌+◌, ◌<◌, ◌≤◌, List, [], ◌∷◌, ◌++◌, length, true, All, sum_by}
-use Rattle.am_base.specs.Most.{most_events}
-use Rattle.am_base.specs.Names.{place_of}
+use Rattle.am_base.specs.Most.{most_events_of_run}
+use Rattle.am_base.specs.Names.{place_of_name}
 use Rattle.atomic_table.specs.Seated.{TableId}
 use Rattle.am_group.specs.declared.event.Record.{Record}
 use Rattle.am_shared_journal_defs.specs.declared.terms.SharerKey.{SharerKey}
@@ -45,7 +45,7 @@ pub record Joined (p q p' : Known) : Type 0 where
 pub record IsReady (next : List Record → Record → Type 0) (wire : TableId) (p q : Known) (item : Record) : Type 0 where
   pub own : (p.wire ≡ wire) × (q.wire ≡ wire)
   pub terms : q.terms ≡ p.terms
-  pub place : p.keys ≡ Place (place_of item.event.node) ∷ []
+  pub place : p.keys ≡ Place (place_of_name item.event.node) ∷ []
   pub caller : q.keys ≡ Caller item.by.caller ∷ []
   pub few : length item.packets ≤ 24
   pub next_ : (before : List Record) → GoesOn p.keys p.seen before → GoesOn q.keys q.seen before → EachComesNext next before → next before item
@@ -53,7 +53,7 @@ pub record IsReady (next : List Record → Record → Type 0) (wire : TableId) (
 -- the record was added to the journal, which both have then seen: what was there before went on from what each had seen
 pub record Committed (next : List Record → Record → Type 0) (p q : Known) (item : Record) (count : ℕ) (p' q' : Known) : Type 0 where
   pub before : List Record
-  pub room : length before < most_events
+  pub room : length before < most_events_of_run
   pub number : count ≡ length before + 1
   pub pass : GoesOn p.keys p.seen before
   pub share : GoesOn q.keys q.seen before

@@ -4,7 +4,7 @@ use Rattle.am_io.specs.Outside.{GaveAtMost}
 use Rattle.am_base.specs.Founding.{Rules, MayFound}
 use Rattle.am_group.specs.declared.event.Event.{Event}
 use Rattle.am_group.specs.declared.plan.RacePlan.{RacePlan}
-use Rattle.am_group_defs.specs.Play.{watched_text, text_of}
+use Rattle.am_group_defs.specs.Play.{text_of_watch, play_text_of}
 use Rattle.am_trace_laws.specs.Claims.{ReadsAs, AgreesAs, IsOfOneList}
 use Rattle.am_cli_words.specs.declared.form.RunText.TheVariants as shown
 use Rattle.am_cli_words.specs.declared.form.Form.{Form}
@@ -49,15 +49,15 @@ keeps_all rules events may = keeps_more rules events may (run_of_script_is_kept 
 
 -- the text of a run that was settled, or not
 run_text : (founding : Rules) (events : List Event) (settles : Bool) (text : List ℕ) → text ≡ shown_text shown.Text founding (run_watch founding events settles)
-    → text_of founding (done_of founding events settles) ≡ text
+    → play_text_of founding (done_of founding events settles) ≡ text
 unfolding shown_text
-run_text founding events settles text is = ap (watched_text founding) (watch_run_of_done_script founding events settles) ∙ sym is
+run_text founding events settles text is = ap (text_of_watch founding) (watch_run_of_done_script founding events settles) ∙ sym is
 
 -- what am_player says of what was read and written is all that is claimed of a play
 played_by : (what : RunText) (bytes text : List ℕ) → PlayedBy (shown_text what) bytes text → Played what bytes text
 played_by what bytes text p =
     let done = done_of p.founding p.events p.settles in
-    let whole : what ≡ shown.Text → text_of p.founding done ≡ text =
+    let whole : what ≡ shown.Text → play_text_of p.founding done ≡ text =
     λ is. run_text p.founding p.events p.settles text (p.written ∙ ap (λ w. shown_text w p.founding (run_watch p.founding p.events p.settles)) is) in
     let reads : what ≡ shown.Text → ReadsAs p.founding done text =
     λ is. subst (ReadsAs p.founding done) (whole is) (text_of_play_is_read bytes p.founding p.events p.settles p.script p.within p.few) in

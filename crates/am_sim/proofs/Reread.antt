@@ -3,7 +3,7 @@ use Rattle.std.proofs.Common.{◌≡◌, ℕ, zero, suc, ◌+◌, ◌≤◌, Lis
 use Rattle.std.specs.Prelude.{All}
 use Rattle.std.proofs.lemmas.List.{length-map}
 use Rattle.std.proofs.lemmas.List.Elements.{All-nil, All-cons, All-append, All-head, All-tail, All-weaker, All-map}
-use Rattle.am_base.specs.Most.{most_events}
+use Rattle.am_base.specs.Most.{most_events_of_run}
 use Rattle.am_base.specs.Founding.{Rules, MayFound}
 use Rattle.am_packet.specs.Boxes.{Letter}
 use Rattle.am_group.specs.declared.event.Act.{Act}
@@ -13,9 +13,9 @@ use Rattle.am_group.specs.declared.event.Record.{Record}
 use Rattle.am_group.specs.declared.plan.RacePlan.{RacePlan}
 use Rattle.am_group.specs.declared.plan.ThreadPlan.{ThreadPlan}
 use Rattle.am_group_defs.specs.World.{World, run}
-use Rattle.am_group_defs.specs.Settle.{Settling, settle_then, event_at, ticks, hearings_of, hearings_from, hearings, waves, round, rounds, round_count, settle_events}
-use Rattle.am_group_defs.specs.Play.{text_of}
-use Rattle.am_step_laws.specs.Bytes.{BodyWithin, IsShort}
+use Rattle.am_group_defs.specs.Settle.{Settling, settle_then, event_at, ticks_of_places, hearings_of, hearings_from, hearings, settle_waves, round, settle_rounds, round_count, settle_events}
+use Rattle.am_group_defs.specs.Play.{play_text_of}
+use Rattle.am_step_laws.specs.Bytes.{BodyIsWithinLimit, IsRunWithinScriptLimits}
 use Rattle.am_script_defs.specs.Schedules.{script_text, IsOfBytes, AreOfBytes}
 use Rattle.am_script_defs.specs.Scripts.{script_of, script_reading}
 use Rattle.am_script_defs.specs.Races.{race_reading}
@@ -53,7 +53,7 @@ at_places : (a : Act) (places : List ℕ) → HasBody a → All Has (map (λ pla
 at_places a [] has = All-nil Has
 at_places a (place ∷ places) has = All-cons Has (event_at place a) (map (λ p. event_at p a) places) has (at_places a places has)
 
-bare : (a : Act) → BodyWithin a → IsOfBytes a → HasBody a
+bare : (a : Act) → BodyIsWithinLimit a → IsOfBytes a → HasBody a
 bare a within bytes = record { within = within; bytes = bytes }
 
 heard_have : (w : World) (number : ℕ) (letters : List Letter) → All Has (hearings_from w number letters)
@@ -62,19 +62,19 @@ heard_have w number [] = All-nil Has
 heard_have w number (l ∷ ls) = All-append Has (hearings_of w number l) (hearings_from w (number + 1) ls)
     (at_places (act.Hear number) _ (bare (act.Hear number) tt tt)) (heard_have w (number + 1) ls)
 
-waves_have : (left after : ℕ) (s : Settling) → All Has s.events → All Has (waves left after s).events
-unfolding waves
+waves_have : (left after : ℕ) (s : Settling) → All Has s.events → All Has (settle_waves left after s).events
+unfolding settle_waves
 waves_have zero after s has = has
 waves_have (suc left) after s has =
     waves_have left (length s.world.letters) (settle_then s (hearings s.world after))
     (All-append Has s.events (hearings s.world after) has (heard_have s.world (after + 1) _))
 
 round_has : (s : Settling) → All Has s.events → All Has (round s).events
-round_has s has = waves_have 5 (length s.world.letters) (settle_then s (ticks s.world))
-    (All-append Has s.events (ticks s.world) has (at_places act.Tick _ (bare act.Tick tt tt)))
+round_has s has = waves_have 5 (length s.world.letters) (settle_then s (ticks_of_places s.world))
+    (All-append Has s.events (ticks_of_places s.world) has (at_places act.Tick _ (bare act.Tick tt tt)))
 
-rounds_have : (left : ℕ) (s : Settling) → All Has s.events → All Has (rounds left s).events
-unfolding rounds
+rounds_have : (left : ℕ) (s : Settling) → All Has s.events → All Has (settle_rounds left s).events
+unfolding settle_rounds
 rounds_have zero s has = has
 rounds_have (suc left) s has = rounds_have left (round s) (round_has s has)
 
@@ -88,10 +88,10 @@ done_have rules events false has = has
 
 -- ---- plays
 
-short : (rules : Rules) (events : List Event) → MayFound rules → All Has events → length events ≤ most_events → IsShort rules events
+short : (rules : Rules) (events : List Event) → MayFound rules → All Has events → length events ≤ most_events_of_run → IsRunWithinScriptLimits rules events
 short rules events founds has few = record {
   founds = founds;
-  bodies = All-weaker Has (λ (e : Event). BodyWithin e.act) (λ e h. h.within) events has;
+  bodies = All-weaker Has (λ (e : Event). BodyIsWithinLimit e.act) (λ e h. h.within) events has;
   few = few;
 }
 
@@ -104,16 +104,16 @@ play_has bytes founding events settles is within =
     done_have founding events settles (events_have events within.each (script_plays_are_of_bytes bytes founding events settles is))
 
 pub text_of_play_is_read : (bytes : List ℕ) (founding : Rules) (events : List Event) (settles : Bool) → script_reading bytes ≡ Ok (script_of founding events settles)
-    → ScriptIsWithin founding events → length (done_of founding events settles) ≤ most_events
-    → ReadsAs founding (done_of founding events settles) (text_of founding (done_of founding events settles))
+    → ScriptIsWithin founding events → length (done_of founding events settles) ≤ most_events_of_run
+    → ReadsAs founding (done_of founding events settles) (play_text_of founding (done_of founding events settles))
 text_of_play_is_read bytes founding events settles is within few =
     let done = done_of founding events settles in
     let has = play_has bytes founding events settles is within in
     runs_have_their_texts founding done (short founding done within.may_found has few) (of_bytes done has)
 
 pub text_of_play_agrees : (bytes : List ℕ) (founding : Rules) (events : List Event) (settles : Bool) → script_reading bytes ≡ Ok (script_of founding events settles)
-    → ScriptIsWithin founding events → length (done_of founding events settles) ≤ most_events → IsOfOneList founding (done_of founding events settles)
-    → AgreesAs founding (done_of founding events settles) (text_of founding (done_of founding events settles))
+    → ScriptIsWithin founding events → length (done_of founding events settles) ≤ most_events_of_run → IsOfOneList founding (done_of founding events settles)
+    → AgreesAs founding (done_of founding events settles) (play_text_of founding (done_of founding events settles))
 text_of_play_agrees bytes founding events settles is within few one =
     let done = done_of founding events settles in
     let has = play_has bytes founding events settles is within in
@@ -152,7 +152,7 @@ race_script_is_read_again bytes plan journal is within raced again =
     again (races_have_scripts plan journal within (race_threads bytes plan is within) raced.few raced.legal)
     (of_bytes (events_of journal) (race_has bytes plan journal is within raced))
 
-race_few : (plan : RacePlan) (journal : List Record) → IsRaced plan journal → length (events_of journal) ≤ most_events
+race_few : (plan : RacePlan) (journal : List Record) → IsRaced plan journal → length (events_of journal) ≤ most_events_of_run
 race_few plan journal raced = let few = raced.few in omega (arith, length-map journal (λ (r : Record). r.event), few)
 
 pub text_of_race_is_read : (bytes : List ℕ) (plan : RacePlan) (journal : List Record) → race_reading bytes ≡ Ok plan → RaceWithin plan → IsRaced plan journal

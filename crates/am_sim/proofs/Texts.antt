@@ -6,7 +6,7 @@ use Rattle.am_group.specs.declared.event.Record.{Record}
 use Rattle.am_group_defs.specs.World.{World}
 use Rattle.am_group_defs.specs.Group.{logs}
 use Rattle.am_group_defs.specs.Lawful.{Watch, watch_run, broken_at}
-use Rattle.am_group_defs.specs.Play.{watched_text, summary_of, summary_text_of}
+use Rattle.am_group_defs.specs.Play.{text_of_watch, summary_of, summary_text_of}
 use Rattle.am_services.specs.Texts.{messages_text, directories_text, snapshots_text}
 use Rattle.am_cli_words.specs.declared.form.RunText.{RunText}
 use Rattle.am_cli_words.specs.declared.form.RunText.TheVariants as shown
@@ -22,7 +22,7 @@ use Rattle.am_world.specs.Runs.{replay}
 use Rattle.am_player.specs.Runs.{logged_in}
 use Rattle.am_player.proofs.Texts.{text_told_of_watched_run}
 
-pub text_shown_of_world : (p : worlds.Play) (text : List ℕ) → text ≡ watched_text p.rules (watch_run p.rules p.events)
+pub text_shown_of_world : (p : worlds.Play) (text : List ℕ) → text ≡ text_of_watch p.rules (watch_run p.rules p.events)
     → text ≡ shown_text shown.Text p.rules (watch_run p.rules p.events)
 unfolding shown_text
 text_shown_of_world p text is = is

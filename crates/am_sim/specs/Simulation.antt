@@ -1,13 +1,13 @@
 -- What a call of the program did.
 use Rattle.std.specs.Prelude.{◌≡◌, ◌≢◌, ℕ, ◌≤◌, true, false, List, [], ◌++◌, length, map, Option, Some, Ok, Err, Bool}
 use Rattle.std.specs.Borrow.{Bor}
-use Rattle.am_base.specs.Most.{most_events}
+use Rattle.am_base.specs.Most.{most_events_of_run}
 use Rattle.am_base.specs.Founding.{Rules}
 use Rattle.am_group.specs.declared.event.Event.{Event}
 use Rattle.am_group.specs.declared.event.Record.{Record}
 use Rattle.am_group.specs.declared.plan.RacePlan.{RacePlan}
 use Rattle.am_group.specs.Deliveries.{deliveries}
-use Rattle.am_model.specs.Node.{has_log}
+use Rattle.am_model.specs.Node.{has_log_by_status}
 use Rattle.am_group_defs.specs.Play.{summary_text_of}
 use Rattle.am_group_defs.specs.Text.{newline}
 use Rattle.am_script_defs.specs.Scripts.{script_of, script_reading}
@@ -36,7 +36,7 @@ use Rattle.am_cli_words.specs.declared.form.Form.TheVariants as form
 use Rattle.am_cli_words.specs.declared.form.SeedAndCount.{SeedAndCount}
 use Rattle.am_cli_words.specs.declared.form.RunText.{RunText}
 use Rattle.am_cli_words.specs.declared.form.RunText.TheVariants as shown
-use Rattle.am_service_defs.specs.Parts.{most_message}
+use Rattle.am_service_defs.specs.Parts.{most_bytes_of_message}
 use Rattle.am_services.specs.Texts.{parts_text}
 use Rattle.am_script_defs.specs.Schedules.{script_text}
 use Rattle.am_player.specs.declared.status.ExitStatus.{ExitStatus}
@@ -44,7 +44,7 @@ use Rattle.am_player.specs.declared.status.ExitStatus.TheVariants.{Done, WriteFa
 
 -- the most that is read for a form
 abbrev pub most_bytes_of : Option Form → ℕ
-most_bytes_of (Some form.Parts) = most_message
+most_bytes_of (Some form.Parts) = most_bytes_of_message
 most_bytes_of _ = most_input
 
 -- the form of words
@@ -57,7 +57,7 @@ form_of_words words = form_of (map (λ word. word.now) words)
 pub record SimulatedRunKeeps (rules : Rules) (events : List Event) : Type 0 where
   pub run : KeepsRun rules events
   pub messages : (name : ℕ) → deliveries (world_at_front rules events).records name ≢ [] → (start : ℕ) × Delivered rules (world_at_front rules events) name start
-  pub replicas : (name : ℕ) → has_log ((world_at_front rules events).nodes name).status ≡ true → ReplicaHolds rules (world_at_front rules events) name
+  pub replicas : (name : ℕ) → has_log_by_status ((world_at_front rules events).nodes name).status ≡ true → ReplicaHolds rules (world_at_front rules events) name
 
 -- what was read is a script, what was written is shown of its run, which has at most 100,000 events, and that run keeps what is claimed; where it is
 -- settled, it is repaired, and what stands is answered. Where the run's text was written, an audit reads it as that run; and where the run is lawful, or
@@ -68,7 +68,7 @@ pub record Played (what : RunText) (bytes text : List ℕ) : Type 0 where
   pub settles : Bool
   pub script : script_reading bytes ≡ Ok (script_of founding events settles)
   pub written : text ≡ shown_text what founding (run_watch founding events settles)
-  pub few : length (done_of founding events settles) ≤ most_events
+  pub few : length (done_of founding events settles) ≤ most_events_of_run
   pub keeps : SimulatedRunKeeps founding (done_of founding events settles)
   pub repaired : settles ≡ true → Repaired founding events
   pub answered : settles ≡ true → SendsAreAnswered founding events
@@ -101,7 +101,7 @@ IsSummary _ text = ⊥
 
 -- what was read is a message, and what was written are its parts, a line each
 pub record Parted (bytes text : List ℕ) : Type 0 where
-  pub few : length bytes ≤ most_message
+  pub few : length bytes ≤ most_bytes_of_message
   pub written : text ≡ parts_text bytes
 
 -- a text has the parts of the message that was read to the end of what was left

@@ -1,5 +1,5 @@
 ghost use Rattle.std.specs.Prelude.{◌≡◌, ◌<◌, ◌≤◌, Ok, IfOk, IfErr, string_bytes};
-ghost use Rattle.am_base.specs.Most.{most_events};
+ghost use Rattle.am_base.specs.Most.{most_events_of_run};
 ghost use Rattle.am_group_defs.specs.Play.{summary_text_of};
 ghost use Rattle.am_text_output.specs.Summaries.{summary_for};
 ghost use Rattle.am_generator.specs.Courses.{IsCourse};
@@ -22,8 +22,8 @@ use std::alloc::Global;
 
 /// What was made of two numbers, of which the second is at most 100,000, or that there was no memory for it.
 fn made_of<T>(count: u32, made: Result<T, WorldRefusal>) -> Result<T, NoMemory>
-    requires few { count ≤ most_events }
-    requires spent { IfErr made (λ refusal. refusal ≡ refusals.Spent → most_events < count) }
+    requires few { count ≤ most_events_of_run }
+    requires spent { IfErr made (λ refusal. refusal ≡ refusals.Spent → most_events_of_run < count) }
     ensures { IfOk result (λ value. made ≡ Ok value) }
 {
     match made {
@@ -51,7 +51,7 @@ fn summary_of(course: &Course) -> Summary
 
 /// The summary of their run.
 pub fn summary_of_run(alloc: Global, numbers: SeedAndCount) -> Result<String, NoMemory>
-    requires { numbers.count ≤ most_events }
+    requires { numbers.count ≤ most_events_of_run }
     ensures { IfOk result (λ text. Generated numbers (string_bytes text)) }
 {
     let made = generate(alloc, numbers.seed, numbers.count);
@@ -63,7 +63,7 @@ pub fn summary_of_run(alloc: Global, numbers: SeedAndCount) -> Result<String, No
 
 /// The script of their run, in one line.
 pub fn script_of_run(alloc: Global, numbers: SeedAndCount) -> Result<String, NoMemory>
-    requires { numbers.count ≤ most_events }
+    requires { numbers.count ≤ most_events_of_run }
     ensures { IfOk result (λ text. GeneratedScript numbers (string_bytes text)) }
 {
     let made = generate_events(alloc, numbers.seed, numbers.count);
@@ -76,7 +76,7 @@ pub fn script_of_run(alloc: Global, numbers: SeedAndCount) -> Result<String, NoM
 
 /// Makes the run of two numbers, and writes its script.
 pub fn generate_script<K: Sink>(alloc: Global, numbers: SeedAndCount, sink: &mut K) -> ExitStatus
-    requires { numbers.count ≤ most_events }
+    requires { numbers.count ≤ most_events_of_run }
     ensures generates { EndsGen result }
     ensures wrote { Wrote K.contents K.count (GeneratedScript numbers) result sink.old sink.new }
 {

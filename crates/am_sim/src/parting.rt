@@ -1,5 +1,5 @@
 ghost use Rattle.std.specs.Prelude.{◌≢◌};
-ghost use Rattle.am_service_defs.specs.Parts.{most_message};
+ghost use Rattle.am_service_defs.specs.Parts.{most_bytes_of_message};
 ghost use Rattle.am_services.specs.Texts.{parts_text};
 ghost use Rattle.am_player.specs.Statuses.{IfBadScript, IsOfAudit, Took, Wrote};
 ghost use Rattle.am_sim.specs.Simulation.{IsParted};
@@ -18,7 +18,7 @@ pub fn write_parts<S: Source, K: Sink>(alloc: Global, source: &mut S, sink: &mut
     ensures not_usage { result ≢ ExitStatus.Usage }
     ensures not_spent { result ≢ ExitStatus.Spent }
     ensures not_of_audit { IsOfAudit result → ⊥ }
-    ensures took { Took S.left S.count most_message result source.old source.new }
+    ensures took { Took S.left S.count most_bytes_of_message result source.old source.new }
     ensures no_script { IfBadScript result (λ cause. ⊥) }
     ensures wrote { Wrote K.contents K.count (IsParted (S.left source.old) (S.left source.new))
         result sink.old sink.new }

@@ -1,9 +1,9 @@
 ghost use Rattle.std.specs.Prelude.{◌≡◌, ◌≤◌, ◌++◌, ℕ, List, length, IfOk, OnOk, OnErr};
 ghost use Rattle.std.specs.Fmt.{WritesInCalls};
-ghost use Rattle.am_base.specs.Most.{most_events};
+ghost use Rattle.am_base.specs.Most.{most_events_of_run};
 ghost use Rattle.am_group.specs.declared.event.Record.{Record};
 ghost use Rattle.am_io.specs.Buffers.{Goes};
-ghost use Rattle.am_group_defs.specs.Play.{text_of};
+ghost use Rattle.am_group_defs.specs.Play.{play_text_of};
 ghost use Rattle.am_group_defs.specs.Text.{newline};
 ghost use Rattle.am_player.specs.Runs.{logged_in};
 ghost use Rattle.am_script_defs.specs.RaceLimits.{RaceWithin};
@@ -50,7 +50,7 @@ fn events_of_race<R: Threads + Wait + Sync, G: TestHook + Sync>(
     requires { RaceWithin plan.now }
     ensures raced { IfOk result (λ events. (journal : List Record) × IsRaced plan.now journal
         × (events ≡ events_of journal)) }
-    ensures few { IfOk result (λ events. length events ≤ most_events) }
+    ensures few { IfOk result (λ events. length events ≤ most_events_of_run) }
 {
     let journal = race(rt, alloc, plan, gate)?;
     let events = events_of(alloc, journal.records())?;
@@ -60,7 +60,7 @@ fn events_of_race<R: Threads + Wait + Sync, G: TestHook + Sync>(
 /// The world after at most 100,000 events.
 #[tactic(auto, unfolding(am_player::specs::Runs::IsLong))]
 fn world_of_events(alloc: Global, founding: &Founding, events: &[Event]) -> Result<World, NoMemory>
-    requires { length events.now ≤ most_events }
+    requires { length events.now ≤ most_events_of_run }
     ensures { IfOk result (λ world. world ≡ record { rules = founding.now; events = events.now }) }
 {
     match play_out(alloc, founding, events, false) {
@@ -74,7 +74,7 @@ fn world_of_events(alloc: Global, founding: &Founding, events: &[Event]) -> Resu
 fn push_race<O: Writer>(out: &mut O, script: &str, world: &World, names: &[Name])
     requires { names.now ≡ logged_in (replay world.now) }
     ensures { WritesInCalls O.writes out.old
-        (script.now ++ (newline ++ text_of world.now.rules world.now.events)) out.new }
+        (script.now ++ (newline ++ play_text_of world.now.rules world.now.events)) out.new }
 {
     out.put(script);
     out.put("\n");
@@ -88,7 +88,7 @@ fn write_events<K: Sink>(
     events: &[Event],
     out: &mut Buffered<'_, K>,
 ) -> Result<(), NoMemory>
-    requires { length events.now ≤ most_events }
+    requires { length events.now ≤ most_events_of_run }
     ensures text { OnOk result (Goes K.contents K.count out.old (race_text founding.now events.now)
         out.new) }
     ensures again { OnOk result (IsReadAgain founding.now events.now) }

@@ -1,7 +1,7 @@
 ghost use Rattle.std.specs.Prelude.{◌≡◌, ◌<◌, length};
-ghost use Rattle.am_node_parts.specs.Prelude.{PacketIsWithin, Tells, node_of};
-ghost use Rattle.am_node_parts.specs.Parts.{with_told};
-ghost use Rattle.am_model.specs.Emit.{accept_of};
+ghost use Rattle.am_node_parts.specs.Prelude.{PacketIsWithin, TellsAlike, node_of};
+ghost use Rattle.am_node_parts.specs.Parts.{letters_with_accept_front};
+ghost use Rattle.am_model.specs.Emit.{accept_packet_of};
 
 use am_node_parts::packet_from;
 use am_node_parts::parts::Parts;
@@ -12,7 +12,7 @@ use am_packet_writer::out_box::OutBox;
 /// An Accept.
 #[tactic(auto, unfolding(am_packet::specs::Limits::PacketIsWithin))]
 fn accept(parts: &Parts, polls: bool) -> Packet<'_>
-    ensures value { Tells (λ n. accept_of n polls) (node_of parts.now) result }
+    ensures value { TellsAlike (λ n. accept_packet_of n polls) (node_of parts.now) result }
     ensures within { PacketIsWithin result }
 {
     packet_from!(parts.core => Accept {
@@ -27,7 +27,7 @@ fn accept(parts: &Parts, polls: bool) -> Packet<'_>
 /// accepted before the step and no entry that it numbered tells it. The out box must have room.
 pub fn tell_accepted(parts: &Parts, before: u32, polls: bool, numbers: bool, out: &mut OutBox)
     requires room { length out.old < 24 }
-    ensures { Tells (with_told before polls numbers out.old) (node_of parts.now) out.new }
+    ensures { TellsAlike (letters_with_accept_front before polls numbers out.old) (node_of parts.now) out.new }
 {
     if parts.is_sequencer() && (polls || (before < parts.core.acc && !numbers)) {
         out.put(parts.others(), &accept(parts, polls));

@@ -1,9 +1,9 @@
 ghost use Rattle.std.specs.Prelude.{◌≡◌, false};
-ghost use Rattle.am_node_parts.specs.Prelude.{size, is_member, others, push_entry, IsEndOf, node_of};
+ghost use Rattle.am_node_parts.specs.Prelude.{size, is_member, other_members, push_entry, IsEndOf, node_of};
 ghost use Rattle.am_base.specs.declared.entry.Entry.TheVariants.{Leave};
-ghost use Rattle.am_node_defs.specs.Refresh.{MayLead};
-ghost use Rattle.am_model.specs.Refresh.{lead, refresh_at_end};
-ghost use Rattle.am_node_parts.specs.Replies.{departed, LastMayDepart};
+ghost use Rattle.am_node_defs.specs.Refresh.{IsMemberOrLastLeaver};
+ghost use Rattle.am_model.specs.Refresh.{refresh_as_sequencer, refresh_at_end};
+ghost use Rattle.am_node_parts.specs.Replies.{departed_node, LastMayDepart};
 
 use am_base::entry::EntryRef;
 use am_base::name::Name;
@@ -20,9 +20,9 @@ fn who(parts: &Parts) -> Name
 
 /// Leads as the last member does that has departed.
 fn lead(parts: &mut Parts)
-    requires leads { MayLead parts.old.core }
+    requires leads { IsMemberOrLastLeaver parts.old.core }
     requires outside { is_member parts.old.status ≡ false }
-    ensures { IsEndOf (lead (node_of parts.old)) (node_of parts.new) }
+    ensures { IsEndOf (refresh_as_sequencer (node_of parts.old)) (node_of parts.new) }
 {
     let _before = parts.accept_front();
     parts.fronts.refresh(&mut parts.core);
@@ -31,9 +31,9 @@ fn lead(parts: &mut Parts)
 /// The last member numbers its Leave, which is accepted at once, and departs.
 pub fn depart(parts: &mut Parts)
     requires { LastMayDepart (node_of parts.old) }
-    ensures end { IsEndOf (departed (refresh_at_end
+    ensures end { IsEndOf (departed_node (refresh_at_end
         (push_entry (node_of parts.old) (Leave parts.old.core.who)))) (node_of parts.new) }
-    ensures nobody { size (others (refresh_at_end
+    ensures nobody { size (other_members (refresh_at_end
         (push_entry (node_of parts.old) (Leave parts.old.core.who)))) ≡ 0 }
 {
     set_status(parts, Status::Departed);

@@ -2,7 +2,7 @@ ghost use Rattle.std.specs.Prelude.{◌≡◌, ◌≤◌, length, []};
 ghost use Rattle.am_node_parts.specs.Prelude.{Node, node_of};
 ghost use Rattle.am_model.specs.Emit.{Plan, finish};
 ghost use Rattle.am_model.specs.Ends as ends;
-ghost use Rattle.am_node_parts.specs.Replies.{early, outcome_of_answer, is_departure, Ended, StandsAtEnd, MayEnd, Replies};
+ghost use Rattle.am_node_parts.specs.Replies.{letters_before_end, outcome_of_answer, is_departure, EndsOrDeparts, StandsAtEnd, MayEnd, Replies};
 
 use crate::accepting::tell_accepted;
 use crate::departing::depart;
@@ -48,8 +48,8 @@ fn answer(parts: &Parts, answer: StepAnswer) -> Outcome
 fn end(parts: &mut Parts, first: &Telling, out: &mut OutBox)
     requires empty { out.old ≡ [] }
     requires there { StandsAtEnd first.now (node_of parts.old) }
-    ensures ended { Ended (is_departure first.now) (node_of parts.old) (node_of parts.new) }
-    ensures letters { out.new ≡ early (node_of parts.old) first.now (node_of parts.new) }
+    ensures ended { EndsOrDeparts (is_departure first.now) (node_of parts.old) (node_of parts.new) }
+    ensures letters { out.new ≡ letters_before_end (node_of parts.old) first.now (node_of parts.new) }
     ensures few { length out.new ≤ 8 }
 {
     match first {
@@ -67,7 +67,7 @@ pub fn finish(parts: &mut Parts, before: u32, reply: Reply, out: &mut OutBox) ->
     requires empty { out.old ≡ [] }
     requires may { MayEnd reply (node_of parts.old) }
     ensures { (m : Node) (p : Plan) → m.core.acc ≡ before → Replies p reply.entry (node_of parts.old)
-        → ends.ComesTo (finish m p) result out.new (node_of parts.new) }
+        → ends.StepComesTo (finish m p) result out.new (node_of parts.new) }
 {
     let _before = parts.accept_front();
     end(parts, &reply.first, out);

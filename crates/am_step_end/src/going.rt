@@ -1,6 +1,6 @@
 ghost use Rattle.std.specs.Prelude.{◌≡◌};
 ghost use Rattle.am_node_defs.specs.Reports.{reports_of};
-ghost use Rattle.am_model.specs.Joining.{may_go};
+ghost use Rattle.am_model.specs.Joining.{leaver_may_go};
 ghost use Rattle.am_node_parts.specs.Prelude.{node_of};
 ghost use Rattle.am_step_end.specs.Going.{is_stored};
 
@@ -25,7 +25,7 @@ fn is_stored(fronts: &Fronts, accepted: u32, left: u32, names: Names) -> bool
 
 /// Whether a leaver may go: its Leave is accepted, and everybody else who is concerned has stored it.
 pub fn may_go(parts: &Parts, name: Name) -> bool
-    ensures { result ≡ may_go (node_of parts.now) name }
+    ensures { result ≡ leaver_may_go (node_of parts.now) name }
 {
     let left = row(parts, name).left;
     let accepted = parts.accept_front();

@@ -2,9 +2,9 @@
 
 ghost use Rattle.std.specs.Prelude.{◌≡◌, ◌<◌, ◌≤◌, ◌+◌, length};
 ghost use Rattle.am_node_parts.specs.Prelude.{node_of};
-ghost use Rattle.am_model.specs.Ballots.{with_result, with_fetch};
+ghost use Rattle.am_model.specs.Ballots.{letters_with_result, letters_with_fetch};
 ghost use Rattle.am_node_parts.specs.Verdicts.{IsTold};
-ghost use Rattle.am_node_parts.specs.Replies.{and_told, MayPut};
+ghost use Rattle.am_node_parts.specs.Replies.{letters_with_told, MayBeTold};
 
 use crate::going::may_go;
 use crate::notes::{ack, fetch, gone, packet, result};
@@ -22,7 +22,7 @@ use am_packet_writer::out_box::OutBox;
 fn tell_result(parts: &Parts, outcome: &Outcome, out: &mut OutBox)
     requires room { length out.old < 24 }
     requires told { IsTold outcome.now }
-    ensures letters { out.new ≡ with_result outcome.now (node_of parts.now) out.old }
+    ensures letters { out.new ≡ letters_with_result outcome.now (node_of parts.now) out.old }
     ensures few { length out.new ≤ length out.old + 1 }
 {
     match outcome {
@@ -39,7 +39,7 @@ fn tell_result(parts: &Parts, outcome: &Outcome, out: &mut OutBox)
 /// What the answer is to fetch is asked for.
 fn tell_fetch(parts: &Parts, outcome: &Outcome, out: &mut OutBox)
     requires room { length out.old < 24 }
-    ensures letters { out.new ≡ with_fetch outcome.now (node_of parts.now) out.old }
+    ensures letters { out.new ≡ letters_with_fetch outcome.now (node_of parts.now) out.old }
     ensures few { length out.new ≤ length out.old + 1 }
 {
     match outcome {
@@ -51,7 +51,7 @@ fn tell_fetch(parts: &Parts, outcome: &Outcome, out: &mut OutBox)
 /// An Ack to a name, where this is the view.
 fn tell_ack_in(parts: &Parts, view: Stamp, to: Name, out: &mut OutBox)
     requires { length out.old < 24 }
-    ensures letters { out.new ≡ and_told Outcome.Known (Telling.AckIn view to) (node_of parts.now)
+    ensures letters { out.new ≡ letters_with_told Outcome.Known (Telling.AckIn view to) (node_of parts.now)
         out.old }
     ensures few { length out.new ≤ length out.old + 1 }
 {
@@ -64,7 +64,7 @@ fn tell_ack_in(parts: &Parts, view: Stamp, to: Name, out: &mut OutBox)
 /// A Welcome to a name, where this number is accepted.
 fn tell_welcome(parts: &Parts, number: u32, to: Name, out: &mut OutBox)
     requires { length out.old < 24 }
-    ensures letters { out.new ≡ and_told Outcome.Known (Telling.Welcome number to)
+    ensures letters { out.new ≡ letters_with_told Outcome.Known (Telling.Welcome number to)
         (node_of parts.now) out.old }
     ensures few { length out.new ≤ length out.old + 1 }
 {
@@ -76,7 +76,7 @@ fn tell_welcome(parts: &Parts, number: u32, to: Name, out: &mut OutBox)
 /// A Gone to a leaver, where it may go.
 fn tell_gone(parts: &Parts, to: Name, out: &mut OutBox)
     requires { length out.old < 24 }
-    ensures letters { out.new ≡ and_told Outcome.Known (Telling.Gone to) (node_of parts.now)
+    ensures letters { out.new ≡ letters_with_told Outcome.Known (Telling.Gone to) (node_of parts.now)
         out.old }
     ensures few { length out.new ≤ length out.old + 1 }
 {
@@ -89,8 +89,8 @@ fn tell_gone(parts: &Parts, to: Name, out: &mut OutBox)
 /// Puts what goes out beside an answer, with the values that stand now.
 pub fn tell(parts: &Parts, outcome: &Outcome, telling: &Telling, out: &mut OutBox)
     requires room { length out.old < 16 }
-    requires told { MayPut outcome.now telling.now }
-    ensures letters { out.new ≡ and_told outcome.now telling.now (node_of parts.now) out.old }
+    requires told { MayBeTold outcome.now telling.now }
+    ensures letters { out.new ≡ letters_with_told outcome.now telling.now (node_of parts.now) out.old }
     ensures few { length out.new ≤ length out.old + 8 }
 {
     match telling {

@@ -1,12 +1,12 @@
 #![tactic(auto, unfolding(am_packet::specs::Limits::PacketIsWithin))]
 
 ghost use Rattle.std.specs.Prelude.{◌≡◌, ◌≤◌};
-ghost use Rattle.am_node_parts.specs.Prelude.{IsNumber, IsEntry, PacketIsWithin, node_of};
-ghost use Rattle.am_base.specs.Limits.{IsReport};
+ghost use Rattle.am_node_parts.specs.Prelude.{NumberIsInRange, EntryIsInRange, PacketIsWithin, node_of};
+ghost use Rattle.am_base.specs.Limits.{ReportIsInRange};
 ghost use Rattle.am_base.specs.declared.entry.Entry.TheVariants.{Data};
-ghost use Rattle.am_model.specs.Node.{report_of};
-ghost use Rattle.am_model.specs.Emit.{bcast_of, order_of, ack_of, nack_of, hold_of, join_ask_of, welcome_of, gone_of, leave_ask_of, invite_of, fetch_of, hand_over_of, request_of, spread_of, result_of};
-ghost use Rattle.am_model.specs.Ballots.{vote_of};
+ghost use Rattle.am_model.specs.Node.{own_report_of};
+ghost use Rattle.am_model.specs.Emit.{bcast_packet_of, order_packet_of, ack_packet_of, nack_packet_of, hold_packet_of, join_ask_packet_of, welcome_packet_of, gone_packet_of, leave_ask_packet_of, invite_packet_of, fetch_packet_of, hand_over_packet_of, request_packet_of, spread_packet_of, result_packet_of};
+ghost use Rattle.am_model.specs.Ballots.{vote_packet_of};
 ghost use Rattle.am_node_parts.specs.Replies.{packet_of, own_packet, IsNoteWithin, IsOwnWithin};
 
 use am_base::body::Body;
@@ -25,8 +25,8 @@ use am_packet::packet::Packet;
 
 /// What the node has stored and taken.
 fn report(parts: &Parts) -> Report
-    ensures value { result ≡ report_of (node_of parts.now) }
-    ensures within { IsReport result }
+    ensures value { result ≡ own_report_of (node_of parts.now) }
+    ensures within { ReportIsInRange result }
 {
     Report {
         stored: parts.core.log.top(),
@@ -36,9 +36,9 @@ fn report(parts: &Parts) -> Report
 
 /// A numbered entry.
 fn bcast<'a>(parts: &Parts, number: u32, entry: &EntryRef<'a>) -> Packet<'a>
-    requires number { IsNumber number }
-    requires entry { IsEntry entry.now }
-    ensures value { result ≡ bcast_of (node_of parts.now) number entry.now }
+    requires number { NumberIsInRange number }
+    requires entry { EntryIsInRange entry.now }
+    ensures value { result ≡ bcast_packet_of (node_of parts.now) number entry.now }
     ensures within { PacketIsWithin result }
 {
     packet_from!(parts.core => Bcast {
@@ -51,9 +51,9 @@ fn bcast<'a>(parts: &Parts, number: u32, entry: &EntryRef<'a>) -> Packet<'a>
 
 /// The number of a send whose body was spread.
 fn order<'a>(parts: &Parts, number: u32, from: Name, req: u32) -> Packet<'a>
-    requires number { IsNumber number }
-    requires req { IsNumber req }
-    ensures value { result ≡ order_of (node_of parts.now) number from req }
+    requires number { NumberIsInRange number }
+    requires req { NumberIsInRange req }
+    ensures value { result ≡ order_packet_of (node_of parts.now) number from req }
     ensures within { PacketIsWithin result }
 {
     packet_from!(parts.core => Order {
@@ -67,7 +67,7 @@ fn order<'a>(parts: &Parts, number: u32, from: Name, req: u32) -> Packet<'a>
 
 /// A report.
 pub fn ack<'a>(parts: &Parts) -> Packet<'a>
-    ensures value { result ≡ ack_of (node_of parts.now) }
+    ensures value { result ≡ ack_packet_of (node_of parts.now) }
     ensures within { PacketIsWithin result }
 {
     packet_from!(parts.core => Ack { report: report(parts) })
@@ -75,7 +75,7 @@ pub fn ack<'a>(parts: &Parts) -> Packet<'a>
 
 /// A report that asks for what comes next.
 fn nack<'a>(parts: &Parts) -> Packet<'a>
-    ensures value { result ≡ nack_of (node_of parts.now) }
+    ensures value { result ≡ nack_packet_of (node_of parts.now) }
     ensures within { PacketIsWithin result }
 {
     packet_from!(parts.core => Nack { report: report(parts) })
@@ -83,8 +83,8 @@ fn nack<'a>(parts: &Parts) -> Packet<'a>
 
 /// There is no room for a send.
 fn hold<'a>(parts: &Parts, req: u32) -> Packet<'a>
-    requires { IsNumber req }
-    ensures value { result ≡ hold_of (node_of parts.now) req }
+    requires { NumberIsInRange req }
+    ensures value { result ≡ hold_packet_of (node_of parts.now) req }
     ensures within { PacketIsWithin result }
 {
     packet_from!(parts.core => Hold {
@@ -96,7 +96,7 @@ fn hold<'a>(parts: &Parts, req: u32) -> Packet<'a>
 
 /// The node would join.
 fn join_ask<'a>(parts: &Parts) -> Packet<'a>
-    ensures value { result ≡ join_ask_of (node_of parts.now) }
+    ensures value { result ≡ join_ask_packet_of (node_of parts.now) }
     ensures within { PacketIsWithin result }
 {
     let _top = parts.core.log.top();
@@ -105,7 +105,7 @@ fn join_ask<'a>(parts: &Parts) -> Packet<'a>
 
 /// A name is welcomed.
 fn welcome(parts: &Parts, name: Name) -> Packet<'_>
-    ensures value { result ≡ welcome_of (node_of parts.now) name }
+    ensures value { result ≡ welcome_packet_of (node_of parts.now) name }
     ensures within { PacketIsWithin result }
 {
     packet_from!(parts.core => Welcome {
@@ -117,8 +117,8 @@ fn welcome(parts: &Parts, name: Name) -> Packet<'_>
 
 /// A name may go, by the number of its Leave.
 pub fn gone<'a>(parts: &Parts, number: u32) -> Packet<'a>
-    requires { IsNumber number }
-    ensures value { result ≡ gone_of (node_of parts.now) number }
+    requires { NumberIsInRange number }
+    ensures value { result ≡ gone_packet_of (node_of parts.now) number }
     ensures within { PacketIsWithin result }
 {
     let _top = parts.core.log.top();
@@ -127,7 +127,7 @@ pub fn gone<'a>(parts: &Parts, number: u32) -> Packet<'a>
 
 /// The node would leave.
 fn leave_ask<'a>(parts: &Parts) -> Packet<'a>
-    ensures value { result ≡ leave_ask_of (node_of parts.now) }
+    ensures value { result ≡ leave_ask_packet_of (node_of parts.now) }
     ensures within { PacketIsWithin result }
 {
     packet_from!(parts.core => LeaveAsk { report: report(parts) })
@@ -135,7 +135,7 @@ fn leave_ask<'a>(parts: &Parts) -> Packet<'a>
 
 /// An Invite to the ballot that the node has promised.
 fn invite<'a>(parts: &Parts) -> Packet<'a>
-    ensures value { result ≡ invite_of (node_of parts.now) }
+    ensures value { result ≡ invite_packet_of (node_of parts.now) }
     ensures within { PacketIsWithin result }
 {
     let _top = parts.core.log.top();
@@ -144,7 +144,7 @@ fn invite<'a>(parts: &Parts) -> Packet<'a>
 
 /// What the node shows in a ballot.
 fn vote<'a>(parts: &Parts) -> Packet<'a>
-    ensures value { result ≡ vote_of (node_of parts.now) }
+    ensures value { result ≡ vote_packet_of (node_of parts.now) }
     ensures within { PacketIsWithin result }
 {
     packet_from!(parts.core => Vote { vote: own_vote(parts) })
@@ -152,7 +152,7 @@ fn vote<'a>(parts: &Parts) -> Packet<'a>
 
 /// A Fetch of what comes next.
 pub fn fetch<'a>(parts: &Parts) -> Packet<'a>
-    ensures value { result ≡ fetch_of (node_of parts.now) }
+    ensures value { result ≡ fetch_packet_of (node_of parts.now) }
     ensures within { PacketIsWithin result }
 {
     packet_from!(parts.core => Fetch { stored: parts.core.log.top() })
@@ -160,7 +160,7 @@ pub fn fetch<'a>(parts: &Parts) -> Packet<'a>
 
 /// The sequencer leaves.
 fn hand_over<'a>(parts: &Parts) -> Packet<'a>
-    ensures value { result ≡ hand_over_of (node_of parts.now) }
+    ensures value { result ≡ hand_over_packet_of (node_of parts.now) }
     ensures within { PacketIsWithin result }
 {
     let _top = parts.core.log.top();
@@ -169,9 +169,9 @@ fn hand_over<'a>(parts: &Parts) -> Packet<'a>
 
 /// The result of a ballot: its View's number, members and resilience.
 pub fn result<'a>(parts: &Parts, number: u32, members: Names, resilience: u8) -> Packet<'a>
-    requires number { IsNumber number }
+    requires number { NumberIsInRange number }
     requires resilience { resilience ≤ 15 }
-    ensures value { result ≡ result_of (node_of parts.now) number members resilience }
+    ensures value { result ≡ result_packet_of (node_of parts.now) number members resilience }
     ensures within { PacketIsWithin result }
 {
     Packet::Result {
@@ -188,8 +188,8 @@ pub fn result<'a>(parts: &Parts, number: u32, members: Names, resilience: u8) ->
 
 /// A send of the node's own for the sequencer to number.
 fn request<'a>(parts: &Parts, req: u32, body: &'a Body) -> Packet<'a>
-    requires { IsNumber req }
-    ensures value { result ≡ request_of (node_of parts.now) req body.now }
+    requires { NumberIsInRange req }
+    ensures value { result ≡ request_packet_of (node_of parts.now) req body.now }
     ensures within { PacketIsWithin result }
 {
     packet_from!(parts.core => Request { report: report(parts), req, body: body.as_ref() })
@@ -197,8 +197,8 @@ fn request<'a>(parts: &Parts, req: u32, body: &'a Body) -> Packet<'a>
 
 /// One for everybody.
 fn spread<'a>(parts: &Parts, req: u32, body: &'a Body) -> Packet<'a>
-    requires { IsNumber req }
-    ensures value { result ≡ spread_of (node_of parts.now) req body.now }
+    requires { NumberIsInRange req }
+    ensures value { result ≡ spread_packet_of (node_of parts.now) req body.now }
     ensures within { PacketIsWithin result }
 {
     packet_from!(parts.core => Spread { report: report(parts), req, body: body.as_ref() })
@@ -206,9 +206,9 @@ fn spread<'a>(parts: &Parts, req: u32, body: &'a Body) -> Packet<'a>
 
 /// One that is numbered.
 fn own_bcast<'a>(parts: &Parts, number: u32, req: u32, body: &'a Body) -> Packet<'a>
-    requires number { IsNumber number }
-    requires req { IsNumber req }
-    ensures value { result ≡ bcast_of (node_of parts.now) number (Data parts.now.core.who req body.now) }
+    requires number { NumberIsInRange number }
+    requires req { NumberIsInRange req }
+    ensures value { result ≡ bcast_packet_of (node_of parts.now) number (Data parts.now.core.who req body.now) }
     ensures within { PacketIsWithin result }
 {
     let entry = EntryRef::of(EntryParts::Data {
@@ -222,7 +222,7 @@ fn own_bcast<'a>(parts: &Parts, number: u32, req: u32, body: &'a Body) -> Packet
 /// The packet of a send of the node's own.
 pub fn own_packet<'a>(parts: &Parts, letter: OwnLetter, send: &'a WaitingSend) -> Packet<'a>
     requires letter { IsOwnWithin letter }
-    requires req { IsNumber send.now.req }
+    requires req { NumberIsInRange send.now.req }
     ensures value { result ≡ own_packet letter (send.now.req, send.now.body) (node_of parts.now) }
     ensures within { PacketIsWithin result }
 {

@@ -1,6 +1,6 @@
 ghost use Rattle.std.specs.Prelude.{◌≡◌, ◌≤◌, [], length};
 ghost use Rattle.am_node_parts.specs.Prelude.{ChangesAllAlike, node_of};
-ghost use Rattle.am_node_defs.specs.Sends.{waiting_send};
+ghost use Rattle.am_node_defs.specs.Sends.{request_and_body_of_waiting_send};
 ghost use Rattle.am_model.specs.Refresh.{refresh_at_end};
 ghost use Rattle.am_node_parts.specs.Replies.{own_letters, IsOwnWithin};
 
@@ -17,7 +17,7 @@ pub fn hand_out(parts: &mut Parts, to: Names, letter: OwnLetter, out: &mut OutBo
     requires empty { out.old ≡ [] }
     requires within { IsOwnWithin letter }
     ensures changes { ChangesAllAlike refresh_at_end (node_of parts.old) (node_of parts.new) }
-    ensures letters { out.new ≡ own_letters to letter (waiting_send parts.old.sender)
+    ensures letters { out.new ≡ own_letters to letter (request_and_body_of_waiting_send parts.old.sender)
         (node_of parts.new) }
     ensures few { length out.new ≤ 8 }
 {

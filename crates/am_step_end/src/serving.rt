@@ -1,10 +1,10 @@
 ghost use Rattle.std.specs.Prelude.{◌≡◌, ◌<◌, ◌≤◌, ◌+◌, ◌++◌, ◌∷◌, All, Some, [], length};
-ghost use Rattle.am_node_parts.specs.Prelude.{most_number, IsNumber, IsEntry, PacketIsWithin, entry_at, top_of, IsInOrder, only_name, node_of};
+ghost use Rattle.am_node_parts.specs.Prelude.{greatest_number, NumberIsInRange, EntryIsInRange, PacketIsWithin, log_entry_at, top_of_log, IsInOrder, set_of_one_name, node_of};
 ghost use Rattle.am_base.specs.declared.entry.Entry.{Entry};
-ghost use Rattle.am_model.specs.Emit.{entries_to_serve, put_all};
+ghost use Rattle.am_model.specs.Emit.{entries_to_serve, letters_of_entries};
 ghost use Rattle.am_model.specs.Refresh.{refresh_at_end};
 ghost use Rattle.am_model.specs.Ends.{ChangesAllAlike};
-ghost use Rattle.am_node_parts.specs.Replies.{MayGive, packet_of_entry};
+ghost use Rattle.am_node_parts.specs.Replies.{HasEntriesAbove, packet_of_entry};
 
 use am_base::entry::{Entry, EntryRef};
 use am_base::name::Name;
@@ -28,7 +28,7 @@ struct Served {
 /// Adds a copy of the entry of a number.
 fn copy_entry(parts: &Parts, number: u32, entries: &mut ArrayVec<Entry, 8>)
     requires { length entries.old.items < 8 }
-    ensures items { (e : Entry) → entry_at parts.now.core.log number ≡ Some e
+    ensures items { (e : Entry) → log_entry_at parts.now.core.log number ≡ Some e
         → entries.new.items ≡ entries.old.items ++ e ∷ [] }
     ensures few { length entries.new.items ≤ length entries.old.items + 1 }
 {
@@ -42,10 +42,10 @@ fn copy_entry(parts: &Parts, number: u32, entries: &mut ArrayVec<Entry, 8>)
 fn copies(parts: &Parts, stored: u32) -> ArrayVec<Entry, 8>
     requires order { IsInOrder parts.now.core }
     requires low { parts.now.core.base ≤ stored }
-    requires high { stored ≤ top_of parts.now.core.log }
+    requires high { stored ≤ top_of_log parts.now.core.log }
     ensures items { result.items ≡ entries_to_serve (node_of parts.now) stored }
-    ensures within { All IsEntry result.items }
-    ensures numbers { stored + length result.items ≤ most_number }
+    ensures within { All EntryIsInRange result.items }
+    ensures numbers { stored + length result.items ≤ greatest_number }
 {
     let mut entries = ArrayVec::new();
     let last = last_served(parts, stored);
@@ -58,8 +58,8 @@ fn copies(parts: &Parts, stored: u32) -> ArrayVec<Entry, 8>
 /// A Piece, or else a Bcast, of a numbered entry.
 #[tactic(auto, unfolding(am_packet::specs::Limits::PacketIsWithin))]
 fn packet_of<'a>(parts: &Parts, pieces: bool, number: u32, entry: EntryRef<'a>) -> Packet<'a>
-    requires number { IsNumber number }
-    requires entry { IsEntry entry }
+    requires number { NumberIsInRange number }
+    requires entry { EntryIsInRange entry }
     ensures value { result ≡ packet_of_entry pieces (node_of parts.now) number entry.entry }
     ensures within { PacketIsWithin result }
 {
@@ -79,10 +79,10 @@ fn packet_of<'a>(parts: &Parts, pieces: bool, number: u32, entry: EntryRef<'a>) 
 fn tell_entries(parts: &Parts, served: &Served, entries: &[Entry], out: &mut OutBox)
     requires empty { out.old ≡ [] }
     requires few { length entries.now ≤ 8 }
-    requires within { All IsEntry entries.now }
-    requires numbers { served.now.stored + length entries.now ≤ most_number }
-    ensures letters { out.new ≡ put_all (packet_of_entry served.now.pieces (node_of parts.now))
-        (only_name served.now.to) (served.now.stored + 1) entries.now [] }
+    requires within { All EntryIsInRange entries.now }
+    requires numbers { served.now.stored + length entries.now ≤ greatest_number }
+    ensures letters { out.new ≡ letters_of_entries (packet_of_entry served.now.pieces (node_of parts.now))
+        (set_of_one_name served.now.to) (served.now.stored + 1) entries.now [] }
     ensures few { length out.new ≤ 8 }
 {
     let mut number = served.stored;
@@ -97,9 +97,9 @@ fn tell_entries(parts: &Parts, served: &Served, entries: &[Entry], out: &mut Out
 #[inline(never)]
 pub fn serve(parts: &mut Parts, to: Name, stored: u32, pieces: bool, out: &mut OutBox)
     requires empty { out.old ≡ [] }
-    requires there { MayGive stored (node_of parts.old) }
+    requires there { HasEntriesAbove stored (node_of parts.old) }
     ensures changes { ChangesAllAlike refresh_at_end (node_of parts.old) (node_of parts.new) }
-    ensures letters { out.new ≡ put_all (packet_of_entry pieces (node_of parts.new)) (only_name to) (stored + 1)
+    ensures letters { out.new ≡ letters_of_entries (packet_of_entry pieces (node_of parts.new)) (set_of_one_name to) (stored + 1)
         (entries_to_serve (node_of parts.old) stored) [] }
     ensures few { length out.new ≤ 8 }
 {

@@ -1,10 +1,10 @@
 ghost use Rattle.std.specs.Prelude.{◌≡◌, ◌<◌, ◌≤◌, ◌+◌, nat_lt, length};
 ghost use Rattle.std.specs.Option.{option_copied};
-ghost use Rattle.am_node_parts.specs.Prelude.{most_number, entry_at, others, image_of, node_of};
+ghost use Rattle.am_node_parts.specs.Prelude.{greatest_number, log_entry_at, other_members, image_of_node, node_of};
 ghost use Rattle.am_node_defs.specs.Reports.{reports_of};
-ghost use Rattle.am_model.specs.Node.{name_where, those};
-ghost use Rattle.am_model.specs.Ticks.{viewed_by};
-ghost use Rattle.am_node_parts.specs.Replies.{and_view};
+ghost use Rattle.am_model.specs.Node.{life_where_name_passes, names_that_pass};
+ghost use Rattle.am_model.specs.Ticks.{members_of_view_entry};
+ghost use Rattle.am_node_parts.specs.Replies.{letters_with_view};
 
 use crate::notes::result;
 use am_base::entry::Entry;
@@ -18,7 +18,7 @@ use am_packet_writer::out_box::OutBox;
 /// A life of a place that has reported less than a number as stored, else 0.
 fn behind_life(parts: &Parts, number: u32, place: u8, life: u8) -> u8
     requires { (place < 16) × (life ≤ 16) }
-    ensures value { result ≡ name_where (λ name. nat_lt
+    ensures value { result ≡ life_where_name_passes (λ name. nat_lt
         (reports_of parts.now.fronts name).stored number) place life }
     ensures fits { result ≤ 16 }
 {
@@ -35,8 +35,8 @@ fn behind_life(parts: &Parts, number: u32, place: u8, life: u8) -> u8
 
 /// The other members that have reported less than a number as stored.
 fn behind(parts: &Parts, number: u32) -> Names
-    ensures { result ≡ those (λ name. nat_lt (reports_of parts.now.fronts name).stored number)
-        (others (node_of parts.now)) }
+    ensures { result ≡ names_that_pass (λ name. nat_lt (reports_of parts.now.fronts name).stored number)
+        (other_members (node_of parts.now)) }
 {
     let lives = others(parts).each_life();
     let mut behind = [0; 16];
@@ -48,7 +48,7 @@ fn behind(parts: &Parts, number: u32) -> Names
 
 /// The members that a View names; nobody for another entry.
 fn viewed_by(entry: Option<&Entry>) -> Names
-    ensures { result ≡ viewed_by (option_copied entry.entry) }
+    ensures { result ≡ members_of_view_entry (option_copied entry.entry) }
 {
     match entry {
         None => Names::empty(),
@@ -63,22 +63,22 @@ fn viewed_by(entry: Option<&Entry>) -> Names
 
 /// The members that the entry of a number names.
 fn viewed_at(parts: &Parts, number: u32) -> Names
-    ensures { result ≡ viewed_by (entry_at parts.now.core.log number) }
+    ensures { result ≡ members_of_view_entry (log_entry_at parts.now.core.log number) }
 {
     viewed_by(parts.core.log.entry(number))
 }
 
 /// The number of the last View.
 fn view_number(parts: &Parts) -> u32
-    ensures value { result ≡ (image_of (node_of parts.now)).view_number }
-    ensures within { result ≤ most_number }
+    ensures value { result ≡ (image_of_node (node_of parts.now)).view_number }
+    ensures within { result ≤ greatest_number }
 {
     parts.core.log.view_number()
 }
 
 /// The resilience of the last View.
 fn resilience(parts: &Parts) -> u8
-    ensures value { result ≡ (image_of (node_of parts.now)).resilience }
+    ensures value { result ≡ (image_of_node (node_of parts.now)).resilience }
     ensures within { result ≤ 15 }
 {
     parts.core.log.resilience()
@@ -96,7 +96,7 @@ fn base(parts: &Parts) -> u32
 #[tactic(auto, using(am_model::proofs::Letters::with_letter_adds_one))]
 pub fn tell_view(parts: &Parts, out: &mut OutBox)
     requires { length out.old < 24 }
-    ensures letters { out.new ≡ and_view out.old (node_of parts.now) }
+    ensures letters { out.new ≡ letters_with_view out.old (node_of parts.now) }
     ensures few { length out.new ≤ length out.old + 1 }
 {
     let number = view_number(parts);

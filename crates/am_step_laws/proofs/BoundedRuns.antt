@@ -2,7 +2,7 @@
 use Rattle.std.proofs.Common.{take, refl, arith}
 use Rattle.am_base.specs.Founding.{Rules}
 use Rattle.am_step_laws.proofs.Nodes.{IsKeptFromTheFirst, nodes_of_runs_keep}
-use Rattle.am_step_laws.specs.Claim.{BoundedHolds}
+use Rattle.am_step_laws.specs.Claim.{NodesAreBounded}
 use Rattle.am_step_laws.proofs.Kept.{NodeIsBounded}
 use Rattle.am_step_laws.proofs.Changes.{change_keeps_node_bounds}
 
@@ -13,7 +13,7 @@ first_nodes_keep_bounds rules = record {
   change_keeps = λ m n. change_keeps_node_bounds rules m n;
 }
 
-pub node_bounds_hold_in_runs : BoundedHolds
+pub node_bounds_hold_in_runs : NodesAreBounded
 node_bounds_hold_in_runs rules events founds = record {
   each = λ k name. let few = (nodes_of_runs_keep rules (NodeIsBounded rules) (first_nodes_keep_bounds rules) (take k events) name).few in omega arith;
 }

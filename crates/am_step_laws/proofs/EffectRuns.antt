@@ -1,6 +1,6 @@
 -- What is kept by each event is kept by each run.
-use Rattle.am_step_laws.proofs.EffectWords.{◌≡◌, List, [], ◌∷◌, refl, Outcome, Event, Node, Step, World, with_record, with_step, happens, happen, Cause, Change}
-use Rattle.am_step_laws.proofs.EffectWords.{Changes, no_change, changed, Effect, actor, IsCause, Happens, steps}
+use Rattle.am_step_laws.proofs.EffectWords.{◌≡◌, List, [], ◌∷◌, refl, Outcome, Event, Node, StepResult, World, world_with_record, world_with_step, happens, world_after_events, Cause, Change}
+use Rattle.am_step_laws.proofs.EffectWords.{Changes, no_change, changed, Effect, acting_name, IsCause, EventHappens, steps}
 use Rattle.am_step_laws.proofs.Events.{events_have_effects}
 
 -- what each change keeps, some in turn keep
@@ -10,10 +10,10 @@ changes_keep_property P f (changed {m = x} {n = y} z zs) h = changes_keep_proper
 
 -- what each event keeps
 abbrev pub EventsKeep : (World → Type 0) → Type 0
-EventsKeep P = (w : World) (e : Event) (v : World) → Happens w e v → P w → P v
+EventsKeep P = (w : World) (e : Event) (v : World) → EventHappens w e v → P w → P v
 
-pub runs_keep_what_events_keep : (P : World → Type 0) → EventsKeep P → (w : World) (events : List Event) → P w → P (happen w events)
-unfolding happen
+pub runs_keep_what_events_keep : (P : World → Type 0) → EventsKeep P → (w : World) (events : List Event) → P w → P (world_after_events w events)
+unfolding world_after_events
 runs_keep_what_events_keep P f w [] h = h
 runs_keep_what_events_keep P f w (e ∷ es) h = runs_keep_what_events_keep P f (happens w e) es (f w e (happens w e) (events_have_effects w e) h)
 
@@ -21,8 +21,8 @@ runs_keep_what_events_keep P f w (e ∷ es) h = runs_keep_what_events_keep P f (
 
 -- what each step keeps of it
 abbrev pub StepsKeepLaw : (World → Type 0) → (World → Type 0) → Type 0
-StepsKeepLaw Base Law = (w : World) (e : Event) (c : Cause) (s : Step) → IsCause w (actor w e) e.act c → Effect (w.nodes (actor w e)) c s
-    → Base (with_step w e (actor w e) s) → Law w → Law (with_step w e (actor w e) s)
+StepsKeepLaw Base Law = (w : World) (e : Event) (c : Cause) (s : StepResult) → IsCause w (acting_name w e) e.act c → Effect (w.nodes (acting_name w e)) c s
+    → Base (world_with_step w e (acting_name w e) s) → Law w → Law (world_with_step w e (acting_name w e) s)
 
 -- what stays in an event that is no step
 pub record HasSameWorldParts (w v : World) : Type 0 where
@@ -32,8 +32,8 @@ pub record HasSameWorldParts (w v : World) : Type 0 where
   pub views : v.views ≡ w.views
 
 law_after : (Base Law : World → Type 0) → StepsKeepLaw Base Law → ((w v : World) → HasSameWorldParts w v → Base v → Law w → Law v)
-    → (w : World) (e : Event) (v : World) → Happens w e v → Base v → Law w → Law v
-unfolding with_record
+    → (w : World) (e : Event) (v : World) → EventHappens w e v → Base v → Law w → Law v
+unfolding world_with_record
 law_after Base Law step same w e v (steps c s runs cause effect) base h = step w e c s cause effect base h
 law_after Base Law step same w e v _ base h = same w v (record { nodes = refl; letters = refl; group = refl; views = refl }) base h
 

@@ -1,9 +1,9 @@
 -- Only stopped names are given up.
 use Rattle.am_step_laws.proofs.Words.{◌≡◌, ℕ, ◌==◌, ◌&&◌, ◌||◌, not, Bool, true, List, ◌++◌, Option, Some, None, refl, sym, ap, ◌∙◌, subst, arith, list_any}
-use Rattle.am_step_laws.proofs.Words.{nat_tests, list_any-append, Stamp, Outcome, NodeEvent, Leave, Rules, has, stamp_lt, Act, Event, Node, Ballot, push_entry}
-use Rattle.am_step_laws.proofs.Words.{Verdict, overtake, refresh, refresh_at_end, World, start, current, is_stopped, with_record, with_step, run, split_on_bool, Cause}
-use Rattle.am_step_laws.proofs.Words.{calls, HasOpen, Balloting, with_more, without_one, as_it_is, Looks, finds_itself_out, Change, refreshes, settles, promises}
-use Rattle.am_step_laws.proofs.Words.{opens, looks, closes, actor, IsCall, IsCause, idles, stops, returns, steps, refresh_rests_with_list, end_refresh_rests_with_list, settle_changes_only_sends, changes_keep_property}
+use Rattle.am_step_laws.proofs.Words.{nat_tests, list_any-append, Stamp, Outcome, NodeEvent, Leave, Rules, has, stamp_is_less, Act, Event, Node, Ballot, push_entry}
+use Rattle.am_step_laws.proofs.Words.{BallotVerdict, overtake_lower_ballot, refresh, refresh_at_end, World, start, current, is_stopped, world_with_record, world_with_step, run, split_on_bool, Cause}
+use Rattle.am_step_laws.proofs.Words.{calls, HasOpenBallot, BallotIsLookedAt, with_more, without_one, as_it_is, LooksAtBallot, finds_itself_out, Change, refreshes, settles, promises}
+use Rattle.am_step_laws.proofs.Words.{opens, looks, closes, acting_name, IsCall, IsCause, idles, stops, returns, steps, refresh_rests_with_list, end_refresh_rests_with_list, settle_changes_only_sends, changes_keep_property}
 use Rattle.am_step_laws.proofs.Words.{EventsKeep, runs_keep_what_events_keep, OnlyStoppedGivenUp}
 use Rattle.am_base.specs.declared.event.NodeEvent.TheVariants as does
 use Rattle.am_step_laws.specs.Events as event
@@ -13,25 +13,25 @@ abbrev GivesUp : (ℕ → Type 0) → Option Ballot → Type 0
 GivesUp S None = Unit {0}
 GivesUp S (Some b) = (other : ℕ) → b.given_up other ≡ true → S other
 
-still_overtaken : (S : ℕ → Type 0) (by : Stamp) (ballot : Option Ballot) → GivesUp S ballot → GivesUp S (overtake by ballot)
+still_overtaken : (S : ℕ → Type 0) (by : Stamp) (ballot : Option Ballot) → GivesUp S ballot → GivesUp S (overtake_lower_ballot by ballot)
 still_overtaken S by None h = tt
-still_overtaken S by (Some b) h = split_on_bool (not b.is_over && stamp_lt b.stamp by) (λ t. rw t h) (λ f. rw f h)
+still_overtaken S by (Some b) h = split_on_bool (not b.is_over && stamp_is_less b.stamp by) (λ t. rw t h) (λ f. rw f h)
 
 -- who is given up by a call has stopped
 abbrev Calls : (ℕ → Type 0) → Cause → Type 0
 Calls S c = (other : ℕ) → c ≡ calls (does.GiveUp other) → S other
 
-open_gives : (S : ℕ → Type 0) (m : Node) (b : Ballot) → HasOpen m b → GivesUp S m.ballot → GivesUp S (Some b)
+open_gives : (S : ℕ → Type 0) (m : Node) (b : Ballot) → HasOpenBallot m b → GivesUp S m.ballot → GivesUp S (Some b)
 open_gives S m b open_ h = subst (GivesUp S) open_.last h
 
-looked_at : (S : ℕ → Type 0) {c : Cause} → Calls S c → (m : Node) (b : Ballot) → Balloting c m b → GivesUp S m.ballot → GivesUp S (Some b)
+looked_at : (S : ℕ → Type 0) {c : Cause} → Calls S c → (m : Node) (b : Ballot) → BallotIsLookedAt c m b → GivesUp S m.ballot → GivesUp S (Some b)
 looked_at S called m b (with_more old s v vote is heard low high open_ same stays) h = open_gives S m old open_ h
 looked_at S called m b (as_it_is old open_ on) h = open_gives S m old open_ h
 looked_at S called m b (without_one old name is open_ other_) h = λ other up. split_on_bool (other == name)
     (λ t. let same : name ≡ other = grind (arith, nat_tests) in subst S same (called name is))
     (λ f. open_gives S m old open_ h other (rw f at up))
 
-look_gives : (S : ℕ → Type 0) (m : Node) (b : Ballot) (v : Verdict) → Looks m b v → GivesUp S (Some b) → GivesUp S v.node.ballot
+look_gives : (S : ℕ → Type 0) (m : Node) (b : Ballot) (v : BallotVerdict) → LooksAtBallot m b v → GivesUp S (Some b) → GivesUp S v.node.ballot
 look_gives S m b v (finds_itself_out x) h = h
 look_gives S m b v _ h = h
 
@@ -67,8 +67,8 @@ call_stopped : (w : World) (a : Act) (ev : NodeEvent) (other : ℕ) → ev ≡ d
 call_stopped w a ev other is (event.give_up name stopped) = let same : name ≡ other = cc in subst (λ n. is_stopped w n ≡ true) same stopped
 call_stopped w a ev other is _ = absurd (cc)
 
-cause_stopped : (w : World) (e : Event) (c : Cause) → IsCause w (actor w e) e.act c → Calls (λ other. is_stopped w other ≡ true) c
-cause_stopped w e c cause other is = call_stopped w e.act (does.GiveUp other) other refl (subst (IsCause w (actor w e) e.act) is cause)
+cause_stopped : (w : World) (e : Event) (c : Cause) → IsCause w (acting_name w e) e.act c → Calls (λ other. is_stopped w other ≡ true) c
+cause_stopped w e c cause other is = call_stopped w e.act (does.GiveUp other) other refl (subst (IsCause w (acting_name w e) e.act) is cause)
 
 given_stopped : (w v : World) → v.nodes ≡ w.nodes → ((other : ℕ) → is_stopped w other ≡ true → is_stopped v other ≡ true) → AllGiven w → AllGiven v
 given_stopped w v nodes more h = record {
@@ -77,15 +77,15 @@ given_stopped w v nodes more h = record {
 }
 
 each_gives : EventsKeep AllGiven
-unfolding with_record with_step
+unfolding world_with_record world_with_step
 each_gives w e v (idles o idle) h = given_stopped w v refl (λ other s. s) h
 each_gives w e v (stops runs) h = given_stopped w v refl (λ other s. any_more (λ x. x == other) w.stopped _ s) h
 each_gives w e v (returns place is left more) h = given_stopped w v refl
     (λ other s. split_on_bool (is_stopped w (current w place)) (λ t. rw t s) (λ f. rw f (any_more (λ x. x == other) w.stopped _ s))) h
 each_gives w e v (steps c s runs cause effect) h = record {
-  each = λ name. split_on_bool (name == actor w e)
+  each = λ name. split_on_bool (name == acting_name w e)
       (λ t. rw t (changes_keep_property (NodeGives (λ other. is_stopped w other ≡ true))
-      (change_gives (λ other. is_stopped w other ≡ true) (cause_stopped w e c cause)) effect.changes (h.each (actor w e))))
+      (change_gives (λ other. is_stopped w other ≡ true) (cause_stopped w e c cause)) effect.changes (h.each (acting_name w e))))
       (λ f. rw f (h.each name));
 }
 

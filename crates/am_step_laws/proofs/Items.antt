@@ -38,14 +38,14 @@ found_item_has_index p (z ∷ xs) x g = split_on_bool (p z)
 
 -- ---- what holds of each item
 
-pub all_gives_slice_get : {A : Type 0} (P : A → Type 0) (xs : List A) (k : ℕ) (x : A) → All P xs → slice_get xs k ≡ Some x → P x
-all_gives_slice_get P [] k x h g = absurd (cc)
-all_gives_slice_get P (z ∷ xs) zero x h g = let same : z ≡ x = cc in subst P same (All-head P z xs h)
-all_gives_slice_get P (z ∷ xs) (suc k) x h g = all_gives_slice_get P xs k x (All-tail P z xs h) g
+pub item_of_index_has_property : {A : Type 0} (P : A → Type 0) (xs : List A) (k : ℕ) (x : A) → All P xs → slice_get xs k ≡ Some x → P x
+item_of_index_has_property P [] k x h g = absurd (cc)
+item_of_index_has_property P (z ∷ xs) zero x h g = let same : z ≡ x = cc in subst P same (All-head P z xs h)
+item_of_index_has_property P (z ∷ xs) (suc k) x h g = item_of_index_has_property P xs k x (All-tail P z xs h) g
 
 pub all_gives_item_at : {A : Type 0} (P : A → Type 0) (xs : List A) (number : ℕ) (x : A) → All P xs → item_at xs number ≡ Some x → P x
 all_gives_item_at P xs zero x h g = absurd (cc)
-all_gives_item_at P xs (suc before) x h g = all_gives_slice_get P xs before x h g
+all_gives_item_at P xs (suc before) x h g = item_of_index_has_property P xs before x h g
 
 -- the item that a test finds
 pub all_gives_found_item : {A : Type 0} (P : A → Type 0) (p : A → Bool) (xs : List A) (x : A) → All P xs → find p xs ≡ Some x → P x × (p x ≡ true)

@@ -1,7 +1,7 @@
 -- What each node keeps in every run, beside a law of worlds that it may stand on.
-use Rattle.am_step_laws.proofs.EffectWords.{◌≡◌, ℕ, ◌==◌, List, subst, arith, nat_tests, split_on_bool, Outcome, Rules, has, Event, Node, founder, stranger, Step, World}
-use Rattle.am_step_laws.proofs.EffectWords.{start, run, first_node, with_record, with_step, Cause, Change, Effect, actor, IsCause, steps}
-use Rattle.am_step_laws.proofs.EffectWords.{All, Packet, Letter, hears, heard_by, WasSentTo}
+use Rattle.am_step_laws.proofs.EffectWords.{◌≡◌, ℕ, ◌==◌, List, subst, arith, nat_tests, split_on_bool, Outcome, Rules, has, Event, Node, founder, stranger_node, StepResult, World}
+use Rattle.am_step_laws.proofs.EffectWords.{start, run, first_node, world_with_record, world_with_step, Cause, Change, Effect, acting_name, IsCause, steps}
+use Rattle.am_step_laws.proofs.EffectWords.{All, Packet, Letter, hears, packet_heard_by_act, WasSentTo}
 use Rattle.am_step_laws.proofs.EffectRuns.{changes_keep_property, EventsKeep, runs_keep_what_events_keep}
 use Rattle.am_step_laws.proofs.Items.{all_gives_item_at}
 
@@ -12,28 +12,28 @@ pub record EachNodeHas (Base : World → Type 0) (P : ℕ → Node → Type 0) (
 
 -- what each step keeps for the name that acts
 abbrev pub StepsKeepOfActor : (World → Type 0) → (ℕ → Node → Type 0) → Type 0
-StepsKeepOfActor Base P = (w : World) (e : Event) (c : Cause) (s : Step) → IsCause w (actor w e) e.act c → Effect (w.nodes (actor w e)) c s → Base w
-    → P (actor w e) (w.nodes (actor w e)) → P (actor w e) s.node
+StepsKeepOfActor Base P = (w : World) (e : Event) (c : Cause) (s : StepResult) → IsCause w (acting_name w e) e.act c → Effect (w.nodes (acting_name w e)) c s → Base w
+    → P (acting_name w e) (w.nodes (acting_name w e)) → P (acting_name w e) s.node
 
 pub events_keep_each_node : (Base : World → Type 0) (P : ℕ → Node → Type 0) → EventsKeep Base → StepsKeepOfActor Base P → EventsKeep (EachNodeHas Base P)
-unfolding with_record with_step
+unfolding world_with_record world_with_step
 events_keep_each_node Base P keeps own w e v (steps c s runs cause effect) h = record {
   base = keeps w e v (steps c s runs cause effect) h.base;
-  each = λ name. split_on_bool (name == actor w e)
-      (λ t. let same : actor w e ≡ name = grind (arith, nat_tests) in
-      rw t (subst (λ k. P k s.node) same (own w e c s cause effect h.base (h.each (actor w e)))))
+  each = λ name. split_on_bool (name == acting_name w e)
+      (λ t. let same : acting_name w e ≡ name = grind (arith, nat_tests) in
+      rw t (subst (λ k. P k s.node) same (own w e c s cause effect h.base (h.each (acting_name w e)))))
       (λ f. rw f (h.each name));
 }
 events_keep_each_node Base P keeps own w e v other h = record { base = keeps w e v other h.base; each = h.each }
 
 -- a founder and a stranger begin so
-pub first_node_has_property : (rules : Rules) (P : Node → Type 0) (name : ℕ) → P (founder rules name) → P (stranger rules name) → P (first_node rules name)
+pub first_node_has_property : (rules : Rules) (P : Node → Type 0) (name : ℕ) → P (founder rules name) → P (stranger_node rules name) → P (first_node rules name)
 first_node_has_property rules P name founding strange = split_on_bool (has rules.founders name) (λ t. rw t founding) (λ f. rw f strange)
 
 -- what a founder and a stranger have and each change keeps is so of each node of every run
 pub record IsKeptFromTheFirst (rules : Rules) (P : Node → Type 0) : Type 0 where
   pub founder_has : (name : ℕ) → P (founder rules name)
-  pub stranger_has : (name : ℕ) → P (stranger rules name)
+  pub stranger_has : (name : ℕ) → P (stranger_node rules name)
   pub change_keeps : {c : Cause} {o : Outcome} (m n : Node) → Change c o m n → P m → P n
 
 pub nodes_of_runs_keep : (rules : Rules) (P : Node → Type 0) → IsKeptFromTheFirst rules P → (events : List Event) (name : ℕ) → P ((run rules events).nodes name)
@@ -43,8 +43,8 @@ nodes_of_runs_keep rules P own events =
     (record { base = tt; each = λ name. first_node_has_property rules P name (own.founder_has name) (own.stranger_has name) })).each
 
 -- what is so of each letter's packet is so of the one that is heard
-pub heard_packet_has_property : (P : Packet → Type 0) (w : World) (e : Event) (c : Cause) (p : Packet) → IsCause w (actor w e) e.act c → c ≡ hears p
+pub heard_packet_has_property : (P : Packet → Type 0) (w : World) (e : Event) (c : Cause) (p : Packet) → IsCause w (acting_name w e) e.act c → c ≡ hears p
     → All (λ (l : Letter). P l.packet) w.letters → P p
 heard_packet_has_property P w e c p cause is all =
-    let was : WasSentTo w (actor w e) e.act p = subst (IsCause w (actor w e) e.act) is cause in
-    subst P was.is (all_gives_item_at (λ (l : Letter). P l.packet) w.letters (heard_by e.act) was.letter all was.there)
+    let was : WasSentTo w (acting_name w e) e.act p = subst (IsCause w (acting_name w e) e.act) is cause in
+    subst P was.is (all_gives_item_at (λ (l : Letter). P l.packet) w.letters (packet_heard_by_act e.act) was.letter all was.there)

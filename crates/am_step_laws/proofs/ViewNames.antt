@@ -1,9 +1,9 @@
 -- The names of the Views that stand in lists, and of ballots.
 use Rattle.am_step_laws.proofs.Words.{◌≡◌, ℕ, ◌<◌, ◌&&◌, not, false, List, [], ◌∷◌, ◌++◌, Option, Some, None, sym, subst, arith, All, nat_tests, All-nil, All-cons}
-use Rattle.am_step_laws.proofs.Words.{All-append, Outcome, Stamp, Entry, Leave, View, stamp_lt, Packet, Node, Ballot, push_entry, Verdict, overtake, is_view}
-use Rattle.am_step_laws.proofs.Words.{refresh, refresh_at_end, split_on_bool, Cause, hears, HasOpen, Balloting, with_more, without_one, as_it_is, Looks, decides, Says}
-use Rattle.am_step_laws.proofs.Words.{piece, Promises, invited, overtaken_by, told_result, Numbers, asked_send, Change, refreshes}
-use Rattle.am_step_laws.proofs.Words.{settles, numbers, stores, begins_list, promises, opens, looks, fetches, stores_view, closes, all_gives_slice_get, refresh_rests_with_list}
+use Rattle.am_step_laws.proofs.Words.{All-append, Outcome, Stamp, Entry, Leave, View, stamp_is_less, Packet, Node, Ballot, push_entry, BallotVerdict, overtake_lower_ballot, is_view}
+use Rattle.am_step_laws.proofs.Words.{refresh, refresh_at_end, split_on_bool, Cause, hears, HasOpenBallot, BallotIsLookedAt, with_more, without_one, as_it_is, LooksAtBallot, decides, Says}
+use Rattle.am_step_laws.proofs.Words.{piece, MayPromise, invited, overtaken_by, told_result, IsNumberedBy, asked_send, Change, refreshes}
+use Rattle.am_step_laws.proofs.Words.{settles, numbers, stores, begins_list, promises, opens, looks, fetches, stores_view, closes, item_of_index_has_property, refresh_rests_with_list}
 use Rattle.am_step_laws.proofs.Words.{end_refresh_rests_with_list, settle_changes_only_sends, sender_of, stamp_of}
 use Rattle.am_packet.specs.declared.packet.Packet.TheVariants as packet
 
@@ -39,7 +39,7 @@ no_view : (e : Entry) → is_view e ≡ false → ViewStampHasName e
 no_view (View v) h = absurd (cc)
 no_view _ h = tt
 
-numbers_no_view : (c : Cause) (m : Node) (e : Entry) → Numbers c m e → ViewStampHasName e
+numbers_no_view : (c : Cause) (m : Node) (e : Entry) → IsNumberedBy c m e → ViewStampHasName e
 numbers_no_view c m e (asked_send s v report req body by known stays next) = tt
 numbers_no_view c m e _ = tt
 
@@ -49,19 +49,19 @@ one_more m e is h = All-append ViewStampHasName m.core.log.entries (e ∷ []) h 
 names_pushed : (m : Node) (e : Entry) → ViewStampHasName e → NodePartsHaveNames m → NodePartsHaveNames (push_entry m e)
 names_pushed m e is h = record { who_ = h.who_; promise_ = h.promise_; entries_ = one_more m e is h.entries_; ballot_ = h.ballot_ }
 
-ballot_overtaken : (by : Stamp) (ballot : Option Ballot) → BallotNamed ballot → BallotNamed (overtake by ballot)
+ballot_overtaken : (by : Stamp) (ballot : Option Ballot) → BallotNamed ballot → BallotNamed (overtake_lower_ballot by ballot)
 ballot_overtaken by None h = tt
-ballot_overtaken by (Some b) h = split_on_bool (not b.is_over && stamp_lt b.stamp by) (λ t. rw t h) (λ f. rw f h)
+ballot_overtaken by (Some b) h = split_on_bool (not b.is_over && stamp_is_less b.stamp by) (λ t. rw t h) (λ f. rw f h)
 
-open_named : (m : Node) (b : Ballot) → HasOpen m b → NodePartsHaveNames m → b.stamp.by < 256
+open_named : (m : Node) (b : Ballot) → HasOpenBallot m b → NodePartsHaveNames m → b.stamp.by < 256
 open_named m b open_ h = subst BallotNamed open_.last h.ballot_
 
-looked_named : {c : Cause} (m : Node) (b : Ballot) → Balloting c m b → NodePartsHaveNames m → b.stamp.by < 256
+looked_named : {c : Cause} (m : Node) (b : Ballot) → BallotIsLookedAt c m b → NodePartsHaveNames m → b.stamp.by < 256
 looked_named m b (with_more old s v shown is by low high open_ same stays) h = open_named m old open_ h
 looked_named m b (without_one old name is open_ other) h = open_named m old open_ h
 looked_named m b (as_it_is old open_ on) h = open_named m old open_ h
 
-look_names : (m : Node) (b : Ballot) (v : Verdict) → Looks m b v → b.stamp.by < 256 → NodePartsHaveNames m → NodePartsHaveNames v.node
+look_names : (m : Node) (b : Ballot) (v : BallotVerdict) → LooksAtBallot m b v → b.stamp.by < 256 → NodePartsHaveNames m → NodePartsHaveNames v.node
 look_names m b v (decides may) k h = record { who_ = h.who_; promise_ = h.promise_; entries_ = one_more m _ k h.entries_; ballot_ = k }
 look_names m b v _ k h = record { who_ = h.who_; promise_ = h.promise_; entries_ = h.entries_; ballot_ = k }
 
@@ -74,7 +74,7 @@ same_names m n a p b c h = record {
   ballot_ = rw c h.ballot_;
 }
 
-pub promised_stamp_has_name : (c : Cause) (m : Node) (v : Stamp) → Promises c m v → HeardStampsHaveNames c → v.by < 256
+pub promised_stamp_has_name : (c : Cause) (m : Node) (v : Stamp) → MayPromise c m v → HeardStampsHaveNames c → v.by < 256
 promised_stamp_has_name c m v (invited s _ is by own) heard = heard.stamps (packet.Invite s v) is
 promised_stamp_has_name c m v (overtaken_by s _ shown is by above) heard = heard.stamps (packet.Vote s v shown) is
 promised_stamp_has_name c m v (told_result s base number w is by own other) heard = heard.stamps (packet.Result s base number w) is
@@ -111,5 +111,5 @@ change_keeps_stamp_names heard m n _ h = h
 
 -- the entries that are served
 pub served_pieces_have_names : (m n : Node) (c : Cause) (to : List ℕ) (p : Packet) → NodePartsHaveNames n → Says m c n to p → PieceViewHasName p
-served_pieces_have_names m n c to p h (piece s v stored number e is may at) = all_gives_slice_get ViewStampHasName n.core.log.entries at.index e h.entries_ at.there
+served_pieces_have_names m n c to p h (piece s v stored number e is may at) = item_of_index_has_property ViewStampHasName n.core.log.entries at.index e h.entries_ at.there
 served_pieces_have_names m n c to p h _ = tt

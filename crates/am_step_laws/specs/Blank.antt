@@ -3,7 +3,7 @@ use Rattle.std.specs.Prelude.{◌≡◌, ℕ, ◌<◌, List, [], None, false}
 use Rattle.am_base.specs.Founding.{Rules, MayFound}
 use Rattle.am_base.specs.Lists.{blank}
 use Rattle.am_group.specs.declared.event.Event.{Event}
-use Rattle.am_model.specs.Node.{Node, has_log}
+use Rattle.am_model.specs.Node.{Node, has_log_by_status}
 use Rattle.am_group_defs.specs.World.{run}
 
 -- nothing is told, accepted or taken, and no ballot was begun
@@ -17,6 +17,6 @@ pub record IsBlank (m : Node) : Type 0 where
   pub ballot : m.ballot ≡ None
 
 -- a node that is neither a Member nor has departed
-abbrev pub BlankHolds : Type 0
-BlankHolds = (rules : Rules) (events : List Event) (name : ℕ) → MayFound rules → name < 256 → has_log ((run rules events).nodes name).status ≡ false
+abbrev pub NodesWithoutListAreBlank : Type 0
+NodesWithoutListAreBlank = (rules : Rules) (events : List Event) (name : ℕ) → MayFound rules → name < 256 → has_log_by_status ((run rules events).nodes name).status ≡ false
     → IsBlank ((run rules events).nodes name)

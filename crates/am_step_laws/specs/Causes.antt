@@ -27,19 +27,19 @@ cause_of event = calls event
 -- ---- what packets bring, with their sender and stamp
 
 -- a send of its sender
-pub data BringsSend : Cause → ℕ → Stamp → Report → ℕ → List ℕ → Type 0 where
-  by_request : (s : ℕ) (v : Stamp) (report : Report) (req : ℕ) (body : List ℕ) → BringsSend (hears (Request s v report req body)) s v report req body
-  by_spread : (s : ℕ) (v : Stamp) (report : Report) (req : ℕ) (body : List ℕ) → BringsSend (hears (Spread s v report req body)) s v report req body
+pub data CauseHasSend : Cause → ℕ → Stamp → Report → ℕ → List ℕ → Type 0 where
+  by_request : (s : ℕ) (v : Stamp) (report : Report) (req : ℕ) (body : List ℕ) → CauseHasSend (hears (Request s v report req body)) s v report req body
+  by_spread : (s : ℕ) (v : Stamp) (report : Report) (req : ℕ) (body : List ℕ) → CauseHasSend (hears (Spread s v report req body)) s v report req body
 
 -- a report
-pub data BringsReport : Cause → ℕ → Stamp → Report → Type 0 where
-  with_send : {c : Cause} (s : ℕ) (v : Stamp) (report : Report) (req : ℕ) (body : List ℕ) → BringsSend c s v report req body → BringsReport c s v report
-  by_ack : (s : ℕ) (v : Stamp) (report : Report) → BringsReport (hears (Ack s v report)) s v report
-  by_nack : (s : ℕ) (v : Stamp) (report : Report) → BringsReport (hears (Nack s v report)) s v report
-  by_leave_ask : (s : ℕ) (v : Stamp) (report : Report) → BringsReport (hears (LeaveAsk s v report)) s v report
+pub data CauseHasReport : Cause → ℕ → Stamp → Report → Type 0 where
+  with_send : {c : Cause} (s : ℕ) (v : Stamp) (report : Report) (req : ℕ) (body : List ℕ) → CauseHasSend c s v report req body → CauseHasReport c s v report
+  by_ack : (s : ℕ) (v : Stamp) (report : Report) → CauseHasReport (hears (Ack s v report)) s v report
+  by_nack : (s : ℕ) (v : Stamp) (report : Report) → CauseHasReport (hears (Nack s v report)) s v report
+  by_leave_ask : (s : ℕ) (v : Stamp) (report : Report) → CauseHasReport (hears (LeaveAsk s v report)) s v report
 
 -- how far the sequencer trimmed and accepted
-pub data BringsFronts : Cause → ℕ → Stamp → ℕ → ℕ → Type 0 where
-  with_entry : (s : ℕ) (v : Stamp) (base acc number : ℕ) (e : Entry) → BringsFronts (hears (Bcast s v base acc number e)) s v base acc
-  with_number : (s : ℕ) (v : Stamp) (base acc number from req : ℕ) → BringsFronts (hears (Order s v base acc number from req)) s v base acc
-  alone : (s : ℕ) (v : Stamp) (base acc high : ℕ) (poll : Bool) → BringsFronts (hears (Accept s v base acc high poll)) s v base acc
+pub data CauseHasFronts : Cause → ℕ → Stamp → ℕ → ℕ → Type 0 where
+  with_entry : (s : ℕ) (v : Stamp) (base acc number : ℕ) (e : Entry) → CauseHasFronts (hears (Bcast s v base acc number e)) s v base acc
+  with_number : (s : ℕ) (v : Stamp) (base acc number from req : ℕ) → CauseHasFronts (hears (Order s v base acc number from req)) s v base acc
+  alone : (s : ℕ) (v : Stamp) (base acc high : ℕ) (poll : Bool) → CauseHasFronts (hears (Accept s v base acc high poll)) s v base acc

@@ -11,25 +11,25 @@ use Rattle.am_base.specs.declared.outcome.Outcome.{Outcome}
 use Rattle.am_base.specs.declared.outcome.Outcome.TheVariants as said
 use Rattle.am_base.specs.declared.event.NodeEvent.TheVariants as does
 use Rattle.am_base.specs.Names.{size}
-use Rattle.am_base.specs.Stamps.{stamp_lt, stamp_eq}
-use Rattle.am_base.specs.Lists.{fits, entry_at, row_of}
+use Rattle.am_base.specs.Stamps.{stamp_is_less, stamps_are_equal}
+use Rattle.am_base.specs.Lists.{fits, log_entry_at, row_of_name}
 use Rattle.am_packet.specs.declared.packet.Packet.TheVariants as packet
 use Rattle.am_node_defs.specs.declared.sender.OwnSend.{OwnSend}
 use Rattle.am_node_defs.specs.Sends as own
 use Rattle.am_node_defs.specs.Bodies.{keep_body}
 use Rattle.am_model.specs.declared.status.Status.TheVariants as status
-use Rattle.am_model.specs.Node.{Node, Ballot, top, image_of, view, own_row, others, is_member, is_sequencer, has_room, has_own_leave, is_within_bound}
-use Rattle.am_model.specs.Node.{report_fits, node_with_report, push_entry, trim_up_to, waiting, node_unsettled_count}
-use Rattle.am_model.specs.Refresh.{refresh, settle, refresh_at_end}
-use Rattle.am_model.specs.Ballots.{Verdict, with_promise, next_stamp, new_ballot}
-use Rattle.am_model.specs.Calls.{with_queued, is_unfinished}
-use Rattle.am_model.specs.Sequencing.{row_at, is_unknown}
-use Rattle.am_model.specs.Receiving.{is_view, with_noted, bodies_after, body_of}
-use Rattle.am_model.specs.Joining.{node_with_admitted, begin_list}
-use Rattle.am_model.specs.Resets.{is_view_past, fetches_from}
-use Rattle.am_model.specs.Hearing.{hears_member, hears_asking, hears_in_view, hears_sequencer}
-use Rattle.am_step_laws.specs.Causes.{Cause, calls, hears, BringsSend, BringsReport, BringsFronts}
-use Rattle.am_step_laws.specs.Looks.{MayBegin, BeginsBy, HasOpen, Looks, Balloting}
+use Rattle.am_model.specs.Node.{Node, Ballot, top, image_of_node, view, own_row, other_members, is_member, is_sequencer, has_room, has_own_leave, number_is_within_bound}
+use Rattle.am_model.specs.Node.{report_fits, node_with_report, push_entry, trim_node_up_to, waiting_send_of, node_unsettled_count}
+use Rattle.am_model.specs.Refresh.{refresh, settle_waiting_send, refresh_at_end}
+use Rattle.am_model.specs.Ballots.{BallotVerdict, node_with_promise, next_stamp, new_ballot}
+use Rattle.am_model.specs.Calls.{node_with_queued_send, is_unfinished_ballot}
+use Rattle.am_model.specs.Sequencing.{row_of_name_in_list, has_no_join}
+use Rattle.am_model.specs.Receiving.{is_view, node_with_noted_fronts, bodies_after_stored_entry, body_of_spread_send}
+use Rattle.am_model.specs.Joining.{node_with_joiner_reports, node_of_welcomed}
+use Rattle.am_model.specs.Resets.{is_unfetchable_view, fetches_from}
+use Rattle.am_model.specs.Hearing.{member_hears_other, member_or_asker_hears_other, hears_packet_of_its_view, hears_packet_of_sequencer}
+use Rattle.am_step_laws.specs.Causes.{Cause, calls, hears, CauseHasSend, CauseHasReport, CauseHasFronts}
+use Rattle.am_step_laws.specs.Looks.{MayBegin, BeginsBy, HasOpenBallot, LooksAtBallot, BallotIsLookedAt}
 
 -- ---- the sequencer
 
@@ -37,18 +37,18 @@ use Rattle.am_step_laws.specs.Looks.{MayBegin, BeginsBy, HasOpen, Looks, Balloti
 pub record MayReport (m : Node) (s : ℕ) (v : Stamp) (report : Report) : Type 0 where
   pub leads : is_sequencer m ≡ true
   pub other : (s == m.core.who) ≡ false
-  pub view : stamp_eq v (view m) ≡ true
-  pub known : is_unknown m s ≡ false
+  pub view : stamps_are_equal v (view m) ≡ true
+  pub known : has_no_join m s ≡ false
   pub fits : report_fits m report ≡ true
 
 -- what a sequencer numbers: a member's next send, its own waiting one, a Join that fits, and the Leave of a member that asks
-pub data Numbers (c : Cause) (m : Node) : Entry → Type 0 where
-  asked_send : (s : ℕ) (v : Stamp) (report : Report) (req : ℕ) (body : List ℕ) → BringsSend c s v report req body → is_unknown m s ≡ false
-      → nat_lt 0 (row_at m s).left ≡ false → req ≡ (row_at m s).last + 1 → Numbers c m (Data s req body)
-  own_send : (s : OwnSend) → waiting m ≡ Some s → nat_lt (own_row m).last s.req ≡ true → Numbers c m (Data m.core.who s.req s.body)
-  asked_join : (s : ℕ) (v : Stamp) → c ≡ hears (packet.JoinAsk s v) → (s == m.core.who) ≡ false → fits (image_of m) (Join s) ≡ true → Numbers c m (Join s)
-  asked_leave : (s : ℕ) (v : Stamp) (report : Report) → c ≡ hears (packet.LeaveAsk s v report) → (s == m.core.who) ≡ false → is_unknown m s ≡ false
-      → ((row_at m s).left == 0) ≡ true → Numbers c m (Leave s)
+pub data IsNumberedBy (c : Cause) (m : Node) : Entry → Type 0 where
+  asked_send : (s : ℕ) (v : Stamp) (report : Report) (req : ℕ) (body : List ℕ) → CauseHasSend c s v report req body → has_no_join m s ≡ false
+      → nat_lt 0 (row_of_name_in_list m s).left ≡ false → req ≡ (row_of_name_in_list m s).last + 1 → IsNumberedBy c m (Data s req body)
+  own_send : (s : OwnSend) → waiting_send_of m ≡ Some s → nat_lt (own_row m).last s.req ≡ true → IsNumberedBy c m (Data m.core.who s.req s.body)
+  asked_join : (s : ℕ) (v : Stamp) → c ≡ hears (packet.JoinAsk s v) → (s == m.core.who) ≡ false → fits (image_of_node m) (Join s) ≡ true → IsNumberedBy c m (Join s)
+  asked_leave : (s : ℕ) (v : Stamp) (report : Report) → c ≡ hears (packet.LeaveAsk s v report) → (s == m.core.who) ≡ false → has_no_join m s ≡ false
+      → ((row_of_name_in_list m s).left == 0) ≡ true → IsNumberedBy c m (Leave s)
 
 -- ---- a member
 
@@ -58,38 +58,38 @@ pub record MayStore (m : Node) (above base number : ℕ) (e : Entry) : Type 0 wh
   pub next : number ≡ top m + 1
   pub taken : base ≤ m.core.taken
   pub stays : has_own_leave m ≡ false
-  pub fits : fits (image_of m) e ≡ true
-  pub within : is_within_bound m above number ≡ true
+  pub fits : fits (image_of_node m) e ≡ true
+  pub within : number_is_within_bound m above number ≡ true
 
 -- the entry that the sequencer numbered, whole, or by a send whose body is there
-pub data Carries (c : Cause) (m : Node) (s : ℕ) (v : Stamp) (base acc number : ℕ) : Entry → Type 0 where
-  whole_entry : (e : Entry) → c ≡ hears (packet.Bcast s v base acc number e) → Carries c m s v base acc number e
-  by_number : (from req : ℕ) (body : List ℕ) → c ≡ hears (packet.Order s v base acc number from req) → body_of m from req ≡ Some body
-      → Carries c m s v base acc number (Data from req body)
+pub data CarriesEntry (c : Cause) (m : Node) (s : ℕ) (v : Stamp) (base acc number : ℕ) : Entry → Type 0 where
+  whole_entry : (e : Entry) → c ≡ hears (packet.Bcast s v base acc number e) → CarriesEntry c m s v base acc number e
+  by_number : (from req : ℕ) (body : List ℕ) → c ≡ hears (packet.Order s v base acc number from req) → body_of_spread_send m from req ≡ Some body
+      → CarriesEntry c m s v base acc number (Data from req body)
 
 -- a joiner begins where it was told, at a Join above the base of a view that isn't below its promise
 pub record MayBeWelcomed (m : Node) (s : ℕ) (v : Stamp) (base join : ℕ) (image : Image) : Type 0 where
-  pub asks : hears_asking m s ≡ true
+  pub asks : member_or_asker_hears_other m s ≡ true
   pub own : (v.by == s) ≡ true
   pub no_member : is_member m.status ≡ false
-  pub promise : stamp_lt v m.core.promise ≡ false
+  pub promise : stamp_is_less v m.core.promise ≡ false
   pub above : base < join
-  pub within : is_within_bound m base join ≡ true
-  pub view : stamp_lt v image.view ≡ false
-  pub new : nat_lt 0 (row_of image m.core.who).joined ≡ false
+  pub within : number_is_within_bound m base join ≡ true
+  pub view : stamp_is_less v image.view ≡ false
+  pub new : nat_lt 0 (row_of_name image m.core.who).joined ≡ false
 
 -- what is fetched: of the promise's own name without an unfinished ballot, or of the name that the ballot fetches from
-pub data Fetches (m : Node) (s : ℕ) (v : Stamp) (e : Entry) : Type 0 where
-  without_ballot : is_unfinished m.ballot ≡ false → (v.by == s) ≡ true → is_view_past v false e ≡ false → Fetches m s v e
-  for_ballot : (b : Ballot) → HasOpen m b → fetches_from b.answer s ≡ true → is_view_past v true e ≡ false → Fetches m s v e
+pub data MayStoreFetched (m : Node) (s : ℕ) (v : Stamp) (e : Entry) : Type 0 where
+  without_ballot : is_unfinished_ballot m.ballot ≡ false → (v.by == s) ≡ true → is_unfetchable_view v false e ≡ false → MayStoreFetched m s v e
+  for_ballot : (b : Ballot) → HasOpenBallot m b → fetches_from b.answer s ≡ true → is_unfetchable_view v true e ≡ false → MayStoreFetched m s v e
 
 -- ---- promises
 
-pub data Promises (c : Cause) (m : Node) : Stamp → Type 0 where
-  invited : (s : ℕ) (v : Stamp) → c ≡ hears (packet.Invite s v) → hears_asking m s ≡ true → (v.by == s) ≡ true → Promises c m v
-  overtaken : (s : ℕ) (v : Stamp) (vote : Vote) → c ≡ hears (packet.Vote s v vote) → hears_member m s ≡ true → stamp_lt m.core.promise v ≡ true → Promises c m v
+pub data MayPromise (c : Cause) (m : Node) : Stamp → Type 0 where
+  invited : (s : ℕ) (v : Stamp) → c ≡ hears (packet.Invite s v) → member_or_asker_hears_other m s ≡ true → (v.by == s) ≡ true → MayPromise c m v
+  overtaken : (s : ℕ) (v : Stamp) (vote : Vote) → c ≡ hears (packet.Vote s v vote) → member_hears_other m s ≡ true → stamp_is_less m.core.promise v ≡ true → MayPromise c m v
   told_result : (s : ℕ) (base number : ℕ) (v : GroupView) → c ≡ hears (packet.Result s base number v)
-      → hears_member m s ≡ true → (v.stamp.by == s) ≡ true → (v.stamp.by == m.core.who) ≡ false → Promises c m v.stamp
+      → member_hears_other m s ≡ true → (v.stamp.by == s) ≡ true → (v.stamp.by == m.core.who) ≡ false → MayPromise c m v.stamp
 
 -- ---- the changes
 
@@ -98,51 +98,51 @@ pub data Change (c : Cause) (o : Outcome) : Node → Node → Type 0 where
   -- what it does with what it knows: at the end of a step, and once a report is taken
   refreshes : {m : Node} → Change c o m (refresh m)
   -- its waiting send is settled where it is accepted: at the end of a step
-  settles : {m : Node} → Change c o m (settle m)
+  settles : {m : Node} → Change c o m (settle_waiting_send m)
   -- the sequencer takes a report, lets a joiner's begin, and numbers an entry
-  takes_report : {m : Node} (s : ℕ) (v : Stamp) (report : Report) → BringsReport c s v report → MayReport m s v report → Change c o m (node_with_report m s report)
-  admits : {m : Node} (s : ℕ) (v : Stamp) → c ≡ hears (packet.JoinAsk s v) → is_sequencer m ≡ true → fits (image_of m) (Join s) ≡ true
-      → Change c o m (node_with_admitted m s)
-  numbers : {m : Node} (e : Entry) → is_sequencer m ≡ true → has_room m ≡ true → Numbers c m e → Change c o m (push_entry m e)
+  takes_report : {m : Node} (s : ℕ) (v : Stamp) (report : Report) → CauseHasReport c s v report → MayReport m s v report → Change c o m (node_with_report m s report)
+  admits : {m : Node} (s : ℕ) (v : Stamp) → c ≡ hears (packet.JoinAsk s v) → is_sequencer m ≡ true → fits (image_of_node m) (Join s) ≡ true
+      → Change c o m (node_with_joiner_reports m s)
+  numbers : {m : Node} (e : Entry) → is_sequencer m ≡ true → has_room m ≡ true → IsNumberedBy c m e → Change c o m (push_entry m e)
   -- a member keeps a body that was spread, notes the sequencer's fronts, and stores an entry
   keeps_body : {m : Node} (s : ℕ) (v : Stamp) (report : Report) (req : ℕ) (body : List ℕ) → c ≡ hears (packet.Spread s v report req body)
-      → hears_in_view m s v ≡ true → Change c o m (record m { bodies = keep_body s req body m.bodies })
-  notes : {m : Node} (s : ℕ) (v : Stamp) (base acc : ℕ) → BringsFronts c s v base acc → hears_sequencer m s v ≡ true → Change c o m (with_noted m base acc)
-  stores : {m : Node} (s : ℕ) (v : Stamp) (base acc number : ℕ) (e : Entry) → Carries c m s v base acc number e → hears_sequencer m s v ≡ true
-      → is_view e ≡ false → MayStore m m.core.base base number e → Change c o m (record (push_entry m e) { bodies = bodies_after m.bodies e })
+      → hears_packet_of_its_view m s v ≡ true → Change c o m (record m { bodies = keep_body s req body m.bodies })
+  notes : {m : Node} (s : ℕ) (v : Stamp) (base acc : ℕ) → CauseHasFronts c s v base acc → hears_packet_of_sequencer m s v ≡ true → Change c o m (node_with_noted_fronts m base acc)
+  stores : {m : Node} (s : ℕ) (v : Stamp) (base acc number : ℕ) (e : Entry) → CarriesEntry c m s v base acc number e → hears_packet_of_sequencer m s v ≡ true
+      → is_view e ≡ false → MayStore m m.core.base base number e → Change c o m (record (push_entry m e) { bodies = bodies_after_stored_entry m.bodies e })
   -- a joiner's list begins
   begins_list : {m : Node} (s : ℕ) (v : Stamp) (base join : ℕ) (image : Image) → c ≡ hears (packet.Welcome s v base join image) → o ≡ said.Welcomed join
-      → MayBeWelcomed m s v base join image → Change c o m (begin_list m v base join image)
+      → MayBeWelcomed m s v base join image → Change c o m (node_of_welcomed m v base join image)
   -- a leaver that was let go departs
-  departs : {m : Node} (s : ℕ) (v : Stamp) (number : ℕ) → c ≡ hears (packet.Gone s v number) → hears_member m s ≡ true → m.leaving ≡ true
+  departs : {m : Node} (s : ℕ) (v : Stamp) (number : ℕ) → c ≡ hears (packet.Gone s v number) → member_hears_other m s ≡ true → m.leaving ≡ true
       → Change c o m (record m { status = status.Departed })
   -- the promise is a stamp that isn't below it
-  promises : {m : Node} (v : Stamp) → stamp_lt v m.core.promise ≡ false → Promises c m v → Change c o m (with_promise m v)
+  promises : {m : Node} (v : Stamp) → stamp_is_less v m.core.promise ≡ false → MayPromise c m v → Change c o m (node_with_promise m v)
   -- a ballot begins, of the next round of its own, with a resilience of at most 15
   opens : {m : Node} (least resilience : ℕ) → BeginsBy m c → MayBegin m
-      → Change c o m (record (with_promise m (next_stamp m)) { ballot = Some (new_ballot (next_stamp m) least (min resilience 15)) })
+      → Change c o m (record (node_with_promise m (next_stamp m)) { ballot = Some (new_ballot (next_stamp m) least (min resilience 15)) })
   -- a ballot is looked at
-  looks : {m : Node} (b : Ballot) (verdict : Verdict) → b.is_over ≡ false → Balloting c m b → Looks m b verdict → o ≡ verdict.outcome
+  looks : {m : Node} (b : Ballot) (verdict : BallotVerdict) → b.is_over ≡ false → BallotIsLookedAt c m b → LooksAtBallot m b verdict → o ≡ verdict.outcome
       → Change c o m verdict.node
   -- a fetched entry is stored
-  fetches : {m : Node} (s : ℕ) (v : Stamp) (base number : ℕ) (e : Entry) → c ≡ hears (packet.Piece s v base number e) → hears_member m s ≡ true
-      → stamp_eq v m.core.promise ≡ true → stamp_eq (view m) v ≡ false → Fetches m s v e → MayStore m (max m.core.base base) base number e
-      → Change c o m (push_entry (trim_up_to m base) e)
+  fetches : {m : Node} (s : ℕ) (v : Stamp) (base number : ℕ) (e : Entry) → c ≡ hears (packet.Piece s v base number e) → member_hears_other m s ≡ true
+      → stamps_are_equal v m.core.promise ≡ true → stamps_are_equal (view m) v ≡ false → MayStoreFetched m s v e → MayStore m (max m.core.base base) base number e
+      → Change c o m (push_entry (trim_node_up_to m base) e)
   -- the View of the ballot that it promised is stored
   stores_view : {m : Node} (s : ℕ) (base number : ℕ) (v : GroupView) → c ≡ hears (packet.Result s base number v)
-      → hears_member m s ≡ true → (v.stamp.by == s) ≡ true → (v.stamp.by == m.core.who) ≡ false → m.core.promise ≡ v.stamp → stamp_eq (view m) v.stamp ≡ false
-      → MayStore m (max m.core.base base) base number (View v) → Change c o m (push_entry (trim_up_to m base) (View v))
+      → member_hears_other m s ≡ true → (v.stamp.by == s) ≡ true → (v.stamp.by == m.core.who) ≡ false → m.core.promise ≡ v.stamp → stamps_are_equal (view m) v.stamp ≡ false
+      → MayStore m (max m.core.base base) base number (View v) → Change c o m (push_entry (trim_node_up_to m base) (View v))
   -- the application sends, collects what came of a send, takes the next entry, asks to join, and asks to leave
   queues : {m : Node} (body : List ℕ) → c ≡ calls (does.Send body) → o ≡ said.Queued (m.sends.last + 1) → is_member m.status ≡ true → m.leaving ≡ false
-      → nat_le 4 (length m.sends.queue) ≡ false → Change c o m (with_queued m body)
+      → nat_le 4 (length m.sends.queue) ≡ false → Change c o m (node_with_queued_send m body)
   collects : {m : Node} (req : ℕ) → c ≡ calls (does.Done req) → Change c o m (record m { sends = own.collect req m.sends })
   takes : {m : Node} (e : Entry) → c ≡ calls does.Take → o ≡ said.Took (m.core.taken + 1) e → is_member m.status ≡ true → (m.core.taken == m.core.acc) ≡ false
-      → entry_at m.core.log (m.core.taken + 1) ≡ Some e → Change c o m (record m { core = record (m.core) { taken = m.core.taken + 1 } })
+      → log_entry_at m.core.log (m.core.taken + 1) ≡ Some e → Change c o m (record m { core = record (m.core) { taken = m.core.taken + 1 } })
   asks_to_join : {m : Node} → c ≡ calls does.Join → m.status ≡ status.Stranger → Change c o m (record m { status = status.Asking })
-  asks_to_leave : {m : Node} → c ≡ calls does.Leave → m.status ≡ status.Member → m.leaving ≡ false → (nat_lt 0 (node_unsettled_count m) || is_unfinished m.ballot)
+  asks_to_leave : {m : Node} → c ≡ calls does.Leave → m.status ≡ status.Member → m.leaving ≡ false → (nat_lt 0 (node_unsettled_count m) || is_unfinished_ballot m.ballot)
       ≡ false → Change c o m (record m { leaving = true })
   -- the last member, which is leaving, numbers its own Leave and departs
-  closes : {m : Node} → is_sequencer m ≡ true → m.leaving ≡ true → nat_lt 0 (size (others m)) ≡ false → has_room m ≡ true
+  closes : {m : Node} → is_sequencer m ≡ true → m.leaving ≡ true → nat_lt 0 (size (other_members m)) ≡ false → has_room m ≡ true
       → Change c o m (record (refresh_at_end (push_entry m (Leave m.core.who))) { status = status.Departed })
 
 -- some changes in turn

@@ -5,5 +5,5 @@ use Rattle.am_group.specs.declared.event.Event.{Event}
 use Rattle.am_group_defs.specs.Claims.{Bounded}
 
 -- Each node of every run of every founding.
-abbrev pub BoundedHolds : Type 0
-BoundedHolds = (rules : Rules) (events : List Event) → MayFound rules → Bounded rules events
+abbrev pub NodesAreBounded : Type 0
+NodesAreBounded = (rules : Rules) (events : List Event) → MayFound rules → Bounded rules events

@@ -4,7 +4,7 @@ use Rattle.am_base.specs.declared.outcome.Outcome.{Outcome}
 use Rattle.am_base.specs.declared.outcome.Outcome.TheVariants as said
 use Rattle.am_base.specs.declared.event.NodeEvent.{NodeEvent}
 use Rattle.am_base.specs.declared.event.NodeEvent.TheVariants as does
-use Rattle.am_base.specs.Names.{place_of}
+use Rattle.am_base.specs.Names.{place_of_name}
 use Rattle.am_packet.specs.declared.packet.Packet.{Packet}
 use Rattle.am_packet.specs.Boxes.{Letter}
 use Rattle.am_group.specs.declared.event.Act.{Act}
@@ -12,23 +12,23 @@ use Rattle.am_group.specs.declared.event.Act.TheVariants as act
 use Rattle.am_group.specs.declared.event.Event.{Event}
 use Rattle.am_group.specs.Addressed.{is_for}
 use Rattle.am_group.specs.Journals.{letter_at}
-use Rattle.am_model.specs.Emit.{Step}
-use Rattle.am_group_defs.specs.World.{World, current, is_stopped, with_record, with_step, lives_on, happens}
+use Rattle.am_model.specs.Emit.{StepResult}
+use Rattle.am_group_defs.specs.World.{World, current, is_stopped, world_with_record, world_with_step, world_with_next_life, happens}
 use Rattle.am_model.specs.Node.{has_departed}
-use Rattle.am_group_defs.specs.Claims.{heard_by}
+use Rattle.am_group_defs.specs.Claims.{packet_heard_by_act}
 use Rattle.am_step_laws.specs.Causes.{Cause, calls, hears, refuses}
 use Rattle.am_step_laws.specs.Effects.{Effect}
 
 -- ---- why the acting name does a step
 
 -- the name that acts at an event
-abbrev pub actor : World → Event → ℕ
-actor w e = current w (place_of e.node)
+abbrev pub acting_name : World → Event → ℕ
+acting_name w e = current w (place_of_name e.node)
 
 -- a letter for it, by the number that the act names, with this packet
 pub record WasSentTo (w : World) (name : ℕ) (a : Act) (p : Packet) : Type 0 where
   pub letter : Letter
-  pub there : letter_at w.letters (heard_by a) ≡ Some letter
+  pub there : letter_at w.letters (packet_heard_by_act a) ≡ Some letter
   pub addressed : is_for letter name ≡ true
   pub is : letter.packet ≡ p
 
@@ -62,14 +62,14 @@ IsIdle (said.Sent req number) = ⊥
 IsIdle (said.Welcomed number) = ⊥
 IsIdle _ = Unit {0}
 
-pub data Happens (w : World) (e : Event) : World → Type 0 where
-  idles : (o : Outcome) → IsIdle o → Happens w e (with_record w e o)
-  stops : is_stopped w (actor w e) ≡ false → Happens w e (with_record (record w { stopped = w.stopped ++ actor w e ∷ [] }) e said.Stopped)
-  returns : (place : ℕ) → place ≡ place_of (actor w e) → (is_stopped w (current w place) || has_departed (w.nodes (current w place)).status) ≡ true
-      → (w.lives place == 16) ≡ false → Happens w e (lives_on (with_record w e (said.Returned (w.lives place + 1))) place)
-  steps : (c : Cause) (s : Step) → is_stopped w (actor w e) ≡ false → IsCause w (actor w e) e.act c → Effect (w.nodes (actor w e)) c s
-      → Happens w e (with_step w e (actor w e) s)
+pub data EventHappens (w : World) (e : Event) : World → Type 0 where
+  idles : (o : Outcome) → IsIdle o → EventHappens w e (world_with_record w e o)
+  stops : is_stopped w (acting_name w e) ≡ false → EventHappens w e (world_with_record (record w { stopped = w.stopped ++ acting_name w e ∷ [] }) e said.Stopped)
+  returns : (place : ℕ) → place ≡ place_of_name (acting_name w e) → (is_stopped w (current w place) || has_departed (w.nodes (current w place)).status) ≡ true
+      → (w.lives place == 16) ≡ false → EventHappens w e (world_with_next_life (world_with_record w e (said.Returned (w.lives place + 1))) place)
+  steps : (c : Cause) (s : StepResult) → is_stopped w (acting_name w e) ≡ false → IsCause w (acting_name w e) e.act c → Effect (w.nodes (acting_name w e)) c s
+      → EventHappens w e (world_with_step w e (acting_name w e) s)
 
 -- each event of each world
 abbrev pub EventsHaveEffects : Type 0
-EventsHaveEffects = (w : World) (e : Event) → Happens w e (happens w e)
+EventsHaveEffects = (w : World) (e : Event) → EventHappens w e (happens w e)

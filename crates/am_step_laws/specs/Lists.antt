@@ -3,12 +3,12 @@ use Rattle.std.specs.Prelude.{◌≡◌, true, false, ℕ, ◌<◌, ◌≤◌, L
 use Rattle.am_base.specs.declared.entry.Entry.{Entry}
 use Rattle.am_base.specs.Founding.{Rules, MayFound}
 use Rattle.am_group.specs.declared.event.Event.{Event}
-use Rattle.am_model.specs.Node.{Node, has_log}
-use Rattle.am_model.specs.Emit.{Step}
+use Rattle.am_model.specs.Node.{Node, has_log_by_status}
+use Rattle.am_model.specs.Emit.{StepResult}
 use Rattle.am_group_defs.specs.World.{World, run, is_stopped}
 use Rattle.am_step_laws.specs.Causes.{Cause}
 use Rattle.am_step_laws.specs.Effects.{Effect}
-use Rattle.am_step_laws.specs.Events.{actor, IsCause}
+use Rattle.am_step_laws.specs.Events.{acting_name, IsCause}
 
 -- the entries that a node stored since
 abbrev pub stored_since : Node → Node → List Entry
@@ -21,12 +21,12 @@ pub record AddsEntries (w : World) (name : ℕ) (n : Node) : Type 0 where
   pub adds : n.core.log.entries ≡ (w.nodes name).core.log.entries ++ stored_since (w.nodes name) n
   pub begins : n.core.log.start ≤ length w.group
   -- and where there was a list, it begins where it did
-  pub stays : has_log (w.nodes name).status ≡ true → n.core.log.start ≡ (w.nodes name).core.log.start
+  pub stays : has_log_by_status (w.nodes name).status ≡ true → n.core.log.start ≡ (w.nodes name).core.log.start
 
 -- in every run
 abbrev pub ListsGoOn : Type 0
-ListsGoOn = (rules : Rules) (events : List Event) (e : Event) (c : Cause) (s : Step) → MayFound rules
-    → is_stopped (run rules events) (actor (run rules events) e) ≡ false
-    → IsCause (run rules events) (actor (run rules events) e) e.act c
-    → Effect ((run rules events).nodes (actor (run rules events) e)) c s
-    → AddsEntries (run rules events) (actor (run rules events) e) s.node
+ListsGoOn = (rules : Rules) (events : List Event) (e : Event) (c : Cause) (s : StepResult) → MayFound rules
+    → is_stopped (run rules events) (acting_name (run rules events) e) ≡ false
+    → IsCause (run rules events) (acting_name (run rules events) e) e.act c
+    → Effect ((run rules events).nodes (acting_name (run rules events) e)) c s
+    → AddsEntries (run rules events) (acting_name (run rules events) e) s.node

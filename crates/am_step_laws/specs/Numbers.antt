@@ -6,7 +6,7 @@ use Rattle.am_group.specs.declared.event.Event.{Event}
 use Rattle.am_group.specs.Journals.{letter_at}
 use Rattle.am_model.specs.Node.{Node, top}
 use Rattle.am_group_defs.specs.World.{run}
-use Rattle.am_step_laws.specs.Packets.{UpTo}
+use Rattle.am_step_laws.specs.Packets.{PacketIsWithinBounds}
 
 -- of a node, after k events, where the group has accepted g entries
 pub record NodeNumbers (k g : ℕ) (m : Node) : Type 0 where
@@ -27,8 +27,8 @@ pub record RunNumbers (rules : Rules) (events : List Event) : Type 0 where
   pub each : (name : ℕ) → NodeNumbers (length events) (length (run rules events).group) ((run rules events).nodes name)
   pub group : length (run rules events).group ≤ length events + 1
   pub letters : (number : ℕ) (letter : Letter) → letter_at (run rules events).letters number ≡ Some letter
-      → UpTo (record { lists = length events + 1; rounds = length events + 1; requests = length events }) (length (run rules events).group) letter.packet
+      → PacketIsWithinBounds (record { lists = length events + 1; rounds = length events + 1; requests = length events }) (length (run rules events).group) letter.packet
 
 -- whoever founds, and whatever happens
-abbrev pub NumbersHold : Type 0
-NumbersHold = (rules : Rules) (events : List Event) → RunNumbers rules events
+abbrev pub NumbersAreBounded : Type 0
+NumbersAreBounded = (rules : Rules) (events : List Event) → RunNumbers rules events

@@ -47,11 +47,11 @@ pub record Bounds : Type 0 where
   pub requests : ℕ
 
 -- one more of each
-abbrev pub up : Bounds → Bounds
-up b = record { lists = b.lists + 1; rounds = b.rounds + 1; requests = b.requests + 1 }
+abbrev pub bounds_one_higher : Bounds → Bounds
+bounds_one_higher b = record { lists = b.lists + 1; rounds = b.rounds + 1; requests = b.requests + 1 }
 
 -- its round and its numbers are within these bounds, and what it tells of as accepted within what the group has accepted
-pub record UpTo (most : Bounds) (group : ℕ) (p : Packet) : Type 0 where
+pub record PacketIsWithinBounds (most : Bounds) (group : ℕ) (p : Packet) : Type 0 where
   pub round : (stamp_of p).round ≤ most.rounds
   pub numbers : All (λ n. n ≤ most.lists) (entry_numbers_of p)
   pub accepted : All (λ n. n ≤ group) (accepted_of p)

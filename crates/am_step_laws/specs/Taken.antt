@@ -4,6 +4,6 @@ use Rattle.am_base.specs.Founding.{Rules, MayFound}
 use Rattle.am_group.specs.declared.event.Event.{Event}
 use Rattle.am_group_defs.specs.World.{run}
 
-abbrev pub TakenHolds : Type 0
-TakenHolds = (rules : Rules) (events : List Event) (name : ℕ) → MayFound rules → name < 256
+abbrev pub TrimmedWasTaken : Type 0
+TrimmedWasTaken = (rules : Rules) (events : List Event) (name : ℕ) → MayFound rules → name < 256
     → ((run rules events).nodes name).core.base ≤ ((run rules events).nodes name).core.taken

@@ -5,8 +5,8 @@ use Rattle.std.specs.List.{list_all, slice_split}
 use Rattle.std.specs.Char.{is_ascii_digit}
 use Rattle.std.specs.Str.Parse.{digits_value}
 use Rattle.std.specs.Cmp.Lexicographic.{pointwise}
-use Rattle.am_base.specs.Most.{most_number}
-use Rattle.am_base.specs.Names.{name_at, place_of, nobody, with_name}
+use Rattle.am_base.specs.Most.{greatest_number}
+use Rattle.am_base.specs.Names.{name_of_place_and_life, place_of_name, empty_set_of_names, with_name}
 use Rattle.am_base.specs.declared.name.Stamp.{Stamp}
 use Rattle.am_text_defs.specs.declared.fault.FieldFault.{FieldFault}
 use Rattle.am_text_defs.specs.declared.fault.FieldFault.TheVariants.{Form, Limit}
@@ -51,7 +51,7 @@ number_up_to most word = if is_numeral word then (if nat_le (digits_value 10 wor
 
 -- a number of an entry, a round or a request
 abbrev pub number_in_text : List ℕ → Result ℕ FieldFault
-number_in_text word = number_up_to most_number word
+number_in_text word = number_up_to greatest_number word
 
 -- ---- names
 
@@ -61,8 +61,8 @@ life_of_word word = and_then (number_up_to 16 word) (λ life. if nat_lt life 2 t
 
 -- a place's first life, or a later one
 abbrev pub name_with : ℕ → Option (List ℕ) → Result ℕ FieldFault
-name_with place None = Ok (name_at place 1)
-name_with place (Some life) = and_then (life_of_word life) (λ n. Ok (name_at place n))
+name_with place None = Ok (name_of_place_and_life place 1)
+name_with place (Some life) = and_then (life_of_word life) (λ n. Ok (name_of_place_and_life place n))
 
 -- a name: its place, and a life other than the first behind a slash
 unfoldable pub name_in_text : List ℕ → Result ℕ FieldFault
@@ -81,11 +81,11 @@ stamp_in_text word = and_then (number_in_text (cut_of 46 word).0) (λ round. sta
 abbrev pub names_onto : ℕ → List ℕ → List (List ℕ) → Result (List ℕ) FieldFault
 names_onto least set [] = Ok set
 names_onto least set (part ∷ parts) = and_then (name_in_text part)
-    (λ name. if nat_lt (place_of name) least then Err Form else names_onto (place_of name + 1) (with_name set name) parts)
+    (λ name. if nat_lt (place_of_name name) least then Err Form else names_onto (place_of_name name + 1) (with_name set name) parts)
 
 -- a set of names: ascending by place, with commas between them; or a dash for nobody
 unfoldable pub names_in_text : List ℕ → Result (List ℕ) FieldFault
-names_in_text word = if same word (codes "-") then Ok nobody else names_onto 0 nobody (split_text 44 word)
+names_in_text word = if same word (codes "-") then Ok empty_set_of_names else names_onto 0 empty_set_of_names (split_text 44 word)
 
 -- ---- bytes
 

@@ -11,7 +11,7 @@ use Rattle.std.specs.Fmt.{digit_glyph}
 use Rattle.std.proofs.lemmas.Str.Parse.{IsNumeralModel, numerals_by_value, not_in_digits}
 use Rattle.std.proofs.lemmas.Fmt.{decimal_digit, decimal_nonempty, length-decimal-le, first_decimal, digits_decimal, digits_value-decimal}
 use Rattle.std.proofs.lemmas.Bool.Decides.{nat_tests}
-use Rattle.am_base.specs.Names.{place_of, life_of, name_at, names_from, with_name, nobody, IsSet}
+use Rattle.am_base.specs.Names.{place_of_name, life_of_name, name_of_place_and_life, names_from, with_name, empty_set_of_names, IsSetOfNames}
 use Rattle.am_text_defs.specs.declared.fault.FieldFault.TheVariants.{Form}
 use Rattle.am_text_defs.specs.declared.fault.FieldFault.{FieldFault}
 use Rattle.am_text_defs.specs.Fields.{names_in_text, names_onto, split_text, cut_of, onto_cut, and_then, is_numeral, number_up_to, name_in_text, is_pair_digit}
@@ -54,13 +54,13 @@ cut_of_at_separator separator (x ∷ xs) rest none =
 slash : IsInRange 48 57 47 → ⊥
 slash is = omega arith
 
-first_again : (place : ℕ) → place ≤ 15 → name_in_text (decimal place) ≡ Ok (name_at place 1)
+first_again : (place : ℕ) → place ≤ 15 → name_in_text (decimal place) ≡ Ok (name_of_place_and_life place 1)
 unfolding name_in_text
 first_again place low =
     let fits : place < 2 ^ 64 = omega arith in
     rw (cut_of_without_separator 47 (decimal place) (decimal_lacks_other_byte place 47 fits slash), number_up_to_decimal 15 place low (lit< tt)) refl
 
-later_again : (place life : ℕ) → place ≤ 15 → 2 ≤ life → life ≤ 16 → name_in_text (decimal place ++ (47 ∷ decimal life)) ≡ Ok (name_at place life)
+later_again : (place life : ℕ) → place ≤ 15 → 2 ≤ life → life ≤ 16 → name_in_text (decimal place ++ (47 ∷ decimal life)) ≡ Ok (name_of_place_and_life place life)
 unfolding name_in_text
 later_again place life low later most =
     let fits : place < 2 ^ 64 = omega arith in
@@ -73,20 +73,20 @@ later_again place life low later most =
       two,
     ) refl
 
-name_by : (b : Bool) (name : ℕ) → (life_of name == 1) ≡ b → name < 256 → name_in_text (name_text name) ≡ Ok name
+name_by : (b : Bool) (name : ℕ) → (life_of_name name == 1) ≡ b → name < 256 → name_in_text (name_text name) ≡ Ok name
 unfolding name_text
 name_by true name is low =
-    let one : life_of name ≡ 1 = grind (arith, nat_tests) in
-    let same : name_at (place_of name) 1 ≡ name = omega arith in
-    rw is (first_again (place_of name) (omega arith) ∙ ap (λ (n : ℕ). Ok n) same)
+    let one : life_of_name name ≡ 1 = grind (arith, nat_tests) in
+    let same : name_of_place_and_life (place_of_name name) 1 ≡ name = omega arith in
+    rw is (first_again (place_of_name name) (omega arith) ∙ ap (λ (n : ℕ). Ok n) same)
 name_by false name is low =
-    let later : 2 ≤ life_of name = grind (arith, nat_tests) in
-    let same : name_at (place_of name) (life_of name) ≡ name = omega arith in
-    rw is (later_again (place_of name) (life_of name) (omega arith) later (omega arith) ∙ ap (λ (n : ℕ). Ok n) same)
+    let later : 2 ≤ life_of_name name = grind (arith, nat_tests) in
+    let same : name_of_place_and_life (place_of_name name) (life_of_name name) ≡ name = omega arith in
+    rw is (later_again (place_of_name name) (life_of_name name) (omega arith) later (omega arith) ∙ ap (λ (n : ℕ). Ok n) same)
 
 -- a name as it is printed is read as that name
 pub name_of_name_text : (name : ℕ) → name < 256 → name_in_text (name_text name) ≡ Ok name
-name_of_name_text name low = name_by (life_of name == 1) name refl low
+name_of_name_text name low = name_by (life_of_name name == 1) name refl low
 
 -- ---- bytes
 
@@ -151,17 +151,17 @@ appended_texts_lack_byte c [] ys none never i within is = never i within is
 appended_texts_lack_byte c (x ∷ xs) ys none never zero within is = none 0 (omega arith) is
 appended_texts_lack_byte c (x ∷ xs) ys none never (suc i) within is = appended_texts_lack_byte c xs ys (λ k h. none (suc k) (omega arith)) never i (omega arith) is
 
-name_lacks_by : (b : Bool) (name c : ℕ) → (life_of name == 1) ≡ b → name < 256 → (IsInRange 48 57 c → ⊥) → (47 ≡ c → ⊥)
+name_lacks_by : (b : Bool) (name c : ℕ) → (life_of_name name == 1) ≡ b → name < 256 → (IsInRange 48 57 c → ⊥) → (47 ≡ c → ⊥)
     → (i : ℕ) → i < length (name_text name) → get_or (name_text name) i 0 ≡ c → ⊥
 unfolding name_text
-name_lacks_by true name c is low digit other = rw is (decimal_lacks_other_byte (place_of name) c (omega arith) digit)
+name_lacks_by true name c is low digit other = rw is (decimal_lacks_other_byte (place_of_name name) c (omega arith) digit)
 name_lacks_by false name c is low digit other =
-    rw is (appended_texts_lack_byte c (decimal (place_of name)) (47 ∷ decimal (life_of name)) (decimal_lacks_other_byte (place_of name) c (omega arith) digit)
-    (lacks_cons c 47 (decimal (life_of name)) other (decimal_lacks_other_byte (life_of name) c (omega arith) digit)))
+    rw is (appended_texts_lack_byte c (decimal (place_of_name name)) (47 ∷ decimal (life_of_name name)) (decimal_lacks_other_byte (place_of_name name) c (omega arith) digit)
+    (lacks_cons c 47 (decimal (life_of_name name)) other (decimal_lacks_other_byte (life_of_name name) c (omega arith) digit)))
 
 pub name_text_lacks_other_byte : (name c : ℕ) → name < 256 → (IsInRange 48 57 c → ⊥) → (47 ≡ c → ⊥) → (i : ℕ) → i < length (name_text name)
     → get_or (name_text name) i 0 ≡ c → ⊥
-name_text_lacks_other_byte name c low digit other = name_lacks_by (life_of name == 1) name c refl low digit other
+name_text_lacks_other_byte name c low digit other = name_lacks_by (life_of_name name == 1) name c refl low digit other
 
 -- ---- sets of names
 
@@ -207,18 +207,18 @@ onto_again least place front (zero ∷ lives) at many above all =
     ∙ ap (λ (set : List ℕ). Ok set) (append_assoc front (0 ∷ []) lives)
 onto_again least place front (suc before ∷ lives) at many above all =
     let low : suc before ≤ 16 = all.0 in
-    let name = name_at place (suc before) in
+    let name = name_of_place_and_life place (suc before) in
     let small : name < 256 = omega arith in
-    let its : place_of name ≡ place = omega arith in
-    let life : life_of name ≡ suc before = omega arith in
-    let in_order : nat_lt (place_of name) least ≡ false = grind (arith, nat_tests) in
+    let its : place_of_name name ≡ place = omega arith in
+    let life : life_of_name name ≡ suc before = omega arith in
+    let in_order : nat_lt (place_of_name name) least ≡ false = grind (arith, nat_tests) in
     let rest = map name_text (names_from (place + 1) lives) in
     let set = front ++ replicate (length (suc before ∷ lives)) 0 in
     let with : with_name set name ≡ (front ++ suc before ∷ []) ++ replicate (length lives) 0 =
-    ap (λ (v : ℕ). slice_set set (place_of name) v) life
-    ∙ slice_set_after_front front (replicate (length lives) 0) 0 (suc before) (place_of name) (at ∙ sym its)
+    ap (λ (v : ℕ). slice_set set (place_of_name name) v) life
+    ∙ slice_set_after_front front (replicate (length lives) 0) 0 (suc before) (place_of_name name) (at ∙ sym its)
     ∙ sym (append_assoc front (suc before ∷ []) (replicate (length lives) 0)) in
-    ap (λ (r : Result ℕ FieldFault). and_then r (λ n. if nat_lt (place_of n) least then Err Form else names_onto (place_of n + 1) (with_name set n) rest))
+    ap (λ (r : Result ℕ FieldFault). and_then r (λ n. if nat_lt (place_of_name n) least then Err Form else names_onto (place_of_name n + 1) (with_name set n) rest))
     (name_of_name_text name small)
     ∙ rw in_order (ap (λ (p : ℕ). names_onto (p + 1) (with_name set name) rest) its
     ∙ ap (λ (s : List ℕ). names_onto (place + 1) s rest) with
@@ -255,23 +255,23 @@ decimal_starts n rest c low other is =
     first_of [] ys some = absurd (omega arith)
     first_of (x ∷ xs) ys some = refl
 
-name_starts_by : (b : Bool) (name : ℕ) (rest : List ℕ) (c : ℕ) → (life_of name == 1) ≡ b → name < 256 → (IsInRange 48 57 c → ⊥)
+name_starts_by : (b : Bool) (name : ℕ) (rest : List ℕ) (c : ℕ) → (life_of_name name == 1) ≡ b → name < 256 → (IsInRange 48 57 c → ⊥)
     → get_or (name_text name ++ rest) 0 0 ≡ c → ⊥
 unfolding name_text
-name_starts_by true name rest c is low other = rw is (decimal_starts (place_of name) rest c (omega arith) other)
+name_starts_by true name rest c is low other = rw is (decimal_starts (place_of_name name) rest c (omega arith) other)
 name_starts_by false name rest c is low other =
-    rw is (λ e. decimal_starts (place_of name) ((47 ∷ decimal (life_of name)) ++ rest) c (omega arith) other
-    (ap (λ (xs : List ℕ). get_or xs 0 0) (sym (append_assoc (decimal (place_of name)) (47 ∷ decimal (life_of name)) rest)) ∙ e))
+    rw is (λ e. decimal_starts (place_of_name name) ((47 ∷ decimal (life_of_name name)) ++ rest) c (omega arith) other
+    (ap (λ (xs : List ℕ). get_or xs 0 0) (sym (append_assoc (decimal (place_of_name name)) (47 ∷ decimal (life_of_name name)) rest)) ∙ e))
 
 -- a name's text begins with a digit
 pub name_text_begins_with_digit : (name : ℕ) (rest : List ℕ) (c : ℕ) → name < 256 → (IsInRange 48 57 c → ⊥) → get_or (name_text name ++ rest) 0 0 ≡ c → ⊥
-name_text_begins_with_digit name rest c low other = name_starts_by (life_of name == 1) name rest c refl low other
+name_text_begins_with_digit name rest c low other = name_starts_by (life_of_name name == 1) name rest c refl low other
 
-name_some_by : (b : Bool) (name : ℕ) → (life_of name == 1) ≡ b → name < 256 → 0 < length (name_text name)
+name_some_by : (b : Bool) (name : ℕ) → (life_of_name name == 1) ≡ b → name < 256 → 0 < length (name_text name)
 unfolding name_text
-name_some_by true name is low = rw is (decimal_nonempty (place_of name) (omega arith))
+name_some_by true name is low = rw is (decimal_nonempty (place_of_name name) (omega arith))
 name_some_by false name is low =
-    rw is (omega (arith, decimal_nonempty (place_of name) (omega arith), length-append (decimal (place_of name)) (47 ∷ decimal (life_of name))))
+    rw is (omega (arith, decimal_nonempty (place_of_name name) (omega arith), length-append (decimal (place_of_name name)) (47 ∷ decimal (life_of_name name))))
 
 set_by : (set names : List ℕ) → names_from 0 set ≡ names → length set ≡ 16 → AllAreLives set → AllAreNames names → names_in_text (list_text names) ≡ Ok set
 unfolding names_in_text AllAreNames
@@ -280,15 +280,15 @@ set_by set [] is many all low =
 set_by set (first ∷ others) is many all low =
     let text = list_text (first ∷ others) in
     let rest = flat_map (λ name. codes "," ++ name_text name) others in
-    let some : 0 < length text = omega (arith, name_some_by (life_of first == 1) first refl low.0, length-append (name_text first) rest) in
+    let some : 0 < length text = omega (arith, name_some_by (life_of_name first == 1) first refl low.0, length-append (name_text first) rest) in
     let other : same text (codes "-") ≡ false = no_dash text some (name_text_begins_with_digit first rest 45 low.0 (λ digit. absurd (omega (arith, digit)))) in
-    rw other (ap (names_onto 0 nobody) (list_parts first others low.0 low.1)
-    ∙ ap (λ (ns : List ℕ). names_onto 0 nobody (map name_text ns)) (sym is)
+    rw other (ap (names_onto 0 empty_set_of_names) (list_parts first others low.0 low.1)
+    ∙ ap (λ (ns : List ℕ). names_onto 0 empty_set_of_names (map name_text ns)) (sym is)
     ∙ ap (λ (n : ℕ). names_onto 0 (replicate n 0) (map name_text (names_from 0 set))) (sym many)
     ∙ onto_again 0 0 [] set refl (omega arith) (omega arith) all)
 
 -- a set of names as it is printed is read as that set
-pub names_of_names_text : (set : List ℕ) → IsSet set → names_in_text (names_text set) ≡ Ok set
+pub names_of_names_text : (set : List ℕ) → IsSetOfNames set → names_in_text (names_text set) ≡ Ok set
 unfolding names_text
 names_of_names_text set is =
     let all = lives_of_set_are_lives set is.lives in
@@ -299,21 +299,21 @@ names_of_names_text set is =
 short_decimal : (n : ℕ) → n < 10 ^ 2 → length (decimal n) ≤ 2
 short_decimal n low = length-decimal-le 2 n (lit< tt) low (omega arith)
 
-name_short_by : (b : Bool) (name : ℕ) → (life_of name == 1) ≡ b → name < 256 → length (name_text name) ≤ 5
+name_short_by : (b : Bool) (name : ℕ) → (life_of_name name == 1) ≡ b → name < 256 → length (name_text name) ≤ 5
 unfolding name_text
-name_short_by true name is low = rw is (omega (arith, short_decimal (place_of name) (omega arith)))
+name_short_by true name is low = rw is (omega (arith, short_decimal (place_of_name name) (omega arith)))
 name_short_by false name is low =
     rw is (omega (
       arith,
-      short_decimal (place_of name) (omega arith),
-      short_decimal (life_of name) (omega arith),
-      length-append (decimal (place_of name))
-          (47 ∷ decimal (life_of name)),
+      short_decimal (place_of_name name) (omega arith),
+      short_decimal (life_of_name name) (omega arith),
+      length-append (decimal (place_of_name name))
+          (47 ∷ decimal (life_of_name name)),
     ))
 
 -- a name and what stands behind it
 name_and_short : (name : ℕ) (behind : List ℕ) (rest : ℕ) → name < 256 → length behind ≤ rest → length (name_text name ++ behind) ≤ 5 + rest
-name_and_short name behind rest low few = omega (arith, name_short_by (life_of name == 1) name refl low, few, length-append (name_text name) behind)
+name_and_short name behind rest low few = omega (arith, name_short_by (life_of_name name == 1) name refl low, few, length-append (name_text name) behind)
 
 others_short : (names : List ℕ) → AllAreNames names → length (flat_map (λ name. codes "," ++ name_text name) names) ≤ 6 * length names
 unfolding AllAreNames
@@ -332,7 +332,7 @@ few_names place [] = omega arith
 few_names place (zero ∷ lives) = omega (arith, few_names (place + 1) lives)
 few_names place (suc before ∷ lives) = omega (arith, few_names (place + 1) lives)
 
-pub names_text_length_le_97 : (set : List ℕ) → IsSet set → length (names_text set) ≤ 97
+pub names_text_length_le_97 : (set : List ℕ) → IsSetOfNames set → length (names_text set) ≤ 97
 unfolding names_text
 names_text_length_le_97 set is =
     let low = names_from_lives_are_names 0 set (omega (arith, is.places)) (lives_of_set_are_lives set is.lives) in

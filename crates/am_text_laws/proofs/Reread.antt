@@ -10,7 +10,7 @@ use Rattle.std.specs.Str.Parse.{digits_value}
 use Rattle.std.specs.Fmt.{digit_glyph}
 use Rattle.std.proofs.lemmas.Fmt.{decimal-digits_value}
 use Rattle.std.proofs.lemmas.Bool.Decides.{nat_tests}
-use Rattle.am_base.specs.Names.{place_of, life_of, name_at}
+use Rattle.am_base.specs.Names.{place_of_name, life_of_name, name_of_place_and_life}
 use Rattle.am_text_defs.specs.declared.fault.FieldFault.{FieldFault}
 use Rattle.am_text_defs.specs.declared.fault.FieldFault.TheVariants.{Form, Limit}
 use Rattle.am_text_defs.specs.Fields.{cut_of, onto_cut, and_then, is_numeral, number_up_to, life_of_word, name_with, name_in_text, is_pair_digit, digit_value}
@@ -90,19 +90,19 @@ unfolding joined
 cut_whole separator [] = refl
 cut_whole separator (x ∷ xs) = join_by (x == separator) separator x xs refl (cut_whole separator xs)
 
-first_text : (place : ℕ) → place ≤ 15 → name_text (name_at place 1) ≡ decimal place
+first_text : (place : ℕ) → place ≤ 15 → name_text (name_of_place_and_life place 1) ≡ decimal place
 unfolding name_text
 first_text place low =
-    let one : (life_of (name_at place 1) == 1) ≡ true = grind (arith, nat_tests) in
-    let its : place_of (name_at place 1) ≡ place = omega arith in
+    let one : (life_of_name (name_of_place_and_life place 1) == 1) ≡ true = grind (arith, nat_tests) in
+    let its : place_of_name (name_of_place_and_life place 1) ≡ place = omega arith in
     rw one (ap decimal its)
 
-later_text : (place life : ℕ) → place ≤ 15 → 2 ≤ life → life ≤ 16 → name_text (name_at place life) ≡ decimal place ++ 47 ∷ decimal life
+later_text : (place life : ℕ) → place ≤ 15 → 2 ≤ life → life ≤ 16 → name_text (name_of_place_and_life place life) ≡ decimal place ++ 47 ∷ decimal life
 unfolding name_text
 later_text place life low later most =
-    let its : place_of (name_at place life) ≡ place = omega arith in
-    let own : life_of (name_at place life) ≡ life = omega arith in
-    let other : (life_of (name_at place life) == 1) ≡ false = grind (arith, nat_tests) in
+    let its : place_of_name (name_of_place_and_life place life) ≡ place = omega arith in
+    let own : life_of_name (name_of_place_and_life place life) ≡ life = omega arith in
+    let other : (life_of_name (name_of_place_and_life place life) == 1) ≡ false = grind (arith, nat_tests) in
     rw other (ap₂ (λ (p l : ℕ). decimal p ++ 47 ∷ decimal l) its own)
 
 life_by : (b : Bool) (life n : ℕ) → nat_lt life 2 ≡ b → (if b then Err Limit else Ok life) ≡ Ok n → (2 ≤ life) × (life ≡ n)
@@ -113,15 +113,15 @@ name_with_is : (first word : List ℕ) (rest : Option (List ℕ)) (place name : 
     → name_with place rest ≡ Ok name → (name_text name ≡ word) × (name < 256)
 unfolding joined
 name_with_is first word None place name whole same low is =
-    let its : name_at place 1 ≡ name = cc in
+    let its : name_of_place_and_life place 1 ≡ name = cc in
     (ap name_text (sym its) ∙ first_text place low ∙ same ∙ sym whole, omega arith)
 name_with_is first word (Some rest) place name whole same low is =
-    let outer = and_then_ok_gives_parts (life_of_word rest) (λ n. Ok (name_at place n)) name is in
+    let outer = and_then_ok_gives_parts (life_of_word rest) (λ n. Ok (name_of_place_and_life place n)) name is in
     let inner = and_then_ok_gives_parts (number_up_to 16 rest) (λ life. if nat_lt life 2 then Err Limit else Ok life) outer.0 outer.1 in
     let read = number_up_to_gives_decimal 16 inner.0 rest (lit< tt) inner.1 in
     let fits = life_by (nat_lt inner.0 2) inner.0 outer.0 refl inner.2 in
-    let made : Ok (name_at place outer.0) ≡ Ok name = outer.2 in
-    let its : name_at place outer.0 ≡ name = cc in
+    let made : Ok (name_of_place_and_life place outer.0) ≡ Ok name = outer.2 in
+    let its : name_of_place_and_life place outer.0 ≡ name = cc in
     let life : inner.0 ≡ outer.0 = fits.1 in
     let later : 2 ≤ outer.0 = let h = fits.0 in omega arith in
     let most : outer.0 ≤ 16 = let h = read.1 in omega arith in (

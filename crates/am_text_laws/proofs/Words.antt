@@ -7,8 +7,8 @@ use Rattle.std.specs.Fmt.{digit_glyph, digits, digits_onto}
 use Rattle.std.specs.Int.{IsInRange}
 use Rattle.std.proofs.lemmas.List.Folds.{list_all-append}
 use Rattle.std.proofs.lemmas.Bool.Decides.{nat_tests}
-use Rattle.am_base.specs.Most.{most_number}
-use Rattle.am_base.specs.Names.{place_of, life_of, names_of}
+use Rattle.am_base.specs.Most.{greatest_number}
+use Rattle.am_base.specs.Names.{place_of_name, life_of_name, names_of}
 use Rattle.am_base.specs.declared.name.Stamp.{Stamp}
 use Rattle.am_packet.specs.Laws.{IsBytes}
 use Rattle.am_text_defs.specs.Fields.{cut_of, onto_cut, stamp_in_text, bytes_of}
@@ -85,7 +85,7 @@ name_by false place life = words (decimal place) (codes "/" ++ decimal life) (de
 
 pub name_text_is_word : (name : ℕ) → TextIsWord (name_text name)
 unfolding name_text
-name_text_is_word name = name_by (life_of name == 1) (place_of name) (life_of name)
+name_text_is_word name = name_by (life_of_name name == 1) (place_of_name name) (life_of_name name)
 
 pub stamp_text_is_word : (stamp : Stamp) → TextIsWord (stamp_text stamp)
 unfolding stamp_text
@@ -146,12 +146,12 @@ cut_of_whole_word (c ∷ cs) is =
 dot : IsInRange 48 57 46 → ⊥
 dot is = omega arith
 
-pub stamp_of_stamp_text : (stamp : Stamp) → stamp.round ≤ most_number → stamp.by < 256 → stamp_in_text (stamp_text stamp) ≡ Ok stamp
+pub stamp_of_stamp_text : (stamp : Stamp) → stamp.round ≤ greatest_number → stamp.by < 256 → stamp_in_text (stamp_text stamp) ≡ Ok stamp
 unfolding stamp_in_text stamp_text
 stamp_of_stamp_text stamp round by =
     rw (
       cut_of_at_separator 46 (decimal stamp.round) (name_text stamp.by) (decimal_lacks_other_byte stamp.round 46 (omega arith) dot),
-      number_up_to_decimal most_number stamp.round round (lit< tt),
+      number_up_to_decimal greatest_number stamp.round round (lit< tt),
       name_of_name_text stamp.by by,
     ) refl
 

@@ -1,8 +1,8 @@
 -- What texts print is read again.
 use Rattle.std.specs.Prelude.{◌≡◌, ℕ, ◌^◌, ◌<◌, ◌≤◌, List, length, decimal, Ok}
 use Rattle.std.specs.List.{flat_map}
-use Rattle.am_base.specs.Most.{most_number}
-use Rattle.am_base.specs.Names.{IsSet}
+use Rattle.am_base.specs.Most.{greatest_number}
+use Rattle.am_base.specs.Names.{IsSetOfNames}
 use Rattle.am_base.specs.declared.name.Stamp.{Stamp}
 use Rattle.am_packet.specs.Laws.{IsBytes}
 use Rattle.am_text_defs.specs.Fields.{number_up_to, name_in_text, stamp_in_text, names_in_text, bytes_of}
@@ -16,10 +16,10 @@ abbrev pub NamesAreRead : Type 0
 NamesAreRead = (name : ℕ) → name < 256 → name_in_text (name_text name) ≡ Ok name
 
 abbrev pub StampsAreRead : Type 0
-StampsAreRead = (stamp : Stamp) → stamp.round ≤ most_number → stamp.by < 256 → stamp_in_text (stamp_text stamp) ≡ Ok stamp
+StampsAreRead = (stamp : Stamp) → stamp.round ≤ greatest_number → stamp.by < 256 → stamp_in_text (stamp_text stamp) ≡ Ok stamp
 
 abbrev pub SetsAreRead : Type 0
-SetsAreRead = (set : List ℕ) → IsSet set → names_in_text (names_text set) ≡ Ok set
+SetsAreRead = (set : List ℕ) → IsSetOfNames set → names_in_text (names_text set) ≡ Ok set
 
 abbrev pub BytesAreRead : Type 0
 BytesAreRead = (most : ℕ) (bytes : List ℕ) → IsBytes bytes → 0 < length bytes → length bytes ≤ most → bytes_of most (flat_map hex_byte bytes) ≡ Ok bytes

@@ -1,5 +1,5 @@
 ghost use Rattle.std.specs.Prelude.{◌≡◌, IfOk, ◌≤◌, ◌<◌};
-ghost use Rattle.am_base.specs.Names.{name_at};
+ghost use Rattle.am_base.specs.Names.{name_of_place_and_life};
 ghost use Rattle.am_text_defs.specs.Fields.{split_text, number_up_to, life_of_word, name_in_text, stamp_in_text, names_onto, names_in_text};
 
 use crate::cut::cut;
@@ -33,7 +33,7 @@ fn life(word: &[u8]) -> Result<u8, FieldFault>
 fn name_at(place: u8, life: u8) -> Name
     requires place { place ≤ 15 }
     requires life { (0 < life) × (life ≤ 16) }
-    ensures { result ≡ name_at place life }
+    ensures { result ≡ name_of_place_and_life place life }
 {
     match Name::of(place, life) {
         Some(name) => name,

@@ -1,7 +1,7 @@
 ghost use Rattle.std.specs.Prelude.{◌≡◌, ◌<◌, IfOk, ◌≤◌, true};
 ghost use Rattle.std.specs.List.{list_all};
 ghost use Rattle.std.specs.Char.{is_ascii_digit};
-ghost use Rattle.am_base.specs.Most.{most_number};
+ghost use Rattle.am_base.specs.Most.{greatest_number};
 ghost use Rattle.am_text_defs.specs.Fields.{is_numeral, capped_value, number_up_to, number_in_text};
 
 use am_base::limits::{MOST_NUMBER, MOST_RESILIENCE};
@@ -61,7 +61,7 @@ pub fn number_up_to(word: &[u8], most: u32) -> Result<u32, FieldFault>
 /// A number of an entry, a round or a request, 0 to 2,000,000,000.
 pub fn number(word: &[u8]) -> Result<u32, FieldFault>
     ensures value { result ≡ number_in_text word.now }
-    ensures within { IfOk result (λ number. number ≤ most_number) }
+    ensures within { IfOk result (λ number. number ≤ greatest_number) }
 {
     number_up_to(word, MOST_NUMBER)
 }

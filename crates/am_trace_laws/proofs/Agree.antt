@@ -1,9 +1,9 @@
 -- The text of a run whose list fits agrees.
 use Rattle.am_trace_laws.proofs.Words.{◌≡◌, ℕ, suc, ◌≤◌, ◌==◌, true, false, if◌then◌else◌, List, [], ◌∷◌, length, take, unwrap_or, refl, sym, ap, ◌∙◌, arith}
-use Rattle.am_trace_laws.proofs.Words.{subst, Option, None, ⊎_elim, All, range_with_len, take_all, All-nil, All-cons, All-head, All-tail, place_of, Rules}
-use Rattle.am_trace_laws.proofs.Words.{MayFound, blank, AllFit, Entry, Act, Event, item_at, deliveries, Node, founders_entry, has_log, World, run, logs, text_of}
-use Rattle.am_trace_laws.proofs.Words.{NoBallot, Segment, Once, Sent, broken_at, watch_run, lawful_front, before_break, watched_is_run, one_record_each}
-use Rattle.am_trace_laws.proofs.Words.{IsOfBytes, AreOfBytes, IsShort, BodyWithin, run_has_names, number_bounds_hold_in_runs, ListFits, unballoted_runs_hold, unballoted_group_lists_fit}
+use Rattle.am_trace_laws.proofs.Words.{subst, Option, None, ⊎_elim, All, range_with_len, take_all, All-nil, All-cons, All-head, All-tail, place_of_name, Rules}
+use Rattle.am_trace_laws.proofs.Words.{MayFound, blank, AllEntriesFit, Entry, Act, Event, item_at, deliveries, Node, founders_entry, has_log_by_status, World, run, logs, play_text_of}
+use Rattle.am_trace_laws.proofs.Words.{NoBallot, Segment, Once, Sent, broken_at, watch_run, lawful_front, events_before_break, watched_is_run, one_record_each}
+use Rattle.am_trace_laws.proofs.Words.{IsOfBytes, AreOfBytes, IsRunWithinScriptLimits, BodyIsWithinLimit, run_has_names, number_bounds_hold_in_runs, GroupListFits, unballoted_runs_hold, unballoted_group_lists_fit}
 use Rattle.am_trace_laws.proofs.Words.{headline_holds, lists_of_runs_fit, Reading, or_else, first_fault, first_astray, first_lost, first_early, first_misfit}
 use Rattle.am_trace_laws.proofs.Words.{first_skipped, first_unsent, first_unlogged, first_untaken, lines_of, wrong_lists, wrong_events, verdict_of, IsSayable}
 use Rattle.am_trace_laws.proofs.Words.{AsksBytes, IsRaised, records_are_sound, short_runs_stay_in_range, requests_in_turn, resiliences_hold, sends_of, record_answers, take_lines_of}
@@ -17,25 +17,25 @@ use Rattle.am_audit_defs.specs.declared.verdict.Verdict.TheVariants as verdicts
 
 -- ---- bodies
 
-asks_by : (act : Act) → BodyWithin act → IsOfBytes act → AsksBytes act
+asks_by : (act : Act) → BodyIsWithinLimit act → IsOfBytes act → AsksBytes act
 asks_by (acts.Send body) within bytes = (bytes, within)
 asks_by _ within bytes = tt
 
-all_ask : (events : List Event) → All (λ (e : Event). BodyWithin e.act) events → AreOfBytes events → All (λ (e : Event). AsksBytes e.act) events
+all_ask : (events : List Event) → All (λ (e : Event). BodyIsWithinLimit e.act) events → AreOfBytes events → All (λ (e : Event). AsksBytes e.act) events
 all_ask [] within bytes = All-nil (λ (e : Event). AsksBytes e.act)
 all_ask (e ∷ es) within bytes = All-cons (λ (x : Event). AsksBytes x.act) e es
-    (asks_by e.act (All-head (λ (x : Event). BodyWithin x.act) e es within) (All-head (λ (x : Event). IsOfBytes x.act) e es bytes))
-    (all_ask es (All-tail (λ (x : Event). BodyWithin x.act) e es within) (All-tail (λ (x : Event). IsOfBytes x.act) e es bytes))
+    (asks_by e.act (All-head (λ (x : Event). BodyIsWithinLimit x.act) e es within) (All-head (λ (x : Event). IsOfBytes x.act) e es bytes))
+    (all_ask es (All-tail (λ (x : Event). BodyIsWithinLimit x.act) e es within) (All-tail (λ (x : Event). IsOfBytes x.act) e es bytes))
 
 -- ---- what a run is whose list fits
 
 record IsFit (rules : Rules) (events : List Event) : Type 0 where
-  short : IsShort rules events
+  short : IsRunWithinScriptLimits rules events
   asks : All (λ (e : Event). AsksBytes e.act) events
   segment : Segment rules (run rules events)
   once : Once (run rules events)
   sent : Sent rules events
-  lists : ListFits (run rules events)
+  lists : GroupListFits (run rules events)
 
 right : (rules : Rules) (events : List Event) → IsFit rules events → GroupListIsReadable rules (run rules events).group
 right rules events h =
@@ -50,7 +50,7 @@ right rules events h =
 
 -- ---- who was given something has a list
 
-no_log : (w : World) → ListFits w → ListlessNamesGotNothing w
+no_log : (w : World) → GroupListFits w → ListlessNamesGotNothing w
 no_log w fits name none = by (deliveries w.records name) refl
   where
     by : (given : List (ℕ × Entry)) → deliveries w.records name ≡ given → deliveries w.records name ≡ []
@@ -64,9 +64,9 @@ no_name : (rules : Rules) (events : List Event) → MayFound rules → ListlessN
 no_name rules events may listed name above =
     let w = run rules events in
     let named = run_has_names rules events may in
-    let most = named.most (place_of name) in
+    let most = named.most (place_of_name name) in
     let strange = named.unborn name (omega arith) in
-    listed name (ap (λ (n : Node). has_log n.status) strange)
+    listed name (ap (λ (n : Node). has_log_by_status n.status) strange)
 
 -- ---- the verdict
 
@@ -91,7 +91,7 @@ lists_right rules events broken s h group lines answers =
     let same : length w.group ≡ length (founders_entry rules ∷ r.rest) = ap length r.begins in
     let misfit : first_misfit 1 blank s.group ≡ None =
     ap (first_misfit 1 blank) (group ∙ ap (entry_texts_of rules) r.begins)
-    ∙ fitting_list_has_no_misfit rules r.rest may (subst (AllFit blank 1) r.begins r.fits) (subst (All IsSayable) r.begins r.say)
+    ∙ fitting_list_has_no_misfit rules r.rest may (subst (AllEntriesFit blank 1) r.begins r.fits) (subst (All IsSayable) r.begins r.say)
     (subst (All (IsRaised rules)) r.begins r.raised) (omega arith) in
     ap (λ o. or_else o (or_else (first_astray s.group s.logs) (or_else (first_lost s.group s.answers) (or_else (first_early [] s.logs) (first_misfit 1 blank
     s.group))))) fault
@@ -138,7 +138,7 @@ agrees_by s events lists deeds many =
     ∙ ap (λ o. if s.events == 0 then verdicts.ListsAgree else unwrap_or o verdicts.Agrees) deeds
     ∙ ap (λ n. if n == 0 then verdicts.ListsAgree else verdicts.Agrees) many
 
-fit_agrees : (rules : Rules) (events : List Event) → IsFit rules events → AgreesAs rules events (text_of rules events)
+fit_agrees : (rules : Rules) (events : List Event) → IsFit rules events → AgreesAs rules events (play_text_of rules events)
 fit_agrees rules events h =
     let s = watch_run rules events in
     let is = watched_is_run rules events in
@@ -158,7 +158,7 @@ fit_agrees rules events h =
 
 -- ---- what is claimed
 
-unballoted_is_fit : (rules : Rules) (events : List Event) → IsShort rules events → AreOfBytes events → NoBallot (run rules events) → IsFit rules events
+unballoted_is_fit : (rules : Rules) (events : List Event) → IsRunWithinScriptLimits rules events → AreOfBytes events → NoBallot (run rules events) → IsFit rules events
 unballoted_is_fit rules events short bytes none =
     let holds = unballoted_runs_hold rules events short.founds none in
     record {
@@ -170,9 +170,9 @@ unballoted_is_fit rules events short bytes none =
       lists = unballoted_group_lists_fit rules events short.founds none;
     }
 
-lawful_is_fit : (rules : Rules) (events : List Event) → IsShort rules events → AreOfBytes events → broken_at rules events ≡ None → IsFit rules events
+lawful_is_fit : (rules : Rules) (events : List Event) → IsRunWithinScriptLimits rules events → AreOfBytes events → broken_at rules events ≡ None → IsFit rules events
 lawful_is_fit rules events short bytes whole =
-    let all : lawful_front rules events ≡ events = ap (before_break events) whole in
+    let all : lawful_front rules events ≡ events = ap (events_before_break events) whole in
     let front = (headline_holds rules events short.founds).front in
     record {
       short = short;

@@ -1,7 +1,7 @@
 -- Each send of the list was asked for, as it is read.
 use Rattle.am_trace_laws.proofs.Words.{◌≡◌, ℕ, zero, suc, ◌+◌, ◌==◌, ◌&&◌, Bool, true, false, if◌then◌else◌, List, [], ◌∷◌, ◌++◌, length, refl, sym, ap, ◌∙◌}
 use Rattle.am_trace_laws.proofs.Words.{arith, subst, Some, None, slice_get, All, option_map, range_with_len, slice_get-map, and_parts, and_from, nat_tests}
-use Rattle.am_trace_laws.proofs.Words.{All-head, All-tail, Rules, Entry, split_on_bool, Record, name_of, body_text, IsSend, Line, or_else, first_asked, body_at, is_text}
+use Rattle.am_trace_laws.proofs.Words.{All-head, All-tail, Rules, Entry, split_on_bool, Record, acting_name_of_record, body_text, IsSend, Line, or_else, first_asked, body_at, is_text}
 use Rattle.am_trace_laws.proofs.Words.{unsent_at, first_unsent, lines_of, IsSayable, send_lines_in, sends_of, entry_texts_of}
 use Rattle.am_trace_laws.proofs.{Outcomes.same_text_as_itself, Entries.data_of_entry_as_read, Entries.data_in_entry_text, Sends.numbers_of_name_in_lines}
 use Rattle.am_base.specs.declared.entry.Entry.TheVariants as entries
@@ -162,10 +162,10 @@ behind front sends from req body h = record {
   text = h.text;
 }
 
-sent_line : (r : Record) (from req : ℕ) (body : List ℕ) → IsSend r from req body → send_lines_in (name_of r) r.event.act r.outcome
+sent_line : (r : Record) (from req : ℕ) (body : List ℕ) → IsSend r from req body → send_lines_in (acting_name_of_record r) r.event.act r.outcome
     ≡ record { name = from; number = req; text = body_text body } ∷ []
 sent_line r from req body is =
-    ap (λ a. send_lines_in (name_of r) a r.outcome) is.asked ∙ ap (λ o. send_lines_in (name_of r) (acts.Send body) o) is.answered
+    ap (λ a. send_lines_in (acting_name_of_record r) a r.outcome) is.asked ∙ ap (λ o. send_lines_in (acting_name_of_record r) (acts.Send body) o) is.answered
     ∙ ap (λ (n : ℕ). send_lines_in n (acts.Send body) (said.Queued req)) is.by
 
 -- a send among the records is among the lines
@@ -183,7 +183,7 @@ recorded_send_was_asked (x ∷ xs) zero r from req body there is =
       text = refl;
     })
 recorded_send_was_asked (x ∷ xs) (suc k) r from req body there is =
-    behind (send_lines_in (name_of x) x.event.act x.outcome) (sends_of xs) from req body (recorded_send_was_asked xs k r from req body there is)
+    behind (send_lines_in (acting_name_of_record x) x.event.act x.outcome) (sends_of xs) from req body (recorded_send_was_asked xs k r from req body there is)
 
 pub all_entries_were_asked : (sends : List Line) (es : List Entry)
     → ((k from req : ℕ) (body : List ℕ) → slice_get es k ≡ Some (entries.Data from req body) → SendWasAskedInLines sends from req body) → EntriesWereAskedInLines sends es

@@ -1,8 +1,8 @@
 -- The bodies of scripts are of bytes.
 use Rattle.am_trace_laws.proofs.ScriptWords.{◌≡◌, ℕ, ◌+◌, ◌/◌, List, [], length, Result, Ok, Err, false, is_some, ◌&&◌, nat_le, subst, All, Option}
-use Rattle.am_trace_laws.proofs.ScriptWords.{Some, None, ok_or, option_map_or, All-nil, All-cons, most_number, most_events, most_body, most_packet, IsBytes}
+use Rattle.am_trace_laws.proofs.ScriptWords.{Some, None, ok_or, option_map_or, All-nil, All-cons, greatest_number, most_events_of_run, most_bytes_of_body, most_bytes_of_packet, IsBytes}
 use Rattle.am_trace_laws.proofs.ScriptWords.{decode_of, decode_of-ok, items_len, as_array, as_object, Act, Event, RacePlan, ThreadPlan, EventKind, Script, BadValue}
-use Rattle.am_trace_laws.proofs.ScriptWords.{has_only, ReadOrRefused, founding_in, name_at, IsOfBytes, AreOfBytes, PlaysAreOfBytes, ThreadOfBytes, RacesAreOfBytes}
+use Rattle.am_trace_laws.proofs.ScriptWords.{has_only, ReadOrRefused, founding_in, name_of_place_and_life, IsOfBytes, AreOfBytes, PlaysAreOfBytes, ThreadOfBytes, RacesAreOfBytes}
 use Rattle.serde_json.specs.Data.{Data, Items, no_items, item}
 use Rattle.am_script_defs.specs.declared.kind.EventKind.TheVariants.{Send, Done, Take, Join, State, Leave, Reset, Ask, GiveUp, Stop, Tick, Hear, Cut, Return}
 use Rattle.am_script_defs.specs.Values.{value_in, text_in, number_at_key, number_or, flag_or, are_hex_pairs, bytes_of_hex, body_from}
@@ -23,7 +23,7 @@ decoded place (Err e) bytes h = cc
 
 body_of_bytes : (place : ℕ) (text bytes : List ℕ) → body_from place text ≡ Ok bytes → IsBytes bytes
 unfolding body_from
-body_of_bytes place text bytes h = ok_of_read_if_true (are_hex_pairs text) _ _ bytes h (λ pairs told. ok_of_read_if_true (nat_le (length text / 2) most_body) _ _ bytes told (λ short is.
+body_of_bytes place text bytes h = ok_of_read_if_true (are_hex_pairs text) _ _ bytes h (λ pairs told. ok_of_read_if_true (nat_le (length text / 2) most_bytes_of_body) _ _ bytes told (λ short is.
     (decode_of-ok text bytes (decoded place (decode_of text) bytes is)).3))
 
 act_as : (a b : Act) → (let r : ReadOrRefused Act = Ok a in r) ≡ Ok b → IsOfBytes a → IsOfBytes b
@@ -42,27 +42,27 @@ reset_of_bytes founding place d a h = ok_of_bound_read (number_at_key key.Least 
 give_up_of_bytes : (place : ℕ) (d : Data) (a : Act) → give_up_in place d ≡ Ok a → IsOfBytes a
 unfolding give_up_in
 give_up_of_bytes place d a h = ok_of_bound_read (number_at_key key.Name place 0 15 d) _ a h
-    (λ seat there rest. ok_of_bound_read (number_or 1 key.Life place 1 16 d) _ a rest (λ life told is. act_as (act.GiveUp (name_at seat life)) a is tt))
+    (λ seat there rest. ok_of_bound_read (number_or 1 key.Life place 1 16 d) _ a rest (λ life told is. act_as (act.GiveUp (name_of_place_and_life seat life)) a is tt))
 
 cut_of_bytes : (place : ℕ) (d : Data) (a : Act) → cut_in place d ≡ Ok a → IsOfBytes a
 unfolding cut_in
-cut_of_bytes place d a h = ok_of_bound_read (number_at_key key.Packet place 1 most_number d) _ a h
-    (λ packet there rest. ok_of_bound_read (number_at_key key.Keep place 0 most_packet d) _ a rest (λ keep told is. act_as (act.Cut packet keep) a is tt))
+cut_of_bytes place d a h = ok_of_bound_read (number_at_key key.Packet place 1 greatest_number d) _ a h
+    (λ packet there rest. ok_of_bound_read (number_at_key key.Keep place 0 most_bytes_of_packet d) _ a rest (λ keep told is. act_as (act.Cut packet keep) a is tt))
 
 act_of_bytes : (kind : EventKind) (founding place : ℕ) (d : Data) (a : Act) → act_in kind founding place d ≡ Ok a → IsOfBytes a
 unfolding act_in
 act_of_bytes Send founding place d a h = send_of_bytes place d a h
-act_of_bytes Done founding place d a h = ok_of_bound_read (number_at_key key.Req place 1 most_number d) _ a h (λ n told is. act_as (act.Done n) a is tt)
+act_of_bytes Done founding place d a h = ok_of_bound_read (number_at_key key.Req place 1 greatest_number d) _ a h (λ n told is. act_as (act.Done n) a is tt)
 act_of_bytes Take founding place d a h = act_as act.Take a h tt
 act_of_bytes Join founding place d a h = act_as act.Join a h tt
 act_of_bytes State founding place d a h = act_as act.State a h tt
 act_of_bytes Leave founding place d a h = act_as act.Leave a h tt
 act_of_bytes Reset founding place d a h = reset_of_bytes founding place d a h
-act_of_bytes Ask founding place d a h = ok_of_bound_read (number_at_key key.Round place 1 most_number d) _ a h (λ n told is. act_as (act.Ask n) a is tt)
+act_of_bytes Ask founding place d a h = ok_of_bound_read (number_at_key key.Round place 1 greatest_number d) _ a h (λ n told is. act_as (act.Ask n) a is tt)
 act_of_bytes GiveUp founding place d a h = give_up_of_bytes place d a h
 act_of_bytes Stop founding place d a h = act_as act.Stop a h tt
 act_of_bytes Tick founding place d a h = act_as act.Tick a h tt
-act_of_bytes Hear founding place d a h = ok_of_bound_read (number_at_key key.Packet place 1 most_number d) _ a h (λ n told is. act_as (act.Hear n) a is tt)
+act_of_bytes Hear founding place d a h = ok_of_bound_read (number_at_key key.Packet place 1 greatest_number d) _ a h (λ n told is. act_as (act.Hear n) a is tt)
 act_of_bytes Cut founding place d a h = cut_of_bytes place d a h
 act_of_bytes Return founding place d a h = act_as act.Return a h tt
 
@@ -121,7 +121,7 @@ threads_of_bytes founding d threads h = ok_of_bound_read (ok_or (as_array d) (Ba
 sized : (plan found : RacePlan) → of_right_size plan ≡ Ok found → plan ≡ found
 unfolding of_right_size
 sized plan found h = ok_of_read_if_true (nat_le (calls_in_all plan.threads) most_calls) _ _ found h
-    (λ few inner. ok_of_read_if_true (nat_le (records_of plan) most_events) _ _ found inner (λ short is. ok_of_read_is_injective plan found is))
+    (λ few inner. ok_of_read_if_true (nat_le (records_of plan) most_events_of_run) _ _ found inner (λ short is. ok_of_read_is_injective plan found is))
 
 race_of_bytes : (d : Data) (plan : RacePlan) → race_from d ≡ Ok plan → All ThreadOfBytes plan.threads
 unfolding race_from parts_of_race

@@ -1,6 +1,6 @@
 -- What is printed of events and entries has no newline and no mark in it.
 use Rattle.am_trace_laws.proofs.Words.{◌≡◌, ℕ, ◌+◌, ◌==◌, ◌&&◌, ◌||◌, not, Bool, true, false, cond, List, [], ◌∷◌, ◌++◌, refl, ap, ◌∙◌, Option, Some, None, codes}
-use Rattle.am_trace_laws.proofs.Words.{decimal, slice_index, drop, list_all, append-nil, Rules, place_of, Stamp, Entry, Outcome, IsBytes, Letter, Packet, Act}
+use Rattle.am_trace_laws.proofs.Words.{decimal, slice_index, drop, list_all, append-nil, Rules, place_of_name, Stamp, Entry, Outcome, IsBytes, Letter, Packet, Act}
 use Rattle.am_trace_laws.proofs.Words.{Event, onto_cut, name_text, stamp_text, names_text, body_text, resilience_text, entry_text, outcome_word, numbers_text}
 use Rattle.am_trace_laws.proofs.Words.{outcome_numbers, outcome_parts, outcome_text, act_word, act_parts, event_text, kind_word, is_everybody_else}
 use Rattle.am_trace_laws.proofs.Words.{addressees_text, letter_text, letters_text, IsOfBytes, begins_mark, mark_cut, HasNoNewline, byte_is_plain, TextIsWord, TextIsPlain, and_true_gives_both}
@@ -107,9 +107,9 @@ act_plain rules _ bytes = refl
 pub event_text_is_plain : (rules : Rules) (event : Event) → IsOfBytes event.act → TextIsPlain (event_text rules event)
 unfolding event_text
 event_text_is_plain rules event bytes =
-    appended_plain_texts_are_plain (act_word event.act) (codes " " ++ (decimal (place_of event.node) ++ act_parts rules event.act))
+    appended_plain_texts_are_plain (act_word event.act) (codes " " ++ (decimal (place_of_name event.node) ++ act_parts rules event.act))
     (word_is_plain_text (act_word event.act) (act_is_word event.act))
-    (appended_plain_texts_are_plain (decimal (place_of event.node)) (act_parts rules event.act) (number_plain (place_of event.node)) (act_plain rules event.act bytes))
+    (appended_plain_texts_are_plain (decimal (place_of_name event.node)) (act_parts rules event.act) (number_plain (place_of_name event.node)) (act_plain rules event.act bytes))
 
 -- ---- lines
 

@@ -1,6 +1,6 @@
 -- An entry that is printed is read.
 use Rattle.am_trace_laws.proofs.Words.{◌≡◌, ℕ, ◌<◌, ◌≤◌, ◌==◌, ◌&&◌, zero, suc, Bool, true, false, List, [], ◌∷◌, ◌++◌, length, lit<, refl, ap, ◌∙◌, arith, Result}
-use Rattle.am_trace_laws.proofs.Words.{Ok, Err, Option, Some, None, if◌then◌else◌, codes, decimal, append-nil, nat_tests, most_number, most_body, IsSet, Rules}
+use Rattle.am_trace_laws.proofs.Words.{Ok, Err, Option, Some, None, if◌then◌else◌, codes, decimal, append-nil, nat_tests, greatest_number, most_bytes_of_body, IsSetOfNames, Rules}
 use Rattle.am_trace_laws.proofs.Words.{GroupView, Entry, FieldFault, Form, cut_of, name_text, stamp_text, names_text, body_text, resilience_text, entry_text}
 use Rattle.am_trace_laws.proofs.Words.{Outline, data_parts, data_of, resilience_in_text, resilience_in, view_in_text, outline_of, data_in, number_up_to_decimal, name_of_name_text}
 use Rattle.am_trace_laws.proofs.Words.{names_of_names_text, decimal_is_word, name_text_is_word, stamp_text_is_word, names_text_is_word, cut_of_word_at_blank, cut_of_whole_word, stamp_of_stamp_text, bytes_of_body_text, IsSayable}
@@ -49,7 +49,7 @@ resilience_read false resilience low some =
     let filled : (length (114 ∷ decimal resilience) == 0) ≡ false = grind (arith, nat_tests) in
     rw (number_up_to_decimal 15 resilience low (lit< tt), other, filled) refl
 
-view_read : (b : Bool) (v : GroupView) → v.stamp.round ≤ most_number → v.stamp.by < 256 → IsSet v.members → v.resilience ≤ 15
+view_read : (b : Bool) (v : GroupView) → v.stamp.round ≤ greatest_number → v.stamp.by < 256 → IsSetOfNames v.members → v.resilience ≤ 15
     → (b ≡ false → 0 < v.resilience) → view_in_text (stamp_text v.stamp ++ 32 ∷ (names_text v.members ++ text_by b v.resilience))
     ≡ Ok (outlines.View (record v { resilience = if b then 0 else v.resilience }))
 unfolding view_in_text
@@ -64,7 +64,7 @@ view_read b v round by set low some =
 
 -- ---- entries
 
-data_read : (from req : ℕ) (body : List ℕ) → from < 256 → req ≤ most_number
+data_read : (from req : ℕ) (body : List ℕ) → from < 256 → req ≤ greatest_number
     → data_parts (name_text from ++ 32 ∷ (decimal req ++ 32 ∷ body_text body)) ≡ Ok (from, req, body_text body)
 unfolding data_parts
 data_read from req body low within =
@@ -72,13 +72,13 @@ data_read from req body low within =
       two_of_word_and_rest (name_text from) (decimal req ++ 32 ∷ body_text body) (name_text_is_word from),
       name_of_name_text from low,
       two_of_word_and_rest (decimal req) (body_text body) (decimal_is_word req),
-      number_up_to_decimal most_number req within (lit< tt),
+      number_up_to_decimal greatest_number req within (lit< tt),
     ) refl
 
 pub outline_of_entry_text : (rules : Rules) (entry : Entry) → IsSayable entry → IsRaised rules entry → outline_of (entry_text rules entry) ≡ Ok (outline_of_entry_as_read rules entry)
 unfolding outline_of entry_text data_of resilience_text text_by
 outline_of_entry_text rules (entries.Data from req body) say raised =
-    rw (data_read from req body say.0 say.1, bytes_of_body_text most_body body say.2 say.3) refl
+    rw (data_read from req body say.0 say.1, bytes_of_body_text most_bytes_of_body body say.2 say.3) refl
 outline_of_entry_text rules (entries.Join name) say raised = rw (name_of_name_text name say) refl
 outline_of_entry_text rules (entries.Leave name) say raised = rw (name_of_name_text name say) refl
 outline_of_entry_text rules (entries.View v) say raised =

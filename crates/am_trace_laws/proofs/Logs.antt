@@ -1,8 +1,8 @@
 -- The logs of a run whose list fits are pieces of it, as they are read.
 use Rattle.am_trace_laws.proofs.Words.{◌≡◌, ◌≢◌, ℕ, zero, suc, ◌+◌, ◌*◌, ◌/◌, ◌%◌, ◌<◌, ◌≤◌, ◌==◌, ◌&&◌, Bool, true, false, if◌then◌else◌, List, [], ◌∷◌, ◌++◌}
 use Rattle.am_trace_laws.proofs.Words.{map, refl, sym, ap, ◌∙◌, arith, subst, Option, Some, None, Ok, ◌⊎◌, ⊎_elim, inl, inr, All, option_map, flat_map}
-use Rattle.am_trace_laws.proofs.Words.{range_with_len, flat_map-append, append-nil, slice_get-map, and_parts, nat_tests, Rules, blank, AllFit, has, Entry, split_on_bool}
-use Rattle.am_trace_laws.proofs.Words.{item_at, deliveries, same, founders_entry, has_log, entry_text, World, logs, BeginsAt, IsSegment, Segment, all_gives_item_at}
+use Rattle.am_trace_laws.proofs.Words.{range_with_len, flat_map-append, append-nil, slice_get-map, and_parts, nat_tests, Rules, blank, AllEntriesFit, has, Entry, split_on_bool}
+use Rattle.am_trace_laws.proofs.Words.{item_at, deliveries, same, founders_entry, has_log_by_status, entry_text, World, logs, BeginsAt, IsSegment, Segment, all_gives_item_at}
 use Rattle.am_trace_laws.proofs.Words.{no_send_stands_twice, Verdict, outline_of, data_in, is_send, Line, or_else, last_of, first_with, first_sent, gap_at, differs_at}
 use Rattle.am_trace_laws.proofs.Words.{twice_by, twice_at, fault_at, first_fault, is_text, first_astray, may_begin, early_at, first_early, IsSayable, IsRaised}
 use Rattle.am_trace_laws.proofs.Words.{entry_texts_of, log_in, logs_in}
@@ -14,7 +14,7 @@ use Rattle.am_audit_defs.specs.declared.verdict.Verdict.TheVariants as verdicts
 
 -- it fits, begins with the founders' view, and is read
 pub record GroupListIsReadable (rules : Rules) (group : List Entry) : Type 0 where
-  pub fits : AllFit blank 1 group
+  pub fits : AllEntriesFit blank 1 group
   pub say : All IsSayable group
   pub raised : All (IsRaised rules) group
   pub rest : List Entry
@@ -265,7 +265,7 @@ abbrev pub name_by_rank : ℕ → ℕ
 name_by_rank rank = rank / 16 + 16 * (rank % 16)
 
 abbrev pub log_of_name_in_world : World → ℕ → List (ℕ × List (ℕ × Entry))
-log_of_name_in_world w name = if has_log (w.nodes name).status then (name, deliveries w.records name) ∷ [] else []
+log_of_name_in_world w name = if has_log_by_status (w.nodes name).status then (name, deliveries w.records name) ∷ [] else []
 
 abbrev pub logs_of_names_in_world : World → ℕ → ℕ → List (ℕ × List (ℕ × Entry))
 logs_of_names_in_world w a n = flat_map (log_of_name_in_world w) (map (λ rank. rank / 16 + 16 * (rank % 16)) (range_with_len a n))
@@ -285,7 +285,7 @@ logs_go rules w a (suc n) before right segment low fresh =
     let small : a < 256 = omega arith in
     let whole : logs_in rules (log_of_name_in_world w name ++ later) ≡ logs_in rules (log_of_name_in_world w name) ++ logs_in rules later =
     flat_map-append (λ (log : ℕ × List (ℕ × Entry)). log_in rules log.0 log.1) (log_of_name_in_world w name) later in
-    subst (LinesComeNextInLogs rules w.group before) (sym whole) (split_on_bool (has_log (w.nodes name).status)
+    subst (LinesComeNextInLogs rules w.group before) (sym whole) (split_on_bool (has_log_by_status (w.nodes name).status)
     (λ t.
     let one : logs_in rules (log_of_name_in_world w name) ≡ log_in rules name (deliveries w.records name) =
     ap (λ b. logs_in rules (if b then (name, deliveries w.records name) ∷ [] else [])) t ∙ append-nil (log_in rules name (deliveries w.records name)) in

@@ -1,7 +1,7 @@
 -- What the events that count are read as, by their acts and outcomes.
 use Rattle.am_trace_laws.proofs.Words.{◌≡◌, ℕ, ◌<◌, ◌≤◌, ◌==◌, ◌&&◌, true, false, cond, List, [], ◌∷◌, ◌++◌, length, lit<, refl, sym, ap, ◌∙◌, arith, subst}
-use Rattle.am_trace_laws.proofs.Words.{◌⊎◌, ⊎_elim, inl, inr, Result, Ok, Err, IsErr, Option, codes, decimal, slice_index, append-nil, nat_tests, most_number}
-use Rattle.am_trace_laws.proofs.Words.{most_body, name_at, Rules, Entry, Outcome, IsBytes, Act, FieldFault, Form, same, and_then, number_up_to, number_in_text}
+use Rattle.am_trace_laws.proofs.Words.{◌⊎◌, ⊎_elim, inl, inr, Result, Ok, Err, IsErr, Option, codes, decimal, slice_index, append-nil, nat_tests, greatest_number}
+use Rattle.am_trace_laws.proofs.Words.{most_bytes_of_body, name_of_place_and_life, Rules, Entry, Outcome, IsBytes, Act, FieldFault, Form, same, and_then, number_up_to, number_in_text}
 use Rattle.am_trace_laws.proofs.Words.{body_text, entry_text, outcome_word, numbers_text, outcome_numbers, outcome_parts, outcome_text, act_word, act_parts}
 use Rattle.am_trace_laws.proofs.Words.{Outline, with_rest, two_of, expect, is_body, outline_of, told_number, send_of, answer_fields_of, take_of, return_of, Reading}
 use Rattle.am_trace_laws.proofs.Words.{with_send, with_sent_answer, with_take, with_return, counted, number_up_to_decimal, TextIsWord, decimal_is_word, cut_of_word_at_blank, cut_of_whole_word}
@@ -93,24 +93,24 @@ send_none rules rest outcome other =
     fails_then (two_of rest) _ (λ first. fails_then (number_up_to 15 first.0) _ (λ place. fails_then (is_body first.1) _ (λ checked.
     fails_first (told_number (codes "queued") (outcome_text rules outcome)) _ (other_word (codes "queued") rules outcome number_in_text other))))
 
-send_read : (rules : Rules) (place : ℕ) (body : List ℕ) (req : ℕ) → place ≤ 15 → IsBytes body → length body ≤ most_body → req ≤ most_number
+send_read : (rules : Rules) (place : ℕ) (body : List ℕ) (req : ℕ) → place ≤ 15 → IsBytes body → length body ≤ most_bytes_of_body → req ≤ greatest_number
     → send_of (decimal place ++ 32 ∷ body_text body) (outcome_text rules (said.Queued req)) ≡ Ok (place, req, body_text body)
 unfolding send_of told_number outcome_text outcome_parts outcome_word
 send_read rules place body req low bytes few within =
     rw (
       two_of_word_and_rest (decimal place) (body_text body) (decimal_is_word place),
       number_up_to_decimal 15 place low (lit< tt),
-      bytes_of_body_text most_body body bytes few,
+      bytes_of_body_text most_bytes_of_body body bytes few,
       append-nil (decimal req),
-      number_up_to_decimal most_number req within (lit< tt),
+      number_up_to_decimal greatest_number req within (lit< tt),
     ) refl
 
 -- the request is a number
 abbrev pub QueuedRequestIsNumber : Outcome → Type 0
-QueuedRequestIsNumber (said.Queued req) = req ≤ most_number
+QueuedRequestIsNumber (said.Queued req) = req ≤ greatest_number
 QueuedRequestIsNumber _ = Unit {0}
 
-send_counts : (rules : Rules) (s : Reading) (place : ℕ) (body : List ℕ) (outcome : Outcome) → place ≤ 15 → IsBytes body → length body ≤ most_body
+send_counts : (rules : Rules) (s : Reading) (place : ℕ) (body : List ℕ) (outcome : Outcome) → place ≤ 15 → IsBytes body → length body ≤ most_bytes_of_body
     → QueuedRequestIsNumber outcome → with_send s (send_of (decimal place ++ 32 ∷ body_text body) (outcome_text rules outcome))
     ≡ record s { sends = s.sends ++ queued_as (slice_index s.names place) body outcome }
 unfolding outcome_word
@@ -129,23 +129,23 @@ answer_none rules rest outcome other =
     (λ behind. and_then (two_of behind) (λ last. and_then (expect first.1 last.0) (λ again. and_then (number_in_text last.1) (λ number. Ok (place, asked, number)))))
     other)))
 
-answer_read : (rules : Rules) (place asked number : ℕ) → place ≤ 15 → asked ≤ most_number → number ≤ most_number
+answer_read : (rules : Rules) (place asked number : ℕ) → place ≤ 15 → asked ≤ greatest_number → number ≤ greatest_number
     → answer_fields_of (decimal place ++ 32 ∷ decimal asked) (outcome_text rules (said.Sent asked number)) ≡ Ok (place, asked, number)
 unfolding answer_fields_of outcome_text outcome_parts outcome_word
 answer_read rules place asked number low within high =
     rw (
       two_of_word_and_rest (decimal place) (decimal asked) (decimal_is_word place),
       number_up_to_decimal 15 place low (lit< tt),
-      number_up_to_decimal most_number asked within (lit< tt),
+      number_up_to_decimal greatest_number asked within (lit< tt),
       append-nil (decimal number),
       two_of_word_and_rest (decimal asked) (decimal number) (decimal_is_word asked),
       same_text_as_itself (decimal asked),
-      number_up_to_decimal most_number number high (lit< tt),
+      number_up_to_decimal greatest_number number high (lit< tt),
     ) refl
 
 -- it answers what was asked
 abbrev pub OutcomeAnswersRequest : ℕ → Outcome → Type 0
-OutcomeAnswersRequest asked (said.Sent req number) = (asked ≡ req) × (req ≤ most_number) × (number ≤ most_number)
+OutcomeAnswersRequest asked (said.Sent req number) = (asked ≡ req) × (req ≤ greatest_number) × (number ≤ greatest_number)
 OutcomeAnswersRequest asked _ = Unit {0}
 
 answer_counts : (rules : Rules) (s : Reading) (place asked : ℕ) (outcome : Outcome) → place ≤ 15 → OutcomeAnswersRequest asked outcome
@@ -171,19 +171,19 @@ take_none rules rest outcome other = other_behind (codes "took") rules outcome r
 abbrev pub EntryTextIsRead : Rules → Entry → Type 0
 EntryTextIsRead rules entry = (outline : Outline) × (outline_of (entry_text rules entry) ≡ Ok outline)
 
-take_read : (rules : Rules) (place number : ℕ) (entry : Entry) → place ≤ 15 → number ≤ most_number → EntryTextIsRead rules entry
+take_read : (rules : Rules) (place number : ℕ) (entry : Entry) → place ≤ 15 → number ≤ greatest_number → EntryTextIsRead rules entry
     → take_of (decimal place) (outcome_text rules (said.Took number entry)) ≡ Ok (place, number, entry_text rules entry)
 unfolding take_of outcome_text outcome_parts outcome_word
 take_read rules place number entry low within read =
     rw (
       number_up_to_decimal 15 place low (lit< tt),
       two_of_word_and_rest (decimal number) (entry_text rules entry) (decimal_is_word number),
-      number_up_to_decimal most_number number within (lit< tt),
+      number_up_to_decimal greatest_number number within (lit< tt),
       read.1,
     ) refl
 
 abbrev pub TakenEntryIsRead : Rules → Outcome → Type 0
-TakenEntryIsRead rules (said.Took number entry) = (number ≤ most_number) × EntryTextIsRead rules entry
+TakenEntryIsRead rules (said.Took number entry) = (number ≤ greatest_number) × EntryTextIsRead rules entry
 TakenEntryIsRead rules _ = Unit {0}
 
 take_counts : (rules : Rules) (s : Reading) (place : ℕ) (outcome : Outcome) → place ≤ 15 → TakenEntryIsRead rules outcome
@@ -199,10 +199,10 @@ return_none : (rules : Rules) (rest : List ℕ) (outcome : Outcome) → same (ou
     → IsErr (return_of rest (outcome_text rules outcome))
 unfolding return_of
 return_none rules rest outcome other = other_behind (codes "returned") rules outcome rest
-    (λ place behind. and_then (number_up_to 16 behind) (λ life. cond (life == 0) (Err Form) (Ok (place, name_at place life)))) other
+    (λ place behind. and_then (number_up_to 16 behind) (λ life. cond (life == 0) (Err Form) (Ok (place, name_of_place_and_life place life)))) other
 
 return_read : (rules : Rules) (place life : ℕ) → place ≤ 15 → 0 < life → life ≤ 16
-    → return_of (decimal place) (outcome_text rules (said.Returned life)) ≡ Ok (place, name_at place life)
+    → return_of (decimal place) (outcome_text rules (said.Returned life)) ≡ Ok (place, name_of_place_and_life place life)
 unfolding return_of outcome_text outcome_parts outcome_word
 return_read rules place life low some most =
     let other : (life == 0) ≡ false = grind (arith, nat_tests) in
@@ -227,7 +227,7 @@ reading_after_event rules s place act outcome = record s {
 
 -- what counts is within its limits
 abbrev pub CountedActIsWithinLimits : Rules → Act → Outcome → Type 0
-CountedActIsWithinLimits rules (acts.Send body) outcome = IsBytes body × (length body ≤ most_body) × QueuedRequestIsNumber outcome
+CountedActIsWithinLimits rules (acts.Send body) outcome = IsBytes body × (length body ≤ most_bytes_of_body) × QueuedRequestIsNumber outcome
 CountedActIsWithinLimits rules (acts.Done req) outcome = OutcomeAnswersRequest req outcome
 CountedActIsWithinLimits rules acts.Take outcome = TakenEntryIsRead rules outcome
 CountedActIsWithinLimits rules acts.Return outcome = HasLife outcome

@@ -2,7 +2,7 @@
 use Rattle.am_trace_laws.proofs.ScriptWords.{◌≡◌, ℕ, zero, suc, ◌+◌, ◌-◌, ◌==◌, ◌&&◌, nat_lt, Bool, true, false, is_some, List, [], ◌∷◌, ◌++◌, length, take, drop}
 use Rattle.am_trace_laws.proofs.ScriptWords.{filter, Option, Some, None, slice_get, refl, sym, ap, ap₂, ◌∙◌, subst, arith, ◌⊎◌, inl, inr, append_assoc, true≢false}
 use Rattle.am_trace_laws.proofs.ScriptWords.{All, and_parts, nat_tests, All-nil, All-cons, All-append, All-head, All-tail, All-filter, split_on_bool, Outcome, Act, Record}
-use Rattle.am_trace_laws.proofs.ScriptWords.{RacePlan, ThreadPlan, all_gives_slice_get, own_answer, is_take, same_bytes, same_act, has_no_records, asks, checks, is_followed}
+use Rattle.am_trace_laws.proofs.ScriptWords.{RacePlan, ThreadPlan, item_of_index_has_property, own_answer, is_take, same_bytes, same_act, has_no_records, asks, checks, is_followed}
 use Rattle.am_trace_laws.proofs.ScriptWords.{is_receive, is_other, is_one_call, at_one_place, first_call, are_calls, IsLegalWithTags, calls_in, calls_of, of_caller}
 use Rattle.am_trace_laws.proofs.ScriptWords.{is_own, is_turn_part, is_check}
 use Rattle.am_race_laws.specs.Callers.{records_behind}
@@ -157,7 +157,7 @@ module _ (P : Act → Type 0) (Good : Record → Type 0) (kept : ActPropertyIsKe
   record_is_turn_or_planned plan journal before rest r threads good legal is =
       let caller = r.by.caller in
       let calls = in_calls (slice_get plan.threads caller)
-      (λ thread found. all_gives_slice_get (λ (t : ThreadPlan). All P t.calls) plan.threads caller thread threads found)
+      (λ thread found. item_of_index_has_property (λ (t : ThreadPlan). All P t.calls) plan.threads caller thread threads found)
       in
       let its = All-filter (λ (x : Record). x.by.caller == caller) Good journal good in
       let fine = calls_fine plan.turns 0 (calls_of plan caller) (of_caller caller journal) calls its (legal.callers caller) in

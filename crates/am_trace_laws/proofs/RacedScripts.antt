@@ -1,8 +1,8 @@
 -- The events of a race are within the limits of scripts.
 use Rattle.am_trace_laws.proofs.ScriptWords.{◌≡◌, ℕ, zero, suc, ◌+◌, ◌<◌, ◌≤◌, ◌==◌, not, true, false, true≢false, is_some, List, [], ◌∷◌, ◌++◌, length, Some, refl}
 use Rattle.am_trace_laws.proofs.ScriptWords.{sym, ap, ◌∙◌, subst, arith, ⊎_elim, All, and_parts, nat_tests, length-map, length-append, All-map, All-weaker}
-use Rattle.am_trace_laws.proofs.ScriptWords.{none-some, slice_get_within, most_events, most_body, place_of, Outcome, Letter, letters_of, letter_at, Act, Record}
-use Rattle.am_trace_laws.proofs.ScriptWords.{RacePlan, ThreadPlan, Node, World, current, acts_as, run, BodyWithin, NodeNumbers, number_bounds_hold_in_runs, IsCount, ActWithin}
+use Rattle.am_trace_laws.proofs.ScriptWords.{none-some, slice_get_within, most_events_of_run, most_bytes_of_body, place_of_name, Outcome, Letter, letters_of_records, letter_at, Act, Record}
+use Rattle.am_trace_laws.proofs.ScriptWords.{RacePlan, ThreadPlan, Node, World, current, world_after_act, run, BodyIsWithinLimit, NodeNumbers, number_bounds_hold_in_runs, IsCount, ActWithin}
 use Rattle.am_trace_laws.proofs.ScriptWords.{EventWithin, CallWithin, ThreadWithin, RaceWithin, EachComesNext, has_stopped, own_answer, send_answer, ballot_answer}
 use Rattle.am_trace_laws.proofs.ScriptWords.{sent_request, same_act, asks, IsLawfulRecord, terms_of, IsLegalWithTags, calls_of, is_ready, round_in, is_turn_part, of_call}
 use Rattle.am_trace_laws.proofs.ScriptWords.{own_of, up_to_last, world_after, lost_by, is_waited, is_least, is_turn_of, is_turn, events_of_records, told_world_is_events_run, stopped_names_are_set}
@@ -39,7 +39,7 @@ asks_within _ o letters _ count h = absurd (true≢false (sym h))
 -- ---- planned acts
 
 planned_within : (a b : Act) → same_act a b ≡ true → ActWithin a → ActWithin b
-planned_within (act.Send x) (act.Send y) h within = subst (λ (z : List ℕ). length z ≤ most_body) (same_bytes_gives_equal_lists x y h) within
+planned_within (act.Send x) (act.Send y) h within = subst (λ (z : List ℕ). length z ≤ most_bytes_of_body) (same_bytes_gives_equal_lists x y h) within
 planned_within (act.Reset x y) (act.Reset z u) h within =
     let parts = and_parts (x == z) (y == u) h in
     let one = parts.0 in
@@ -78,13 +78,13 @@ kept = record {
 
 -- ---- a journal
 
-module _ (plan : RacePlan) (journal : List Record) (within : RaceWithin plan) (threads : All ThreadHasBodies plan.threads) (few : length journal ≤ most_events)
+module _ (plan : RacePlan) (journal : List Record) (within : RaceWithin plan) (threads : All ThreadHasBodies plan.threads) (few : length journal ≤ most_events_of_run)
     (legal : IsLegalWithTags plan (calls_of plan) journal) where
   follows : EachComesNext (IsLawfulRecord (terms_of plan)) journal
   follows = legal_journal_follows_lawful plan (calls_of plan) journal legal
 
-  bodies : All (λ (r : Record). BodyWithin r.event.act) journal
-  bodies = All-weaker (λ (r : Record). HasBody r.event.act) (λ (r : Record). BodyWithin r.event.act) (λ r h. h.within) journal
+  bodies : All (λ (r : Record). BodyIsWithinLimit r.event.act) journal
+  bodies = All-weaker (λ (r : Record). HasBody r.event.act) (λ (r : Record). BodyIsWithinLimit r.event.act) (λ r h. h.within) journal
       (race_sends_have_planned_bodies plan journal threads legal)
 
   -- ---- what comes before a record
@@ -115,7 +115,7 @@ module _ (plan : RacePlan) (journal : List Record) (within : RaceWithin plan) (t
     sends : (body : List ℕ) → r.event.act ≡ act.Send body → is_some (send_answer r.outcome) ≡ false → IsCount (sent_request r.outcome)
     sends body does_send unanswered =
         let m = (world_after plan.founding before).nodes (name_acting_at_record plan.founding before r) in
-        let t = record_of_act_tells_step plan before r (does.Send body) begins own (λ w name. ap (λ (a : Act). acts_as w r.event name a) does_send) in
+        let t = record_of_act_tells_step plan before r (does.Send body) begins own (λ w name. ap (λ (a : Act). world_after_act w r.event name a) does_send) in
         let asked = unanswered_send_has_next_request m body (ap (λ (o : Outcome). is_some (send_answer o)) (sym t.outcome) ∙ unanswered) in
         let request : sent_request r.outcome ≡ m.sends.last + 1 = ap sent_request t.outcome ∙ asked in
         let low = (numbers (name_acting_at_record plan.founding before r)).1.requests in
@@ -127,7 +127,7 @@ module _ (plan : RacePlan) (journal : List Record) (within : RaceWithin plan) (t
     resets least resilience does_reset unanswered =
         let m = (world_after plan.founding before).nodes (name_acting_at_record plan.founding before r) in
         let t = record_of_act_tells_step plan before r (does.Reset least resilience) begins own
-        (λ w name. ap (λ (a : Act). acts_as w r.event name a) does_reset)
+        (λ w name. ap (λ (a : Act). world_after_act w r.event name a) does_reset)
         in
         let asked = unanswered_reset_has_next_round m least resilience (ap (λ (o : Outcome). is_some (ballot_answer o)) (sym t.outcome) ∙ unanswered) in
         let round : round_in r.packets ≡ m.core.promise.round + 1 = ap round_in t.packets ∙ asked in
@@ -147,9 +147,9 @@ module _ (plan : RacePlan) (journal : List Record) (within : RaceWithin plan) (t
     -- at most nine letters
     packets : length r.packets ≤ 9
     packets =
-        let first = subst (All (λ (q : Record). BodyWithin q.event.act)) is bodies in
+        let first = subst (All (λ (q : Record). BodyIsWithinLimit q.event.act)) is bodies in
         let less = shorter in
-        record_sends_nine_at_most plan before r within.may_found (all_of_append_gives_first (λ (q : Record). BodyWithin q.event.act) before (r ∷ rest) first) (omega arith) begins own
+        record_sends_nine_at_most plan before r within.may_found (all_of_append_gives_first (λ (q : Record). BodyIsWithinLimit q.event.act) before (r ∷ rest) first) (omega arith) begins own
 
   all_good : All IsGood journal
   all_good = all_rest_of_each_record IsGood journal [] journal (λ before rest r is. good before rest r is) refl
@@ -167,7 +167,7 @@ module _ (plan : RacePlan) (journal : List Record) (within : RaceWithin plan) (t
     heard : (number : ℕ) → r.event.act ≡ act.Hear number → IsCount number
     heard number hears =
         let sent = (own before rest r is).hears number hears in
-        let at = letter_low (letters_of before) number sent.letter sent.there in
+        let at = letter_low (letters_of_records before) number sent.letter sent.there in
         let many = letters_le_nine_each_record before (follows_of_journal_front (λ b q. length q.packets ≤ 9) journal before (r ∷ rest) all_few is) in
         let less = shorter before rest r is in
         let low = at.0 in
@@ -181,9 +181,9 @@ module _ (plan : RacePlan) (journal : List Record) (within : RaceWithin plan) (t
     unfolding is_turn
     turn_within turn =
         let w = world_after plan.founding before in
-        let name = current w (place_of r.event.node) in
+        let name = current w (place_of_name r.event.node) in
         let t = (and_parts (not (is_ready (w.nodes name) (own_of (of_call r.by.caller r.by.call before)))) _ (legal.turns before rest r is turn)).1 in
-        by_act (up_to_last (place_of name) r.by.caller before) (w.nodes name) name (lost_by r.by.part) r.event.act refl t
+        by_act (up_to_last (place_of_name name) r.by.caller before) (w.nodes name) name (lost_by r.by.part) r.event.act refl t
       where
         by_act : (knew : List Record) (m : Node) (name lost : ℕ) (a : Act) → r.event.act ≡ a → is_turn_of plan before knew m name r.by.caller a lost ≡ true
             → ActWithin a

@@ -1,7 +1,7 @@
 -- The text of records, a list and logs is read line by line.
 use Rattle.am_trace_laws.proofs.Words.{◌≡◌, ℕ, ◌+◌, ◌<◌, ◌≤◌, ◌==◌, ◌&&◌, Bool, true, false, cond, List, [], ◌∷◌, ◌++◌, length, lit<, refl, sym, ap, ◌∙◌, arith}
 use Rattle.am_trace_laws.proofs.Words.{Ok, Err, Option, Some, None, append_assoc, length-append, codes, decimal, flat_map, same_text, append-nil}
-use Rattle.am_trace_laws.proofs.Words.{nat_tests, most_number, place_of, Rules, Entry, split_on_bool, Record, Form, same, and_then, number_up_to, number_in_text}
+use Rattle.am_trace_laws.proofs.Words.{nat_tests, greatest_number, place_of_name, Rules, Entry, split_on_bool, Record, Form, same, and_then, number_up_to, number_in_text}
 use Rattle.am_trace_laws.proofs.Words.{split_text, name_text, entry_text, outcome_text, act_word, act_parts, event_text, letters_text, record_line, lines_from}
 use Rattle.am_trace_laws.proofs.Words.{group_line, group_from, log_line, empty_log_line, log_text, logs_text, mark_line, IsOfBytes, TextStage, two_of, Line}
 use Rattle.am_trace_laws.proofs.Words.{Reading, may_event, may_list, may_log, counted, mark_cut, with_event, add_event, add_entry, logged, add_log, add_void}
@@ -23,9 +23,9 @@ other_text : (text other : List ℕ) → (text ≡ other → ⊥) → same text 
 other_text text other differ = split_on_bool (same text other) (λ t. absurd (differ (same_text text other (sym t)))) (λ f. f)
 
 -- a number is no word of another line
-other_number : (n : ℕ) (word : List ℕ) → n ≤ most_number → number_in_text word ≡ Err Form → same (decimal n) word ≡ false
+other_number : (n : ℕ) (word : List ℕ) → n ≤ greatest_number → number_in_text word ≡ Err Form → same (decimal n) word ≡ false
 other_number n word low none = other_text (decimal n) word (λ is.
-    let read : Ok n ≡ number_in_text word = sym (number_up_to_decimal most_number n low (lit< tt)) ∙ ap number_in_text is in
+    let read : Ok n ≡ number_in_text word = sym (number_up_to_decimal greatest_number n low (lit< tt)) ∙ ap number_in_text is in
     let no : Ok n ≡ Err Form = read ∙ none in cc)
 
 -- a line of two words is no other of one
@@ -41,22 +41,22 @@ pub record RecordIsReadable (rules : Rules) (r : Record) : Type 0 where
   pub counts : CountedActIsWithinLimits rules r.event.act r.outcome
 
 abbrev pub reading_after_record : Rules → Reading → Record → Reading
-reading_after_record rules s r = reading_after_event rules (record s { events = s.events + 1 }) (place_of r.event.node) r.event.act r.outcome
+reading_after_record rules s r = reading_after_event rules (record s { events = s.events + 1 }) (place_of_name r.event.node) r.event.act r.outcome
 
 -- a record's line without its end
 abbrev line_of : Rules → ℕ → ℕ → Record → List ℕ
 line_of rules number before r = decimal number ++ (codes " " ++ (event_text rules r.event ++ (codes " : " ++ (outcome_text rules r.outcome
-    ++ letters_text (place_of r.event.node) (before + 1) r.packets))))
+    ++ letters_text (place_of_name r.event.node) (before + 1) r.packets))))
 
 -- what stands behind its number
 abbrev behind_of : Rules → ℕ → Record → List ℕ
 behind_of rules before r = event_text rules r.event ++ (codes " : " ++ (outcome_text rules r.outcome
-    ++ letters_text (place_of r.event.node) (before + 1) r.packets))
+    ++ letters_text (place_of_name r.event.node) (before + 1) r.packets))
 
 event_words : (rules : Rules) (r : Record) → two_of (event_text rules r.event)
-    ≡ Ok (act_word r.event.act, decimal (place_of r.event.node) ++ act_parts rules r.event.act)
+    ≡ Ok (act_word r.event.act, decimal (place_of_name r.event.node) ++ act_parts rules r.event.act)
 unfolding event_text
-event_words rules r = two_of_word_and_rest (act_word r.event.act) (decimal (place_of r.event.node) ++ act_parts rules r.event.act) (act_is_word r.event.act)
+event_words rules r = two_of_word_and_rest (act_word r.event.act) (decimal (place_of_name r.event.node) ++ act_parts rules r.event.act) (act_is_word r.event.act)
 
 add_by : (s : Reading) (n number : ℕ) (rest : List ℕ) (b : Bool) → b ≡ true
     → cond b (with_event s (mark_cut 58 rest).0 (mark_cut 58 rest).1) (Err Form) ≡ with_event s (mark_cut 58 rest).0 (mark_cut 58 rest).1
@@ -68,29 +68,29 @@ may_come s number stage next =
     ap (λ st. may_event st && (number == s.events + 1)) stage ∙ same_number
 
 event_added : (rules : Rules) (s : Reading) (number before : ℕ) (r : Record) → RecordIsReadable rules r → s.stage ≡ stages.Events → number ≡ s.events + 1
-    → number ≤ most_number → add_event s (decimal number) (behind_of rules before r) ≡ Ok (reading_after_record rules s r)
+    → number ≤ greatest_number → add_event s (decimal number) (behind_of rules before r) ≡ Ok (reading_after_record rules s r)
 unfolding add_event
 event_added rules s number before r shown stage next low =
     let rest = behind_of rules before r in
-    let letters = letters_text (place_of r.event.node) (before + 1) r.packets in
+    let letters = letters_text (place_of_name r.event.node) (before + 1) r.packets in
     let cut = mark_cut_at_first_colon (event_text rules r.event) (outcome_text rules r.outcome ++ letters) (event_text_is_plain rules r.event shown.asks) in
     let bar = mark_cut_at_first_bar (outcome_text rules r.outcome) letters (outcome_text_is_plain rules r.outcome shown.gives)
-    (letters_text_begins_with_bar (place_of r.event.node) (before + 1) r.packets) in
+    (letters_text_begins_with_bar (place_of_name r.event.node) (before + 1) r.packets) in
     let more = record s { events = s.events + 1 } in
-    let place : place_of r.event.node ≤ 15 = omega arith in
+    let place : place_of_name r.event.node ≤ 15 = omega arith in
     ap (λ n. and_then n (λ n. cond (may_event s.stage && (n == s.events + 1)) (with_event s (mark_cut 58 rest).0 (mark_cut 58 rest).1) (Err Form)))
-    (number_up_to_decimal most_number number low (lit< tt))
+    (number_up_to_decimal greatest_number number low (lit< tt))
     ∙ add_by s number number rest (may_event s.stage && (number == s.events + 1)) (may_come s number stage next)
     ∙ ap (λ (c : List ℕ × Option (List ℕ)). with_event s c.0 c.1) cut
     ∙ ap (λ t. Ok (counted more (two_of (event_text rules r.event)) t)) bar
     ∙ ap (λ a. Ok (counted more a (outcome_text rules r.outcome))) (event_words rules r)
-    ∙ ap (λ (t : Reading). Ok t) (counted_event_gives_reading rules more (place_of r.event.node) r.event.act r.outcome place shown.counts)
+    ∙ ap (λ (t : Reading). Ok t) (counted_event_gives_reading rules more (place_of_name r.event.node) r.event.act r.outcome place shown.counts)
 
 line_words : (rules : Rules) (number before : ℕ) (r : Record) → two_of (line_of rules number before r) ≡ Ok (decimal number, behind_of rules before r)
 line_words rules number before r = two_of_word_and_rest (decimal number) (behind_of rules before r) (decimal_is_word number)
 
 line_added : (rules : Rules) (s : Reading) (number before : ℕ) (r : Record) → RecordIsReadable rules r → s.stage ≡ stages.Events → number ≡ s.events + 1
-    → number ≤ most_number → add_line s (line_of rules number before r) ≡ Ok (reading_after_record rules s r)
+    → number ≤ greatest_number → add_line s (line_of rules number before r) ≡ Ok (reading_after_record rules s r)
 unfolding add_line number_up_to
 line_added rules s number before r shown stage next low =
     rw (
@@ -103,12 +103,12 @@ line_added rules s number before r shown stage next low =
 
 record_whole : (rules : Rules) (number before : ℕ) (r : Record) → RecordIsReadable rules r → HasNoNewline (line_of rules number before r)
 record_whole rules number before r shown =
-    let letters = letters_text (place_of r.event.node) (before + 1) r.packets in
+    let letters = letters_text (place_of_name r.event.node) (before + 1) r.packets in
     appended_lines_are_line (decimal number) (codes " " ++ behind_of rules before r) (plain_text_is_line (decimal number) (word_is_plain_text (decimal number) (decimal_is_word number)))
     (appended_lines_are_line (event_text rules r.event) (codes " : " ++ (outcome_text rules r.outcome ++ letters))
     (plain_text_is_line (event_text rules r.event) (event_text_is_plain rules r.event shown.asks))
     (appended_lines_are_line (outcome_text rules r.outcome) letters (plain_text_is_line (outcome_text rules r.outcome) (outcome_text_is_plain rules r.outcome shown.gives))
-    (letters_text_is_line (place_of r.event.node) (before + 1) r.packets)))
+    (letters_text_is_line (place_of_name r.event.node) (before + 1) r.packets)))
 
 line_ends : (rules : Rules) (number before : ℕ) (r : Record) (rest : List ℕ)
     → record_line rules number before r ++ rest ≡ line_of rules number before r ++ 10 ∷ rest
@@ -124,7 +124,7 @@ RecordsAreReadable rules [] = Unit {0}
 RecordsAreReadable rules (r ∷ rs) = RecordIsReadable rules r × RecordsAreReadable rules rs
 
 pub records_text_is_read : (rules : Rules) (s : Reading) (number before : ℕ) (records : List Record) (rest : List ℕ) → RecordsAreReadable rules records
-    → s.stage ≡ stages.Events → number ≡ s.events + 1 → s.events + length records ≤ most_number
+    → s.stage ≡ stages.Events → number ≡ s.events + 1 → s.events + length records ≤ greatest_number
     → read_lines number s (split_text 10 (lines_from rules number before records ++ rest))
     ≡ read_lines (number + length records) (reading_after_records rules s records) (split_text 10 rest)
 records_text_is_read rules s number before [] rest shown stage next low = ap (λ n. read_lines n s (split_text 10 rest)) (omega arith)
@@ -155,11 +155,11 @@ abbrev entry_line : Rules → ℕ → Entry → List ℕ
 entry_line rules number entry = codes "group " ++ (decimal number ++ (codes " " ++ entry_text rules entry))
 
 entry_added : (rules : Rules) (s : Reading) (number : ℕ) (entry : Entry) → EntryIsReadable rules entry → may_list s.stage ≡ true → number ≡ length s.group + 1
-    → number ≤ most_number → add_line s (entry_line rules number entry) ≡ Ok (reading_with_entry s (entry_text rules entry))
+    → number ≤ greatest_number → add_line s (entry_line rules number entry) ≡ Ok (reading_with_entry s (entry_text rules entry))
 unfolding add_line add_entry
 entry_added rules s number entry listed may next low =
     let right : (may_list s.stage && (number == length s.group + 1)) ≡ true = grind (arith, nat_tests) in
-    rw (two_of_word_and_rest (decimal number) (entry_text rules entry) (decimal_is_word number), number_up_to_decimal most_number number low (lit< tt), listed.read.1, right) refl
+    rw (two_of_word_and_rest (decimal number) (entry_text rules entry) (decimal_is_word number), number_up_to_decimal greatest_number number low (lit< tt), listed.read.1, right) refl
 
 entry_whole : (rules : Rules) (number : ℕ) (entry : Entry) → EntryIsReadable rules entry → HasNoNewline (entry_line rules number entry)
 entry_whole rules number entry listed =
@@ -175,7 +175,7 @@ reading_with_entries rules s [] = s
 reading_with_entries rules s (e ∷ es) = reading_with_entries rules (reading_with_entry s (entry_text rules e)) es
 
 pub group_text_is_read : (rules : Rules) (s : Reading) (line number : ℕ) (group : List Entry) (rest : List ℕ) → EntriesAreReadable rules group → may_list s.stage ≡ true
-    → number ≡ length s.group + 1 → length s.group + length group ≤ most_number
+    → number ≡ length s.group + 1 → length s.group + length group ≤ greatest_number
     → read_lines line s (split_text 10 (group_from rules number group ++ rest))
     ≡ read_lines (line + length group) (reading_with_entries rules s group) (split_text 10 rest)
 group_text_is_read rules s line number [] rest listed may next low = ap (λ n. read_lines n s (split_text 10 rest)) (omega arith)
@@ -192,7 +192,7 @@ group_text_is_read rules s line number (e ∷ es) rest listed may next low =
 
 -- a delivery's number is one, and its entry is read
 pub record DeliveryIsReadable (rules : Rules) (given : ℕ × Entry) : Type 0 where
-  pub number : given.0 ≤ most_number
+  pub number : given.0 ≤ greatest_number
   pub entry : EntryIsReadable rules given.1
 
 abbrev pub DeliveriesAreReadable : Rules → List (ℕ × Entry) → Type 0
@@ -220,7 +220,7 @@ given_added rules s name given low is may =
       may,
       other_line rest (decimal given.0) (entry_text rules given.1) (codes "empty") words refl,
       words,
-      number_up_to_decimal most_number given.0 is.number (lit< tt),
+      number_up_to_decimal greatest_number given.0 is.number (lit< tt),
       is.entry.read.1,
     ) refl
 
@@ -332,7 +332,7 @@ reading_at_end s broken = record s { stage = stages.End; void_from = broken }
 -- where a run broke is a number
 abbrev pub BreakNumberIsWithinLimits : Option ℕ → Type 0
 BreakNumberIsWithinLimits None = Unit {0}
-BreakNumberIsWithinLimits (Some number) = number ≤ most_number
+BreakNumberIsWithinLimits (Some number) = number ≤ greatest_number
 
 lawful_added : (s : Reading) → may_log s.stage ≡ true → add_line s (codes "lawful") ≡ Ok (reading_at_end s None)
 unfolding add_line
@@ -341,9 +341,9 @@ lawful_added s may = rw may refl
 void_line : ℕ → List ℕ
 void_line number = codes "void from " ++ decimal number
 
-void_added : (s : Reading) (number : ℕ) → may_log s.stage ≡ true → number ≤ most_number → add_line s (void_line number) ≡ Ok (reading_at_end s (Some number))
+void_added : (s : Reading) (number : ℕ) → may_log s.stage ≡ true → number ≤ greatest_number → add_line s (void_line number) ≡ Ok (reading_at_end s (Some number))
 unfolding add_line add_void void_line
-void_added s number may low = rw (number_up_to_decimal most_number number low (lit< tt), may) refl
+void_added s number may low = rw (number_up_to_decimal greatest_number number low (lit< tt), may) refl
 
 void_whole : (number : ℕ) → HasNoNewline (void_line number)
 unfolding void_line

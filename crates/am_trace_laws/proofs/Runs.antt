@@ -1,9 +1,9 @@
 -- The text of a run is read as its records, its list and its logs.
 use Rattle.am_trace_laws.proofs.Words.{◌≡◌, ℕ, zero, suc, ◌+◌, ◌*◌, ◌/◌, ◌%◌, ◌≤◌, ◌==◌, if◌then◌else◌, List, [], ◌∷◌, ◌++◌, length, map, refl, sym, ap, ◌∙◌}
-use Rattle.am_trace_laws.proofs.Words.{arith, subst, Ok, Option, Some, None, All, flat_map, range_with_len, All-head, All-tail, most_number, Rules, Entry}
-use Rattle.am_trace_laws.proofs.Words.{Outcome, split_on_bool, Act, Event, Record, name_of, taken_in, given_to, deliveries, founders_entry, has_log, Decided, World}
-use Rattle.am_trace_laws.proofs.Words.{happens, happen, run, logs, Watch, watch_start, watch, watch_all, watch_run, greatest_complete, is_lawful, broken_now}
-use Rattle.am_trace_laws.proofs.Words.{text_of, play_text, watched_is_run, one_record_each, run_begins_longer_run, IsOfBytes, Reading, read_text, IsShort, number_bounds_hold_in_runs}
+use Rattle.am_trace_laws.proofs.Words.{arith, subst, Ok, Option, Some, None, All, flat_map, range_with_len, All-head, All-tail, greatest_number, Rules, Entry}
+use Rattle.am_trace_laws.proofs.Words.{Outcome, split_on_bool, Act, Event, Record, acting_name_of_record, entry_taken_by_outcome, entries_given_to, deliveries, founders_entry, has_log_by_status, Decided, World}
+use Rattle.am_trace_laws.proofs.Words.{happens, world_after_events, run, logs, Watch, watch_start, watch_event, watch_events, watch_run, greatest_complete, is_lawful, broken_now}
+use Rattle.am_trace_laws.proofs.Words.{play_text_of, play_text, watched_is_run, one_record_each, run_begins_longer_run, IsOfBytes, Reading, read_text, IsRunWithinScriptLimits, number_bounds_hold_in_runs}
 use Rattle.am_trace_laws.proofs.Words.{IsSayable, AsksBytes, IsAnswerOfAct, IsBack, IsSound, LivesTold, lives_are_told, records_are_sound, short_runs_stay_in_range, IsRaised}
 use Rattle.am_trace_laws.proofs.Words.{GivesRaised}
 use Rattle.am_trace_laws.proofs.Words.{GaveRaised, resiliences_hold, reading_of}
@@ -76,7 +76,7 @@ given_more : (rules : Rules) (xs ys : List (ℕ × Entry)) → DeliveriesAreRead
 given_more rules [] ys h k = k
 given_more rules (x ∷ xs) ys h k = (h.0, given_more rules xs ys h.1 k)
 
-taken_given : (rules : Rules) (act : Act) (outcome : Outcome) → IsAnswerOfAct act outcome → GivesRaised rules outcome → DeliveriesAreReadable rules (taken_in outcome)
+taken_given : (rules : Rules) (act : Act) (outcome : Outcome) → IsAnswerOfAct act outcome → GivesRaised rules outcome → DeliveriesAreReadable rules (entry_taken_by_outcome outcome)
 taken_given rules act (said.Took number entry) answer raised = (record { number = answer.1; entry = listed rules entry answer.2 raised }, tt)
 taken_given rules act _ answer raised = tt
 
@@ -84,8 +84,8 @@ all_given : (rules : Rules) (name : ℕ) (records : List Record) → All IsSound
 all_given rules name [] sound raised = tt
 all_given rules name (r ∷ rs) sound raised =
     let answer = (All-head IsSound r rs sound).answer in
-    given_more rules (given_to name r) (deliveries rs name)
-    (split_on_bool (name_of r == name)
+    given_more rules (entries_given_to name r) (deliveries rs name)
+    (split_on_bool (acting_name_of_record r == name)
     (λ t. rw t (taken_given rules r.event.act r.outcome answer (All-head (GaveRaised rules) r rs raised)))
     (λ f. rw f tt))
     (all_given rules name rs (All-tail IsSound r rs sound) (All-tail (GaveRaised rules) r rs raised))
@@ -95,13 +95,13 @@ logs_more rules [] ys h k = k
 logs_more rules (x ∷ xs) ys h k = (h.0, h.1, logs_more rules xs ys h.2 k)
 
 logs_from : (rules : Rules) (w : World) (a n : ℕ) → a + n ≤ 256 → ((name : ℕ) → DeliveriesAreReadable rules (deliveries w.records name))
-    → LogsAreReadable rules (flat_map (λ name. if has_log (w.nodes name).status then (name, deliveries w.records name) ∷ [] else [])
+    → LogsAreReadable rules (flat_map (λ name. if has_log_by_status (w.nodes name).status then (name, deliveries w.records name) ∷ [] else [])
     (map (λ rank. rank / 16 + 16 * (rank % 16)) (range_with_len a n)))
 logs_from rules w a zero low given = tt
 logs_from rules w a (suc n) low given =
     let name = a / 16 + 16 * (a % 16) in
-    logs_more rules (if has_log (w.nodes name).status then (name, deliveries w.records name) ∷ [] else []) _
-    (split_on_bool (has_log (w.nodes name).status) (λ t. rw t (omega arith, given name, tt)) (λ f. rw f tt))
+    logs_more rules (if has_log_by_status (w.nodes name).status then (name, deliveries w.records name) ∷ [] else []) _
+    (split_on_bool (has_log_by_status (w.nodes name).status) (λ t. rw t (omega arith, given name, tt)) (λ f. rw f tt))
     (logs_from rules w (a + 1) n (omega arith) given)
 
 all_logs : (rules : Rules) (w : World) → ((name : ℕ) → DeliveriesAreReadable rules (deliveries w.records name)) → LogsAreReadable rules (logs w)
@@ -118,16 +118,16 @@ unfolding MarkUpTo
 marked_now w v count (Some k) h = omega arith
 marked_now w v count None h = split_on_bool (is_lawful w v) (λ t. rw t tt) (λ f. rw f (omega arith))
 
-marked : (s : Watch) (es : List Event) → MarkUpTo s.count s.broken → MarkUpTo (s.count + length es) (watch_all s es).broken
-unfolding watch_all watch
+marked : (s : Watch) (es : List Event) → MarkUpTo s.count s.broken → MarkUpTo (s.count + length es) (watch_events s es).broken
+unfolding watch_events watch_event
 marked s [] h = let z : s.count ≡ s.count + 0 = omega arith in subst (λ (n : ℕ). MarkUpTo n s.broken) z h
 marked s (e ∷ es) h =
     let z : s.count + 1 + length es ≡ s.count + length (e ∷ es) = omega arith in
     let w = happens s.world e in
-    subst (λ (n : ℕ). MarkUpTo n (watch_all (watch s e) es).broken) z
-    (marked (watch s e) es (marked_now w (greatest_complete w s.complete w.views) s.count s.broken h))
+    subst (λ (n : ℕ). MarkUpTo n (watch_events (watch_event s e) es).broken) z
+    (marked (watch_event s e) es (marked_now w (greatest_complete w s.complete w.views) s.count s.broken h))
 
-mark_low : (most : ℕ) (broken : Option ℕ) → most ≤ most_number → MarkUpTo most broken → BreakNumberIsWithinLimits broken
+mark_low : (most : ℕ) (broken : Option ℕ) → most ≤ greatest_number → MarkUpTo most broken → BreakNumberIsWithinLimits broken
 unfolding MarkUpTo
 mark_low most None low h = tt
 mark_low most (Some number) low h = omega arith
@@ -145,7 +145,7 @@ run_marked rules events =
 
 -- the list begins with the founders' view
 pub group_begins_with_founders_view : (rules : Rules) (events : List Event) → (rest : List Entry) × ((run rules events).group ≡ founders_entry rules ∷ rest)
-unfolding happen
+unfolding world_after_events
 group_begins_with_founders_view rules events = (run_begins_longer_run rules events 0).group
 
 text_by : (rules : Rules) (s : Watch) (group : List Entry) (first : Entry) (others : List Entry) → group ≡ first ∷ others → s.world.group ≡ group
@@ -156,7 +156,7 @@ text_by rules s group first others is same printed =
     ap (λ (g : List Entry). read_text (play_text rules s.world.records g (logs s.world) s.broken)) (same ∙ is)
     ∙ whole_text_is_read rules s.world.records first others (logs s.world) s.broken printed
 
-printed_run : (rules : Rules) (events : List Event) (rest : List Entry) → IsShort rules events → All (λ (e : Event). AsksBytes e.act) events
+printed_run : (rules : Rules) (events : List Event) (rest : List Entry) → IsRunWithinScriptLimits rules events → All (λ (e : Event). AsksBytes e.act) events
     → (run rules events).group ≡ founders_entry rules ∷ rest
     → WholePrintIsReadable rules (run rules events).records (founders_entry rules) rest (logs (run rules events)) (watch_run rules events).broken
 printed_run rules events rest short asks group =
@@ -184,8 +184,8 @@ read_run rules s rest told group =
     ∙ ap (λ (names : List ℕ). record (whole_reading_of rules s.world.records s.world.group (logs s.world) s.broken) { names = names }) told.last
 
 -- the text of a run
-pub run_text_is_read : (rules : Rules) (events : List Event) → IsShort rules events → All (λ (e : Event). AsksBytes e.act) events
-    → read_text (text_of rules events) ≡ Ok (reading_of rules (watch_run rules events))
+pub run_text_is_read : (rules : Rules) (events : List Event) → IsRunWithinScriptLimits rules events → All (λ (e : Event). AsksBytes e.act) events
+    → read_text (play_text_of rules events) ≡ Ok (reading_of rules (watch_run rules events))
 run_text_is_read rules events short asks =
     let s = watch_run rules events in
     let same : run rules events ≡ s.world = sym (watched_is_run rules events) in

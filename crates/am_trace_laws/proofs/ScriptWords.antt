@@ -12,28 +12,28 @@ pub use Rattle.hex.proofs.HexLemmas.{decode_of-ok}
 pub use Rattle.hex.specs.Hex.{IsBytes, decode_of}
 pub use Rattle.serde_json.specs.{Events.items_len, Find.as_array, Find.as_object}
 pub use Rattle.am_base.proofs.Greatest.{split_on_bool}
-pub use Rattle.am_base.specs.{Founding.Rules, Founding.MayFound, Most.most_number, Most.most_events, Most.most_body, Most.most_packet, Names.name_at}
-pub use Rattle.am_base.specs.{Names.place_of, Names.life_of, Names.has, Names.size, Names.by_place, Names.without_name}
+pub use Rattle.am_base.specs.{Founding.Rules, Founding.MayFound, Most.greatest_number, Most.most_events_of_run, Most.most_bytes_of_body, Most.most_bytes_of_packet, Names.name_of_place_and_life}
+pub use Rattle.am_base.specs.{Names.place_of_name, Names.life_of_name, Names.has, Names.size, Names.list_by_place, Names.without_name}
 pub use Rattle.am_base.specs.{declared.entry.Entry.TheVariants.View, declared.event.NodeEvent.NodeEvent, declared.image.Vote.Vote, declared.name.Stamp.Stamp}
 pub use Rattle.am_base.specs.{declared.outcome.Outcome.Outcome}
 pub use Rattle.am_packet.specs.{Boxes.Letter, Boxes.place_for, Boxes.with_letter, Boxes.letter_to, Kinds.kind_of, Limits.IsPacket, Spelling.spelling}
 pub use Rattle.am_node_defs.specs.declared.sender.OwnSend.{OwnSend}
-pub use Rattle.am_group.specs.{Addressed.is_for, Deliveries.name_of, Journals.letters_of, Journals.letter_at, declared.event.Act.Act, declared.event.By.By}
+pub use Rattle.am_group.specs.{Addressed.is_for, Deliveries.acting_name_of_record, Journals.letters_of_records, Journals.letter_at, declared.event.Act.Act, declared.event.By.By}
 pub use Rattle.am_group.specs.{declared.event.Event.Event, declared.event.Record.Record, declared.plan.RacePlan.RacePlan}
 pub use Rattle.am_group.specs.{declared.plan.ThreadPlan.ThreadPlan}
 pub use Rattle.am_model.proofs.LettersHeard.{step_sends_at_most_nine}
-pub use Rattle.am_model.specs.Emit.{Step, Plan, quiet, invite_of, accept_of, tells_accepted, with_accept}
-pub use Rattle.am_model.specs.Node.{Node, Ballot, top, image_of, members, others, name_where, push_entry, is_member, is_sequencer, has_room, waiting}
-pub use Rattle.am_model.specs.{Refresh.refresh_at_end, Step.hear}
-pub use Rattle.am_group_defs.specs.World.{World, current, is_stopped, does_event, gives_up, hears_letter, stops, acts_as, run, record_of, no_caller}
+pub use Rattle.am_model.specs.Emit.{StepResult, Plan, plan_without_letters, invite_packet_of, accept_packet_of, sends_accept, letters_with_accept}
+pub use Rattle.am_model.specs.Node.{Node, Ballot, top, image_of_node, members, other_members, life_where_name_passes, push_entry, is_member, is_sequencer, has_room, waiting_send_of}
+pub use Rattle.am_model.specs.{Refresh.refresh_at_end, Step.hear_packet}
+pub use Rattle.am_group_defs.specs.World.{World, current, is_stopped, world_after_node_event, world_after_give_up, world_after_hearing, world_after_stop, world_after_act, run, record_of, no_caller}
 pub use Rattle.am_group_defs.specs.{Group.with_tag}
 pub use Rattle.am_model_laws.proofs.Bytes.{spelled_packet_is_heard}
 pub use Rattle.am_step_laws.proofs.Alone.{selection_of_nobody_is_nobody}
-pub use Rattle.am_step_laws.proofs.Items.{all_gives_slice_get}
+pub use Rattle.am_step_laws.proofs.Items.{item_of_index_has_property}
 pub use Rattle.am_step_laws.proofs.Rests.{end_refresh_rests_with_list}
 pub use Rattle.am_step_laws.proofs.Numbers.RunCounts.{number_bounds_hold_in_runs}
 pub use Rattle.am_step_laws.proofs.Bounds.RunLimits.{letters_are_packets}
-pub use Rattle.am_step_laws.specs.{Bytes.BodyWithin, Bytes.IsShort, Numbers.NodeNumbers}
+pub use Rattle.am_step_laws.specs.{Bytes.BodyIsWithinLimit, Bytes.IsRunWithinScriptLimits, Numbers.NodeNumbers}
 pub use Rattle.am_race_laws.proofs.{Acting.told_world_is_events_run, Knows.journal_keeps_what_records_keep, Knows.lawful_journal_knows_its_world, Knows.current_name_has_first_life, Legality.told_record_is_its_event, Legality.legal_records_come_next}
 pub use Rattle.am_race_laws.proofs.{Names.stopped_names_are_set}
 pub use Rattle.am_race_laws.specs.Callers.{same_bytes, same_act, has_no_records, asks, checks, is_other, is_one_call, at_one_place, first_call}
@@ -47,7 +47,7 @@ pub use Rattle.am_script_defs.specs.{declared.key.ScriptKey.ScriptKey, declared.
 pub use Rattle.am_script_defs.specs.{declared.script.Script.Script}
 pub use Rattle.am_trace_laws.specs.{Bodies.PlaysAreOfBytes, Bodies.ThreadOfBytes, Bodies.RacesAreOfBytes, RacedBodies.HasBody, RacedBodies.ThreadHasBodies}
 pub use Rattle.am_trace_laws.specs.{RacedBodies.RacesHavePlannedBodies, Scripts.RacesHaveScripts}
-unfoldable pub use Rattle.am_model.specs.{Emit.finish, Node.those, Step.step, Step.row}
-unfoldable pub use Rattle.am_group_defs.specs.World.{with_record, with_step, happens}
+unfoldable pub use Rattle.am_model.specs.{Emit.finish, Node.names_that_pass, Step.step, Step.row}
+unfoldable pub use Rattle.am_group_defs.specs.World.{world_with_record, world_with_step, happens}
 unfoldable pub use Rattle.am_race_laws.proofs.Acting.{events_of_records}
 unfoldable pub use Rattle.am_race_laws.specs.{Answers.own_answer, Callers.is_followed, Callers.is_receive, Callers.are_calls, Turns.is_turn, Turns.may_end}

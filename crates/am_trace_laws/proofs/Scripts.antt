@@ -1,11 +1,11 @@
 -- A line that begins with a brace before a run's text is passed over, as what was done in a race is as a script.
 use Rattle.am_trace_laws.proofs.Words.{◌≡◌, ℕ, ◌+◌, ◌==◌, ◌&&◌, Bool, true, false, cond, List, [], ◌∷◌, ◌++◌, length, refl, sym, ap, ◌∙◌, Result, Ok, Err}
-use Rattle.am_trace_laws.proofs.Words.{Option, codes, decimal, slice_index, flat_map, All-head, All-tail, Rules, place_of, life_of, Act, Event, FieldFault}
+use Rattle.am_trace_laws.proofs.Words.{Option, codes, decimal, slice_index, flat_map, All-head, All-tail, Rules, place_of_name, life_of_name, Act, Event, FieldFault}
 use Rattle.am_trace_laws.proofs.Words.{cut_of, split_text, newline, hex_byte, act_word, names_text, life_json, resilience_json, body_json, keys_before}
 use Rattle.am_trace_laws.proofs.Words.{keys_behind, word_json, event_json, others_json, list_json, events_json, founders_json, numbers_json, script_text}
 use Rattle.am_trace_laws.proofs.Words.{IsOfBytes, AreOfBytes, Reading, nothing_read, is_text_end, add_line, read_on, read_lines, read_behind, read_text, HasNoNewline}
 use Rattle.am_trace_laws.proofs.Words.{cut_of_line_at_newline, decimal_is_word, names_text_is_word, word_is_plain_text, hex_text_is_word, Entry, founders_entry, World, logs, Watch, watch_run}
-use Rattle.am_trace_laws.proofs.Words.{watched_text, text_of, play_text, watched_is_run, reading_of, ScriptsArePassedOver}
+use Rattle.am_trace_laws.proofs.Words.{text_of_watch, play_text_of, play_text, watched_is_run, reading_of, ScriptsArePassedOver}
 use Rattle.am_trace_laws.proofs.{Chars.plain_text_is_line, Chars.appended_lines_are_line, Chars.act_is_word, Runs.group_begins_with_founders_view, Whole.play_text_begins_without_brace}
 use Rattle.am_group.specs.declared.event.Act.TheVariants as acts
 
@@ -24,7 +24,7 @@ life_by false life = keyed (codes ",\"life\":") life refl
 
 life_line : (name : ℕ) → HasNoNewline (life_json name)
 unfolding life_json
-life_line name = life_by (life_of name == 1) (life_of name)
+life_line name = life_by (life_of_name name == 1) (life_of_name name)
 
 resilience_by : (b : Bool) (resilience : ℕ) → HasNoNewline (cond b [] (codes ",\"resilience\":" ++ decimal resilience))
 resilience_by true resilience = refl
@@ -39,8 +39,8 @@ body_line _ bytes = refl
 before_line : (act : Act) → HasNoNewline (keys_before act)
 unfolding keys_before
 before_line (acts.Reset least resilience) = keyed (codes ",\"least\":") least refl
-before_line (acts.GiveUp name) = appended_lines_are_line (life_json name) (codes ",\"name\":" ++ decimal (place_of name)) (life_line name)
-    (keyed (codes ",\"name\":") (place_of name) refl)
+before_line (acts.GiveUp name) = appended_lines_are_line (life_json name) (codes ",\"name\":" ++ decimal (place_of_name name)) (life_line name)
+    (keyed (codes ",\"name\":") (place_of_name name) refl)
 before_line (acts.Cut packet keep) = keyed (codes ",\"keep\":") keep refl
 before_line _ = refl
 
@@ -61,10 +61,10 @@ word_line act =
 event_line : (rules : Rules) (event : Event) → IsOfBytes event.act → HasNoNewline (event_json rules event)
 unfolding event_json
 event_line rules event bytes =
-    let node = decimal (place_of event.node) in
+    let node = decimal (place_of_name event.node) in
     appended_lines_are_line (body_json event.act) (word_json event.act ++ (codes ",\"node\":" ++ (node ++ (keys_behind rules event.act ++ codes "}")))) (body_line event.act bytes)
     (appended_lines_are_line (word_json event.act) (codes ",\"node\":" ++ (node ++ (keys_behind rules event.act ++ codes "}"))) (word_line event.act)
-    (appended_lines_are_line node (keys_behind rules event.act ++ codes "}") (number_line (place_of event.node))
+    (appended_lines_are_line node (keys_behind rules event.act ++ codes "}") (number_line (place_of_name event.node))
     (appended_lines_are_line (keys_behind rules event.act) (codes "}") (behind_line rules event.act) refl)))
 
 others_line : (rules : Rules) (events : List Event) → AreOfBytes events → HasNoNewline (others_json rules events)
@@ -142,7 +142,7 @@ behind_script rules events text t bytes other is =
 -- ---- of a run
 
 no_brace_by : (rules : Rules) (s : Watch) (first : Entry) (others : List Entry) → s.world.group ≡ first ∷ others
-    → (slice_index (watched_text rules s) 0 == 123) ≡ false
+    → (slice_index (text_of_watch rules s) 0 == 123) ≡ false
 no_brace_by rules s first others is =
     ap (λ (group : List Entry). slice_index (play_text rules s.world.records group (logs s.world) s.broken) 0 == 123) is
     ∙ play_text_begins_without_brace rules s.world.records first others (logs s.world) s.broken
@@ -152,4 +152,4 @@ scripts_are_passed_over rules events bytes read =
     let s = watch_run rules events in
     let begins = group_begins_with_founders_view rules events in
     let group : s.world.group ≡ founders_entry rules ∷ begins.0 = ap (λ (w : World). w.group) (watched_is_run rules events) ∙ begins.1 in
-    behind_script rules events (text_of rules events) (reading_of rules s) bytes (no_brace_by rules s (founders_entry rules) begins.0 group) read
+    behind_script rules events (play_text_of rules events) (reading_of rules s) bytes (no_brace_by rules s (founders_entry rules) begins.0 group) read

@@ -1,7 +1,7 @@
 -- The sends of a run are as the list has them, and its answers, as they are read.
 use Rattle.am_trace_laws.proofs.Words.{◌≡◌, ℕ, zero, suc, ◌+◌, ◌==◌, Bool, true, false, if◌then◌else◌, List, [], ◌∷◌, ◌++◌, length, map, unwrap_or, refl, sym}
 use Rattle.am_trace_laws.proofs.Words.{ap, ◌∙◌, arith, Option, Some, None, slice_get, map-append, All, range_with_len, and_from, nat_tests, All-head, All-tail}
-use Rattle.am_trace_laws.proofs.Words.{Rules, Entry, Outcome, split_on_bool, Act, Record, name_of, entry_text, Accepted, sent_in, accepted_sends, StandsOnce, AnsweredSend}
+use Rattle.am_trace_laws.proofs.Words.{Rules, Entry, Outcome, split_on_bool, Act, Record, acting_name_of_record, entry_text, AcceptedSend, accepted_send_of_outcome, accepted_sends, StandsOnce, AnsweredSend}
 use Rattle.am_trace_laws.proofs.Words.{data_in, is_send, Line, or_else, last_of, once_more, stands, is_at, first_lost, first_skipped, lines_of, count_of}
 use Rattle.am_trace_laws.proofs.Words.{IsSayable, IsAnswerOfAct, IsSound, queued_in, queued_by, requests_given, send_lines_in, sends_of, line_answers_in, record_answers, entry_texts_of}
 use Rattle.am_trace_laws.proofs.{Entries.entry_is_send_of, Logs.is_send_of_entry_text, Logs.entry_of_send_is_data}
@@ -86,10 +86,10 @@ first_lost_of_standing_answers rules group (a ∷ answers) say once =
     ∙ first_lost_of_standing_answers rules group answers say once.1
 
 -- each accepted send of some records
-abbrev pub AcceptedStandOnceInList : List Entry → List Accepted → Type 0
-AcceptedStandOnceInList group accepted = (k : ℕ) (s : Accepted) → slice_get accepted k ≡ Some s → StandsOnce group s.name s.req s.number
+abbrev pub AcceptedStandOnceInList : List Entry → List AcceptedSend → Type 0
+AcceptedStandOnceInList group accepted = (k : ℕ) (s : AcceptedSend) → slice_get accepted k ≡ Some s → StandsOnce group s.name s.req s.number
 
-answered_once : (group : List Entry) (name : ℕ) (act : Act) (outcome : Outcome) (rest : List Accepted) → AcceptedStandOnceInList group (sent_in name outcome ++ rest)
+answered_once : (group : List Entry) (name : ℕ) (act : Act) (outcome : Outcome) (rest : List AcceptedSend) → AcceptedStandOnceInList group (accepted_send_of_outcome name outcome ++ rest)
     → AnswersStandOnceInList group (line_answers_in name act outcome)
 answered_once group name (acts.Done asked) (said.Sent req number) rest once = (once 0 (record { name = name; req = req; number = number }) refl, tt)
 answered_once group name _ _ rest once = tt
@@ -97,10 +97,10 @@ answered_once group name _ _ rest once = tt
 pub accepted_answers_stand_once : (group : List Entry) (records : List Record) → AcceptedStandOnceInList group (accepted_sends records) → AnswersStandOnceInList group (record_answers records)
 accepted_answers_stand_once group [] once = tt
 accepted_answers_stand_once group (r ∷ rs) once =
-    once_more_of group (line_answers_in (name_of r) r.event.act r.outcome) (record_answers rs)
-    (answered_once group (name_of r) r.event.act r.outcome (accepted_sends rs) once)
-    (accepted_answers_stand_once group rs (λ k s at. once (length (sent_in (name_of r) r.outcome) + k) s
-    (slice_get_of_append_back (sent_in (name_of r) r.outcome) (accepted_sends rs) k ∙ at)))
+    once_more_of group (line_answers_in (acting_name_of_record r) r.event.act r.outcome) (record_answers rs)
+    (answered_once group (acting_name_of_record r) r.event.act r.outcome (accepted_sends rs) once)
+    (accepted_answers_stand_once group rs (λ k s at. once (length (accepted_send_of_outcome (acting_name_of_record r) r.outcome) + k) s
+    (slice_get_of_append_back (accepted_send_of_outcome (acting_name_of_record r) r.outcome) (accepted_sends rs) k ∙ at)))
 
 -- ---- requests in turn
 
@@ -174,6 +174,6 @@ one_given name who act outcome answer = none_by act (who == name)
 pub numbers_of_sends_are_requests : (name : ℕ) (records : List Record) → All IsSound records → numbers_of_name_in_lines name (sends_of records) ≡ requests_given name records
 numbers_of_sends_are_requests name [] sound = refl
 numbers_of_sends_are_requests name (r ∷ rs) sound =
-    numbers_more name (send_lines_in (name_of r) r.event.act r.outcome) (sends_of rs)
-    ∙ ap (λ l. l ++ numbers_of_name_in_lines name (sends_of rs)) (one_given name (name_of r) r.event.act r.outcome (All-head IsSound r rs sound).answer)
+    numbers_more name (send_lines_in (acting_name_of_record r) r.event.act r.outcome) (sends_of rs)
+    ∙ ap (λ l. l ++ numbers_of_name_in_lines name (sends_of rs)) (one_given name (acting_name_of_record r) r.event.act r.outcome (All-head IsSound r rs sound).answer)
     ∙ ap (λ l. queued_by name r ++ l) (numbers_of_sends_are_requests name rs (All-tail IsSound r rs sound))

@@ -1,8 +1,8 @@
 -- Each name's log is what it took, as they are read.
 use Rattle.am_trace_laws.proofs.Words.{◌≡◌, ℕ, zero, suc, ◌+◌, ◌*◌, ◌/◌, ◌%◌, ◌<◌, ◌≤◌, ◌==◌, nat_lt, Bool, true, false, if◌then◌else◌, List, [], ◌∷◌, ◌++◌}
 use Rattle.am_trace_laws.proofs.Words.{length, refl, sym, ap, ap₂, ◌∙◌, arith, subst, Some, None, slice_get, append-nil, append_assoc, length-append, All}
-use Rattle.am_trace_laws.proofs.Words.{flat_map-append, map-append, and_from, nat_tests, All-head, All-tail, Rules, Entry, Outcome, split_on_bool, Act, Record, name_of}
-use Rattle.am_trace_laws.proofs.Words.{taken_in, given_to, deliveries, same, has_log, entry_text, World, logs, Line, or_else, lines_of, count_of, is_line}
+use Rattle.am_trace_laws.proofs.Words.{flat_map-append, map-append, and_from, nat_tests, All-head, All-tail, Rules, Entry, Outcome, split_on_bool, Act, Record, acting_name_of_record}
+use Rattle.am_trace_laws.proofs.Words.{entry_taken_by_outcome, entries_given_to, deliveries, same, has_log_by_status, entry_text, World, logs, Line, or_else, lines_of, count_of, is_line}
 use Rattle.am_trace_laws.proofs.Words.{first_unlogged, first_untaken, count_of_name_is_length, IsAnswerOfAct, IsSound, take_in, take_lines_of, log_in, logs_in}
 use Rattle.am_trace_laws.proofs.{Outcomes.same_text_as_itself, Sends.lines_of_appended_lines, Logs.name_by_rank, Logs.log_of_name_in_world, Logs.logs_of_names_in_world}
 use Rattle.am_base.specs.declared.outcome.Outcome.TheVariants as said
@@ -78,7 +78,7 @@ first_untaken_of_same_lines logs takes is = untaken_none takes [] [] logs (λ na
 -- ---- what was taken
 
 took_lines : (rules : Rules) (name who : ℕ) (act : Act) (outcome : Outcome) → IsAnswerOfAct act outcome
-    → lines_of name (take_in rules who act outcome) ≡ log_in rules name (if who == name then taken_in outcome else [])
+    → lines_of name (take_in rules who act outcome) ≡ log_in rules name (if who == name then entry_taken_by_outcome outcome else [])
 took_lines rules name who act (said.Took number entry) answer =
     ap (λ a. lines_of name (take_in rules who a (said.Took number entry))) answer.0
     ∙ split_on_bool (who == name)
@@ -88,7 +88,7 @@ took_lines rules name who act (said.Took number entry) answer =
     (λ f. rw f refl)
 took_lines rules name who act outcome answer = none_by act (who == name)
   where
-    none_by : (a : Act) (b : Bool) → lines_of name (take_in rules who a outcome) ≡ log_in rules name (if b then taken_in outcome else [])
+    none_by : (a : Act) (b : Bool) → lines_of name (take_in rules who a outcome) ≡ log_in rules name (if b then entry_taken_by_outcome outcome else [])
     none_by acts.Take true = refl
     none_by acts.Take false = refl
     none_by _ true = refl
@@ -98,11 +98,11 @@ pub name_takes_are_its_log : (rules : Rules) (name : ℕ) (records : List Record
     → lines_of name (take_lines_of rules records) ≡ log_in rules name (deliveries records name)
 name_takes_are_its_log rules name [] sound = refl
 name_takes_are_its_log rules name (r ∷ rs) sound =
-    lines_of_appended_lines name (take_in rules (name_of r) r.event.act r.outcome) (take_lines_of rules rs)
+    lines_of_appended_lines name (take_in rules (acting_name_of_record r) r.event.act r.outcome) (take_lines_of rules rs)
     ∙ ap₂ (λ (xs ys : List Line). xs ++ ys)
-    (took_lines rules name (name_of r) r.event.act r.outcome (All-head IsSound r rs sound).answer)
+    (took_lines rules name (acting_name_of_record r) r.event.act r.outcome (All-head IsSound r rs sound).answer)
     (name_takes_are_its_log rules name rs (All-tail IsSound r rs sound))
-    ∙ sym (map-append _ (given_to name r) (deliveries rs name))
+    ∙ sym (map-append _ (entries_given_to name r) (deliveries rs name))
 
 -- ---- the logs
 
@@ -115,8 +115,8 @@ log_lines rules name who (one ∷ given) = split_on_bool (who == name)
     (λ f. let rest = rw f at (log_lines rules name who given) in rw f rest)
 
 one_log : (rules : Rules) (w : World) (name who : ℕ) → lines_of name (logs_in rules (log_of_name_in_world w who))
-    ≡ (if has_log (w.nodes who).status then (if who == name then log_in rules who (deliveries w.records who) else []) else [])
-one_log rules w name who = split_on_bool (has_log (w.nodes who).status)
+    ≡ (if has_log_by_status (w.nodes who).status then (if who == name then log_in rules who (deliveries w.records who) else []) else [])
+one_log rules w name who = split_on_bool (has_log_by_status (w.nodes who).status)
     (λ t. rw t (ap (lines_of name) (append-nil (log_in rules who (deliveries w.records who))) ∙ log_lines rules name who (deliveries w.records who)))
     (λ f. rw f refl)
 
@@ -129,8 +129,8 @@ logs_split rules w name a n =
 none_here : (rules : Rules) (w : World) (name who : ℕ) → (who ≡ name → ⊥) → lines_of name (logs_in rules (log_of_name_in_world w who)) ≡ []
 none_here rules w name who differ =
     let test : (who == name) ≡ false = grind (arith, nat_tests) in
-    one_log rules w name who ∙ ap (λ b. if has_log (w.nodes who).status then (if b then log_in rules who (deliveries w.records who) else []) else []) test
-    ∙ split_on_bool (has_log (w.nodes who).status) (λ t. rw t refl) (λ f. rw f refl)
+    one_log rules w name who ∙ ap (λ b. if has_log_by_status (w.nodes who).status then (if b then log_in rules who (deliveries w.records who) else []) else []) test
+    ∙ split_on_bool (has_log_by_status (w.nodes who).status) (λ t. rw t refl) (λ f. rw f refl)
 
 none_of : (rules : Rules) (w : World) (name a n : ℕ) → ((b : ℕ) → a ≤ b → b < a + n → name_by_rank b ≡ name → ⊥)
     → lines_of name (logs_in rules (logs_of_names_in_world w a n)) ≡ []
@@ -142,13 +142,13 @@ none_of rules w name a (suc n) differ =
 
 -- a name without a list was given nothing
 abbrev pub ListlessNamesGotNothing : World → Type 0
-ListlessNamesGotNothing w = (name : ℕ) → has_log (w.nodes name).status ≡ false → deliveries w.records name ≡ []
+ListlessNamesGotNothing w = (name : ℕ) → has_log_by_status (w.nodes name).status ≡ false → deliveries w.records name ≡ []
 
 here : (rules : Rules) (w : World) (name : ℕ) → ListlessNamesGotNothing w → lines_of name (logs_in rules (log_of_name_in_world w name)) ≡ log_in rules name (deliveries w.records name)
 here rules w name listed =
     let test : (name == name) ≡ true = grind (arith, nat_tests) in
-    one_log rules w name name ∙ ap (λ b. if has_log (w.nodes name).status then (if b then log_in rules name (deliveries w.records name) else []) else []) test
-    ∙ split_on_bool (has_log (w.nodes name).status)
+    one_log rules w name name ∙ ap (λ b. if has_log_by_status (w.nodes name).status then (if b then log_in rules name (deliveries w.records name) else []) else []) test
+    ∙ split_on_bool (has_log_by_status (w.nodes name).status)
     (λ t. rw t refl)
     (λ f. rw f (ap (log_in rules name) (sym (listed name f))))
 

@@ -1,6 +1,6 @@
 -- The text of records, a list and logs is read as these.
 use Rattle.am_trace_laws.proofs.Words.{◌≡◌, ℕ, ◌+◌, ◌≤◌, ◌==◌, true, false, cond, List, [], ◌∷◌, ◌++◌, length, refl, sym, ap, ◌∙◌, arith, Ok, Option}
-use Rattle.am_trace_laws.proofs.Words.{append_assoc, zero-add, slice_index, digits, append-nil, most_number, place_of, Rules, Entry, Record, cut_of, split_text}
+use Rattle.am_trace_laws.proofs.Words.{append_assoc, zero-add, slice_index, digits, append-nil, greatest_number, place_of_name, Rules, Entry, Record, cut_of, split_text}
 use Rattle.am_trace_laws.proofs.Words.{entry_text, record_line, records_text, group_line, group_from, group_text, logs_text, mark_line, play_text, Reading}
 use Rattle.am_trace_laws.proofs.Words.{nothing_read, may_log, read_lines, read_behind, read_text, send_lines_in, line_answers_in, take_in, sends_of, record_answers, take_lines_of}
 use Rattle.am_trace_laws.proofs.Words.{entry_texts_of, log_in, logs_in, names_told, AreTold, first_names}
@@ -30,7 +30,7 @@ records_are rules s [] told =
       takes = sym (append-nil s.takes) i;
     }
 records_are rules s (r ∷ rs) told =
-    let name = slice_index s.names (place_of r.event.node) in
+    let name = slice_index s.names (place_of_name r.event.node) in
     let act = r.event.act in
     let o = r.outcome in
     let many : s.events + 1 + length rs ≡ s.events + length (r ∷ rs) = omega arith in
@@ -84,9 +84,9 @@ pub record WholePrintIsReadable (rules : Rules) (records : List Record) (first :
     0 where
   pub told : AreTold (first_names) records
   pub shown : RecordsAreReadable rules records
-  pub few : length records ≤ most_number
+  pub few : length records ≤ greatest_number
   pub listed : EntriesAreReadable rules (first ∷ others)
-  pub short : length (first ∷ others) ≤ most_number
+  pub short : length (first ∷ others) ≤ greatest_number
   pub given : LogsAreReadable rules logs
   pub mark : BreakNumberIsWithinLimits broken
 

@@ -8,23 +8,23 @@ pub use Rattle.std.proofs.{lemmas.List.Elements.All-head, lemmas.List.Elements.A
 pub use Rattle.std.specs.{Cmp.Lexicographic.same_text, List.range_with_len, List.list_all, List.flat_map, Option.option_map, Prelude.All, Prelude.codes}
 pub use Rattle.std.specs.{Prelude.decimal, Prelude.slice_index, Prelude.drop, Prelude.slice_index_or}
 pub use Rattle.am_base.proofs.Greatest.{split_on_bool}
-pub use Rattle.am_base.specs.Lists.{blank, is_blank, is_blank_row, at_place, members_of, row_after_view, blank_row}
-pub use Rattle.am_base.specs.{Founding.Rules, Founding.MayFound, Most.most_number, Most.most_body, Names.place_of, Names.IsSet, Names.has, Names.life_of}
-pub use Rattle.am_base.specs.{Names.is_within, Names.lowest_of, Names.name_at, Stamps.stamp_lt, Stamps.stamp_eq, Stamps.no_stamp, declared.entry.Entry.Entry}
+pub use Rattle.am_base.specs.Lists.{blank, is_blank_image, is_blank_row, row_at_place, members_of_image, row_after_view, blank_row}
+pub use Rattle.am_base.specs.{Founding.Rules, Founding.MayFound, Most.greatest_number, Most.most_bytes_of_body, Names.place_of_name, Names.IsSetOfNames, Names.has, Names.life_of_name}
+pub use Rattle.am_base.specs.{Names.names_are_within, Names.lowest_name_of, Names.name_of_place_and_life, Stamps.stamp_is_less, Stamps.stamps_are_equal, Stamps.no_stamp, declared.entry.Entry.Entry}
 pub use Rattle.am_base.specs.{declared.entry.GroupView.GroupView, declared.image.Image.Image, declared.name.Stamp.Stamp, declared.outcome.Outcome.Outcome}
 pub use Rattle.am_packet.specs.{Boxes.Letter, Laws.IsBytes, declared.packet.Packet.Packet}
 pub use Rattle.am_text_defs.specs.{Fields.onto_cut, Fields.cut_of, Fields.same, Fields.and_then, Fields.number_in_text, Fields.split_text}
 pub use Rattle.am_text_defs.specs.{declared.fault.FieldFault.FieldFault, declared.fault.FieldFault.TheVariants.Form}
-pub use Rattle.am_group.specs.{Deliveries.deliveries, Deliveries.name_of, Deliveries.taken_in, Deliveries.given_to, Journals.item_at, declared.event.Act.Act}
+pub use Rattle.am_group.specs.{Deliveries.deliveries, Deliveries.acting_name_of_record, Deliveries.entry_taken_by_outcome, Deliveries.entries_given_to, Journals.item_at, declared.event.Act.Act}
 pub use Rattle.am_group.specs.{declared.event.Event.Event, declared.event.Record.Record}
 pub use Rattle.am_model.proofs.Founders.{lowest_founder_founds}
-pub use Rattle.am_model.specs.Node.{Node, founders_entry, has_log, lowest_or_first}
+pub use Rattle.am_model.specs.Node.{Node, founders_entry, has_log_by_status, lowest_name_or_zero}
 pub use Rattle.am_group_defs.proofs.{Beginnings.run_begins_longer_run, Runs.watched_is_run, Runs.one_record_each}
 pub use Rattle.am_group_defs.specs.Claims.{NoBallot, Segment, Once, Sent, IsSend, BeginsAt, IsSegment, StandsOnce}
-pub use Rattle.am_group_defs.specs.Lawful.{broken_at, watch_run, lawful_front, before_break, Watch, watch_start, greatest_complete, is_lawful, broken_now}
+pub use Rattle.am_group_defs.specs.Lawful.{broken_at, watch_run, lawful_front, events_before_break, Watch, watch_start, greatest_complete, is_lawful, broken_now}
 pub use Rattle.am_group_defs.specs.Text.{body_text, name_text, stamp_text, names_text, numbers_text, outcome_numbers, is_everybody_else, letters_text, lines_from}
 pub use Rattle.am_group_defs.specs.Text.{group_from, newline, hex_byte}
-pub use Rattle.am_group_defs.specs.{Group.logs, Group.Accepted, Group.sent_in, Group.accepted_sends, Play.text_of, Play.watched_text, World.World, World.run}
+pub use Rattle.am_group_defs.specs.{Group.logs, Group.AcceptedSend, Group.accepted_send_of_outcome, Group.accepted_sends, Play.play_text_of, Play.text_of_watch, World.World, World.run}
 pub use Rattle.am_group_defs.specs.{World.Decided, World.happens}
 pub use Rattle.am_text_laws.proofs.Words.{byte_is_plain, TextIsWord, TextIsPlain, and_true_gives_both, list_all_of_append, list_all_of_weaker_test, word_is_plain_text, appended_plain_texts_are_plain, decimal_is_word, name_text_is_word, stamp_text_is_word}
 pub use Rattle.am_text_laws.proofs.Words.{names_text_is_word, body_text_is_word, cut_of_word_at_blank, cut_of_whole_word, stamp_of_stamp_text, bytes_of_body_text, hex_text_is_word}
@@ -32,10 +32,10 @@ pub use Rattle.am_text_laws.proofs.{Printed.number_up_to_decimal, Printed.name_o
 pub use Rattle.am_step_laws.proofs.Items.{all_gives_item_at}
 pub use Rattle.am_step_laws.proofs.Named.{run_has_names}
 pub use Rattle.am_step_laws.proofs.Numbers.RunCounts.{number_bounds_hold_in_runs}
-pub use Rattle.am_step_laws.specs.Bytes.{IsShort, BodyWithin}
+pub use Rattle.am_step_laws.specs.Bytes.{IsRunWithinScriptLimits, BodyIsWithinLimit}
 pub use Rattle.am_abstract_group.proofs.Turns.{no_send_stands_twice}
 pub use Rattle.am_run_laws.proofs.Holds.{unballoted_runs_hold, unballoted_group_lists_fit}
-pub use Rattle.am_run_laws.specs.Lists.{ListFits}
+pub use Rattle.am_run_laws.specs.Lists.{GroupListFits}
 pub use Rattle.am_safety.proofs.Holds.{headline_holds, lists_of_runs_fit}
 pub use Rattle.am_safety.proofs.Lives.{lives_are_told}
 pub use Rattle.am_safety.proofs.RaisedRuns.{resiliences_hold}
@@ -59,12 +59,12 @@ pub use Rattle.am_trace_laws.specs.Claims.{right_verdict, AgreesAs, RunsHaveThei
 pub use Rattle.am_trace_laws.specs.Texts.{sends_of, record_answers, take_lines_of, entry_texts_of, logs_in, reading_of, send_lines_in, log_in, queued_as, sent_as, line_answers_in, took_as}
 pub use Rattle.am_trace_laws.specs.Texts.{take_in}
 unfoldable pub use Rattle.std.specs.Fmt.{digits}
-unfoldable pub use Rattle.am_base.specs.{Lists.AllFit, Lists.after, Lists.fits, Names.by_place}
+unfoldable pub use Rattle.am_base.specs.{Lists.AllEntriesFit, Lists.after, Lists.fits, Names.list_by_place}
 unfoldable pub use Rattle.am_text_defs.specs.Fields.{number_up_to}
 unfoldable pub use Rattle.am_group_defs.specs.Text.{resilience_text, entry_text, outcome_word, outcome_parts, outcome_text, act_word, act_parts, event_text}
 unfoldable pub use Rattle.am_group_defs.specs.Text.{kind_word, addressees_text, letter_text, record_line, group_line, log_line, empty_log_line, log_text, logs_text}
 unfoldable pub use Rattle.am_group_defs.specs.Text.{mark_line, play_text, records_text, group_text}
-unfoldable pub use Rattle.am_group_defs.specs.{Lawful.watch, Lawful.watch_all, World.happen}
+unfoldable pub use Rattle.am_group_defs.specs.{Lawful.watch_event, Lawful.watch_events, World.world_after_events}
 unfoldable pub use Rattle.am_script_defs.specs.Schedules.{life_json, resilience_json, body_json, keys_before, keys_behind, word_json, event_json, list_json}
 unfoldable pub use Rattle.am_script_defs.specs.Schedules.{events_json, founders_json, numbers_json, script_text}
 unfoldable pub use Rattle.am_audit_defs.specs.Fields.{data_parts, data_of, resilience_in_text, view_in_text, outline_of, data_in, told_number, send_of, answer_fields_of, take_of}

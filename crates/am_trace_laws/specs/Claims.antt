@@ -5,9 +5,9 @@ use Rattle.am_group.specs.declared.event.Event.{Event}
 use Rattle.am_group_defs.specs.World.{run}
 use Rattle.am_group_defs.specs.Claims.{NoBallot}
 use Rattle.am_group_defs.specs.Lawful.{watch_run, broken_at}
-use Rattle.am_group_defs.specs.Play.{text_of}
+use Rattle.am_group_defs.specs.Play.{play_text_of}
 use Rattle.am_group_defs.specs.Text.{newline}
-use Rattle.am_step_laws.specs.Bytes.{IsShort}
+use Rattle.am_step_laws.specs.Bytes.{IsRunWithinScriptLimits}
 use Rattle.am_script_defs.specs.Schedules.{script_text, AreOfBytes}
 use Rattle.am_audit_defs.specs.declared.verdict.Verdict.{Verdict}
 use Rattle.am_audit_defs.specs.declared.verdict.Verdict.TheVariants as verdicts
@@ -34,13 +34,13 @@ IsOfOneList rules events = (broken_at rules events ≡ None) ⊎ NoBallot (run r
 
 -- every run, lawful or not
 abbrev pub RunsHaveTheirTexts : Type 0
-RunsHaveTheirTexts = (rules : Rules) (events : List Event) → IsShort rules events → AreOfBytes events → ReadsAs rules events (text_of rules events)
+RunsHaveTheirTexts = (rules : Rules) (events : List Event) → IsRunWithinScriptLimits rules events → AreOfBytes events → ReadsAs rules events (play_text_of rules events)
 
 abbrev pub LawfulTextsAgree : Type 0
-LawfulTextsAgree = (rules : Rules) (events : List Event) → IsShort rules events → AreOfBytes events → IsOfOneList rules events
-    → AgreesAs rules events (text_of rules events)
+LawfulTextsAgree = (rules : Rules) (events : List Event) → IsRunWithinScriptLimits rules events → AreOfBytes events → IsOfOneList rules events
+    → AgreesAs rules events (play_text_of rules events)
 
 -- a run's text behind a line that has its events as a script is read as it is without that line
 abbrev pub ScriptsArePassedOver : Type 0
-ScriptsArePassedOver = (rules : Rules) (events : List Event) → AreOfBytes events → ReadsAs rules events (text_of rules events)
-    → ReadsAs rules events (script_text rules events ++ (newline ++ text_of rules events))
+ScriptsArePassedOver = (rules : Rules) (events : List Event) → AreOfBytes events → ReadsAs rules events (play_text_of rules events)
+    → ReadsAs rules events (script_text rules events ++ (newline ++ play_text_of rules events))

@@ -4,14 +4,14 @@ use Rattle.am_group.specs.declared.event.Act.{Act}
 use Rattle.am_group.specs.declared.event.Record.{Record}
 use Rattle.am_group.specs.declared.plan.RacePlan.{RacePlan}
 use Rattle.am_group.specs.declared.plan.ThreadPlan.{ThreadPlan}
-use Rattle.am_step_laws.specs.Bytes.{BodyWithin}
+use Rattle.am_step_laws.specs.Bytes.{BodyIsWithinLimit}
 use Rattle.am_script_defs.specs.Schedules.{IsOfBytes}
 use Rattle.am_race_laws.specs.Legal.{IsLegalWithTags}
 use Rattle.am_race_laws.specs.Plans.{calls_of}
 
 -- a body that is sent is of bytes, at most 1,024
 pub record HasBody (a : Act) : Type 0 where
-  pub within : BodyWithin a
+  pub within : BodyIsWithinLimit a
   pub bytes : IsOfBytes a
 
 abbrev pub ThreadHasBodies : ThreadPlan → Type 0

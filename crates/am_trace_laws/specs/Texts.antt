@@ -8,7 +8,7 @@ use Rattle.am_base.specs.declared.outcome.Outcome.TheVariants as said
 use Rattle.am_group.specs.declared.event.Act.{Act}
 use Rattle.am_group.specs.declared.event.Act.TheVariants as acts
 use Rattle.am_group.specs.declared.event.Record.{Record}
-use Rattle.am_group.specs.Deliveries.{name_of}
+use Rattle.am_group.specs.Deliveries.{acting_name_of_record}
 use Rattle.am_group_defs.specs.Text.{body_text, entry_text}
 use Rattle.am_group_defs.specs.Group.{logs}
 use Rattle.am_group_defs.specs.Lawful.{Watch}
@@ -44,13 +44,13 @@ take_in rules name acts.Take outcome = took_as rules name outcome
 take_in rules name act outcome = []
 
 abbrev pub sends_of : List Record → List Line
-sends_of records = flat_map (λ r. send_lines_in (name_of r) r.event.act r.outcome) records
+sends_of records = flat_map (λ r. send_lines_in (acting_name_of_record r) r.event.act r.outcome) records
 
 abbrev pub record_answers : List Record → List AnsweredSend
-record_answers records = flat_map (λ r. line_answers_in (name_of r) r.event.act r.outcome) records
+record_answers records = flat_map (λ r. line_answers_in (acting_name_of_record r) r.event.act r.outcome) records
 
 abbrev pub take_lines_of : Rules → List Record → List Line
-take_lines_of rules records = flat_map (λ r. take_in rules (name_of r) r.event.act r.outcome) records
+take_lines_of rules records = flat_map (λ r. take_in rules (acting_name_of_record r) r.event.act r.outcome) records
 
 -- ---- the list and the logs
 

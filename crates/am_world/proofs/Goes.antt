@@ -1,8 +1,8 @@
 -- A world goes on as its run.
 use Rattle.am_world.proofs.Words.{◌≡◌, ℕ, ◌+◌, ◌<◌, ◌≤◌, Bool, List, [], ◌∷◌, ◌++◌, length, map, refl, sym, ap, ◌∙◌, subst, arith, length-append, append-nil}
-use Rattle.am_world.proofs.Words.{map_push, length-map, most_events, Entry, Outcome, Rules, MayFound, place_of, life_of, Letter, Event, Record, letters_of}
-use Rattle.am_world.proofs.Words.{letters_of_pushed_record, happens, happen, record_of, current, start, with_record, has_departed, IsEndOf, Status, Result, Ok}
-use Rattle.am_world.proofs.Words.{Err, Asked, OnStep, IfOk, runs_go_on, Node, Play, replay, play_after, AreNodes, AreLives, AreFlags, Shows, IsRun, play_of, the_record}
+use Rattle.am_world.proofs.Words.{map_push, length-map, most_events_of_run, Entry, Outcome, Rules, MayFound, place_of_name, life_of_name, Letter, Event, Record, letters_of_records}
+use Rattle.am_world.proofs.Words.{letters_of_pushed_record, happens, world_after_events, record_of, current, start, world_with_record, has_departed, IsEndOf, Status, Result, Ok}
+use Rattle.am_world.proofs.Words.{Err, Asked, OnStep, IfOk, runs_go_on, Node, Play, replay, play_after, AreNodes, AreLives, AreFlags, Shows, IsRun, play_of, record_without_caller}
 use Rattle.am_world.proofs.Words.{EventIsAnswered, event_or_answer, comes, SpellsPacket}
 use Rattle.am_group_defs.specs.World as model
 use Rattle.am_model.specs.Node as protocol
@@ -16,7 +16,7 @@ if_ok_with_both (Err e) P Q S f p q = p
 
 -- the run of one event more
 pub replay_with_next_event : (p : Play) (event : Event) → replay (play_after p event) ≡ happens (replay p) event
-unfolding happen
+unfolding world_after_events
 replay_with_next_event p event = runs_go_on (start p.rules) p.events (event ∷ [])
 
 -- what one record more was made by
@@ -31,16 +31,16 @@ pub record EventIsRecorded (w : model.World) (e : Event) (outcome : Outcome) (le
 
 -- by what the code does: it makes room, makes the record, and adds it
 pub event_is_recorded_in_play : (w : model.World) (e : Event) (outcome : Outcome) (letters : List Letter) {lives : List ℕ} {name life : ℕ} {r : Record} {first founding : Rules}
-    {records reserved pushed : List Record} → AreLives lives w → name ≡ current w (place_of e.node) → life ≡ life_of name
-    → r ≡ the_record e life outcome letters → founding ≡ first → reserved ≡ records → pushed ≡ reserved ++ r ∷ []
+    {records reserved pushed : List Record} → AreLives lives w → name ≡ current w (place_of_name e.node) → life ≡ life_of_name name
+    → r ≡ record_without_caller e life outcome letters → founding ≡ first → reserved ≡ records → pushed ≡ reserved ++ r ∷ []
     → EventIsRecorded w e outcome letters first founding records pushed
 event_is_recorded_in_play w e outcome letters {life} {r} {records} living here old made same kept added =
-    let place = place_of e.node in
+    let place = place_of_name e.node in
     let within : place < 16 = omega arith in
-    let now : life ≡ w.lives place = old ∙ ap life_of here ∙ life_of_name_at place (w.lives place) within (living.within place within).0 in
+    let now : life ≡ w.lives place = old ∙ ap life_of_name here ∙ life_of_name_at place (w.lives place) within (living.within place within).0 in
     record {
       founding_ = same;
-      pushed_ = added ∙ ap (λ rs. rs ++ r ∷ []) kept ∙ ap (λ x. records ++ x ∷ []) (made ∙ ap (λ l. the_record e l outcome letters) now);
+      pushed_ = added ∙ ap (λ rs. rs ++ r ∷ []) kept ∙ ap (λ x. records ++ x ∷ []) (made ∙ ap (λ l. record_without_caller e l outcome letters) now);
     }
 
 -- the world after an event, by what came of it
@@ -51,7 +51,7 @@ pub record WorldFollowsEvent (w v : model.World) (e : Event) (outcome : Outcome)
 
 pub world_that_follows_carries_on : (p : Play) (first founding : Rules) (nodes more : List Node) (lives longer : List ℕ) (flags set : List Bool) (records pushed : List Record)
     (group grown : List Entry) (e : Event) (outcome : Outcome) (letters : List Letter) (v : model.World)
-    → play_of first records ≡ p → IsRun (play_of first records) nodes lives flags records group → length p.events < most_events
+    → play_of first records ≡ p → IsRun (play_of first records) nodes lives flags records group → length p.events < most_events_of_run
     → EventIsRecorded (replay p) e outcome letters first founding records pushed → WorldFollowsEvent (replay p) v e outcome letters
     → AreNodes more v → AreLives longer v → AreFlags set v → grown ≡ v.group → length grown ≤ 2 + length p.events
     → IsRun (play_of founding pushed) more longer set pushed grown × EventIsAnswered p e outcome
@@ -70,7 +70,7 @@ world_that_follows_carries_on p first founding nodes more lives longer flags set
       living = living;
       stopped = stopped;
       recorded = recorded.pushed_ ∙ ap (λ rs. rs ++ r ∷ []) was.recorded ∙ sym follows.records;
-      sent = ap letters_of recorded.pushed_ ∙ letters_of_pushed_record records r ∙ ap (λ ls. ls ++ letters) was.sent ∙ sym follows.letters_;
+      sent = ap letters_of_records recorded.pushed_ ∙ letters_of_pushed_record records r ∙ ap (λ ls. ls ++ letters) was.sent ∙ sym follows.letters_;
       agreed = agreed;
     } in (
       subst (λ q. IsRun q more longer set pushed grown) (sym same) (record {
@@ -84,37 +84,37 @@ world_that_follows_carries_on p first founding nodes more lives longer flags set
 
 -- ---- an event that changes no node
 
-passes_nodes : (w : model.World) (e : Event) (outcome : Outcome) (nodes : List Node) → AreNodes nodes w → AreNodes nodes (with_record w e outcome)
-unfolding with_record
+passes_nodes : (w : model.World) (e : Event) (outcome : Outcome) (nodes : List Node) → AreNodes nodes w → AreNodes nodes (world_with_record w e outcome)
+unfolding world_with_record
 passes_nodes w e outcome nodes h = record { count = h.count; each = h.each }
 
-passes_lives : (w : model.World) (e : Event) (outcome : Outcome) (lives : List ℕ) → AreLives lives w → AreLives lives (with_record w e outcome)
-unfolding with_record
+passes_lives : (w : model.World) (e : Event) (outcome : Outcome) (lives : List ℕ) → AreLives lives w → AreLives lives (world_with_record w e outcome)
+unfolding world_with_record
 passes_lives w e outcome lives h = record { count = h.count; each = h.each; within = h.within }
 
-passes_flags : (w : model.World) (e : Event) (outcome : Outcome) (flags : List Bool) → AreFlags flags w → AreFlags flags (with_record w e outcome)
-unfolding with_record
+passes_flags : (w : model.World) (e : Event) (outcome : Outcome) (flags : List Bool) → AreFlags flags w → AreFlags flags (world_with_record w e outcome)
+unfolding world_with_record
 passes_flags w e outcome flags h = record { count = h.count; each = h.each }
 
-passes_follows : (w : model.World) (e : Event) (outcome : Outcome) → happens w e ≡ with_record w e outcome
-    → WorldFollowsEvent w (with_record w e outcome) e outcome []
-unfolding with_record
+passes_follows : (w : model.World) (e : Event) (outcome : Outcome) → happens w e ≡ world_with_record w e outcome
+    → WorldFollowsEvent w (world_with_record w e outcome) e outcome []
+unfolding world_with_record
 passes_follows w e outcome is = record { happens_ = is; records = refl; letters_ = sym (append-nil w.letters) }
 
-passes_group : (w : model.World) (e : Event) (outcome : Outcome) → (with_record w e outcome).group ≡ w.group
-unfolding with_record
+passes_group : (w : model.World) (e : Event) (outcome : Outcome) → (world_with_record w e outcome).group ≡ w.group
+unfolding world_with_record
 passes_group w e outcome = refl
 
 pub answer_carries_play_on : (p : Play) (first founding : Rules) (nodes : List Node) (lives : List ℕ) (flags : List Bool) (records pushed : List Record)
     (group : List Entry) (e : Event) (outcome : Outcome)
-    → play_of first records ≡ p → IsRun (play_of first records) nodes lives flags records group → length p.events < most_events
-    → EventIsRecorded (replay p) e outcome [] first founding records pushed → happens (replay p) e ≡ with_record (replay p) e outcome
+    → play_of first records ≡ p → IsRun (play_of first records) nodes lives flags records group → length p.events < most_events_of_run
+    → EventIsRecorded (replay p) e outcome [] first founding records pushed → happens (replay p) e ≡ world_with_record (replay p) e outcome
     → IsRun (play_of founding pushed) nodes lives flags pushed group × EventIsAnswered p e outcome
 answer_carries_play_on p first founding nodes lives flags records pushed group e outcome view ok few recorded is =
     let w = replay p in
     let was : Shows w nodes lives flags records group = subst (λ (q : Play). Shows (replay q) nodes lives flags records group) view ok.shows in
     let short : length group ≤ 1 + length p.events = subst (λ (q : Play). length group ≤ 1 + length q.events) view ok.short in
-    world_that_follows_carries_on p first founding nodes nodes lives lives flags flags records pushed group group e outcome [] (with_record w e outcome) view ok few recorded
+    world_that_follows_carries_on p first founding nodes nodes lives lives flags flags records pushed group group e outcome [] (world_with_record w e outcome) view ok few recorded
     (passes_follows w e outcome is)
     (passes_nodes w e outcome nodes was.standing) (passes_lives w e outcome lives was.living) (passes_flags w e outcome flags was.stopped) (was.agreed
     ∙ sym (passes_group w e outcome)) (omega arith)
@@ -132,13 +132,13 @@ lives_of_replay_are_kept p first nodes lives flags records group view ok = (play
 pub asked_event_comes_in_replay : (p : Play) (first : Rules) (nodes : List Node) (lives : List ℕ) (flags : List Bool) (records : List Record) (group : List Entry) (e : Event)
     (m : protocol.Node) (status : Status) (departed : Bool) (name : ℕ) (r : Asked)
     → play_of first records ≡ p → IsRun (play_of first records) nodes lives flags records group
-    → name ≡ current (replay p) (place_of e.node) → IsEndOf ((replay p).nodes (current (replay p) (place_of e.node))) m → status ≡ m.status
+    → name ≡ current (replay p) (place_of_name e.node) → IsEndOf ((replay p).nodes (current (replay p) (place_of_name e.node))) m → status ≡ m.status
     → departed ≡ has_departed status
-    → r ≡ event_or_answer (letters_of records) flags departed name e.act → OnStep r (SpellsPacket (letters_of records) e.act)
+    → r ≡ event_or_answer (letters_of_records records) flags departed name e.act → OnStep r (SpellsPacket (letters_of_records records) e.act)
     → happens (replay p) e ≡ comes (replay p) e r
 asked_event_comes_in_replay p first nodes lives flags records group e m status departed name r view ok here end stands gone is spells =
     let w = replay p in
-    let place = place_of e.node in
+    let place = place_of_name e.node in
     let within : place < 16 = omega arith in
     let was = play_shows_its_replay p first nodes lives flags records group view ok in
     let gone_is : departed ≡ has_departed (w.nodes (current w place)).status = gone
@@ -157,5 +157,5 @@ pub events_as_many_as_records : (p : Play) (first : Rules) (records : List Recor
 events_as_many_as_records p first records view = ap (λ (q : Play). length q.events) (sym view) ∙ counted records
 
 pub play_events_le_most : (p : Play) (first : Rules) (nodes : List Node) (lives : List ℕ) (flags : List Bool) (records : List Record) (group : List Entry)
-    → play_of first records ≡ p → IsRun (play_of first records) nodes lives flags records group → length p.events ≤ most_events
-play_events_le_most p first nodes lives flags records group view ok = subst (λ (q : Play). length q.events ≤ most_events) view ok.few
+    → play_of first records ≡ p → IsRun (play_of first records) nodes lives flags records group → length p.events ≤ most_events_of_run
+play_events_le_most p first nodes lives flags records group view ok = subst (λ (q : Play). length q.events ≤ most_events_of_run) view ok.few

@@ -2,9 +2,9 @@
 use Rattle.std.proofs.Common.{◌≡◌, ◌+◌, ◌<◌, List, [], ◌++◌, length, take, sym, ◌∙◌, ap, append_assoc, append-nil, arith}
 use Rattle.std.proofs.Math.Seq.{take-append-add}
 use Rattle.std.proofs.lemmas.List.{length-append, length-take, take-append-le}
-use Rattle.am_base.specs.Most.{most_events}
+use Rattle.am_base.specs.Most.{most_events_of_run}
 use Rattle.am_group.specs.declared.event.Event.{Event}
-use Rattle.am_group_defs.specs.World.{start, happen}
+use Rattle.am_group_defs.specs.World.{start, world_after_events}
 use Rattle.am_group_defs.proofs.Runs.{runs_go_on}
 use Rattle.am_world.specs.Runs.{Play, replay}
 use Rattle.am_world.specs.declared.world.WorldRefusal.{WorldRefusal}
@@ -12,7 +12,7 @@ use Rattle.am_world.specs.declared.world.WorldRefusal.TheVariants.{Spent}
 use Rattle.am_world.specs.Settling.{Did, Stuck}
 
 -- the world after some events more
-pub replay_of_done_events : (events : List Event) (old new : Play) → Did events old new → replay new ≡ happen (replay old) events
+pub replay_of_done_events : (events : List Event) (old new : Play) → Did events old new → replay new ≡ world_after_events (replay old) events
 replay_of_done_events events old new did = ap replay did ∙ runs_go_on (start old.rules) old.events events
 
 -- some of all events are done, and the rest is to come
@@ -55,7 +55,7 @@ stuck_within_all_events all part rest old now new refusal g s =
 
 -- where it was Spent, all of them are more than a run may have
 pub stuck_spent_beyond_most_events : (events : List Event) (old new : Play) (refusal : WorldRefusal) → Stuck events old new refusal → refusal ≡ Spent
-    → most_events < length old.events + length events
+    → most_events_of_run < length old.events + length events
 stuck_spent_beyond_most_events events old new refusal s is =
     let full = s.spent.0 is in
     let f = s.further in

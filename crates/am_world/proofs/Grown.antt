@@ -1,12 +1,12 @@
 -- How the group list grows, entry by entry.
 use Rattle.am_world.proofs.Words.{◌≡◌, ℕ, ◌+◌, ◌-◌, ◌≤◌, max, List, [], ◌∷◌, ◌++◌, length, take, drop, Some, slice_get, ap, ◌∙◌, arith, take_more}
-use Rattle.am_world.proofs.Words.{slice_get_within, get_or_from_slice_get, Entry, Log, entry_at, slice_get-drop, entry_at_is_slice_get}
+use Rattle.am_world.proofs.Words.{slice_get_within, get_or_from_slice_get, Entry, Log, log_entry_at, slice_get-drop, entry_at_is_slice_get}
 
 -- what a list has above a number, up to another
 abbrev pub entries_between_numbers : Log → ℕ → ℕ → List Entry
 entries_between_numbers log had to = take (to - had) (drop (had - log.start) log.entries)
 
-pub entries_between_with_next : (log : Log) (had before : ℕ) (e : Entry) → log.start ≤ had → had ≤ before → entry_at log (before + 1) ≡ Some e
+pub entries_between_with_next : (log : Log) (had before : ℕ) (e : Entry) → log.start ≤ had → had ≤ before → log_entry_at log (before + 1) ≡ Some e
     → entries_between_numbers log had (before + 1) ≡ entries_between_numbers log had before ++ e ∷ []
 entries_between_with_next log had before e low up is =
     let xs = drop (had - log.start) log.entries in

@@ -1,7 +1,7 @@
 -- What comes of an event at which a letter is heard, or its first bytes.
 use Rattle.am_world.proofs.Words.{◌≡◌, ℕ, ◌<◌, Bool, true, false, List, [], Option, Some, None, refl, sym, ap, ◌∙◌, subst, arith, Asked, OnStep}
-use Rattle.am_world.proofs.Words.{none-some, same_Some, Rules, place_of, Entry, Letter, IsPacket, spelling, Act, Event}
-use Rattle.am_world.proofs.Words.{Record, is_for, letters_of, letter_at, current, happens, Node, Heard, flag_of, first_bytes, heard_of, event_or_answer}
+use Rattle.am_world.proofs.Words.{none-some, same_Some, Rules, place_of_name, Entry, Letter, IsPacket, spelling, Act, Event}
+use Rattle.am_world.proofs.Words.{Record, is_for, letters_of_records, letter_at, current, happens, Node, Heard, flag_of, first_bytes, heard_of, event_or_answer}
 use Rattle.am_world.proofs.Words.{comes, SpellsPacket, Play, replay, play_of, IsRun}
 use Rattle.am_journal.specs.Asked.{hears}
 use Rattle.am_base.specs.declared.event.NodeEvent.TheVariants as does
@@ -66,13 +66,13 @@ call_spells_no_packet letters a r none = on_any r (called_spells letters a none)
 pub hearing_comes_in_replay : (p : Play) (first : Rules) (nodes : List Node) (lives : List ℕ) (flags : List Bool) (records : List Record) (group : List Entry) (e : Event)
     (h : Heard) (name : ℕ) (r : Asked)
     → play_of first records ≡ p → IsRun (play_of first records) nodes lives flags records group
-    → name ≡ current (replay p) (place_of e.node) → heard_of e.act ≡ Some h
-    → r ≡ hears h.keep name (flag_of flags name) (letter_at (letters_of records) h.packet)
-    → OnStep r ((l : Letter) → letter_at (letters_of records) h.packet ≡ Some l → IsPacket l.packet)
+    → name ≡ current (replay p) (place_of_name e.node) → heard_of e.act ≡ Some h
+    → r ≡ hears h.keep name (flag_of flags name) (letter_at (letters_of_records records) h.packet)
+    → OnStep r ((l : Letter) → letter_at (letters_of_records records) h.packet ≡ Some l → IsPacket l.packet)
     → happens (replay p) e ≡ comes (replay p) e r
 hearing_comes_in_replay p first nodes lives flags records group e h name r view ok here heard is packets =
     let w = replay p in
-    let place = place_of e.node in
+    let place = place_of_name e.node in
     let within : place < 16 = omega arith in
     let was = play_shows_its_replay p first nodes lives flags records group view ok in
     let now : r ≡ event_or_answer w.letters flags (has_actor_gone_now w e) (current w place) e.act =
@@ -80,7 +80,7 @@ hearing_comes_in_replay p first nodes lives flags records group e h name r view 
     ∙ ap (λ k. hears h.keep k (flag_of flags k) (letter_at w.letters h.packet)) here
     ∙ sym (heard_asked w.letters flags (has_actor_gone_now w e) (current w place) e.act h heard) in
     let spells : OnStep r (SpellsPacket w.letters e.act) =
-    on_step_weaker r (λ (all : (l : Letter) → letter_at (letters_of records) h.packet ≡ Some l → IsPacket l.packet).
+    on_step_weaker r (λ (all : (l : Letter) → letter_at (letters_of_records records) h.packet ≡ Some l → IsPacket l.packet).
     λ g l of there. all l (ap (λ ls. letter_at ls h.packet) was.sent
     ∙ ap (λ (x : Heard). letter_at w.letters x.packet) (same_Some h g (sym heard ∙ of)) ∙ there))
     packets in

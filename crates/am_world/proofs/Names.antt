@@ -8,9 +8,9 @@ use Rattle.am_group.specs.declared.event.Act.{Act}
 use Rattle.am_group.specs.declared.event.Act.TheVariants as act
 use Rattle.am_group.specs.declared.event.Event.{Event}
 use Rattle.am_group.specs.Journals.{letter_at}
-use Rattle.am_model.specs.Emit.{Step}
-use Rattle.am_group_defs.specs.World.{World, with_record, with_step, hears_letter, happens, happen}
-use Rattle.am_group_defs.specs.Settle.{event_at, running, hearings_of}
+use Rattle.am_model.specs.Emit.{StepResult}
+use Rattle.am_group_defs.specs.World.{World, world_with_record, world_with_step, world_after_hearing, happens, world_after_events}
+use Rattle.am_group_defs.specs.Settle.{event_at, running_places, hearings_of}
 use Rattle.am_world.specs.Settling.{is_running, is_meant}
 
 -- the same lives, the same have stopped, and the letters go on
@@ -33,12 +33,12 @@ lives_stay_through_both u v w a b = record {
 
 -- ---- ticks and hearings
 
-goes_unchanged : (w : World) (e : Event) (o : Outcome) → LivesStayLettersGrow w (with_record w e o)
-unfolding with_record
+goes_unchanged : (w : World) (e : Event) (o : Outcome) → LivesStayLettersGrow w (world_with_record w e o)
+unfolding world_with_record
 goes_unchanged w e o = record { lives = refl; stopped = refl; more = []; letters = sym (append-nil w.letters) }
 
-goes_stepped : (w : World) (e : Event) (name : ℕ) (s : Step) → LivesStayLettersGrow w (with_step w e name s)
-unfolding with_step
+goes_stepped : (w : World) (e : Event) (name : ℕ) (s : StepResult) → LivesStayLettersGrow w (world_with_step w e name s)
+unfolding world_with_step
 goes_stepped w e name s = record { lives = refl; stopped = refl; more = s.letters; letters = refl }
 
 goes_if : (w : World) (b : Bool) (x y : World) → LivesStayLettersGrow w x → LivesStayLettersGrow w y → LivesStayLettersGrow w (if b then x else y)
@@ -47,7 +47,7 @@ goes_if w false x y f g = g
 
 ruleset goes = (goes_if, goes_unchanged, goes_stepped)
 
-goes_heard : (w : World) (e : Event) (name : ℕ) (hearing : Packet → Step) (l : Option Letter) → LivesStayLettersGrow w (hears_letter w e name hearing l)
+goes_heard : (w : World) (e : Event) (name : ℕ) (hearing : Packet → StepResult) (l : Option Letter) → LivesStayLettersGrow w (world_after_hearing w e name hearing l)
 goes_heard w e name hearing None = search goes
 goes_heard w e name hearing (Some l) = search goes
 
@@ -61,8 +61,8 @@ lives_stay_by_hearing number place w = goes_heard w _ _ _ (letter_at w.letters n
 
 -- an act of some places
 pub lives_stay_by_acts : (a : Act) (goes : (place : ℕ) (w : World) → LivesStayLettersGrow w (happens w (event_at place a))) (w : World) (places : List ℕ)
-    → LivesStayLettersGrow w (happen w (map (λ place. event_at place a) places))
-unfolding happen
+    → LivesStayLettersGrow w (world_after_events w (map (λ place. event_at place a) places))
+unfolding world_after_events
 lives_stay_by_acts a goes w [] = same_world_lives_stay w
 lives_stay_by_acts a goes w (place ∷ places) = lives_stay_through_both w (happens w (event_at place a)) _ (goes place w) (lives_stay_by_acts a goes (happens w (event_at place a)) places)
 
@@ -75,7 +75,7 @@ pub is_meant_after_letters : (w v : World) → LivesStayLettersGrow w v → (l :
 is_meant_after_letters w v g l place = rw g.lives refl
 
 pub hearings_of_after_letters : (w v : World) → LivesStayLettersGrow w v → (number : ℕ) (l : Letter) → hearings_of v number l ≡ hearings_of w number l
-unfolding running
+unfolding running_places
 hearings_of_after_letters w v g number l = rw (g.lives, g.stopped) refl
 
 get_more : (xs ys : List Letter) (n : ℕ) (l : Letter) → slice_get xs n ≡ Some l → slice_get (xs ++ ys) n ≡ Some l

@@ -8,7 +8,7 @@ use Rattle.am_group.specs.declared.event.Act.{Act}
 use Rattle.am_group.specs.declared.event.Act.TheVariants as act
 use Rattle.am_group.specs.declared.event.Event.{Event}
 use Rattle.am_group_defs.specs.World.{World}
-use Rattle.am_group_defs.specs.Settle.{event_at, running, ticks, hearings_of}
+use Rattle.am_group_defs.specs.Settle.{event_at, running_places, ticks_of_places, hearings_of}
 use Rattle.am_world.specs.Settling.{is_running, is_meant, passing_act_at}
 
 -- an act of each place from one on that is due
@@ -33,11 +33,11 @@ filter_both p q (x ∷ xs) =
     (λ t. split_on_bool_of_log (q x) (λ u. rw (t, u) (ap (λ (l : List ℕ). x ∷ l) more)) (λ u. rw (t, u) more))
     (λ f. rw f more)
 
-pub acts_due_are_ticks : (w : World) → acts_due_from_place (is_running w) act.Tick 0 ≡ ticks w
-unfolding running
+pub acts_due_are_ticks : (w : World) → acts_due_from_place (is_running w) act.Tick 0 ≡ ticks_of_places w
+unfolding running_places
 acts_due_are_ticks w = refl
 
 pub acts_due_are_hearings : (w : World) (number : ℕ) (l : Letter) → acts_due_from_place (place_hears_letter w l) (act.Hear number) 0 ≡ hearings_of w number l
-unfolding running
+unfolding running_places
 acts_due_are_hearings w number l = ap (λ (places : List ℕ). map (λ at. event_at at (act.Hear number)) places)
     (sym (filter_both (is_running w) (is_meant w l) (range_with_len 0 16)))

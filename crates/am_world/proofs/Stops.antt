@@ -1,7 +1,7 @@
 -- A name stops.
 use Rattle.am_world.proofs.Words.{◌≡◌, ℕ, zero, suc, ◌+◌, ◌<◌, ◌≤◌, ◌==◌, ◌||◌, Bool, true, false, List, [], ◌∷◌, ◌++◌, length, slice_set, slice_index_or}
-use Rattle.am_world.proofs.Words.{refl, append-nil, sym, ap, ◌∙◌, subst, arith, list_any, length-set, nat_tests, most_events, Entry, Rules, place_of, Event}
-use Rattle.am_world.proofs.Words.{Record, happens, current, is_stopped, with_record, Node, Play, replay, AreLives, AreFlags, IsRun, play_of, EventIsAnswered}
+use Rattle.am_world.proofs.Words.{refl, append-nil, sym, ap, ◌∙◌, subst, arith, list_any, length-set, nat_tests, most_events_of_run, Entry, Rules, place_of_name, Event}
+use Rattle.am_world.proofs.Words.{Record, happens, current, is_stopped, world_with_record, Node, Play, replay, AreLives, AreFlags, IsRun, play_of, EventIsAnswered}
 use Rattle.am_world.proofs.Words.{after_answer}
 use Rattle.am_base.specs.declared.outcome.Outcome.TheVariants as said
 use Rattle.am_group_defs.specs.World as model
@@ -60,22 +60,22 @@ current_name_is_small w lives place within h = let most = (h.within place within
 
 pub stop_carries_play_on : (p : Play) (first founding : Rules) (nodes : List Node) (lives : List ℕ) (flags : List Bool) (records pushed : List Record)
     (group : List Entry) (e : Event) (name at : ℕ)
-    → play_of first records ≡ p → IsRun (play_of first records) nodes lives flags records group → length p.events < most_events
-    → name ≡ current (replay p) (place_of e.node) → at ≡ name
+    → play_of first records ≡ p → IsRun (play_of first records) nodes lives flags records group → length p.events < most_events_of_run
+    → name ≡ current (replay p) (place_of_name e.node) → at ≡ name
     → EventIsRecorded (replay p) e said.Stopped [] first founding records pushed → happens (replay p) e ≡ after_answer (replay p) e said.Stopped
     → IsRun (play_of founding pushed) nodes lives (slice_set flags at true) pushed group × EventIsAnswered p e said.Stopped
-unfolding with_record
+unfolding world_with_record
 stop_carries_play_on p first founding nodes lives flags records pushed group e name at view ok few here there recorded is =
     let w = replay p in
-    let now = current w (place_of e.node) in
+    let now = current w (place_of_name e.node) in
     let was = play_shows_its_replay p first nodes lives flags records group view ok in
     let short : length group ≤ 1 + length p.events = subst (λ (q : Play). length group ≤ 1 + length q.events) view ok.short in
-    let within : place_of e.node < 16 = omega arith in
-    let more = flags_with_stopped_name w now flags (current_name_is_small w lives (place_of e.node) within was.living) was.stopped in
+    let within : place_of_name e.node < 16 = omega arith in
+    let more = flags_with_stopped_name w now flags (current_name_is_small w lives (place_of_name e.node) within was.living) was.stopped in
     world_that_follows_carries_on p first founding nodes nodes lives lives flags (slice_set flags at true) records pushed group group e said.Stopped []
-    (with_record (stopping w now) e said.Stopped) view ok few recorded
+    (world_with_record (stopping w now) e said.Stopped) view ok few recorded
     (record { happens_ = is; records = refl; letters_ = sym (append-nil w.letters) })
     (record { count = was.standing.count; each = was.standing.each }) (record { count = was.living.count; each = was.living.each; within = was.living.within })
-    (subst (λ k. AreFlags (slice_set flags k true) (with_record (stopping w now) e said.Stopped)) (sym (there ∙ here))
+    (subst (λ k. AreFlags (slice_set flags k true) (world_with_record (stopping w now) e said.Stopped)) (sym (there ∙ here))
     (record { count = more.count; each = more.each }))
     was.agreed (omega arith)

@@ -7,8 +7,8 @@ use Rattle.am_group.specs.declared.event.Act.{Act}
 use Rattle.am_group.specs.declared.event.Act.TheVariants as act
 use Rattle.am_group.specs.declared.event.Event.{Event}
 use Rattle.am_group.specs.Journals.{letter_at}
-use Rattle.am_group_defs.specs.World.{World, happens, happen}
-use Rattle.am_group_defs.specs.Settle.{event_at, ticks, hearings_of, hearings_from, hearings}
+use Rattle.am_group_defs.specs.World.{World, happens, world_after_events}
+use Rattle.am_group_defs.specs.Settle.{event_at, ticks_of_places, hearings_of, hearings_from, hearings}
 use Rattle.am_world.specs.Runs.{Play, replay}
 use Rattle.am_world.specs.declared.world.WorldRefusal.{WorldRefusal}
 use Rattle.am_world.specs.Settling.{is_running, passing_act_at, Did, Stuck}
@@ -28,7 +28,7 @@ way_out all rest old is = record { going = no_event_is_done_yet all rest old is;
 
 act_goes : (now new : Play) (due : Bool) (a : Act) (place : ℕ) → ((w : World) → LivesStayLettersGrow w (happens w (event_at place a))) → Did (passing_act_at due a place) now new
     → LivesStayLettersGrow (replay now) (replay new)
-unfolding happen
+unfolding world_after_events
 act_goes now new false a place goes did = subst (LivesStayLettersGrow (replay now)) (sym (replay_of_done_events [] now new did)) (same_world_lives_stay (replay now))
 act_goes now new true a place goes did = subst (LivesStayLettersGrow (replay now)) (sym (replay_of_done_events (event_at place a ∷ []) now new did)) (goes (replay now))
 
@@ -55,21 +55,21 @@ act_stuck all due a place is_due old now new refusal low is way stuck =
 -- ---- the ticks
 
 abbrev pub DidTicksUpToPlace : ℕ → Play → Play → Type 0
-DidTicksUpToPlace place old now = DidSomeAndLivesStay (ticks (replay old)) (acts_due_from_place (is_running (replay old)) act.Tick place) old now
+DidTicksUpToPlace place old now = DidSomeAndLivesStay (ticks_of_places (replay old)) (acts_due_from_place (is_running (replay old)) act.Tick place) old now
 
 pub did_no_tick_yet : (old : Play) → DidTicksUpToPlace 0 old old
-did_no_tick_yet old = way_out (ticks (replay old)) (acts_due_from_place (is_running (replay old)) act.Tick 0) old (acts_due_are_ticks (replay old))
+did_no_tick_yet old = way_out (ticks_of_places (replay old)) (acts_due_from_place (is_running (replay old)) act.Tick 0) old (acts_due_are_ticks (replay old))
 
 pub did_tick_at_place : (place : ℕ) (is_due : Bool) (old now new : Play) → place < 16 → is_due ≡ is_running (replay now) place → DidTicksUpToPlace place old now
     → Did (passing_act_at is_due act.Tick place) now new → DidTicksUpToPlace (place + 1) old new
 did_tick_at_place place is_due old now new low is way did =
-    act_next (ticks (replay old)) (is_running (replay old)) act.Tick place is_due old now new (lives_stay_by_tick place) low (is
+    act_next (ticks_of_places (replay old)) (is_running (replay old)) act.Tick place is_due old now new (lives_stay_by_tick place) low (is
     ∙ is_running_after_letters (replay old) (replay now) way.names place) way did
 
 pub stuck_in_tick_at_place : (place : ℕ) (is_due : Bool) (old now new : Play) (refusal : WorldRefusal) → place < 16 → is_due ≡ is_running (replay now) place
-    → DidTicksUpToPlace place old now → Stuck (passing_act_at is_due act.Tick place) now new refusal → Stuck (ticks (replay old)) old new refusal
+    → DidTicksUpToPlace place old now → Stuck (passing_act_at is_due act.Tick place) now new refusal → Stuck (ticks_of_places (replay old)) old new refusal
 stuck_in_tick_at_place place is_due old now new refusal low is way stuck =
-    act_stuck (ticks (replay old)) (is_running (replay old)) act.Tick place is_due old now new refusal low (is
+    act_stuck (ticks_of_places (replay old)) (is_running (replay old)) act.Tick place is_due old now new refusal low (is
     ∙ is_running_after_letters (replay old) (replay now) way.names place) way stuck
 
 -- ---- the hearings of a letter

@@ -7,8 +7,8 @@ use Rattle.am_packet.specs.Boxes.{Letter}
 use Rattle.am_node_defs.specs.Cores.{IsInOrder}
 use Rattle.am_model.specs.Node as model
 use Rattle.am_model.specs.Step.{row}
-use Rattle.am_group_defs.specs.World.{group_after}
-use Rattle.am_model.specs.Ends.{Does}
+use Rattle.am_group_defs.specs.World.{list_after_step}
+use Rattle.am_model.specs.Ends.{DoesRow}
 use Rattle.am_node.specs.declared.node.Node.{Node}
 use Rattle.am_node.specs.Stands.{state_of}
 use Rattle.am_model.specs.Nodes.{HasNumbersLeft}
@@ -16,7 +16,7 @@ use Rattle.am_model.specs.Nodes.{HasNumbersLeft}
 -- whatever a step comes to, the node has trimmed nothing that the group list lacks, and knows no more to be accepted than
 -- there is room for
 abbrev pub GrowsWithin : model.Node → NodeEvent → ℕ → ℕ → Type 0
-GrowsWithin m what stored room = (outcome : Outcome) (letters : List Letter) (n : model.Node) → Does (λ k. row k what) m outcome letters n → IsInOrder n.core
+GrowsWithin m what stored room = (outcome : Outcome) (letters : List Letter) (n : model.Node) → DoesRow (λ k. row k what) m outcome letters n → IsInOrder n.core
     → (n.core.base ≤ stored) × (max n.core.acc stored ≤ room)
 
 -- the node is ready for a step, and the group list for what comes of it
@@ -33,6 +33,6 @@ pub record StepsAt (old new : List Node) (group longer : List Entry) (place : �
   pub next : Node
   pub there : slice_get old place ≡ Some before
   pub placed : new ≡ slice_set old place next
-  pub does : Does (λ k. row k what) (state_of before) outcome letters (state_of next)
+  pub does : DoesRow (λ k. row k what) (state_of before) outcome letters (state_of next)
   pub order : IsInOrder (state_of next).core
-  pub grows : longer ≡ group_after group (state_of next)
+  pub grows : longer ≡ list_after_step group (state_of next)

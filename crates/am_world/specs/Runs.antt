@@ -1,6 +1,6 @@
 -- Which run of a group a world is.
 use Rattle.std.specs.Prelude.{◌≡◌, ℕ, ◌+◌, ◌<◌, ◌≤◌, List, [], ◌∷◌, ◌++◌, length, map, Some, Bool, false, slice_get, slice_index, slice_index_or}
-use Rattle.am_base.specs.Most.{most_events}
+use Rattle.am_base.specs.Most.{most_events_of_run}
 use Rattle.am_base.specs.declared.entry.Entry.{Entry}
 use Rattle.am_base.specs.declared.outcome.Outcome.{Outcome}
 use Rattle.am_base.specs.Founding.{Rules, MayFound}
@@ -8,7 +8,7 @@ use Rattle.am_packet.specs.Boxes.{Letter}
 use Rattle.am_node_defs.specs.Cores.{IsInOrder}
 use Rattle.am_group.specs.declared.event.Event.{Event}
 use Rattle.am_group.specs.declared.event.Record.{Record}
-use Rattle.am_group.specs.Journals.{letters_of}
+use Rattle.am_group.specs.Journals.{letters_of_records}
 use Rattle.am_group_defs.specs.World as model
 use Rattle.am_group_defs.specs.World.{run, record_of, current, is_stopped}
 use Rattle.am_model.specs.Ends.{IsEndOf}
@@ -54,12 +54,12 @@ pub record Shows (w : model.World) (nodes : List Node) (lives : List ℕ) (flags
   pub living : AreLives lives w
   pub stopped : AreFlags flags w
   pub recorded : records ≡ w.records
-  pub sent : letters_of records ≡ w.letters
+  pub sent : letters_of_records records ≡ w.letters
   pub agreed : group ≡ w.group
 
 pub record IsRun (p : Play) (nodes : List Node) (lives : List ℕ) (flags : List Bool) (records : List Record) (group : List Entry) : Type 0 where
   pub founded : MayFound p.rules
-  pub few : length p.events ≤ most_events
+  pub few : length p.events ≤ most_events_of_run
   pub short : length group ≤ 1 + length p.events
   pub shows : Shows (replay p) nodes lives flags records group
 

@@ -1,6 +1,6 @@
 -- How far a world has come with the events of a schedule.
 use Rattle.std.specs.Prelude.{◌≡◌, ◌↔◌, ℕ, ◌<◌, List, [], ◌∷◌, ◌++◌, length, take, Bool, not, if◌then◌else◌}
-use Rattle.am_base.specs.Most.{most_events}
+use Rattle.am_base.specs.Most.{most_events_of_run}
 use Rattle.am_packet.specs.Boxes.{Letter}
 use Rattle.am_group.specs.declared.event.Act.{Act}
 use Rattle.am_group.specs.declared.event.Event.{Event}
@@ -44,4 +44,4 @@ pub record Stuck (events : List Event) (old new : Play) (refusal : WorldRefusal)
   pub count : ℕ
   pub further : count < length events
   pub did : Did (take count events) old new
-  pub spent : (refusal ≡ Spent) ↔ (length new.events ≡ most_events)
+  pub spent : (refusal ≡ Spent) ↔ (length new.events ≡ most_events_of_run)

@@ -1,5 +1,5 @@
 ghost use Rattle.std.specs.Prelude.{◌≡◌, ◌+◌, ◌-◌, ◌<◌, ◌≤◌, ◌++◌, ◌∷◌, [], length, max, take, drop, vec_len, vec_capacity, OnOk, IfOk};
-ghost use Rattle.am_group_defs.specs.World.{group_with, group_after};
+ghost use Rattle.am_group_defs.specs.World.{list_with_accepted, list_after_step};
 ghost use Rattle.am_node.specs.Stands.{state_of};
 
 use am_base::NoMemory;
@@ -33,7 +33,7 @@ fn add_entry(group: &mut Vec<Entry>, entry: &Entry)
 fn add_accepted(group: &mut Vec<Entry>, node: &Node)
     requires base { (state_of node.now).core.base ≤ vec_len group.old }
     requires room { max (state_of node.now).core.acc (vec_len group.old) ≤ vec_capacity group.old }
-    ensures { group.new.items ≡ group_with group.old.items (state_of node.now).core }
+    ensures { group.new.items ≡ list_with_accepted group.old.items (state_of node.now).core }
 {
     for before in group.len()..node.accept_front() as usize {
         match node.entry(before as u32 + 1) {
@@ -47,7 +47,7 @@ fn add_accepted(group: &mut Vec<Entry>, node: &Node)
 pub fn grow(group: &mut Vec<Entry>, node: &Node)
     requires base { (state_of node.now).core.base ≤ vec_len group.old }
     requires room { max (state_of node.now).core.acc (vec_len group.old) ≤ vec_capacity group.old }
-    ensures { group.new.items ≡ group_after group.old.items (state_of node.now) }
+    ensures { group.new.items ≡ list_after_step group.old.items (state_of node.now) }
 {
     if node.view().by == node.name() {
         add_accepted(group, node);

@@ -1,5 +1,5 @@
 ghost use Rattle.std.specs.Prelude.{◌≡◌, ◌<◌, IfOk, IfErr, map, length};
-ghost use Rattle.am_base.specs.Most.{most_events};
+ghost use Rattle.am_base.specs.Most.{most_events_of_run};
 ghost use Rattle.am_group_defs.specs.Lawful.{broken_at};
 ghost use Rattle.am_world.specs.declared.world.WorldRefusal.TheVariants as refusals;
 
@@ -19,7 +19,7 @@ pub fn broken_at(
     ensures ok { IfOk result (λ broken. broken
         ≡ broken_at founding.now (map (λ r. r.event) records.now)) }
     ensures spent { IfErr result (λ refusal. refusal ≡ refusals.Spent
-        → most_events < length records.now) }
+        → most_events_of_run < length records.now) }
 {
     let mut world = World::with_room(alloc, founding, records.len())?;
     for item in records {

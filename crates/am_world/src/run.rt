@@ -1,13 +1,13 @@
 ghost use Rattle.std.specs.Prelude.{◌≡◌, ◌+◌, ◌<◌, ◌≤◌, ◌++◌, ◌↔◌, [], true, length, IfOk, OnOk};
 ghost use Rattle.am_base.specs.declared.outcome.Outcome.TheVariants as said;
-ghost use Rattle.am_base.specs.Most.{most_events};
+ghost use Rattle.am_base.specs.Most.{most_events_of_run};
 ghost use Rattle.am_base.specs.Founding.{MayFound};
-ghost use Rattle.am_base.specs.Names.{has, name_at, life_of};
+ghost use Rattle.am_base.specs.Names.{has, name_of_place_and_life, life_of_name};
 ghost use Rattle.am_group_defs.specs.World.{first_node, start};
 ghost use Rattle.am_model.specs.Node.{has_departed};
 ghost use Rattle.am_model.specs.Ends.{IsEndOf};
 ghost use Rattle.am_node.specs.Stands.{state_of};
-ghost use Rattle.am_group.specs.Journals.{the_record};
+ghost use Rattle.am_group.specs.Journals.{record_without_caller};
 ghost use Rattle.am_world.specs.Runs.{AreNodes, AreFirst};
 
 use crate::nodes::{grow, make_room};
@@ -55,7 +55,7 @@ fn new_life(
     life: u8,
 ) -> Result<(Record, Room), NoMemory>
     ensures record_ { IfOk result (λ r. r.0
-        ≡ the_record event.now (life_of name) (said.Returned life) []) }
+        ≡ record_without_caller event.now (life_of_name name) (said.Returned life) []) }
     ensures node { IfOk result (λ r. r.1 ≡ journal.old.founding) }
     ensures room { OnOk result (journal.new.has_room ≡ true) }
     ensures founding { journal.new.founding ≡ journal.old.founding }
@@ -101,9 +101,9 @@ impl Model for Run {
 
 impl Run {
     ghost use Rattle.std.specs.Prelude.{OnErr};
-    ghost use Rattle.am_base.specs.Names.{place_of};
-    ghost use Rattle.am_group.specs.Journals.{letters_of};
-    ghost use Rattle.am_group_defs.specs.World.{current, is_stopped, with_record, happens};
+    ghost use Rattle.am_base.specs.Names.{place_of_name};
+    ghost use Rattle.am_group.specs.Journals.{letters_of_records};
+    ghost use Rattle.am_group_defs.specs.World.{current, is_stopped, world_with_record, happens};
     ghost use Rattle.am_world.specs.Runs.{play_after, replay, IsOneMore};
     ghost use Rattle.am_journal.specs.Asked.{IfAnswer};
     ghost use Rattle.am_journal.specs.declared.asked.Asked.TheVariants as asked;
@@ -133,7 +133,7 @@ impl Run {
     /// How many events were done, 100,000 at most.
     pub fn events(&self) -> usize
         ensures value { result ≡ length self.now.events }
-        ensures few { result ≤ most_events }
+        ensures few { result ≤ most_events_of_run }
     {
         self.journal.records().len()
     }
@@ -142,7 +142,7 @@ impl Run {
     pub fn journal(&self) -> &Journal
         ensures founding { result.now.founding ≡ self.now.rules }
         ensures records { result.now.records ≡ (replay self.now).records }
-        ensures letters { letters_of result.now.records ≡ (replay self.now).letters }
+        ensures letters { letters_of_records result.now.records ≡ (replay self.now).letters }
     {
         &self.journal
     }
@@ -166,7 +166,7 @@ impl Run {
 
     /// The current name of a place.
     pub fn name_at(&self, place: Name) -> Name
-        ensures { result ≡ current (replay self.now) (place_of place) }
+        ensures { result ≡ current (replay self.now) (place_of_name place) }
     {
         let at = place.place();
         let life = self.lives[usize::from(at)];
@@ -175,7 +175,7 @@ impl Run {
 
     /// The node of a place's current name. It keeps the end of its list.
     pub fn node(&self, place: Name) -> &Node
-        ensures { IsEndOf ((replay self.now).nodes (current (replay self.now) (place_of place)))
+        ensures { IsEndOf ((replay self.now).nodes (current (replay self.now) (place_of_name place)))
             (state_of result.now) }
     {
         &self.nodes[usize::from(place.place())]
@@ -183,10 +183,10 @@ impl Run {
 
     /// Records an event that changes no node.
     fn pass(&mut self, event: &Event, name: Name, outcome: Outcome) -> Result<(), NoMemory>
-        requires few { length self.old.events < most_events }
-        requires name { name ≡ current (replay self.old) (place_of event.now.node) }
+        requires few { length self.old.events < most_events_of_run }
+        requires name { name ≡ current (replay self.old) (place_of_name event.now.node) }
         requires comes { happens (replay self.old) event.now
-            ≡ with_record (replay self.old) event.now outcome }
+            ≡ world_with_record (replay self.old) event.now outcome }
         ensures ok { OnOk result (self.new ≡ play_after self.old event.now) }
         ensures one { OnOk result (IsOneMore self.old event.now) }
         ensures err { OnErr result (self.new ≡ self.old) }
@@ -246,8 +246,8 @@ impl Run {
 
     /// A name's node does a step.
     pub fn act(&mut self, event: &Event, name: Name, what: &NodeEvent) -> Result<(), NoMemory>
-        requires few { length self.old.events < most_events }
-        requires name { name ≡ current (replay self.old) (place_of event.now.node) }
+        requires few { length self.old.events < most_events_of_run }
+        requires name { name ≡ current (replay self.old) (place_of_name event.now.node) }
         requires comes { happens (replay self.old) event.now
             ≡ comes (replay self.old) event.now (asked.Step what.now) }
         ensures ok { OnOk result (self.new ≡ play_after self.old event.now) }
@@ -270,7 +270,7 @@ impl Run {
         ensures comes { IfOk result (λ r. happens (replay self.now) event.now
             ≡ comes (replay self.now) event.now r) }
         ensures next { IfOk result (λ r. IfAnswer r
-            (λ o. IsNextLife (current (replay self.now) (place_of event.now.node)) o)) }
+            (λ o. IsNextLife (current (replay self.now) (place_of_name event.now.node)) o)) }
     {
         let name = self.name_at(event.node);
         let Some(heard) = heard_by(&event.act) else {

@@ -1,7 +1,7 @@
 ghost use Rattle.std.specs.Prelude.{◌≡◌, ◌<◌, ◌&&◌, OnOk, IfOk, IfErr, Some, length};
 ghost use Rattle.am_packet.specs.Boxes as boxes;
 ghost use Rattle.am_group.specs.Journals.{letter_at};
-ghost use Rattle.am_group_defs.specs.Settle.{ticks, hearings_of, hearings, round_count};
+ghost use Rattle.am_group_defs.specs.Settle.{ticks_of_places, hearings_of, hearings, round_count};
 ghost use Rattle.am_world.specs.Runs.{replay};
 ghost use Rattle.am_world.specs.Settling.{schedule_of, is_running, is_meant, passing_act_at, round_events, Did, Stuck};
 
@@ -56,9 +56,9 @@ fn act_where(world: &mut World, is_due: bool, act: Act, place: u8) -> Result<(),
 
 /// Each place that runs ticks.
 fn tick_all(world: &mut World) -> Result<(), WorldRefusal>
-    ensures ok { OnOk result (Did (ticks (replay world.old)) world.old world.new) }
+    ensures ok { OnOk result (Did (ticks_of_places (replay world.old)) world.old world.new) }
     ensures err { IfErr result (λ refusal. Stuck
-        (ticks (replay world.old)) world.old world.new refusal) }
+        (ticks_of_places (replay world.old)) world.old world.new refusal) }
 {
     for place in 0..16u8 {
         let is_due = is_running(world, place);

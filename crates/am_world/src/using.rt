@@ -1,7 +1,7 @@
 ghost use Rattle.std.specs.Prelude.{◌≡◌, ◌↔◌, ◌-◌, ◌++◌, OnOk, OnErr, IfOk, Err, length, slice_get};
 ghost use Rattle.std.specs.Option.{option_copied, option_to_list};
-ghost use Rattle.am_base.specs.Most.{most_events};
-ghost use Rattle.am_base.specs.Names.{place_of};
+ghost use Rattle.am_base.specs.Most.{most_events_of_run};
+ghost use Rattle.am_base.specs.Names.{place_of_name};
 ghost use Rattle.am_group.specs.Deliveries.{deliveries};
 ghost use Rattle.am_group.specs.declared.event.Act.TheVariants as acts;
 ghost use Rattle.am_group_defs.specs.Settle.{event_at};
@@ -28,10 +28,10 @@ impl World {
     /// a refusal all is as it was. It is Spent exactly where 100,000 events were done.
     pub fn take(&mut self, place: Name) -> Result<Option<(u32, Entry)>, WorldRefusal>
         ensures ok { OnOk result (self.new ≡ play_after self.old (event_at place acts.Take)) }
-        ensures given { IfOk result (λ taken. deliveries (replay self.new).records (current (replay self.old) (place_of place))
-            ≡ deliveries (replay self.old).records (current (replay self.old) (place_of place))
+        ensures given { IfOk result (λ taken. deliveries (replay self.new).records (current (replay self.old) (place_of_name place))
+            ≡ deliveries (replay self.old).records (current (replay self.old) (place_of_name place))
             ++ option_to_list taken) }
-        ensures spent { (result ≡ Err WorldRefusal.Spent) ↔ (length self.old.events ≡ most_events) }
+        ensures spent { (result ≡ Err WorldRefusal.Spent) ↔ (length self.old.events ≡ most_events_of_run) }
         ensures err { OnErr result (self.new ≡ self.old) }
     {
         let name = self.name_at(place);

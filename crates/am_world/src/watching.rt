@@ -1,6 +1,6 @@
 ghost use Rattle.std.specs.Prelude.{◌≡◌};
 ghost use Rattle.am_node.specs.Stands.{state_of};
-ghost use Rattle.am_lawful_defs.specs.Telling.{shown_of};
+ghost use Rattle.am_lawful_defs.specs.Telling.{shown_node_of};
 
 use am_base::entry::GroupView;
 use am_lawful_defs::views::{DecidedView, ShownNode};
@@ -8,7 +8,7 @@ use am_node::node::Node;
 
 /// What a watcher is told of a node.
 pub fn shown_by(node: &Node) -> ShownNode
-    ensures { result ≡ shown_of (state_of node.now) }
+    ensures { result ≡ shown_node_of (state_of node.now) }
 {
     ShownNode {
         status: node.status(),

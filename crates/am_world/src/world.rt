@@ -1,8 +1,8 @@
 ghost use Rattle.std.specs.Prelude.{◌≡◌, ◌+◌, ◌≤◌, [], length, IfOk};
-ghost use Rattle.am_base.specs.Most.{most_events};
+ghost use Rattle.am_base.specs.Most.{most_events_of_run};
 ghost use Rattle.am_model.specs.Ends.{IsEndOf};
 ghost use Rattle.am_group_defs.specs.Lawful.{broken_at};
-ghost use Rattle.am_base.specs.Names.{place_of};
+ghost use Rattle.am_base.specs.Names.{place_of_name};
 
 use crate::run::Run;
 use crate::watching::shown_by;
@@ -71,10 +71,10 @@ impl Drop for World {
 
 impl World {
     ghost use Rattle.std.specs.Prelude.{◌↔◌, OnOk, OnErr, Err};
-    ghost use Rattle.am_group.specs.Journals.{letters_of};
+    ghost use Rattle.am_group.specs.Journals.{letters_of_records};
     ghost use Rattle.am_group_defs.specs.World.{current, is_stopped};
-    ghost use Rattle.am_model.specs.Node.{has_log};
-    ghost use Rattle.am_model.specs.Info.{info_of};
+    ghost use Rattle.am_model.specs.Node.{has_log_by_status};
+    ghost use Rattle.am_model.specs.Info.{info_of_node};
     ghost use Rattle.am_node.specs.Stands.{state_of};
     ghost use Rattle.am_world.specs.Runs.{play_after, replay, IsOneMore};
     ghost use Rattle.am_world.specs.Asked.{MayAnswer};
@@ -104,7 +104,7 @@ impl World {
     pub fn journal(&self) -> &Journal
         ensures founding { result.now.founding ≡ self.now.rules }
         ensures records { result.now.records ≡ (replay self.now).records }
-        ensures letters { letters_of result.now.records ≡ (replay self.now).letters }
+        ensures letters { letters_of_records result.now.records ≡ (replay self.now).letters }
     {
         self.run.journal()
     }
@@ -132,7 +132,7 @@ impl World {
 
     /// The current name of a place.
     pub fn name_at(&self, place: Name) -> Name
-        ensures { result ≡ current (replay self.now) (place_of place) }
+        ensures { result ≡ current (replay self.now) (place_of_name place) }
     {
         self.run.name_at(place)
     }
@@ -146,7 +146,7 @@ impl World {
 
     /// The node of a place's current name. It keeps the end of its list.
     pub fn node(&self, place: Name) -> &Node
-        ensures { IsEndOf ((replay self.now).nodes (current (replay self.now) (place_of place)))
+        ensures { IsEndOf ((replay self.now).nodes (current (replay self.now) (place_of_name place)))
             (state_of result.now) }
     {
         self.run.node(place)
@@ -154,15 +154,15 @@ impl World {
 
     /// What the node of a place's current name knows of itself and of its group.
     pub fn info(&self, place: Name) -> Info
-        ensures { result ≡ info_of ((replay self.now).nodes
-            (current (replay self.now) (place_of place))) }
+        ensures { result ≡ info_of_node ((replay self.now).nodes
+            (current (replay self.now) (place_of_name place))) }
     {
         self.run.node(place).info()
     }
 
     /// Whether a name has or had a list: it is a member, or has left.
     pub fn has_log(&self, name: Name) -> bool
-        ensures { result ≡ has_log ((replay self.now).nodes name).status }
+        ensures { result ≡ has_log_by_status ((replay self.now).nodes name).status }
     {
         has_log(self.watcher.standing(name).status)
     }
@@ -192,7 +192,7 @@ impl World {
     pub fn step(&mut self, event: &Event) -> Result<(), WorldRefusal>
         ensures ok { OnOk result (self.new ≡ play_after self.old event.now) }
         ensures one { OnOk result (IsOneMore self.old event.now) }
-        ensures spent { (result ≡ Err WorldRefusal.Spent) ↔ (length self.old.events ≡ most_events) }
+        ensures spent { (result ≡ Err WorldRefusal.Spent) ↔ (length self.old.events ≡ most_events_of_run) }
         ensures err { OnErr result (self.new ≡ self.old) }
     {
         if self.run.events() == MOST_EVENTS {

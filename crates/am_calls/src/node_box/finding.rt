@@ -1,5 +1,5 @@
 ghost use Rattle.std.specs.Prelude.{◌≡◌, ℕ, ◌<◌, ◌≤◌, None, Some, length, IfSome, IfNone, Option, true, false};
-ghost use Rattle.am_base.specs.Most.{most_events};
+ghost use Rattle.am_base.specs.Most.{most_events_of_run};
 ghost use Rattle.am_shared_journal_defs.specs.Passes.{Sees};
 ghost use Rattle.am_race_laws.specs.Boxes.{IsShareOf, BoxLooks, Hears, GivesUp, node_by, heard_in, lost_in, Picked, is_turn_act, Found, turn_event_at, turn_by};
 ghost use Rattle.am_race_laws.specs.Callings.{caller_luck_after};
@@ -152,7 +152,7 @@ impl<N: Racing> NodeBox<N> {
         ensures looks { BoxLooks self.old self.new }
         ensures share { Sees share.old share.new }
         ensures met { share.new.seen ≡ self.new.seen }
-        ensures few { length self.new.seen ≤ most_events }
+        ensures few { length self.new.seen ≤ most_events_of_run }
         ensures turn { is_turn (plan_by (terms_of N.plan)) self.new.seen
             (turn_event_at self.old.name result.act)
             (turn_by visit.now.tag.caller visit.now.tag.call result.lost) ≡ true }

@@ -1,13 +1,13 @@
 -- What a node keeps besides what it shares with the group, and what is known of it within a step.
 use Rattle.am_refinement.proofs.Words.{not-true, stamp_eq_gives_equality, ◌≡◌, ℕ, ◌<◌, ◌==◌, ◌||◌, not, max, true, false, List, refl, sym, ap, ◌∙◌, subst, arith, nat_tests}
-use Rattle.am_refinement.proofs.Words.{Entry, View, Image, Vote, GroupView, Stamp, Outcome, Rules, IsSet, has, stamp_eq, members_of, IsGood, mem, key, beginning_of_good_is_good}
-use Rattle.am_refinement.proofs.Words.{view_by_is_small, Group, IsUp, chain_of, GroupKeeps, Status, Node, Ballot, view, members, is_member, is_asking, is_sequencer, acts}
-use Rattle.am_refinement.proofs.Words.{lowest_or_first, has_log, has_departed, Verdict, is_unfinished, hears_member, hears_sequencer, World, is_stopped, split_on_bool}
-use Rattle.am_refinement.proofs.Words.{both_of_and, Cause, hears, Balloting, Looks, decides, with_more, without_one, as_it_is, Numbers, MayStore, MayBeWelcomed}
-use Rattle.am_refinement.proofs.Words.{Fetches, Promises, invited, overtaken, told_result, Carries, whole_entry, by_number, Change, begins_list, looks, stores_view}
+use Rattle.am_refinement.proofs.Words.{Entry, View, Image, Vote, GroupView, Stamp, Outcome, Rules, IsSetOfNames, has, stamps_are_equal, members_of_image, IsGoodList, is_member_at_end, key_of_stamp, beginning_of_good_is_good}
+use Rattle.am_refinement.proofs.Words.{name_of_view_is_byte, Group, IsUp, chain_of, GroupKeeps, Status, Node, Ballot, view, members, is_member, is_asking_status, is_sequencer, acts_in_its_view}
+use Rattle.am_refinement.proofs.Words.{lowest_name_or_zero, has_log_by_status, has_departed, BallotVerdict, is_unfinished_ballot, member_hears_other, hears_packet_of_sequencer, World, is_stopped, split_on_bool}
+use Rattle.am_refinement.proofs.Words.{both_of_and, Cause, hears, BallotIsLookedAt, LooksAtBallot, decides, with_more, without_one, as_it_is, IsNumberedBy, MayStore, MayBeWelcomed}
+use Rattle.am_refinement.proofs.Words.{MayStoreFetched, MayPromise, invited, overtaken, told_result, CarriesEntry, whole_entry, by_number, Change, begins_list, looks, stores_view}
 use Rattle.am_refinement.proofs.Words.{balloting_has_no_own_vote, told_image_is_used, OpenBallotIsPromised, balloting_looks_at_open_ballot, FoundBodyWasSent, found_body_was_sent, NameStands, within, WasAsked, BodiesAsked, WasBegun}
 use Rattle.am_refinement.proofs.Words.{MayMove, NeedsNumber, NeedsEntry, NeedsWelcome, Needs, NeedsLook, NeedsPiece, KeptWhole, BallotStands, LastStands, Stepping}
-use Rattle.am_refinement.proofs.Words.{◌≤◌, take, stamp_lt, begins_trans, take_begins_list, beginning_length_le, length_take, take_length_of_beginning, key_lt_of_stamp_lt, unordered_stamps_are_equal, WelcomeSays}
+use Rattle.am_refinement.proofs.Words.{◌≤◌, take, stamp_is_less, begins_through_both, taken_front_begins_list, beginning_is_no_longer, length_of_taken_list, take_length_of_beginning, key_is_less_for_lesser_stamp, unordered_stamps_are_equal, WelcomeSays}
 use Rattle.am_step_laws.specs.Changes.{numbers, stores, fetches, closes}
 use Rattle.am_packet.specs.declared.packet.Packet.TheVariants as packet
 use Rattle.am_run_laws.proofs.SentKept as sent
@@ -22,22 +22,22 @@ use Rattle.am_refinement.proofs.Changes.{running_name_is_there}
 
 -- ---- a joiner
 
-none_of_asking : (t : Status) → is_member t ≡ false → (is_member t || is_asking t) ≡ true → (has_log t ≡ false) × (has_departed t ≡ false)
+none_of_asking : (t : Status) → is_member t ≡ false → (is_member t || is_asking_status t) ≡ true → (has_log_by_status t ≡ false) × (has_departed t ≡ false)
 none_of_asking Status.Asking f h = (refl, refl)
 none_of_asking _ f h = absurd (cc)
 
-pub key_le_of_stamp_at_most : (u v : Stamp) → u.by < 256 → v.by < 256 → stamp_lt v u ≡ false → key u ≤ key v
-key_le_of_stamp_at_most u v small few low = split_on_bool (stamp_lt u v)
-    (λ t. let z = key_lt_of_stamp_lt u v small few t in omega arith)
-    (λ f. let same = ap key (unordered_stamps_are_equal u v small few f low) in omega arith)
+pub key_le_of_stamp_at_most : (u v : Stamp) → u.by < 256 → v.by < 256 → stamp_is_less v u ≡ false → key_of_stamp u ≤ key_of_stamp v
+key_le_of_stamp_at_most u v small few low = split_on_bool (stamp_is_less u v)
+    (λ t. let z = key_is_less_for_lesser_stamp u v small few t in omega arith)
+    (λ f. let same = ap key_of_stamp (unordered_stamps_are_equal u v small few f low) in omega arith)
 
 welcome_needs : (w : World) (name from base join : ℕ) (x : Node) (v : Stamp) (image : Image) (s : Group) → GroupKeeps s → x.core.who ≡ name
-    → is_stopped w name ≡ false → x.core.promise.by < 256 → v.by < 256 → x.leaving ≡ false → is_unfinished x.ballot ≡ false
+    → is_stopped w name ≡ false → x.core.promise.by < 256 → v.by < 256 → x.leaving ≡ false → is_unfinished_ballot x.ballot ≡ false
     → NameStands (within w name x) name x (s.node name) → MayBeWelcomed x from v base join image → WelcomeSays s from v base join image name
     → NeedsWelcome s name v base join image
 welcome_needs w name from base join x v image s k who runs small few stays no_ballot old may says =
     let a = s.node name in
-    let asks = both_of_and (not (from == x.core.who)) (is_member x.status || is_asking x.status) may.asks in
+    let asks = both_of_and (not (from == x.core.who)) (is_member x.status || is_asking_status x.status) may.asks in
     let none = none_of_asking x.status may.no_member asks.1 in
     let ok = k.each name in
     let below = says.above in
@@ -55,17 +55,17 @@ welcome_needs w name from base join x v image s k who runs small few stays no_ba
             let z : (from == x.core.who) ≡ true = grind (arith, nat_tests) in
             let y : not true ≡ true = subst (λ b. not b ≡ true) z other in
             absurd (cc));
-        promise = subst (λ (u : Stamp). key u ≤ key v) (sym old.promise) (key_le_of_stamp_at_most x.core.promise v small few may.promise);
+        promise = subst (λ (u : Stamp). key_of_stamp u ≤ key_of_stamp v) (sym old.promise) (key_le_of_stamp_at_most x.core.promise v small few may.promise);
         accepted = low;
         joined = says.joined;
-        above = λ l h member. (let in_base = beginning_length_le h in
-            let base_long = length_take base s.group (omega arith) in
-            says.first l (begins_trans h (take_begins_list base s.group)) (omega arith) member);
+        above = λ l h member. (let in_base = beginning_is_no_longer h in
+            let base_long = length_of_taken_list base s.group (omega arith) in
+            says.first l (begins_through_both h (taken_front_begins_list base s.group)) (omega arith) member);
         below = says.above;
         later = λ y d up. (let h = says.later y d up in
-            let long = length_take join s.group low in
+            let long = length_of_taken_list join s.group low in
             let same : take join (s.views.chosen y).before ≡ take join s.group = ap (λ n. take n (s.views.chosen y).before) (sym long) ∙ take_length_of_beginning h in
-            subst (λ l. mem l name ≡ true) (sym same) says.joined);
+            subst (λ l. is_member_at_end l name ≡ true) (sym same) says.joined);
       };
       blank = ok.blank no_log_;
       within = omega arith;
@@ -78,10 +78,10 @@ welcome_needs w name from base join x v image s k who runs small few stays no_ba
 
 module _ (rules : Rules) (w : World) (name : ℕ) (c : Cause) (x : Node) (s : Group) (h : Stepping rules w name c x s) where
   pub group_is_kept_at_step : GroupKeeps s
-  group_is_kept_at_step = group_run_is_kept rules.founders (lowest_or_first rules.founders) rules.resilience s h.group
+  group_is_kept_at_step = group_run_is_kept rules.founders (lowest_name_or_zero rules.founders) rules.resilience s h.group
 
   pub group_is_whole_at_step : KeptWhole s
-  group_is_whole_at_step = group_run_is_whole rules.founders (lowest_or_first rules.founders) rules.resilience s h.group
+  group_is_whole_at_step = group_run_is_whole rules.founders (lowest_name_or_zero rules.founders) rules.resilience s h.group
 
   pub acting_name_stands_before : NameStands (within w name x) name x (s.node name)
   acting_name_stands_before = acting_name_stands w name x s h.few h.stands
@@ -89,10 +89,10 @@ module _ (rules : Rules) (w : World) (name : ℕ) (c : Cause) (x : Node) (s : Gr
   pub acting_member_is_up : is_member x.status ≡ true → IsUp (s.node name)
   acting_member_is_up t = running_member_is_up w name x (s.node name) h.runs t acting_name_stands_before
 
-  pub acting_member_has_good_list : is_member x.status ≡ true → IsGood (s.node name).list
+  pub acting_member_has_good_list : is_member x.status ≡ true → IsGoodList (s.node name).list
   acting_member_has_good_list t = beginning_of_good_is_good ((group_is_kept_at_step.each name).list (acting_member_is_up t)) group_is_kept_at_step.views.good
 
-  promise_begun : (v : Stamp) → Promises c x v → WasBegun s v
+  promise_begun : (v : Stamp) → MayPromise c x v → WasBegun s v
   promise_begun v (invited from _ is heard own) = h.begun (packet.Invite from v) is
   promise_begun v (overtaken from _ vote is heard above) = h.begun (packet.Vote from v vote) is
   promise_begun v (told_result from base number w is heard own other) = h.begun (packet.Result from base number w) is
@@ -112,7 +112,7 @@ module _ (rules : Rules) (w : World) (name : ℕ) (c : Cause) (x : Node) (s : Gr
   }
 
   -- the ballot that is looked at
-  pub looked_at_ballot_stands : (b : Ballot) → Balloting c x b → BallotStands w b
+  pub looked_at_ballot_stands : (b : Ballot) → BallotIsLookedAt c x b → BallotStands w b
   looked_at_ballot_stands b (as_it_is was o on) = subst (LastStands w) o.last h.keeps.last
   looked_at_ballot_stands b (without_one was other is o apart) =
       let k = subst (LastStands w) o.last h.keeps.last in
@@ -137,10 +137,10 @@ module _ (rules : Rules) (w : World) (name : ℕ) (c : Cause) (x : Node) (s : Gr
             (λ f. λ at. k.names j vote (rw f at at));
       }
 
-  pub looked_at_ballot_is_open : (b : Ballot) → Balloting c x b → is_unfinished x.ballot ≡ true
+  pub looked_at_ballot_is_open : (b : Ballot) → BallotIsLookedAt c x b → is_unfinished_ballot x.ballot ≡ true
   looked_at_ballot_is_open b why = looked_at_ballot_is_unfinished c x b why
 
-  pub looked_at_ballot_is_known : (b : Ballot) → Balloting c x b → BallotIsKnownToGroup w name x b s
+  pub looked_at_ballot_is_known : (b : Ballot) → BallotIsLookedAt c x b → BallotIsKnownToGroup w name x b s
   looked_at_ballot_is_known b why =
       let open_ = looked_at_ballot_is_unfinished c x b why in
       let member = (h.keeps.opens open_).0 in
@@ -156,13 +156,13 @@ module _ (rules : Rules) (w : World) (name : ℕ) (c : Cause) (x : Node) (s : Gr
         up = acting_member_is_up member;
         ballot = has_ballot;
         stamp = sym looked.promised;
-        votes = looked_at_votes_were_shown c x b s why looked.own (ap (λ (u : Stamp). s.views.decided (key u)) (sym same) ∙ fresh)
+        votes = looked_at_votes_were_shown c x b s why looked.own (ap (λ (u : Stamp). s.views.decided (key_of_stamp u)) (sym same) ∙ fresh)
             (λ from v vote is. (h.heard (packet.Vote from v vote) is).says.1) h.keeps.votes;
         own = balloting_has_no_own_vote c x b why h.along.owned.vote;
         given = λ j t. (let gone = last.given j t in
             let few = h.stopped j gone in
             (h.stands.each j few).stopped ∙ gone);
-        view_ = subst (λ (u : Stamp). u.by < 256) (view_of_whole_list w name x (s.node name) acting_name_stands_before) (view_by_is_small (s.node name).list (acting_member_has_good_list member));
+        view_ = subst (λ (u : Stamp). u.by < 256) (view_of_whole_list w name x (s.node name) acting_name_stands_before) (name_of_view_is_byte (s.node name).list (acting_member_has_good_list member));
         views = λ j vote is. (last.names j vote is).1;
         names = λ j vote is. (last.names j vote is).0;
       }
@@ -175,27 +175,27 @@ module _ (rules : Rules) (w : World) (name : ℕ) (c : Cause) (x : Node) (s : Gr
   bodies : BodiesAsked w x
   bodies from req body is = was_asked from req body (subst (FoundBodyWasSent w.records from req) is (found_body_was_sent w.records name x from req h.sent))
 
-  pub sequencer_is_in_its_list : is_sequencer x ≡ true → mem (s.node name).list name ≡ true
-  unfolding mem
-  sequencer_is_in_its_list t = ap (λ (i : Image). has (members_of i) name) (image_of_whole_within_step w name name x (s.node name) acting_name_stands_before) ∙ ap (has (members x)) (sym h.who)
+  pub sequencer_is_in_its_list : is_sequencer x ≡ true → is_member_at_end (s.node name).list name ≡ true
+  unfolding is_member_at_end
+  sequencer_is_in_its_list t = ap (λ (i : Image). has (members_of_image i) name) (image_of_whole_within_step w name name x (s.node name) acting_name_stands_before) ∙ ap (has (members x)) (sym h.who)
       ∙ h.along.owned.leads t
 
   pub acting_sequencer_is_member : is_sequencer x ≡ true → is_member x.status ≡ true
-  acting_sequencer_is_member t = (both_of_and (is_member x.status) (stamp_eq x.core.promise (view x)) (both_of_and (acts x) ((view x).by == x.core.who) t).0).0
+  acting_sequencer_is_member t = (both_of_and (is_member x.status) (stamps_are_equal x.core.promise (view x)) (both_of_and (acts_in_its_view x) ((view x).by == x.core.who) t).0).0
 
-  member_set : is_member x.status ≡ true → IsSet (members x)
-  member_set t = subst (λ (i : Image). IsSet (members_of i)) (image_of_whole_within_step w name name x (s.node name) acting_name_stands_before)
+  member_set : is_member x.status ≡ true → IsSetOfNames (members x)
+  member_set t = subst (λ (i : Image). IsSetOfNames (members_of_image i)) (image_of_whole_within_step w name name x (s.node name) acting_name_stands_before)
       (named_list_members_are_set (s.node name).list (named_list_has_named_front (s.node name).list (chain_of s.views) ((group_is_kept_at_step.each name).list (acting_member_is_up t)) h.group.named))
 
-  pub numbered_entry_has_its_needs : (e : Entry) → is_sequencer x ≡ true → Numbers c x e → NeedsNumber s name x e
+  pub numbered_entry_has_its_needs : (e : Entry) → is_sequencer x ≡ true → IsNumberedBy c x e → NeedsNumber s name x e
   numbered_entry_has_its_needs e t why = numbering_gives_its_needs w name c x e s group_is_kept_at_step h.who h.runs acting_name_stands_before (sequencer_node_stands_for_sequencer w name x (s.node name) h.who t acting_name_stands_before)
       (told_image_is_used x h.along.owned.fronts).places
       (own_waiting_send_fits (within w name x) name x (s.node name) acting_name_stands_before (acting_member_has_good_list (acting_sequencer_is_member t))
-      (subst (λ k. mem (s.node name).list k ≡ true) (sym h.who) (sequencer_is_in_its_list t)) h.keeps.turn)
+      (subst (λ k. is_member_at_end (s.node name).list k ≡ true) (sym h.who) (sequencer_is_in_its_list t)) h.keeps.turn)
       (λ from v report is. (h.heard (packet.LeaveAsk from v report) is).says)
       (λ from v is. h.names.senders (packet.JoinAsk from v) is) why
 
-  store_ok : (from : ℕ) (v : Stamp) (base acc number : ℕ) (e : Entry) → Carries c x from v base acc number e → hears_sequencer x from v ≡ true
+  store_ok : (from : ℕ) (v : Stamp) (base acc number : ℕ) (e : Entry) → CarriesEntry c x from v base acc number e → hears_packet_of_sequencer x from v ≡ true
       → MayStore x x.core.base base number e → NeedsEntry s name x e
   store_ok from v base acc number e (whole_entry _ is) heard may =
       bcast_gives_entry_needs w name from x.core.base base acc number x v e s group_is_kept_at_step h.who h.runs acting_name_stands_before heard may (h.heard (packet.Bcast from v base acc number e) is).says.1
@@ -203,7 +203,7 @@ module _ (rules : Rules) (w : World) (name : ℕ) (c : Cause) (x : Node) (s : Gr
       order_gives_entry_needs w name from x.core.base base acc number sender req x v body s group_is_kept_at_step h.who h.runs acting_name_stands_before heard found may bodies h.once
       (h.heard (packet.Order from v base acc number sender req) is).says.1
 
-  asking_blank : (t : Status) → is_member t ≡ false → (is_member t || is_asking t) ≡ true → (has_log t ≡ false) × (has_departed t ≡ false)
+  asking_blank : (t : Status) → is_member t ≡ false → (is_member t || is_asking_status t) ≡ true → (has_log_by_status t ≡ false) × (has_departed t ≡ false)
   asking_blank Status.Asking f k = (refl, refl)
   asking_blank _ f k = absurd (cc)
 
@@ -211,7 +211,7 @@ module _ (rules : Rules) (w : World) (name : ℕ) (c : Cause) (x : Node) (s : Gr
       → MayBeWelcomed x from v base join image → NeedsWelcome s name v base join image
   welcome_ok from v base join image is may =
       let k = h.heard (packet.Welcome from v base join image) is in
-      let blank_ = asking_blank x.status may.no_member (both_of_and (not (from == x.core.who)) (is_member x.status || is_asking x.status) may.asks).1 in
+      let blank_ = asking_blank x.status may.no_member (both_of_and (not (from == x.core.who)) (is_member x.status || is_asking_status x.status) may.asks).1 in
       elim (k.says.1 name k.addressed) [
         | says.has_begun t ↦ absurd (let f = acting_name_stands_before.log_ ∙ blank_.0 in cc)
         | says.has_gone t ↦ absurd (let f = acting_name_stands_before.stopped ∙ h.runs in cc)
@@ -220,29 +220,29 @@ module _ (rules : Rules) (w : World) (name : ℕ) (c : Cause) (x : Node) (s : Gr
         | says.may_begin t ↦
             welcome_needs w name from base join x v image s group_is_kept_at_step h.who h.runs h.along.names.promise_ (h.names.stamps (packet.Welcome from v base join image) is)
             (split_on_bool x.leaving (λ u. absurd (let log = h.keeps.leaves u in cc)) (λ f. f))
-            (split_on_bool (is_unfinished x.ballot) (λ u. absurd (let z = (h.keeps.opens u).0 in let y = may.no_member in cc)) (λ f. f))
+            (split_on_bool (is_unfinished_ballot x.ballot) (λ u. absurd (let z = (h.keeps.opens u).0 in let y = may.no_member in cc)) (λ f. f))
             acting_name_stands_before may t
       ]
 
-  looks_own : (b : Ballot) → Balloting c x b → x.core.promise.by ≡ name
+  looks_own : (b : Ballot) → BallotIsLookedAt c x b → x.core.promise.by ≡ name
   looks_own b why = (let o = (balloting_looks_at_open_ballot x b why h.along.balloted).open_ in ap (λ (u : Stamp). u.by) o.promised ∙ o.own ∙ h.who)
 
-  look_ok : (b : Ballot) (v : Verdict) → Balloting c x b → (look : Looks x b v) → NeedsLook s name look
+  look_ok : (b : Ballot) (v : BallotVerdict) → BallotIsLookedAt c x b → (look : LooksAtBallot x b v) → NeedsLook s name look
   look_ok b v why (decides may) = decided_ballot_has_its_needs w name x b s group_is_kept_at_step (looked_at_ballot_is_known b why) (looks_own b why) (member_set (h.keeps.opens (looked_at_ballot_is_open b why)).0) may
   look_ok b v why _ = tt
 
-  pub heard_name_is_other_member : (from : ℕ) → hears_member x from ≡ true → ((from == x.core.who) ≡ false) × (is_member x.status ≡ true)
+  pub heard_name_is_other_member : (from : ℕ) → member_hears_other x from ≡ true → ((from == x.core.who) ≡ false) × (is_member x.status ≡ true)
   heard_name_is_other_member from t = (let both = both_of_and (not (from == x.core.who)) (is_member x.status) t in (not-true (from == x.core.who) both.0, both.1))
 
-  fetch_ok : (from : ℕ) (v : Stamp) (base number : ℕ) (e : Entry) → c ≡ hears (packet.Piece from v base number e) → hears_member x from ≡ true
-      → stamp_eq v x.core.promise ≡ true → Fetches x from v e → MayStore x (max x.core.base base) base number e → NeedsPiece s name x e
+  fetch_ok : (from : ℕ) (v : Stamp) (base number : ℕ) (e : Entry) → c ≡ hears (packet.Piece from v base number e) → member_hears_other x from ≡ true
+      → stamps_are_equal v x.core.promise ≡ true → MayStoreFetched x from v e → MayStore x (max x.core.base base) base number e → NeedsPiece s name x e
   fetch_ok from v base number e is heard promise why may =
       let o = heard_name_is_other_member from heard in
       piece_gives_its_needs w name from base number x v e s (assumption (group_is_whole_at_step, h, o)) o.0 (sym (stamp_eq_gives_equality v x.core.promise promise)) why may
       (h.heard (packet.Piece from v base number e) is).says.1
 
   result_ok : (from base number : ℕ) (v : GroupView) → c ≡ hears (packet.Result from base number v)
-      → hears_member x from ≡ true → (v.stamp.by == from) ≡ true → (v.stamp.by == x.core.who) ≡ false → x.core.promise ≡ v.stamp
+      → member_hears_other x from ≡ true → (v.stamp.by == from) ≡ true → (v.stamp.by == x.core.who) ≡ false → x.core.promise ≡ v.stamp
       → MayStore x (max x.core.base base) base number (View v) → NeedsEntry s name x (View v)
   result_ok from base number v is heard own other promise may =
       result_gives_view_needs w name from (max x.core.base base) base number x v s group_is_kept_at_step h.who h.runs acting_name_stands_before heard other promise may

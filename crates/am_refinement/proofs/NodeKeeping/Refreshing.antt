@@ -1,9 +1,9 @@
 -- What a node keeps, through a refresh: what it accepts then is accepted in the group before, and what it trims was taken by all who need it.
 use Rattle.am_refinement.proofs.Words.{◌≡◌, either, ℕ, ◌+◌, ◌≤◌, ◌==◌, true, false, List, length, refl, sym, ap, ◌∙◌, subst, arith, nat_tests, Entry, Image}
-use Rattle.am_refinement.proofs.Words.{Report, Rules, told_by, accept, pass_over, after_report, own_report, tell, go_on, let_go, IsGood, image_of, mem, member_is_in_row}
-use Rattle.am_refinement.proofs.Words.{Group, GroupKeeps, Node, is_member, is_sequencer, lowest_or_first, has_log, is_unfinished, advance_node, lead, refresh, World, split_on_bool}
+use Rattle.am_refinement.proofs.Words.{Report, Rules, image_of_log, raise_accepted_to_told, pass_over_below_join, reports_after_report, raise_own_report, tell_accept_front, advance_with_reports, trim_to_least_taken, IsGoodList, image_of_list, is_member_at_end, member_has_member_row}
+use Rattle.am_refinement.proofs.Words.{Group, GroupKeeps, Node, is_member, is_sequencer, lowest_name_or_zero, has_log_by_status, is_unfinished_ballot, advance_node, refresh_as_sequencer, refresh, World, split_on_bool}
 use Rattle.am_refinement.proofs.Words.{Cause, refresh_rests_with_list, refresh_changes_only_fronts, is_sequencer_after_rest, TrimsOnlyTakenAlongStep, NameStands, within, Trimmed, Grows, OpensStand, ReportsFresh}
-use Rattle.am_refinement.proofs.Words.{ReportsStand, IsNew, Reporting, Ballots, GroupFor, NodeStandsKept, OwnTurn, RefreshesKeep, Refreshing, Stepping}
+use Rattle.am_refinement.proofs.Words.{ReportsStand, JoinIsNew, Reporting, Ballots, GroupFor, NodeStandsKept, OwnTurn, RefreshesKeep, Refreshing, Stepping}
 use Rattle.am_model.specs.Node as nodes
 use Rattle.am_refinement.proofs.{Accepting.own_report_keeps_reports_true, Changes.image_of_whole_within_step, Changes.length_of_whole_list, Changes.running_member_is_up, ChainNames.concerned_names_are_below_256, ChainNames.named_list_has_named_front}
 use Rattle.am_refinement.proofs.NodeKeeping.Keeping.{acting_name_stands_before, sequencer_is_in_its_list, acting_sequencer_is_member}
@@ -15,17 +15,17 @@ use Rattle.am_refinement.proofs.{Reporting.reports_true_as_lists_grow, Reporting
 
 -- its own report, before what is accepted goes on and after it
 abbrev twice : Node → ℕ → Report
-twice x = λ name. after_report (after_report x.reports x.core.who (nodes.report_of x)) x.core.who (nodes.report_of (lead x)) name
+twice x = λ name. reports_after_report (reports_after_report x.reports x.core.who (nodes.own_report_of x)) x.core.who (nodes.own_report_of (refresh_as_sequencer x)) name
 
-lead_reports : (x : Node) → (lead x).reports ≡ twice x
-unfolding lead own_report tell go_on let_go accept pass_over
+lead_reports : (x : Node) → (refresh_as_sequencer x).reports ≡ twice x
+unfolding refresh_as_sequencer raise_own_report tell_accept_front advance_with_reports trim_to_least_taken raise_accepted_to_told pass_over_below_join
 lead_reports x = refl
 
 advance_same : (x : Node) → ((advance_node x).reports ≡ x.reports) × ((advance_node x).core.base ≡ x.core.base)
-unfolding accept pass_over
+unfolding raise_accepted_to_told pass_over_below_join
 advance_same x = (refl, refl)
 
-lead_leads : (x : Node) → is_sequencer x ≡ true → refresh x ≡ lead x
+lead_leads : (x : Node) → is_sequencer x ≡ true → refresh x ≡ refresh_as_sequencer x
 unfolding refresh
 lead_leads x t = rw t refl
 
@@ -34,9 +34,9 @@ unfolding refresh
 follow_follows x f = rw f refl
 
 -- a member could not join anew
-pub member_is_not_new : (list : List Entry) (name : ℕ) → mem list name ≡ true → IsNew (image_of list) name → ⊥
+pub member_is_not_new : (list : List Entry) (name : ℕ) → is_member_at_end list name ≡ true → JoinIsNew (image_of_list list) name → ⊥
 member_is_not_new list name member new =
-    let k = member_is_in_row list name member in
+    let k = member_has_member_row list name member in
     either new (λ z. omega arith) (λ z. omega arith)
 
 -- ---- a refresh, where the group has accepted what it accepts
@@ -53,7 +53,7 @@ module _ (rules : Rules) (w v : World) (name : ℕ) (c : Cause) (x : Node) (s t 
   k = h.keeps
 
   kept_t : GroupKeeps t
-  kept_t = group_run_is_kept rules.founders (lowest_or_first rules.founders) rules.resilience t gt
+  kept_t = group_run_is_kept rules.founders (lowest_name_or_zero rules.founders) rules.resilience t gt
 
   log : y.core.log ≡ x.core.log
   log = (refresh_rests_with_list x).log
@@ -68,7 +68,7 @@ module _ (rules : Rules) (w v : World) (name : ℕ) (c : Cause) (x : Node) (s t 
   ballots_y = subst (Ballots w t) (sym (refresh_rests_with_list x).rests.ballot) (ballots_stand_as_group_grows w s t x.ballot g h.keeps.ballots)
 
   opens_y : OpensStand y
-  opens_y open_ = (let o = k.opens (sym (ap is_unfinished (refresh_rests_with_list x).rests.ballot) ∙ open_) in
+  opens_y open_ = (let o = k.opens (sym (ap is_unfinished_ballot (refresh_rests_with_list x).rests.ballot) ∙ open_) in
       (ap is_member (refresh_rests_with_list x).rests.status ∙ o.0, (refresh_rests_with_list x).rests.leaving ∙ o.1))
 
   -- reports that were true are so of the same list
@@ -81,15 +81,15 @@ module _ (rules : Rules) (w v : World) (name : ℕ) (c : Cause) (x : Node) (s t 
 
   -- with its own report, of what its application has taken
   own_more : (taken : ℕ) (reports : ℕ → Report) → taken ≤ nodes.top x → Reporting t.node (t.node name).list x.core.base reports
-      → Reporting t.node (t.node name).list x.core.base (after_report reports x.core.who (record { stored = nodes.top x; taken = taken }))
+      → Reporting t.node (t.node name).list x.core.base (reports_after_report reports x.core.who (record { stored = nodes.top x; taken = taken }))
   own_more taken reports low r = subst (λ z. Reporting t.node (t.node name).list x.core.base
-      (after_report reports x.core.who (record { stored = z; taken = taken })))
+      (reports_after_report reports x.core.who (record { stored = z; taken = taken })))
       long (own_report_keeps_reports_true t.node (t.node name).list x.core.base x.core.who taken reports (let size_ = long in omega arith) (ap (λ j. (t.node j).list) h.who) r)
 
   -- ---- a sequencer's
 
   module _ (leads : is_sequencer x ≡ true) where
-    is : y ≡ lead x
+    is : y ≡ refresh_as_sequencer x
     is = lead_leads x leads
 
     fronts_in : (y.core.taken ≤ nodes.top x) × (x.core.taken ≤ nodes.top x)
@@ -97,15 +97,15 @@ module _ (rules : Rules) (w v : World) (name : ℕ) (c : Cause) (x : Node) (s t 
         let top_ : nodes.top y ≡ nodes.top x = ap (λ l. l.start + length l.entries) log in
         (omega arith, omega arith)
 
-    reports_are : y.reports ≡ after_report (after_report x.reports x.core.who (nodes.report_of x)) x.core.who
+    reports_are : y.reports ≡ reports_after_report (reports_after_report x.reports x.core.who (nodes.own_report_of x)) x.core.who
         (record { stored = nodes.top x; taken = y.core.taken })
     reports_are = ap (λ (n : Node). n.reports) is ∙ lead_reports x
-        ∙ ap (λ z. after_report (after_report x.reports x.core.who (nodes.report_of x)) x.core.who z)
-        (ap nodes.report_of (sym is) ∙ ap (λ z. record { stored = z; taken = y.core.taken }) (ap (λ l. l.start + length l.entries) log))
+        ∙ ap (λ z. reports_after_report (reports_after_report x.reports x.core.who (nodes.own_report_of x)) x.core.who z)
+        (ap nodes.own_report_of (sym is) ∙ ap (λ z. record { stored = z; taken = y.core.taken }) (ap (λ l. l.start + length l.entries) log))
 
     reports_led : Reporting t.node (t.node name).list x.core.base y.reports
     reports_led = (let low = fronts_in in subst (Reporting t.node (t.node name).list x.core.base) (sym reports_are)
-        (own_more y.core.taken (after_report x.reports x.core.who (nodes.report_of x)) low.0 (own_more x.core.taken x.reports low.1 reports_grow)))
+        (own_more y.core.taken (reports_after_report x.reports x.core.who (nodes.own_report_of x)) low.0 (own_more x.core.taken x.reports low.1 reports_grow)))
 
     refreshed : SequencerRefreshed (within v name y) name x y t
     refreshed =
@@ -130,10 +130,10 @@ module _ (rules : Rules) (w v : World) (name : ℕ) (c : Cause) (x : Node) (s t 
     fresh_led : ReportsFresh y
     fresh_led j new_ = split_on_bool (j == x.core.who)
         (λ u. absurd (let same : j ≡ x.core.who = grind (arith, nat_tests) in
-        let told_ : nodes.image_of y ≡ image_of (s.node name).list = ap told_by log ∙ sym (image_of_whole_within_step w name name x (s.node name) olds) in
-        member_is_not_new (s.node name).list j (subst (λ i. mem (s.node name).list i ≡ true) (sym (same ∙ h.who)) (sequencer_is_in_its_list rules w name c x s h leads))
-        (subst (λ (i : Image). IsNew i j) told_ new_)))
-        (λ f. let old_ = k.fresh j (subst (λ (i : Image). IsNew i j) (ap told_by log) new_) in
+        let told_ : nodes.image_of_node y ≡ image_of_list (s.node name).list = ap image_of_log log ∙ sym (image_of_whole_within_step w name name x (s.node name) olds) in
+        member_is_not_new (s.node name).list j (subst (λ i. is_member_at_end (s.node name).list i ≡ true) (sym (same ∙ h.who)) (sequencer_is_in_its_list rules w name c x s h leads))
+        (subst (λ (i : Image). JoinIsNew i j) told_ new_)))
+        (λ f. let old_ = k.fresh j (subst (λ (i : Image). JoinIsNew i j) (ap image_of_log log) new_) in
         let same : (y.reports j).stored ≡ (x.reports j).stored = ap (λ r. (r j).stored) reports_are ∙ rw f refl in
         let up = base_up in
         omega arith)
@@ -145,7 +145,7 @@ module _ (rules : Rules) (w v : World) (name : ℕ) (c : Cause) (x : Node) (s t 
 
   fresh_y : ReportsFresh y
   fresh_y = split_on_bool (is_sequencer x) fresh_led
-      (λ f. λ j new_. (let old_ = k.fresh j (subst (λ (i : Image). IsNew i j) (ap told_by log) new_) in
+      (λ f. λ j new_. (let old_ = k.fresh j (subst (λ (i : Image). JoinIsNew i j) (ap image_of_log log) new_) in
       let same : (y.reports j).stored ≡ (x.reports j).stored = ap (λ (n : Node). (n.reports j).stored) (follow_follows x f)
       ∙ ap (λ r. (r j).stored) (advance_same x).0 in
       let up = base_up in
@@ -158,7 +158,7 @@ module _ (rules : Rules) (w v : World) (name : ℕ) (c : Cause) (x : Node) (s t 
 
   keeps_refresh : NodeStandsKept w t name (refresh x)
   keeps_refresh = record {
-    good = subst IsGood (sym now.list) k.good;
+    good = subst IsGoodList (sym now.list) k.good;
     ballots = ballots_y;
     opens = opens_y;
     reports = reports_y;
@@ -166,7 +166,7 @@ module _ (rules : Rules) (w v : World) (name : ℕ) (c : Cause) (x : Node) (s t 
     trimmed = trimmed_y;
     turn = subst (λ q. OwnTurn q (t.node name).list y.sends) (sym who) (subst (λ l. OwnTurn x.core.who l y.sends) (sym now.list)
         (subst (OwnTurn x.core.who (s.node name).list) (sym (ap (λ (n : Node). n.sends) (refresh_changes_only_fronts x))) k.turn));
-    leaves = λ u. (ap has_log (refresh_rests_with_list x).rests.status ∙ k.leaves (sym (refresh_rests_with_list x).rests.leaving ∙ u));
+    leaves = λ u. (ap has_log_by_status (refresh_rests_with_list x).rests.status ∙ k.leaves (sym (refresh_rests_with_list x).rests.leaving ∙ u));
   }
 
 pub refreshes_keep_the_node : RefreshesKeep

@@ -1,10 +1,10 @@
 -- A step of who had departed before it changes nothing that the group looks at.
 use Rattle.am_refinement.proofs.WholeSteps.StepWords.{◌≡◌, ℕ, ◌≤◌, ◌==◌, ◌||◌, not, max, true, false, refl, sym, ap, ◌∙◌, subst, arith, Stamp, Outcome, Status, Node}
-use Rattle.am_refinement.proofs.WholeSteps.StepWords.{is_member, is_asking, is_sequencer, has_log, has_departed, is_unfinished, hears_member, hears_asking, hears_in_view}
-use Rattle.am_refinement.proofs.WholeSteps.StepWords.{hears_sequencer, refresh, settle, refresh_at_end, split_on_bool, both_of_and, Cause, Promises, invited, overtaken, told_result}
+use Rattle.am_refinement.proofs.WholeSteps.StepWords.{is_member, is_asking_status, is_sequencer, has_log_by_status, has_departed, is_unfinished_ballot, member_hears_other, member_or_asker_hears_other, hears_packet_of_its_view}
+use Rattle.am_refinement.proofs.WholeSteps.StepWords.{hears_packet_of_sequencer, refresh, settle_waiting_send, refresh_at_end, split_on_bool, both_of_and, Cause, MayPromise, invited, overtaken, told_result}
 use Rattle.am_refinement.proofs.WholeSteps.StepWords.{Change, settles, takes_report, admits, numbers, keeps_body, notes, stores, begins_list, promises, opens, fetches}
-use Rattle.am_refinement.proofs.WholeSteps.StepWords.{stores_view, queues, collects, takes, asks_to_join, asks_to_leave, IsPlainChange, Course, nothing_yet, used_report, and_then}
-use Rattle.am_refinement.proofs.WholeSteps.StepWords.{Deeds, plainly, looked, end_refresh_rests_with_list, with_sends_of, settle_changes_only_sends, sequencer_is_member, IsSameToGroup, looked_at_ballot_is_unfinished, follower_refresh_accepts_told}
+use Rattle.am_refinement.proofs.WholeSteps.StepWords.{stores_view, queues, collects, takes, asks_to_join, asks_to_leave, IsPlainChange, PlainChangesInTurn, nothing_yet, used_report, and_then}
+use Rattle.am_refinement.proofs.WholeSteps.StepWords.{ChangesWithLook, plainly, looked, end_refresh_rests_with_list, with_sends_of, settle_changes_only_sends, sequencer_is_member, IsSameToGroup, looked_at_ballot_is_unfinished, follower_refresh_accepts_told}
 
 -- it is the same to the group, and to the application
 pub record DepartedNodeIsSame (x y : Node) : Type 0 where
@@ -41,22 +41,22 @@ module _ (x : Node) (gone : x.status ≡ Status.Departed) where
   no_leader : is_sequencer x ≡ true → ⊥
   no_leader t = no_member (sequencer_is_member x t)
 
-  no_hearer : (s : ℕ) → hears_member x s ≡ true → ⊥
+  no_hearer : (s : ℕ) → member_hears_other x s ≡ true → ⊥
   no_hearer s t = no_member (both_of_and (not (s == x.core.who)) (is_member x.status) t).1
 
-  no_asker : (s : ℕ) → hears_asking x s ≡ true → ⊥
-  no_asker s t = none (both_of_and (not (s == x.core.who)) (is_member x.status || is_asking x.status) t).1
+  no_asker : (s : ℕ) → member_or_asker_hears_other x s ≡ true → ⊥
+  no_asker s t = none (both_of_and (not (s == x.core.who)) (is_member x.status || is_asking_status x.status) t).1
     where
-      none : (is_member x.status || is_asking x.status) ≡ true → ⊥
-      none u = (let z = sym u ∙ ap (λ (q : Status). is_member q || is_asking q) gone in cc)
+      none : (is_member x.status || is_asking_status x.status) ≡ true → ⊥
+      none u = (let z = sym u ∙ ap (λ (q : Status). is_member q || is_asking_status q) gone in cc)
 
-  no_viewer : (s : ℕ) (v : Stamp) → hears_in_view x s v ≡ true → ⊥
-  no_viewer s v t = no_hearer s (both_of_and (hears_member x s) _ t).0
+  no_viewer : (s : ℕ) (v : Stamp) → hears_packet_of_its_view x s v ≡ true → ⊥
+  no_viewer s v t = no_hearer s (both_of_and (member_hears_other x s) _ t).0
 
-  no_follower : (s : ℕ) (v : Stamp) → hears_sequencer x s v ≡ true → ⊥
-  no_follower s v t = no_viewer s v (both_of_and (hears_in_view x s v) (v.by == s) t).0
+  no_follower : (s : ℕ) (v : Stamp) → hears_packet_of_sequencer x s v ≡ true → ⊥
+  no_follower s v t = no_viewer s v (both_of_and (hears_packet_of_its_view x s v) (v.by == s) t).0
 
-  no_promise : (c : Cause) (v : Stamp) → Promises c x v → ⊥
+  no_promise : (c : Cause) (v : Stamp) → MayPromise c x v → ⊥
   no_promise c v (invited s _ is heard own) = no_asker s heard
   no_promise c v (overtaken s _ shown is heard above) = no_hearer s heard
   no_promise c v (told_result s base number w is heard own other) = no_hearer s heard
@@ -67,7 +67,7 @@ module _ (x : Node) (gone : x.status ≡ Status.Departed) where
   rests_change : {c : Cause} {o : Outcome} (y : Node) (z : Change c o x y) → IsPlainChange z → DepartedNodeIsSame x y
   rests_change y settles p = subst (DepartedNodeIsSame x) (sym (settle_changes_only_sends x)) (record { same = settled; status = refl; ballot = refl; told = refl; acc = refl })
     where
-      settled : IsSameToGroup x (with_sends_of x (settle x))
+      settled : IsSameToGroup x (with_sends_of x (settle_waiting_send x))
       settled = record { log = refl; log_ = refl; departed = refl; leaving = refl; promise = refl; ballot = refl; start = refl }
   rests_change y (takes_report s v report by may) p = absurd (no_leader may.leads)
   rests_change y (admits s v is leads fit) p = absurd (no_leader leads)
@@ -89,19 +89,19 @@ module _ (x : Node) (gone : x.status ≡ Status.Departed) where
 
 -- ---- a step
 
-pub course_keeps_departed_node : {c : Cause} {o : Outcome} (m x : Node) → m.status ≡ Status.Departed → Course c o m x → DepartedNodeIsSame m x
+pub course_keeps_departed_node : {c : Cause} {o : Outcome} (m x : Node) → m.status ≡ Status.Departed → PlainChangesInTurn c o m x → DepartedNodeIsSame m x
 course_keeps_departed_node m x gone nothing_yet = rests_itself m
 course_keeps_departed_node m x gone (used_report s v report by may) = absurd (no_leader m gone may.leads)
 course_keeps_departed_node m x gone (and_then {n = n} before z plain) =
     let h = course_keeps_departed_node m n gone before in
     rests_then m n x h (rests_change n (h.status ∙ gone) x z plain)
 
-rests_deeds : {c : Cause} {o : Outcome} (m x : Node) → m.status ≡ Status.Departed → is_unfinished m.ballot ≡ false → Deeds c o m x → DepartedNodeIsSame m x
+rests_deeds : {c : Cause} {o : Outcome} (m x : Node) → m.status ≡ Status.Departed → is_unfinished_ballot m.ballot ≡ false → ChangesWithLook c o m x → DepartedNodeIsSame m x
 rests_deeds m x gone closed (plainly course) = course_keeps_departed_node m x gone course
 rests_deeds {c = c} m x gone closed (looked {n = n} b verdict course over why look is) = absurd (
     let h = course_keeps_departed_node m n gone course in
     let open_ = looked_at_ballot_is_unfinished c n b why in
-    let z = sym open_ ∙ ap is_unfinished h.ballot ∙ closed in cc)
+    let z = sym open_ ∙ ap is_unfinished_ballot h.ballot ∙ closed in cc)
 
 -- with the refresh at its end
 pub record DepartedNodeEndsSame (m n : Node) : Type 0 where
@@ -110,7 +110,7 @@ pub record DepartedNodeEndsSame (m n : Node) : Type 0 where
   pub ballot : n.ballot ≡ m.ballot
   pub low : n.core.acc ≤ max m.core.acc m.core.told
 
-pub step_keeps_departed_node : {c : Cause} {o : Outcome} (m x : Node) → m.status ≡ Status.Departed → is_unfinished m.ballot ≡ false → Deeds c o m x
+pub step_keeps_departed_node : {c : Cause} {o : Outcome} (m x : Node) → m.status ≡ Status.Departed → is_unfinished_ballot m.ballot ≡ false → ChangesWithLook c o m x
     → DepartedNodeEndsSame m (refresh_at_end x)
 unfolding refresh_at_end
 step_keeps_departed_node m x gone closed deeds =
@@ -122,11 +122,11 @@ step_keeps_departed_node m x gone closed deeds =
     record {
       same = record {
         log = r.log ∙ h.same.log;
-        log_ = ap has_log r.rests.status ∙ h.same.log_;
+        log_ = ap has_log_by_status r.rests.status ∙ h.same.log_;
         departed = ap has_departed r.rests.status ∙ h.same.departed;
         leaving = r.rests.leaving ∙ h.same.leaving;
         promise = r.rests.promise ∙ h.same.promise;
-        ballot = ap is_unfinished r.rests.ballot ∙ h.same.ballot;
+        ballot = ap is_unfinished_ballot r.rests.ballot ∙ h.same.ballot;
         start = r.begins ∙ h.same.start;
       };
       status = r.rests.status ∙ h.status;

@@ -1,8 +1,8 @@
 -- A refresh within a step: the group accepts what it accepts, and the name learns of it; and then all is known again.
 use Rattle.am_refinement.proofs.WholeSteps.StepWords.{group_after_of_low_accepted, member_has_not_departed, ◌≡◌, ℕ, ◌≤◌, max, true, false, List, [], length, refl, sym, ap, ◌∙◌, subst, arith, append-nil}
-use Rattle.am_refinement.proofs.WholeSteps.StepWords.{Entry, Rules, top_of, Begins, begins_refl, Group, chain_of, with_node, GroupKeeps, put_at_same_index, Node, is_member, is_sequencer}
-use Rattle.am_refinement.proofs.WholeSteps.StepWords.{lowest_or_first, has_departed, refresh, World, group_after, split_on_bool, Cause, refreshes, unchanged, changed, refresh_rests_with_list}
-use Rattle.am_refinement.proofs.WholeSteps.StepWords.{stamp_of, TrimsOnlyTakenAlongStep, changes_trim_only_taken, sequencer_is_member, refresh_keeps_sent_bodies, NameStands, StandsBut, within, MayCount, Word, nothing}
+use Rattle.am_refinement.proofs.WholeSteps.StepWords.{Entry, Rules, top_of_log, IsBeginningOf, list_begins_itself, Group, chain_of, group_with_node, GroupKeeps, put_at_same_index, Node, is_member, is_sequencer}
+use Rattle.am_refinement.proofs.WholeSteps.StepWords.{lowest_name_or_zero, has_departed, refresh, World, list_after_step, split_on_bool, Cause, refreshes, unchanged, changed, refresh_rests_with_list}
+use Rattle.am_refinement.proofs.WholeSteps.StepWords.{stamp_of, TrimsOnlyTakenAlongStep, changes_trim_only_taken, sequencer_is_member, refresh_keeps_sent_bodies, NameStands, StandsBut, within, MayCount, SequencersWord, nothing}
 use Rattle.am_refinement.proofs.WholeSteps.StepWords.{of_sequencer, ComesToBeforeEnd, AcceptsAndLearns, Grows, Moves, none, moves, Stepping, acting_name_stands, running_member_is_up, refresh_is_same_to_group, named_list_has_named_front}
 use Rattle.am_refinement.proofs.WholeSteps.StepWords.{counted_names_of_named_list, accepting_is_moves, moves_are_transitive, group_is_kept_at_step, acting_name_stands_before, refresh_learns_group_front, follower_refresh_accepts_told, letters_stay_as_group_grows, sequencer_says_still, group_growth_is_transitive}
 use Rattle.am_refinement.proofs.WholeSteps.StepWords.{group_goes_on_by_moves, group_grows_to_itself, refreshes_keep_the_node, node_keeps_as_others_stop}
@@ -20,11 +20,11 @@ use Rattle.am_refinement.proofs.WholeSteps.Worlds.{sends_once_with_same_records}
 pub record FrontsMatchTheGroup (w : World) (name : ℕ) (x : Node) (s : Group) : Type 0 where
   pub low : x.core.told ≤ length w.group
   pub heard : ℕ
-  pub word : Word s name heard
+  pub word : SequencersWord s name heard
   pub acc : has_departed x.status ≡ false → (s.node name).acc ≡ x.core.acc
   pub told : has_departed x.status ≡ false → x.core.told ≤ max (s.node name).told heard
 
-pub heard_word_stays_in_growth : (s t : Group) (w : World) (name heard : ℕ) → Grows s t → Word s name heard → Word t name heard
+pub heard_word_stays_in_growth : (s t : Group) (w : World) (name heard : ℕ) → Grows s t → SequencersWord s name heard → SequencersWord t name heard
 heard_word_stays_in_growth s t w name heard g (nothing z) = nothing z
 heard_word_stays_in_growth s t w name heard g (of_sequencer from v low says) =
     let up = (g.each name).promise in
@@ -56,7 +56,7 @@ moves_before_changed {s = s} {t = t} path grows h = search (
 
 -- what the refresh leads to
 pub record RefreshedByMoves (rules : Rules) (w : World) (name : ℕ) (c : Cause) (x : Node) (s : Group) : Type 0 where
-  pub changed : ChangedByMoves rules (with_group_list w (group_after w.group (refresh x))) name c (refresh x) s
+  pub changed : ChangedByMoves rules (with_group_list w (list_after_step w.group (refresh x))) name c (refresh x) s
   pub open changed use *
   pub nothing_heard : fronts.heard ≡ 0
 
@@ -71,10 +71,10 @@ module _ (rules : Rules) (w : World) (name : ℕ) (c : Cause) (x : Node) (s : Gr
   along = changes_trim_only_taken rules {o = said.Ticked} x y h.names h.used (changed {m = x} refreshes unchanged) h.along
 
   -- from the group that accepted, and in which the name learned
-  gone_on : (g : List Entry) (t : Group) → Moves s t → Begins w.group g → StandsBut name (within (with_group_list w g) name y) t
+  gone_on : (g : List Entry) (t : Group) → Moves s t → IsBeginningOf w.group g → StandsBut name (within (with_group_list w g) name y) t
       → (t.node name).list ≡ (s.node name).list → y.core.acc ≤ length t.group → Stepping rules (with_group_list w g) name c y t
   gone_on g t path grows stands list low =
-      let on = group_goes_on_by_moves rules.founders (lowest_or_first rules.founders) rules.resilience s t h.group path in
+      let on = group_goes_on_by_moves rules.founders (lowest_name_or_zero rules.founders) rules.resilience s t h.group path in
       let v = with_group_list w g in
       let mine = acting_name_stands v name y t h.few stands in
       record {
@@ -139,7 +139,7 @@ module _ (rules : Rules) (w : World) (name : ℕ) (c : Cause) (x : Node) (s : Gr
     learns = refresh_learns_group_front w s name f.heard x k refreshed_group_comes_to_node
 
     abbrev after : List Entry
-    after = group_after w.group (refresh x)
+    after = list_after_step w.group (refresh x)
 
     abbrev told : ℕ
     told = max (s.node name).told (refresh x).core.told
@@ -148,7 +148,7 @@ module _ (rules : Rules) (w : World) (name : ℕ) (c : Cause) (x : Node) (s : Gr
     middle = record s { group = after }
 
     abbrev next : Group
-    next = with_node middle name (with_told_and_accepted (s.node name) told (refresh x).core.acc)
+    next = group_with_node middle name (with_told_and_accepted (s.node name) told (refresh x).core.acc)
 
     path : Moves s next
     path =
@@ -159,7 +159,7 @@ module _ (rules : Rules) (w : World) (name : ℕ) (c : Cause) (x : Node) (s : Gr
         moves_are_transitive (accepting_is_moves w s name y h.stands.group learns.accepts) more
 
     stands : StandsBut name (within (with_group_list w after) name y) next
-    stands = group_stands_with_more_accepted (within w name y) after name (with_node s name (with_told_and_accepted (s.node name) told (refresh x).core.acc)) learns.grows h.noted
+    stands = group_stands_with_more_accepted (within w name y) after name (group_with_node s name (with_told_and_accepted (s.node name) told (refresh x).core.acc)) learns.grows h.noted
         (group_stands_with_learned_fronts w name x y s told (refresh x).core.acc (refresh_is_same_to_group x) h.stands)
 
     is : next.node name ≡ with_told_and_accepted (s.node name) told (refresh x).core.acc
@@ -168,7 +168,7 @@ module _ (rules : Rules) (w : World) (name : ℕ) (c : Cause) (x : Node) (s : Gr
     member_refreshed : RefreshedByMoves rules w name c x s
     member_refreshed =
         let l = learns.learns in
-        let on = group_goes_on_by_moves rules.founders (lowest_or_first rules.founders) rules.resilience s next h.group path in
+        let on = group_goes_on_by_moves rules.founders (lowest_name_or_zero rules.founders) rules.resilience s next h.group path in
         record {
           changed = record {
             to = next;
@@ -189,11 +189,11 @@ module _ (rules : Rules) (w : World) (name : ℕ) (c : Cause) (x : Node) (s : Gr
   -- ---- who is no member
 
   module _ (other : is_member x.status ≡ false) (low : y.core.acc ≤ length w.group) (fronts : FrontsMatchTheGroup w name y s) (none_heard : fronts.heard ≡ 0) where
-    same : group_after w.group y ≡ w.group
+    same : list_after_step w.group y ≡ w.group
     same = group_after_of_low_accepted w.group y low
 
     other_goes : Stepping rules (with_group_list w w.group) name c y s
-    other_goes = gone_on w.group s none (begins_refl w.group) (same_node_keeps_group_standing w name x y s (refresh_is_same_to_group x) h.stands) refl
+    other_goes = gone_on w.group s none (list_begins_itself w.group) (same_node_keeps_group_standing w name x y s (refresh_is_same_to_group x) h.stands) refl
         (subst (λ l. y.core.acc ≤ length l) (sym h.stands.group) low)
 
     other_refreshed : RefreshedByMoves rules w name c x s
@@ -234,7 +234,7 @@ refresh_stands_as_moves rules w name c x s h f = split_on_bool (is_member x.stat
     }) refl)
     (λ d. (
     let none = h.along.blanked (nonmember_status_has_no_log x.status m d) in
-    let empty : nodes.top x ≡ 0 = ap top_of none.blank_ in
+    let empty : nodes.top x ≡ 0 = ap top_of_log none.blank_ in
     other_refreshed rules w name c x s h f m (omega arith) (record {
       low = omega arith;
       heard = 0;

@@ -1,12 +1,12 @@
 -- What is known of a name that sends, as it is after its step.
 use Rattle.am_refinement.proofs.WholeSteps.StepWords.{◌≡◌, ℕ, ◌<◌, ◌≤◌, ◌==◌, true, false, List, slice_get, sym, ap, ◌∙◌, subst, arith, All, list_any, All-nil, Stamp, Data}
-use Rattle.am_refinement.proofs.WholeSteps.StepWords.{Rules, entry_at, key, Group, IsThere, IsUp, chain_of, GroupKeeps, Node, view, image_of, is_sequencer, has_log, has_departed}
-use Rattle.am_refinement.proofs.WholeSteps.StepWords.{World, split_on_bool, Cause, all_gives_slice_get, member_status_has_log, OpenBallotIsPromised, sequencer_is_member, NotedViewStandsInLog, WorldNotesViewsOnce, IsBegun, PromisesAndStampsWereBegun, EntryWasSent, Packet}
+use Rattle.am_refinement.proofs.WholeSteps.StepWords.{Rules, log_entry_at, key_of_stamp, Group, IsThere, IsUp, chain_of, GroupKeeps, Node, view, image_of_node, is_sequencer, has_log_by_status, has_departed}
+use Rattle.am_refinement.proofs.WholeSteps.StepWords.{World, split_on_bool, Cause, item_of_index_has_property, member_status_has_log, OpenBallotIsPromised, sequencer_is_member, NotedViewStandsInLog, WorldNotesViewsOnce, StampIsBegun, PromisesAndStampsWereBegun, EntryWasSent, Packet}
 use Rattle.am_refinement.proofs.WholeSteps.StepWords.{OwnSendWasSent, WasSentByRecord, NameStands, FrontsStand, Stands, WasAsked, AllShown, NamesNamed, OwnDecided, FetchesStand}
 use Rattle.am_refinement.proofs.WholeSteps.StepWords.{NumbersStand, ListBegins, LeaderStands, BallotSendsStand, SendsStand, Sender, Stepping, named_list_has_named_front, rows_of_named_list_live}
 use Rattle.am_refinement.proofs.WholeSteps.StepWords.{concerned_names_are_below_256, stamps_of_equal_keys, group_is_kept_at_step, group_is_whole_at_step, SpeaksForItsName, sequencer_leads_its_line, asking_node_has_no_log, stamp_eq_gives_equality, zero, suc, ◌+◌, ◌-◌}
-use Rattle.am_refinement.proofs.WholeSteps.StepWords.{◌||◌, not, nat_le, [], ◌∷◌, Some, refl, nat_tests, Image, Entry, View, Outcome, stamp_eq, Log, top_of, told_by, after}
-use Rattle.am_refinement.proofs.WholeSteps.StepWords.{fold, view_number_only_grows, Ballot, acts, is_member, is_asking, Verdict, is_view, both_of_and, Looks, finds_itself_out, Change}
+use Rattle.am_refinement.proofs.WholeSteps.StepWords.{◌||◌, not, nat_le, [], ◌∷◌, Some, refl, nat_tests, Image, Entry, View, Outcome, stamps_are_equal, Log, top_of_log, image_of_log, after}
+use Rattle.am_refinement.proofs.WholeSteps.StepWords.{image_after_entries, view_number_only_grows, Ballot, acts_in_its_view, is_member, is_asking_status, BallotVerdict, is_view, both_of_and, LooksAtBallot, finds_itself_out, Change}
 use Rattle.am_refinement.proofs.WholeSteps.StepWords.{refreshes, settles, begins_list, promises, opens, looks, closes, Changes, unchanged, changed, refresh_rests_with_list}
 use Rattle.am_refinement.proofs.WholeSteps.StepWords.{own_leave_rests, settle_changes_only_sends, changes_keep_property, HeardStampsHaveNames, HeardWelcomeImageIsUsed, TrimsOnlyTakenAlongStep, changes_trim_only_taken, view_number_after_view}
 use Rattle.am_refinement.proofs.WholeSteps.Starting.{begun_stamp_begun_in_group}
@@ -31,7 +31,7 @@ based_other : {c : Cause} (m x y : Node) → y.core.log.start ≡ x.core.log.sta
 based_other m x y start acc f (as_it_was same low) = as_it_was (start ∙ same) (omega arith)
 based_other m x y start acc f (was_bare welcomed other low) = absurd (bool_never_true_and_false _ welcomed f)
 
-looked_based : {c : Cause} (m x : Node) {b : Ballot} {v : Verdict} → Looks x b v → StartIsOldOrWelcomed c m x → StartIsOldOrWelcomed c m v.node
+looked_based : {c : Cause} (m x : Node) {b : Ballot} {v : BallotVerdict} → LooksAtBallot x b v → StartIsOldOrWelcomed c m x → StartIsOldOrWelcomed c m v.node
 looked_based m x (finds_itself_out a) h = based_same m x _ refl refl refl (omega arith) h
 looked_based m x _ h = based_same m x _ refl refl refl (omega arith) h
 
@@ -43,9 +43,9 @@ based_change : {c : Cause} {o : Outcome} (rules : Rules) (m x y : Node) → Chan
 based_change rules m x y refreshes a h = let r = (refresh_rests_with_list x).rests in based_same m x y r.start r.promise r.who r.acc h
 based_change rules m x y settles a h = subst (StartIsOldOrWelcomed _ m) (sym (settle_changes_only_sends x)) (based_same m x _ refl refl refl (omega arith) h)
 based_change rules m x y (begins_list s v base join image is says may) a h =
-    let asks = both_of_and (not (s == x.core.who)) (is_member x.status || is_asking x.status) may.asks in
+    let asks = both_of_and (not (s == x.core.who)) (is_member x.status || is_asking_status x.status) may.asks in
     let none = a.blanked (asking_node_has_no_log x.status may.no_member asks.1) in
-    let empty = ap top_of none.blank_ in
+    let empty = ap top_of_log none.blank_ in
     let before = bare_before m x (omega arith) h in
     was_bare (ap cause_is_welcome is) (grind (arith, nat_tests)) (omega arith)
 based_change rules m x y (promises v low why) a h = based_other m x y refl refl (promise_brings_no_report v why).welcomes h
@@ -68,8 +68,8 @@ step_keeps_start_or_welcomes {c = c} {o = o} rules m n names used zs a = (change
 pub welcomed_node_does_not_lead : (n : Node) → (n.core.promise.by == n.core.who) ≡ false → is_sequencer n ≡ false
 welcomed_node_does_not_lead n other = split_on_bool (is_sequencer n)
     (λ t. absurd (
-    let a = both_of_and (acts n) ((view n).by == n.core.who) t in
-    let b = both_of_and (is_member n.status) (stamp_eq n.core.promise (view n)) a.0 in
+    let a = both_of_and (acts_in_its_view n) ((view n).by == n.core.who) t in
+    let b = both_of_and (is_member n.status) (stamps_are_equal n.core.promise (view n)) a.0 in
     let same = ap (λ (u : Stamp). u.by == n.core.who) (stamp_eq_gives_equality n.core.promise (view n) b.1) in
     cc))
     (λ f. f)
@@ -77,8 +77,8 @@ welcomed_node_does_not_lead n other = split_on_bool (is_sequencer n)
 -- ---- where a View stands
 
 view_number_up : (image : Image) (n k : ℕ) (es : List Entry) (v : GroupView)
-    → slice_get es k ≡ Some (View v) → n + k ≤ (fold image n es).view_number
-unfolding fold
+    → slice_get es k ≡ Some (View v) → n + k ≤ (image_after_entries image n es).view_number
+unfolding image_after_entries
 view_number_up image n k [] v at = absurd (cc)
 view_number_up image n zero (e ∷ es) v at =
     let is : e ≡ View v = cc in
@@ -88,8 +88,8 @@ view_number_up image n zero (e ∷ es) v at =
 view_number_up image n (suc k) (e ∷ es) v at =
     (let up = view_number_up (after image n e) (n + 1) k es v at in omega arith)
 
-view_above : (log : Log) (number : ℕ) (v : GroupView) → entry_at log number ≡ Some (View v)
-    → log.start < (told_by log).view_number
+view_above : (log : Log) (number : ℕ) (v : GroupView) → log_entry_at log number ≡ Some (View v)
+    → log.start < (image_of_log log).view_number
 view_above log zero v at = absurd (cc)
 view_above log (suc before) v at = split_on_bool (nat_le log.start before)
     (λ t. (let there = rw t at at in
@@ -108,12 +108,12 @@ module _ (rules : Rules) (w v : World) (name : ℕ) (c : Cause) (m n : Node) (t 
   there : IsThere (t.node name)
   there = record { goes = mine.stopped ∙ ap (λ (l : List ℕ). list_any (λ j. j == name) l) stopped ∙ h.runs; stays = mine.departed ∙ here }
 
-  up : has_log n.status ≡ true → IsUp (t.node name)
+  up : has_log_by_status n.status ≡ true → IsUp (t.node name)
   up log = record { log = mine.log_ ∙ log; there = there }
 
   -- the names on its list
   named : All NamesNamed (t.node name).list
-  named = split_on_bool (has_log n.status)
+  named = split_on_bool (has_log_by_status n.status)
       (λ u. named_list_has_named_front (t.node name).list (chain_of t.views) ((k.each name).list (up u)) h.group.named)
       (λ f. subst (All NamesNamed) (sym ((k.each name).blank (mine.log_ ∙ f))) (All-nil NamesNamed))
 
@@ -123,17 +123,17 @@ module _ (rules : Rules) (w v : World) (name : ℕ) (c : Cause) (m n : Node) (t 
       record { kept = f.kept; base = f.base; taken = f.given; within = f.accepted; accepted = accepted }
 
   -- its last View was noted, so it stands in its own log
-  viewed : is_sequencer n ≡ true → n.core.log.start < (image_of n).view_number
+  viewed : is_sequencer n ≡ true → n.core.log.start < (image_of_node n).view_number
   viewed u =
       let speaks : SpeaksForItsName v name n t = record { kept = k; stands = mine; up = up (member_status_has_log n.status (sequencer_is_member n u)); who = h.who } in
       let l = sequencer_leads_its_line v name n t speaks u in
-      let was = stands.views.decided (key n.core.promise) l.decided in
-      let noted : NotedViewStandsInLog v.nodes was.view = all_gives_slice_get (NotedViewStandsInLog v.nodes) v.views was.index was.view all_views.noted was.there in
+      let was = stands.views.decided (key_of_stamp n.core.promise) l.decided in
+      let noted : NotedViewStandsInLog v.nodes was.view = item_of_index_has_property (NotedViewStandsInLog v.nodes) v.views was.index was.view all_views.noted was.there in
       let same : was.view.stamp ≡ n.core.promise = stamps_of_equal_keys was.view.stamp n.core.promise noted.by h.along.names.promise_ was.is in
       let by : was.view.stamp.by ≡ name = ap (λ (s : Stamp). s.by) (same ∙ sym l.viewed) ∙ l.leads.by in
       let node : v.nodes was.view.stamp.by ≡ n = ap v.nodes by ∙ is in
       view_above n.core.log was.view.number (record was.view.view { members = noted.names })
-      (ap (λ (x : Node). entry_at x.core.log was.view.number) (sym node) ∙ noted.there)
+      (ap (λ (x : Node). log_entry_at x.core.log was.view.number) (sym node) ∙ noted.there)
 
   leader : is_sequencer n ≡ true → LeaderStands t name n
   leader u =
@@ -141,7 +141,7 @@ module _ (rules : Rules) (w v : World) (name : ℕ) (c : Cause) (m n : Node) (t 
 
   ballots : BallotSendsStand t name n
   ballots = record {
-    blank = λ b at. split_on_bool (has_log n.status) (λ u. u) (λ f. absurd (let none = h.along.balloted.none f in let z = sym none ∙ at in cc));
+    blank = λ b at. split_on_bool (has_log_by_status n.status) (λ u. u) (λ f. absurd (let none = h.along.balloted.none f in let z = sym none ∙ at in cc));
     own = owns;
     fetches = λ b from want open_ answer. (
         let o = (subst (OpenBallotIsPromised n.core.who n.core.promise (view n)) open_.last h.along.balloted.opened) open_.open_ in
@@ -155,10 +155,10 @@ module _ (rules : Rules) (w v : World) (name : ℕ) (c : Cause) (m n : Node) (t 
   sends : SendsStand v name n
   sends = record {
     own = λ req body s. (
-        let sent : OwnSendWasSent w.records name s.send = all_gives_slice_get (OwnSendWasSent w.records name) n.sends.queue s.index s.send h.sent.sends s.there in
+        let sent : OwnSendWasSent w.records name s.send = item_of_index_has_property (OwnSendWasSent w.records name) n.sends.queue s.index s.send h.sent.sends s.there in
         was_asked name req body (subst (WasSentByRecord w.records name req) s.body_ (subst (λ r. WasSentByRecord w.records name r s.send.body) s.request sent)));
     numbered = λ index from req body at. was_asked from req body
-        (all_gives_slice_get (EntryWasSent w.records) n.core.log.entries index (Data from req body) h.sent.entries at);
+        (item_of_index_has_property (EntryWasSent w.records) n.core.log.entries index (Data from req body) h.sent.entries at);
   }
 
   pub stepping_name_is_sender : Sender v name c m n t
@@ -172,7 +172,7 @@ module _ (rules : Rules) (w v : World) (name : ℕ) (c : Cause) (m n : Node) (t 
     who = h.who;
     small = h.along.names.promise_;
     begun = (begun_stamp_begun_in_group v t n.core.promise stands (λ i low. (all_views.each i low).names.promise_) h.along.names.promise_
-        (subst (λ (x : Node). IsBegun v.nodes x.core.promise) is (begun.each name))).begun;
+        (subst (λ (x : Node). StampIsBegun v.nodes x.core.promise) is (begun.each name))).begun;
     lives = rows_of_named_list_live v name n (t.node name) mine named;
     trimmed = h.keeps.trimmed;
     numbers = numbers;

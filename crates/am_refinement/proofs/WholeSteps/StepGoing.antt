@@ -1,10 +1,10 @@
 -- A step up to its end, as moves of the group.
 use Rattle.am_refinement.proofs.WholeSteps.StepWords.{◌≡◌, ℕ, ◌≤◌, true, List, length, refl, sym, ap, ◌∙◌, subst, arith, Entry, Outcome, Rules, Log, Group, Node, top, none}
-use Rattle.am_refinement.proofs.WholeSteps.StepWords.{is_sequencer, node_with_report, refresh, World, group_after, Cause, Change, takes_report, IsPlainChange, Course, nothing_yet}
+use Rattle.am_refinement.proofs.WholeSteps.StepWords.{is_sequencer, node_with_report, refresh, World, list_after_step, Cause, Change, takes_report, IsPlainChange, PlainChangesInTurn, nothing_yet}
 use Rattle.am_refinement.proofs.WholeSteps.StepWords.{used_report, and_then, refresh_rests_with_list, is_sequencer_after_rest, CauseCarriesSentBodies, after_change, Stepping, acting_name_stands_before, group_grows_to_itself, changes_keep_step_known}
-use Rattle.am_refinement.proofs.WholeSteps.StepWords.{stamp_eq_gives_equality, ◌<◌, ◌==◌, ◌&&◌, nat_lt, false, nat_tests, Stamp, stamp_eq, Packet, key, Ballot, view, acts, is_member}
-use Rattle.am_refinement.proofs.WholeSteps.StepWords.{has_departed, Verdict, hears_member, hears_in_view, hears_sequencer, with_noted, split_on_bool, both_of_and, hears, BringsFronts}
-use Rattle.am_refinement.proofs.WholeSteps.StepWords.{with_entry, with_number, alone, Looks, finds_itself_out, refreshes, settles, notes, begins_list, departs, looks}
+use Rattle.am_refinement.proofs.WholeSteps.StepWords.{stamp_eq_gives_equality, ◌<◌, ◌==◌, ◌&&◌, nat_lt, false, nat_tests, Stamp, stamps_are_equal, Packet, key_of_stamp, Ballot, view, acts_in_its_view, is_member}
+use Rattle.am_refinement.proofs.WholeSteps.StepWords.{has_departed, BallotVerdict, member_hears_other, hears_packet_of_its_view, hears_packet_of_sequencer, node_with_noted_fronts, split_on_bool, both_of_and, hears, CauseHasFronts}
+use Rattle.am_refinement.proofs.WholeSteps.StepWords.{with_entry, with_number, alone, LooksAtBallot, finds_itself_out, refreshes, settles, notes, begins_list, departs, looks}
 use Rattle.am_refinement.proofs.WholeSteps.StepWords.{asks_to_join, closes, settle_changes_only_sends, nothing, of_sequencer, Grows, SequencerSays, FrontsStay, FrontsAfter, HeardSo}
 use Rattle.am_refinement.specs.Keeping as plainly
 use Rattle.am_refinement.proofs.WholeSteps.Worlds.{with_group_list}
@@ -29,7 +29,7 @@ same_fronts w name x y s t acc told here stay g f = record {
 
 -- ---- where the sequencer's are noted
 
-fronts_said : (w : World) (s : Group) (name : ℕ) (c : Cause) (from : ℕ) (v : Stamp) (base acc : ℕ) → BringsFronts c from v base acc
+fronts_said : (w : World) (s : Group) (name : ℕ) (c : Cause) (from : ℕ) (v : Stamp) (base acc : ℕ) → CauseHasFronts c from v base acc
     → ((p : Packet) → c ≡ hears p → HeardSo w s name p) → SequencerSays s from v acc
 fronts_said w s name c from v base acc (with_entry a b d e number x) heard = (heard (Packet.Bcast from v base acc number x) refl).says.1.sequencer
 fronts_said w s name c from v base acc (with_number a b d e number sender req) heard =
@@ -37,22 +37,22 @@ fronts_said w s name c from v base acc (with_number a b d e number sender req) h
 fronts_said w s name c from v base acc (alone a b d e high poll) heard = (heard (Packet.Accept from v base acc high poll) refl).says.1
 
 -- who hears its sequencer is a member, and has promised its view
-heard_view : (x : Node) (from : ℕ) (v : Stamp) → hears_sequencer x from v ≡ true → x.core.promise ≡ v
+heard_view : (x : Node) (from : ℕ) (v : Stamp) → hears_packet_of_sequencer x from v ≡ true → x.core.promise ≡ v
 heard_view x from v t =
-    let a = both_of_and (hears_in_view x from v) (v.by == from) t in
-    let b = both_of_and (hears_member x from) (acts x && stamp_eq v (view x)) a.0 in
-    let d = both_of_and (acts x) (stamp_eq v (view x)) b.1 in
-    let e = both_of_and (is_member x.status) (stamp_eq x.core.promise (view x)) d.0 in
+    let a = both_of_and (hears_packet_of_its_view x from v) (v.by == from) t in
+    let b = both_of_and (member_hears_other x from) (acts_in_its_view x && stamps_are_equal v (view x)) a.0 in
+    let d = both_of_and (acts_in_its_view x) (stamps_are_equal v (view x)) b.1 in
+    let e = both_of_and (is_member x.status) (stamps_are_equal x.core.promise (view x)) d.0 in
     stamp_eq_gives_equality x.core.promise (view x) e.1 ∙ sym (stamp_eq_gives_equality v (view x) d.1)
 
 noted_fronts : (rules : Rules) (w : World) (name : ℕ) (c : Cause) (x : Node) (s t : Group) (from : ℕ) (v : Stamp) (base acc : ℕ)
-    → BringsFronts c from v base acc → hears_sequencer x from v ≡ true → Stepping rules w name c x s → FrontsStay name s t → Grows s t → FrontsMatchTheGroup w name x s
-    → FrontsMatchTheGroup w name (with_noted x base acc) t
+    → CauseHasFronts c from v base acc → hears_packet_of_sequencer x from v ≡ true → Stepping rules w name c x s → FrontsStay name s t → Grows s t → FrontsMatchTheGroup w name x s
+    → FrontsMatchTheGroup w name (node_with_noted_fronts x base acc) t
 noted_fronts rules w name c x s t from v base acc by heard h stay g f =
     let says = fronts_said w s name c from v base acc by h.heard in
     let size = ap length h.stands.group in
     let low = f.low in
-    let promised = ap key ((acting_name_stands_before rules w name c x s h).promise ∙ heard_view x from v heard) in
+    let promised = ap key_of_stamp ((acting_name_stands_before rules w name c x s h).promise ∙ heard_view x from v heard) in
     split_on_bool (nat_lt f.heard acc)
     (λ u. (let above : f.heard < acc = grind (arith, nat_tests) in record {
       low = omega arith;
@@ -71,7 +71,7 @@ noted_fronts rules w name c x s t from v base acc by heard h stay g f =
 
 -- ---- each change that goes on
 
-pub look_keeps_fronts_and_status : {m : Node} {b : Ballot} {v : Verdict} (look : Looks m b v) → (v.node.core.acc ≡ m.core.acc) × (v.node.core.told ≡ m.core.told)
+pub look_keeps_fronts_and_status : {m : Node} {b : Ballot} {v : BallotVerdict} (look : LooksAtBallot m b v) → (v.node.core.acc ≡ m.core.acc) × (v.node.core.told ≡ m.core.told)
     × (v.node.status ≡ m.status)
 look_keeps_fronts_and_status (finds_itself_out a) = (refl, refl, refl)
 look_keeps_fronts_and_status _ = (refl, refl, refl)
@@ -106,7 +106,7 @@ change_keeps_fronts_of_group rules w name c o x y s t _ p h low after g f = same
 -- what the group list is by now: as before the step, or a sequencer that took a report has accepted more
 pub data GroupListByNow (c : Cause) (old group : List Entry) (x : Node) : Type 0 where
   as_before : group ≡ old → GroupListByNow c old group x
-  by_reports : cause_brings_report c ≡ true → is_sequencer x ≡ true → x.core.log.start ≤ length old → group ≡ group_after old x → GroupListByNow c old group x
+  by_reports : cause_brings_report c ≡ true → is_sequencer x ≡ true → x.core.log.start ≤ length old → group ≡ list_after_step old x → GroupListByNow c old group x
 
 -- the moves so far, and the group list by then
 pub record CourseSoFar (rules : Rules) (w : World) (name : ℕ) (c : Cause) (x : Node) (s : Group) : Type 0 where
@@ -128,7 +128,7 @@ change_stands_as_moves rules w name c o x y s z plain same h sent f =
 
 -- ---- the course
 
-pub course_stands_as_moves : (rules : Rules) (w : World) (name : ℕ) (c : Cause) (o : Outcome) (m x : Node) (s : Group) → Course c o m x → Stepping rules w name c m s
+pub course_stands_as_moves : (rules : Rules) (w : World) (name : ℕ) (c : Cause) (o : Outcome) (m x : Node) (s : Group) → PlainChangesInTurn c o m x → Stepping rules w name c m s
     → FrontsMatchTheGroup w name m s → CauseCarriesSentBodies w.records name o c → CourseSoFar rules w name c x s
 course_stands_as_moves rules w name c o m x s nothing_yet h f sent = record {
   group = w.group;
@@ -142,7 +142,7 @@ course_stands_as_moves rules w name c o m x s (used_report from v report by may)
     let start = (acting_name_stands_before rules w name c told one.to one.goes).begins.within in
     let same = ap (λ (l : Log). l.start) (refresh_rests_with_list told).log in
     record {
-      group = group_after w.group (refresh told);
+      group = list_after_step w.group (refresh told);
       changed = moves_before_changed one.path one.grows two.changed;
       grown = by_reports (reporting_cause_brings_report from v report by) (is_sequencer_after_rest (refresh_rests_with_list told).rests ∙ may.leads) (omega arith) refl;
     }

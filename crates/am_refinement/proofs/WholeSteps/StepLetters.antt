@@ -1,6 +1,6 @@
 -- The letters of a step are so, once a voter has shown what they tell, and served what it sends of it.
 use Rattle.am_refinement.proofs.WholeSteps.StepWords.{◌≡◌, ℕ, ◌≤◌, List, [], ◌∷◌, ◌++◌, sym, ◌∙◌, subst, append-nil, All, All-nil, All-cons, All-head, All-tail, Rules, Letter}
-use Rattle.am_refinement.proofs.WholeSteps.StepWords.{Record, key, Group, IsThere, Node, lowest_or_first, World, Cause, NameStands, FrontsStand, ViewsStand, LetterStampIsBegun, Grows}
+use Rattle.am_refinement.proofs.WholeSteps.StepWords.{Record, key_of_stamp, Group, IsThere, Node, lowest_name_or_zero, World, Cause, NameStands, FrontsStand, ViewsStand, LetterStampIsBegun, Grows}
 use Rattle.am_refinement.proofs.WholeSteps.StepWords.{Moves, Reporting, Sender, LeaderStands, ShowsMore, GroupFor, moves_are_transitive, letters_stay_as_group_grows, trimmed_stays_as_letters_need, all_shown_stay_shown, group_goes_on_by_moves}
 use Rattle.am_refinement.proofs.WholeSteps.StepWords.{group_grows_to_itself, group_growth_is_transitive, group_run_is_whole, sent_letters_say_so, none, Packet}
 use Rattle.am_abstract_group.specs.Group as groups
@@ -19,7 +19,7 @@ leader_more s t i n same h = assumption (
 sender_more : (rules : Rules) (v : World) (i : ℕ) (c : Cause) (m n : Node) (s t : Group) → GroupFor rules t → ShowsMore s t → Grows s t → Sender v i c m n s
     → Sender v i c m n t
 sender_more rules v i c m n s t group same g h = record {
-  group = group_run_is_whole rules.founders (lowest_or_first rules.founders) rules.resilience t group;
+  group = group_run_is_whole rules.founders (lowest_name_or_zero rules.founders) rules.resilience t group;
   stands = subst (λ (f : ℕ → groups.ChainNode). NameStands v i n (f i)) (sym same.node) h.stands;
   there = subst (λ (f : ℕ → groups.ChainNode). IsThere (f i)) (sym same.node) h.there;
   fronts = subst (λ (f : ℕ → groups.ChainNode). FrontsStand n (f i)) (sym same.node) h.fronts;
@@ -27,7 +27,7 @@ sender_more rules v i c m n s t group same g h = record {
   noted = h.noted;
   who = h.who;
   small = h.small;
-  begun = subst (λ (f : ℕ → groups.ChainNode). key n.core.promise ≤ key (f n.core.promise.by).promise) (sym same.node) h.begun;
+  begun = subst (λ (f : ℕ → groups.ChainNode). key_of_stamp n.core.promise ≤ key_of_stamp (f n.core.promise.by).promise) (sym same.node) h.begun;
   lives = h.lives;
   trimmed = trimmed_stays_as_letters_need v v s t g (nothing_more v) n.core.base h.trimmed;
   numbers = h.numbers;
@@ -66,7 +66,7 @@ step_letters_told_by_moves rules v i c m n [] s group h says = no_letters_told_w
 step_letters_told_by_moves rules v i c m n (l ∷ ls) s group h says =
     let first = All-head (letters.LetterSays m c n) l ls says in
     let one = sent_letters_say_so v i c m n s l.to l.packet h first.says in
-    let on = group_goes_on_by_moves rules.founders (lowest_or_first rules.founders) rules.resilience s one.to group one.path in
+    let on = group_goes_on_by_moves rules.founders (lowest_name_or_zero rules.founders) rules.resilience s one.to group one.path in
     let next = sender_more rules v i c m n s one.to on.group_ one.is.same on.grows h in
     let rest = step_letters_told_by_moves rules v i c m n ls one.to on.group_ next (All-tail (letters.LetterSays m c n) l ls says) in
     record {

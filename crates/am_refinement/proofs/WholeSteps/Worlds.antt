@@ -1,5 +1,5 @@
 -- A world within a step whose group list, and views, have gone on.
-use Rattle.am_refinement.proofs.WholeSteps.StepWords.{◌≡◌, ℕ, ◌<◌, List, ◌++◌, Some, slice_get, refl, sym, ap, ◌∙◌, Entry, Record, Begins, Group, with_node, Node, Decided, World}
+use Rattle.am_refinement.proofs.WholeSteps.StepWords.{◌≡◌, ℕ, ◌<◌, List, ◌++◌, Some, slice_get, refl, sym, ap, ◌∙◌, Entry, Record, IsBeginningOf, Group, group_with_node, Node, Decided, World}
 use Rattle.am_refinement.proofs.WholeSteps.StepWords.{up_to_next, NameStands, StandsBut, within, WasAsked, SendsOnce, views_stand_if_noted_lines_stay, others_stand_within_changed_node, fronts_stand_within_changed_node, lines_stay_with_same_log}
 use Rattle.am_refinement.proofs.WholeSteps.StepWords.{views_stand_if_lines_stay, IsSameToGroup, same_node_keeps_name_standing, take_of_longer_list, name_stands_in_grown_world}
 use Rattle.am_abstract_group.specs.Group as groups
@@ -14,7 +14,7 @@ with_group_list w group = record w { group = group }
 -- ---- what stands
 
 -- with more accepted
-pub group_stands_with_more_accepted : (v : World) (group : List Entry) (name : ℕ) (s : Group) → Begins v.group group → ViewsAreNotedByNames v.views → StandsBut name v s
+pub group_stands_with_more_accepted : (v : World) (group : List Entry) (name : ℕ) (s : Group) → IsBeginningOf v.group group → ViewsAreNotedByNames v.views → StandsBut name v s
     → StandsBut name (with_group_list v group) (record s { group = group })
 group_stands_with_more_accepted v group name s grows noted h = record {
   each = λ i few. name_stands_in_grown_world v (with_group_list v group) i (v.nodes i) (s.node i) grows refl (h.each i few);
@@ -33,7 +33,7 @@ name_learned : (v : World) (i : ℕ) (m : Node) (a : groups.ChainNode) (told acc
 name_learned v i m a told acc h = assumption
 
 pub group_stands_with_learned_fronts : (w : World) (name : ℕ) (x y : Node) (s : Group) (told acc : ℕ) → IsSameToGroup x y → StandsBut name (within w name x) s
-    → StandsBut name (within w name y) (with_node s name (with_told_and_accepted (s.node name) told acc))
+    → StandsBut name (within w name y) (group_with_node s name (with_told_and_accepted (s.node name) told acc))
 group_stands_with_learned_fronts w name x y s told acc u h = record {
   each = others_stand_within_changed_node w name x y s (with_told_and_accepted (s.node name) told acc)
       (λ k. name_learned (within w name y) name y (s.node name) told acc (same_node_keeps_name_standing w name name x y (s.node name) u k)) h.each;

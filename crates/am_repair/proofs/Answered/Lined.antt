@@ -1,16 +1,16 @@
 -- A node's sends stand in line, and the request that may have gone out never falls.
 use Rattle.am_step_laws.proofs.Words.{◌≡◌, ℕ, ◌+◌, ◌≤◌, min, true, false, List, [], ◌∷◌, find, Some, None, refl, ap, subst}
-use Rattle.am_step_laws.proofs.Words.{arith, split_on_bool, Leave, Outcome, OwnSend, Node, Ballot, push_entry, waiting, Verdict, refresh, settle, refresh_at_end}
-use Rattle.am_step_laws.proofs.Words.{Cause, Looks, finds_itself_out, Change, Changes, refreshes, settles, looks, queues, collects, closes}
+use Rattle.am_step_laws.proofs.Words.{arith, split_on_bool, Leave, Outcome, OwnSend, Node, Ballot, push_entry, waiting_send_of, BallotVerdict, refresh, settle_waiting_send, refresh_at_end}
+use Rattle.am_step_laws.proofs.Words.{Cause, LooksAtBallot, finds_itself_out, Change, Changes, refreshes, settles, looks, queues, collects, closes}
 use Rattle.am_step_laws.proofs.Words.{changes_keep_property, refresh_changes_only_fronts}
 use Rattle.std.specs.Prelude.{is_some}
 use Rattle.am_node_defs.specs.Sends as own
-use Rattle.am_node_defs.specs.Sends.{are_in_line, next_in, is_unsettled}
+use Rattle.am_node_defs.specs.Sends.{unsettled_sends_are_in_line, next_unsettled_request, is_unsettled}
 use Rattle.am_node_defs.proofs.Lines.{next_in_line_is_waiting, waiting_request_le_last, next_in_line_after_push, sends_in_line_after_push, sends_in_line_after_settle, sends_in_line_after_remove, settled_request_below_next}
 use Rattle.am_step_laws.proofs.Rests.{settle_keeps_property}
 
 pub record SendsOfNodeInLine (m : Node) : Type 0 where
-  pub line : are_in_line m.sends.last m.sends.queue ≡ true
+  pub line : unsettled_sends_are_in_line m.sends.last m.sends.queue ≡ true
 
 -- the last request that may have gone out: that of the send that waits, or the last
 abbrev pub greatest_request_sent : Node → ℕ
@@ -18,7 +18,7 @@ greatest_request_sent m = min m.sends.last (own.next_request m.sends)
 
 -- another node's may be higher
 pub record NextRequestRose (m n : Node) : Type 0 where
-  pub line : are_in_line n.sends.last n.sends.queue ≡ true
+  pub line : unsettled_sends_are_in_line n.sends.last n.sends.queue ≡ true
   pub last : m.sends.last ≤ n.sends.last
   pub next : own.next_request m.sends ≤ own.next_request n.sends
 
@@ -27,14 +27,14 @@ rose_here m h = record { line = h.line; last = omega arith; next = omega arith }
 
 -- the same sends
 rose_same : (k m n : Node) → n.sends ≡ m.sends → NextRequestRose k m → NextRequestRose k n
-rose_same k m n same h = subst (λ (s : own.Sends). (are_in_line s.last s.queue ≡ true) × (k.sends.last ≤ s.last) × (own.next_request k.sends ≤ own.next_request s)
+rose_same k m n same h = subst (λ (s : own.Sends). (unsettled_sends_are_in_line s.last s.queue ≡ true) × (k.sends.last ≤ s.last) × (own.next_request k.sends ≤ own.next_request s)
     → NextRequestRose k n) same (λ x. subst (λ (s : own.Sends). NextRequestRose k n) same (rose_by k n x)) (h.line, h.last, h.next)
   where
-    rose_by : (k n : Node) → (are_in_line n.sends.last n.sends.queue ≡ true) × (k.sends.last ≤ n.sends.last)
+    rose_by : (k n : Node) → (unsettled_sends_are_in_line n.sends.last n.sends.queue ≡ true) × (k.sends.last ≤ n.sends.last)
         × (own.next_request k.sends ≤ own.next_request n.sends) → NextRequestRose k n
     rose_by k n x = record { line = x.0; last = x.1; next = x.2 }
 
-rose_settled : (k m : Node) → NextRequestRose k m → NextRequestRose k (settle m)
+rose_settled : (k m : Node) → NextRequestRose k m → NextRequestRose k (settle_waiting_send m)
 rose_settled k m h = settle_keeps_property (NextRequestRose k) m h (λ s number w at.
     let t = sends_in_line_after_settle m.sends.last s.req (m.core.base + 1 + number) m.sends.queue s h.line w refl in
     let before = next_in_line_is_waiting m.sends.last m.sends.queue s w in
@@ -49,7 +49,7 @@ rose_ended : (k m : Node) → NextRequestRose k m → NextRequestRose k (refresh
 unfolding refresh_at_end
 rose_ended k m h = rose_settled k (refresh m) (next_request_rose_by_refresh k m h)
 
-rose_looked : (k m : Node) (b : Ballot) (v : Verdict) → Looks m b v → NextRequestRose k m → NextRequestRose k v.node
+rose_looked : (k m : Node) (b : Ballot) (v : BallotVerdict) → LooksAtBallot m b v → NextRequestRose k m → NextRequestRose k v.node
 rose_looked k m b v (finds_itself_out x) h = record { line = h.line; last = h.last; next = h.next }
 rose_looked k m b v _ h = record { line = h.line; last = h.last; next = h.next }
 
@@ -63,7 +63,7 @@ rose_change k m n (queues body is o member stays few) h =
     let last = h.last in
     let next = h.next in
     record { line = sends_in_line_after_push m.sends.last m.sends.queue new refl refl h.line; last = omega arith; next = omega arith }
-rose_change k m n (collects req is) h = split_on_bool (own.is_settled req m.sends)
+rose_change k m n (collects req is) h = split_on_bool (own.has_settled_send req m.sends)
     (λ t.
     let low = settled_request_below_next m.sends.last req m.sends.queue h.line t in
     let r = sends_in_line_after_remove m.sends.last req m.sends.queue h.line low in
@@ -81,18 +81,18 @@ next_request_rose_by_changes {m = m} changes h = changes_keep_property (NextRequ
 
 -- ---- what that says of the send that waits
 
-pub waiting_request_le_sent : (m : Node) (s : OwnSend) → SendsOfNodeInLine m → waiting m ≡ Some s → s.req ≤ greatest_request_sent m
+pub waiting_request_le_sent : (m : Node) (s : OwnSend) → SendsOfNodeInLine m → waiting_send_of m ≡ Some s → s.req ≤ greatest_request_sent m
 waiting_request_le_sent m s h w =
     let next = next_in_line_is_waiting m.sends.last m.sends.queue s w in
     let low = waiting_request_le_last m.sends.last m.sends.queue s h.line w in
     omega arith
 
 -- where none waits the next is the one behind the last
-none_next : (last : ℕ) (q : List OwnSend) → is_some (find is_unsettled q) ≡ false → next_in last q ≡ last + 1
+none_next : (last : ℕ) (q : List OwnSend) → is_some (find is_unsettled q) ≡ false → next_unsettled_request last q ≡ last + 1
 none_next last [] none = refl
 none_next last (s ∷ ss) none = split_on_bool (is_unsettled s)
     (λ t. absurd (let x = rw t at none in cc))
     (λ f. rw f (none_next last ss (rw f at none)))
 
-pub next_request_if_none_waits : (m : Node) → is_some (waiting m) ≡ false → own.next_request m.sends ≡ m.sends.last + 1
+pub next_request_if_none_waits : (m : Node) → is_some (waiting_send_of m) ≡ false → own.next_request m.sends ≡ m.sends.last + 1
 next_request_if_none_waits m none = none_next m.sends.last m.sends.queue none

@@ -1,7 +1,7 @@
 -- Where a group may be repaired and its lists agree, the world is calm; so the schedule repairs it.
 use Rattle.am_repair.proofs.RepairWords.{false_from_ne_true, inl, inr, ◌≡◌, ℕ, ◌<◌, true, false, length, refl, sym, ap, ◌∙◌, subst, arith, cases_lt, Image}
-use Rattle.am_repair.proofs.RepairWords.{List, Event, ◌+◌, MayFound, Rules, place_of, life_of, has, members_of, members_at, image_at_top_is_told, Node, top, image_of, view, members, acts}
-use Rattle.am_repair.proofs.RepairWords.{is_member, stranger, has_departed, World, current, is_stopped, run, MayRepair, WorldTrimsOnlyTaken, run_trims_only_taken}
+use Rattle.am_repair.proofs.RepairWords.{List, Event, ◌+◌, MayFound, Rules, place_of_name, life_of_name, has, members_of_image, log_members_at, image_at_top_is_told, Node, top, image_of_node, view, members, acts_in_its_view}
+use Rattle.am_repair.proofs.RepairWords.{is_member, stranger_node, has_departed, World, current, is_stopped, run, MayRepair, WorldTrimsOnlyTaken, run_trims_only_taken}
 use Rattle.am_repair.proofs.RepairWords.{IsAtRest, Repair, LeadsCalmly, ◌≤◌, split_on_bool, FollowsView, IsApart, IsLeaver, is_past, Calm, Agree, RepairsWhereListsAgree}
 use Rattle.am_repair.specs.Claim.{IsOut}
 use Rattle.am_repair.proofs.Nodes.{acting_member_promised_its_view, sequencer_acts_by_own_view, acting_node_has_no_ballot}
@@ -17,25 +17,25 @@ use Rattle.am_refinement.proofs.Sending.{log_status_undeparted_is_member}
 -- ---- who is there
 
 -- a life that hasn't begun doesn't act
-born : (rules : Rules) (w : World) (name : ℕ) → WorldTrimsOnlyTaken rules w → w.lives (place_of name) < life_of name → acts (w.nodes name) ≡ true → ⊥
+born : (rules : Rules) (w : World) (name : ℕ) → WorldTrimsOnlyTaken rules w → w.lives (place_of_name name) < life_of_name name → acts_in_its_view (w.nodes name) ≡ true → ⊥
 born rules w name laws low a =
     let is = laws.blanks.base.named.unborn name low in
-    let t : acts (stranger rules name) ≡ true = subst (λ (m : Node). acts m ≡ true) is a in
+    let t : acts_in_its_view (stranger_node rules name) ≡ true = subst (λ (m : Node). acts_in_its_view m ≡ true) is a in
     cc
 
-pub acting_name_is_small : (rules : Rules) (w : World) (name : ℕ) → WorldTrimsOnlyTaken rules w → acts (w.nodes name) ≡ true → name < 256
+pub acting_name_is_small : (rules : Rules) (w : World) (name : ℕ) → WorldTrimsOnlyTaken rules w → acts_in_its_view (w.nodes name) ≡ true → name < 256
 acting_name_is_small rules w name laws a = elim (cases_lt name 256) [
   | inl low ↦ low
-  | inr high ↦ (let most = laws.blanks.base.named.most (place_of name) in absurd (born rules w name laws (omega arith) a))
+  | inr high ↦ (let most = laws.blanks.base.named.most (place_of_name name) in absurd (born rules w name laws (omega arith) a))
 ]
 
-acting_there : (m : Node) → acts m ≡ true → has_departed m.status ≡ false
+acting_there : (m : Node) → acts_in_its_view m ≡ true → has_departed m.status ≡ false
 acting_there m a = member_status_has_not_departed m (acting_member_promised_its_view m a).0
 
 -- who is out is no member of the sequencer's list
 pub name_out_is_no_member : (w : World) (q : Node) (name : ℕ) → q.core.acc ≤ top q → IsOut w q name → has_departed (w.nodes name).status ≡ false
     → has (members q) name ≡ false
-name_out_is_no_member w q name low out here = ap (λ (i : Image). has (members_of i) name) (sym (image_at_top_is_told q.core.log)) ∙ out here (top q) low (omega arith)
+name_out_is_no_member w q name low out here = ap (λ (i : Image). has (members_of_image i) name) (sym (image_at_top_is_told q.core.log)) ∙ out here (top q) low (omega arith)
 
 -- who acts and is a member of its list runs, and isn't leaving
 pub member_of_repair_runs : (w : World) (place name : ℕ) → MayRepair w place
@@ -50,13 +50,13 @@ member_stays w place name may low there = false_from_ne_true (w.nodes name).leav
     (λ t. (let none = name_out_is_no_member w (w.nodes (current w place)) name low (may.nobody_leaves name t) (acting_there (w.nodes name) (may.all_act name there).0)
     in cc))
 
-there_now : (rules : Rules) (w : World) (name : ℕ) → WorldTrimsOnlyTaken rules w → OldLivesHaveStopped w → acts (w.nodes name) ≡ true → is_stopped w name ≡ false
+there_now : (rules : Rules) (w : World) (name : ℕ) → WorldTrimsOnlyTaken rules w → OldLivesHaveStopped w → acts_in_its_view (w.nodes name) ≡ true → is_stopped w name ≡ false
     → NameRunsNow w name
 there_now rules w name laws old a runs =
     record {
-      current_ = elim (cases_lt (w.lives (place_of name)) (life_of name)) [
+      current_ = elim (cases_lt (w.lives (place_of_name name)) (life_of_name name)) [
         | inl low ↦ absurd (born rules w name laws low a)
-        | inr at_least ↦ elim (cases_lt (life_of name) (w.lives (place_of name))) [
+        | inr at_least ↦ elim (cases_lt (life_of_name name) (w.lives (place_of_name name))) [
           | inl older ↦ absurd (let t = old.old name older in cc)
           | inr at_most ↦ omega arith
         ]
@@ -70,9 +70,9 @@ abbrev pub repair_of_place : World → ℕ → Repair
 repair_of_place w q = record {
   by = q;
   view = view (w.nodes q);
-  at = (image_of (w.nodes q)).view_number;
+  at = (image_of_node (w.nodes q)).view_number;
   members = members (w.nodes q);
-  gone = is_past (image_of (w.nodes q));
+  gone = is_past (image_of_node (w.nodes q));
   high = top (w.nodes q);
   sent = length w.letters;
 }
@@ -120,8 +120,8 @@ leads_first rules w place b =
       high = omega arith;
       reached = own.reached;
       fit = λ k e low there. b.agree.fit k e there;
-      members_ = λ name k there above within. (let last : k ≡ top m = omega arith in ap (λ n. has (members_at m.core.log n) name) last
-          ∙ ap (λ (i : Image). has (members_of i) name) (image_at_top_is_told m.core.log) ∙ there);
+      members_ = λ name k there above within. (let last : k ≡ top m = omega arith in ap (λ n. has (log_members_at m.core.log n) name) last
+          ∙ ap (λ (i : Image). has (members_of_image i) name) (image_at_top_is_told m.core.log) ∙ there);
       gone = λ name t. t;
       counted = b.agree.counted;
     }
@@ -145,7 +145,7 @@ apart_first rules w place name b none goes there stays =
         promised = λ member. absurd (cc);
       }
       | inr high ↦
-          (let most = b.laws.blanks.base.named.most (place_of name) in
+          (let most = b.laws.blanks.base.named.most (place_of_name name) in
           let is = b.laws.blanks.base.named.unborn name (omega arith) in
           record { no_ballot = ap (λ (x : Node). x.ballot) is; stays = stays; promised = λ member. absurd (cc) })
     ]

@@ -1,11 +1,11 @@
 -- What is claimed of calm worlds of runs.
-use Rattle.am_repair.proofs.RepairWords.{List, [], ◌∷◌, sym, ap, subst, arith, All, All-head, All-tail, Rules, Event, top, Settling, World, start, happens, happen}
+use Rattle.am_repair.proofs.RepairWords.{List, [], ◌∷◌, sym, ap, subst, arith, All, All-head, All-tail, Rules, Event, top, Settling, World, start, happens, world_after_events}
 use Rattle.am_repair.proofs.RepairWords.{run, runs_go_on, run_trims_only_taken, Repair, Calm, IsOurs, CalmStays, RoundsStore}
 use Rattle.am_repair.proofs.Fine.{WorldKeepsLawsAndCalm, laws_and_calm_stay}
 use Rattle.am_repair.proofs.Rounds.{round_world_is_after_waves, round_stores_eight_more}
 
-fine_along : (rules : Rules) (r : Repair) (w : World) (es : List Event) → All (IsOurs r) es → WorldKeepsLawsAndCalm rules r w → WorldKeepsLawsAndCalm rules r (happen w es)
-unfolding happen
+fine_along : (rules : Rules) (r : Repair) (w : World) (es : List Event) → All (IsOurs r) es → WorldKeepsLawsAndCalm rules r w → WorldKeepsLawsAndCalm rules r (world_after_events w es)
+unfolding world_after_events
 fine_along rules r w [] all h = h
 fine_along rules r w (e ∷ es) all h = fine_along rules r (happens w e) es (All-tail (IsOurs r) e es all)
     (laws_and_calm_stay rules r w e (All-head (IsOurs r) e es all) h)

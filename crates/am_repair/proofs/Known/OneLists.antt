@@ -2,9 +2,9 @@
 use Rattle.am_base.specs.declared.entry.GroupView.{GroupView}
 use Rattle.am_repair.proofs.RepairWords.{◌≡◌, max, ◌⊎◌, inl, inr, either, ℕ, zero, suc, ◌+◌, ◌-◌, ◌<◌, ◌≤◌, nat_le, true, List, [], ◌∷◌, length, take, Some}
 use Rattle.am_repair.proofs.RepairWords.{slice_get, refl, sym, ap, ◌∙◌, arith, length-append, subst, cases_lt, nat_tests, take-append-add, Image, Entry}
-use Rattle.am_repair.proofs.RepairWords.{View, has, entry_at, image_at, blank, fold, after, fits, members_of, entry_fits_at_its_number, IsGood, mem, stamp_of_list, key}
-use Rattle.am_repair.proofs.RepairWords.{fold_entries_append, beginning_of_good_is_good, beginning_length_le, take_begins_list, length_take, take_length_of_beginning, shorter_beginning_begins_longer, begins_push_next_entry, view_key_grows_along_list}
-use Rattle.am_repair.proofs.RepairWords.{view_below_pushed_view, slice_get_of_append_back, Node, top, image_of, view, members, World, split_on_bool, current, run, slice_get_within, NodeTrimFronts}
+use Rattle.am_repair.proofs.RepairWords.{View, has, log_entry_at, log_image_at, blank, image_after_entries, after, fits, members_of_image, entry_fits_at_its_number, IsGoodList, is_member_at_end, stamp_of_list, key_of_stamp}
+use Rattle.am_repair.proofs.RepairWords.{fold_entries_append, beginning_of_good_is_good, beginning_is_no_longer, taken_front_begins_list, length_of_taken_list, take_length_of_beginning, shorter_beginning_begins_longer, begins_push_next_entry, view_key_grows_along_list}
+use Rattle.am_repair.proofs.RepairWords.{view_below_pushed_view, slice_get_of_append_back, Node, top, image_of_node, view, members, World, split_on_bool, current, run, slice_get_within, NodeTrimFronts}
 use Rattle.am_repair.proofs.RepairWords.{run_trims_only_taken, false, false_from_ne_true, is_member, is_stopped, Rules, MayFound, Event, MayRepair, is_past, plain_entry_keeps_image_view}
 use Rattle.am_repair.proofs.RepairWords.{IsBeginning, Agrees, HasLeft, OneListAgrees}
 use Rattle.am_repair.specs.Standing.{IsOneList}
@@ -20,42 +20,42 @@ use Rattle.am_repair.proofs.RepairLists.{entry_at_is_within_log}
 
 whole_long : (w : World) (m : Node) → m.core.log.start ≤ length w.group → length (lists.whole w m) ≡ top m
 whole_long w m low =
-    let a = length_take m.core.log.start w.group low in
+    let a = length_of_taken_list m.core.log.start w.group low in
     let b = length-append (take m.core.log.start w.group) m.core.log.entries in
     omega arith
 
 -- up to a number from its start on
 whole_part : (w : World) (q m : Node) (k : ℕ) → IsBeginning w q m → m.core.log.start ≤ k
-    → whole.image_of (take k (lists.whole w m)) ≡ image_at m.core.log k
+    → whole.image_of_list (take k (lists.whole w m)) ≡ log_image_at m.core.log k
 whole_part w q m k h low =
     let start = m.core.log.start in
     let before = take start w.group in
-    let long = length_take start w.group h.within in
+    let long = length_of_taken_list start w.group h.within in
     let at : k ≡ length before + (k - start) = omega arith in
     let next : 1 + length before ≡ start + 1 = omega arith in
-    ap (λ n. whole.image_of (take n (lists.whole w m))) at
-    ∙ ap (λ es. whole.image_of es) (take-append-add before m.core.log.entries (k - start))
+    ap (λ n. whole.image_of_list (take n (lists.whole w m))) at
+    ∙ ap (λ es. whole.image_of_list es) (take-append-add before m.core.log.entries (k - start))
     ∙ fold_entries_append blank 1 before (take (k - start) m.core.log.entries)
-    ∙ ap (λ n. fold (whole.image_of before) n (take (k - start) m.core.log.entries)) next
-    ∙ ap (λ i. fold i (start + 1) (take (k - start) m.core.log.entries)) (sym h.image)
+    ∙ ap (λ n. image_after_entries (whole.image_of_list before) n (take (k - start) m.core.log.entries)) next
+    ∙ ap (λ i. image_after_entries i (start + 1) (take (k - start) m.core.log.entries)) (sym h.image)
 
-whole_told : (w : World) (q m : Node) → IsBeginning w q m → whole.image_of (lists.whole w m) ≡ image_of m
+whole_told : (w : World) (q m : Node) → IsBeginning w q m → whole.image_of_list (lists.whole w m) ≡ image_of_node m
 whole_told w q m h =
     let start = m.core.log.start in
     let before = take start w.group in
-    let long = length_take start w.group h.within in
+    let long = length_of_taken_list start w.group h.within in
     let next : 1 + length before ≡ start + 1 = omega arith in
     fold_entries_append blank 1 before m.core.log.entries
-    ∙ ap (λ n. fold (whole.image_of before) n m.core.log.entries) next
-    ∙ ap (λ i. fold i (start + 1) m.core.log.entries) (sym h.image)
+    ∙ ap (λ n. image_after_entries (whole.image_of_list before) n m.core.log.entries) next
+    ∙ ap (λ i. image_after_entries i (start + 1) m.core.log.entries) (sym h.image)
 
-whole_entry : (w : World) (m : Node) (number : ℕ) (e : Entry) → m.core.log.start ≤ length w.group → entry_at m.core.log number ≡ Some e
+whole_entry : (w : World) (m : Node) (number : ℕ) (e : Entry) → m.core.log.start ≤ length w.group → log_entry_at m.core.log number ≡ Some e
     → slice_get (lists.whole w m) (number - 1) ≡ Some e
 whole_entry w m zero e low there = absurd (cc)
 whole_entry w m (suc before) e low there = split_on_bool (nat_le m.core.log.start before)
     (λ t.
     let above : m.core.log.start ≤ before = grind (arith, nat_tests) in
-    let long = length_take m.core.log.start w.group low in
+    let long = length_of_taken_list m.core.log.start w.group low in
     let get = rw t at there in
     let at : suc before - 1 ≡ length (take m.core.log.start w.group) + (before - m.core.log.start) = omega arith in
     ap (slice_get (lists.whole w m)) at ∙ slice_get_of_append_back (take m.core.log.start w.group) m.core.log.entries (before - m.core.log.start) ∙ get)
@@ -64,23 +64,23 @@ whole_entry w m (suc before) e low there = split_on_bool (nat_le m.core.log.star
 -- ---- what a member's list tells
 
 -- the sequencer's up to there
-tells_same : (w : World) (q m : Node) → IsBeginning w q q → IsBeginning w q m → q.core.log.start ≤ top m → image_of m ≡ image_at q.core.log (top m)
+tells_same : (w : World) (q m : Node) → IsBeginning w q q → IsBeginning w q m → q.core.log.start ≤ top m → image_of_node m ≡ log_image_at q.core.log (top m)
 tells_same w q m own h low =
     sym (whole_told w q m h)
-    ∙ ap (λ es. whole.image_of es) (sym (take_length_of_beginning h.begins))
-    ∙ ap (λ n. whole.image_of (take n (lists.whole w q))) (whole_long w m h.within)
+    ∙ ap (λ es. whole.image_of_list es) (sym (take_length_of_beginning h.begins))
+    ∙ ap (λ n. whole.image_of_list (take n (lists.whole w q))) (whole_long w m h.within)
     ∙ whole_part w q q (top m) own low
 
 goes_no_further : (w : World) (q m : Node) → IsBeginning w q q → IsBeginning w q m → top m ≤ top q
 goes_no_further w q m own h =
     let a = whole_long w m h.within in
     let b = whole_long w q own.within in
-    let c = beginning_length_le h.begins in
+    let c = beginning_is_no_longer h.begins in
     omega arith
 
 -- each entry fits
-fits_there : (w : World) (q : Node) (number : ℕ) (e : Entry) → IsGood (lists.whole w q) → IsBeginning w q q → entry_at q.core.log number ≡ Some e
-    → fits (image_at q.core.log (number - 1)) e ≡ true
+fits_there : (w : World) (q : Node) (number : ℕ) (e : Entry) → IsGoodList (lists.whole w q) → IsBeginning w q q → log_entry_at q.core.log number ≡ Some e
+    → fits (log_image_at q.core.log (number - 1)) e ≡ true
 fits_there w q number e good own there =
     let within = (entry_at_is_within_log q.core.log number e there).0 in
     let get = whole_entry w q number e own.within there in
@@ -92,16 +92,16 @@ fits_there w q number e good own there =
 record ViewIn (image : Image) (n : ℕ) (es : List Entry) : Type 0 where
   index : ℕ
   last : GroupView
-  is : last.stamp ≡ (fold image n es).view
-  number : n + index ≡ (fold image n es).view_number
+  is : last.stamp ≡ (image_after_entries image n es).view
+  number : n + index ≡ (image_after_entries image n es).view_number
   there : slice_get es index ≡ Some (View last)
 
 Unviewed : Image → ℕ → List Entry → Type 0
-Unviewed image n es = ((fold image n es).view ≡ image.view) × ((fold image n es).view_number ≡ image.view_number)
+Unviewed image n es = ((image_after_entries image n es).view ≡ image.view) × ((image_after_entries image n es).view_number ≡ image.view_number)
 
 view_at : (image : Image) (n : ℕ) (e : Entry) (es : List Entry) → Unviewed (after image n e) (n + 1) es
     → ViewIn image n (e ∷ es) ⊎ Unviewed image n (e ∷ es)
-unfolding fold after Unviewed
+unfolding image_after_entries after Unviewed
 view_at image n (View w) es h = inl (record {
   index = 0;
   last = w;
@@ -112,7 +112,7 @@ view_at image n (View w) es h = inl (record {
 view_at image n e es h = inr (h.0 ∙ (plain_entry_keeps_image_view image n e refl).view, h.1 ∙ (plain_entry_keeps_image_view image n e refl).number)
 
 view_in : (image : Image) (n : ℕ) (es : List Entry) → ViewIn image n es ⊎ Unviewed image n es
-unfolding fold Unviewed
+unfolding image_after_entries Unviewed
 view_in image n [] = inr (refl, refl)
 view_in image n (e ∷ es) = either (view_in (after image n e) (n + 1) es)
     (λ h. let at = h.number in inl
@@ -120,7 +120,7 @@ view_in image n (e ∷ es) = either (view_in (after image n e) (n + 1) es)
     (λ h. view_at image n e es h)
 
 -- a list with the same view as the sequencer's has its last View
-no_less : (w : World) (q m : Node) → IsGood (lists.whole w q) → IsBeginning w q q → IsBeginning w q m → view m ≡ view q → top m < (image_of q).view_number → ⊥
+no_less : (w : World) (q m : Node) → IsGoodList (lists.whole w q) → IsBeginning w q q → IsBeginning w q m → view m ≡ view q → top m < (image_of_node q).view_number → ⊥
 unfolding stamp_of_list Unviewed
 no_less w q m good own h same short = either (view_in blank 1 (lists.whole w q))
     (λ x. let list = lists.whole w q in
@@ -128,21 +128,21 @@ no_less w q m good own h same short = either (view_in blank 1 (lists.whole w q))
     let number = ap (λ (i : Image). i.view_number) tells in
     let long = whole_long w m h.within in
     let within = slice_get_within list x.index (View x.last) x.there in
-    let before = length_take x.index list (omega arith) in
+    let before = length_of_taken_list x.index list (omega arith) in
     let there : slice_get list (length (take x.index list)) ≡ Some (View x.last) = ap (slice_get list) before ∙ x.there in
-    let good_view = beginning_of_good_is_good (begins_push_next_entry (View x.last) (take_begins_list x.index list) there) good in
+    let good_view = beginning_of_good_is_good (begins_push_next_entry (View x.last) (taken_front_begins_list x.index list) there) good in
     let below = view_below_pushed_view (take x.index list) x.last good_view in
-    let up = view_key_grows_along_list (beginning_of_good_is_good (take_begins_list x.index list) good) (shorter_beginning_begins_longer h.begins (take_begins_list x.index list) (omega arith)) in
+    let up = view_key_grows_along_list (beginning_of_good_is_good (taken_front_begins_list x.index list) good) (shorter_beginning_begins_longer h.begins (taken_front_begins_list x.index list) (omega arith)) in
     let mine : whole.stamp_of_list (lists.whole w m) ≡ x.last.stamp =
     ap (λ (i : Image). i.view) (whole_told w q m h) ∙ same ∙ ap (λ (i : Image). i.view) (sym tells) ∙ sym x.is in
-    let keys = ap key mine in
+    let keys = ap key_of_stamp mine in
     let z : ⊥ = omega arith in z)
     (λ x. let number = ap (λ (i : Image). i.view_number) (whole_told w q q own) in
     let z : ⊥ = omega arith in z)
 
-has_last_view : (w : World) (q m : Node) → IsGood (lists.whole w q) → IsBeginning w q q → IsBeginning w q m → view m ≡ view q
-    → (image_of q).view_number ≤ top m
-has_last_view w q m good own h same = elim (cases_lt (top m) (image_of q).view_number) [
+has_last_view : (w : World) (q m : Node) → IsGoodList (lists.whole w q) → IsBeginning w q q → IsBeginning w q m → view m ≡ view q
+    → (image_of_node q).view_number ≤ top m
+has_last_view w q m good own h same = elim (cases_lt (top m) (image_of_node q).view_number) [
   | inl short ↦ absurd (no_less w q m good own h same short)
   | inr reached ↦ reached
 ]
@@ -150,11 +150,11 @@ has_last_view w q m good own h same = elim (cases_lt (top m) (image_of q).view_n
 -- ---- all of it
 
 -- a member by the whole list is one
-listed_is : (w : World) (q : Node) (name : ℕ) → IsBeginning w q q → mem (lists.whole w q) name ≡ true → has (members q) name ≡ true
-unfolding mem
-listed_is w q name own there = ap (λ (i : Image). has (members_of i) name) (sym (whole_told w q q own)) ∙ there
+listed_is : (w : World) (q : Node) (name : ℕ) → IsBeginning w q q → is_member_at_end (lists.whole w q) name ≡ true → has (members q) name ≡ true
+unfolding is_member_at_end
+listed_is w q name own there = ap (λ (i : Image). has (members_of_image i) name) (sym (whole_told w q q own)) ∙ there
 
-agrees : (w : World) (q m : Node) → IsGood (lists.whole w q) → IsBeginning w q q → IsBeginning w q m → view m ≡ view q → NodeTrimFronts q → NodeTrimFronts m
+agrees : (w : World) (q m : Node) → IsGoodList (lists.whole w q) → IsBeginning w q q → IsBeginning w q m → view m ≡ view q → NodeTrimFronts q → NodeTrimFronts m
     → q.core.base ≤ m.core.taken → (q.reports m.core.who).taken ≤ max q.core.base m.core.taken → Agrees q m
 agrees w q m good own h same fq fm trimmed_ known =
     let low : q.core.log.start ≤ top m = omega arith in
@@ -178,9 +178,9 @@ has_left rules events place name may repair low one own itself member goes leave
     let m = w.nodes name in
     let who = (run_trims_only_taken rules events may).blanks.base.named.who name in
     let none = name_out_is_no_member w q name low (repair.nobody_leaves name leaves) (member_status_has_not_departed m member) in
-    let no_member = false_from_ne_true (mem (lists.whole w q) name) (λ t. (let in_ = listed_is w q name own t in cc)) in
+    let no_member = false_from_ne_true (is_member_at_end (lists.whole w q) name) (λ t. (let in_ = listed_is w q name own t in cc)) in
     record {
-      past = subst (λ i. is_past (image_of q) i ≡ true) (sym who)
+      past = subst (λ i. is_past (image_of_node q) i ≡ true) (sym who)
           (ap (λ (i : Image). is_past i name) (sym (whole_told w q q own)) ∙ one.past name member goes no_member);
       tells = λ t mine. (let same = one.tells name member goes t mine in
           let in_ = subst (λ i. has (members q) i ≡ true) (sym same) itself in cc);

@@ -1,9 +1,9 @@
 -- What is known of a name to be taken, through each change: it was reported so, and taken, or is no more than the base.
-use Rattle.am_repair.proofs.RepairWords.{welcomed_node_has_no_log, top_of, Leave, Report, Stamp, Outcome, settle_changes_only_sends, end_refresh_rests_with_list, refresh_rests_with_list, split_on_bool, Verdict, Ballot}
-use Rattle.am_repair.proofs.RepairWords.{is_sequencer, node_with_report, push_entry, Node, node_with_admitted, refresh_at_end, refresh, nat_tests, ◌≡◌, ℕ, ◌≤◌, ◌==◌}
+use Rattle.am_repair.proofs.RepairWords.{welcomed_node_has_no_log, top_of_log, Leave, Report, Stamp, Outcome, settle_changes_only_sends, end_refresh_rests_with_list, refresh_rests_with_list, split_on_bool, BallotVerdict, Ballot}
+use Rattle.am_repair.proofs.RepairWords.{is_sequencer, node_with_report, push_entry, Node, node_with_joiner_reports, refresh_at_end, refresh, nat_tests, ◌≡◌, ℕ, ◌≤◌, ◌==◌}
 use Rattle.am_repair.proofs.RepairWords.{max, nat_lt, nat_le, false, if◌then◌else◌, List, refl, sym, ap, ◌∙◌, subst, arith, Change, refreshes, settles}
-use Rattle.am_repair.proofs.RepairWords.{takes_report, admits, notes, begins_list, looks, fetches, stores_view, takes, closes, Says, leave_ask, Looks}
-use Rattle.am_repair.proofs.RepairWords.{finds_no_room, decides, Cause, hears, by_request, BringsReport, with_send, Packet, NodeTrimFronts, IsBlankWithoutLog}
+use Rattle.am_repair.proofs.RepairWords.{takes_report, admits, notes, begins_list, looks, fetches, stores_view, takes, closes, Says, leave_ask, LooksAtBallot}
+use Rattle.am_repair.proofs.RepairWords.{finds_no_room, decides, Cause, hears, by_request, CauseHasReport, with_send, Packet, NodeTrimFronts, IsBlankWithoutLog}
 use Rattle.am_step_laws.specs.Letters.{request, spread, ack, nack}
 use Rattle.am_repair.proofs.RepairLeading.{lead_keeps_reports_of_others}
 
@@ -21,7 +21,7 @@ CauseReportsTaken nodes (hears p) = ReportTellsTaken nodes p
 CauseReportsTaken nodes _ = Unit {0}
 
 -- what a report tells to be taken was taken
-pub reported_taken_le_taken : (nodes : ℕ → Node) (c : Cause) (s : ℕ) (v : Stamp) (report : Report) → BringsReport c s v report → CauseReportsTaken nodes c
+pub reported_taken_le_taken : (nodes : ℕ → Node) (c : Cause) (s : ℕ) (v : Stamp) (report : Report) → CauseHasReport c s v report → CauseReportsTaken nodes c
     → report.taken ≤ (nodes s).core.taken
 reported_taken_le_taken nodes c s v report (with_send s_ v_ report_ req body (by_request s1 v1 report1 req1 body1)) h = h
 reported_taken_le_taken nodes c s v report _ h = h
@@ -63,15 +63,15 @@ truly_report nodes m s report low h name other = split_on_bool (name == s)
     (λ t. let e : name ≡ s = grind (arith, nat_tests) in let a = h s (ap (λ k. k == m.core.who) (sym e) ∙ other) in rw (t, e) (omega arith))
     (λ f. rw f (h name other))
 
-truly_admitted : (nodes : ℕ → Node) (m : Node) (s : ℕ) → ReportsAreTruly nodes m → ReportsAreTruly nodes (node_with_admitted m s)
+truly_admitted : (nodes : ℕ → Node) (m : Node) (s : ℕ) → ReportsAreTruly nodes m → ReportsAreTruly nodes (node_with_joiner_reports m s)
 truly_admitted nodes m s h name other = split_on_bool (name == s) (λ t. rw t (omega arith)) (λ f. rw f (h name other))
 
-truly_look : (nodes : ℕ → Node) (m : Node) (b : Ballot) (v : Verdict) → Looks m b v → ReportsAreTruly nodes m → ReportsAreTruly nodes v.node
+truly_look : (nodes : ℕ → Node) (m : Node) (b : Ballot) (v : BallotVerdict) → LooksAtBallot m b v → ReportsAreTruly nodes m → ReportsAreTruly nodes v.node
 truly_look nodes m b v (finds_no_room learned) h = truly_more nodes m v.node refl (omega arith) (λ name other. refl) h
 truly_look nodes m b v (decides may) h = λ name other. split_on_bool (nat_lt name 256) (λ t. rw t (omega arith)) (λ f. rw f (omega arith))
 truly_look nodes m b v _ h = h
 
-rises_look : (m : Node) (b : Ballot) (v : Verdict) → Looks m b v → BaseAndTakenRise m v.node
+rises_look : (m : Node) (b : Ballot) (v : BallotVerdict) → LooksAtBallot m b v → BaseAndTakenRise m v.node
 rises_look m b v (finds_no_room learned) = record { base = omega arith; taken = omega arith }
 rises_look m b v (decides may) = record { base = omega arith; taken = omega arith }
 rises_look m b v _ = rises_same m _ refl refl
@@ -101,7 +101,7 @@ base_and_taken_rise c o m n k f settles = subst (BaseAndTakenRise m) (sym (settl
 base_and_taken_rise c o m n k f (notes s v base acc brings heard) = record { base = noted_up m.core.base base m.core.taken; taken = omega arith }
 base_and_taken_rise c o m n k f (begins_list s v base join image is says may) =
     (let none = k (welcomed_node_has_no_log m s v base join image may) in
-    let b = ap top_of none.blank_ in
+    let b = ap top_of_log none.blank_ in
     record { base = omega arith; taken = omega arith })
 base_and_taken_rise c o m n k f (looks b verdict over why look is) = rises_look m b verdict look
 base_and_taken_rise c o m n k f (fetches s v base number e is heard promise below why may) = record { base = omega arith; taken = omega arith }

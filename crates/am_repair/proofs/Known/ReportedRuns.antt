@@ -1,7 +1,7 @@
 -- In each run what anybody knows a name to have taken was taken, or is no more than its own base.
 use Rattle.am_repair.proofs.RepairWords.{eqb-true, number_equals_itself, MayFound, Rules, has, Outcome, Event, actor_is_below_256, HeardWelcomeImageIsUsed, HeardStampsHaveNames, heard_stamps_have_names, split_on_bool, Node}
 use Rattle.am_repair.proofs.RepairWords.{Packet, ◌≡◌, ℕ, ◌<◌, ◌≤◌, ◌==◌, List, refl, sym, ap, ◌∙◌, subst, arith, All, All-nil, All-append, All-weaker, Letter}
-use Rattle.am_repair.proofs.RepairWords.{World, start, with_step, run, heard_by, Cause, hears, LetterSays, Changes, no_change, changed, actor}
+use Rattle.am_repair.proofs.RepairWords.{World, start, world_with_step, run, packet_heard_by_act, Cause, hears, LetterSays, Changes, no_change, changed, acting_name}
 use Rattle.am_repair.proofs.RepairWords.{WasSentTo, IsCause, all_gives_item_at, EventsKeep, StepsKeepLaw, HasSameWorldParts, events_keep_by_steps, runs_keep_what_events_keep, TrimsOnlyTakenAlongStep, changes_trim_only_taken, WorldTrimsOnlyTaken}
 use Rattle.am_repair.proofs.RepairWords.{heard_welcome_image_is_used, each_node_trims_only_taken, events_trim_only_taken, start_trims_only_taken, KnownIsTaken}
 use Rattle.am_repair.proofs.Known.Reported.{ReportTellsTaken, CauseReportsTaken, ReportsAreTruly, BaseAndTakenRise, reports_stay_true_by_change, base_and_taken_rise, letter_of_node_reports_taken}
@@ -42,21 +42,21 @@ more_taken old new up _ h = tt
 more_truly : (old new : ℕ → Node) → ((name : ℕ) → (old name).core.taken ≤ (new name).core.taken) → (m : Node) → ReportsAreTruly old m → ReportsAreTruly new m
 more_truly old new up m h name other = let a = h name other in let b = up name in omega arith
 
-pub cause_of_run_reports_taken : (w : World) (e : Event) (c : Cause) → All (LetterTaken w.nodes) w.letters → IsCause w (actor w e) e.act c → CauseReportsTaken w.nodes c
+pub cause_of_run_reports_taken : (w : World) (e : Event) (c : Cause) → All (LetterTaken w.nodes) w.letters → IsCause w (acting_name w e) e.act c → CauseReportsTaken w.nodes c
 cause_of_run_reports_taken w e (hears p) all cause =
-    let was : WasSentTo w (actor w e) e.act p = cause in
-    subst (ReportTellsTaken w.nodes) was.is (all_gives_item_at (LetterTaken w.nodes) w.letters (heard_by e.act) was.letter all was.there)
+    let was : WasSentTo w (acting_name w e) e.act p = cause in
+    subst (ReportTellsTaken w.nodes) was.is (all_gives_item_at (LetterTaken w.nodes) w.letters (packet_heard_by_act e.act) was.letter all was.there)
 cause_of_run_reports_taken w e _ all cause = tt
 
 told_step : (rules : Rules) → StepsKeepLaw (WorldTrimsOnlyTaken rules) (AllReportsAreTrue rules)
-unfolding with_step
+unfolding world_with_step
 told_step rules w e c s cause effect laws h =
-    let name = actor w e in
+    let name = acting_name w e in
     let n = s.node in
     let few = actor_is_below_256 rules w e h.laws.blanks.base.named in
     let a = told_changes rules w.nodes (w.nodes name) n (heard_stamps_have_names rules w e c h.laws.blanks.base cause) (heard_welcome_image_is_used rules w e c h.laws cause)
     (cause_of_run_reports_taken w e c h.letters cause) effect.changes (each_node_trims_only_taken rules w name few h.laws) (h.each name few) in
-    let v = with_step w e name s in
+    let v = world_with_step w e name s in
     let itself_ = number_equals_itself name in
     let here : v.nodes name ≡ n = rw itself_ refl in
     let up : (other : ℕ) → (w.nodes other).core.taken ≤ (v.nodes other).core.taken = λ other. split_on_bool (other == name)

@@ -1,5 +1,5 @@
 -- There is one sequencer that runs.
-use Rattle.am_repair.proofs.Repairable.RepairedWords.{member_has_not_departed, ◌≡◌, ℕ, ◌<◌, true, false, sym, ap, ◌∙◌, Rules, stamp_of_list, Group, IsUp, GroupKeeps, acts, is_member, is_sequencer}
+use Rattle.am_repair.proofs.Repairable.RepairedWords.{member_has_not_departed, ◌≡◌, ℕ, ◌<◌, true, false, sym, ap, ◌∙◌, Rules, stamp_of_list, Group, IsUp, GroupKeeps, acts_in_its_view, is_member, is_sequencer}
 use Rattle.am_repair.proofs.Repairable.RepairedWords.{World, is_stopped, both_of_and, member_status_has_log, Following, LeadsItsLine, sequencer_leads_its_line}
 use Rattle.am_abstract_group.specs.Group as groups
 
@@ -9,7 +9,7 @@ pub running_sequencer_leads : (rules : Rules) (w : World) (s : Group) (q : ℕ) 
 running_sequencer_leads rules w s q old k small who leads runs =
     let m = w.nodes q in
     let a = old.stands.each q small in
-    let member = (both_of_and (is_member m.status) _ (both_of_and (acts m) _ leads).0).0 in
+    let member = (both_of_and (is_member m.status) _ (both_of_and (acts_in_its_view m) _ leads).0).0 in
     let up : IsUp (s.node q) = record {
       log = a.log_ ∙ member_status_has_log m.status member;
       there = record { goes = a.stopped ∙ runs; stays = a.departed ∙ member_has_not_departed m.status member };

@@ -1,17 +1,17 @@
 -- Where a run may be repaired, its sequencer has the whole chain, and each member's list begins it.
 use Rattle.am_repair.proofs.Repairable.RepairedWords.{member_has_not_departed, stamp_eq_gives_equality, ◌≡◌, ℕ, ◌<◌, ◌≤◌, ◌==◌, nat_lt, true, false, List, take, None, sym, ap, ◌∙◌, subst}
-use Rattle.am_repair.proofs.Repairable.RepairedWords.{arith, nat_tests, Rules, MayFound, place_of, Event, Begins, IsGood, mem, stamp_of_list, take_begins_list}
-use Rattle.am_repair.proofs.Repairable.RepairedWords.{begins_trans, Group, IsUp, Leads, chain_of, GroupKeeps, Node, acts, view, is_member, lowest_or_first, whole, broken_at}
+use Rattle.am_repair.proofs.Repairable.RepairedWords.{arith, nat_tests, Rules, MayFound, place_of_name, Event, IsBeginningOf, IsGoodList, is_member_at_end, stamp_of_list, taken_front_begins_list}
+use Rattle.am_repair.proofs.Repairable.RepairedWords.{begins_through_both, Group, IsUp, Leads, chain_of, GroupKeeps, Node, acts_in_its_view, view, is_member, lowest_name_or_zero, whole, broken_at}
 use Rattle.am_repair.proofs.Repairable.RepairedWords.{MayRepair, World, current, is_stopped, run, split_on_bool, both_of_and, front_is_lawful, member_status_has_log, names_hold_in_runs, Following}
 use Rattle.am_repair.proofs.Repairable.RepairedWords.{image_of_whole_list, group_run_is_kept, steps_are_group_moves, PropertyIsKeptByRuns, group_follows_unbroken_run, IsOneList, RepairableIsOneList, lawful_front, inl, either, has}
-use Rattle.am_repair.proofs.Repairable.RepairedWords.{members, run_trims_only_taken, in_row_is_member, member_is_in_row, was_member_in_longer_list, eqb-true}
+use Rattle.am_repair.proofs.Repairable.RepairedWords.{members, run_trims_only_taken, member_row_gives_member, member_has_member_row, was_member_in_longer_list, eqb-true}
 use Rattle.am_refinement.specs.States.{OwnDecided}
 use Rattle.am_refinement.proofs.Sending.{teller_of_own_promise_leads}
 use Rattle.am_refinement.proofs.WholeSteps.Owns.{run_keeps_own_decisions}
 use Rattle.am_repair.specs.Calm.{is_past}
 use Rattle.am_repair.proofs.RepairLists.{past_row_is_past}
 use Rattle.am_repair.proofs.Known.Beginning.{member_of_repair_runs}
-use Rattle.am_base.specs.Whole.{image_of}
+use Rattle.am_base.specs.Whole.{image_of_list}
 use Rattle.am_repair.proofs.Repairable.One.{one_sequencer_runs}
 
 -- ---- a group that follows
@@ -32,7 +32,7 @@ member_name_is_below_256 rules events name may member = split_on_bool (nat_lt na
     (λ t. grind (arith, nat_tests))
     (λ f. absurd (
     let high : 256 ≤ name = grind (arith, nat_tests) in
-    let most = (names_hold_in_runs rules events may).most (place_of name) in
+    let most = (names_hold_in_runs rules events may).most (place_of_name name) in
     let none = (names_hold_in_runs rules events may).unborn name (omega arith) in
     let z = ap (λ (m : Node). is_member m.status) none in cc))
 
@@ -64,7 +64,7 @@ module _ (rules : Rules) (w : World) (s : Group) (place : ℕ) (old : Following 
   q = current w place
 
   kept : GroupKeeps s
-  kept = group_run_is_kept rules.founders (lowest_or_first rules.founders) rules.resilience s old.group
+  kept = group_run_is_kept rules.founders (lowest_name_or_zero rules.founders) rules.resilience s old.group
 
   -- a Member that runs is up
   up : (name : ℕ) → name < 256 → is_member (w.nodes name).status ≡ true → is_stopped w name ≡ false → IsUp (s.node name)
@@ -75,7 +75,7 @@ module _ (rules : Rules) (w : World) (s : Group) (place : ℕ) (old : Following 
 
   sequencer : (is_member (w.nodes q).status ≡ true) × ((w.nodes q).core.promise ≡ view (w.nodes q)) × ((view (w.nodes q)).by ≡ (w.nodes q).core.who)
   sequencer =
-      let a = both_of_and (acts (w.nodes q)) ((view (w.nodes q)).by == (w.nodes q).core.who) may.leads in
+      let a = both_of_and (acts_in_its_view (w.nodes q)) ((view (w.nodes q)).by == (w.nodes q).core.who) may.leads in
       let b = both_of_and (is_member (w.nodes q).status) _ a.0 in
       (b.0, stamp_eq_gives_equality (w.nodes q).core.promise (view (w.nodes q)) b.1, eqb-true (view (w.nodes q)).by (w.nodes q).core.who a.1)
 
@@ -93,34 +93,34 @@ module _ (rules : Rules) (w : World) (s : Group) (place : ℕ) (old : Following 
   chain_of_views_is_whole own = sym ((kept.each q).leads (sequencer_leads_in_group own)).chain ∙ (old.stands.each q few).list
 
   -- a Member that runs is a member of the chain, or was one
-  was_member : (name : ℕ) → name < 256 → is_member (w.nodes name).status ≡ true → is_stopped w name ≡ false → mem (chain_of s.views) name ≡ false
-      → is_past (image_of (chain_of s.views)) name ≡ true
+  was_member : (name : ℕ) → name < 256 → is_member (w.nodes name).status ≡ true → is_stopped w name ≡ false → is_member_at_end (chain_of s.views) name ≡ false
+      → is_past (image_of_list (chain_of s.views)) name ≡ true
   was_member name low member runs none =
       let joined = (kept.each name).joined (up name low member runs).log in
-      let front = begins_trans (take_begins_list (s.node name).start s.group) kept.group in
-      either (was_member_in_longer_list name kept.views.good front (inl (member_is_in_row (take (s.node name).start s.group) name joined.member)))
-      (λ x. absurd (let t = in_row_is_member (chain_of s.views) name x in cc))
-      (λ x. past_row_is_past (image_of (chain_of s.views)) name x)
+      let front = begins_through_both (taken_front_begins_list (s.node name).start s.group) kept.group in
+      either (was_member_in_longer_list name kept.views.good front (inl (member_has_member_row (take (s.node name).start s.group) name joined.member)))
+      (λ x. absurd (let t = member_row_gives_member (chain_of s.views) name x in cc))
+      (λ x. past_row_is_past (image_of_list (chain_of s.views)) name x)
 
   pub chain_is_one_list : ((name : ℕ) → (w.nodes name).core.who ≡ name) → ((name : ℕ) → is_member (w.nodes name).status ≡ true → name < 256)
       → ((name : ℕ) → name < 256 → OwnDecided (w.nodes name)) → IsOneList w (w.nodes q)
   chain_is_one_list who small owns = record {
-    good = subst IsGood (chain_of_views_is_whole (who q)) kept.views.good;
+    good = subst IsGoodList (chain_of_views_is_whole (who q)) kept.views.good;
     each = λ name member runs. (let low = small name member in
         let a = old.stands.each name low in
         record {
           within = a.begins.within;
           image = a.begins.image;
-          begins = subst (λ l. Begins l (whole w (w.nodes q))) a.list (subst (Begins (s.node name).list) (chain_of_views_is_whole (who q)) ((kept.each name).list
+          begins = subst (λ l. IsBeginningOf l (whole w (w.nodes q))) a.list (subst (IsBeginningOf (s.node name).list) (chain_of_views_is_whole (who q)) ((kept.each name).list
               (up name low member runs)));
         });
     listed = λ name member runs stays. (let low = small name member in
         let there = up name low member runs in
         let joined = (kept.each name).joined there.log in
-        let front = begins_trans (take_begins_list (s.node name).start s.group) kept.group in
-        subst (λ l. mem l name ≡ true) (chain_of_views_is_whole (who q))
+        let front = begins_through_both (taken_front_begins_list (s.node name).start s.group) kept.group in
+        subst (λ l. is_member_at_end l name ≡ true) (chain_of_views_is_whole (who q))
         ((kept.each name).stays there.there ((old.stands.each name low).leaving ∙ stays) (take (s.node name).start s.group) front joined.member));
-    past = λ name member runs. subst (λ l. mem l name ≡ false → is_past (image_of l) name ≡ true) (chain_of_views_is_whole (who q))
+    past = λ name member runs. subst (λ l. is_member_at_end l name ≡ false → is_past (image_of_list l) name ≡ true) (chain_of_views_is_whole (who q))
         (was_member name (small name member) member runs);
     tells = λ name member runs t mine.
         (let low = small name member in

@@ -1,7 +1,7 @@
 -- While another name steps, a sequencer that runs still trimmed no more than its members have taken.
 use Rattle.am_repair.proofs.Repairable.RepairedWords.{item_at_gives_slice_get, eqb-true, number_equals_itself, ◌≡◌, either, ℕ, ◌<◌, ◌≤◌, ◌==◌, true, false, List, sym, ap, ◌∙◌, subst, arith}
-use Rattle.am_repair.proofs.Repairable.RepairedWords.{Stamp, Rules, Letter, Event, Group, Node, view, acts, is_sequencer, has_log, Step, is_stopped, run, heard_by}
-use Rattle.am_repair.proofs.Repairable.RepairedWords.{split_on_bool, both_of_and, Cause, actor, WasSentTo, IsCause, parts_of_one_step, one_step_grows_group, BaseAndTakenRise, Packet}
+use Rattle.am_repair.proofs.Repairable.RepairedWords.{Stamp, Rules, Letter, Event, Group, Node, view, acts_in_its_view, is_sequencer, has_log_by_status, StepResult, is_stopped, run, packet_heard_by_act}
+use Rattle.am_repair.proofs.Repairable.RepairedWords.{split_on_bool, both_of_and, Cause, acting_name, WasSentTo, IsCause, parts_of_one_step, one_step_grows_group, BaseAndTakenRise, Packet}
 use Rattle.am_repair.proofs.Repairable.Came.{CauseTellsView, by_piece, by_result, by_welcome, before as went_on, own, told_so}
 use Rattle.am_repair.proofs.Repairable.Trims.{LetterHasLowBase, OtherHasTakenBase, took, joins, halts, SequencerTrimmedTaken, TrimStepWithGroup, LetterWasSentByStep, before, now, node_goes_along_rules, cause_heard_small_names, cause_heard_used_images, names_of_nodes_after, name_of_node_after, stopped_after_step_is_before}
 use Rattle.am_repair.proofs.Repairable.Trims.{letters_after_step_are_sent, acting_after_step_came}
@@ -10,8 +10,8 @@ use Rattle.am_repair.proofs.Repairable.Fresh.{WelcomeIsInLetters, welcome_stays_
 use Rattle.am_repair.proofs.Repairable.Mailed.{said_letter_of_other_name, welcome_is_said_by_sequencer}
 use Rattle.am_repair.proofs.Repairable.One.{one_sequencer_runs}
 
-module _ (rules : Rules) (events : List Event) (e : Event) (c : Cause) (step : Step) (s t : Group) (x : TrimStepWithGroup rules events e c step s t)
-    (q : ℕ) (few_q : q < 256) (other : (q == actor (run rules events) e) ≡ false) (leads : is_sequencer ((run rules events).nodes q) ≡ true)
+module _ (rules : Rules) (events : List Event) (e : Event) (c : Cause) (step : StepResult) (s t : Group) (x : TrimStepWithGroup rules events e c step s t)
+    (q : ℕ) (few_q : q < 256) (other : (q == acting_name (run rules events) e) ≡ false) (leads : is_sequencer ((run rules events).nodes q) ≡ true)
     (runs_q : is_stopped (run rules events) q ≡ false) where
   open parts_of_one_step rules events e step use {w, i, m, n, v}
   open one_step_grows_group x.goes use {few, kept_t, node_v as at_i, others_v}
@@ -30,7 +30,7 @@ module _ (rules : Rules) (events : List Event) (e : Event) (c : Cause) (step : S
 
   own_q : (view (w.nodes q)).by ≡ q
   own_q =
-      let both = both_of_and (acts (w.nodes q)) ((view (w.nodes q)).by == (w.nodes q).core.who) leads in
+      let both = both_of_and (acts_in_its_view (w.nodes q)) ((view (w.nodes q)).by == (w.nodes q).core.who) leads in
       eqb-true (view (w.nodes q)).by (w.nodes q).core.who both.1 ∙ ap (λ (y : Node). y.core.who) (sym at_q) ∙ names_of_nodes_after rules events e c step s t x q
 
   -- ---- who acts
@@ -42,24 +42,24 @@ module _ (rules : Rules) (events : List Event) (e : Event) (c : Cause) (step : S
       by_kind : {d : Cause} → CauseTellsView d from u base → IsCause w i e.act d → h.low ≤ base
       by_kind (by_piece s_ v base_ number y) was =
           let sent : WasSentTo w i e.act (Packet.Piece s_ v base_ number y) = was in
-          let at = item_at_gives_slice_get w.letters (heard_by e.act) sent.letter sent.there in
+          let at = item_at_gives_slice_get w.letters (packet_heard_by_act e.act) sent.letter sent.there in
           let low : LetterHasLowBase q (view (w.nodes q)) h.low (Packet.Piece s_ v base_ number y) = subst (LetterHasLowBase q (view (w.nodes q)) h.low) sent.is
           (h.letters at.0 sent.letter at.1) in
           low mine same
       by_kind (by_result s_ base_ number v) was =
           let sent : WasSentTo w i e.act (Packet.Result s_ base_ number v) = was in
-          let at = item_at_gives_slice_get w.letters (heard_by e.act) sent.letter sent.there in
+          let at = item_at_gives_slice_get w.letters (packet_heard_by_act e.act) sent.letter sent.there in
           let low : LetterHasLowBase q (view (w.nodes q)) h.low (Packet.Result s_ base_ number v) =
           subst (LetterHasLowBase q (view (w.nodes q)) h.low) sent.is (h.letters at.0 sent.letter at.1) in
           low mine same
       by_kind (by_welcome s_ v base_ join image) was =
           let sent : WasSentTo w i e.act (Packet.Welcome s_ v base_ join image) = was in
-          let at = item_at_gives_slice_get w.letters (heard_by e.act) sent.letter sent.there in
+          let at = item_at_gives_slice_get w.letters (packet_heard_by_act e.act) sent.letter sent.there in
           let low : LetterHasLowBase q (view (w.nodes q)) h.low (Packet.Welcome s_ v base_ join image) =
           subst (LetterHasLowBase q (view (w.nodes q)) h.low) sent.is (h.letters at.0 sent.letter at.1) in
           low mine same
 
-  acting_i : acts n ≡ true → view n ≡ view (w.nodes q) → h.low ≤ n.core.taken
+  acting_i : acts_in_its_view n ≡ true → view n ≡ view (w.nodes q) → h.low ≤ n.core.taken
   acting_i act same = elim (acting_after_step_came rules events e c step s t x act) [
     | went_on was stays more ↦ let low = h.acting i few was (sym stays ∙ same) in omega arith
     | own mine above ↦ absurd (apart (sym (name_of_node_after rules events e c step s t x) ∙ sym mine ∙ ap (λ (u : Stamp). u.by) same ∙ own_q))
@@ -67,14 +67,14 @@ module _ (rules : Rules) (events : List Event) (e : Event) (c : Cause) (step : S
         let a = told_low from u base tells (sym by ∙ ap (λ (z : Stamp). z.by) (sym is ∙ same) ∙ own_q) (sym is ∙ same) in omega arith
   ]
 
-  acting : (j : ℕ) → j < 256 → acts (v.nodes j) ≡ true → view (v.nodes j) ≡ view (w.nodes q) → h.low ≤ (v.nodes j).core.taken
+  acting : (j : ℕ) → j < 256 → acts_in_its_view (v.nodes j) ≡ true → view (v.nodes j) ≡ view (w.nodes q) → h.low ≤ (v.nodes j).core.taken
   acting j few_j act same = split_on_bool (j == i)
       (λ u.
       let is : v.nodes j ≡ n = ap v.nodes (eqb-true j i u) ∙ at_i in
-      subst (λ (y : Node). h.low ≤ y.core.taken) (sym is) (acting_i (ap acts (sym is) ∙ act) (ap view (sym is) ∙ same)))
+      subst (λ (y : Node). h.low ≤ y.core.taken) (sym is) (acting_i (ap acts_in_its_view (sym is) ∙ act) (ap view (sym is) ∙ same)))
       (λ f.
       let is = others_v j f in
-      subst (λ (y : Node). h.low ≤ y.core.taken) (sym is) (h.acting j few_j (ap acts (sym is) ∙ act) (ap view (sym is) ∙ same)))
+      subst (λ (y : Node). h.low ≤ y.core.taken) (sym is) (h.acting j few_j (ap acts_in_its_view (sym is) ∙ act) (ap view (sym is) ∙ same)))
 
   -- ---- letters
 
@@ -100,7 +100,7 @@ module _ (rules : Rules) (events : List Event) (e : Event) (c : Cause) (step : S
   heard_welcome : (b : BeganByWelcome c n) → WelcomeIsInLetters w i b.base
   heard_welcome b =
       let sent : WasSentTo w i e.act (Packet.Welcome b.from b.stamp b.base b.join b.image) = subst (IsCause w i e.act) b.says x.cause in
-      let at = item_at_gives_slice_get w.letters (heard_by e.act) sent.letter sent.there in
+      let at = item_at_gives_slice_get w.letters (packet_heard_by_act e.act) sent.letter sent.there in
       record {
         number = at.0;
         letter = sent.letter;
@@ -115,7 +115,7 @@ module _ (rules : Rules) (events : List Event) (e : Event) (c : Cause) (step : S
       let z = ap (λ (y : Node). y.core.taken) at_i in
       took (omega arith)
   known_i (joins none low welcomes) = either (list_begins_by_welcome_alone m n x.effect.changes none)
-      (λ still. joins (ap (λ (y : Node). has_log y.status) at_i ∙ still) low (λ base z. welcomes base (welcomed i base z)))
+      (λ still. joins (ap (λ (y : Node). has_log_by_status y.status) at_i ∙ still) low (λ base z. welcomes base (welcomed i base z)))
       (λ b. let most = welcomes b.base (heard_welcome b) in
       let taken = b.taken in
       let z = ap (λ (y : Node). y.core.taken) at_i in
@@ -127,7 +127,7 @@ module _ (rules : Rules) (events : List Event) (e : Event) (c : Cause) (step : S
       let z = ap (λ (y : Node). y.core.taken) (others_v j f) in
       took (omega arith)
   known_other j f (joins none low welcomes) =
-      joins (ap (λ (y : Node). has_log y.status) (others_v j f) ∙ none) low (λ base z. welcomes base (welcomed j base z))
+      joins (ap (λ (y : Node). has_log_by_status y.status) (others_v j f) ∙ none) low (λ base z. welcomes base (welcomed j base z))
   known_other j f (halts stopped) = halts (stopped_after_step_is_before rules events e c step s t x j ∙ stopped)
 
   known : (j : ℕ) → j < 256 → (j == q) ≡ false → OtherHasTakenBase v h.low (w.nodes q) j

@@ -1,7 +1,7 @@
 -- A sequencer's step in its view keeps what is known of what was taken.
 use Rattle.am_repair.proofs.Repairable.RepairedWords.{eqb-true, ◌≡◌, ◌⊎◌, inl, inr, either, ℕ, ◌<◌, ◌≤◌, ◌==◌, max, true, false, List, Some, slice_get, refl, sym, ap, ◌∙◌}
-use Rattle.am_repair.proofs.Repairable.RepairedWords.{subst, arith, Join, Stamp, Rules, stamp_lt, fits, top_of, Letter, Event, Group, Node, image_of, view, acts, is_sequencer}
-use Rattle.am_repair.proofs.Repairable.RepairedWords.{has_log, Step, World, is_stopped, run, split_on_bool, Cause, hears, actor, WasSentTo, IsCause, all_gives_slice_get, stamp_not_below_itself, LetterGoesToItsKind}
+use Rattle.am_repair.proofs.Repairable.RepairedWords.{subst, arith, Join, Stamp, Rules, stamp_is_less, fits, top_of_log, Letter, Event, Group, Node, image_of_node, view, acts_in_its_view, is_sequencer}
+use Rattle.am_repair.proofs.Repairable.RepairedWords.{has_log_by_status, StepResult, World, is_stopped, run, split_on_bool, Cause, hears, acting_name, WasSentTo, IsCause, item_of_index_has_property, stamp_not_below_itself, LetterGoesToItsKind}
 use Rattle.am_repair.proofs.Repairable.RepairedWords.{run_letters_go_by_kind, parts_of_one_step, one_step_grows_group, CauseIsNoJoin, BaseAndTakenRise, reports_of_runs_are_true, cause_of_run_reports_taken, Packet}
 use Rattle.am_repair.proofs.Repairable.Trims.{LetterHasLowBase, OtherHasTakenBase, took, joins, halts, SequencerTrimmedTaken, TrimStepWithGroup, LetterWasSentByStep, before, now}
 use Rattle.am_repair.proofs.Repairable.Asked.{ReportsByJoinRequest, as_before, admitted_, join_request_event_asks}
@@ -25,9 +25,9 @@ join_or_none _ = inr (λ s v is. absurd (cc))
 
 -- ---- the step
 
-module _ (rules : Rules) (events : List Event) (e : Event) (c : Cause) (step : Step) (s t : Group) (x : TrimStepWithGroup rules events e c step s t)
-    (leads : is_sequencer ((run rules events).nodes (actor (run rules events) e)) ≡ true)
-    (same : view step.node ≡ view ((run rules events).nodes (actor (run rules events) e))) where
+module _ (rules : Rules) (events : List Event) (e : Event) (c : Cause) (step : StepResult) (s t : Group) (x : TrimStepWithGroup rules events e c step s t)
+    (leads : is_sequencer ((run rules events).nodes (acting_name (run rules events) e)) ≡ true)
+    (same : view step.node ≡ view ((run rules events).nodes (acting_name (run rules events) e))) where
   open parts_of_one_step rules events e step use {w, i, m, n, v}
   open one_step_grows_group x.goes use {few as few_i, kept_s, node_v as here, others_v as there}
 
@@ -42,11 +42,11 @@ module _ (rules : Rules) (events : List Event) (e : Event) (c : Cause) (step : S
   same_v = ap view here ∙ same
 
   -- who has no list has taken nothing
-  none_taken : (j : ℕ) → j < 256 → has_log (w.nodes j).status ≡ false → (w.nodes j).core.taken ≡ 0
+  none_taken : (j : ℕ) → j < 256 → has_log_by_status (w.nodes j).status ≡ false → (w.nodes j).core.taken ≡ 0
   none_taken j few none =
       let laws = trims.world_before_keeps_laws rules events e c step s t x in
       let blank = (laws.blanks.each j few none).blank_ in
-      let size = ap top_of blank in
+      let size = ap top_of_log blank in
       let fronts = (laws.each j few).fronts in
       omega arith
 
@@ -67,7 +67,7 @@ module _ (rules : Rules) (events : List Event) (e : Event) (c : Cause) (step : S
     | joins none low welcomes ↦
         let zero_ = none_taken j few none in
         let up = rises.base in
-        joins (ap (λ (y : Node). has_log y.status) (there j other) ∙ none) (omega arith)
+        joins (ap (λ (y : Node). has_log_by_status y.status) (there j other) ∙ none) (omega arith)
         (λ base h. (let b = welcomed j base (m.reports j).taken low welcomes h in omega arith))
     | halts stop ↦ halts (trims.stopped_after_step_is_before rules events e c step s t x j ∙ stop)
   ]
@@ -76,17 +76,17 @@ module _ (rules : Rules) (events : List Event) (e : Event) (c : Cause) (step : S
       taken_v = ap (λ (y : Node). y.core.taken) (there j other)
 
   -- a name whose Join was numbered now
-  known_joined : (j : ℕ) → j < 256 → (j == i) ≡ false → fits (image_of m) (Join j) ≡ true → (n.reports j).taken ≡ m.core.base → OtherHasTakenBase v was.low n j
+  known_joined : (j : ℕ) → j < 256 → (j == i) ≡ false → fits (image_of_node m) (Join j) ≡ true → (n.reports j).taken ≡ m.core.base → OtherHasTakenBase v was.low n j
   known_joined j few other fit base = split_on_bool (is_stopped w j)
       (λ stop. halts (trims.stopped_after_step_is_before rules events e c step s t x j ∙ stop))
       (λ goes.
       let who = trims.names_of_nodes_before rules events e c step s t x i in
       let none = joiner_has_no_list rules w s i j x.old kept_s few_i few who leads x.runs fit in
       let up = rises.base in
-      joins (ap (λ (y : Node). has_log y.status) (there j other) ∙ none) (omega arith)
+      joins (ap (λ (y : Node). has_log_by_status y.status) (there j other) ∙ none) (omega arith)
       (λ b h. (let z = welcomed j b m.core.base (omega arith)
       (λ b_ h_. absurd (no_welcome_begins_joiner_list rules w s i j x.old kept_s few_i few who leads x.runs fit b_ goes h_
-      (all_gives_slice_get LetterGoesToItsKind w.letters h_.number h_.letter (run_letters_go_by_kind rules events) h_.there))) h in omega arith)))
+      (item_of_index_has_property LetterGoesToItsKind w.letters h_.number h_.letter (run_letters_go_by_kind rules events) h_.there))) h in omega arith)))
 
   knows_n : (j : ℕ) → j < 256 → (j == i) ≡ false → OtherHasTakenBase v was.low n j
   knows_n j few other = either (join_or_none c) joined plainly
@@ -100,7 +100,7 @@ module _ (rules : Rules) (events : List Event) (e : Event) (c : Cause) (step : S
         where
           by_know : SequencerKnowsTaken w.nodes m n → OtherHasTakenBase v was.low n j
           by_know (knew who h) = known_on j few other (h j own)
-          by_know (anew up) = absurd (let z = sym (ap (stamp_lt (view m)) same) ∙ up in let y = stamp_not_below_itself (view m) in cc)
+          by_know (anew up) = absurd (let z = sym (ap (stamp_is_less (view m)) same) ∙ up in let y = stamp_not_below_itself (view m) in cc)
 
       joined : JoinAsked c → OtherHasTakenBase v was.low n j
       joined a = by_ask (subst (λ y. ReportsByJoinRequest m y a.from) (ap (λ (u : World). u.nodes i) (sym x.is) ∙ here)
@@ -114,10 +114,10 @@ module _ (rules : Rules) (events : List Event) (e : Event) (c : Cause) (step : S
           by_ask (admitted_ apart leads_ fit base h) = split_on_bool (j == a.from)
               (λ u.
               let is_ = eqb-true j a.from u in
-              known_joined j few other (ap (λ k. fits (image_of m) (Join k)) is_ ∙ fit) (ap (λ k. (n.reports k).taken) is_ ∙ base))
+              known_joined j few other (ap (λ k. fits (image_of_node m) (Join k)) is_ ∙ fit) (ap (λ k. (n.reports k).taken) is_ ∙ base))
               (λ f. known_on j few other (let z = h j own f in let y = ap (λ r. r.taken) z in omega arith))
 
-  acting_v : (j : ℕ) → j < 256 → acts (v.nodes j) ≡ true → view (v.nodes j) ≡ view (v.nodes i) → was.low ≤ (v.nodes j).core.taken
+  acting_v : (j : ℕ) → j < 256 → acts_in_its_view (v.nodes j) ≡ true → view (v.nodes j) ≡ view (v.nodes i) → was.low ≤ (v.nodes j).core.taken
   acting_v j few act at = split_on_bool (j == i)
       (λ u.
       let is_ = eqb-true j i u in
@@ -128,7 +128,7 @@ module _ (rules : Rules) (events : List Event) (e : Event) (c : Cause) (step : S
       omega arith)
       (λ f.
       let node = there j f in
-      let old = was.acting j few (sym (ap acts node) ∙ act) (sym (ap view node) ∙ at ∙ same_v) in
+      let old = was.acting j few (sym (ap acts_in_its_view node) ∙ act) (sym (ap view node) ∙ at ∙ same_v) in
       let taken = ap (λ (y : Node). y.core.taken) node in
       omega arith)
 

@@ -2,34 +2,34 @@
 pub use Rattle.am_lawful_runs.proofs.Words.{◌≡◌, ℕ, ◌==◌, ◌&&◌, ◌||◌, not, nat_lt, nat_le, Bool, true, false, if◌then◌else◌, Some, refl, sym, ap, ◌∙◌, subst}
 pub use Rattle.am_lawful_runs.proofs.Words.{arith, ◌⊎◌, inl, inr, either, ◌≤◌, ◌<◌, max, List, [], ◌≢◌, zero, suc, ◌+◌, ◌∷◌, ◌++◌, length, slice_index, slice_get}
 pub use Rattle.am_lawful_runs.proofs.Words.{take, None, ◌-◌, drop, length-append, append_assoc, eqb-true, nat_tests, take-append-drop, take_all, All-nil, All-cons}
-pub use Rattle.am_lawful_runs.proofs.Words.{All-append, All-weaker, slice_get-get_or, Stamp, Join, Data, Leave, View, Outcome, Row, life_of, IsSet, has, place_of}
-pub use Rattle.am_lawful_runs.proofs.Words.{name_at, names_from, names_of, Log, blank, told_by, members_of, top_of, split_on_bool, both_of_and, Image, Rules, MayFound, Entry}
-pub use Rattle.am_lawful_runs.proofs.Words.{stamp_lt, stamp_eq, Packet, Letter, Act, Event, is_for, letter_at, Node, image_of, is_sequencer, has_room, has_log}
-pub use Rattle.am_lawful_runs.proofs.Words.{Ballot, view, acts, is_member, push_entry, trim_up_to, top, lowest_or_first, has_departed, founding_stamp, Plan, Step}
-pub use Rattle.am_lawful_runs.proofs.Words.{hears_member, packet_length, refresh_at_end, refresh, Verdict, with_promise, trim_for, left_in, need_of, is_view}
-pub use Rattle.am_lawful_runs.proofs.Words.{Status, is_unfinished, lowest_founder_founds, World, is_stopped, hears_letter, hear_cut, acts_as, current, run, start}
-pub use Rattle.am_lawful_runs.proofs.Words.{founders_decided, first_node, Decided, group_with, heard_by, whole, broken_at, front_is_lawful, runs_go_on, Begins}
-pub use Rattle.am_lawful_runs.proofs.Words.{IsGood, key, begins_trans, beginning_length_le, length_push, take_begins_list, begins_refl, begins_append, shorter_beginning_begins_longer, begins_not_longer_is_same}
-pub use Rattle.am_lawful_runs.proofs.Words.{length_take, beginning_of_good_is_good, image_of_push, member_is_in_row, image_has_sixteen_rows, in_row_is_member, IsMemberRow, row_of_place, same_key_same_by, view_by_is_small, view_key_grows_along_list, view_after_pushed_view}
-pub use Rattle.am_lawful_runs.proofs.Words.{actor, WasSentTo, IsCause, steps, Cause, hears, Changes, unchanged, changed, Change, refreshes, settles, numbers}
+pub use Rattle.am_lawful_runs.proofs.Words.{All-append, All-weaker, slice_get-get_or, Stamp, Join, Data, Leave, View, Outcome, Row, life_of_name, IsSetOfNames, has, place_of_name}
+pub use Rattle.am_lawful_runs.proofs.Words.{name_of_place_and_life, names_from, names_of, Log, blank, image_of_log, members_of_image, top_of_log, split_on_bool, both_of_and, Image, Rules, MayFound, Entry}
+pub use Rattle.am_lawful_runs.proofs.Words.{stamp_is_less, stamps_are_equal, Packet, Letter, Act, Event, is_for, letter_at, Node, image_of_node, is_sequencer, has_room, has_log_by_status}
+pub use Rattle.am_lawful_runs.proofs.Words.{Ballot, view, acts_in_its_view, is_member, push_entry, trim_node_up_to, top, lowest_name_or_zero, has_departed, founding_stamp, Plan, StepResult}
+pub use Rattle.am_lawful_runs.proofs.Words.{member_hears_other, packet_length, refresh_at_end, refresh, BallotVerdict, node_with_promise, trim_to_least_taken_by, need_set_without_given_up, need_set_of, is_view}
+pub use Rattle.am_lawful_runs.proofs.Words.{Status, is_unfinished_ballot, lowest_founder_founds, World, is_stopped, world_after_hearing, hear_cut, world_after_act, current, run, start}
+pub use Rattle.am_lawful_runs.proofs.Words.{founders_decided, first_node, Decided, list_with_accepted, packet_heard_by_act, whole, broken_at, front_is_lawful, runs_go_on, IsBeginningOf}
+pub use Rattle.am_lawful_runs.proofs.Words.{IsGoodList, key_of_stamp, begins_through_both, beginning_is_no_longer, length_of_pushed_list, taken_front_begins_list, list_begins_itself, front_begins_append, shorter_beginning_begins_longer, begins_not_longer_is_same}
+pub use Rattle.am_lawful_runs.proofs.Words.{length_of_taken_list, beginning_of_good_is_good, image_after_pushed_entry, member_has_member_row, image_has_sixteen_rows, member_row_gives_member, IsMemberRow, row_of_place, equal_keys_have_equal_names, name_of_view_is_byte, view_key_grows_along_list, view_after_pushed_view}
+pub use Rattle.am_lawful_runs.proofs.Words.{acting_name, WasSentTo, IsCause, steps, Cause, hears, Changes, unchanged, changed, Change, refreshes, settles, numbers}
 pub use Rattle.am_lawful_runs.proofs.Words.{stores, begins_list, looks, fetches, stores_view, collects, takes, asks_to_join, asks_to_leave, closes, refresh_rests_with_list}
-pub use Rattle.am_lawful_runs.proofs.Words.{settle_changes_only_sends, end_refresh_rests_with_list, member_status_has_log, asking_status_has_no_log, stamp_eq_gives_equality, Looks, decides, all_gives_slice_get, Says, piece, result, LetterSays}
-pub use Rattle.am_lawful_runs.proofs.Words.{number_equals_itself, Ending, at_end, let_go, closing, Effect, welcomed_node_is_asking, HeardStampsHaveNames, NodePartsHaveNames, HeardWelcomeImageIsUsed, TrimsOnlyTakenAlongStep, run_trims_only_taken}
+pub use Rattle.am_lawful_runs.proofs.Words.{settle_changes_only_sends, end_refresh_rests_with_list, member_status_has_log, asking_status_has_no_log, stamp_eq_gives_equality, LooksAtBallot, decides, item_of_index_has_property, Says, piece, result, LetterSays}
+pub use Rattle.am_lawful_runs.proofs.Words.{number_equals_itself, EndOfStep, at_end, let_go, closing, Effect, welcomed_node_is_asking, HeardStampsHaveNames, NodePartsHaveNames, HeardWelcomeImageIsUsed, TrimsOnlyTakenAlongStep, run_trims_only_taken}
 pub use Rattle.am_lawful_runs.proofs.Words.{each_node_trims_only_taken, heard_welcome_image_is_used, NodeBallotFits, change_keeps_list_and_ballot, IsBlankWithoutLog, number_bounds_hold_in_runs, NotedViewStandsInLog, heard_stamps_have_names, lists_only_grow_in_runs, Group}
-pub use Rattle.am_lawful_runs.proofs.Words.{opening, chain_of, IsUp, put, GroupKeeps, Move, chosen_by, longer, learns, begins, raises, gives_over, welcomes, asks, stops}
+pub use Rattle.am_lawful_runs.proofs.Words.{list_with_chosen_view, chain_of, IsUp, function_with_value, GroupKeeps, Move, chosen_by, node_with_entry, learns, begins, raises, gives_over, welcomes, asks, stops}
 pub use Rattle.am_lawful_runs.proofs.Words.{Run, founded, more, put_at_same_index, group_run_is_kept_lawful, NameStands, NamesNamed, Moves, Following, image_of_whole_list, length_of_whole_list, member_has_not_departed}
 pub use Rattle.am_lawful_runs.proofs.Words.{set_name_is_below_256, group_run_is_kept, PacketSays, WelcomeTo, has_begun, has_gone, has_left, is_leaving, may_begin, PieceSays}
 pub use Rattle.am_lawful_runs.proofs.Words.{BecameMemberBy, stayed, joins, founds, new_member_came_by_entry, departed_nodes_are_silent, GroupOk, take_of_longer_list, steps_are_group_moves, departed_step_sends_no_letters, departed_status_is_departed}
-unfoldable pub use Rattle.am_lawful_runs.proofs.Words.{finish, hear, hear_refusal, hear_row, with_record, with_step, happens, stamp_of_list}
+unfoldable pub use Rattle.am_lawful_runs.proofs.Words.{finish, hear_packet, hear_refused_bytes, hear_row, world_with_record, world_with_step, happens, stamp_of_list}
 pub use Rattle.std.proofs.lemmas.List.{same_from_push}
-pub use Rattle.am_refinement.proofs.Words.{take-append-add, length-take, Report, at_place, counted_at, fold_append, view_number_only_grows, members, next_stamp, begins_push_or_is_push}
-pub use Rattle.am_refinement.proofs.Words.{member_stays_by_push, was_member_in_longer_list, member_of_both_is_between, leaver_was_member, leaver_is_no_member, IsPastRow, WasMemberRow, Fetches, without_ballot, admits, keeps_body, notes}
+pub use Rattle.am_refinement.proofs.Words.{take-append-add, length-take, Report, row_at_place, counting_names_at, fold_append, view_number_only_grows, members, next_stamp, begins_push_or_is_push}
+pub use Rattle.am_refinement.proofs.Words.{member_stays_by_push, was_member_in_longer_list, member_of_both_is_between, leaver_was_member, leaver_is_no_member, IsPastRow, WasMemberRow, MayStoreFetched, without_ballot, admits, keeps_body, notes}
 pub use Rattle.am_refinement.proofs.Words.{promises, opens, takes_report, stamp_eq_of_itself, finds_itself_out, waits, fetches_from_best, finds_too_few, finds_no_room}
-pub use Rattle.am_refinement.proofs.Words.{view_of_pushed_plain_entry, welcome, changes_trim_only_taken, numbered_entry_is_no_view, balloting_looks_at_open_ballot, unordered_stamps_are_equal, image_after_view_has_it, counted_in, MayNumber, accepts}
+pub use Rattle.am_refinement.proofs.Words.{view_of_pushed_plain_entry, welcome, changes_trim_only_taken, numbered_entry_is_no_view, balloting_looks_at_open_ballot, unordered_stamps_are_equal, image_after_view_has_it, counting_names_in, MayNumber, accepts}
 pub use Rattle.am_refinement.proofs.Words.{shows, serves, first_stamp, put_keeps_property, of_line, of_shown, over, NewView}
-unfoldable pub use Rattle.am_refinement.proofs.Words.{fits, fold, mem}
+unfoldable pub use Rattle.am_refinement.proofs.Words.{fits, image_after_entries, is_member_at_end}
 pub use Rattle.std.proofs.Common.{All}
-pub use Rattle.am_model.specs.{Node.image_of as told_at, Joining.node_with_admitted}
+pub use Rattle.am_model.specs.{Node.image_of_node as told_at, Joining.node_with_joiner_reports}
 unfoldable pub use Rattle.am_model.specs.Joining.{join_ask_row}
 pub use Rattle.am_group_defs.specs.{Lawful.lawful_front, Settle.settle_events}
 pub use Rattle.am_repair.specs.Claim.{MayRepair, HasCaughtUp, Repairs}

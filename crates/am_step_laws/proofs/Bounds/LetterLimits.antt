@@ -1,8 +1,8 @@
 -- What a letter tells is within its limits, where what its sender has is.
 use Rattle.am_step_laws.proofs.Words.{◌≡◌, ℕ, zero, suc, ◌-◌, ◌≤◌, nat_le, List, [], ◌∷◌, length, Option, Some, None, refl, subst, arith, All, All-head, All-tail}
-use Rattle.am_step_laws.proofs.Words.{most_body, Entry, Data, View, Report, IsSet, IsNumber, IsReport, Log, entry_at, Packet, IsPacket, PacketIsWithin, HasParts, Node}
-use Rattle.am_step_laws.proofs.Words.{top, image_of, viewed_by, split_on_bool, Cause, hears, HasSend, Says, request, spread, bcast, order, hold, welcome, vote, piece}
-use Rattle.am_step_laws.proofs.Words.{result, all_gives_slice_get, stamp_of, Bounds, UpTo}
+use Rattle.am_step_laws.proofs.Words.{most_bytes_of_body, Entry, Data, View, Report, IsSetOfNames, NumberIsInRange, ReportIsInRange, Log, log_entry_at, Packet, IsPacket, PacketIsWithin, HasParts, Node}
+use Rattle.am_step_laws.proofs.Words.{top, image_of_node, members_of_view_entry, split_on_bool, Cause, hears, HasOwnSend, Says, request, spread, bcast, order, hold, welcome, vote, piece}
+use Rattle.am_step_laws.proofs.Words.{result, item_of_index_has_property, stamp_of, Bounds, PacketIsWithinBounds}
 use Rattle.am_packet.specs.declared.packet.Packet.TheVariants as packet
 use Rattle.am_step_laws.proofs.Bounds.Limits.{EntryIsWithinLimits, BoundsAreNumbers, nobody_is_set, members_of_image_are_set, told_image_is_within_limits, image_at_is_within_limits, entry_within_limits_is_entry, image_within_limits_is_image}
 use Rattle.am_step_laws.proofs.Bounds.NodeLimits.{SendIsWithinLimits, NodeIsWithinLimits, PacketIsWithinLimits, brought_request_is_within_bound}
@@ -11,64 +11,64 @@ use Rattle.am_step_laws.proofs.Numbers.ListImages.{WelcomeImageUpToBase, FirstIm
 
 -- ---- what is sent
 
-own_send_within : (b : Bounds) (n : Node) (req : ℕ) (body : List ℕ) → HasSend n req body → NodeIsWithinLimits b n
+own_send_within : (b : Bounds) (n : Node) (req : ℕ) (body : List ℕ) → HasOwnSend n req body → NodeIsWithinLimits b n
     → SendIsWithinLimits b (record { req = req; body = body; number = None })
 own_send_within b n req body s h =
-    let k = all_gives_slice_get (SendIsWithinLimits b) n.sends.queue s.index s.send h.sends s.there in
-    record { req = subst (λ r. r ≤ b.requests) s.request k.req; body = subst (λ (x : List ℕ). length x ≤ most_body) s.body_ k.body }
+    let k = item_of_index_has_property (SendIsWithinLimits b) n.sends.queue s.index s.send h.sends s.there in
+    record { req = subst (λ r. r ≤ b.requests) s.request k.req; body = subst (λ (x : List ℕ). length x ≤ most_bytes_of_body) s.body_ k.body }
 
-viewed_by_set : (b : Bounds) (o : Option Entry) → ((e : Entry) → o ≡ Some e → EntryIsWithinLimits b e) → IsSet (viewed_by o)
+viewed_by_set : (b : Bounds) (o : Option Entry) → ((e : Entry) → o ≡ Some e → EntryIsWithinLimits b e) → IsSetOfNames (members_of_view_entry o)
 viewed_by_set b (Some (View v)) h = (h (View v) refl).1
 viewed_by_set b _ h = nobody_is_set
 
-at_within : (b : Bounds) (log : Log) (number : ℕ) (e : Entry) → All (EntryIsWithinLimits b) log.entries → entry_at log number ≡ Some e → EntryIsWithinLimits b e
+at_within : (b : Bounds) (log : Log) (number : ℕ) (e : Entry) → All (EntryIsWithinLimits b) log.entries → log_entry_at log number ≡ Some e → EntryIsWithinLimits b e
 at_within b log zero e h is = absurd (cc)
 at_within b log (suc before) e h is = split_on_bool (nat_le log.start before)
-    (λ t. all_gives_slice_get (EntryIsWithinLimits b) log.entries (before - log.start) e h (rw t at is))
+    (λ t. item_of_index_has_property (EntryIsWithinLimits b) log.entries (before - log.start) e h (rw t at is))
     (λ f. absurd (let x = rw f at is in cc))
 
 pub said_packet_is_within_limits : (b : Bounds) (m n : Node) (c : Cause) (to : List ℕ) (p : Packet) → NodeIsWithinLimits b n → FirstImageUpToStart n → top n ≤ b.lists
     → ((q : Packet) → c ≡ hears q → PacketIsWithinLimits b q) → Says m c n to p → PacketIsWithinLimits b p
 said_packet_is_within_limits b m n c to p h up_ low heard (request _ req body a f s) = let k = own_send_within b n req body s h in (k.req, k.body)
 said_packet_is_within_limits b m n c to p h up_ low heard (spread _ req body a f s) = let k = own_send_within b n req body s h in (k.req, k.body)
-said_packet_is_within_limits b m n c to p h up_ low heard (bcast _ number e l s) = all_gives_slice_get (EntryIsWithinLimits b) n.core.log.entries s.index e h.entries s.there
+said_packet_is_within_limits b m n c to p h up_ low heard (bcast _ number e l s) = item_of_index_has_property (EntryIsWithinLimits b) n.core.log.entries s.index e h.entries s.there
 said_packet_is_within_limits b m n c to p h up_ low heard (order _ number from req v report body is l s) =
-    (all_gives_slice_get (EntryIsWithinLimits b) n.core.log.entries s.index (Data from req body) h.entries s.there).0
+    (item_of_index_has_property (EntryIsWithinLimits b) n.core.log.entries s.index (Data from req body) h.entries s.there).0
 said_packet_is_within_limits b m n c to p h up_ low heard (hold _ s v report req body by l) = brought_request_is_within_bound b c s v report req body by heard
 said_packet_is_within_limits b m n c to p h up_ low heard (welcome s l may) = image_at_is_within_limits b n.core.log n.core.base h.entries h.image
-said_packet_is_within_limits b m n c to p h up_ low heard (vote s v is) = let k = told_image_is_within_limits b n.core.log h.entries h.image in (members_of_image_are_set b (image_of n) k, k.round)
-said_packet_is_within_limits b m n c to p h up_ low heard (piece s v stored number e is may at) = all_gives_slice_get (EntryIsWithinLimits b) n.core.log.entries at.index e h.entries at.there
+said_packet_is_within_limits b m n c to p h up_ low heard (vote s v is) = let k = told_image_is_within_limits b n.core.log h.entries h.image in (members_of_image_are_set b (image_of_node n) k, k.round)
+said_packet_is_within_limits b m n c to p h up_ low heard (piece s v stored number e is may at) = item_of_index_has_property (EntryIsWithinLimits b) n.core.log.entries at.index e h.entries at.there
 said_packet_is_within_limits b m n c to p h up_ low heard (result _ number names is viewed may) =
     let k = told_image_is_within_limits b n.core.log h.entries h.image in
     let v = (told_image_up_to_top n.core.log up_).view in
-    (omega arith, subst IsSet viewed (viewed_by_set b (entry_at n.core.log number) (λ e at. at_within b n.core.log number e h.entries at)), k.resilience)
+    (omega arith, subst IsSetOfNames viewed (viewed_by_set b (log_entry_at n.core.log number) (λ e at. at_within b n.core.log number e h.entries at)), k.resilience)
 said_packet_is_within_limits b m n c to p h up_ low heard _ = tt
 
 -- ---- packets
 
 -- numbers up to bounds that are numbers
-first_of : (b : Bounds) (x : ℕ) (xs : List ℕ) → BoundsAreNumbers b → All (λ n. n ≤ b.lists) (x ∷ xs) → IsNumber x
+first_of : (b : Bounds) (x : ℕ) (xs : List ℕ) → BoundsAreNumbers b → All (λ n. n ≤ b.lists) (x ∷ xs) → NumberIsInRange x
 first_of b x xs n h = let l = n.lists in let k = All-head (λ n. n ≤ b.lists) x xs h in omega arith
 
-two_of : (b : Bounds) (x y : ℕ) → BoundsAreNumbers b → All (λ n. n ≤ b.lists) (x ∷ y ∷ []) → IsNumber x × IsNumber y
+two_of : (b : Bounds) (x y : ℕ) → BoundsAreNumbers b → All (λ n. n ≤ b.lists) (x ∷ y ∷ []) → NumberIsInRange x × NumberIsInRange y
 two_of b x y n h = (first_of b x (y ∷ []) n h, first_of b y [] n (All-tail (λ n. n ≤ b.lists) x (y ∷ []) h))
 
-three_of : (b : Bounds) (x y z : ℕ) → BoundsAreNumbers b → All (λ n. n ≤ b.lists) (x ∷ y ∷ z ∷ []) → IsNumber x × IsNumber y × IsNumber z
+three_of : (b : Bounds) (x y z : ℕ) → BoundsAreNumbers b → All (λ n. n ≤ b.lists) (x ∷ y ∷ z ∷ []) → NumberIsInRange x × NumberIsInRange y × NumberIsInRange z
 three_of b x y z n h = let k = two_of b y z n (All-tail (λ n. n ≤ b.lists) x (y ∷ z ∷ []) h) in (first_of b x (y ∷ z ∷ []) n h, k.0, k.1)
 
-is_report : (b : Bounds) (report : Report) → BoundsAreNumbers b → All (λ n. n ≤ b.lists) (report.stored ∷ report.taken ∷ []) → IsReport report
+is_report : (b : Bounds) (report : Report) → BoundsAreNumbers b → All (λ n. n ≤ b.lists) (report.stored ∷ report.taken ∷ []) → ReportIsInRange report
 is_report b report n h = let k = two_of b report.stored report.taken n h in record { stored = k.0; taken = k.1 }
 
 -- what a packet is within
 pub record PacketIsLimited (b : Bounds) (g : ℕ) (p : Packet) : Type 0 where
-  pub up_to : UpTo b g p
+  pub up_to : PacketIsWithinBounds b g p
   pub within : PacketIsWithinLimits b p
   pub welcome : WelcomeImageUpToBase p
 
-is_round : (b : Bounds) (g : ℕ) (p : Packet) → BoundsAreNumbers b → UpTo b g p → IsNumber (stamp_of p).round
+is_round : (b : Bounds) (g : ℕ) (p : Packet) → BoundsAreNumbers b → PacketIsWithinBounds b g p → NumberIsInRange (stamp_of p).round
 is_round b g p n h = let r = h.round in let k = n.rounds in omega arith
 
-is_request : (b : Bounds) (req : ℕ) → BoundsAreNumbers b → req ≤ b.requests → IsNumber req
+is_request : (b : Bounds) (req : ℕ) → BoundsAreNumbers b → req ≤ b.requests → NumberIsInRange req
 is_request b req n h = let k = n.requests in omega arith
 
 pub limited_packet_is_packet : (b : Bounds) (g : ℕ) (p : Packet) → BoundsAreNumbers b → PacketIsLimited b g p → IsPacket p

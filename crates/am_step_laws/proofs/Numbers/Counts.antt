@@ -1,10 +1,10 @@
 -- How high the numbers of a node are: what a step raises by one at most, and what stays within what the group has accepted.
 use Rattle.am_step_laws.proofs.Words.{right_of_and, ◌≡◌, ◌⊎◌, inl, inr, ⊎_elim, ℕ, ◌+◌, ◌-◌, ◌<◌, ◌≤◌, ◌==◌, max, min, Bool, true, false, not, ◌&&◌, nat_le, nat_lt}
 use Rattle.am_step_laws.proofs.Words.{if◌then◌else◌, List, [], ◌∷◌, find, Option, Some, None, refl, sym, ap, ◌∙◌, subst, arith, length-append, nat_tests, count_by}
-use Rattle.am_step_laws.proofs.Words.{sum_by-cons, Entry, Report, Vote, Stamp, stamp_lt, accept_front, accept, pass_over, least_of, lesser, base_after, own_report}
-use Rattle.am_step_laws.proofs.Words.{tell, go_on, let_go, OwnSend, is_unsettled, Node, Ballot, top, view, acts, is_sequencer, push_entry, trim_up_to, waiting}
-use Rattle.am_step_laws.proofs.Words.{node_unsettled_count, node_with_report, advance_node, lead, refresh, settle, refresh_at_end, Plan, finish, overtake, with_promise, is_view}
-use Rattle.am_step_laws.proofs.Words.{split_on_bool, accept_front_is_greatest, view_of_pushed_plain_entry, Bounds, up}
+use Rattle.am_step_laws.proofs.Words.{sum_by-cons, Entry, Report, Vote, Stamp, stamp_is_less, accept_front, raise_accepted_to_told, pass_over_below_join, least_of_names, lesser_of_options, base_after_trim, raise_own_report}
+use Rattle.am_step_laws.proofs.Words.{tell_accept_front, advance_with_reports, trim_to_least_taken, OwnSend, is_unsettled, Node, Ballot, top, view, acts_in_its_view, is_sequencer, push_entry, trim_node_up_to, waiting_send_of}
+use Rattle.am_step_laws.proofs.Words.{node_unsettled_count, node_with_report, advance_node, refresh_as_sequencer, refresh, settle_waiting_send, refresh_at_end, Plan, finish, overtake_lower_ballot, node_with_promise, is_view}
+use Rattle.am_step_laws.proofs.Words.{split_on_bool, accept_front_is_greatest, view_of_pushed_plain_entry, Bounds, bounds_one_higher}
 use Rattle.am_step_laws.proofs.{Rests.settle_keeps_property}
 
 -- ---- what is kept
@@ -62,14 +62,14 @@ has_view_of_its_own m = (view m).by == m.core.who
 
 abbrev pub NumbersAreLow : Bounds → ℕ → Node → Type 0
 NumbersAreLow b g m = NumbersOfPartsAreLow b g m.core.log.start (top m) m.core.promise.round m.sends.last m.core.told m.core.acc m.core.taken m.core.base m.core.start m.leaving
-    (waiting m) m.reports m.ballot (has_view_of_its_own m)
+    (waiting_send_of m) m.reports m.ballot (has_view_of_its_own m)
 
 -- what it has accepted the group has accepted
 pub record AcceptedIsWithinGroup (g : ℕ) (m : Node) : Type 0 where
   pub told : m.core.told ≤ g
   pub acc : m.core.acc ≤ g
 
-pub higher_bounds_keep_numbers_low : (b : Bounds) (g : ℕ) (m : Node) → NumbersAreLow b g m → NumbersAreLow (up b) g m
+pub higher_bounds_keep_numbers_low : (b : Bounds) (g : ℕ) (m : Node) → NumbersAreLow b g m → NumbersAreLow (bounds_one_higher b) g m
 higher_bounds_keep_numbers_low b g m h =
     record {
       counts = record { entries = omega arith; rounds = omega arith; sends = omega arith };
@@ -84,7 +84,7 @@ higher_bounds_keep_numbers_low b g m h =
 -- ---- entries
 
 -- an entry that is no View
-pub plain_entry_keeps_numbers_low : (b : Bounds) (g : ℕ) (m : Node) (e : Entry) → is_view e ≡ false → NumbersAreLow b g m → NumbersAreLow (up b) g (push_entry m e)
+pub plain_entry_keeps_numbers_low : (b : Bounds) (g : ℕ) (m : Node) (e : Entry) → is_view e ≡ false → NumbersAreLow b g m → NumbersAreLow (bounds_one_higher b) g (push_entry m e)
 plain_entry_keeps_numbers_low b g m e other h =
     let s = h.sends in
     let same : (view m).by ≡ (view (push_entry m e)).by = ap (λ (s : Stamp). s.by) (sym (view_of_pushed_plain_entry m e other)) in
@@ -111,8 +111,8 @@ entry_below_bound_is_low b g m e low k h =
       tells = record { reported = h.reported; votes = h.votes; known = inl (k.told, k.acc) };
     }
 
-pub pushed_entry_keeps_numbers_low : (b : Bounds) (g : ℕ) (m : Node) (e : Entry) → AcceptedIsWithinGroup g m → NumbersAreLow b g m → NumbersAreLow (up b) g (push_entry m e)
-pushed_entry_keeps_numbers_low b g m e k h = let f = h.entries in entry_below_bound_is_low (up b) g m e (omega arith) k (higher_bounds_keep_numbers_low b g m h)
+pub pushed_entry_keeps_numbers_low : (b : Bounds) (g : ℕ) (m : Node) (e : Entry) → AcceptedIsWithinGroup g m → NumbersAreLow b g m → NumbersAreLow (bounds_one_higher b) g (push_entry m e)
+pushed_entry_keeps_numbers_low b g m e k h = let f = h.entries in entry_below_bound_is_low (bounds_one_higher b) g m e (omega arith) k (higher_bounds_keep_numbers_low b g m h)
 
 -- an entry of a number that was there before
 pub entry_below_top_is_low : (b : Bounds) (g : ℕ) (m : Node) (number : ℕ) (e : Entry) → nat_le number (top m) ≡ false → number ≤ b.lists → AcceptedIsWithinGroup g m → NumbersAreLow b g m
@@ -122,7 +122,7 @@ entry_below_top_is_low b g m number e above low k h =
     entry_below_bound_is_low b g m e (omega arith) k h
 
 -- a base up to what is accepted
-pub trim_keeps_numbers_low : (b : Bounds) (g : ℕ) (m : Node) (base : ℕ) → base ≤ g → NumbersAreLow b g m → NumbersAreLow b g (trim_up_to m base)
+pub trim_keeps_numbers_low : (b : Bounds) (g : ℕ) (m : Node) (base : ℕ) → base ≤ g → NumbersAreLow b g m → NumbersAreLow b g (trim_node_up_to m base)
 trim_keeps_numbers_low b g m base low h = let t = h.trims in let k = h.kept in record {
   counts = h.counts;
   order = record { given = h.given; accepted = h.accepted; kept = omega arith };
@@ -133,11 +133,11 @@ trim_keeps_numbers_low b g m base low h = let t = h.trims in let k = h.kept in r
 
 -- ---- promises
 
-votes_overtaken : (g : ℕ) (by : Stamp) (ballot : Option Ballot) → VotesAreWithinAccepted g ballot → VotesAreWithinAccepted g (overtake by ballot)
+votes_overtaken : (g : ℕ) (by : Stamp) (ballot : Option Ballot) → VotesAreWithinAccepted g ballot → VotesAreWithinAccepted g (overtake_lower_ballot by ballot)
 votes_overtaken g by None h = tt
-votes_overtaken g by (Some b) h = split_on_bool (not b.is_over && stamp_lt b.stamp by) (λ t. rw t h) (λ f. rw f h)
+votes_overtaken g by (Some b) h = split_on_bool (not b.is_over && stamp_is_less b.stamp by) (λ t. rw t h) (λ f. rw f h)
 
-pub promise_keeps_numbers_low : (b : Bounds) (g : ℕ) (m : Node) (stamp : Stamp) → stamp.round ≤ b.rounds → NumbersAreLow b g m → NumbersAreLow b g (with_promise m stamp)
+pub promise_keeps_numbers_low : (b : Bounds) (g : ℕ) (m : Node) (stamp : Stamp) → stamp.round ≤ b.rounds → NumbersAreLow b g m → NumbersAreLow b g (node_with_promise m stamp)
 promise_keeps_numbers_low b g m stamp low h = record {
   counts = record { entries = h.entries; rounds = low; sends = h.sends };
   order = h.order;
@@ -164,7 +164,7 @@ none_left (s ∷ queue) h = split_on_bool (is_unsettled s)
     ∙ ap (λ (b : Bool). (if b then 1 else 0) + count_by is_unsettled queue) f in
     rw f (none_left queue (omega arith)))
 
-pub no_unsettled_send_none_waits : (m : Node) → node_unsettled_count m ≡ 0 → waiting m ≡ None
+pub no_unsettled_send_none_waits : (m : Node) → node_unsettled_count m ≡ 0 → waiting_send_of m ≡ None
 no_unsettled_send_none_waits m h = none_left m.sends.queue h
 
 -- ---- reports
@@ -186,20 +186,20 @@ report_keeps_numbers_low b g m s report low h = record {
 }
 
 -- the least of numbers that are all so low
-lesser_low : (g x : ℕ) (least : Option ℕ) → x ≤ g → ((y : ℕ) → least ≡ Some y → y ≤ g) → (y : ℕ) → lesser (Some x) least ≡ Some y → y ≤ g
+lesser_low : (g x : ℕ) (least : Option ℕ) → x ≤ g → ((y : ℕ) → least ≡ Some y → y ≤ g) → (y : ℕ) → lesser_of_options (Some x) least ≡ Some y → y ≤ g
 lesser_low g x None low h y is = let same : x ≡ y = cc in omega arith
 lesser_low g x (Some z) low h y is = let same : min x z ≡ y = cc in omega arith
 
-pub least_of_names_is_within : (g : ℕ) (f : ℕ → ℕ) (names : List ℕ) → ((name : ℕ) → f name ≤ g) → (y : ℕ) → least_of f names ≡ Some y → y ≤ g
-unfolding least_of
+pub least_of_names_is_within : (g : ℕ) (f : ℕ → ℕ) (names : List ℕ) → ((name : ℕ) → f name ≤ g) → (y : ℕ) → least_of_names f names ≡ Some y → y ≤ g
+unfolding least_of_names
 least_of_names_is_within g f [] h y is = absurd (cc)
-least_of_names_is_within g f (name ∷ names) h y is = lesser_low g (f name) (least_of f names) (h name) (least_of_names_is_within g f names h) y is
+least_of_names_is_within g f (name ∷ names) h y is = lesser_low g (f name) (least_of_names f names) (h name) (least_of_names_is_within g f names h) y is
 
-pub base_after_keeps_lower_bound : (first base : ℕ) (least : Option ℕ) → first ≤ base → first ≤ base_after least base
+pub base_after_keeps_lower_bound : (first base : ℕ) (least : Option ℕ) → first ≤ base → first ≤ base_after_trim least base
 base_after_keeps_lower_bound first base None h = h
 base_after_keeps_lower_bound first base (Some to) h = omega arith
 
-pub base_after_is_within : (g base : ℕ) (least : Option ℕ) → base ≤ g → ((y : ℕ) → least ≡ Some y → y ≤ g) → base_after least base ≤ g
+pub base_after_is_within : (g base : ℕ) (least : Option ℕ) → base ≤ g → ((y : ℕ) → least ≡ Some y → y ≤ g) → base_after_trim least base ≤ g
 base_after_is_within g base None low h = low
 base_after_is_within g base (Some to) low h = let t = h to refl in omega arith
 
@@ -215,12 +215,12 @@ over_low g taken acc start h k = split_on_bool (nat_lt taken (start - 1)) (λ t.
 abbrev passed : ℕ → ℕ → ℕ → ℕ
 passed taken acc start = if nat_lt taken (start - 1) then max taken (min acc (start - 1)) else taken
 
-low_lead : (b : Bounds) (g : ℕ) (m : Node) → has_view_of_its_own m ≡ true → NumbersAreLow b g m → NumbersAreLow b g (lead m)
-unfolding lead own_report tell go_on let_go accept pass_over
+low_lead : (b : Bounds) (g : ℕ) (m : Node) → has_view_of_its_own m ≡ true → NumbersAreLow b g m → NumbersAreLow b g (refresh_as_sequencer m)
+unfolding refresh_as_sequencer raise_own_report tell_accept_front advance_with_reports trim_to_least_taken raise_accepted_to_told pass_over_below_join
 low_lead b g m own h =
     let given = h.given in let accepted = h.accepted in
     let first = reported_more g m.reports m.core.who (record { stored = top m; taken = m.core.taken }) h.took h.reported in
-    let reports : ℕ → Report = (own_report (record { core = m.core; reports = m.reports })).reports in
+    let reports : ℕ → Report = (raise_own_report (record { core = m.core; reports = m.reports })).reports in
     let front = accept_front reports m.core.log m.core.acc in
     let most = (accept_front_is_greatest reports m.core.log m.core.acc).most in
     let acc = max m.core.acc (min front (top m)) in
@@ -245,7 +245,7 @@ low_lead b g m own h =
     }
 
 low_advance : (b : Bounds) (g : ℕ) (m : Node) → NumbersAreLow b g m → NumbersAreLow b g (advance_node m)
-unfolding accept pass_over
+unfolding raise_accepted_to_told pass_over_below_join
 low_advance b g m h =
     let given = h.given in let accepted = h.accepted in
     let acc = max m.core.acc (min m.core.told (top m)) in
@@ -263,7 +263,7 @@ low_advance b g m h =
 
 -- who is the sequencer leads
 sequencer_leads : (m : Node) → is_sequencer m ≡ true → has_view_of_its_own m ≡ true
-sequencer_leads m h = right_of_and (acts m) (has_view_of_its_own m) h
+sequencer_leads m h = right_of_and (acts_in_its_view m) (has_view_of_its_own m) h
 
 pub refresh_keeps_numbers_low : (b : Bounds) (g : ℕ) (m : Node) → NumbersAreLow b g m → NumbersAreLow b g (refresh m)
 unfolding refresh
@@ -272,7 +272,7 @@ refresh_keeps_numbers_low b g m h = split_on_bool (is_sequencer m) (λ t. rw t (
 -- ---- the end of a step
 
 -- who has something to send isn't leaving
-low_settle : (b : Bounds) (g : ℕ) (m : Node) → NumbersAreLow b g m → NumbersAreLow b g (settle m)
+low_settle : (b : Bounds) (g : ℕ) (m : Node) → NumbersAreLow b g m → NumbersAreLow b g (settle_waiting_send m)
 low_settle b g m h = settle_keeps_property (NumbersAreLow b g) m h (λ s k w at. record {
   counts = h.counts;
   order = h.order;
@@ -285,7 +285,7 @@ low_settle b g m h = settle_keeps_property (NumbersAreLow b g) m h (λ s k w at.
 
 -- a plan whose node has at most one more
 pub record PlanNumbersAreLow (b : Bounds) (g : ℕ) (p : Plan) : Type 0 where
-  pub node : NumbersAreLow (up b) g p.node
+  pub node : NumbersAreLow (bounds_one_higher b) g p.node
 
 -- by what a test says
 pub either_plan_has_low_numbers : (b : Bounds) (g : ℕ) (t : Bool) (p q : Plan) → (t ≡ true → PlanNumbersAreLow b g p) → (t ≡ false → PlanNumbersAreLow b g q) → PlanNumbersAreLow b g (if t then p else q)
@@ -296,14 +296,14 @@ either_plan_has_low_numbers b g false p q f k = k refl
 pub low_node_gives_low_plan : (b : Bounds) (g : ℕ) (p : Plan) → NumbersAreLow b g p.node → PlanNumbersAreLow b g p
 low_node_gives_low_plan b g p h = record { node = higher_bounds_keep_numbers_low b g p.node h }
 
-pub higher_node_gives_low_plan : (b : Bounds) (g : ℕ) (p : Plan) → NumbersAreLow (up b) g p.node → PlanNumbersAreLow b g p
+pub higher_node_gives_low_plan : (b : Bounds) (g : ℕ) (p : Plan) → NumbersAreLow (bounds_one_higher b) g p.node → PlanNumbersAreLow b g p
 higher_node_gives_low_plan b g p h = record { node = h }
 
 pub ruleset ends = (either_plan_has_low_numbers, low_node_gives_low_plan)
 
 -- a plan that is done
-pub finish_keeps_numbers_low : (b : Bounds) (g : ℕ) (m : Node) (p : Plan) → PlanNumbersAreLow b g p → NumbersAreLow (up b) g (finish m p).node
+pub finish_keeps_numbers_low : (b : Bounds) (g : ℕ) (m : Node) (p : Plan) → PlanNumbersAreLow b g p → NumbersAreLow (bounds_one_higher b) g (finish m p).node
 unfolding finish refresh_at_end
 finish_keeps_numbers_low b g m p h =
-    let k = low_settle (up b) g (refresh p.node) (refresh_keeps_numbers_low (up b) g p.node h.node) in
+    let k = low_settle (bounds_one_higher b) g (refresh p.node) (refresh_keeps_numbers_low (bounds_one_higher b) g p.node h.node) in
     split_on_bool p.departs (λ t. rw t k) (λ f. rw f k)

@@ -1,17 +1,17 @@
 -- What hearing adds to the numbers that grow, and a whole step.
 use Rattle.am_step_laws.proofs.Words.{◌+◌, [], ◌≡◌, inl, inr, ⊎_elim, ℕ, ◌≤◌, ◌==◌, ◌||◌, not, max, if◌then◌else◌, Bool, true, false, nat_le, List, ◌∷◌, Option, Some, None}
 use Rattle.am_step_laws.proofs.Words.{refl, arith, All, nat_tests, All-head, All-tail, GroupView, Stamp, Report, Row, Image, Vote, Entry, Data, Join, Leave, View}
-use Rattle.am_step_laws.proofs.Words.{Outcome, NodeEvent, at_place, fits, Packet, OwnSend, Node, Ballot, top, image_of, is_within_bound, push_entry, trim_up_to}
-use Rattle.am_step_laws.proofs.Words.{node_with_report, waiting, Plan, take_report, number_data, answer_request, request_row, ack_row, nack_row, spread_row, is_view}
-use Rattle.am_step_laws.proofs.Words.{store_fitting, store, with_noted, receive_entry, bcast_row, data_entry_of, body_of, order_row, accept_row, answer_hold, hold_row}
-use Rattle.am_step_laws.proofs.Words.{node_with_admitted, number_join, join_ask_row, begin_list, welcome_row, leave_ask_row, gone_row, with_promise, invite_row}
-use Rattle.am_step_laws.proofs.Words.{take_vote, vote_row, fetch_row, push_fetched, catch_up, decide_anew, piece_promised, piece_for, piece_row, hears_result}
-use Rattle.am_step_laws.proofs.Words.{result_row, hear_row, row, step, hear, hear_refusal, refuse, split_on_bool, or_false_first_is_false, Bounds, up, UpTo, asks_to_leave, send_row}
-use Rattle.am_step_laws.proofs.Words.{done_row, take_row, join_row, state_row, leave_row, reset_row, ask_row, give_up_row, tick_row, queue, give_out, entry_at}
+use Rattle.am_step_laws.proofs.Words.{Outcome, NodeEvent, row_at_place, fits, Packet, OwnSend, Node, Ballot, top, image_of_node, number_is_within_bound, push_entry, trim_node_up_to}
+use Rattle.am_step_laws.proofs.Words.{node_with_report, waiting_send_of, Plan, take_report, number_send_of_member, answer_request, request_row, ack_row, nack_row, spread_row, is_view}
+use Rattle.am_step_laws.proofs.Words.{store_fitting_entry, store_numbered_entry, node_with_noted_fronts, receive_entry, bcast_row, data_entry_of, body_of_spread_send, order_row, accept_row, answer_hold, hold_row}
+use Rattle.am_step_laws.proofs.Words.{node_with_joiner_reports, number_join_and_welcome, join_ask_row, node_of_welcomed, welcome_row, leave_ask_row, gone_row, node_with_promise, invite_row}
+use Rattle.am_step_laws.proofs.Words.{take_vote, vote_row, fetch_row, push_fetched, catch_up, look_at_ballot_anew, piece_promised, piece_for, piece_row, row_of_promised_result}
+use Rattle.am_step_laws.proofs.Words.{result_row, hear_row, row, step, hear_packet, hear_refused_bytes, refuse_bytes, split_on_bool, or_false_first_is_false, Bounds, bounds_one_higher, PacketIsWithinBounds, answer_leave_ask, send_row}
+use Rattle.am_step_laws.proofs.Words.{done_row, take_row, join_row, state_row, leave_row, reset_row, ask_row, give_up_row, tick_row, queue, give_out_entry, log_entry_at}
 use Rattle.am_base.specs.declared.outcome.Outcome.TheVariants as said
 use Rattle.am_base.specs.declared.event.NodeEvent.TheVariants as does
 use Rattle.am_packet.specs.declared.packet.Packet.TheVariants as packet
-use Rattle.am_model.specs.Joining.{asks_to_join}
+use Rattle.am_model.specs.Joining.{answer_join_ask}
 use Rattle.am_step_laws.proofs.Numbers.Counts.{FrontsAreKnownToGroup, VotesAreWithinAccepted, has_view_of_its_own, NumbersAreLow, AcceptedIsWithinGroup, plain_entry_keeps_numbers_low, pushed_entry_keeps_numbers_low, entry_below_top_is_low, trim_keeps_numbers_low, report_keeps_numbers_low, promise_keeps_numbers_low, refresh_keeps_numbers_low}
 use Rattle.am_step_laws.proofs.Numbers.Counts.{PlanNumbersAreLow, either_plan_has_low_numbers, low_node_gives_low_plan, higher_node_gives_low_plan, ends, finish_keeps_numbers_low}
 use Rattle.am_step_laws.proofs.Numbers.BallotCounts.{decide_keeps_numbers_low, begin_ballot_keeps_numbers_low, keep_vote_keeps_numbers_low, give_up_keeps_numbers_low}
@@ -26,16 +26,16 @@ low_reported most g m s report taken h = refresh_keeps_numbers_low most g (node_
 ends_requested : (most : Bounds) (g : ℕ) (m : Node) (s req : ℕ) (body : List ℕ) (by_order : Bool) → NumbersAreLow most g m
     → PlanNumbersAreLow most g (answer_request m s req body by_order)
 ends_requested most g m s req body by_order h =
-    let k : PlanNumbersAreLow most g (number_data m s req body by_order) = higher_node_gives_low_plan most g _ (plain_entry_keeps_numbers_low most g m (Data s req body) refl h) in
+    let k : PlanNumbersAreLow most g (number_send_of_member m s req body by_order) = higher_node_gives_low_plan most g _ (plain_entry_keeps_numbers_low most g m (Data s req body) refl h) in
     search (ends, k)
 
 -- ---- a member
 
 -- the next entry is stored
-ends_store : (most : Bounds) (g : ℕ) (m : Node) (s number : ℕ) (e : Option Entry) (missing : Outcome) → NumbersAreLow most g m → PlanNumbersAreLow most g (store m s number e missing)
+ends_store : (most : Bounds) (g : ℕ) (m : Node) (s number : ℕ) (e : Option Entry) (missing : Outcome) → NumbersAreLow most g m → PlanNumbersAreLow most g (store_numbered_entry m s number e missing)
 ends_store most g m s number None missing h = search ends
 ends_store most g m s number (Some e) missing h =
-    let k : (is_view e || (not (fits (image_of m) e) || not (is_within_bound m m.core.base number))) ≡ false → PlanNumbersAreLow most g (store_fitting m s number e) =
+    let k : (is_view e || (not (fits (image_of_node m) e) || not (number_is_within_bound m m.core.base number))) ≡ false → PlanNumbersAreLow most g (store_fitting_entry m s number e) =
     λ f. higher_node_gives_low_plan most g _ (plain_entry_keeps_numbers_low most g m e (or_false_first_is_false (is_view e) _ f) h) in
     search (ends, k)
 
@@ -46,7 +46,7 @@ ends_received most g m s base number e missing h =
     search (ends, k)
 
 -- what the sequencer has accepted the group has accepted
-low_noted : (most : Bounds) (g : ℕ) (m : Node) (base acc : ℕ) → acc ≤ g → NumbersAreLow most g m → NumbersAreLow most g (with_noted m base acc)
+low_noted : (most : Bounds) (g : ℕ) (m : Node) (base acc : ℕ) → acc ≤ g → NumbersAreLow most g m → NumbersAreLow most g (node_with_noted_fronts m base acc)
 low_noted most g m base acc low h =
     let to = if nat_le base m.core.taken then base else m.core.base in
     let taken = h.took in
@@ -73,7 +73,7 @@ ends_held_up most g m base high req (Some s) h = search ends
 -- ---- joining and leaving
 
 -- a joiner's reports begin at the base
-low_admitted : (most : Bounds) (g : ℕ) (m : Node) (s : ℕ) → NumbersAreLow most g m → NumbersAreLow most g (node_with_admitted m s)
+low_admitted : (most : Bounds) (g : ℕ) (m : Node) (s : ℕ) → NumbersAreLow most g m → NumbersAreLow most g (node_with_joiner_reports m s)
 low_admitted most g m s h = record {
   counts = h.counts;
   order = h.order;
@@ -82,14 +82,14 @@ low_admitted most g m s h = record {
   tells = record { reported = λ name. split_on_bool (name == s) (λ t. rw t h.trims) (λ f. rw f (h.reported name)); votes = h.votes; known = h.known };
 }
 
-ends_asks_to_join : (most : Bounds) (g : ℕ) (m : Node) (s : ℕ) (q : Row) → NumbersAreLow most g m → PlanNumbersAreLow most g (asks_to_join m s q)
+ends_asks_to_join : (most : Bounds) (g : ℕ) (m : Node) (s : ℕ) (q : Row) → NumbersAreLow most g m → PlanNumbersAreLow most g (answer_join_ask m s q)
 ends_asks_to_join most g m s q h =
-    let k : PlanNumbersAreLow most g (number_join m s) = higher_node_gives_low_plan most g _ (plain_entry_keeps_numbers_low most g (node_with_admitted m s) (Join s) refl (low_admitted most g m s h)) in
+    let k : PlanNumbersAreLow most g (number_join_and_welcome m s) = higher_node_gives_low_plan most g _ (plain_entry_keeps_numbers_low most g (node_with_joiner_reports m s) (Join s) refl (low_admitted most g m s h)) in
     search (ends, k) depth 9
 
 -- the list begins with nothing above the base
 low_begun : (most : Bounds) (g : ℕ) (m : Node) (v : Stamp) (base join : ℕ) (image : Image) → v.round ≤ most.rounds → base ≤ most.lists → base ≤ g → join ≤ g
-    → NumbersAreLow most g m → NumbersAreLow most g (begin_list m v base join image)
+    → NumbersAreLow most g m → NumbersAreLow most g (node_of_welcomed m v base join image)
 low_begun most g m v base join image round low from start h =
     record {
       counts = record { entries = omega arith; rounds = round; sends = h.sends };
@@ -99,9 +99,9 @@ low_begun most g m v base join image round low from start h =
       tells = record { reported = h.reported; votes = h.votes; known = inl (from, from) };
     }
 
-ends_asks_to_leave : (most : Bounds) (g : ℕ) (m : Node) (s : ℕ) → NumbersAreLow most g m → PlanNumbersAreLow most g (asks_to_leave m s)
+ends_asks_to_leave : (most : Bounds) (g : ℕ) (m : Node) (s : ℕ) → NumbersAreLow most g m → PlanNumbersAreLow most g (answer_leave_ask m s)
 ends_asks_to_leave most g m s h =
-    let k : NumbersAreLow (up most) g (push_entry m (Leave s)) = plain_entry_keeps_numbers_low most g m (Leave s) refl h in
+    let k : NumbersAreLow (bounds_one_higher most) g (push_entry m (Leave s)) = plain_entry_keeps_numbers_low most g m (Leave s) refl h in
     search (ends, higher_node_gives_low_plan, k)
 
 -- ---- ballots
@@ -115,11 +115,11 @@ ends_voted_for most g m s v vote (Some b) low votes k h =
 
 -- the next fetched entry is pushed: it has a number that was there before
 ends_fetched : (most : Bounds) (g : ℕ) (m : Node) (v : Stamp) (base number : ℕ) (e : Entry) (in_ballot : Bool) (then_ : Node → Plan) → number ≤ most.lists
-    → base ≤ g → (NumbersAreLow most g (push_entry (trim_up_to m base) e) → PlanNumbersAreLow most g (then_ (push_entry (trim_up_to m base) e))) → AcceptedIsWithinGroup g m → NumbersAreLow most g m
+    → base ≤ g → (NumbersAreLow most g (push_entry (trim_node_up_to m base) e) → PlanNumbersAreLow most g (then_ (push_entry (trim_node_up_to m base) e))) → AcceptedIsWithinGroup g m → NumbersAreLow most g m
     → PlanNumbersAreLow most g (push_fetched m v base number e in_ballot then_)
 ends_fetched most g m v base number e in_ballot then_ low from goes k h =
-    let l : nat_le number (top m) ≡ false → PlanNumbersAreLow most g (then_ (push_entry (trim_up_to m base) e)) =
-    λ f. goes (entry_below_top_is_low most g (trim_up_to m base) number e f low (record { told = k.told; acc = k.acc }) (trim_keeps_numbers_low most g m base from h)) in
+    let l : nat_le number (top m) ≡ false → PlanNumbersAreLow most g (then_ (push_entry (trim_node_up_to m base) e)) =
+    λ f. goes (entry_below_top_is_low most g (trim_node_up_to m base) number e f low (record { told = k.told; acc = k.acc }) (trim_keeps_numbers_low most g m base from h)) in
     search (either_plan_has_low_numbers, low_node_gives_low_plan, h, l) depth 8
 
 ends_piece_promised : (most : Bounds) (g : ℕ) (m : Node) (s : ℕ) (v : Stamp) (base number : ℕ) (e : Entry) → number ≤ most.lists → base ≤ g → AcceptedIsWithinGroup g m
@@ -132,17 +132,17 @@ ends_piece_for : (most : Bounds) (g : ℕ) (m : Node) (s : ℕ) (v : Stamp) (bas
     → VotesAreWithinAccepted g b → AcceptedIsWithinGroup g m → NumbersAreLow most g m → PlanNumbersAreLow most g (piece_for m s v base number e b)
 ends_piece_for most g m s v base number e None low from votes k h = ends_piece_promised most g m s v base number e low from k h
 ends_piece_for most g m s v base number e (Some b) low from votes k h =
-    let goes : NumbersAreLow most g (push_entry (trim_up_to m base) e) → PlanNumbersAreLow most g (decide_anew b (push_entry (trim_up_to m base) e)) =
-    λ n. higher_node_gives_low_plan most g _ (decide_keeps_numbers_low most g (push_entry (trim_up_to m base) e) b votes (record { told = k.told; acc = k.acc }) n) in
-    let l = ends_fetched most g m v base number e true (decide_anew b) low from goes k h in
+    let goes : NumbersAreLow most g (push_entry (trim_node_up_to m base) e) → PlanNumbersAreLow most g (look_at_ballot_anew b (push_entry (trim_node_up_to m base) e)) =
+    λ n. higher_node_gives_low_plan most g _ (decide_keeps_numbers_low most g (push_entry (trim_node_up_to m base) e) b votes (record { told = k.told; acc = k.acc }) n) in
+    let l = ends_fetched most g m v base number e true (look_at_ballot_anew b) low from goes k h in
     let p = ends_piece_promised most g m s v base number e low from k h in
     search (either_plan_has_low_numbers, low_node_gives_low_plan, h, l, p)
 
 ends_hears_result : (most : Bounds) (g : ℕ) (m : Node) (s : ℕ) (base number : ℕ) (v : GroupView) → base ≤ g → AcceptedIsWithinGroup g m
-    → NumbersAreLow most g m → PlanNumbersAreLow most g (hears_result m s base number v)
+    → NumbersAreLow most g m → PlanNumbersAreLow most g (row_of_promised_result m s base number v)
 ends_hears_result most g m s base number v from k h =
-    let l : NumbersAreLow (up most) g (push_entry (trim_up_to m base) (View v)) =
-    pushed_entry_keeps_numbers_low most g (trim_up_to m base) (View v) (record { told = k.told; acc = k.acc }) (trim_keeps_numbers_low most g m base from h) in
+    let l : NumbersAreLow (bounds_one_higher most) g (push_entry (trim_node_up_to m base) (View v)) =
+    pushed_entry_keeps_numbers_low most g (trim_node_up_to m base) (View v) (record { told = k.told; acc = k.acc }) (trim_keeps_numbers_low most g m base from h) in
     search (either_plan_has_low_numbers, low_node_gives_low_plan, higher_node_gives_low_plan, h, l) depth 8
 
 -- ---- a step
@@ -154,7 +154,7 @@ first_low g x rest h = All-head (λ n. n ≤ g) x rest h
 second_low : (g x y : ℕ) (rest : List ℕ) → All (λ n. n ≤ g) (x ∷ y ∷ rest) → y ≤ g
 second_low g x y rest h = first_low g y rest (All-tail (λ n. n ≤ g) x (y ∷ rest) h)
 
-ends_hear : (most : Bounds) (g : ℕ) (m : Node) (p : Packet) → UpTo most g p → AcceptedIsWithinGroup g m → NumbersAreLow most g m → PlanNumbersAreLow most g (hear_row m p)
+ends_hear : (most : Bounds) (g : ℕ) (m : Node) (p : Packet) → PacketIsWithinBounds most g p → AcceptedIsWithinGroup g m → NumbersAreLow most g m → PlanNumbersAreLow most g (hear_row m p)
 unfolding hear_row request_row spread_row bcast_row order_row accept_row ack_row nack_row hold_row join_ask_row welcome_row leave_ask_row gone_row
     invite_row vote_row fetch_row piece_row result_row reset_row
 ends_hear most g m (packet.Request s v report req body) u k h =
@@ -167,11 +167,11 @@ ends_hear most g m (packet.Spread s v report req body) u k h =
     search (ends, l)
 ends_hear most g m (packet.Bcast s v base acc number e) u k h =
     let n = low_noted most g m base acc (first_low g acc [] u.accepted) h in
-    let l = ends_received most g (with_noted m base acc) s base number (Some e) said.Known n in
+    let l = ends_received most g (node_with_noted_fronts m base acc) s base number (Some e) said.Known n in
     search (ends, l)
 ends_hear most g m (packet.Order s v base acc number from req) u k h =
     let n = low_noted most g m base acc (first_low g acc [] u.accepted) h in
-    let l = ends_received most g (with_noted m base acc) s base number (data_entry_of from req (body_of m from req)) (said.NoBody from req) n in
+    let l = ends_received most g (node_with_noted_fronts m base acc) s base number (data_entry_of from req (body_of_spread_send m from req)) (said.NoBody from req) n in
     search (ends, l)
 ends_hear most g m (packet.Accept s v base acc high poll) u k h =
     let n = low_noted most g m base acc (first_low g acc [] u.accepted) h in
@@ -182,8 +182,8 @@ ends_hear most g m (packet.Ack s v report) u k h =
 ends_hear most g m (packet.Nack s v report) u k h =
     let n = low_reported most g m s report (first_low g report.taken [] u.accepted) h in
     search (ends, n)
-ends_hear most g m (packet.Hold s v base high req) u k h = let l = ends_held_up most g m base high req (waiting m) h in search (ends, l)
-ends_hear most g m (packet.JoinAsk s v) u k h = let l = ends_asks_to_join most g m s (at_place (image_of m) s) h in search (ends, l)
+ends_hear most g m (packet.Hold s v base high req) u k h = let l = ends_held_up most g m base high req (waiting_send_of m) h in search (ends, l)
+ends_hear most g m (packet.JoinAsk s v) u k h = let l = ends_asks_to_join most g m s (row_at_place (image_of_node m) s) h in search (ends, l)
 ends_hear most g m (packet.Welcome s v base join image) u k h =
     let n = low_begun most g m v base join image u.round (first_low most.lists base (join ∷ []) u.numbers) (first_low g base (join ∷ []) u.accepted)
     (second_low g base join [] u.accepted) h in
@@ -202,7 +202,7 @@ ends_hear most g m (packet.Piece s v base number e) u k h =
     search (ends, l)
 ends_hear most g m (packet.Result s base number v) u k h =
     let n = promise_keeps_numbers_low most g m v.stamp u.round h in
-    let l = ends_hears_result most g (with_promise m v.stamp) s base number v (first_low g base [] u.accepted) (record { told = k.told; acc = k.acc }) n in
+    let l = ends_hears_result most g (node_with_promise m v.stamp) s base number v (first_low g base [] u.accepted) (record { told = k.told; acc = k.acc }) n in
     search (ends, l)
 ends_hear most g m _ u k h = search (ends, begin_ballot_keeps_numbers_low)
 
@@ -224,8 +224,8 @@ ends_row most g m (does.Done req) d k h = low_node_gives_low_plan most g _ (reco
   tells = h.tells;
 })
 ends_row most g m does.Take d k h =
-    let l : (m.core.taken == m.core.acc) ≡ false → PlanNumbersAreLow most g (give_out m (entry_at m.core.log (m.core.taken + 1))) =
-    λ f. give_out_keeps_numbers_low most g m (entry_at m.core.log (m.core.taken + 1)) f k h in
+    let l : (m.core.taken == m.core.acc) ≡ false → PlanNumbersAreLow most g (give_out_entry m (log_entry_at m.core.log (m.core.taken + 1))) =
+    λ f. give_out_keeps_numbers_low most g m (log_entry_at m.core.log (m.core.taken + 1)) f k h in
     search (ends, l)
 ends_row most g m does.Join d k h = join_row_keeps_numbers_low most g m m.status h
 ends_row most g m does.State d k h = state_row_keeps_numbers_low most g m m.status h
@@ -236,14 +236,14 @@ ends_row most g m (does.GiveUp name) d k h = give_up_keeps_numbers_low most g m 
 ends_row most g m does.Tick d k h = tick_row_keeps_numbers_low most g m m.status h
 ends_row most g m (does.Hear bytes) d k h = absurd d
 
-pub step_keeps_numbers_low : (most : Bounds) (g : ℕ) (m : Node) (event : NodeEvent) → IsNoHearing event → AcceptedIsWithinGroup g m → NumbersAreLow most g m → NumbersAreLow (up most) g (step m event).node
+pub step_keeps_numbers_low : (most : Bounds) (g : ℕ) (m : Node) (event : NodeEvent) → IsNoHearing event → AcceptedIsWithinGroup g m → NumbersAreLow most g m → NumbersAreLow (bounds_one_higher most) g (step m event).node
 unfolding step
 step_keeps_numbers_low most g m event d k h = finish_keeps_numbers_low most g m (row m event) (ends_row most g m event d k h)
 
-pub hear_keeps_numbers_low : (most : Bounds) (g : ℕ) (m : Node) (p : Packet) → UpTo most g p → AcceptedIsWithinGroup g m → NumbersAreLow most g m → NumbersAreLow (up most) g (hear m p).node
-unfolding hear
+pub hear_keeps_numbers_low : (most : Bounds) (g : ℕ) (m : Node) (p : Packet) → PacketIsWithinBounds most g p → AcceptedIsWithinGroup g m → NumbersAreLow most g m → NumbersAreLow (bounds_one_higher most) g (hear_packet m p).node
+unfolding hear_packet
 hear_keeps_numbers_low most g m p u k h = finish_keeps_numbers_low most g m (hear_row m p) (ends_hear most g m p u k h)
 
-pub refusal_keeps_numbers_low : (most : Bounds) (g : ℕ) (m : Node) (cause : ℕ) → NumbersAreLow most g m → NumbersAreLow (up most) g (hear_refusal m cause).node
-unfolding hear_refusal
-refusal_keeps_numbers_low most g m cause h = finish_keeps_numbers_low most g m (refuse m cause) (low_node_gives_low_plan most g _ h)
+pub refusal_keeps_numbers_low : (most : Bounds) (g : ℕ) (m : Node) (cause : ℕ) → NumbersAreLow most g m → NumbersAreLow (bounds_one_higher most) g (hear_refused_bytes m cause).node
+unfolding hear_refused_bytes
+refusal_keeps_numbers_low most g m cause h = finish_keeps_numbers_low most g m (refuse_bytes m cause) (low_node_gives_low_plan most g _ h)

@@ -1,8 +1,8 @@
 -- How high the numbers of the letters are that a node sends.
-use Rattle.am_step_laws.proofs.Words.{◌≡◌, ℕ, ◌≤◌, ◌==◌, nat_lt, nat_le, true, List, [], ◌∷◌, ap, arith, All, nat_tests, All-nil, All-cons, life_of, Log, at_place}
-use Rattle.am_step_laws.proofs.Words.{row_of, told_by, Packet, Node, top, image_of, may_go, split_on_bool, Cause, MayWelcome, just_joined, asks_again, Says, bcast, order}
-use Rattle.am_step_laws.proofs.Words.{refl, hold, welcome, gone, fetch, piece, result, request, spread, vote, Bounds, UpTo}
-use Rattle.am_model.specs.Sequencing.{row_at}
+use Rattle.am_step_laws.proofs.Words.{◌≡◌, ℕ, ◌≤◌, ◌==◌, nat_lt, nat_le, true, List, [], ◌∷◌, ap, arith, All, nat_tests, All-nil, All-cons, life_of_name, Log, row_at_place}
+use Rattle.am_step_laws.proofs.Words.{row_of_name, image_of_log, Packet, Node, top, image_of_node, leaver_may_go, split_on_bool, Cause, MayWelcome, just_joined, asks_again, Says, bcast, order}
+use Rattle.am_step_laws.proofs.Words.{refl, hold, welcome, gone, fetch, piece, result, request, spread, vote, Bounds, PacketIsWithinBounds}
+use Rattle.am_model.specs.Sequencing.{row_of_name_in_list}
 use Rattle.am_packet.specs.Spelling.{stamp_of}
 use Rattle.am_step_laws.specs.Packets.{entry_numbers_of, accepted_of}
 use Rattle.am_step_laws.specs.Letters.{accept, ack, nack, leave_ask}
@@ -27,13 +27,13 @@ pub record SenderNumbersAreLow (b : Bounds) (g : ℕ) (c : Cause) (m n : Node) :
   pub behind : AcceptedIsWithinGroup g n
   pub group : g ≤ b.lists
   -- its list has one entry more at most, where it welcomes
-  pub next : (s : ℕ) → MayWelcome m n s → (row_of (image_of n) s).joined ≤ g
+  pub next : (s : ℕ) → MayWelcome m n s → (row_of_name (image_of_node n) s).joined ≤ g
   pub image : ImageIsUpTo n.core.log.start n.core.log.image
 
 -- a leaver that may go has an accepted Leave
-gone_low : (n : Node) (s : ℕ) → may_go n s ≡ true → (row_at n s).left ≤ n.core.acc
-gone_low n s h = split_on_bool (nat_lt 0 (row_at n s).left)
-    (λ t. let h1 = rw t at h in split_on_bool (nat_le (row_at n s).left n.core.acc) (λ u. grind (arith, nat_tests)) (λ f. absurd (let h2 = rw f at h1 in cc)))
+gone_low : (n : Node) (s : ℕ) → leaver_may_go n s ≡ true → (row_of_name_in_list n s).left ≤ n.core.acc
+gone_low n s h = split_on_bool (nat_lt 0 (row_of_name_in_list n s).left)
+    (λ t. let h1 = rw t at h in split_on_bool (nat_le (row_of_name_in_list n s).left n.core.acc) (λ u. grind (arith, nat_tests)) (λ f. absurd (let h2 = rw f at h1 in cc)))
     (λ f. absurd (let h1 = rw f at h in cc))
 
 -- the numbers of a node that sends, in one place
@@ -65,14 +65,14 @@ told_of b g c m n h =
 
 -- a packet that reports
 told_low : (b : Bounds) (g : ℕ) (n : Node) (p : Packet) → Told b g n → (stamp_of p).round ≡ n.core.promise.round → entry_numbers_of p ≡ top n ∷ n.core.taken ∷ []
-    → accepted_of p ≡ n.core.taken ∷ [] → UpTo b g p
+    → accepted_of p ≡ n.core.taken ∷ [] → PacketIsWithinBounds b g p
 told_low b g n p t round numbers accepted = record {
   round = rw round t.round;
   numbers = rw numbers (two_low b.lists (top n) n.core.taken t.high t.taken);
   accepted = rw accepted (one_low g n.core.taken t.took);
 }
 
-pub said_packet_numbers_are_low : (b : Bounds) (g : ℕ) (m n : Node) (c : Cause) (to : List ℕ) (p : Packet) → SenderNumbersAreLow b g c m n → Says m c n to p → UpTo b g p
+pub said_packet_numbers_are_low : (b : Bounds) (g : ℕ) (m n : Node) (c : Cause) (to : List ℕ) (p : Packet) → SenderNumbersAreLow b g c m n → Says m c n to p → PacketIsWithinBounds b g p
 said_packet_numbers_are_low b g m n c to p h (bcast _ number e l s) =
     let t = told_of b g c m n h in
     record { round = t.round; numbers = three_low b.lists n.core.base n.core.acc number t.base t.acc (omega arith); accepted = one_low g n.core.acc t.accepted }
@@ -90,13 +90,13 @@ said_packet_numbers_are_low b g m n c to p h (welcome s l may) =
     let join = h.next s may in
     record {
       round = t.round;
-      numbers = two_low b.lists n.core.base (row_of (image_of n) s).joined t.base (omega arith);
-      accepted = two_low g n.core.base (row_of (image_of n) s).joined t.trims join;
+      numbers = two_low b.lists n.core.base (row_of_name (image_of_node n) s).joined t.base (omega arith);
+      accepted = two_low g n.core.base (row_of_name (image_of_node n) s).joined t.trims join;
     }
 said_packet_numbers_are_low b g m n c to p h (gone s l may) =
     let t = told_of b g c m n h in
     let low = gone_low n s may in
-    record { round = t.round; numbers = one_low b.lists (row_at n s).left (omega arith); accepted = none_low g }
+    record { round = t.round; numbers = one_low b.lists (row_of_name_in_list n s).left (omega arith); accepted = none_low g }
 said_packet_numbers_are_low b g m n c to p h (fetch _ may) =
     let t = told_of b g c m n h in
     record { round = t.round; numbers = one_low b.lists (top n) t.high; accepted = none_low g }
@@ -118,13 +118,13 @@ said_packet_numbers_are_low b g m n c to p h _ = record { round = h.low.rounds; 
 
 -- a joiner's Join is accepted by the group
 pub welcomed_join_le_accepted : (g : ℕ) (m n : Node) (s : ℕ) → m.core.acc ≤ g → n.core.acc ≤ g → ImageIsUpTo n.core.log.start n.core.log.image → MayWelcome m n s
-    → (row_of (image_of n) s).joined ≤ g
+    → (row_of_name (image_of_node n) s).joined ≤ g
 welcomed_join_le_accepted g m n s old new image (just_joined number is high low at) =
-    let all = (row_of_up_to_number (top n) (image_of n) s (told_image_up_to_top n.core.log image)).joined in
+    let all = (row_of_up_to_number (top n) (image_of_node n) s (told_image_up_to_top n.core.log image)).joined in
     omega arith
 welcomed_join_le_accepted g m n s old new image (asks_again same life some stays low more) =
-    let there : at_place (image_of n) s ≡ at_place (image_of m) s = ap (λ (l : Log). at_place (told_by l) s) same in
-    let low_ : (at_place (image_of n) s).joined ≤ g = rw there (omega arith) in
-    split_on_bool ((at_place (image_of n) s).life == life_of s)
+    let there : row_at_place (image_of_node n) s ≡ row_at_place (image_of_node m) s = ap (λ (l : Log). row_at_place (image_of_log l) s) same in
+    let low_ : (row_at_place (image_of_node n) s).joined ≤ g = rw there (omega arith) in
+    split_on_bool ((row_at_place (image_of_node n) s).life == life_of_name s)
     (λ t. rw t low_)
     (λ f. rw f (omega arith))

@@ -1,6 +1,6 @@
 -- What a node's list begins with tells of nothing above its start.
-use Rattle.am_step_laws.proofs.Words.{◌≡◌, sym, subst, Log, Outcome, Leave, Packet, Node, Ballot, push_entry, Verdict, refresh, refresh_at_end, Cause, hears}
-use Rattle.am_step_laws.proofs.Words.{Looks, finds_itself_out, Change, refreshes, settles, begins_list, looks, closes, Changes, refresh_rests_with_list, end_refresh_rests_with_list}
+use Rattle.am_step_laws.proofs.Words.{◌≡◌, sym, subst, Log, Outcome, Leave, Packet, Node, Ballot, push_entry, BallotVerdict, refresh, refresh_at_end, Cause, hears}
+use Rattle.am_step_laws.proofs.Words.{LooksAtBallot, finds_itself_out, Change, refreshes, settles, begins_list, looks, closes, Changes, refresh_rests_with_list, end_refresh_rests_with_list}
 use Rattle.am_step_laws.proofs.Words.{settle_changes_only_sends, changes_keep_property}
 use Rattle.am_packet.specs.declared.packet.Packet.TheVariants as packet
 use Rattle.am_step_laws.proofs.Numbers.Images.{ImageIsUpTo}
@@ -17,7 +17,7 @@ FirstImageUpToStart m = ImageIsUpTo m.core.log.start m.core.log.image
 same_list : (m n : Node) → n.core.log ≡ m.core.log → FirstImageUpToStart m → FirstImageUpToStart n
 same_list m n is h = subst (λ (l : Log). ImageIsUpTo l.start l.image) (sym is) h
 
-look_list : (m : Node) (b : Ballot) (v : Verdict) → Looks m b v → FirstImageUpToStart m → FirstImageUpToStart v.node
+look_list : (m : Node) (b : Ballot) (v : BallotVerdict) → LooksAtBallot m b v → FirstImageUpToStart m → FirstImageUpToStart v.node
 look_list m b v (finds_itself_out x) h = h
 look_list m b v _ h = h
 

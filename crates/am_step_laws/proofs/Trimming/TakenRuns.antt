@@ -1,8 +1,8 @@
 -- In each run no node trims more than its own application has taken.
 use Rattle.am_step_laws.proofs.Words.{first_node_has_property, first_nodes_keep_bounds, ◌≡◌, ℕ, ◌+◌, ◌<◌, ◌==◌, true, List, slice_index, subst, arith, All, nat_tests, All-nil, All-append}
-use Rattle.am_step_laws.proofs.Words.{All-weaker, Outcome, Rules, MayFound, place_of, life_of, has, fold, Packet, Letter, unused_places_after_entries, Event, Node, founder, stranger}
-use Rattle.am_step_laws.proofs.Words.{World, start, with_step, run, split_on_bool, Cause, Says, welcome, LetterSays, Changes, no_change, changed, actor, heard_packet_has_property}
-use Rattle.am_step_laws.proofs.Words.{IsCause, EventsKeep, StepsKeepLaw, HasSameWorldParts, events_keep_by_steps, runs_keep_what_events_keep, NodeIsBounded, change_keeps_node_bounds, TakenHolds, JoinsAreNextLives}
+use Rattle.am_step_laws.proofs.Words.{All-weaker, Outcome, Rules, MayFound, place_of_name, life_of_name, has, image_after_entries, Packet, Letter, unused_places_after_entries, Event, Node, founder, stranger_node}
+use Rattle.am_step_laws.proofs.Words.{World, start, world_with_step, run, split_on_bool, Cause, Says, welcome, LetterSays, Changes, no_change, changed, acting_name, heard_packet_has_property}
+use Rattle.am_step_laws.proofs.Words.{IsCause, EventsKeep, StepsKeepLaw, HasSameWorldParts, events_keep_by_steps, runs_keep_what_events_keep, NodeIsBounded, change_keeps_node_bounds, TrimmedWasTaken, JoinsAreNextLives}
 use Rattle.am_step_laws.proofs.Words.{founding_view}
 use Rattle.am_step_laws.proofs.Trimming.LeaderRows.{first_view_has_its_members, blank_image_is_used}
 use Rattle.am_step_laws.proofs.Named.{actor_is_below_256}
@@ -55,7 +55,7 @@ pub record WorldTrimsOnlyTaken (rules : Rules) (w : World) : Type 0 where
   pub owned : PartsTrimOnlyTaken rules w.nodes w.letters
   pub open owned use *
 
-pub heard_welcome_image_is_used : (rules : Rules) (w : World) (e : Event) (c : Cause) → WorldTrimsOnlyTaken rules w → IsCause w (actor w e) e.act c → HeardWelcomeImageIsUsed c
+pub heard_welcome_image_is_used : (rules : Rules) (w : World) (e : Event) (c : Cause) → WorldTrimsOnlyTaken rules w → IsCause w (acting_name w e) e.act c → HeardWelcomeImageIsUsed c
 heard_welcome_image_is_used rules w e c h cause p is = heard_packet_has_property WelcomeImageIsUsed w e c p cause is h.letters
 
 pub each_node_trims_only_taken : (rules : Rules) (w : World) (name : ℕ) → name < 256 → WorldTrimsOnlyTaken rules w → TrimsOnlyTakenAlongStep rules (w.nodes name)
@@ -64,9 +64,9 @@ each_node_trims_only_taken rules w name few h =
     record { names = k.names; balloted = k.balloted; blanked = h.blanks.each name few; kept = h.kept name; owned = h.each name few }
 
 owned_step : (rules : Rules) → StepsKeepLaw (ListlessNodesAreBlank rules) (WorldTrimsOnlyTaken rules)
-unfolding with_step
+unfolding world_with_step
 owned_step rules w e c s cause effect blanks h =
-    let name = actor w e in
+    let name = acting_name w e in
     let m = w.nodes name in
     let few = actor_is_below_256 rules w e h.blanks.base.named in
     let a = changes_trim_only_taken rules m s.node (heard_stamps_have_names rules w e c h.blanks.base cause) (heard_welcome_image_is_used rules w e c h cause) effect.changes
@@ -92,9 +92,9 @@ events_trim_only_taken rules = events_keep_by_steps (ListlessNodesAreBlank rules
 -- ---- the start
 
 founder_owned : (rules : Rules) (name : ℕ) → has rules.founders name ≡ true → TrimsNoMoreThanTaken (founder rules name)
-unfolding JoinsAreNextLives fold
+unfolding JoinsAreNextLives image_after_entries
 founder_owned rules name there =
-    let given : slice_index rules.founders (place_of name) ≡ life_of name = grind (arith, nat_tests) in
+    let given : slice_index rules.founders (place_of_name name) ≡ life_of_name name = grind (arith, nat_tests) in
     record {
       fronts = record {
         used = blank_image_is_used;
@@ -109,7 +109,7 @@ founder_owned rules name there =
       vote = tt;
     }
 
-stranger_owned : (rules : Rules) (name : ℕ) → TrimsNoMoreThanTaken (stranger rules name)
+stranger_owned : (rules : Rules) (name : ℕ) → TrimsNoMoreThanTaken (stranger_node rules name)
 unfolding JoinsAreNextLives
 stranger_owned rules name = record {
   fronts =
@@ -131,5 +131,5 @@ start_trims_only_taken rules may = record {
 pub run_trims_only_taken : (rules : Rules) (events : List Event) → MayFound rules → WorldTrimsOnlyTaken rules (run rules events)
 run_trims_only_taken rules events may = runs_keep_what_events_keep (WorldTrimsOnlyTaken rules) (events_trim_only_taken rules) (start rules) events (start_trims_only_taken rules may)
 
-pub trimmed_was_taken_in_runs : TakenHolds
+pub trimmed_was_taken_in_runs : TrimmedWasTaken
 trimmed_was_taken_in_runs rules events name may few = ((run_trims_only_taken rules events may).each name few).fronts.base

@@ -1,7 +1,7 @@
 -- A name's step only adds entries to its list.
 use Rattle.am_step_laws.proofs.Watching.WatchedWords.{EachNodeHas, events_keep_each_node, first_node_has_property, number_equals_itself, ◌≡◌, ℕ, ◌<◌, ◌≤◌, Bool, false, if◌then◌else◌, List, [], ◌++◌, length}
-use Rattle.am_step_laws.proofs.Watching.WatchedWords.{drop, refl, sym, ap, ◌∙◌, subst, arith, All, append-nil, drop-append_seam, Rules, MayFound, Packet, Event, Node, has_log}
-use Rattle.am_step_laws.proofs.Watching.WatchedWords.{Step, World, start, first_node, with_step, run, heard_by, Cause, Effect, actor, WasSentTo, IsCause, steps, changes_keep_property}
+use Rattle.am_step_laws.proofs.Watching.WatchedWords.{drop, refl, sym, ap, ◌∙◌, subst, arith, All, append-nil, drop-append_seam, Rules, MayFound, Packet, Event, Node, has_log_by_status}
+use Rattle.am_step_laws.proofs.Watching.WatchedWords.{StepResult, World, start, first_node, world_with_step, run, packet_heard_by_act, Cause, Effect, acting_name, WasSentTo, IsCause, steps, changes_keep_property}
 use Rattle.am_step_laws.proofs.Watching.WatchedWords.{EventsKeep, runs_keep_what_events_keep, accepted_of, NodeNumbers, NodesHaveTheirNames, actor_is_below_256, events_keep_names, number_bounds_hold_in_runs, WorldNotesViewsOnce, heard_stamps_have_names}
 use Rattle.am_step_laws.proofs.Watching.WatchedWords.{events_note_views_once, start_notes_views_once, ListsGoOn}
 use Rattle.am_packet.specs.declared.packet.Packet.TheVariants as packet
@@ -9,18 +9,18 @@ use Rattle.am_step_laws.proofs.Watching.Chains.{HasLongerEntries, changes_length
 
 -- without a list there are no entries
 abbrev pub HasNoEntriesWithoutLog : Node → Type 0
-HasNoEntriesWithoutLog m = has_log m.status ≡ false → m.core.log.entries ≡ []
+HasNoEntriesWithoutLog m = has_log_by_status m.status ≡ false → m.core.log.entries ≡ []
 
 abbrev pub ListlessNodesHaveNoEntries : Rules → World → Type 0
 ListlessNodesHaveNoEntries rules = EachNodeHas (WorldNotesViewsOnce rules) (λ name n. name < 256 → HasNoEntriesWithoutLog n)
 
 -- what a step adds
-step_longer : (rules : Rules) (w : World) (e : Event) (c : Cause) (s : Step) → IsCause w (actor w e) e.act c → Effect (w.nodes (actor w e)) c s
-    → WorldNotesViewsOnce rules w → (actor w e < 256 → HasNoEntriesWithoutLog (w.nodes (actor w e))) → HasLongerEntries (w.nodes (actor w e)) s.node
+step_longer : (rules : Rules) (w : World) (e : Event) (c : Cause) (s : StepResult) → IsCause w (acting_name w e) e.act c → Effect (w.nodes (acting_name w e)) c s
+    → WorldNotesViewsOnce rules w → (acting_name w e < 256 → HasNoEntriesWithoutLog (w.nodes (acting_name w e))) → HasLongerEntries (w.nodes (acting_name w e)) s.node
 step_longer rules w e c s cause effect views bare =
-    let m = w.nodes (actor w e) in
+    let m = w.nodes (acting_name w e) in
     let few = actor_is_below_256 rules w e views.named in
-    let kept = views.each (actor w e) few in
+    let kept = views.each (acting_name w e) few in
     changes_lengthen_entries m m s.node (heard_stamps_have_names rules w e c views cause) effect.changes kept.names kept.balloted
     (record { bare = bare few; more = []; is = sym (append-nil m.core.log.entries) })
 
@@ -38,28 +38,28 @@ pub run_has_bare_listless_nodes : (rules : Rules) (events : List Event) → MayF
 run_has_bare_listless_nodes rules events may = runs_keep_what_events_keep (ListlessNodesHaveNoEntries rules) (events_keep_listless_nodes_bare rules) (start rules) events (start_has_bare_listless_nodes rules may)
 
 -- a Welcome tells of what the group has accepted
-heard_low : (rules : Rules) (events : List Event) (e : Event) (c : Cause) → IsCause (run rules events) (actor (run rules events) e) e.act c
+heard_low : (rules : Rules) (events : List Event) (e : Event) (c : Cause) → IsCause (run rules events) (acting_name (run rules events) e) e.act c
     → WelcomeBaseIsWithin c (length (run rules events).group)
 heard_low rules events e c cause = record {
   welcome = λ s v base join image is.
       (let w = run rules events in
       let p = packet.Welcome s v base join image in
-      let was : WasSentTo w (actor w e) e.act p = subst (IsCause w (actor w e) e.act) is cause in
-      let low = ((number_bounds_hold_in_runs rules events).letters (heard_by e.act) was.letter was.there).accepted in
+      let was : WasSentTo w (acting_name w e) e.act p = subst (IsCause w (acting_name w e) e.act) is cause in
+      let low = ((number_bounds_hold_in_runs rules events).letters (packet_heard_by_act e.act) was.letter was.there).accepted in
       let here : All (λ n. n ≤ length w.group) (accepted_of p) = subst (λ (x : Packet). All (λ n. n ≤ length w.group) (accepted_of x)) was.is low in
       here 0 0 (omega arith));
 }
 
 pub lists_only_grow_in_runs : ListsGoOn
-unfolding with_step
+unfolding world_with_step
 lists_only_grow_in_runs rules events e c s may runs cause effect =
     let w = run rules events in
-    let name = actor w e in
+    let name = acting_name w e in
     let m = w.nodes name in
     let n = s.node in
     let h = run_has_bare_listless_nodes rules events may in
     let longer = step_longer rules w e c s cause effect h.base (h.each name) in
-    let named : NodesHaveTheirNames rules (with_step w e name s) = events_keep_names rules w e (with_step w e name s) (steps c s runs cause effect) h.base.named in
+    let named : NodesHaveTheirNames rules (world_with_step w e name s) = events_keep_names rules w e (world_with_step w e name s) (steps c s runs cause effect) h.base.named in
     let low : NodeNumbers (length events) (length w.group) m = (number_bounds_hold_in_runs rules events).each name in
     let first : m.core.log.start ≤ length w.group = let a = low.kept in let b = low.base in omega arith in
     record {

@@ -3,12 +3,12 @@ use Rattle.am_step_laws.proofs.Trimming.Taken.{sequencer_promise_is_its_view}
 use Rattle.am_step_laws.proofs.ViewChanges.{sequencer_is_member}
 use Rattle.am_step_laws.proofs.Watching.WatchedWords.{view_never_falls_in_growth, member_status_has_log, stamp_eq_of_itself, stamp_eq_gives_equality, ◌≡◌, ◌⊎◌, ⊎_elim, ℕ, ◌-◌, ◌==◌, not, true, false, List, [], length, refl}
 use Rattle.am_step_laws.proofs.Watching.WatchedWords.{sym, ap, ◌∙◌, subst, arith, All, nat_tests, list_any_none, All-nil, All-cons, All-append, All-weaker, All-take}
-use Rattle.am_step_laws.proofs.Watching.WatchedWords.{All-drop, Stamp, Entry, View, Rules, MayFound, has, rank_of, stamp_lt, stamp_eq, no_stamp, fold, after, Packet, Letter}
-use Rattle.am_step_laws.proofs.Watching.WatchedWords.{Event, Node, view, is_member, set_at, founders_entry, lowest_or_first, has_log, Step, World, start, first_node}
-use Rattle.am_step_laws.proofs.Watching.WatchedWords.{with_step, group_after, run, is_view_of, split_on_bool, both_of_and, Cause, MayTell, leads, decided, Says, piece, result}
-use Rattle.am_step_laws.proofs.Watching.WatchedWords.{LetterSays, Effect, actor, heard_packet_has_property, IsCause, all_gives_slice_get, EventsKeep, StepsKeepLaw, HasSameWorldParts, events_keep_by_steps, runs_keep_what_events_keep}
+use Rattle.am_step_laws.proofs.Watching.WatchedWords.{All-drop, Stamp, Entry, View, Rules, MayFound, has, rank_of_name, stamp_is_less, stamps_are_equal, no_stamp, image_after_entries, after, Packet, Letter}
+use Rattle.am_step_laws.proofs.Watching.WatchedWords.{Event, Node, view, is_member, map_with_value, founders_entry, lowest_name_or_zero, has_log_by_status, StepResult, World, start, first_node}
+use Rattle.am_step_laws.proofs.Watching.WatchedWords.{world_with_step, list_after_step, run, is_view_of, split_on_bool, both_of_and, Cause, MayTellResult, leads, decided, Says, piece, result}
+use Rattle.am_step_laws.proofs.Watching.WatchedWords.{LetterSays, Effect, acting_name, heard_packet_has_property, IsCause, item_of_index_has_property, EventsKeep, StepsKeepLaw, HasSameWorldParts, events_keep_by_steps, runs_keep_what_events_keep}
 use Rattle.am_step_laws.proofs.Watching.WatchedWords.{stamp_of, lowest_founder_founds, actor_is_below_256, stamp_at_most_is_transitive, stamp_not_below_itself, HasSameView, LastViewStandsInLog, NodeBallotFits, ChangeKeepsListAndBallot, changes_keep_list_and_names, heard_stamps_have_names}
-use Rattle.am_step_laws.proofs.Watching.WatchedWords.{said_stamp_is_promise, DecidedAreNew}
+use Rattle.am_step_laws.proofs.Watching.WatchedWords.{said_stamp_is_promise, DecidedViewsAreNew}
 use Rattle.am_packet.specs.declared.packet.Packet.TheVariants as packet
 use Rattle.am_model.specs.declared.status.Status.TheVariants as status
 use Rattle.am_group_defs.specs.World as runs
@@ -48,36 +48,36 @@ pub record WorldKnowsOwnViews (rules : Rules) (w : World) : Type 0 where
 
 -- ---- a step of a name
 
-module _ (nodes : ℕ → Node) (name : ℕ) (n : Node) (d : ChangeKeepsListAndBallot (nodes name) n) (rises : stamp_lt n.core.promise (nodes name).core.promise ≡ false) where
-  below_up : (v : Stamp) → StampIsBelowPromise nodes v → StampIsBelowPromise (set_at nodes name n) v
+module _ (nodes : ℕ → Node) (name : ℕ) (n : Node) (d : ChangeKeepsListAndBallot (nodes name) n) (rises : stamp_is_less n.core.promise (nodes name).core.promise ≡ false) where
+  below_up : (v : Stamp) → StampIsBelowPromise nodes v → StampIsBelowPromise (map_with_value nodes name n) v
   below_up v h = split_on_bool (v.by == name)
       (λ t. let same : v.by ≡ name = grind (arith, nat_tests) in
-      let low : stamp_lt (nodes name).core.promise v ≡ false = subst (λ k. stamp_lt (nodes k).core.promise v ≡ false) same h in
+      let low : stamp_is_less (nodes name).core.promise v ≡ false = subst (λ k. stamp_is_less (nodes k).core.promise v ≡ false) same h in
       rw t (stamp_at_most_is_transitive v (nodes name).core.promise n.core.promise low rises))
       (λ f. rw f h)
 
-  known_stamp : (v : Stamp) → ViewIsKnownToName nodes v → ViewIsKnownToName (set_at nodes name n) v
+  known_stamp : (v : Stamp) → ViewIsKnownToName nodes v → ViewIsKnownToName (map_with_value nodes name n) v
   known_stamp v h = split_on_bool (v.by == name)
       (λ t. let same : v.by ≡ name = grind (arith, nat_tests) in
-      let log : has_log (nodes name).status ≡ true = subst (λ k. has_log (nodes k).status ≡ true) same h.has_list in
-      let low : stamp_lt (view (nodes name)) v ≡ false = subst (λ k. stamp_lt (view (nodes k)) v ≡ false) same h.low in
+      let log : has_log_by_status (nodes name).status ≡ true = subst (λ k. has_log_by_status (nodes k).status ≡ true) same h.has_list in
+      let low : stamp_is_less (view (nodes name)) v ≡ false = subst (λ k. stamp_is_less (view (nodes k)) v ≡ false) same h.low in
       record { low = rw t (stamp_at_most_is_transitive v (view (nodes name)) (view n) low (view_never_falls_in_growth (nodes name) n (d.goes log))); has_list = rw t (d.log_ log) })
       (λ f. record { low = rw f h.low; has_list = rw f h.has_list })
 
-  known_up : (e : Entry) → EntryViewIsKnown nodes e → EntryViewIsKnown (set_at nodes name n) e
+  known_up : (e : Entry) → EntryViewIsKnown nodes e → EntryViewIsKnown (map_with_value nodes name n) e
   known_up (View v) h = known_stamp v.stamp h
   known_up _ h = tt
 
-  own_known : (v : Stamp) → ViewIsOfThisNode name n v → ViewIsKnownToName (set_at nodes name n) v
+  own_known : (v : Stamp) → ViewIsOfThisNode name n v → ViewIsKnownToName (map_with_value nodes name n) v
   own_known v o =
       let t : (v.by == name) ≡ true = let same = o.by in grind (arith, nat_tests) in
       record { low = rw t o.low; has_list = rw t o.has_list }
 
-  chained_known : (e : Entry) → EntryViewKnownOrOwn nodes name n e → EntryViewIsKnown (set_at nodes name n) e
+  chained_known : (e : Entry) → EntryViewKnownOrOwn nodes name n e → EntryViewIsKnown (map_with_value nodes name n) e
   chained_known (View v) h = ⊎_elim (λ (k : ViewIsKnownToName nodes v.stamp). known_stamp v.stamp k) (λ (o : ViewIsOfThisNode name n v.stamp). own_known v.stamp o) h
   chained_known _ h = tt
 
-  packet_up : (p : Packet) → PacketKnown nodes p → PacketKnown (set_at nodes name n) p
+  packet_up : (p : Packet) → PacketKnown nodes p → PacketKnown (map_with_value nodes name n) p
   packet_up (packet.Piece s v base number e) h = known_up e h
   packet_up (packet.Result s base number v) h = λ t. known_stamp v.stamp (h t)
   packet_up _ h = tt
@@ -86,38 +86,38 @@ module _ (nodes : ℕ → Node) (name : ℕ) (n : Node) (d : ChangeKeepsListAndB
 
 -- who tells a View of its own has it, and promised nothing above
 says_known : (nodes : ℕ → Node) (m x : Node) (c : Cause) (to : List ℕ) (p : Packet) → All (EntryViewIsKnown nodes) x.core.log.entries → ToldNode x
-    → (MayTell x → x.core.promise.by ≡ x.core.who → view x ≡ x.core.promise → ViewIsKnownToName nodes x.core.promise) → Says m c x to p → PacketKnown nodes p
-says_known nodes m x c to p entries told own (piece s v stored number e is may at) = all_gives_slice_get (EntryViewIsKnown nodes) x.core.log.entries at.index e entries at.there
+    → (MayTellResult x → x.core.promise.by ≡ x.core.who → view x ≡ x.core.promise → ViewIsKnownToName nodes x.core.promise) → Says m c x to p → PacketKnown nodes p
+says_known nodes m x c to p entries told own (piece s v stored number e is may at) = item_of_index_has_property (EntryViewIsKnown nodes) x.core.log.entries at.index e entries at.there
 says_known nodes m x c to p entries told own (result _ number names is viewed may) = λ t. (
     let mine : x.core.promise.by ≡ x.core.who = grind (arith, nat_tests) in
     own may mine (may_view x may told mine))
   where
-    may_view : (x : Node) → MayTell x → ToldNode x → x.core.promise.by ≡ x.core.who → view x ≡ x.core.promise
+    may_view : (x : Node) → MayTellResult x → ToldNode x → x.core.promise.by ≡ x.core.who → view x ≡ x.core.promise
     may_view x (leads l) told mine = sym (sequencer_promise_is_its_view x l)
     may_view x (decided b number names there answer at) told mine = at ∙ sym (told.is b number names there answer mine)
 says_known nodes m x c to p entries told own _ = tt
 
 -- who may tell has a list, also where it departs
-tells_list : (n x : Node) → n ≡ record x { status = n.status } → (n.status ≡ x.status) ⊎ (n.status ≡ status.Departed) → NodeBallotFits n → MayTell x
-    → has_log n.status ≡ true
+tells_list : (n x : Node) → n ≡ record x { status = n.status } → (n.status ≡ x.status) ⊎ (n.status ≡ status.Departed) → NodeBallotFits n → MayTellResult x
+    → has_log_by_status n.status ≡ true
 tells_list n x is stays b (leads l) = ⊎_elim
-    (λ (e : n.status ≡ x.status). ap has_log e ∙ member_status_has_log x.status (sequencer_is_member x l))
-    (λ (e : n.status ≡ status.Departed). ap has_log e)
+    (λ (e : n.status ≡ x.status). ap has_log_by_status e ∙ member_status_has_log x.status (sequencer_is_member x l))
+    (λ (e : n.status ≡ status.Departed). ap has_log_by_status e)
     stays
-tells_list n x is stays b (decided ballot number names there answer at) = split_on_bool (has_log n.status)
+tells_list n x is stays b (decided ballot number names there answer at) = split_on_bool (has_log_by_status n.status)
     (λ t. t)
     (λ f. absurd (let none = b.none f in let same : n.ballot ≡ x.ballot = ap (λ (y : Node). y.ballot) is in cc))
 
 -- ---- a step of a world
 
 grown_known : (nodes : ℕ → Node) (group : List Entry) (n : Node) → All (EntryViewIsKnown nodes) group → All (EntryViewIsKnown nodes) n.core.log.entries
-    → All (EntryViewIsKnown nodes) (group_after group n)
+    → All (EntryViewIsKnown nodes) (list_after_step group n)
 grown_known nodes group n h g = split_on_bool ((view n).by == n.core.who)
     (λ t. rw t (All-append (EntryViewIsKnown nodes) group _ h (All-take (EntryViewIsKnown nodes) (n.core.acc - length group) _
     (All-drop (EntryViewIsKnown nodes) (length group - n.core.log.start) n.core.log.entries g))))
     (λ f. rw f h)
 
-pub heard_views_are_known : (rules : Rules) (w : World) (e : Event) (c : Cause) → WorldKnowsOwnViews rules w → IsCause w (actor w e) e.act c → HeardViewsAreKnown w.nodes c
+pub heard_views_are_known : (rules : Rules) (w : World) (e : Event) (c : Cause) → WorldKnowsOwnViews rules w → IsCause w (acting_name w e) e.act c → HeardViewsAreKnown w.nodes c
 heard_views_are_known rules w e c h cause = record {
   stamp = λ p is. heard_packet_has_property (λ (x : Packet). StampIsBelowPromise w.nodes (stamp_of x)) w e c p cause is h.stamps;
   piece = λ s v base number x is. heard_packet_has_property (PacketKnown w.nodes) w e c (packet.Piece s v base number x) cause is h.heard;
@@ -130,10 +130,10 @@ record Stepped (w : World) (name : ℕ) (n : Node) : Type 0 where
   balloted : NodeBallotFits n
   chain : OwnViewsAlongStep w.nodes name n
 
-step_of : (rules : Rules) (w : World) (e : Event) (c : Cause) (s : Step) → IsCause w (actor w e) e.act c → Effect (w.nodes (actor w e)) c s → WorldKnowsOwnViews rules w
-    → Stepped w (actor w e) s.node
+step_of : (rules : Rules) (w : World) (e : Event) (c : Cause) (s : StepResult) → IsCause w (acting_name w e) e.act c → Effect (w.nodes (acting_name w e)) c s → WorldKnowsOwnViews rules w
+    → Stepped w (acting_name w e) s.node
 step_of rules w e c s cause effect h =
-    let name = actor w e in
+    let name = acting_name w e in
     let m = w.nodes name in
     let few = actor_is_below_256 rules w e h.lists.base.named in
     let kept = h.lists.base.each name few in
@@ -153,16 +153,16 @@ step_of rules w e c s cause effect h =
     }
 
 own_step : (rules : Rules) → StepsKeepLaw (ListlessNodesHaveNoEntries rules) (WorldKnowsOwnViews rules)
-unfolding with_step
+unfolding world_with_step
 own_step rules w e c s cause effect lists h =
-    let name = actor w e in
+    let name = acting_name w e in
     let m = w.nodes name in
     let n = s.node in
     let x = effect.sender in
     let g = step_of rules w e c s cause effect h in
     let d = g.does in
     let a = g.chain in
-    let next = set_at w.nodes name n in
+    let next = map_with_value w.nodes name n in
     let up : (k : Entry) → EntryViewIsKnown w.nodes k → EntryViewIsKnown next k = known_up w.nodes name n d a.rises in
     let mine : All (EntryViewIsKnown next) n.core.log.entries = All-weaker (EntryViewKnownOrOwn w.nodes name n) (EntryViewIsKnown next)
     (chained_known w.nodes name n d a.rises) n.core.log.entries a.entries in
@@ -173,11 +173,11 @@ own_step rules w e c s cause effect lists h =
     let sender_entries : All (EntryViewIsKnown next) x.core.log.entries = subst (λ k. All (EntryViewIsKnown next) k.log.entries) same mine in
     let sender_told : ToldNode x = let e2 : n.ballot ≡ x.ballot = ap (λ (y : Node). y.ballot) effect.is in
     subst (λ b. DecidedBallotIsThePromise x.core.who x.core.promise b) e2 (subst (λ k. DecidedBallotIsThePromise k.who k.promise n.ballot) same a.told) in
-    let own : MayTell x → x.core.promise.by ≡ x.core.who → view x ≡ x.core.promise → ViewIsKnownToName next x.core.promise = λ may by viewed.
+    let own : MayTellResult x → x.core.promise.by ≡ x.core.who → view x ≡ x.core.promise → ViewIsKnownToName next x.core.promise = λ may by viewed.
     (let there : view n ≡ x.core.promise = ap (λ (y : Node). view y) effect.is ∙ viewed in
     own_known w.nodes name n d a.rises x.core.promise (record {
       by = by ∙ ap (λ k. k.who) (sym same) ∙ a.who;
-      low = subst (λ (v : Stamp). stamp_lt v x.core.promise ≡ false) (sym there) (stamp_not_below_itself x.core.promise);
+      low = subst (λ (v : Stamp). stamp_is_less v x.core.promise ≡ false) (sym there) (stamp_not_below_itself x.core.promise);
       has_list = tells_list n x effect.is effect.stays g.balloted may;
     })) in
     record {
@@ -210,14 +210,14 @@ events_keep_own_views_known rules = events_keep_by_steps (ListlessNodesHaveNoEnt
 
 -- ---- the start
 
-none_below : (v : Stamp) → stamp_lt v no_stamp ≡ false
-none_below v = let z : rank_of 0 ≡ 0 = omega arith in grind (arith, nat_tests)
+none_below : (v : Stamp) → stamp_is_less v no_stamp ≡ false
+none_below v = let z : rank_of_name 0 ≡ 0 = omega arith in grind (arith, nat_tests)
 
 promise_first : (rules : Rules) → MayFound rules → (name : ℕ) → StampIsBelowPromise (first_node rules) (first_node rules name).core.promise
 promise_first rules may name =
     let first = lowest_founder_founds rules may in
     split_on_bool (has rules.founders name)
-    (λ t. rw t (rw first.founds (stamp_not_below_itself (record { round = 1; by = lowest_or_first rules.founders }))))
+    (λ t. rw t (rw first.founds (stamp_not_below_itself (record { round = 1; by = lowest_name_or_zero rules.founders }))))
     (λ f. rw f (none_below (first_node rules 0).core.promise))
 
 told_first : (rules : Rules) (name : ℕ) → ToldNode (first_node rules name)
@@ -226,11 +226,11 @@ told_first rules name = split_on_bool (has rules.founders name)
     (λ f. rw f (record { is = λ b number names there answer own. absurd (cc) }))
 
 first_known : (rules : Rules) → MayFound rules → EntryViewIsKnown (first_node rules) (founders_entry rules)
-unfolding fold after
+unfolding image_after_entries after
 first_known rules may =
     let first = lowest_founder_founds rules may in
     record {
-      low = rw first.founds (stamp_not_below_itself (record { round = 1; by = lowest_or_first rules.founders }));
+      low = rw first.founds (stamp_not_below_itself (record { round = 1; by = lowest_name_or_zero rules.founders }));
       has_list = rw first.founds refl;
     }
 
@@ -257,37 +257,37 @@ start_knows_own_views rules may = record {
 -- it is of the name, and above the name's view
 record IsDecided (name : ℕ) (m n : Node) : Type 0 where
   by : (view n).by ≡ name
-  above : stamp_lt (view m) (view n) ≡ true
+  above : stamp_is_less (view m) (view n) ≡ true
 
-is_decided : (name : ℕ) (m n : Node) → n.core.who ≡ name → ChangeKeepsListAndBallot m n → runs.decides m n ≡ true → IsDecided name m n
+is_decided : (name : ℕ) (m n : Node) → n.core.who ≡ name → ChangeKeepsListAndBallot m n → runs.step_decides_view m n ≡ true → IsDecided name m n
 is_decided name m n who d h =
     let a = both_of_and (is_member m.status) _ h in
-    let b = both_of_and ((view n).by == n.core.who) (not (stamp_eq (view m) (view n))) a.1 in
+    let b = both_of_and ((view n).by == n.core.who) (not (stamps_are_equal (view m) (view n))) a.1 in
     let g = d.goes (member_status_has_log m.status a.0) in
     let by : (view n).by ≡ n.core.who = let t = b.0 in grind (arith, nat_tests) in
     ⊎_elim
     (λ (s : HasSameView _ _). absurd (
-    let e : stamp_eq (view m) (view n) ≡ true = ap (λ (v : Stamp). stamp_eq (view m) v) s.view ∙ stamp_eq_of_itself (view m) in
+    let e : stamps_are_equal (view m) (view n) ≡ true = ap (λ (v : Stamp). stamps_are_equal (view m) v) s.view ∙ stamp_eq_of_itself (view m) in
     let x = rw e at b.1 in cc))
-    (λ (s : (stamp_lt (view m) (view n) ≡ true) × LastViewStandsInLog n.core.log). record { by = by ∙ who; above = s.0 })
+    (λ (s : (stamp_is_less (view m) (view n) ≡ true) × LastViewStandsInLog n.core.log). record { by = by ∙ who; above = s.0 })
     g.view
 
 -- no View that is known is its
-other_view : (nodes : ℕ → Node) (name : ℕ) (v : Stamp) → v.by ≡ name → stamp_lt (view (nodes name)) v ≡ true → (e : Entry) → EntryViewIsKnown nodes e
+other_view : (nodes : ℕ → Node) (name : ℕ) (v : Stamp) → v.by ≡ name → stamp_is_less (view (nodes name)) v ≡ true → (e : Entry) → EntryViewIsKnown nodes e
     → is_view_of v e ≡ false
-other_view nodes name v by above (View w) h = split_on_bool (stamp_eq w.stamp v)
+other_view nodes name v by above (View w) h = split_on_bool (stamps_are_equal w.stamp v)
     (λ t.
     let same : w.stamp ≡ v = stamp_eq_gives_equality w.stamp v t in
-    let low : stamp_lt (view (nodes v.by)) v ≡ false = subst (λ (s : Stamp). stamp_lt (view (nodes s.by)) s ≡ false) same h.low in
-    let mine : stamp_lt (view (nodes name)) v ≡ false = subst (λ k. stamp_lt (view (nodes k)) v ≡ false) by low in
+    let low : stamp_is_less (view (nodes v.by)) v ≡ false = subst (λ (s : Stamp). stamp_is_less (view (nodes s.by)) s ≡ false) same h.low in
+    let mine : stamp_is_less (view (nodes name)) v ≡ false = subst (λ k. stamp_is_less (view (nodes k)) v ≡ false) by low in
     absurd (cc))
     (λ f. f)
 other_view nodes name v by above _ h = refl
 
-pub decided_views_of_runs_are_new : DecidedAreNew
+pub decided_views_of_runs_are_new : DecidedViewsAreNew
 decided_views_of_runs_are_new rules events e c s may runs_ cause effect decides_ =
     let w = run rules events in
-    let name = actor w e in
+    let name = acting_name w e in
     let h = runs_keep_what_events_keep (WorldKnowsOwnViews rules) (events_keep_own_views_known rules) (start rules) events (start_knows_own_views rules may) in
     let g = step_of rules w e c s cause effect h in
     let is = is_decided name (w.nodes name) s.node g.chain.who g.does decides_ in

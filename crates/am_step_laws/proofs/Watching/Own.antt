@@ -4,9 +4,9 @@ use Rattle.am_model.specs.Ballots.{decided_view}
 use Rattle.am_base.specs.declared.entry.GroupView.{GroupView}
 use Rattle.am_step_laws.proofs.Watching.WatchedWords.{eqb-false, bool_is_not_both, view_never_falls_in_growth, next_round_is_above, welcomed_node_has_no_log, eqb-true, ◌≡◌, ◌⊎◌, inl, inr, ⊎_elim, ℕ, ◌==◌}
 use Rattle.am_step_laws.proofs.Watching.WatchedWords.{◌||◌, not, true, false, List, [], ◌∷◌, ◌++◌, Option, Some, refl, sym, ap, ◌∙◌, subst, arith, All, nat_tests, All-nil}
-use Rattle.am_step_laws.proofs.Watching.WatchedWords.{All-cons, All-append, All-weaker, Outcome, Stamp, Entry, Leave, View, stamp_lt, Log, Packet, Node, Ballot, view}
-use Rattle.am_step_laws.proofs.Watching.WatchedWords.{is_member, is_asking, push_entry, has_log, Verdict, next_stamp, need_of, left_in, trim_for, refresh, settle, is_view}
-use Rattle.am_step_laws.proofs.Watching.WatchedWords.{both_of_and, Cause, hears, Looks, decides, Promises, invited, overtaken_by}
+use Rattle.am_step_laws.proofs.Watching.WatchedWords.{All-cons, All-append, All-weaker, Outcome, Stamp, Entry, Leave, View, stamp_is_less, Log, Packet, Node, Ballot, view}
+use Rattle.am_step_laws.proofs.Watching.WatchedWords.{is_member, is_asking_status, push_entry, has_log_by_status, BallotVerdict, next_stamp, need_set_of, need_set_without_given_up, trim_to_least_taken_by, refresh, settle_waiting_send, is_view}
+use Rattle.am_step_laws.proofs.Watching.WatchedWords.{both_of_and, Cause, hears, LooksAtBallot, decides, MayPromise, invited, overtaken_by}
 use Rattle.am_step_laws.proofs.Watching.WatchedWords.{told_result, Change, refreshes, settles, numbers, stores, begins_list, promises, opens, looks, fetches, stores_view}
 use Rattle.am_step_laws.proofs.Watching.WatchedWords.{closes, Changes, unchanged, changed, refresh_rests_with_list, end_refresh_rests_with_list, settle_changes_only_sends, stamp_of, stamp_at_most_is_transitive, lower_stamp_is_not_above}
 use Rattle.am_step_laws.proofs.Watching.WatchedWords.{stamp_not_below_itself, NodePartsHaveNames, HeardStampsHaveNames, view_of_pushed_view, NodeBallotFits, BallotIsOpenAndPromised, ChangeKeepsListAndBallot, changes_keep_list_and_names, numbered_entry_is_no_view}
@@ -18,12 +18,12 @@ use Rattle.am_step_laws.proofs.ViewChanges.{balloting_looks_at_open_ballot}
 
 -- a stamp is at most its name's promise
 abbrev pub StampIsBelowPromise : (ℕ → Node) → Stamp → Type 0
-StampIsBelowPromise nodes v = stamp_lt (nodes v.by).core.promise v ≡ false
+StampIsBelowPromise nodes v = stamp_is_less (nodes v.by).core.promise v ≡ false
 
 -- a View isn't above the view of its name, which has a list
 pub record ViewIsKnownToName (nodes : ℕ → Node) (v : Stamp) : Type 0 where
-  pub low : stamp_lt (view (nodes v.by)) v ≡ false
-  pub has_list : has_log (nodes v.by).status ≡ true
+  pub low : stamp_is_less (view (nodes v.by)) v ≡ false
+  pub has_list : has_log_by_status (nodes v.by).status ≡ true
 
 abbrev pub EntryViewIsKnown : (ℕ → Node) → Entry → Type 0
 EntryViewIsKnown nodes (View v) = ViewIsKnownToName nodes v.stamp
@@ -44,8 +44,8 @@ pub record DecidedBallotIsThePromise (who : ℕ) (promise : Stamp) (ballot : Opt
 
 pub record ViewIsOfThisNode (name : ℕ) (x : Node) (v : Stamp) : Type 0 where
   pub by : v.by ≡ name
-  pub low : stamp_lt (view x) v ≡ false
-  pub has_list : has_log x.status ≡ true
+  pub low : stamp_is_less (view x) v ≡ false
+  pub has_list : has_log_by_status x.status ≡ true
 
 abbrev pub EntryViewKnownOrOwn : (ℕ → Node) → ℕ → Node → Entry → Type 0
 EntryViewKnownOrOwn nodes name x (View v) = ViewIsKnownToName nodes v.stamp ⊎ ViewIsOfThisNode name x v.stamp
@@ -53,7 +53,7 @@ EntryViewKnownOrOwn nodes name x _ = Unit {0}
 
 pub record OwnViewsAlongStep (nodes : ℕ → Node) (name : ℕ) (x : Node) : Type 0 where
   pub who : x.core.who ≡ name
-  pub rises : stamp_lt x.core.promise (nodes name).core.promise ≡ false
+  pub rises : stamp_is_less x.core.promise (nodes name).core.promise ≡ false
   pub below : (x.core.promise.by == name) ≡ false → StampIsBelowPromise nodes x.core.promise
   pub told : DecidedBallotIsThePromise x.core.who x.core.promise x.ballot
   pub entries : All (EntryViewKnownOrOwn nodes name x) x.core.log.entries
@@ -83,7 +83,7 @@ along_same : (nodes : ℕ → Node) (name : ℕ) (x y : Node) → y.core.who ≡
     → y.ballot ≡ x.ballot → ChangeKeepsListAndBallot x y → OwnViewsAlongStep nodes name x → OwnViewsAlongStep nodes name y
 along_same nodes name x y who promise log ballot d h = record {
   who = who ∙ h.who;
-  rises = ap (λ (v : Stamp). stamp_lt v (nodes name).core.promise) promise ∙ h.rises;
+  rises = ap (λ (v : Stamp). stamp_is_less v (nodes name).core.promise) promise ∙ h.rises;
   below = λ f. subst (StampIsBelowPromise nodes) (sym promise) (h.below (ap (λ (v : Stamp). v.by == name) (sym promise) ∙ f));
   told = rw (who, promise, ballot) h.told;
   entries = subst (λ (l : Log). All (EntryViewKnownOrOwn nodes name y) l.entries) (sym log)
@@ -94,7 +94,7 @@ along_pushed : (nodes : ℕ → Node) (name : ℕ) (x y : Node) (e : Entry) → 
     → y.core.log.entries ≡ x.core.log.entries ++ e ∷ [] → y.ballot ≡ x.ballot → EntryViewKnownOrOwn nodes name y e → ChangeKeepsListAndBallot x y → OwnViewsAlongStep nodes name x → OwnViewsAlongStep nodes name y
 along_pushed nodes name x y e who promise entries ballot new d h = record {
   who = who ∙ h.who;
-  rises = ap (λ (v : Stamp). stamp_lt v (nodes name).core.promise) promise ∙ h.rises;
+  rises = ap (λ (v : Stamp). stamp_is_less v (nodes name).core.promise) promise ∙ h.rises;
   below = λ f. subst (StampIsBelowPromise nodes) (sym promise) (h.below (ap (λ (v : Stamp). v.by == name) (sym promise) ∙ f));
   told = rw (who, promise, ballot) h.told;
   entries = subst (All (EntryViewKnownOrOwn nodes name y)) (sym entries) (All-append (EntryViewKnownOrOwn nodes name y) x.core.log.entries (e ∷ [])
@@ -105,33 +105,33 @@ along_pushed nodes name x y e who promise entries ballot new d h = record {
 -- ---- promises
 
 -- no promise of another's ballot, or of one that is heard of, is the node's own
-not_own : (nodes : ℕ → Node) (name : ℕ) (c : Cause) (x : Node) (v : Stamp) → HeardViewsAreKnown nodes c → Promises c x v → OwnViewsAlongStep nodes name x → v.by ≡ x.core.who → ⊥
+not_own : (nodes : ℕ → Node) (name : ℕ) (c : Cause) (x : Node) (v : Stamp) → HeardViewsAreKnown nodes c → MayPromise c x v → OwnViewsAlongStep nodes name x → v.by ≡ x.core.who → ⊥
 not_own nodes name c x v heard (invited s _ is by own) h e =
-    let other = (both_of_and (not (s == x.core.who)) (is_member x.status || is_asking x.status) by).0 in
+    let other = (both_of_and (not (s == x.core.who)) (is_member x.status || is_asking_status x.status) by).0 in
     let same : s ≡ x.core.who = sym (eqb-true v.by s own) ∙ e in
     grind (arith, nat_tests)
 not_own nodes name c x v heard (overtaken_by s _ shown is by above) h e =
     let low : StampIsBelowPromise nodes v = heard.stamp (packet.Vote s v shown) is in
-    let mine : stamp_lt (nodes name).core.promise v ≡ false = subst (λ k. stamp_lt (nodes k).core.promise v ≡ false) (e ∙ h.who) low in
-    let up : stamp_lt x.core.promise v ≡ false = stamp_at_most_is_transitive v (nodes name).core.promise x.core.promise mine h.rises in
-    bool_is_not_both (stamp_lt x.core.promise v) above up
+    let mine : stamp_is_less (nodes name).core.promise v ≡ false = subst (λ k. stamp_is_less (nodes k).core.promise v ≡ false) (e ∙ h.who) low in
+    let up : stamp_is_less x.core.promise v ≡ false = stamp_at_most_is_transitive v (nodes name).core.promise x.core.promise mine h.rises in
+    bool_is_not_both (stamp_is_less x.core.promise v) above up
 not_own nodes name c x v heard (told_result s base number w is by own other) h e = eqb-false v.by x.core.who other e
 
-heard_promise : (nodes : ℕ → Node) (c : Cause) (x : Node) (v : Stamp) → HeardViewsAreKnown nodes c → Promises c x v → StampIsBelowPromise nodes v
+heard_promise : (nodes : ℕ → Node) (c : Cause) (x : Node) (v : Stamp) → HeardViewsAreKnown nodes c → MayPromise c x v → StampIsBelowPromise nodes v
 heard_promise nodes c x v heard (invited s _ is by own) = heard.stamp (packet.Invite s v) is
 heard_promise nodes c x v heard (overtaken_by s _ shown is by above) = heard.stamp (packet.Vote s v shown) is
 heard_promise nodes c x v heard (told_result s base number w is by own other) = heard.stamp (packet.Result s base number w) is
 
 -- ---- looks
 
-look_along : (nodes : ℕ → Node) (name : ℕ) (x : Node) (b : Ballot) (v : Verdict) → Looks x b v → ChangeKeepsListAndBallot x v.node → BallotIsOpenAndPromised x.core.who x.core.promise (view x) b
-    → has_log x.status ≡ true → OwnViewsAlongStep nodes name x → OwnViewsAlongStep nodes name v.node
+look_along : (nodes : ℕ → Node) (name : ℕ) (x : Node) (b : Ballot) (v : BallotVerdict) → LooksAtBallot x b v → ChangeKeepsListAndBallot x v.node → BallotIsOpenAndPromised x.core.who x.core.promise (view x) b
+    → has_log_by_status x.status ≡ true → OwnViewsAlongStep nodes name x → OwnViewsAlongStep nodes name v.node
 look_along nodes name x b v (decides may) d o log h =
-    let names = left_in b (need_of x b) in
-    let same : view v.node ≡ b.stamp = view_of_pushed_view (trim_for x b names) (decided_view x b names) in
+    let names = need_set_without_given_up b (need_set_of x b) in
+    let same : view v.node ≡ b.stamp = view_of_pushed_view (trim_to_least_taken_by x b names) (decided_view x b names) in
     let own : ViewIsOfThisNode name v.node b.stamp = record {
       by = o.own ∙ h.who;
-      low = subst (λ (s : Stamp). stamp_lt s b.stamp ≡ false) (sym same) (stamp_not_below_itself b.stamp);
+      low = subst (λ (s : Stamp). stamp_is_less s b.stamp ≡ false) (sym same) (stamp_not_below_itself b.stamp);
       has_list = log;
     } in
     record {
@@ -158,7 +158,7 @@ change_along : (nodes : ℕ → Node) (name : ℕ) {c : Cause} {o : Outcome} →
 change_along nodes name heard x y refreshes d k h = let r = refresh_rests_with_list x in
     along_same nodes name x (refresh x) r.rests.who r.rests.promise r.log r.rests.ballot d h
 change_along nodes name heard x y settles d k h = let e = settle_changes_only_sends x in
-    along_same nodes name x (settle x) (ap (λ (n : Node). n.core.who) e) (ap (λ (n : Node). n.core.promise) e) (ap (λ (n : Node). n.core.log) e)
+    along_same nodes name x (settle_waiting_send x) (ap (λ (n : Node). n.core.who) e) (ap (λ (n : Node). n.core.promise) e) (ap (λ (n : Node). n.core.log) e)
     (ap (λ (n : Node). n.ballot) e) d h
 change_along nodes name heard x y (numbers e leads room why) d k h =
     along_pushed nodes name x y e refl refl refl refl (plain_chained nodes name y e (numbered_entry_is_no_view _ x e why)) d h

@@ -1,10 +1,10 @@
 -- Which Views a step of any cause adds to a node's list, and that these are what a watcher is told.
 use Rattle.am_step_laws.proofs.Words.{arith, member_status_has_log, stamp_eq_of_itself, ◌≡◌, ℕ, ◌&&◌, ◌||◌, not, Bool, true, false, [], ◌∷◌, Option, Some, None, refl}
-use Rattle.am_step_laws.proofs.Words.{sym, ap, ◌∙◌, list_any, list_any-append, Outcome, Stamp, NodeEvent, stamp_eq, Packet, Ballot, view, is_member, has_log}
-use Rattle.am_step_laws.proofs.Words.{Step, finish, hear_row, step, row, hear, hear_refusal, split_on_bool, Cause, hears, Effect}
-use Rattle.am_step_laws.proofs.Watching.StoredWords.{or_right, or_left, or-false, Ok, Err, Piece, Read, reading, refusal_number, read_row, is_view_of, refuses, steps_have_effects}
-use Rattle.am_step_laws.proofs.Watching.StoredWords.{hearing_has_effects, refusing_has_effects, NodeBallotFits, OpenBallotIsPromised, watch_decides, standing_of, view_of, HasNoEntriesWithoutLog, begins, one_of}
-use Rattle.am_step_laws.proofs.Watching.StoredWords.{piece_in, fetched_from, entry_in, view_entry_of, stored_of}
+use Rattle.am_step_laws.proofs.Words.{sym, ap, ◌∙◌, list_any, list_any-append, Outcome, Stamp, NodeEvent, stamps_are_equal, Packet, Ballot, view, is_member, has_log_by_status}
+use Rattle.am_step_laws.proofs.Words.{StepResult, finish, hear_row, step, row, hear_packet, hear_refused_bytes, split_on_bool, Cause, hears, Effect}
+use Rattle.am_step_laws.proofs.Watching.StoredWords.{or_right, or_left, or-false, Ok, Err, Piece, Read, reading, refusal_number, row_of_read_bytes, is_view_of, refuses, steps_have_effects}
+use Rattle.am_step_laws.proofs.Watching.StoredWords.{hearing_has_effects, refusing_has_effects, NodeBallotFits, OpenBallotIsPromised, watch_decides, standing_of, last_view_of_node, HasNoEntriesWithoutLog, list_begins_in_step, list_of_option}
+use Rattle.am_step_laws.proofs.Watching.StoredWords.{entry_of_piece, entry_of_read_piece, entry_of_heard_piece, view_entry_of, views_stored_in_step}
 use Rattle.am_packet.specs.declared.packet.Packet.TheVariants.{Result}
 use Rattle.am_model.specs.Node.{Node}
 use Rattle.am_base.specs.declared.event.NodeEvent.TheVariants as does
@@ -34,17 +34,17 @@ brings_none c f = record {
   results = λ s base number v is. (let t = ap may_bring is in cc);
 }
 
-plain_adds : (name : ℕ) (m : Node) (c : Cause) (s : Step) → may_bring c ≡ false → NodeBallotFits m → HasNoEntriesWithoutLog m → Effect m c s → StepAddsViews name [] m s
+plain_adds : (name : ℕ) (m : Node) (c : Cause) (s : StepResult) → may_bring c ≡ false → NodeBallotFits m → HasNoEntriesWithoutLog m → Effect m c s → StepAddsViews name [] m s
 plain_adds name m c s plain kept bare effect = walk_adds name m s.node bare
     (changes_add_known_views m s.node (brings_none c plain) kept.high (above_opened m.core.who m.core.promise (view m) m.ballot kept.opened) effect.changes)
 
 -- ---- each cause
 
-packet_adds : (name : ℕ) (m : Node) (p : Packet) → may_bring (hears p) ≡ false → NodeBallotFits m → HasNoEntriesWithoutLog m → StepAddsViews name [] m (hear m p)
-packet_adds name m p plain kept bare = plain_adds name m (hears p) (hear m p) plain kept bare (hearing_has_effects m p)
+packet_adds : (name : ℕ) (m : Node) (p : Packet) → may_bring (hears p) ≡ false → NodeBallotFits m → HasNoEntriesWithoutLog m → StepAddsViews name [] m (hear_packet m p)
+packet_adds name m p plain kept bare = plain_adds name m (hears p) (hear_packet m p) plain kept bare (hearing_has_effects m p)
 
-hear_adds : (name : ℕ) (m : Node) (p : Packet) → m.core.who ≡ name → NodeBallotFits m → HasNoEntriesWithoutLog m → StepAddsViews name (one_of (piece_in p)) m (hear m p)
-unfolding hear
+hear_adds : (name : ℕ) (m : Node) (p : Packet) → m.core.who ≡ name → NodeBallotFits m → HasNoEntriesWithoutLog m → StepAddsViews name (list_of_option (entry_of_piece p)) m (hear_packet m p)
+unfolding hear_packet
 hear_adds name m (Piece s v base number e) who kept bare = finish_adds_no_view name (e ∷ []) m (hear_row m (Piece s v base number e))
     (piece_adds_its_view name m s v base number e who kept)
 hear_adds name m (Result s base number v) who kept bare =
@@ -52,13 +52,13 @@ hear_adds name m (Result s base number v) who kept bare =
 hear_adds name m _ who kept bare = packet_adds name m _ refl kept bare
 
 read_adds : (name : ℕ) (m : Node) (r : Read Packet) → m.core.who ≡ name → NodeBallotFits m → HasNoEntriesWithoutLog m
-    → StepAddsViews name (one_of (fetched_from r)) m (finish m (read_row m r))
-unfolding hear hear_refusal
+    → StepAddsViews name (list_of_option (entry_of_read_piece r)) m (finish m (row_of_read_bytes m r))
+unfolding hear_packet hear_refused_bytes
 read_adds name m (Ok p) who kept bare = hear_adds name m p who kept bare
-read_adds name m (Err refusal) who kept bare = plain_adds name m refuses (hear_refusal m (refusal_number refusal)) refl kept bare
+read_adds name m (Err refusal) who kept bare = plain_adds name m refuses (hear_refused_bytes m (refusal_number refusal)) refl kept bare
     (refusing_has_effects m (refusal_number refusal))
 
-pub each_step_adds_views : (name : ℕ) (m : Node) (what : NodeEvent) → m.core.who ≡ name → NodeBallotFits m → HasNoEntriesWithoutLog m → StepAddsViews name (one_of (entry_in what)) m (step m what)
+pub each_step_adds_views : (name : ℕ) (m : Node) (what : NodeEvent) → m.core.who ≡ name → NodeBallotFits m → HasNoEntriesWithoutLog m → StepAddsViews name (list_of_option (entry_of_heard_piece what)) m (step m what)
 unfolding step row
 each_step_adds_views name m (does.Hear bytes) who kept bare = read_adds name m (reading bytes) who kept bare
 each_step_adds_views name m event who kept bare = plain_adds name m _ (step m event) refl kept bare (steps_have_effects m event)
@@ -75,23 +75,23 @@ just_begun : (a b : Bool) → a ≡ false → b ≡ true → (not a && b) ≡ tr
 just_begun a b h k = rw (h, k) refl
 
 -- the Views of what is told are those that were added
-pub stored_views_are_added_views : (name : ℕ) (m n : Node) (what : NodeEvent) (v : Stamp) → AddsViewsToList name (one_of (entry_in what)) m n.status n.core.log
-    → log_has_view n.core.log v ≡ (log_has_view m.core.log v || any_entry_is_view (stored_of name (standing_of m) (standing_of n) (view_of n) what) v)
+pub stored_views_are_added_views : (name : ℕ) (m n : Node) (what : NodeEvent) (v : Stamp) → AddsViewsToList name (list_of_option (entry_of_heard_piece what)) m n.status n.core.log
+    → log_has_view n.core.log v ≡ (log_has_view m.core.log v || any_entry_is_view (views_stored_in_step name (standing_of m) (standing_of n) (last_view_of_node n) what) v)
 stored_views_are_added_views name m n what v (none views same) =
-    let is : (begins (standing_of m) n.status || stamp_eq (view m) (view n)) ≡ true =
-    or_right (begins (standing_of m) n.status) _ (ap (stamp_eq (view m)) same ∙ stamp_eq_of_itself (view m)) in
+    let is : (list_begins_in_step (standing_of m) n.status || stamps_are_equal (view m) (view n)) ≡ true =
+    or_right (list_begins_in_step (standing_of m) n.status) _ (ap (stamps_are_equal (view m)) same ∙ stamp_eq_of_itself (view m)) in
     rw is (views v ∙ sym (or-false (log_has_view m.core.log v)))
 stored_views_are_added_views name m n what v (last views above member absorbed) =
-    let es = one_of (entry_in what) in
-    let l = view_entry_of (view_of n) in
-    let same = stamp_eq (view n) v in
-    let is : (begins (standing_of m) n.status || stamp_eq (view m) (view n)) ≡ false =
-    both_false (begins (standing_of m) n.status) _ (not_begun (has_log m.status) (is_member n.status) (λ t. member_status_has_log m.status (member t)))
+    let es = list_of_option (entry_of_heard_piece what) in
+    let l = view_entry_of (last_view_of_node n) in
+    let same = stamps_are_equal (view n) v in
+    let is : (list_begins_in_step (standing_of m) n.status || stamps_are_equal (view m) (view n)) ≡ false =
+    both_false (list_begins_in_step (standing_of m) n.status) _ (not_begun (has_log_by_status m.status) (is_member n.status) (λ t. member_status_has_log m.status (member t)))
     (lower_stamp_is_not_equal (view m) (view n) above) in
     rw is (views v ∙ ap (λ b. log_has_view m.core.log v || b) (split_on_bool (watch_decides (standing_of m) name (standing_of n))
     (λ t. rw t (ap (λ b. any_entry_is_view es v || b) (sym (or-false same)) ∙ sym (list_any-append (is_view_of v) es (l ∷ []))))
     (λ f. rw f (absorbed f v ∙ sym (or-false same)))))
 stored_views_are_added_views name m n what v (began views bare was is_) =
-    let is : (begins (standing_of m) n.status || stamp_eq (view m) (view n)) ≡ true =
-    or_left (begins (standing_of m) n.status) _ (just_begun (has_log m.status) (is_member n.status) was is_) in
+    let is : (list_begins_in_step (standing_of m) n.status || stamps_are_equal (view m) (view n)) ≡ true =
+    or_left (list_begins_in_step (standing_of m) n.status) _ (just_begun (has_log_by_status m.status) (is_member n.status) was is_) in
     rw is (views v ∙ sym (bare v) ∙ sym (or-false (log_has_view m.core.log v)))

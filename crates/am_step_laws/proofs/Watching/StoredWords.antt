@@ -10,14 +10,14 @@ pub use Rattle.am_step_laws.proofs.Named.{actor_is_below_256, names_hold_in_runs
 pub use Rattle.am_step_laws.proofs.Watching.New.{decided_views_of_runs_are_new}
 pub use Rattle.am_step_laws.proofs.Numbers.RunCounts.{number_bounds_hold_in_runs}
 pub use Rattle.am_step_laws.proofs.ViewSteps.{view_of_pushed_view}
-pub use Rattle.am_step_laws.specs.Causes.{refuses, BringsFronts, with_entry, with_number, alone}
+pub use Rattle.am_step_laws.specs.Causes.{refuses, CauseHasFronts, with_entry, with_number, alone}
 pub use Rattle.am_step_laws.specs.{Blank.IsBlank, Changes.overtaken, Changes.asks_to_leave, Looks.BeginsBy, Looks.by_reset}
-pub use Rattle.am_model.specs.{Ballots.is_waited_for, Ballots.ends, Node.has_departed, Node.has_own_leave, Resets.is_view_past, Resets.fetches_from}
-pub use Rattle.am_model.specs.{Step.read_row}
+pub use Rattle.am_model.specs.{Ballots.is_waited_for, Ballots.verdict_ending, Node.has_departed, Node.has_own_leave, Resets.is_unfetchable_view, Resets.fetches_from}
+pub use Rattle.am_model.specs.{Step.row_of_read_bytes}
 pub use Rattle.am_packet.specs.{Reading.Read, Reading.reading, Reading.refusal_number, declared.packet.Packet.TheVariants.Piece}
-pub use Rattle.am_group_defs.specs.{Lawful.is_view_of, World.does_event, World.comes_back}
+pub use Rattle.am_group_defs.specs.{Lawful.is_view_of, World.world_after_node_event, World.world_after_return}
 pub use Rattle.am_lawful_defs.proofs.{Steps.other_entry_has_no_stamp}
-pub use Rattle.am_lawful_defs.specs.Telling.{begins, one_of, piece_in, fetched_from, entry_in, view_entry_of, stored_of}
-pub use Rattle.am_lawful_defs.specs.{Watches.standing_of, Watches.view_of, Watches.StampIsNew, Watching.watch_decides}
+pub use Rattle.am_lawful_defs.specs.Telling.{list_begins_in_step, list_of_option, entry_of_piece, entry_of_read_piece, entry_of_heard_piece, view_entry_of, views_stored_in_step}
+pub use Rattle.am_lawful_defs.specs.{Watches.standing_of, Watches.last_view_of_node, Watches.StampIsNew, Watching.watch_decides}
 pub use Rattle.std.proofs.lemmas.Bool.{not-true, eq-eqb, not-false, or_right, or_left}
 pub use Rattle.std.{proofs.Common.Ok, proofs.Common.Err, proofs.Math.Bool.or-false}

@@ -1,6 +1,6 @@
 use Rattle.std.proofs.Common.{◌≡◌, ℕ, ◌≤◌, leb, true, length, sum_by, rules, arith}
 use Rattle.std.proofs.lemmas.Bool.Decides.{nat_tests}
-use Rattle.am_base.specs.Most.{most_events}
+use Rattle.am_base.specs.Most.{most_events_of_run}
 use Rattle.am_group.specs.declared.plan.ThreadPlan.{ThreadPlan}
 use Rattle.am_race_laws.specs.Plans.{has_calls}
 use Rattle.am_race_laws.proofs.Mayings.{all_calls_fit_in_journal, capped_calls_fit_in_journal}
@@ -22,7 +22,7 @@ returns c =
       λ t. record {
         threads = few;
         calls = all;
-        most = all_calls_fit_in_journal made most_events turns (omega arith) (at_most _ _ t);
+        most = all_calls_fit_in_journal made most_events_of_run turns (omega arith) (at_most _ _ t);
       },
-      λ may. is_at_most _ _ (capped_calls_fit_in_journal made most_events turns may.most),
+      λ may. is_at_most _ _ (capped_calls_fit_in_journal made most_events_of_run turns may.most),
     )

@@ -1,11 +1,11 @@
-use Rattle.am_lawful_watch.proofs.WatchWords.{sym, ap, ◌∙◌, with_entries, watching_of, stored_of}
+use Rattle.am_lawful_watch.proofs.WatchWords.{sym, ap, ◌∙◌, watching_with_entries, watching_of, views_stored_in_step}
 use Rattle.am_lawful_watch.proofs.Tellings.{with_views_of_same_view}
 use Rattle.am_lawful_watch.proofs.telling.note_views.Goals as goal
 
 pub returns : goal.returns
 returns c =
     c.store_views.ensures
-    ∙ ap (λ k. with_entries k c.args.step.now.name (stored_of c.args.step.now.name c.args.step.now.before.now c.args.step.now.after.now c.args.step.now.view.now c.args.step.now.what.now)) c.decide.ensures
+    ∙ ap (λ k. watching_with_entries k c.args.step.now.name (views_stored_in_step c.args.step.now.name c.args.step.now.before.now c.args.step.now.after.now c.args.step.now.view.now c.args.step.now.what.now)) c.decide.ensures
 
 pub returns-then-is_same_stamp : goal.returns-then-is_same_stamp
 returns-then-is_same_stamp c =

@@ -1,6 +1,6 @@
 use Rattle.std.proofs.Common.{◌≡◌, ℕ, subst, if◌then◌else◌, arith}
 use Rattle.am_base.specs.Names.{has}
-use Rattle.am_node_defs.specs.Reports.{reports_of, after_report}
+use Rattle.am_node_defs.specs.Reports.{reports_of, reports_after_report}
 use Rattle.am_node.proofs.Founders.{no_founder_reported_at_first, founders_reported_with_next, all_founders_have_reported}
 use Rattle.am_node.proofs.founding.first_reports.Goals as goal
 
@@ -11,7 +11,7 @@ pub loop-byte-preserved : goal.loop-byte-preserved
 loop-byte-preserved c =
     let old = reports_of c.loop-byte.fronts in
     let new = reports_of c.report_first.new.fronts in
-    let P : ℕ → Type 0 = λ name. new ≡ (if has c.args.founders name then after_report old name (record { stored = 1; taken = 0 }) else old) in
+    let P : ℕ → Type 0 = λ name. new ≡ (if has c.args.founders name then reports_after_report old name (record { stored = 1; taken = 0 }) else old) in
     founders_reported_with_next c.args.founders old new c.loop-byte.byte c.loop-byte.invariant (subst P c.of_byte.ensures c.report_first.ensures)
 
 pub returns : goal.returns

@@ -1,5 +1,5 @@
-use Rattle.am_node_calls.proofs.Words.{sym, ap, ◌∙◌, others, node_of, untrimmed_node_ends_itself, Reply, equal_reply_of_equal_plan, true}
-use Rattle.am_node_parts.specs.Replies.{polled_of}
+use Rattle.am_node_calls.proofs.Words.{sym, ap, ◌∙◌, other_members, node_of, untrimmed_node_ends_itself, Reply, equal_reply_of_equal_plan, true}
+use Rattle.am_node_parts.specs.Replies.{reply_polling_with_view}
 use Rattle.am_node_parts.specs.declared.reply.Telling.TheVariants as tell
 use Rattle.am_node_calls.specs.Forms.{hands_over}
 use Rattle.am_node_calls.proofs.{Leaves.others_counted_are_some, Leaves.others_counted_are_none}
@@ -14,14 +14,14 @@ returns-then-len-gt0 c =
     (c.and.ensures ∙ (λ k. let x : Reply = record (c.polled.ensures k) {
       second = (c.handing_over.ensures ∙ ap hands_over c.others-others.ensures) k;
     } in x))
-    (ticks.handing_tick_replies m (others m))
+    (ticks.handing_tick_replies m (other_members m))
 
 pub returns-then-not-has_room : goal.returns-then-not-has_room
 returns-then-not-has_room c =
     let m = node_of c.args.parts.now in
     let none = others_counted_are_none m c.len.ensures.value c.others-others.ensures c.if-len-gt0.false in
     equal_reply_of_equal_plan (ticks.polling_last_without_room m c.requires.leads none (sym c.has_room.ensures.value ∙ c.if-not-has_room.true))
-    (c.polled-then-not-has_room.ensures ∙ ap polled_of c.held_answer.ensures) (ticks.polling_tick_replies m m _ (untrimmed_node_ends_itself m))
+    (c.polled-then-not-has_room.ensures ∙ ap reply_polling_with_view c.held_answer.ensures) (ticks.polling_tick_replies m m _ (untrimmed_node_ends_itself m))
 
 pub returns : goal.returns
 returns c =

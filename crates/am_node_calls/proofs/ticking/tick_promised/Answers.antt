@@ -1,4 +1,4 @@
-use Rattle.am_node_calls.proofs.Words.{sym, ap, ◌∙◌, only_name, node_of, untrimmed_node_ends_itself, saying_of, equal_reply_of_equal_plan, reply_quiet_with_outcome, reply_tells_one_note}
+use Rattle.am_node_calls.proofs.Words.{sym, ap, ◌∙◌, set_of_one_name, node_of, untrimmed_node_ends_itself, reply_with_telling, equal_reply_of_equal_plan, reply_quiet_with_outcome, reply_tells_one_note}
 use Rattle.am_base.specs.declared.outcome.Outcome.TheVariants as said
 use Rattle.am_node_parts.specs.declared.reply.Note.TheVariants as note
 use Rattle.am_node_parts.specs.declared.reply.Telling.TheVariants as tell
@@ -14,5 +14,5 @@ pub returns : goal.returns
 returns c =
     let m = node_of c.args.parts.now in
     equal_reply_of_equal_plan (ticks.tick_promised_to_other m (sym c.has_promised_itself.ensures ∙ c.if-has_promised_itself.false))
-    (c.saying.ensures ∙ ap (saying_of said.Ticked) (c.note_to.ensures ∙ ap (λ k. tell.Note (only_name k) note.Fetch) c.promised_to.ensures))
-    (reply_tells_one_note m m _ (only_name m.core.promise.by) note.Fetch tt (untrimmed_node_ends_itself m))
+    (c.saying.ensures ∙ ap (reply_with_telling said.Ticked) (c.note_to.ensures ∙ ap (λ k. tell.Note (set_of_one_name k) note.Fetch) c.promised_to.ensures))
+    (reply_tells_one_note m m _ (set_of_one_name m.core.promise.by) note.Fetch tt (untrimmed_node_ends_itself m))

@@ -1,4 +1,4 @@
-use Rattle.am_ordering.proofs.JoiningWords.{ℕ, ap, sym, ◌∙◌, subst, Report, with_admitted, reports_of, Node, NodeKeeps, node_of}
+use Rattle.am_ordering.proofs.JoiningWords.{ℕ, ap, sym, ◌∙◌, subst, Report, reports_with_joiner, reports_of, Node, NodeKeeps, node_of}
 use Rattle.am_ordering.proofs.Joins.{node_keeps_by_admitted_report}
 use Rattle.am_ordering.proofs.joining.admit.Goals as goal
 
@@ -15,4 +15,4 @@ returns c =
     let old = node_of c.args.parts.now in
     let base = c.base_of-base.ensures in
     ap (λ (r : ℕ → Report). let n : Node = record old { reports = r } in
-    n) (c.admit.ensures ∙ ap (λ b. with_admitted (reports_of c.args.parts.now.fronts) c.args.name b) base)
+    n) (c.admit.ensures ∙ ap (λ b. reports_with_joiner (reports_of c.args.parts.now.fronts) c.args.name b) base)

@@ -1,4 +1,4 @@
-use Rattle.am_ordering.proofs.ReceivingWords.{ap, Option, ◌∙◌, subst, Entry, with_noted, receive_entry, order_row, is_member, node_of, Replies}
+use Rattle.am_ordering.proofs.ReceivingWords.{ap, Option, ◌∙◌, subst, Entry, node_with_noted_fronts, receive_entry, order_row, is_member, node_of, Replies}
 use Rattle.am_base.specs.declared.outcome.Outcome.TheVariants as said
 use Rattle.am_ordering.proofs.Notes.{receive_entry_with_noted_replies}
 use Rattle.am_ordering.proofs.receiver.on_order.Goals as goal
@@ -9,7 +9,7 @@ returns c =
     let told = c.args.told in
     let old = node_of c.args.parts.now in
     let missing = said.NoBody c.args.from c.args.req in
-    let P : Option Entry → Type 0 = λ found. Replies (receive_entry (with_noted old told.base told.acc) told.sender told.base told.number found missing)
+    let P : Option Entry → Type 0 = λ found. Replies (receive_entry (node_with_noted_fronts old told.base told.acc) told.sender told.base told.number found missing)
     c.receive_entry.result (node_of c.receive_entry.new.parts) in
     subst P (c.standing.ensures ∙ c.data_of-data.ensures.value)
     (receive_entry_with_noted_replies old (node_of c.note.new.parts) _ told.base told.acc told.sender told.number

@@ -1,5 +1,5 @@
-use Rattle.am_ordering.proofs.SequencingWords.{true, refl, sym, ◌∙◌, ap, subst, Entry, Data, Row, has, members_after_pushed_data, fits, image_of, ◌+◌}
-use Rattle.am_ordering.proofs.SequencingWords.{push_entry, node_of, untrimmed_node_ends_itself, push_keeps_node_order, sequencer_status_has_log, request_refusal, saying_of, Reply}
+use Rattle.am_ordering.proofs.SequencingWords.{true, refl, sym, ◌∙◌, ap, subst, Entry, Data, Row, has, members_after_pushed_data, fits, image_of_node, ◌+◌}
+use Rattle.am_ordering.proofs.SequencingWords.{push_entry, node_of, untrimmed_node_ends_itself, push_keeps_node_order, sequencer_status_has_log, request_refusal, reply_with_telling, Reply}
 use Rattle.am_ordering.proofs.SequencingWords.{equal_reply_of_equal_plan, reply_quiet_with_outcome}
 use Rattle.am_base.specs.declared.outcome.Outcome.TheVariants as said
 use Rattle.am_node_parts.specs.Keeps.{NodeKeeps}
@@ -28,7 +28,7 @@ push-requires-clause-fits c =
     let send = c.args.request.now in
     let m = node_of c.args.parts.now in
     let row = c.row-row.ensures.value in
-    ap (fits (image_of m)) c.data_of.ensures ∙ data_of_next_request_fits (image_of m) send.from send.req send.body c.requires.known
+    ap (fits (image_of_node m)) c.data_of.ensures ∙ data_of_next_request_fits (image_of_node m) send.from send.req send.body c.requires.known
     (sym (ap (λ (r : Row). r.left) row) ∙ c.in_default.ensures.stays) (c.in_default.ensures.next ∙ ap (λ (r : Row). r.last + 1) row)
 
 pub push-requires-clause-keeps : goal.push-requires-clause-keeps
@@ -36,7 +36,7 @@ push-requires-clause-keeps c =
     let send = c.args.request.now in
     let m = node_of c.args.parts.now in
     let keeps = c.args.parts.now.keeps in
-    let fit = sym (ap (fits (image_of m)) c.data_of.ensures) ∙ push-requires-clause-fits c in
+    let fit = sym (ap (fits (image_of_node m)) c.data_of.ensures) ∙ push-requires-clause-fits c in
     subst (λ (e : Entry). NodeKeeps (push_entry m e)) (sym c.data_of.ensures)
     (push_keeps_node_order m (Data send.from send.req send.body) refl fit
     (m.core.rules.window + 15) c.next_number-number.ensures.kept (sequencer_status_has_log m c.requires.leads)
@@ -51,6 +51,6 @@ returns c =
     (sym c.in_default.is ∙ c.request_refusal.ensures.value ∙ ap (λ (r : Row). request_refusal r send.req) c.row-row.ensures.value)
     (sym c.has_room.ensures.value ∙ c.if-not-has_room.false))
     (c.numbering.ensures ∙ ap (λ (r : Reply). let x : Reply = record r { numbers = true } in x) (c.saying.ensures
-    ∙ (λ k. saying_of (said.Numbered number) (tell.Note (c.others-to.ensures k) (c.data_note-note.ensures k)))))
+    ∙ (λ k. reply_with_telling (said.Numbered number) (tell.Note (c.others-to.ensures k) (c.data_note-note.ensures k)))))
     (numbered_data_replies_note m (node_of c.push.new.self) send.from send.req number send.body send.by_order (c.push.ensures.node ∙ ap (push_entry m) c.data_of.ensures)
     c.next_number-number.ensures.value c.next_number-number.ensures.within c.requires.req)

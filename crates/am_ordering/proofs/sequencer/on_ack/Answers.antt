@@ -1,4 +1,4 @@
-use Rattle.am_ordering.proofs.SequencingWords.{ℕ, Some, None, sym, ap, ◌∙◌, node_with_report, node_of, untrimmed_node_ends_itself, replying, equal_reply_of_equal_plan, reply_quiet_with_outcome, node_ends_as_itself}
+use Rattle.am_ordering.proofs.SequencingWords.{ℕ, Some, None, sym, ap, ◌∙◌, node_with_report, node_of, untrimmed_node_ends_itself, reply_with_answer, equal_reply_of_equal_plan, reply_quiet_with_outcome, node_ends_as_itself}
 use Rattle.am_node_parts.specs.declared.reply.StepAnswer.TheVariants as answer
 use Rattle.am_node_parts.specs.declared.reply.Telling.TheVariants as tell
 use Rattle.am_ordering.proofs.SequencingRows.{ack_row_by_refusal, following_replies_accepted}
@@ -16,5 +16,5 @@ returns c =
     let mid = node_with_report old c.args.from c.args.report in
     let new = node_of c.report.new.self in
     equal_reply_of_equal_plan (ack_row_by_refusal old c.args.from c.args.report None (sym c.in_default.is ∙ c.report_refusal.ensures.value))
-    (c.answering.ensures ∙ ap (λ (k : ℕ). replying (answer.Accepted k) tell.Nothing) c.accept_front-since.ensures.value)
+    (c.answering.ensures ∙ ap (λ (k : ℕ). reply_with_answer (answer.Accepted k) tell.Nothing) c.accept_front-since.ensures.value)
     (following_replies_accepted old.core.acc mid new (node_ends_as_itself mid new c.report.ensures))

@@ -1,4 +1,4 @@
-use Rattle.am_ordering.proofs.SequencingWords.{Some, sym, ◌∙◌, ap, ◌==◌, Image, row_of, node_of, untrimmed_node_ends_itself, steady_node_stays_sequencer, equal_reply_of_equal_plan, reply_quiet_with_outcome}
+use Rattle.am_ordering.proofs.SequencingWords.{Some, sym, ◌∙◌, ap, ◌==◌, Image, row_of_name, node_of, untrimmed_node_ends_itself, steady_node_stays_sequencer, equal_reply_of_equal_plan, reply_quiet_with_outcome}
 use Rattle.am_ordering.proofs.SequencingRows.{request_row_by_refusal, request_row_after_report}
 use Rattle.am_ordering.proofs.sequencer.on_request.Goals as goal
 
@@ -15,7 +15,7 @@ answer_request-requires-clause-leads c =
 
 pub answer_request-requires-clause-known : goal.answer_request-requires-clause-known
 answer_request-requires-clause-known c =
-    ap (λ (i : Image). (row_of i c.args.request.now.from).joined == 0) c.take_report.ensures.steady.told ∙ c.in_default.ensures.known
+    ap (λ (i : Image). (row_of_name i c.args.request.now.from).joined == 0) c.take_report.ensures.steady.told ∙ c.in_default.ensures.known
 
 pub returns : goal.returns
 returns c =

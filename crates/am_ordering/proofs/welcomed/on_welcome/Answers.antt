@@ -1,4 +1,4 @@
-use Rattle.am_ordering.proofs.JoiningWords.{refl, ap, sym, ◌∙◌, subst, Node, begin_list, ask_next, node_of, untrimmed_node_ends_itself, is_unfit, Replies, equal_reply_of_equal_plan, reply_quiet_with_outcome}
+use Rattle.am_ordering.proofs.JoiningWords.{refl, ap, sym, ◌∙◌, subst, Node, node_of_welcomed, ask_for_next_entries, node_of, untrimmed_node_ends_itself, is_unfit, Replies, equal_reply_of_equal_plan, reply_quiet_with_outcome}
 use Rattle.am_ordering.proofs.Begun.{welcome_row_of_member, welcome_row_is_elsewhere, welcome_row_of_unfit_image, welcome_row_begins_list, status_not_member_asks}
 use Rattle.am_ordering.proofs.welcomed.on_welcome.Goals as goal
 
@@ -34,9 +34,9 @@ returns c =
     let told = c.args.told.now in
     let old = node_of c.args.parts.now in
     let fit = ap (is_unfit old told.stamp told.base told.join) (sym c.to_image-image.ensures) ∙ sym c.is_unfit.ensures ∙ c.if-is_unfit.false in
-    let began = c.begin.ensures ∙ ap (begin_list old told.stamp told.base told.join) c.to_image-image.ensures in
+    let began = c.begin.ensures ∙ ap (node_of_welcomed old told.stamp told.base told.join) c.to_image-image.ensures in
     let new = node_of c.begin.new.parts in
-    let P : Node → Type 0 = λ x. Replies (ask_next x told.sender told.stamp told.join) c.ask_on.result new in
+    let P : Node → Type 0 = λ x. Replies (ask_for_next_entries x told.sender told.stamp told.join) c.ask_on.result new in
     equal_reply_of_equal_plan (welcome_row_begins_list old told.sender told.stamp told.base told.join c.args.image.now (sym c.is_member.ensures ∙ c.if-is_member.false)
     (sym c.has_promised_more.ensures ∙ c.if-has_promised_more.false) fit)
     refl (subst P began c.ask_on.ensures)

@@ -1,5 +1,5 @@
-use Rattle.am_resetting.proofs.CatchingWords.{Option, sym, ap, subst, ◌∙◌, Entry, View, node_of, untrimmed_node_ends_itself, only_name, push_entry, trim_up_to, telling, ack_of}
-use Rattle.am_resetting.proofs.CatchingWords.{IsEndOf, hears_result, unless_denied, plan_of, CatcherMayStore, Denial, reply_of_equal_plan, equal_reply_of_plan, saying_of, reply_tells_one_note}
+use Rattle.am_resetting.proofs.CatchingWords.{Option, sym, ap, subst, ◌∙◌, Entry, View, node_of, untrimmed_node_ends_itself, set_of_one_name, push_entry, trim_node_up_to, plan_with_letter, ack_packet_of}
+use Rattle.am_resetting.proofs.CatchingWords.{IsEndOf, row_of_promised_result, unless_denied, plan_of, CatcherMayStore, Denial, reply_of_equal_plan, equal_reply_of_plan, reply_with_telling, reply_tells_one_note}
 use Rattle.am_base.specs.declared.outcome.Outcome.TheVariants as said
 use Rattle.am_node_parts.specs.declared.reply.Telling.TheVariants as tell
 use Rattle.am_node_parts.specs.declared.reply.Note.TheVariants as note
@@ -12,11 +12,11 @@ returns-in-Some c =
     let v = c.args.view.now in
     let old = node_of c.args.parts.now in
     let r = c.in-Some.refusal in
-    let rest = telling (push_entry (trim_up_to old arrival.base) (View v)) (said.Stored arrival.number)
-    (only_name arrival.from) ack_of in
-    let row = hears_result old arrival.from arrival.base arrival.number v in
-    equal_reply_of_plan row c.saying.result (saying_of r.outcome r.telling) old c.saying.ensures
-    (reply_of_equal_plan row (plan_of old r.outcome r.telling) (saying_of r.outcome r.telling) old
+    let rest = plan_with_letter (push_entry (trim_node_up_to old arrival.base) (View v)) (said.Stored arrival.number)
+    (set_of_one_name arrival.from) ack_packet_of in
+    let row = row_of_promised_result old arrival.from arrival.base arrival.number v in
+    equal_reply_of_plan row c.saying.result (reply_with_telling r.outcome r.telling) old c.saying.ensures
+    (reply_of_equal_plan row (plan_of old r.outcome r.telling) (reply_with_telling r.outcome r.telling) old
     (c.result_refusal.ensures.value ∙ ap (λ (x : Option Denial). unless_denied x old rest) c.in-Some.is)
     (plan_replies_plain_telling old old r.outcome r.telling c.in-Some.ensures.plain (untrimmed_node_ends_itself old c.requires.order.kept)))
 
@@ -27,15 +27,15 @@ returns-in-None c =
     let old = node_of c.args.parts.now in
     let new = node_of c.store.new.parts in
     let e = View v in
-    let w = push_entry (trim_up_to old arrival.base) e in
+    let w = push_entry (trim_node_up_to old arrival.base) e in
     let stored = said.Stored arrival.number in
-    let rest = telling w stored (only_name arrival.from) ack_of in
-    let row = hears_result old arrival.from arrival.base arrival.number v in
-    let reply = saying_of stored (tell.Note (only_name arrival.from) note.Ack) in
-    equal_reply_of_plan row c.saying-in-None.result reply new (c.saying-in-None.ensures ∙ ap (saying_of stored) c.note_to.ensures)
+    let rest = plan_with_letter w stored (set_of_one_name arrival.from) ack_packet_of in
+    let row = row_of_promised_result old arrival.from arrival.base arrival.number v in
+    let reply = reply_with_telling stored (tell.Note (set_of_one_name arrival.from) note.Ack) in
+    equal_reply_of_plan row c.saying-in-None.result reply new (c.saying-in-None.ensures ∙ ap (reply_with_telling stored) c.note_to.ensures)
     (reply_of_equal_plan row rest reply new (c.result_refusal.ensures.value ∙ ap (λ (x : Option Denial). unless_denied x old rest) c.in-None.is)
-    (reply_tells_one_note w new stored (only_name arrival.from) note.Ack tt
-    (λ k. subst (λ (x : Entry). IsEndOf (push_entry (trim_up_to old arrival.base) x) new) c.view_entry.ensures
+    (reply_tells_one_note w new stored (set_of_one_name arrival.from) note.Ack tt
+    (λ k. subst (λ (x : Entry). IsEndOf (push_entry (trim_node_up_to old arrival.base) x) new) c.view_entry.ensures
     (c.store.ensures.changes old (untrimmed_node_ends_itself old c.requires.order.kept)))))
 
 pub store-requires : goal.store-requires

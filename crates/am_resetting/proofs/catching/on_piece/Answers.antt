@@ -1,4 +1,4 @@
-use Rattle.am_resetting.proofs.CatchingWords.{Some, None, sym, subst, ◌∙◌, ballot_of, node_of, untrimmed_node_ends_itself, Node, piece_row, piece_for, piece_promised, Replies, quiet_of}
+use Rattle.am_resetting.proofs.CatchingWords.{Some, None, sym, subst, ◌∙◌, ballot_of, node_of, untrimmed_node_ends_itself, Node, piece_row, piece_for, piece_promised, Replies, reply_without_letters}
 use Rattle.am_resetting.proofs.CatchingWords.{no_ballot_was_taken_out, one_ballot_was_taken_out, equal_reply_of_plan}
 use Rattle.am_base.specs.declared.outcome.Outcome.TheVariants as said
 use Rattle.am_resetting.proofs.Pieces.{piece_of_other_stamp_elsewhere, piece_row_by_its_ballot}
@@ -8,7 +8,7 @@ pub returns-then-is_apart : goal.returns-then-is_apart
 returns-then-is_apart c =
     let arrival = c.args.arrival.now in
     let old = node_of c.args.parts.now in
-    equal_reply_of_plan (piece_row old arrival.from arrival.stamp arrival.base arrival.number c.args.entry.now) c.quiet.result (quiet_of said.Elsewhere) old c.quiet.ensures
+    equal_reply_of_plan (piece_row old arrival.from arrival.stamp arrival.base arrival.number c.args.entry.now) c.quiet.result (reply_without_letters said.Elsewhere) old c.quiet.ensures
     (piece_of_other_stamp_elsewhere old old arrival.from arrival.stamp arrival.base arrival.number c.args.entry.now (sym c.is_apart.ensures
     ∙ c.if-is_apart.true) (untrimmed_node_ends_itself old c.accept_front-front.ensures.order.kept))
 

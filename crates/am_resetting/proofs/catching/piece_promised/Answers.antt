@@ -1,4 +1,4 @@
-use Rattle.am_resetting.proofs.CatchingWords.{false, ◌==◌, sym, ◌∙◌, node_of, untrimmed_node_ends_itself, push_entry, trim_up_to, piece_promised, catch_up, equal_reply_of_plan, not-true, quiet_of, saying_of}
+use Rattle.am_resetting.proofs.CatchingWords.{false, ◌==◌, sym, ◌∙◌, node_of, untrimmed_node_ends_itself, push_entry, trim_node_up_to, piece_promised, catch_up, equal_reply_of_plan, not-true, reply_without_letters, reply_with_telling}
 use Rattle.am_resetting.proofs.CatchingWords.{not-false}
 use Rattle.am_base.specs.declared.outcome.Outcome.TheVariants as said
 use Rattle.am_node_parts.specs.declared.reply.Telling.TheVariants as tell
@@ -9,7 +9,7 @@ pub returns-then-ne : goal.returns-then-ne
 returns-then-ne c =
     let arrival = c.args.arrival.now in
     let old = node_of c.args.parts.now in
-    equal_reply_of_plan (piece_promised old arrival.from arrival.stamp arrival.base arrival.number c.args.entry.now) c.quiet.result (quiet_of said.Elsewhere) old
+    equal_reply_of_plan (piece_promised old arrival.from arrival.stamp arrival.base arrival.number c.args.entry.now) c.quiet.result (reply_without_letters said.Elsewhere) old
     c.quiet.ensures
     (piece_promised_is_elsewhere old old arrival.from arrival.stamp arrival.base arrival.number c.args.entry.now
     (not-true (arrival.stamp.by == arrival.from) (sym c.ne.ensures ∙ c.if-ne.true)) (untrimmed_node_ends_itself old c.requires.order.kept))
@@ -19,9 +19,9 @@ returns-in-Some c =
     let arrival = c.args.arrival.now in
     let old = node_of c.args.parts.now in
     let e = c.args.entry.now in
-    equal_reply_of_plan (piece_promised old arrival.from arrival.stamp arrival.base arrival.number e) c.quiet-in-Some.result (quiet_of c.in-Some.outcome) old
+    equal_reply_of_plan (piece_promised old arrival.from arrival.stamp arrival.base arrival.number e) c.quiet-in-Some.result (reply_without_letters c.in-Some.outcome) old
     c.quiet-in-Some.ensures
-    (piece_promised_by_sender old old arrival.from arrival.stamp arrival.base arrival.number e (quiet_of c.in-Some.outcome)
+    (piece_promised_by_sender old old arrival.from arrival.stamp arrival.base arrival.number e (reply_without_letters c.in-Some.outcome)
     (not-false (arrival.stamp.by == arrival.from) (sym c.ne.ensures ∙ c.if-ne.false))
     (push_fetched_not_next old old arrival.stamp arrival.base arrival.number e false (catch_up arrival.from arrival.stamp arrival.number) c.refusal.result c.in-Some.outcome
     (c.refusal.ensures.value old.ballot (catch_up arrival.from arrival.stamp arrival.number)) c.in-Some.is (untrimmed_node_ends_itself old c.requires.order.kept)))
@@ -32,14 +32,14 @@ returns-in-None c =
     let old = node_of c.args.parts.now in
     let new = node_of c.store.new.parts in
     let e = c.args.entry.now in
-    let caught = saying_of (said.Stored arrival.number) (tell.AckIn arrival.stamp arrival.from) in
+    let caught = reply_with_telling (said.Stored arrival.number) (tell.AckIn arrival.stamp arrival.from) in
     equal_reply_of_plan (piece_promised old arrival.from arrival.stamp arrival.base arrival.number e) c.saying.result caught new c.saying.ensures
     (piece_promised_by_sender old new arrival.from arrival.stamp arrival.base arrival.number e caught
     (not-false (arrival.stamp.by == arrival.from) (sym c.ne.ensures ∙ c.if-ne.false))
     (push_fetched_that_comes_next old new arrival.stamp arrival.base arrival.number e false (catch_up arrival.from arrival.stamp arrival.number) c.refusal.result
     caught
     (c.refusal.ensures.value old.ballot (catch_up arrival.from arrival.stamp arrival.number)) c.in-None.is
-    (catch_up_replies_stored (push_entry (trim_up_to old arrival.base) e) new arrival.from arrival.stamp arrival.number
+    (catch_up_replies_stored (push_entry (trim_node_up_to old arrival.base) e) new arrival.from arrival.stamp arrival.number
     (c.store.ensures.changes old (untrimmed_node_ends_itself old c.requires.order.kept)))))
 
 pub store-requires : goal.store-requires

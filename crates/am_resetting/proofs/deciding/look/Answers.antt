@@ -1,4 +1,4 @@
-use Rattle.am_resetting.proofs.DecidingWords.{◌≡◌, ◌+◌, true, not, ◌==◌, sym, ap, ◌∙◌, arith, nat_tests, Vote, has, is_within, node_of, ballot_of, members, own_vote, put_back}
+use Rattle.am_resetting.proofs.DecidingWords.{◌≡◌, ◌+◌, true, not, ◌==◌, sym, ap, ◌∙◌, arith, nat_tests, Vote, has, names_are_within, node_of, ballot_of, members, own_vote, put_back}
 use Rattle.am_resetting.proofs.DecidingWords.{passing_name_is_in_those}
 use Rattle.am_base.specs.declared.outcome.Outcome.TheVariants as said
 use Rattle.am_resetting.proofs.Verdicts.{node_with_equal_ballot_end, node_with_equal_ballot_answer, decide_without_own_name_comes, decide_waiting_comes, decide_fetching_comes, decide_with_too_few_comes, decide_with_enough_comes, own_best_vote_is_own, ended_ballot_is_own, answered_ballot_is_own}
@@ -69,7 +69,7 @@ trim_and_decide-requires-clause-names c =
     let stays : not (b.given_up old.core.who) ≡ true = ap not (c.requires.own.itself c.requires.is_open) in
     let inside = best_vote_has_own_name seen c.has.ensures c.if-not-has.false in
     record {
-      within = (λ k. is_within (left_is k) (sym members_is k)) ∙ those_of_set_within_set (λ name. not (b.given_up name)) best.vote.members;
+      within = (λ k. names_are_within (left_is k) (sym members_is k)) ∙ those_of_set_within_set (λ name. not (b.given_up name)) best.vote.members;
       itself = ap (λ set. has set old.core.who) left_is ∙ passing_name_is_in_those (λ name. not (b.given_up name)) best.vote.members old.core.who inside stays;
     }
 

@@ -1,15 +1,15 @@
 use Rattle.am_resetting.proofs.DecidingWords.{◌≡◌, ◌+◌, ◌-◌, ◌≤◌, ℕ, List, length, true, Some, ap, sym, subst, ◌∙◌, arith, nat_tests, Entry, View, Stamp}
-use Rattle.am_resetting.proofs.DecidingWords.{Outcome, fits, size, has, stamp_lt, IsKept, reports_from, NodeKeeps, node_of, ballot_of, Node, Ballot, image_of}
-use Rattle.am_resetting.proofs.DecidingWords.{push_entry, with_end, decided_view, IsEndOf, set_with_name_has_size, IsTakenOut, MayBeView, put_back}
+use Rattle.am_resetting.proofs.DecidingWords.{Outcome, fits, size, has, stamp_is_less, IsKept, reports_beginning_at, NodeKeeps, node_of, ballot_of, Node, Ballot, image_of_node}
+use Rattle.am_resetting.proofs.DecidingWords.{push_entry, ballot_with_end, decided_view, IsEndOf, set_with_name_has_size, IsTakenOut, MayBeView, put_back}
 use Rattle.am_resetting.proofs.{Orders.stamp_not_lt_itself, Views.view_above_fits_image, Nodes.node_keeps_by_push, Nodes.node_without_ballot_acts_not, Verdicts.decide_with_room_comes, Verdicts.ended_ballot_is_own}
 use Rattle.am_resetting.proofs.deciding.push_view.Goals as goal
 
 -- the View of a ballot that was taken out fits
 own_view_fits : (m : Node) (b : Ballot) (names : List ℕ) → IsTakenOut m b → MayBeView m names
-    → fits (image_of m) (View (decided_view m b names)) ≡ true
+    → fits (image_of_node m) (View (decided_view m b names)) ≡ true
 own_view_fits m b names is may =
     let by = (is.own).by is.is_open in
-    view_above_fits_image (image_of m) (decided_view m b names) ((is.own).ahead is.is_open) may.within (ap (has names) by
+    view_above_fits_image (image_of_node m) (decided_view m b names) ((is.own).ahead is.is_open) may.within (ap (has names) by
     ∙ may.itself) (omega arith)
 
 own_view_keeps : (m : Node) (b : Ballot) (names : List ℕ) (capacity : ℕ) → IsKept m.core.log capacity → IsTakenOut m b → MayBeView m names → NodeKeeps m
@@ -17,11 +17,11 @@ own_view_keeps : (m : Node) (b : Ballot) (names : List ℕ) (capacity : ℕ) →
 own_view_keeps m b names capacity kept is may keeps =
     let stamp = (is.own).stamp is.is_open in
     node_keeps_by_push m (View (decided_view m b names)) capacity kept keeps (own_view_fits m b names is may)
-    (ap (λ (p : Stamp). stamp_lt p b.stamp) (sym stamp) ∙ stamp_not_lt_itself b.stamp)
+    (ap (λ (p : Stamp). stamp_is_less p b.stamp) (sym stamp) ∙ stamp_not_lt_itself b.stamp)
     (node_without_ballot_acts_not m b is) ((is.own).logged is.is_open) (λ other there. absurd (let x = sym is.out ∙ there in cc))
 
 pub push-requires-clause-fits : goal.push-requires-clause-fits
-push-requires-clause-fits c = ap (fits (image_of (node_of c.args.parts.now))) c.view_of.ensures.value
+push-requires-clause-fits c = ap (fits (image_of_node (node_of c.args.parts.now))) c.view_of.ensures.value
     ∙ own_view_fits (node_of c.args.parts.now) (ballot_of c.args.ballot.now) c.args.names c.requires.ballot c.requires.names
 
 pub push-requires-clause-room : goal.push-requires-clause-room
@@ -49,9 +49,9 @@ returns-clause-comes c =
     decide_with_room_comes old mid (put_back (node_of c.restart.new.parts) (ballot_of c.close.new.ballot)) b c.args.names c.close.result c.requires.room
     (λ all end. subst (λ (x : Entry). IsEndOf (push_entry all x) mid) c.view_of.ensures.value (c.push.ensures.changes all end))
     (c.close.ensures.answer ∙ c.decided_answer-answer.ensures.value)
-    (ap (put_back (node_of c.restart.new.parts)) c.close.ensures.ballot ∙ ap (λ (x : Node). record x { ballot = Some (with_end b c.decided_answer-answer.result) }) c.restart.ensures
-    ∙ ap (λ k. record mid { reports = reports_from k; ballot = Some (with_end b c.decided_answer-answer.result) }) c.base_of-base.ensures
-    ∙ ap (λ (o : Outcome). record mid { reports = reports_from old.core.base; ballot = Some (with_end b o) }) (sym c.close.ensures.answer))
+    (ap (put_back (node_of c.restart.new.parts)) c.close.ensures.ballot ∙ ap (λ (x : Node). record x { ballot = Some (ballot_with_end b c.decided_answer-answer.result) }) c.restart.ensures
+    ∙ ap (λ k. record mid { reports = reports_beginning_at k; ballot = Some (ballot_with_end b c.decided_answer-answer.result) }) c.base_of-base.ensures
+    ∙ ap (λ (o : Outcome). record mid { reports = reports_beginning_at old.core.base; ballot = Some (ballot_with_end b o) }) (sym c.close.ensures.answer))
 
 pub returns-clause-own : goal.returns-clause-own
 returns-clause-own c =

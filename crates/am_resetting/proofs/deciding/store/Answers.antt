@@ -1,4 +1,4 @@
-use Rattle.am_resetting.proofs.DecidingWords.{◌+◌, ap, sym, subst, arith, Rules, Node, push_entry, trim_up_to, IsSteady, node_of}
+use Rattle.am_resetting.proofs.DecidingWords.{◌+◌, ap, sym, subst, arith, Rules, Node, push_entry, trim_node_up_to, IsSteady, node_of}
 use Rattle.am_resetting.proofs.Nodes.{node_keeps_by_stored_piece, steady_nodes_after_same_push}
 use Rattle.am_resetting.proofs.deciding.store.Goals as goal
 
@@ -18,7 +18,7 @@ push-requires-clause-keeps c =
     (mid.core.rules.window + 15) c.accept_front-before.ensures.kept c.requires c.trim.ensures.steady c.trim.new.parts.keeps
 
 pub returns-clause-changes : goal.returns-clause-changes
-returns-clause-changes c = λ all e. c.push.ensures.changes (trim_up_to all c.args.base) (c.trim.ensures.changes all e)
+returns-clause-changes c = λ all e. c.push.ensures.changes (trim_node_up_to all c.args.base) (c.trim.ensures.changes all e)
 
 pub returns-clause-steady : goal.returns-clause-steady
 returns-clause-steady c =

@@ -1,4 +1,4 @@
-use Rattle.am_resetting.proofs.DecidingWords.{ap, ◌∙◌, arith, Image, members_of, has, is_within, node_of, ballot_of, own_ballot_of_steady_node, put_back}
+use Rattle.am_resetting.proofs.DecidingWords.{ap, ◌∙◌, arith, Image, members_of_image, has, names_are_within, node_of, ballot_of, own_ballot_of_steady_node, put_back}
 use Rattle.am_resetting.proofs.Verdicts.{decide_after_trim_comes}
 use Rattle.am_resetting.proofs.deciding.trim_and_decide.Goals as goal
 
@@ -20,6 +20,6 @@ decide_view-requires-clause-ballot c = record {
 
 pub decide_view-requires-clause-names : goal.decide_view-requires-clause-names
 decide_view-requires-clause-names c = record {
-  within = ap (λ (i : Image). is_within c.args.names (members_of i)) c.trim.ensures.steady.told ∙ c.requires.names.within;
+  within = ap (λ (i : Image). names_are_within c.args.names (members_of_image i)) c.trim.ensures.steady.told ∙ c.requires.names.within;
   itself = ap (has c.args.names) c.trim.ensures.steady.who ∙ c.requires.names.itself;
 }

@@ -1,4 +1,4 @@
-use Rattle.am_resetting.proofs.VotingWords.{Some, None, subst, ballot_of, node_of, Node, give_up_of, give_up_row, Replies, reply_quiet_with_outcome, no_ballot_was_taken_out, one_ballot_was_taken_out, quiet_of}
+use Rattle.am_resetting.proofs.VotingWords.{Some, None, subst, ballot_of, node_of, Node, give_up_in_open_ballot, give_up_row, Replies, reply_quiet_with_outcome, no_ballot_was_taken_out, one_ballot_was_taken_out, reply_without_letters}
 use Rattle.am_resetting.proofs.VotingWords.{untrimmed_node_has_equal_end, equal_reply_of_plan}
 use Rattle.am_base.specs.declared.outcome.Outcome.TheVariants as said
 use Rattle.am_resetting.proofs.VoteRows.{give_up_row_by_ballot}
@@ -9,8 +9,8 @@ returns-in-None c =
     let old = node_of c.args.parts.now in
     let new = node_of c.take_ballot.new.parts in
     let taken = no_ballot_was_taken_out old new c.take_ballot.ensures.ballot c.take_ballot.ensures.rest c.in-None.is in
-    equal_reply_of_plan (give_up_row old c.args.name) c.quiet.result (quiet_of said.NotCoordinator) new c.quiet.ensures
-    (give_up_row_by_ballot old new c.args.name (quiet_of said.NotCoordinator) None taken.0
+    equal_reply_of_plan (give_up_row old c.args.name) c.quiet.result (reply_without_letters said.NotCoordinator) new c.quiet.ensures
+    (give_up_row_by_ballot old new c.args.name (reply_without_letters said.NotCoordinator) None taken.0
     (reply_quiet_with_outcome old new said.NotCoordinator (λ k. untrimmed_node_has_equal_end old new c.accept_front-front.ensures.order.kept taken.1)))
 
 pub returns-in-Some : goal.returns-in-Some
@@ -20,5 +20,5 @@ returns-in-Some c =
     let b = ballot_of c.in-Some.ballot in
     let taken = one_ballot_was_taken_out old (node_of c.take_ballot.new.parts) c.take_ballot.ensures.ballot c.take_ballot.ensures.rest c.in-Some.is in
     give_up_row_by_ballot old new c.args.name c.give_up_of.result (Some b) taken.0
-    (subst (λ (x : Node). Replies (give_up_of x c.args.name (Some b)) c.give_up_of.result new) taken.1
+    (subst (λ (x : Node). Replies (give_up_in_open_ballot x c.args.name (Some b)) c.give_up_of.result new) taken.1
     c.give_up_of.ensures)

@@ -1,4 +1,4 @@
-use Rattle.am_resetting.proofs.VotingWords.{◌≡◌, true, false, not, ◌||◌, Bool, Some, sym, ◌∙◌, stamp_lt, stamp_eq, ballot_of, node_of, Node, take_vote, is_open, quiet_of}
+use Rattle.am_resetting.proofs.VotingWords.{◌≡◌, true, false, not, ◌||◌, Bool, Some, sym, ◌∙◌, stamp_is_less, stamps_are_equal, ballot_of, node_of, Node, take_vote, is_open_ballot, reply_without_letters}
 use Rattle.am_resetting.proofs.VotingWords.{untrimmed_node_has_equal_end, equal_reply_of_plan, both_of_and, not-true, not-false}
 use Rattle.am_base.specs.declared.outcome.Outcome.TheVariants as said
 use Rattle.am_resetting.proofs.VoteRows.{take_vote_is_elsewhere, take_vote_of_given_up, take_vote_is_kept}
@@ -13,7 +13,7 @@ returns-then-is_stale c =
     let b = ballot_of c.args.ballot in
     let m : Node = record (node_of c.args.parts.now) { ballot = Some b } in
     let new = node_of c.put_back.new.parts in
-    equal_reply_of_plan (take_vote m c.args.from c.args.stamp c.args.vote.now (Some b)) c.quiet.result (quiet_of said.Elsewhere) new c.quiet.ensures
+    equal_reply_of_plan (take_vote m c.args.from c.args.stamp c.args.vote.now (Some b)) c.quiet.result (reply_without_letters said.Elsewhere) new c.quiet.ensures
     (take_vote_is_elsewhere m new c.args.from c.args.stamp c.args.vote.now b (sym c.is_stale.ensures
     ∙ c.if-is_stale.true) (untrimmed_node_has_equal_end m new c.requires.order.kept c.put_back.ensures))
 
@@ -22,7 +22,7 @@ returns-then-has_given_up c =
     let b = ballot_of c.args.ballot in
     let m : Node = record (node_of c.args.parts.now) { ballot = Some b } in
     let new = node_of c.put_back-then-has_given_up.new.parts in
-    equal_reply_of_plan (take_vote m c.args.from c.args.stamp c.args.vote.now (Some b)) c.quiet-then-has_given_up.result (quiet_of said.Known) new
+    equal_reply_of_plan (take_vote m c.args.from c.args.stamp c.args.vote.now (Some b)) c.quiet-then-has_given_up.result (reply_without_letters said.Known) new
     c.quiet-then-has_given_up.ensures
     (take_vote_of_given_up m new c.args.from c.args.stamp c.args.vote.now b (sym c.is_stale.ensures ∙ c.if-is_stale.false) (sym c.has_given_up.ensures
     ∙ c.if-has_given_up.true) (untrimmed_node_has_equal_end m new c.requires.order.kept c.put_back-then-has_given_up.ensures))
@@ -38,12 +38,12 @@ returns c =
 pub keep_vote-requires-clause-ballot : goal.keep_vote-requires-clause-ballot
 keep_vote-requires-clause-ballot c =
     let b = ballot_of c.args.ballot in
-    let open_ : is_open c.args.stamp b ≡ true = not-false (is_open c.args.stamp b)
-    (or_right (stamp_lt c.args.stamp c.args.parts.now.core.promise) (not (is_open c.args.stamp b)) (sym c.is_stale.ensures ∙ c.if-is_stale.false)) in
+    let open_ : is_open_ballot c.args.stamp b ≡ true = not-false (is_open_ballot c.args.stamp b)
+    (or_right (stamp_is_less c.args.stamp c.args.parts.now.core.promise) (not (is_open_ballot c.args.stamp b)) (sym c.is_stale.ensures ∙ c.if-is_stale.false)) in
     record {
       order = c.requires.order;
       out = c.requires.out;
       own = c.requires.own;
-      is_open = not-true b.is_over (both_of_and (not b.is_over) (stamp_eq b.stamp c.args.stamp) open_).0;
+      is_open = not-true b.is_over (both_of_and (not b.is_over) (stamps_are_equal b.stamp c.args.stamp) open_).0;
       number = c.requires.number;
     }

@@ -1,4 +1,4 @@
-use Rattle.am_node_parts.proofs.Words.{◌≡◌, ◌-◌, All, List, take, sym, ap, subst, ◌∙◌, arith, Entry, IsEntry, node_of}
+use Rattle.am_node_parts.proofs.Words.{◌≡◌, ◌-◌, All, List, take, sym, ap, subst, ◌∙◌, arith, Entry, EntryIsInRange, node_of}
 use Rattle.am_node_parts.proofs.Served.{kept_entries_above_number}
 use Rattle.am_node_parts.proofs.Serves.{copied_entries_with_next, copied_entries_are_to_serve, entries_to_serve_are_within}
 use Rattle.am_step_end.proofs.serving.copies.Goals as goal
@@ -25,4 +25,4 @@ returns-clause-items c =
 pub returns-clause-within : goal.returns-clause-within
 returns-clause-within c =
     let old = node_of c.args.parts.now in
-    subst (λ (xs : List Entry). All IsEntry xs) (sym (returns-clause-items c)) (entries_to_serve_are_within old c.args.stored c.last_served-last.ensures.entries)
+    subst (λ (xs : List Entry). All EntryIsInRange xs) (sym (returns-clause-items c)) (entries_to_serve_are_within old c.args.stored c.last_served-last.ensures.entries)

@@ -1,5 +1,5 @@
 use Rattle.std.proofs.Common.{◌≡◌, ℕ, ◌+◌, ◌≤◌, Option, None, is_some, true, false, true≢false, unwrap_or, sym, refl, ap, ◌∙◌, subst}
-use Rattle.am_base.specs.Names.{place_of}
+use Rattle.am_base.specs.Names.{place_of_name}
 use Rattle.am_race_laws.specs.declared.answer.CallAnswer.{CallAnswer}
 use Rattle.am_race_laws.specs.declared.answer.CallAnswer.TheVariants as answer
 use Rattle.am_race_laws.specs.Answers.{late_after}
@@ -19,7 +19,7 @@ loop-spent-init g c = (
   subst (λ (t : ℕ). CallHasTurned g.N.Racing.plan c.args.call.now.node c.args.call.now.tag
       (request_in_call c.args.call.now.act.now c.args.came.now) c.args.hand.now.share.seen c.args.hand.now.share.seen 0 (answer.Late t)) (sym c.args.self.now.turned)
       (call_begins_without_turns g.N.Racing.plan c.args.call.now.node c.args.call.now.tag (request_in_call c.args.call.now.act.now c.args.came.now) c.args.hand.now.share.seen
-      (no_growth_without_own_record (place_of c.args.call.now.node) c.args.call.now.tag c.args.hand.now.share.seen c.args.hand.now.share.seen
+      (no_growth_without_own_record (place_of_name c.args.call.now.node) c.args.call.now.tag c.args.hand.now.share.seen c.args.hand.now.share.seen
       (caller_records_go_on_unchanged c.args.call.now.tag.caller c.args.hand.now.share.seen))),
 )
 
@@ -32,7 +32,7 @@ loop-spent-preserved g c = (
       (call_with_one_more_turn g.N.Racing.plan c.args.call.now.node c.args.call.now.tag (request_in_call c.args.call.now.act.now c.args.came.now) c.args.hand.now.share.seen
       c.loop-spent.hand.share.seen c.look.new.hand.share.seen c.loop-spent.spent
       c.loop-spent.late c.in-Ok-Turn.outcome c.loop-spent.invariant.1
-      (subst (HasLooked (place_of c.args.call.now.node) c.args.call.now.tag c.args.call.now.act.now c.args.came.now true c.loop-spent.hand.share.seen c.look.new.hand.share.seen)
+      (subst (HasLooked (place_of_name c.args.call.now.node) c.args.call.now.tag c.args.call.now.act.now c.args.came.now true c.loop-spent.hand.share.seen c.look.new.hand.share.seen)
       c.in-Ok-Turn.field-0-is c.in-Ok-Turn.ensures.ok).1),
 )
 
@@ -62,10 +62,10 @@ returns-in-Ok-End-clause-made g c =
     c.requires.begun c.loop-spent.invariant.1
     (subst (λ (t : ℕ). c.loop-spent.spent ≤ t) c.args.self.now.turned c.loop-spent.auto.spent-end)
     (some_told (told_at_end c.args.call.now.act.now c.in-Ok-End.outcome)
-    ((subst (HasLooked (place_of c.args.call.now.node) c.args.call.now.tag c.args.call.now.act.now c.args.came.now true c.loop-spent.hand.share.seen c.look.new.hand.share.seen)
+    ((subst (HasLooked (place_of_name c.args.call.now.node) c.args.call.now.tag c.args.call.now.act.now c.args.came.now true c.loop-spent.hand.share.seen c.look.new.hand.share.seen)
     c.in-Ok-End.field-0-is c.in-Ok-End.ensures.ok).0 refl)
     g.N.Racing.plan.turns c.loop-spent.spent)
-    (subst (HasLooked (place_of c.args.call.now.node) c.args.call.now.tag c.args.call.now.act.now c.args.came.now true c.loop-spent.hand.share.seen c.look.new.hand.share.seen)
+    (subst (HasLooked (place_of_name c.args.call.now.node) c.args.call.now.tag c.args.call.now.act.now c.args.came.now true c.loop-spent.hand.share.seen c.look.new.hand.share.seen)
     c.in-Ok-End.field-0-is c.in-Ok-End.ensures.ok).1)
 
 pub look-requires-2-clause-hand : goal.look-requires-2-clause-hand
@@ -97,5 +97,5 @@ returns-in-Ok-End-look-clause-made g c =
     c.requires.begun c.loop-spent.invariant.1
     (subst (λ (t : ℕ). c.loop-spent.spent ≤ t) c.args.self.now.turned c.loop-spent.auto.spent-end)
     (λ none. subst (λ (t : ℕ). t ≤ c.loop-spent.spent) c.args.self.now.turned c.loop-spent-test.false)
-    (subst (HasLooked (place_of c.args.call.now.node) c.args.call.now.tag c.args.call.now.act.now c.args.came.now false c.loop-spent.hand.share.seen c.look-2.new.hand.share.seen)
+    (subst (HasLooked (place_of_name c.args.call.now.node) c.args.call.now.tag c.args.call.now.act.now c.args.came.now false c.loop-spent.hand.share.seen c.look-2.new.hand.share.seen)
     c.in-Ok-End-look.field-0-is c.in-Ok-End-look.ensures.ok).1)

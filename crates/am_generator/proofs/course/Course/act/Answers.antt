@@ -1,5 +1,5 @@
 use Rattle.am_world.proofs.Words.{◌+◌, length, sym, ap, ◌∙◌, subst, arith, Watching}
-use Rattle.am_world.proofs.Words.{drop, told_step, watching_of, play_after, most_events}
+use Rattle.am_world.proofs.Words.{drop, watching_after_told_step, watching_of, play_after, most_events_of_run}
 use Rattle.am_generator.proofs.Courses.{places_are_ready_for_event, course_gone_by_step, course_stands_after_step, group_length_le_events, step_of_course_is_watched, counts_after_answer, events_below_most_counts}
 use Rattle.am_world.proofs.{Kept.watched_count_is_events}
 use Rattle.am_generator.specs.Courses.{Counted}
@@ -43,7 +43,7 @@ returns-clause-ok c = λ p e a.
     let g = course_gone_by_step p e s.places new s.watcher c.args.name c.args.what outcome a.course.stands a.few a.named a.comes_ moves in
     let watched = step_of_course_is_watched p e outcome moves.sent s.places new s.watcher c.reserve.new.self c.note_step.new.self c.args.name c.args.what c.node.result.now
     (length c.group-known.result.now) c.group.result.now a.course.stands g a.named a.comes_ c.reserve.ensures.same (ap length c.group-known.ensures)
-    c.group.ensures c.node.ensures (c.note_step.ensures ∙ ap (λ n. told_step (watching_of c.reserve.new.self) c.args.name n c.args.what
+    c.group.ensures c.node.ensures (c.note_step.ensures ∙ ap (λ n. watching_after_told_step (watching_of c.reserve.new.self) c.args.name n c.args.what
     (length c.group-known.result.now + 1) (drop (length c.group-known.result.now) c.group.result.now)) c.shown_by-shown.ensures) in (
       record {
         stands = course_stands_after_step p e outcome moves.sent s.places new s.watcher c.note_step.new.self a.course.stands g moves.few moves.letters watched;
@@ -57,4 +57,4 @@ add-requires c =
     let a = c.requires.run.1.1 in
     let many = a.course.counted.events in
     let few = a.few in
-    events_below_most_counts c.requires.run.0 c.args.self.now.counts most_events a.course.counted (omega arith)
+    events_below_most_counts c.requires.run.0 c.args.self.now.counts most_events_of_run a.course.counted (omega arith)

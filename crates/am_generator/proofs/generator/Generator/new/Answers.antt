@@ -4,7 +4,7 @@ use Rattle.am_generator.proofs.Seen.{no_letters_seen_at_first}
 use Rattle.am_generator.proofs.generator.Generator.new.Goals as goal
 
 pub returns : goal.returns
-unfolding world.happen
+unfolding world.world_after_events
 returns c =
     let blank : c.new-4.result ≡ no_progress = λ k. record { cursor = c.new-4.ensures.cursor k; last = c.new-4.ensures.last k } in
     record {

@@ -1,12 +1,12 @@
-use Rattle.am_world.proofs.Words.{◌≡◌, ◌++◌, List, Some, length, slice_get, slice_index_or, slice_set, ap, ◌∙◌, arith, place_of, ℕ}
+use Rattle.am_world.proofs.Words.{◌≡◌, ◌++◌, List, Some, length, slice_get, slice_index_or, slice_set, ap, ◌∙◌, arith, place_of_name, ℕ}
 use Rattle.am_world.proofs.Words.{Node, state_of}
 use Rattle.am_world.proofs.Spots.{slice_get_of_read_item}
 use Rattle.am_generator.proofs.places.Places.act.Goals as goal
 
 -- the node of an index that is a name's place
-there : (nodes : List Node) (name i : ℕ) (n : Node) → length nodes ≡ 16 → i ≡ place_of name → n ≡ slice_index_or nodes i n
-    → slice_get nodes (place_of name) ≡ Some n
-there nodes name i n count at is = slice_get_of_read_item nodes i (place_of name) n at (omega arith) is
+there : (nodes : List Node) (name i : ℕ) (n : Node) → length nodes ≡ 16 → i ≡ place_of_name name → n ≡ slice_index_or nodes i n
+    → slice_get nodes (place_of_name name) ≡ Some n
+there nodes name i n count at is = slice_get_of_read_item nodes i (place_of_name name) n at (omega arith) is
 
 pub act_in_box-requires : goal.act_in_box-requires
 act_in_box-requires c =

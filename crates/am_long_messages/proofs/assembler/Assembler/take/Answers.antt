@@ -1,5 +1,5 @@
 use Rattle.std.proofs.Common.{◌≡◌, ◌<◌, Some, None, sym, ◌∙◌, arith, length, get_or}
-use Rattle.am_base.specs.Names.{place_of}
+use Rattle.am_base.specs.Names.{place_of_name}
 use Rattle.am_service_defs.specs.Assembling.{taken_with}
 use Rattle.am_long_messages.specs.Rooms.{begun_in}
 use Rattle.am_long_messages.proofs.Keeping.{ended_by_whole_message, ended_by_other_body, rooms_after_taken_body}
@@ -15,8 +15,8 @@ returns-clause-after c =
     let new = c.take-fed.new.self in
     let body = c.args.body.now in
     let taken = taken_with (begun_in old) from body in
-    let there : place_of from < length rooms = omega (arith, c.place.ensures.value, c.place.ensures.fits, c.self.invariant) in
-    let was : old ≡ get_or rooms (place_of from) old = rw c.place.ensures.value at c.index_mut-room.ensures.value in
+    let there : place_of_name from < length rooms = omega (arith, c.place.ensures.value, c.place.ensures.fits, c.self.invariant) in
+    let was : old ≡ get_or rooms (place_of_name from) old = rw c.place.ensures.value at c.index_mut-room.ensures.value in
     let kept = c.take-fed.ensures.after in
     elim c.match-fed.branch [
       | in-Whole w ↦

@@ -1,4 +1,4 @@
-use Rattle.am_node_parts.proofs.Words.{sym, ap, ◌∙◌, ◌+◌, arith, Parts, entry_at, split_on_bool_of_log, is_data_of, node_of, some_passes}
+use Rattle.am_node_parts.proofs.Words.{sym, ap, ◌∙◌, ◌+◌, arith, Parts, log_entry_at, split_on_bool_of_log, is_data_of, node_of, some_passes}
 use Rattle.am_node_parts.proofs.{Settling.accepted_number_is_found, Settling.accepted_number_is_none, Due.own_data_makes_next_due}
 use Rattle.am_node_parts.proofs.parts.Parts.accepted_number.Goals as goal
 
@@ -18,7 +18,7 @@ returns-then-is_past_last-clause-value c =
     let kept = order.kept in
     let no = c.is_past_last.ensures c.if-is_past_last.true in
     accepted_number_is_none (node_of c.args.self.now) c.args.req order (λ number low below.
-    split_on_bool_of_log (some_passes (is_data_of core.who c.args.req) (entry_at core.log (number + 1)))
+    split_on_bool_of_log (some_passes (is_data_of core.who c.args.req) (log_entry_at core.log (number + 1)))
     (λ there. absurd (no (own_data_makes_next_due core.log (core.rules.window + 15) core.who c.args.req number c.accept_front-accepted.ensures.kept (omega arith) there)))
     (λ none. none))
 

@@ -1,4 +1,4 @@
-use Rattle.am_node_parts.proofs.Words.{sym, ap, ◌∙◌, arith, CoreState, with_led, core_and_reports, node_of}
+use Rattle.am_node_parts.proofs.Words.{sym, ap, ◌∙◌, arith, CoreState, node_with_core_and_reports, core_and_reports, node_of}
 use Rattle.am_node_parts.proofs.{Ends.lead_changes_as_refresh, Ends.advance_changes_as_refresh, Ends.refresh_twice_of_sequencer, Ends.refresh_twice_of_member, Keeping.steady_node_keeps_order, Keeping.advance_keeps_node_order}
 use Rattle.am_node_parts.proofs.{Keeping.lead_is_steady, Keeping.sequencer_may_lead}
 use Rattle.am_node_parts.proofs.parts.Parts.refresh.Goals as goal
@@ -7,7 +7,7 @@ use Rattle.am_node_parts.proofs.parts.Parts.refresh.Goals as goal
 pub invariant_of-self : goal.invariant_of-self
 invariant_of-self c =
     let old = node_of c.args.self.now in
-    let new = with_led old (core_and_reports c.refresh.new.core c.refresh.new.self) in
+    let new = node_with_core_and_reports old (core_and_reports c.refresh.new.core c.refresh.new.self) in
     record { keeps = steady_node_keeps_order old new (lead_is_steady old _ c.is_sequencer.ensures.order c.refresh.ensures.value) c.args.self.now.keeps (omega arith) }
 
 -- src/parts.rt:63:13

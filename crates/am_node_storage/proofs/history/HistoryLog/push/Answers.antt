@@ -1,8 +1,8 @@
 use Rattle.std.proofs.Common.{◌≡◌, ◌≤◌, ◌+◌, ◌∷◌, ◌++◌, [], List, true, ap, sym, ◌∙◌, subst, arith, length, length-append}
 use Rattle.std.proofs.lemmas.List.{length-map}
 use Rattle.am_base.specs.declared.entry.Entry.{Entry}
-use Rattle.am_base.specs.Limits.{IsEntry}
-use Rattle.am_base.specs.Lists.{fits, after, told_by, top_of}
+use Rattle.am_base.specs.Limits.{EntryIsInRange}
+use Rattle.am_base.specs.Lists.{fits, after, image_of_log, top_of_log}
 use Rattle.am_node_storage.specs.declared.history.Slot.{Slot}
 use Rattle.am_node_storage.specs.Histories.{HistoryState, IsRing}
 use Rattle.am_node_storage.proofs.Rings.{ring_with_slot_pushed, drop_nothing_of_few_slots}
@@ -17,13 +17,13 @@ invariant_of-self c =
     let more = length-append slots (slot ∷ []) in
     let room = ap (λ (h : HistoryState). length h.list.entries) c.self.view_is in
     let capacity = ap (λ (h : HistoryState). h.capacity) c.self.view_is in
-    let top = ap (λ (h : HistoryState). top_of h.list) c.self.view_is in
+    let top = ap (λ (h : HistoryState). top_of_log h.list) c.self.view_is in
     let fit : fits c.self.inside.above c.to_entry.result ≡ true =
-    ap (fits c.self.inside.above) is ∙ ap (λ i. fits i c.args.entry.now) (c.self.invariant.told ∙ ap (λ (h : HistoryState). told_by h.list) c.self.view_is) ∙ c.requires.fits in
+    ap (fits c.self.inside.above) is ∙ ap (λ i. fits i c.args.entry.now) (c.self.invariant.told ∙ ap (λ (h : HistoryState). image_of_log h.list) c.self.view_is) ∙ c.requires.fits in
     let within : length (slots ++ slot ∷ []) ≤ c.self.inside.ring.capacity = omega arith in
     let next : c.apply.new.self ≡ after c.self.inside.above (c.self.inside.base + length slots + 1) c.to_entry.result = c.apply.ensures.value
     ∙ (λ k. after c.self.inside.above (c.self.inside.base + c.len.ensures.len k + 1) (sym is k)) in
-    let Q : Entry → Type 0 = IsEntry in
+    let Q : Entry → Type 0 = EntryIsInRange in
     let ring = ring_with_slot_pushed c.self.inside.base c.self.inside.ring.capacity c.self.inside.below c.self.inside.above c.apply.new.self slots slot c.self.invariant
     next c.members-members.ensures fit (subst Q (sym is) c.requires.entry) (omega arith) (omega arith) in
     let P : List Slot → Type 0 = λ xs. IsRing c.self.inside.base c.self.inside.below c.apply.new.self xs c.self.inside.ring.capacity in

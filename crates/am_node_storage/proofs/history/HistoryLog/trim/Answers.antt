@@ -1,5 +1,5 @@
 use Rattle.std.proofs.Common.{refl, ap, sym, ◌∙◌, arith}
-use Rattle.am_node_defs.specs.Kept.{above}
+use Rattle.am_node_defs.specs.Kept.{log_above}
 use Rattle.am_node_defs.proofs.Ends.{above_start_is_log}
 use Rattle.am_node_storage.specs.Histories.{HistoryState}
 use Rattle.am_node_storage.proofs.Rings.{trim_above_one_more}
@@ -8,7 +8,7 @@ use Rattle.am_node_storage.proofs.history.HistoryLog.trim.Goals as goal
 pub loop-number-init : goal.loop-number-init
 loop-number-init c =
     let start = ap (λ (h : HistoryState). h.list.start) c.self.view_is in
-    record { list = sym (above_start_is_log c.args.self.now.list) ∙ ap (above c.args.self.now.list) (sym start); capacity = refl }
+    record { list = sym (above_start_is_log c.args.self.now.list) ∙ ap (log_above c.args.self.now.list) (sym start); capacity = refl }
 
 pub loop-number-preserved : goal.loop-number-preserved
 loop-number-preserved c =

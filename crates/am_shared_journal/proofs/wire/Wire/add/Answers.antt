@@ -1,4 +1,4 @@
-use Rattle.am_shared_journal.proofs.Words.{rules, ◌≡◌, ℕ, List, ◌<◌, [], ◌∷◌, ◌++◌, length, sym, ap, ◌∙◌, arith, most_events, rest, Record, Page, Sat, HasTurn}
+use Rattle.am_shared_journal.proofs.Words.{rules, ◌≡◌, ℕ, List, ◌<◌, [], ◌∷◌, ◌++◌, length, sym, ap, ◌∙◌, arith, most_events_of_run, rest, Record, Page, Sat, HasTurn}
 use Rattle.am_shared_journal.proofs.Keeps.{rule_allows_count_of_record}
 use Rattle.am_shared_journal.proofs.wire.Wire.add.Goals as goal
 
@@ -39,7 +39,7 @@ fetch_add-requires g c =
     let page = carries m c.args.item c.slot_mut-sheet.result.now c.add.new.self has held c.add.ensures.founding added in
     let same : length c.slot_mut-sheet.result.now.records ≡ length m.0.seen = ap length (held_records m c.slot_mut-sheet.result.now has held) in
     let found : c.len-count.result ≡ length c.slot_mut-sheet.result.now.records = c.len-count.ensures.value in
-    let below : c.len-count.result < most_events = c.if-count-ge-MOST_EVENTS.false in (
+    let below : c.len-count.result < most_events_of_run = c.if-count-ge-MOST_EVENTS.false in (
       search rules,
       search rules,
       rule_allows_count_of_record _ _ _ _ _ c.args.item (record {

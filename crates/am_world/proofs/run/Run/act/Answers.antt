@@ -1,20 +1,20 @@
 use Rattle.am_world.proofs.Words.{◌≡◌, ◌+◌, ◌<◌, ◌≤◌, ℕ, Bool, List, Some, max, length, slice_get, slice_index_or, slice_set, vec_len, vec_capacity, ap, ◌∙◌}
-use Rattle.am_world.proofs.Words.{arith, most_events, place_of, Rules, Entry, NodeEvent, Event, Record, current, happens, Node, state_of}
-use Rattle.am_world.proofs.Words.{WorldIsReady, Play, IsRun, play_of, replay, EventIsAnswered, the_record}
+use Rattle.am_world.proofs.Words.{arith, most_events_of_run, place_of_name, Rules, Entry, NodeEvent, Event, Record, current, happens, Node, state_of}
+use Rattle.am_world.proofs.Words.{WorldIsReady, Play, IsRun, play_of, replay, EventIsAnswered, record_without_caller}
 use Rattle.am_world.proofs.{Spots.slice_get_of_read_item, Goes.event_is_recorded_in_play, Goes.lives_of_replay_are_kept, Goes.events_as_many_as_records, Acts.node_is_ready_at_place, Acts.world_after_node_event, Acts.act_carries_play_on}
 use Rattle.am_world.proofs.{run.Run.act.Goals.After-push}
 use Rattle.am_world.proofs.run.Run.act.Goals as goal
 
 -- the node of an index that is a name's place
-there : (nodes : List Node) (name i : ℕ) (n : Node) → length nodes ≡ 16 → i ≡ place_of name → n ≡ slice_index_or nodes i n
-    → slice_get nodes (place_of name) ≡ Some n
-there nodes name i n count at is = slice_get_of_read_item nodes i (place_of name) n at (omega arith) is
+there : (nodes : List Node) (name i : ℕ) (n : Node) → length nodes ≡ 16 → i ≡ place_of_name name → n ≡ slice_index_or nodes i n
+    → slice_get nodes (place_of_name name) ≡ Some n
+there nodes name i n count at is = slice_get_of_read_item nodes i (place_of_name name) n at (omega arith) is
 
 -- it is ready for its step, and the group list for what comes of that
 ready : (p : Play) (first : Rules) (nodes : List Node) (lives : List ℕ) (flags : List Bool) (records : List Record) (group : List Entry) (e : Event)
     (what : NodeEvent) (name i stored room : ℕ) (n : Node) → play_of first records ≡ p → IsRun (play_of first records) nodes lives flags records group
-    → length p.events < most_events → name ≡ current (replay p) (place_of e.node) → happens (replay p) e ≡ world_after_node_event (replay p) e what
-    → stored ≡ length group → max (length records + 2) stored ≤ room → i ≡ place_of name → n ≡ slice_index_or nodes i n
+    → length p.events < most_events_of_run → name ≡ current (replay p) (place_of_name e.node) → happens (replay p) e ≡ world_after_node_event (replay p) e what
+    → stored ≡ length group → max (length records + 2) stored ≤ room → i ≡ place_of_name name → n ≡ slice_index_or nodes i n
     → WorldIsReady (state_of n) what stored room
 ready p first nodes lives flags records group e what name i stored room n view ok few here is all_stored has_room at found =
     let events : length p.events ≡ length records = events_as_many_as_records p first records view in
@@ -69,7 +69,7 @@ made c =
       grows = rw (← c.make_room.ensures.items) c.grow.ensures;
     })
     (event_is_recorded_in_play (replay p) c.args.event.now c.in_ok-outcome.outcome c.in_ok-outcome.packets living c.requires.name c.life.ensures.value
-    (c.record_of.ensures ∙ ap (λ (e : Event). the_record e c.life.result c.in_ok-outcome.outcome c.in_ok-outcome.packets) c.in_ok-done.ensures.copy) (c.push.ensures.founding
+    (c.record_of.ensures ∙ ap (λ (e : Event). record_without_caller e c.life.result c.in_ok-outcome.outcome c.in_ok-outcome.packets) c.in_ok-done.ensures.copy) (c.push.ensures.founding
     ∙ c.copy_for.ensures.founding) c.copy_for.ensures.records c.push.ensures.records)
     c.requires.comes
 

@@ -1,4 +1,4 @@
-use Rattle.am_world.proofs.Words.{◌≡◌, ◌++◌, Some, None, sym, ap, ◌∙◌, option_copied, letters_of, letter_at, state_of, flag_of, first_bytes}
+use Rattle.am_world.proofs.Words.{◌≡◌, ◌++◌, Some, None, sym, ap, ◌∙◌, option_copied, letters_of_records, letter_at, state_of, flag_of, first_bytes}
 use Rattle.am_world.proofs.Words.{heard_of}
 use Rattle.am_base.specs.declared.event.NodeEvent.TheVariants as does
 use Rattle.am_base.specs.declared.outcome.Outcome.TheVariants as said
@@ -11,7 +11,7 @@ pub returns-in_default-clause-comes : goal.returns-in_default-clause-comes
 returns-in_default-clause-comes c =
     let w = c.self.inside in
     let e = c.args.event.now in
-    let letters = letters_of w.journal.records in
+    let letters = letters_of_records w.journal.records in
     let nothing : heard_of e.act ≡ None = sym c.heard_by.ensures ∙ c.in_default.is in
     if_ok_with_both c.call_or_answer.result _ _ _ (λ r is _. asked_event_comes_in_replay c.args.self.now w.journal.founding w.nodes.items w.lives w.stopped w.journal.records
     w.group.items e (state_of c.node.result.now) c.status.result
@@ -50,7 +50,7 @@ returns-clause-comes c =
     let w = c.self.inside in
     let h = c.in-Some.heard in
     let letter = c.in-Some-packet.letter.now in
-    let found = letter_at (letters_of w.journal.records) h.packet in
+    let found = letter_at (letters_of_records w.journal.records) h.packet in
     let there : found ≡ Some letter = sym c.packet.ensures ∙ ap option_copied c.in-Some-packet.is in
     let bytes = c.of.ensures ∙ c.in_ok-extend_from_slice.ensures.items ∙ ap (λ xs. xs ++ c.first_bytes.result.now) c.clear.ensures.items
     ∙ c.first_bytes.ensures ∙ ap (first_bytes h.keep) c.bytes.ensures.value in

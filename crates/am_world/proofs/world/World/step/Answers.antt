@@ -1,5 +1,5 @@
-use Rattle.am_world.proofs.Words.{◌≡◌, length, sym, ap, ◌∙◌, subst, arith, place_of, current, happens, IsEndOf, state_of, Watching, watching_of, comes}
-use Rattle.am_world.proofs.Words.{◌+◌, drop, told_step, Play, play_after, replay, IsWatched}
+use Rattle.am_world.proofs.Words.{◌≡◌, length, sym, ap, ◌∙◌, subst, arith, place_of_name, current, happens, IsEndOf, state_of, Watching, watching_of, comes}
+use Rattle.am_world.proofs.Words.{◌+◌, drop, watching_after_told_step, Play, play_after, replay, IsWatched}
 use Rattle.am_world.proofs.Kept.{watched_count_is_events, act_is_watched, group_grows_by_event}
 use Rattle.am_journal.specs.declared.asked.Asked.TheVariants as asked
 use Rattle.am_world.proofs.world.World.step.Goals as goal
@@ -30,11 +30,11 @@ invariant_of-self-in-Step c =
     let made = c.in_ok-act-in-Step.ensures.ok in
     let kept = subst (IsWatched p) (sym c.reserve.ensures.same) c.self.invariant in
     let is : happens (replay p) e ≡ comes (replay p) e (asked.Step c.in-Step.what) = c.in_ok-what.ensures.comes ∙ ap (comes (replay p) e) c.in-Step.is in
-    let end = subst (λ (q : Play). IsEndOf ((replay q).nodes (current (replay q) (place_of e.node))) m) made c.node.ensures in
+    let end = subst (λ (q : Play). IsEndOf ((replay q).nodes (current (replay q) (place_of_name e.node))) m) made c.node.ensures in
     let group = c.group.ensures.value ∙ ap (λ (q : Play). (replay q).group) made in
     let known = length c.group-known.result.now in
     let told = c.note_step.ensures
-    ∙ ap (λ n. told_step k c.name_at-name.result n c.in-Step.what (known + 1) (drop known c.group.result.now)) c.shown_by-shown.ensures in
+    ∙ ap (λ n. watching_after_told_step k c.name_at-name.result n c.in-Step.what (known + 1) (drop known c.group.result.now)) c.shown_by-shown.ensures in
     let done = act_is_watched p k e c.name_at-name.result c.in-Step.what m known c.group.result.now
     c.group-known.ensures.founded kept c.name_at-name.ensures is end (ap length c.group-known.ensures.value) group in
     subst (λ q. IsWatched q (watching_of c.note_step.new.self)) (sym made) (subst (IsWatched (play_after p e)) (sym told) done)
