@@ -8,3 +8,7 @@ pub mod Sums
 pub mod Stands
 pub mod TakenReports
 pub mod Quiet
+pub mod Raised
+pub mod TakenWaves
+pub mod Trims
+pub mod Numbering

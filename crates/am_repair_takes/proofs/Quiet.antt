@@ -1,18 +1,18 @@
 -- What stays so while a schedule with takes runs in a group in one view in which nobody asks to join: its sequencer's list goes on by sends
 -- of its members alone, each of which was waiting.
-use Rattle.am_repair.proofs.RepairWords.{◌≡◌, ◌⊎◌, inl, inr, either, ℕ, zero, suc, ◌+◌, ◌-◌, ◌<◌, ◌≤◌, ◌==◌, Bool, true, false, List, [], ◌∷◌, ◌++◌, length, Some}
-use Rattle.am_repair.proofs.RepairWords.{slice_get, refl, sym, ap, ◌∙◌, subst, arith, split_on_bool, nat_tests, eqb-true, eq-eqb, All, item_of_index_has_property, cases_lt, length-append}
-use Rattle.am_repair.proofs.RepairWords.{if◌then◌else◌, MayFound, Act, Rules, place_of_name, has, names_of, Packet, Letter, Letter, letter_to, letter_at, Event, Entry, Data, Leave}
-use Rattle.am_repair.proofs.RepairWords.{Image, Log, top_of_log, image_of_log, members_of_image, log_members_at, log_entry_at, log_image_at, counting_names_at, counting_names_of_entry, log_with_entry, fits, after}
-use Rattle.am_repair.proofs.RepairWords.{image_at_top_is_told, slice_get_of_append_back, Node, Ballot, top, image_of_node, members, push_entry, is_sequencer, is_asking_status, has_departed, other_members, size}
+use Rattle.am_repair.proofs.RepairWords.{◌≡◌, inl, inr, either, ℕ, zero, suc, ◌+◌, ◌-◌, ◌<◌, ◌≤◌, ◌==◌, Bool, true, false, List, [], ◌∷◌, ◌++◌, length, Some}
+use Rattle.am_repair.proofs.RepairWords.{slice_get, refl, sym, ap, ◌∙◌, subst, arith, split_on_bool, nat_tests, eqb-true, All, All-head, All-tail, item_of_index_has_property, cases_lt, length-append}
+use Rattle.am_repair.proofs.RepairWords.{if◌then◌else◌, MayFound, Act, Rules, has, names_of, Packet, Letter, Letter, letter_to, letter_at, Event, Entry, Data, Leave}
+use Rattle.am_repair.proofs.RepairWords.{Image, Log, top_of_log, image_of_log, members_of_image, log_members_at, log_entry_at, log_image_at, counting_names_of_entry, log_with_entry, fits, after}
+use Rattle.am_repair.proofs.RepairWords.{image_at_top_is_told, slice_get_of_append_back, Node, Ballot, image_of_node, members, push_entry, is_sequencer, is_asking_status, has_departed, other_members, size}
 use Rattle.am_repair.proofs.RepairWords.{accept_packet_of, sends_accept, Plan, plan_without_letters, finish, step, row, refresh, refresh_at_end, settle_waiting_send, refresh_as_sequencer, raise_own_report, tell_accept_front, advance_with_reports}
 use Rattle.am_repair.proofs.RepairWords.{trim_to_least_taken, raise_accepted_to_told, pass_over_below_join, CoreState, Stamp, Report, Outcome, BallotVerdict, StepResult, World, is_stopped, run, start, happens, world_after_events}
-use Rattle.am_repair.proofs.RepairWords.{world_with_record, world_with_step, event_at, runs_go_on, Cause, calls, hears, refuses, CauseHasReport, LooksAtBallot, IsNumberedBy, asked_send, own_send}
+use Rattle.am_repair.proofs.RepairWords.{world_with_record, world_with_step, event_at, runs_go_on, Cause, calls, hears, LooksAtBallot, IsNumberedBy, asked_send, own_send}
 use Rattle.am_repair.proofs.RepairWords.{asked_join, asked_leave, Change, refreshes, settles, takes_report, admits, numbers, keeps_body, notes, stores, begins_list}
 use Rattle.am_repair.proofs.RepairWords.{departs, promises, opens, looks, fetches, stores_view, queues, collects, takes, asks_to_join, asks_to_leave, closes}
 use Rattle.am_repair.proofs.RepairWords.{invited, overtaken, told_result, Changes, no_change, changed, settle_changes_only_sends, refresh_rests_with_list, end_refresh_rests_with_list, stamp_eq_gives_equality, acting_name, IsCause}
 use Rattle.am_repair.proofs.RepairWords.{WasSentTo, packet_heard_by_act, Effect, LetterSays, Says, actor_is_below_256, heard_stamps_have_names, HeardStampsHaveNames, HeardWelcomeImageIsUsed, heard_welcome_image_is_used, TrimsOnlyTakenAlongStep, changes_trim_only_taken}
-use Rattle.am_repair.proofs.RepairWords.{each_node_trims_only_taken, WorldTrimsOnlyTaken, run_trims_only_taken, NodeTrimFronts, told_image_is_used, UnusedPlacesHaveNoLife, Repair, LeadsCalmly, Calm, IsOurs, our_ticks, hears_}
+use Rattle.am_repair.proofs.RepairWords.{each_node_trims_only_taken, WorldTrimsOnlyTaken, run_trims_only_taken, NodeTrimFronts, told_image_is_used, UnusedPlacesHaveNoLife, Repair, LeadsCalmly, IsOurs, our_ticks, hears_}
 use Rattle.am_step_laws.specs.Looks.{finds_itself_out}
 use Rattle.am_step_laws.specs.Letters.{join_ask}
 use Rattle.am_step_laws.specs.Causes.{CauseHasSend, by_request, by_spread}
@@ -37,6 +37,7 @@ use Rattle.am_repair.proofs.Silent.{step_sends_nothing_or_stays, sender_of_effec
 use Rattle.am_repair.proofs.Fine.{WorldKeepsLawsAndCalm, letters_grow_by_event}
 use Rattle.am_repair.proofs.Answered.Outs.{AllSendsHaveGoneOut, greatest_requests_gone_out, PacketHasGoneOut, run_sends_have_gone_out}
 use Rattle.am_repair_takes.specs.Taking.{IsTaking, ours, takes_one}
+use Rattle.am_repair_takes.specs.Quiet.{GoesOnBySends, NoAsk, Quiet, QuietStays}
 use Rattle.am_repair_takes.specs.Resting.{NobodyAsks, count_of_unnumbered_sends}
 use Rattle.am_repair_takes.proofs.Rows.{Took, nothing as none_taken, next as one_taken, take_is, take_node, take_alike}
 use Rattle.am_repair_takes.proofs.Calm.{one_fine}
@@ -46,12 +47,10 @@ use Rattle.am_repair_takes.proofs.Stands.{IsNumbered, last_rises, member_stays, 
 
 -- ---- the sequencer's list
 
--- From where it went on it told the same members, and by sends alone; its entries fit. And as many entries as it has, with the sends that it
--- hasn't numbered, are no more than so many.
+-- it goes on by sends, and as many entries as it has, with the sends that it hasn't numbered, are no more than so many
 pub record Ours (r : Repair) (last : ℕ → ℕ) (total : ℕ) (log : Log) : Type 0 where
-  pub members_ : (k : ℕ) → r.high ≤ k → k ≤ top_of_log log → log_members_at log k ≡ r.members
-  pub counted_ : (k : ℕ) → r.high < k → k ≤ top_of_log log → counting_names_at log k ≡ r.members
-  pub fit_ : (k : ℕ) (e : Entry) → log_entry_at log k ≡ Some e → fits (log_image_at log (k - 1)) e ≡ true
+  pub goes : GoesOnBySends r.members r.high log
+  pub open goes use *
   pub few : top_of_log log + count_of_unnumbered_sends last (image_of_log log) (names_of r.members) ≤ total
 
 pub members_now : (r : Repair) (last : ℕ → ℕ) (total : ℕ) (log : Log) → r.high ≤ top_of_log log → Ours r last total log → members_of_image (image_of_log log) ≡ r.members
@@ -85,30 +84,32 @@ ours_pushed r last total log from req body long used high fit there low h =
     let told_ = told_by_pushed_entry log e in
     let members_new = members_now r last total log high h in
     record {
-      members_ = λ k above within. elim (cases_lt k (top_of_log log + 1)) [
-        | inl old ↦ ap members_of_image (grows.image k (omega arith)) ∙ h.members_ k above (omega arith)
-        | inr now ↦ (let at : k ≡ top_of_log new = omega arith in
-            ap (log_members_at new) at ∙ ap members_of_image (image_at_top_is_told new ∙ told_) ∙ members_of_after_data (image_of_log log) (top_of_log log + 1) from req body ∙ members_new)
-      ];
-      counted_ = λ k above within. elim (cases_lt k (top_of_log log + 1)) [
-        | inl old ↦ counted_at_in_grown_log log new k grows (omega arith) ∙ h.counted_ k above (omega arith)
-        | inr now ↦ (let at : k ≡ top_of_log log + 1 = omega arith in
-            let entry : log_entry_at new k ≡ Some e = ap (log_entry_at new) at ∙ entry_last log e in
-            let before : k - 1 ≡ top_of_log log = omega arith in
-            ap (λ x. counting_names_of_entry x (log_members_at new (k - 1))) entry ∙ ap (log_members_at new) before
-            ∙ ap members_of_image (grows.image (top_of_log log) (omega arith)) ∙ h.members_ (top_of_log log) high (omega arith))
-      ];
-      fit_ = λ k x is. elim (cases_lt k (top_of_log log + 1)) [
-        | inl old ↦ ap (λ (i : Image). fits i x) (grows.image (k - 1) (omega arith)) ∙ h.fit_ k x (sym (grows.entry k (omega arith)) ∙ is)
-        | inr now ↦ (let within = entry_at_is_within_log new k x is in
-            let high_ = within.1 in
-            let at : k ≡ top_of_log log + 1 = omega arith in
-            let same : Some e ≡ Some x = sym (entry_last log e) ∙ ap (log_entry_at new) (sym at) ∙ is in
-            let entry : e ≡ x = cc in
-            let before : k - 1 ≡ top_of_log log = omega arith in
-            ap (λ y. fits (log_image_at new (k - 1)) y) (sym entry) ∙ ap (λ j. fits (log_image_at new j) e) before
-            ∙ ap (λ (i : Image). fits i e) (grows.image (top_of_log log) (omega arith) ∙ image_at_top_is_told log) ∙ fit)
-      ];
+      goes = record {
+        members_ = λ k above within. elim (cases_lt k (top_of_log log + 1)) [
+          | inl old ↦ ap members_of_image (grows.image k (omega arith)) ∙ h.members_ k above (omega arith)
+          | inr now ↦ (let at : k ≡ top_of_log new = omega arith in
+              ap (log_members_at new) at ∙ ap members_of_image (image_at_top_is_told new ∙ told_) ∙ members_of_after_data (image_of_log log) (top_of_log log + 1) from req body ∙ members_new)
+        ];
+        counted_ = λ k above within. elim (cases_lt k (top_of_log log + 1)) [
+          | inl old ↦ counted_at_in_grown_log log new k grows (omega arith) ∙ h.counted_ k above (omega arith)
+          | inr now ↦ (let at : k ≡ top_of_log log + 1 = omega arith in
+              let entry : log_entry_at new k ≡ Some e = ap (log_entry_at new) at ∙ entry_last log e in
+              let before : k - 1 ≡ top_of_log log = omega arith in
+              ap (λ x. counting_names_of_entry x (log_members_at new (k - 1))) entry ∙ ap (log_members_at new) before
+              ∙ ap members_of_image (grows.image (top_of_log log) (omega arith)) ∙ h.members_ (top_of_log log) high (omega arith))
+        ];
+        fit_ = λ k x is. elim (cases_lt k (top_of_log log + 1)) [
+          | inl old ↦ ap (λ (i : Image). fits i x) (grows.image (k - 1) (omega arith)) ∙ h.fit_ k x (sym (grows.entry k (omega arith)) ∙ is)
+          | inr now ↦ (let within = entry_at_is_within_log new k x is in
+              let high_ = within.1 in
+              let at : k ≡ top_of_log log + 1 = omega arith in
+              let same : Some e ≡ Some x = sym (entry_last log e) ∙ ap (log_entry_at new) (sym at) ∙ is in
+              let entry : e ≡ x = cc in
+              let before : k - 1 ≡ top_of_log log = omega arith in
+              ap (λ y. fits (log_image_at new (k - 1)) y) (sym entry) ∙ ap (λ j. fits (log_image_at new j) e) before
+              ∙ ap (λ (i : Image). fits i e) (grows.image (top_of_log log) (omega arith) ∙ image_at_top_is_told log) ∙ fit)
+        ];
+      };
       few =
           (let less = numbered_one last (image_of_log log) (top_of_log log + 1) from req body r.members long used members_new fit there low in
           let same = ap (λ (i : Image). count_of_unnumbered_sends last i (names_of r.members)) told_ in
@@ -133,7 +134,7 @@ pub record Leading (r : Repair) (last : ℕ → ℕ) (total : ℕ) (q m : Node) 
   pub sent : m.sends.last ≡ last r.by
   pub kept : Kept r q m
 
-base_refreshed : (m : Node) → m.core.base ≤ (refresh m).core.base
+pub base_refreshed : (m : Node) → m.core.base ≤ (refresh m).core.base
 unfolding refresh refresh_as_sequencer raise_own_report tell_accept_front advance_with_reports trim_to_least_taken raise_accepted_to_told pass_over_below_join
 base_refreshed m = split_on_bool (is_sequencer m)
     (λ t. rw t (base_after_keeps_lower_bound m.core.base m.core.base _ (omega arith)))
@@ -313,9 +314,6 @@ same_changes m n mild (changed {n = x} one more) =
     record { asks = λ f. b.asks (a.asks f); last = b.last ∙ a.last }
 
 -- a packet that isn't a request to join
-abbrev pub NoAsk : Packet → Type 0
-NoAsk (Packet.JoinAsk s v) = ⊥
-NoAsk _ = Unit {0}
 
 says_no_ask : (m n : Node) (c : Cause) (to : List ℕ) (p : Packet) → is_asking_status n.status ≡ false → Says m c n to p → NoAsk p
 says_no_ask m n c to p f (join_ask _ asks) = absurd (cc)
@@ -345,29 +343,28 @@ sent_no_ask r w e s k f =
 
 -- ---- a quiet world
 
-pub record Quiet (rules : Rules) (r : Repair) (last : ℕ → ℕ) (total : ℕ) (w : World) : Type 0 where
+-- of a run
+pub record QuietRun (rules : Rules) (r : Repair) (last : ℕ → ℕ) (total : ℕ) (w : World) : Type 0 where
   pub may : MayFound rules
   pub events : List Event
   pub run_ : w ≡ run rules events
-  pub calm : Calm r w
-  pub sent : r.sent ≤ length w.letters
-  pub places : length r.members ≡ 16
-  pub list : Ours r last total (w.nodes r.by).core.log
-  pub asks : NobodyAsks w
-  pub letters : (number : ℕ) (l : Letter) → r.sent < number → letter_at w.letters number ≡ Some l → NoAsk l.packet
-  pub lasts : (name : ℕ) → (w.nodes name).sends.last ≡ last name
+  pub world_is_quiet : Quiet r last total w
+  pub open world_is_quiet use *
 
-pub laws_of : (rules : Rules) (r : Repair) (last : ℕ → ℕ) (total : ℕ) (w : World) → Quiet rules r last total w → WorldTrimsOnlyTaken rules w
+pub ours_of : (rules : Rules) (r : Repair) (last : ℕ → ℕ) (total : ℕ) (w : World) → QuietRun rules r last total w → Ours r last total (w.nodes r.by).core.log
+ours_of rules r last total w h = record { goes = h.list; few = h.few }
+
+pub laws_of : (rules : Rules) (r : Repair) (last : ℕ → ℕ) (total : ℕ) (w : World) → QuietRun rules r last total w → WorldTrimsOnlyTaken rules w
 laws_of rules r last total w h = subst (WorldTrimsOnlyTaken rules) (sym h.run_) (run_trims_only_taken rules h.events h.may)
 
-pub fine_of : (rules : Rules) (r : Repair) (last : ℕ → ℕ) (total : ℕ) (w : World) → Quiet rules r last total w → WorldKeepsLawsAndCalm rules r w
+pub fine_of : (rules : Rules) (r : Repair) (last : ℕ → ℕ) (total : ℕ) (w : World) → QuietRun rules r last total w → WorldKeepsLawsAndCalm rules r w
 fine_of rules r last total w h = record { laws = laws_of rules r last total w h; calm = h.calm }
 
-pub numbered_of : (rules : Rules) (r : Repair) (last : ℕ → ℕ) (total : ℕ) (w : World) (name : ℕ) → Quiet rules r last total w → name < 256
+pub numbered_of : (rules : Rules) (r : Repair) (last : ℕ → ℕ) (total : ℕ) (w : World) (name : ℕ) → QuietRun rules r last total w → name < 256
     → IsNumbered (w.nodes name)
 numbered_of rules r last total w name h few = subst (λ (u : World). IsNumbered (u.nodes name)) (sym h.run_) (run_numbered rules h.events h.may name few)
 
-out_of : (rules : Rules) (r : Repair) (last : ℕ → ℕ) (total : ℕ) (w : World) → Quiet rules r last total w → AllSendsHaveGoneOut w
+out_of : (rules : Rules) (r : Repair) (last : ℕ → ℕ) (total : ℕ) (w : World) → QuietRun rules r last total w → AllSendsHaveGoneOut w
 out_of rules r last total w h = subst AllSendsHaveGoneOut (sym h.run_) (run_sends_have_gone_out rules h.events h.may)
 
 -- the world after an event, and that its sequencer has no less
@@ -381,11 +378,11 @@ record Next (rules : Rules) (r : Repair) (last : ℕ → ℕ) (total : ℕ) (w v
 kept_same : (r : Repair) (m n : Node) → n ≡ m → Kept r m n
 kept_same r m n same = subst (Kept r m) (sym same) (record { base = omega arith; taken = λ name. omega arith })
 
-next_recorded : (rules : Rules) (r : Repair) (last : ℕ → ℕ) (total : ℕ) (w : World) (e : Event) (o : Outcome) → Quiet rules r last total w
+next_recorded : (rules : Rules) (r : Repair) (last : ℕ → ℕ) (total : ℕ) (w : World) (e : Event) (o : Outcome) → QuietRun rules r last total w
     → Next rules r last total w (world_with_record w e o)
 unfolding world_with_record
 next_recorded rules r last total w e o h = record {
-  list = h.list;
+  list = ours_of rules r last total w h;
   kept = kept_same r (w.nodes r.by) (w.nodes r.by) refl;
   asks = h.asks;
   letters = h.letters;
@@ -399,7 +396,7 @@ record IsStep (rules : Rules) (r : Repair) (last : ℕ → ℕ) (total : ℕ) (w
   letters : AreNoAsks s.letters
   leads : name ≡ r.by → Ours r last total s.node.core.log × Kept r (w.nodes r.by) s.node
 
-next_stepped : (rules : Rules) (r : Repair) (last : ℕ → ℕ) (total : ℕ) (w : World) (e : Event) (name : ℕ) (s : StepResult) → Quiet rules r last total w
+next_stepped : (rules : Rules) (r : Repair) (last : ℕ → ℕ) (total : ℕ) (w : World) (e : Event) (name : ℕ) (s : StepResult) → QuietRun rules r last total w
     → IsStep rules r last total w name s → Next rules r last total w (world_with_step w e name s)
 unfolding world_with_step AreNoAsks
 next_stepped rules r last total w e name s h k =
@@ -407,7 +404,7 @@ next_stepped rules r last total w e name s h k =
     record {
       list = split_on_bool (r.by == name)
           (λ t. let same : name ≡ r.by = sym (eqb-true r.by name t) in rw t (k.leads same).0)
-          (λ f. rw f h.list);
+          (λ f. rw f (ours_of rules r last total w h));
       kept = split_on_bool (r.by == name)
           (λ t. let same : name ≡ r.by = sym (eqb-true r.by name t) in rw t (k.leads same).1)
           (λ f. kept_same r (w.nodes r.by) (v.nodes r.by) (rw f refl));
@@ -430,7 +427,7 @@ no_join_heard w e c name cause none s v is =
     let was : WasSentTo w name e.act (Packet.JoinAsk s v) = subst (IsCause w name e.act) is cause in
     subst NoAsk was.is (none was.letter was.there)
 
-asks_few : (rules : Rules) (r : Repair) (last : ℕ → ℕ) (total : ℕ) (w : World) (e : Event) (c : Cause) → Quiet rules r last total w
+asks_few : (rules : Rules) (r : Repair) (last : ℕ → ℕ) (total : ℕ) (w : World) (e : Event) (c : Cause) → QuietRun rules r last total w
     → IsCause w (acting_name w e) e.act c → AsksFew last c
 asks_few rules r last total w e c h cause s v report req body (by_request s_ v_ report_ req_ body_) =
     let all = out_of rules r last total w h in
@@ -450,7 +447,7 @@ ours_heard : (r : Repair) (w : World) (e : Event) → IsOurs r e
 ours_heard r w e (our_ticks place) h l there = absurd (cc)
 ours_heard r w e (hears_ place number late) h l there = h number l late there
 
-our_step : (rules : Rules) (r : Repair) (last : ℕ → ℕ) (total : ℕ) (w : World) (e : Event) (s : StepResult) → IsOurs r e → Quiet rules r last total w
+our_step : (rules : Rules) (r : Repair) (last : ℕ → ℕ) (total : ℕ) (w : World) (e : Event) (s : StepResult) → IsOurs r e → QuietRun rules r last total w
     → StepOfSchedule r w e s → IsStep rules r last total w (acting_name w e) s
 our_step rules r last total w e s is h k =
     let name = acting_name w e in
@@ -470,7 +467,7 @@ our_step rules r last total w e s is h k =
           (no_join_heard w e c name k.is (ours_heard r w e is h.letters)) (asks_few rules r last total w e c h k.is) h.places h.calm.listed
           (heard_stamps_have_names rules w e c laws.blanks.base k.is) (heard_welcome_image_is_used rules w e c laws k.is) effect.changes along (sequencer_goes_on_from_itself r w h.calm)
           (record {
-            list = h.list;
+            list = ours_of rules r last total w h;
             numbered = numbered_of rules r last total w r.by h (subst (λ i. i < 256) same few);
             sent = h.lasts r.by;
             kept = record { base = omega arith; taken = λ i. omega arith };
@@ -478,7 +475,7 @@ our_step rules r last total w e s is h k =
           (z.list, z.kept));
     }
 
-next_ours : (rules : Rules) (r : Repair) (last : ℕ → ℕ) (total : ℕ) (w : World) (e : Event) (v : World) → IsOurs r e → Quiet rules r last total w
+next_ours : (rules : Rules) (r : Repair) (last : ℕ → ℕ) (total : ℕ) (w : World) (e : Event) (v : World) → IsOurs r e → QuietRun rules r last total w
     → Does r w e v → Next rules r last total w v
 next_ours rules r last total w e v is h (idles o) = next_recorded rules r last total w e o h
 next_ours rules r last total w e v is h (steps s k) = next_stepped rules r last total w e (acting_name w e) s h (our_step rules r last total w e s is h k)
@@ -517,7 +514,7 @@ kept_take r m =
     subst (Kept r m) (sym (take_node m)) (kept_end r m k.node a)
 
 next_taken : (rules : Rules) (r : Repair) (last : ℕ → ℕ) (total : ℕ) (w : World) (e : Event) (name : ℕ) → is_stopped w name ≡ false
-    → Quiet rules r last total w → Next rules r last total w (world_with_step w e name (step (w.nodes name) does.Take))
+    → QuietRun rules r last total w → Next rules r last total w (world_with_step w e name (step (w.nodes name) does.Take))
 next_taken rules r last total w e name runs h =
     let m = w.nodes name in
     let s = step m does.Take in
@@ -526,12 +523,12 @@ next_taken rules r last total w e name runs h =
       same = same_changes m s.node tt (steps_have_effects m does.Take).changes;
       letters = take_asks m;
       leads = λ same. (
-        subst (λ (l : Log). Ours r last total l) (sym (take_alike m).log) (subst (λ i. Ours r last total (w.nodes i).core.log) (sym same) h.list),
+        subst (λ (l : Log). Ours r last total l) (sym (take_alike m).log) (subst (λ i. Ours r last total (w.nodes i).core.log) (sym same) (ours_of rules r last total w h)),
         subst (λ i. Kept r (w.nodes i) s.node) same (kept_take r m),
       );
     })
 
-next_take : (rules : Rules) (r : Repair) (last : ℕ → ℕ) (total : ℕ) (w : World) (place : ℕ) → Quiet rules r last total w
+next_take : (rules : Rules) (r : Repair) (last : ℕ → ℕ) (total : ℕ) (w : World) (place : ℕ) → QuietRun rules r last total w
     → Next rules r last total w (happens w (event_at place Act.Take))
 unfolding happens
 next_take rules r last total w place h =
@@ -544,7 +541,7 @@ next_take rules r last total w place h =
 
 -- ---- each event
 
-next_of : (rules : Rules) (r : Repair) (last : ℕ → ℕ) (total : ℕ) (w : World) (e : Event) → IsTaking r e → Quiet rules r last total w
+next_of : (rules : Rules) (r : Repair) (last : ℕ → ℕ) (total : ℕ) (w : World) (e : Event) → IsTaking r e → QuietRun rules r last total w
     → Next rules r last total w (happens w e)
 next_of rules r last total w e (ours e_ is) h = next_ours rules r last total w e (happens w e) is h (does_ours r w e is h.calm)
 next_of rules r last total w e (takes_one place) h = next_take rules r last total w place h
@@ -553,8 +550,8 @@ one_more : (rules : Rules) (before : List Event) (e : Event) → happens (run ru
 unfolding world_after_events
 one_more rules before e = sym (runs_go_on (start rules) before (e ∷ []))
 
-pub quiet_goes : (rules : Rules) (r : Repair) (last : ℕ → ℕ) (total : ℕ) (w : World) (e : Event) → IsTaking r e → Quiet rules r last total w
-    → Quiet rules r last total (happens w e)
+pub quiet_goes : (rules : Rules) (r : Repair) (last : ℕ → ℕ) (total : ℕ) (w : World) (e : Event) → IsTaking r e → QuietRun rules r last total w
+    → QuietRun rules r last total (happens w e)
 quiet_goes rules r last total w e is h =
     let n = next_of rules r last total w e is h in
     let more = letters_grow_by_event w e in
@@ -563,15 +560,33 @@ quiet_goes rules r last total w e is h =
       may = h.may;
       events = h.events ++ e ∷ [];
       run_ = ap (λ u. happens u e) h.run_ ∙ one_more rules h.events e;
-      calm = (one_fine rules r w e is (fine_of rules r last total w h)).calm;
-      sent = omega arith;
-      places = h.places;
-      list = n.list;
-      asks = n.asks;
-      letters = n.letters;
-      lasts = n.lasts;
+      world_is_quiet = record {
+        calm = (one_fine rules r w e is (fine_of rules r last total w h)).calm;
+        sent = omega arith;
+        places = h.places;
+        list = n.list.goes;
+        few = n.list.few;
+        asks = n.asks;
+        letters = n.letters;
+        lasts = n.lasts;
+      };
     }
 
-pub kept_goes : (rules : Rules) (r : Repair) (last : ℕ → ℕ) (total : ℕ) (w : World) (e : Event) → IsTaking r e → Quiet rules r last total w
+pub kept_goes : (rules : Rules) (r : Repair) (last : ℕ → ℕ) (total : ℕ) (w : World) (e : Event) → IsTaking r e → QuietRun rules r last total w
     → Kept r (w.nodes r.by) ((happens w e).nodes r.by)
 kept_goes rules r last total w e is h = (next_of rules r last total w e is h).kept
+
+-- ---- a run that goes on
+
+quiet_happens : (rules : Rules) (r : Repair) (last : ℕ → ℕ) (total : ℕ) (more : List Event) (w : World) → All (IsTaking r) more → QuietRun rules r last total w
+    → QuietRun rules r last total (world_after_events w more)
+unfolding world_after_events
+quiet_happens rules r last total [] w all h = h
+quiet_happens rules r last total (e ∷ more) w all h =
+    quiet_happens rules r last total more (happens w e) (All-tail (IsTaking r) e more all)
+    (quiet_goes rules r last total w e (All-head (IsTaking r) e more all) h)
+
+pub quiet_stays : QuietStays
+quiet_stays rules events more r last total may h all =
+    let z = quiet_happens rules r last total more (run rules events) all (record { may = may; events = events; run_ = refl; world_is_quiet = h }) in
+    subst (Quiet r last total) (sym (runs_go_on (start rules) events more)) z.world_is_quiet

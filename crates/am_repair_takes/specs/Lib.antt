@@ -1,2 +1,4 @@
 pub mod Taking
 pub mod Resting
+pub mod Quiet
+pub mod Numbering
