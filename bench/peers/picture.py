@@ -6,7 +6,7 @@ import statistics
 from measure import Flood, Single
 from table import Results
 
-WIDTH, LEFT, RIGHT, BAR, GAP, HEAD = 760, 210, 90, 15, 26, 34
+WIDTH, LEFT, RIGHT, BAR, GAP, HEAD = 760, 210, 130, 15, 26, 34
 COLOURS = ["#1b6ca8", "#0a3d62", "#3c9d9b", "#0f6e6c", "#c0392b", "#e08e45", "#888888", "#444444"]
 STYLE = "text{font:13px sans-serif;fill:#222} .head{font-weight:bold} .small{font-size:12px;fill:#555} rect.back{fill:#fff}"
 
@@ -22,7 +22,7 @@ def panels(results: Results) -> list[tuple[str, str, tuple]]:
     """What is drawn: a title, a unit, and what the cells begin with."""
     found = [("One message of 64 bytes at a time, to the last member: median", "us", ("latency", 3, shown)) for shown in ("open", "sealed")]
     sizes = sorted({cell[2] for cell in results.values if cell[0] == "throughput"})
-    found += [(f"Messages of {size} bytes a second, all send", "a second", ("throughput", 3, size, "all", "sealed")) for size in sizes]
+    found += [(f"Messages of {size:,} bytes a second, all send", "a second", ("throughput", 3, size, "all", "sealed")) for size in sizes]
     return found
 
 
@@ -45,7 +45,8 @@ def drawn(results: Results, groups: list[str]) -> str:
         at += HEAD
         for group, value, colour in those:
             long = max(1, round((WIDTH - LEFT - RIGHT) * value / most))
-            lines.append(f'<text x="{LEFT - 8}" y="{at + 12}" text-anchor="end">{html.escape(group)}</text>')
+            name = f"Muoswyld, {group}" if group.startswith("r = ") else group
+            lines.append(f'<text x="{LEFT - 8}" y="{at + 12}" text-anchor="end">{html.escape(name)}</text>')
             lines.append(f'<rect x="{LEFT}" y="{at}" width="{long}" height="{BAR}" fill="{colour}"/>')
             lines.append(f'<text class="small" x="{LEFT + long + 6}" y="{at + 12}">{value:,.0f} {unit}</text>')
             at += BAR + 5
