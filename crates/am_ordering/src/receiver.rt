@@ -56,16 +56,9 @@ fn note(parts: &mut Parts, base: u32, acc: u32)
     ensures leads { is_sequencer (node_of parts.new) ≡ is_sequencer (node_of parts.old) }
     ensures order { CoreFrontsAreInOrder parts.new.core }
 {
-    let _before = parts.accept_front();
+    let _before = parts.accept_front(); // for its order
     note_fronts(&mut parts.core, base, acc);
-    let _after = parts.accept_front();
-}
-
-/// Whether the node's own Leave stands in its list.
-fn has_left(parts: &Parts) -> bool
-    ensures { result ≡ has_own_leave (node_of parts.now) }
-{
-    0 < parts.core.log.row(parts.core.who).left
+    let _after = parts.accept_front(); // for its order
 }
 
 /// Whether an entry up to a number isn't stored that the node may still store.
@@ -73,7 +66,7 @@ fn is_short_of(parts: &Parts, high: u32) -> bool
     ensures { result ≡ (nat_lt (top (node_of parts.now)) high
         && not (has_own_leave (node_of parts.now))) }
 {
-    parts.core.log.top() < high && !has_left(parts)
+    parts.core.log.top() < high && !parts.has_own_leave()
 }
 
 /// An Ack to a name, where it is due.
@@ -116,7 +109,7 @@ fn receive_entry<'a>(parts: &mut Parts, told: Told, found: Found) -> Reply<'a>
     if told.number <= top {
         return quiet(Outcome::Known);
     }
-    if has_left(parts) {
+    if parts.has_own_leave() {
         return quiet(Outcome::Behind);
     }
     if top + 1 < told.number {

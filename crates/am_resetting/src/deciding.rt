@@ -1,6 +1,7 @@
 ghost use Rattle.std.specs.Prelude.{◌≡◌, ◌<◌, ◌≤◌, ◌+◌, ◌-◌, max, nat_lt, Some, true, false, length, unwrap_or};
 ghost use Rattle.am_node_parts.specs.Prelude.{greatest_number, EntryIsInRange, fits, image_of_log, top_of_log, has, names_of, size, CoreFrontsAreInOrder, Node, push_entry, trim_node_up_to, ChangesAllAlike, IsEndOf, IsOwnBallot, IsSteady, NodeKeeps, node_of};
 ghost use Rattle.am_base.specs.Outcomes.{is_outcome_took};
+ghost use Rattle.am_node_defs.specs.Kept.{IsKept};
 ghost use Rattle.am_base.specs.declared.entry.Entry.TheVariants.{View};
 ghost use Rattle.am_model.specs.Ballots.{ballot_with_end, ballot_with_answer, decide, decided_view, decide_view, trim_to_least_taken_by, taken_number_of_voter};
 ghost use Rattle.am_node_defs.specs.Reports.{reports_beginning_at, least_of_names};
@@ -9,13 +10,11 @@ ghost use Rattle.am_resetting.specs.Deciding.{BallotIsAnswered, IsTakenOut, MayB
 ghost use Rattle.am_node_parts.specs.Verdicts.{VerdictComesTo, IsTold};
 
 use crate::promising::put_back;
-use crate::reading::{base_of, name_of};
 use am_ballots::ballot::Ballot;
 use am_base::entry::{EntryParts, EntryRef, GroupView};
 use am_base::names::Names;
 use am_base::outcome::Outcome;
 use am_node_parts::parts::Parts;
-use am_node_parts::votes::own_vote;
 use am_node_storage::log::Log;
 
 /// Trims the list up to a base, where that is greater.
@@ -55,7 +54,7 @@ pub fn store(parts: &mut Parts, base: u32, entry: &EntryRef)
     ensures order { CoreFrontsAreInOrder parts.new.core }
 {
     trim(parts, base);
-    let _before = parts.accept_front();
+    let _before = parts.accept_front(); // for what it keeps
     push(parts, entry);
 }
 
@@ -101,9 +100,10 @@ fn decided_answer(parts: &Parts, names: Names) -> Outcome
     requires { top_of_log parts.now.core.log < greatest_number }
     ensures value { result ≡ Outcome.Decided (top_of_log parts.now.core.log + 1) names }
     ensures told { IsTold result }
+    ensures kept { IsKept parts.now.core.log (parts.now.core.rules.window + 15) }
 {
     Outcome::Decided {
-        number: parts.core.log.top() + 1,
+        number: parts.top() + 1,
         members: names,
     }
 }
@@ -142,9 +142,8 @@ fn push_view(parts: &mut Parts, ballot: &mut Ballot, names: Names) -> Outcome
     ensures told { IsTold result }
     ensures own { IsOwnBallot (node_of parts.new) (ballot_of ballot.new) }
 {
-    let _before = parts.accept_front();
     let answer = decided_answer(parts, names);
-    let base = base_of(parts);
+    let base = parts.base();
     push(parts, &view_of(parts, ballot, names));
     restart(parts, base);
     close(ballot, answer)
@@ -201,8 +200,8 @@ fn look(parts: &mut Parts, ballot: &mut Ballot) -> Outcome
     ensures told { IsTold result }
     ensures own { IsOwnBallot (node_of parts.new) (ballot_of ballot.new) }
 {
-    let own = own_vote(parts);
-    let who = name_of(parts);
+    let own = parts.own_vote();
+    let who = parts.name();
     let best = ballot.best(who, &own);
     let needed = best.members();
     if !needed.has(who) {

@@ -30,6 +30,6 @@ returns c =
     ∙ decide_without_own_ballot (node_with_promise old (next_stamp old)) None b in
     let comes : VerdictComesTo (decide (node_with_promise old (next_stamp old)) b) c.decide-outcome.result new =
     subst (λ v. VerdictComesTo v c.decide-outcome.result new) same (c.decide-outcome.ensures.comes mid (untrimmed_node_ends_itself mid kept)) in
-    equal_reply_of_plan (begin_ballot old c.args.least c.args.resilience) c.asking.result (reply_asking_names c.decide-outcome.result c.others_of-invited.result false) new c.asking.ensures
+    equal_reply_of_plan (begin_ballot old c.args.least c.args.resilience) c.asking.result (reply_asking_names c.decide-outcome.result c.others-invited.result false) new c.asking.ensures
     (reply_asks_names_of_ballot (decide (node_with_promise old (next_stamp old)) b) new c.decide-outcome.result
-    (other_members old) c.others_of-invited.result comes c.decide-outcome.ensures.told c.others_of-invited.ensures)
+    (other_members old) c.others-invited.result comes c.decide-outcome.ensures.told c.others-invited.ensures.value)
