@@ -6,8 +6,8 @@ ghost use Rattle.am_lawful_defs.specs.Watching.{watching_at_start, blank_standin
 ghost use Rattle.am_lawful_watch.specs.Watchers.{watching_of, HasWatchRoom};
 
 use crate::views::{
-    blank_standing, decides, first_standing, first_view, has_departed, is_alike, new_pending,
-    place_in_each, store_in_each,
+    blank_standing, decides, first_standing, first_view, is_alike, new_pending, place_in_each,
+    store_in_each,
 };
 use am_base::NoMemory;
 use am_base::entry::Entry;
@@ -139,7 +139,7 @@ impl Watcher {
         if !self.standing(name).view.is_below(*v) {
             return false;
         }
-        if has_departed(self.standing(name).status) {
+        if self.standing(name).status.has_departed() {
             return false;
         }
         !self.has_stopped(name)
@@ -217,7 +217,7 @@ impl Watcher {
         ensures { result ≡ watch_is_lost (watching_of self.now) v.now name }
     {
         let standing = self.standing(name);
-        (v.view.members.has(name) || v.number < standing.start) && !has_departed(standing.status)
+        (v.view.members.has(name) || v.number < standing.start) && !standing.status.has_departed()
     }
 
     #[tactic(auto, unfolding(am_lawful_defs::specs::Watching::watch_is_lawful))]
