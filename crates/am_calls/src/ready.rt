@@ -1,5 +1,4 @@
 ghost use Rattle.std.specs.Prelude.{◌≡◌};
-ghost use Rattle.am_model.specs.Node.{has_log_by_status, has_departed};
 ghost use Rattle.am_node.specs.Stands.{state_of};
 ghost use Rattle.am_race_laws.specs.Ready.{invite_round, round_in, is_ended, send_is_settled, is_ready_after, may_take};
 
@@ -7,7 +6,6 @@ use crate::outcomes::ballot_answer;
 use am_base::outcome::Outcome;
 use am_group::event::Act;
 use am_model::info::BallotEnd;
-use am_model::status::Status;
 use am_node::node::Node;
 use am_packet::letter::Letter;
 use am_packet::packet::Packet;
@@ -34,18 +32,6 @@ pub fn round_in(letters: &[Letter]) -> u32
         }
     }
     0
-}
-
-fn has_log(status: Status) -> bool
-    ensures { result ≡ has_log_by_status status }
-{
-    matches!(status, Status::Member | Status::Departed)
-}
-
-fn has_departed(status: Status) -> bool
-    ensures { result ≡ has_departed status }
-{
-    matches!(status, Status::Departed)
 }
 
 /// Whether a ballot is over, with an answer.
@@ -83,8 +69,8 @@ pub fn is_ready_after(node: &Node, act: &Act, came: &Came) -> bool
 {
     match act {
         Act::Send(_) => is_sent(node, &came.outcome),
-        Act::Join => has_log(node.status()),
-        Act::Leave => has_departed(node.status()),
+        Act::Join => node.status().has_log(),
+        Act::Leave => node.status().has_departed(),
         Act::Reset { .. } => is_ended(&node.ballot(came.round)),
         _ => false,
     }

@@ -1,11 +1,10 @@
 ghost use Rattle.std.specs.Prelude.{◌≡◌, ◌+◌, ◌<◌, ◌≤◌, ◌++◌, [], ◌∷◌, length, drop, if◌then◌else◌};
 ghost use Rattle.am_base.specs.Most.{greatest_number, greatest_word};
-ghost use Rattle.am_model.specs.Node.{has_log_by_status};
 ghost use Rattle.am_lawful_defs.specs.Watching.{standing, watch_accepts, pass_event, note_stop, watching_with_entries};
 ghost use Rattle.am_lawful_defs.specs.Telling.{entry_of_heard_piece, list_begins_in_step, standing_after, list_of_option, views_stored_in_step, view_entry_of, watching_with_views, watching_after_told_step, stops_by_outcome};
 ghost use Rattle.am_lawful_watch.specs.Watchers.{watching_of, HasWatchRoom};
 
-use crate::views::{decides, is_member, is_same_stamp};
+use crate::views::decides;
 use crate::watcher::Watcher;
 use am_base::entry::Entry;
 use am_base::event::NodeEvent;
@@ -16,21 +15,11 @@ use am_model::status::Status;
 use am_packet::packet::Packet;
 use am_packet_reader::reader::decode;
 
-/// Whether a name of this status has or had a list.
-pub fn has_log(status: Status) -> bool
-    ensures { result ≡ has_log_by_status status }
-{
-    match status {
-        Status::Member | Status::Departed => true,
-        Status::Stranger | Status::Asking => false,
-    }
-}
-
 /// Whether the name's list began in a step.
 fn begins(before: &NameStanding, after: Status) -> bool
     ensures { result ≡ list_begins_in_step before.now after }
 {
-    !has_log(before.status) && is_member(after)
+    !before.status.has_log() && after.is_member()
 }
 
 /// How a name stands after a step, by what its node then shows.
@@ -116,9 +105,7 @@ fn store_views(watcher: &mut Watcher, step: &Stepped<'_>)
         (views_stored_in_step step.now.name step.now.before.now step.now.after.now step.now.view.now
         step.now.what.now) }
 {
-    if begins(step.before, step.after.status)
-        || is_same_stamp(&step.before.view, &step.after.view)
-    {
+    if begins(step.before, step.after.status) || step.before.view == step.after.view {
         return;
     }
     store_new_views(watcher, step, decides(step.before, step.name, step.after));
@@ -131,7 +118,7 @@ fn note_views(watcher: &mut Watcher, step: &Stepped<'_>)
     ensures { watching_of watcher.new ≡ watching_with_views (watching_of watcher.old) step.now.name
         step.now.before.now step.now.after.now step.now.view.now step.now.what.now }
 {
-    if is_same_stamp(&step.before.view, &step.after.view) {
+    if step.before.view == step.after.view {
         return;
     }
     watcher.decide(step.name, step.after, step.view);

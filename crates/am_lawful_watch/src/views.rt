@@ -1,50 +1,12 @@
 ghost use Rattle.std.specs.Prelude.{◌≡◌, map, if◌then◌else◌};
-ghost use Rattle.am_base.specs.Stamps.{stamps_are_equal};
-ghost use Rattle.am_model.specs.Node.{is_member, founding_stamp, has_departed};
-ghost use Rattle.am_lawful_defs.specs.Watching.{blank_standing, standing_at_start, founders_decided_view, flags_are_equal, standings_are_alike, watch_decides, new_pending, store_view, number_or_else, place_view};
+ghost use Rattle.am_model.specs.Node.{founding_stamp};
+ghost use Rattle.am_lawful_defs.specs.Watching.{blank_standing, standing_at_start, founders_decided_view, standings_are_alike, watch_decides, new_pending, store_view, number_or_else, place_view};
 
 use am_base::entry::GroupView;
 use am_base::founding::Founding;
 use am_base::name::{Name, Stamp};
 use am_lawful_defs::views::{DecidedView, NameStanding, Pending};
 use am_model::status::Status;
-
-/// Whether a name of this status is a member.
-pub fn is_member(status: Status) -> bool
-    ensures { result ≡ is_member status }
-{
-    match status {
-        Status::Stranger => false,
-        Status::Asking => false,
-        Status::Member => true,
-        Status::Departed => false,
-    }
-}
-
-/// Whether a name of this status has left.
-pub fn has_departed(status: Status) -> bool
-    ensures { result ≡ has_departed status }
-{
-    match status {
-        Status::Stranger => false,
-        Status::Asking => false,
-        Status::Member => false,
-        Status::Departed => true,
-    }
-}
-
-fn is_same_flag(a: bool, b: bool) -> bool
-    ensures { result ≡ flags_are_equal a b }
-{
-    if a { b } else { !b }
-}
-
-/// Whether two stamps are the same.
-pub fn is_same_stamp(a: &Stamp, b: &Stamp) -> bool
-    ensures { result ≡ stamps_are_equal a.now b.now }
-{
-    a.round == b.round && a.by == b.by
-}
 
 /// What a name shows before its first step.
 pub fn blank_standing() -> NameStanding
@@ -103,8 +65,8 @@ pub fn first_view(founding: &Founding) -> DecidedView
 pub fn is_alike(before: &NameStanding, after: &NameStanding) -> bool
     ensures { result ≡ standings_are_alike before.now after.now }
 {
-    is_same_stamp(&before.view, &after.view)
-        && is_same_flag(has_departed(before.status), has_departed(after.status))
+    before.view == after.view
+        && before.status.has_departed() == after.status.has_departed()
         && before.from == after.from
         && before.start == after.start
 }
@@ -113,7 +75,7 @@ pub fn is_alike(before: &NameStanding, after: &NameStanding) -> bool
 pub fn decides(before: &NameStanding, name: Name, after: &NameStanding) -> bool
     ensures { result ≡ watch_decides before.now name after.now }
 {
-    is_member(before.status) && after.view.by == name && !is_same_stamp(&before.view, &after.view)
+    before.status.is_member() && after.view.by == name && before.view != after.view
 }
 
 /// A view that nobody has stored.
@@ -130,7 +92,7 @@ pub fn new_pending(decided: &DecidedView) -> Pending
 fn store(v: &mut Pending, name: Name, stamp: &Stamp)
     ensures { v.new ≡ store_view name stamp.now v.old }
 {
-    if is_same_stamp(stamp, &v.decided.view.stamp) {
+    if *stamp == v.decided.view.stamp {
         v.stored[usize::from(name.get())] = true;
     }
 }
@@ -156,7 +118,7 @@ fn number_after(known: Option<u32>, is_it: bool, number: u32) -> Option<u32>
 fn place(v: &mut Pending, number: u32, stamp: &Stamp)
     ensures { v.new ≡ place_view number stamp.now v.old }
 {
-    let is_it = is_same_stamp(stamp, &v.decided.view.stamp);
+    let is_it = *stamp == v.decided.view.stamp;
     v.number_in_group = number_after(v.number_in_group, is_it, number);
 }
 

@@ -5,7 +5,6 @@ ghost use Rattle.am_model.specs.Hearing.{member_hears_other, member_or_asker_hea
 use am_base::name::{Name, Stamp};
 use am_model::status::Status;
 use am_node_parts::parts::Parts;
-use am_node_storage::log::Log;
 use am_packet::kind::PacketGate;
 use am_packet::packet::Packet;
 
@@ -13,22 +12,21 @@ use am_packet::packet::Packet;
 fn hears_member(parts: &Parts, from: Name) -> bool
     ensures { result ≡ member_hears_other (node_of parts.now) from }
 {
-    from != parts.core.who && parts.status == Status::Member
+    from != parts.name() && parts.is_member()
 }
 
 /// Whether a member, or a node that asks to join, hears another name's packet.
 fn hears_asking(parts: &Parts, from: Name) -> bool
     ensures { result ≡ member_or_asker_hears_other (node_of parts.now) from }
 {
-    from != parts.core.who && (parts.status == Status::Member || parts.status == Status::Asking)
+    from != parts.name() && (parts.is_member() || parts.status() == Status::Asking)
 }
 
 /// Whether a packet is one of the view in which the node acts.
 fn hears_in_view(parts: &Parts, from: Name, stamp: Stamp) -> bool
     ensures { result ≡ hears_packet_of_its_view (node_of parts.now) from stamp }
 {
-    let view = parts.core.log.view();
-    hears_member(parts, from) && parts.acts() && stamp.round == view.round && stamp.by == view.by
+    hears_member(parts, from) && parts.acts() && stamp == parts.view()
 }
 
 /// Whether a packet is one for the sequencer.

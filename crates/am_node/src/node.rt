@@ -33,7 +33,7 @@ pub struct Node {
 impl Node {
     ghost use Rattle.std.specs.Prelude.{◌≡◌, ◌==◌, ◌≤◌, ◌↔◌, [], length, nat_lt, not, true, IfOk, OnErr, IsTrue, if◌then◌else◌};
     ghost use Rattle.std.specs.Option.{option_copied};
-    ghost use Rattle.am_node_parts.specs.Prelude.{log_entry_at, has, IsInOrder, members, image_of_node, top, view, DoesRow, TellsAlike};
+    ghost use Rattle.am_node_parts.specs.Prelude.{log_entry_at, has, CoreFrontsAreInOrder, members, image_of_node, top, view, DoesRow, TellsAlike};
     ghost use Rattle.am_model.specs.Node.{founder, stranger_node, node_unsettled_count};
     ghost use Rattle.am_model.specs.Step.{row};
     ghost use Rattle.am_node_defs.specs.Sends.{has_settled_send};
@@ -80,7 +80,7 @@ impl Node {
         ensures does { IfOk result (λ did. DoesRow (λ m. row m event.now) (state_of self.old) did.0 did.1
             (state_of self.new)) }
         ensures few { IfOk result (λ did. length did.1 ≤ 9) }
-        ensures order { IsInOrder (state_of self.old).core × IsInOrder (state_of self.new).core }
+        ensures order { CoreFrontsAreInOrder (state_of self.old).core × CoreFrontsAreInOrder (state_of self.new).core }
         ensures err { OnErr result (self.new ≡ self.old) }
     {
         let (outcome, out) = self.act_in_box(alloc, event, rooms)?;
@@ -100,15 +100,15 @@ impl Node {
         ensures does { IfOk result (λ did. DoesRow (λ m. row m event.now) (state_of self.old) did.0 did.1
             (state_of self.new)) }
         ensures few { IfOk result (λ did. length did.1 ≤ 9) }
-        ensures order { IsInOrder (state_of self.old).core × IsInOrder (state_of self.new).core }
+        ensures order { CoreFrontsAreInOrder (state_of self.old).core × CoreFrontsAreInOrder (state_of self.new).core }
         ensures err { OnErr result (self.new ≡ self.old) }
     {
-        let _before = self.accept_front();
+        let _before = self.accept_front(); // for its order
         let spare = self.room_for(alloc, event)?;
         let left = mem::replace(rooms, Rooms::new());
         let mut out = OutBox::over(alloc, left)?;
         let outcome = self.step(event, spare, &mut out);
-        let _after = self.accept_front();
+        let _after = self.accept_front(); // for its order
         Ok((outcome, out))
     }
 
@@ -199,7 +199,7 @@ impl Node {
         ensures value { result ≡ next_body_length (state_of self.now) }
         ensures fits { result ≤ most_bytes_of_body }
     {
-        let _kept = self.parts.accept_front();
+        let _kept = self.parts.accept_front(); // for its entries
         match self.parts.core.log.entry(self.parts.core.taken + 1) {
             Some(entry) => entry.body_len(),
             None => 0,
@@ -226,34 +226,34 @@ impl Node {
     pub fn name(&self) -> Name
         ensures { result ≡ (state_of self.now).core.who }
     {
-        self.parts.core.who
+        self.parts.name()
     }
 
     /// How it stands to its group.
     pub fn status(&self) -> Status
         ensures { result ≡ (state_of self.now).status }
     {
-        self.parts.status
+        self.parts.status()
     }
 
     /// Whether it is leaving.
     pub fn is_leaving(&self) -> bool
         ensures { result ≡ (state_of self.now).leaving }
     {
-        self.parts.leaving
+        self.parts.is_leaving()
     }
 
     /// The number of its own Join, 1 for a founder, 0 where it has no list.
     pub fn start(&self) -> u32
         ensures { result ≡ (state_of self.now).core.start }
     {
-        self.parts.core.start
+        self.parts.start()
     }
 
     /// Up to where it knows the list to be accepted.
     pub fn accept_front(&self) -> u32
         ensures value { result ≡ (state_of self.now).core.acc }
-        ensures order { IsInOrder (state_of self.now).core }
+        ensures order { CoreFrontsAreInOrder (state_of self.now).core }
     {
         self.parts.accept_front()
     }
@@ -263,35 +263,35 @@ impl Node {
         ensures value { result ≡ top (state_of self.now) }
         ensures within { result ≤ greatest_number }
     {
-        self.parts.core.log.top()
+        self.parts.top()
     }
 
     /// The number up to which its list is trimmed.
     pub fn base(&self) -> u32
         ensures value { result ≡ (state_of self.now).core.base }
     {
-        self.parts.core.log.base()
+        self.parts.base()
     }
 
     /// The stamp of the last View.
     pub fn view(&self) -> Stamp
         ensures { result ≡ view (state_of self.now) }
     {
-        self.parts.core.log.view()
+        self.parts.view()
     }
 
     /// The number of the last View.
     pub fn view_number(&self) -> u32
         ensures { result ≡ (image_of_node (state_of self.now)).view_number }
     {
-        self.parts.core.log.view_number()
+        self.parts.view_number()
     }
 
     /// The resilience of the last View.
     pub fn resilience(&self) -> u8
         ensures { result ≡ (image_of_node (state_of self.now)).resilience }
     {
-        self.parts.core.log.resilience()
+        self.parts.resilience()
     }
 
     /// The members after the last entry.

@@ -6,30 +6,8 @@ ghost use Rattle.am_node_defs.specs.Bodies.{keep_body};
 use am_base::body::{BodyRef, SentBody};
 use am_base::name::Name;
 use am_base::outcome::Outcome;
-use am_model::status::Status;
 use am_node_parts::parts::Parts;
 use am_node_storage::sender::Busy;
-
-/// How the node stands to its group.
-pub fn status(parts: &Parts) -> Status
-    ensures { result ≡ parts.now.status }
-{
-    parts.status
-}
-
-/// Whether the node is a member.
-pub fn is_member(parts: &Parts) -> bool
-    ensures { result ≡ is_member parts.now.status }
-{
-    parts.status == Status::Member
-}
-
-/// Whether the node is leaving.
-pub fn is_leaving(parts: &Parts) -> bool
-    ensures { result ≡ parts.now.leaving }
-{
-    parts.leaving
-}
 
 /// The node begins to leave; no send of its own waits.
 pub fn begin_leaving(parts: &mut Parts)

@@ -1,5 +1,5 @@
-ghost use Rattle.std.specs.Prelude.{◌≡◌, ◌<◌, ◌+◌, ◌&&◌, nat_lt, nat_le, length, true, Some, is_some};
-ghost use Rattle.am_node_parts.specs.Prelude.{greatest_number, NumberIsInRange, top_of_log, acts_in_its_view, is_sequencer, push_entry, top, view, waiting_send_of, node_of};
+ghost use Rattle.std.specs.Prelude.{◌≡◌, ◌<◌, ◌+◌, ◌&&◌, nat_lt, nat_le, length, true, Some};
+ghost use Rattle.am_node_parts.specs.Prelude.{greatest_number, NumberIsInRange, top_of_log, acts_in_its_view, is_sequencer, push_entry, top, waiting_send_of, node_of};
 ghost use Rattle.am_node_parts.specs.Replies.{Replies};
 ghost use Rattle.am_base.specs.declared.entry.Entry.TheVariants.{Data};
 ghost use Rattle.am_node_defs.specs.Sends.{request_and_body_of_waiting_send};
@@ -9,21 +9,12 @@ ghost use Rattle.am_node_calls.specs.Forms.{own_send};
 
 use am_base::body::Body;
 use am_base::entry::{EntryParts, EntryRef};
-use am_base::name::Name;
 use am_base::outcome::Outcome;
-use am_node_parts::asking::{has_room, next_number, others};
-use am_node_parts::owning::{WaitingSend, next_send};
+use am_node_parts::owning::WaitingSend;
 use am_node_parts::packets::only;
 use am_node_parts::parts::Parts;
 use am_node_parts::reply::{OwnLetter, Reply, Telling, quiet, saying};
 use am_node_storage::log::Log;
-
-/// Whether a send waits.
-pub fn has_waiting(parts: &Parts) -> bool
-    ensures { result ≡ is_some (waiting_send_of (node_of parts.now)) }
-{
-    parts.sender.waiting().is_some()
-}
 
 /// Whether a send would go out: the node acts, and the send isn't numbered yet.
 pub fn would_emit(parts: &Parts, req: u32) -> bool
@@ -32,25 +23,11 @@ pub fn would_emit(parts: &Parts, req: u32) -> bool
     parts.acts() && parts.core.log.row(parts.core.who).last < req
 }
 
-/// The node's name.
-pub fn who(parts: &Parts) -> Name
-    ensures { result ≡ parts.now.core.who }
-{
-    parts.core.who
-}
-
 /// Whether a body goes by the sequencer.
 fn is_short(parts: &Parts, body: &Body) -> bool
     ensures { result ≡ nat_le (length body.now) parts.now.core.rules.pb_up_to }
 {
     body.bytes().len() <= usize::from(parts.core.rules.pb_up_to())
-}
-
-/// Whose view it is.
-pub fn leader(parts: &Parts) -> Name
-    ensures { result ≡ (view (node_of parts.now)).by }
-{
-    parts.core.log.view().by
 }
 
 /// A member hands its send in: to the sequencer where it is short, else to everybody.
@@ -61,13 +38,13 @@ fn hand_in<'a>(parts: &Parts, send: &WaitingSend, answer: Outcome) -> Reply<'a>
 {
     if is_short(parts, &send.body) {
         let request = Telling::Own {
-            to: only(leader(parts)),
+            to: only(parts.view().by),
             letter: OwnLetter::Request,
         };
         return saying(answer, request);
     }
     let spread = Telling::Own {
-        to: others(parts),
+        to: parts.others(),
         letter: OwnLetter::Spread,
     };
     saying(answer, spread)
@@ -86,10 +63,9 @@ pub fn number_send(parts: &mut Parts, send: &WaitingSend) -> u32
     ensures number { result ≡ top (node_of parts.old) + 1 }
     ensures within { NumberIsInRange result }
 {
-    let _before = parts.accept_front();
-    let number = next_number(parts);
+    let number = parts.next_number();
     let entry = EntryRef::of(EntryParts::Data {
-        from: who(parts),
+        from: parts.name(),
         req: send.req,
         body: send.body.as_ref(),
     });
@@ -105,7 +81,7 @@ pub fn emit<'a>(parts: &mut Parts, answer: Outcome) -> Reply<'a>
     ensures { Replies (emit_waiting_send (node_of parts.old) (waiting_send_of (node_of parts.old)) answer) result
         (node_of parts.new) }
 {
-    let Some(send) = next_send(parts) else {
+    let Some(send) = parts.next_send() else {
         return quiet(answer);
     };
     if !would_emit(parts, send.req) {
@@ -114,10 +90,10 @@ pub fn emit<'a>(parts: &mut Parts, answer: Outcome) -> Reply<'a>
     if !parts.is_sequencer() {
         return hand_in(parts, &send, answer);
     }
-    if !has_room(parts) {
+    if !parts.has_room() {
         return quiet(answer);
     }
-    let to = others(parts);
+    let to = parts.others();
     let number = number_send(parts, &send);
     let letter = OwnLetter::Bcast { number };
     saying(answer, Telling::Own { to, letter }).numbering()

@@ -8,12 +8,11 @@ ghost use Rattle.am_model.specs.Receiving.{spread_row, hold_row};
 ghost use Rattle.am_model.specs.Joining.{gone_row};
 ghost use Rattle.am_node_calls.specs.Forms.{waits_for};
 
-use crate::changing::{is_leaving, keep_body};
+use crate::changing::keep_body;
 use am_base::body::BodyRef;
 use am_base::name::Name;
 use am_base::outcome::Outcome;
 use am_model::status::Status;
-use am_node_parts::departing::set_status;
 use am_node_parts::parts::Parts;
 use am_node_parts::reply::{Reply, quiet};
 use am_node_storage::log::Log;
@@ -63,8 +62,8 @@ pub fn on_hold<'a>(parts: &Parts, base: u32, top: u32, req: u32) -> Reply<'a>
 pub fn on_gone<'a>(parts: &mut Parts) -> Reply<'a>
     ensures { Replies (gone_row (node_of parts.old)) result (node_of parts.new) }
 {
-    if is_leaving(parts) {
-        set_status(parts, Status::Departed);
+    if parts.is_leaving() {
+        parts.set_status(Status::Departed);
         return quiet(Outcome::Departed);
     }
     quiet(Outcome::Known)

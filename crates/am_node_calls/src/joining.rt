@@ -6,12 +6,10 @@ ghost use Rattle.am_model.specs.Calls.{first_lives_of_other_places, ask_to_join,
 ghost use Rattle.am_model.specs.declared.status.Status.TheVariants as status;
 ghost use Rattle.am_model.specs.Emit.{plan_without_letters};
 
-use crate::changing::{is_leaving, status};
 use am_base::name::Name;
 use am_base::names::Names;
 use am_base::outcome::Outcome;
 use am_model::status::Status;
-use am_node_parts::departing::set_status;
 use am_node_parts::parts::Parts;
 use am_node_parts::reply::{Note, Reply, Telling, quiet, saying};
 
@@ -34,13 +32,6 @@ fn everywhere_else(parts: &Parts) -> Names
     all_but(parts.core.who.place())
 }
 
-/// The number from which on the node is a member.
-fn start(parts: &Parts) -> u32
-    ensures { result ≡ parts.now.core.start }
-{
-    parts.core.start
-}
-
 /// Asks everybody else to be let in.
 pub fn ask_to_join<'a>(parts: &Parts, answer: Outcome) -> Reply<'a>
     ensures { Replies (ask_to_join (node_of parts.now) answer) result (node_of parts.now) }
@@ -59,11 +50,11 @@ fn join_answer(parts: &Parts) -> Option<Outcome>
         ≡ plan_without_letters (node_of parts.now) answer) }
     ensures asks { IfNone result (parts.now.status ≡ status.Stranger) }
 {
-    match status(parts) {
+    match parts.status() {
         Status::Stranger => None,
         Status::Asking => Some(Outcome::Asked),
         Status::Member => Some(Outcome::Joined {
-            number: start(parts),
+            number: parts.start(),
         }),
         Status::Departed => Some(Outcome::NotMember),
     }
@@ -77,7 +68,7 @@ pub fn on_join<'a>(parts: &mut Parts) -> Reply<'a>
     match join_answer(parts) {
         Some(answer) => quiet(answer),
         None => {
-            set_status(parts, Status::Asking);
+            parts.set_status(Status::Asking);
             ask_to_join(parts, Outcome::Asked)
         }
     }
@@ -88,15 +79,15 @@ pub fn on_join<'a>(parts: &mut Parts) -> Reply<'a>
 fn standing(parts: &Parts) -> Outcome
     ensures { state_row (node_of parts.now) ≡ plan_without_letters (node_of parts.now) result }
 {
-    match status(parts) {
+    match parts.status() {
         Status::Stranger => Outcome::Stranger,
         Status::Asking => Outcome::Asked,
         Status::Member => {
-            if is_leaving(parts) {
+            if parts.is_leaving() {
                 return Outcome::Leaving;
             }
             Outcome::Joined {
-                number: start(parts),
+                number: parts.start(),
             }
         }
         Status::Departed => Outcome::Departed,

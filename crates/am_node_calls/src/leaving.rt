@@ -6,12 +6,11 @@ ghost use Rattle.am_model.specs.Calls.{plan_of_leaving, is_unfinished_ballot, be
 ghost use Rattle.am_node_parts.specs.Replies.{Replies};
 ghost use Rattle.am_node_calls.specs.Forms.{hands_over};
 
-use crate::changing::{begin_leaving, is_leaving, is_member, status};
+use crate::changing::begin_leaving;
 use am_base::name::Name;
 use am_base::names::Names;
 use am_base::outcome::Outcome;
 use am_model::status::Status;
-use am_node_parts::asking::{has_room, held_answer, others};
 use am_node_parts::parts::Parts;
 use am_node_parts::reply::{Note, Reply, Telling, note_to, quiet, saying};
 
@@ -65,7 +64,7 @@ pub fn go_on_leaving<'a>(parts: &Parts, answer: Outcome) -> Reply<'a>
     requires number { top_of_log parts.now.core.log < greatest_number }
     ensures { Replies (plan_of_leaving (plan_without_letters (node_of parts.now) answer)) result (node_of parts.now) }
 {
-    let others = others(parts);
+    let others = parts.others();
     if !parts.is_sequencer() {
         let ask = Telling::Note {
             to: others,
@@ -76,8 +75,8 @@ pub fn go_on_leaving<'a>(parts: &Parts, answer: Outcome) -> Reply<'a>
     if 0 < others.len() {
         return saying(answer, handing_over(others));
     }
-    if !has_room(parts) {
-        return quiet(held_answer(parts));
+    if !parts.has_room() {
+        return quiet(parts.held_answer());
     }
     saying(Outcome::Departed, Telling::Departs).numbering()
 }
@@ -87,7 +86,7 @@ fn leave_now<'a>(parts: &mut Parts) -> Reply<'a>
     requires { top_of_log parts.old.core.log < greatest_number }
     ensures { Replies (begin_leaving (node_of parts.old)) result (node_of parts.new) }
 {
-    if is_leaving(parts) {
+    if parts.is_leaving() {
         return quiet(Outcome::Leaving);
     }
     if is_busy(parts) {
@@ -103,7 +102,7 @@ fn outside(parts: &Parts) -> Outcome
     requires { is_member parts.now.status ≡ false }
     ensures { leave_row (node_of parts.now) ≡ plan_without_letters (node_of parts.now) result }
 {
-    match status(parts) {
+    match parts.status() {
         Status::Departed => Outcome::Departed,
         _ => Outcome::NotMember,
     }
@@ -116,7 +115,7 @@ pub fn on_leave<'a>(parts: &mut Parts) -> Reply<'a>
     requires { top_of_log parts.old.core.log < greatest_number }
     ensures { Replies (leave_row (node_of parts.old)) result (node_of parts.new) }
 {
-    if is_member(parts) {
+    if parts.is_member() {
         return leave_now(parts);
     }
     quiet(outside(parts))

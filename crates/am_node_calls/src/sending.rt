@@ -3,8 +3,8 @@ ghost use Rattle.am_node_parts.specs.Prelude.{greatest_number, top_of_log, node_
 ghost use Rattle.am_node_parts.specs.Replies.{Replies};
 ghost use Rattle.am_model.specs.Calls.{send_row, done_row};
 
-use crate::changing::{collect, is_leaving, is_member, submit};
-use crate::emitting::{emit, has_waiting};
+use crate::changing::{collect, submit};
+use crate::emitting::emit;
 use am_base::body::SentBody;
 use am_base::outcome::Outcome;
 use am_node_parts::parts::Parts;
@@ -17,13 +17,13 @@ pub fn on_send<'a>(parts: &mut Parts, body: &SentBody) -> Reply<'a>
     requires last { parts.old.sender.last < greatest_number }
     ensures { Replies (send_row (node_of parts.old) body.now) result (node_of parts.new) }
 {
-    if !is_member(parts) {
+    if !parts.is_member() {
         return quiet(Outcome::NotMember);
     }
-    if is_leaving(parts) {
+    if parts.is_leaving() {
         return quiet(Outcome::Leaving);
     }
-    let waits = has_waiting(parts);
+    let waits = parts.has_waiting();
     match submit(parts, body) {
         Err(busy) => quiet(Outcome::Busy {
             queued: busy.queued,

@@ -4,7 +4,7 @@ ghost use Rattle.am_node_parts.specs.Prelude.{log_entry_at, node_of};
 ghost use Rattle.am_node_parts.specs.Replies.{Replies};
 ghost use Rattle.am_model.specs.Calls.{take_row};
 
-use crate::changing::{is_member, set_taken};
+use crate::changing::set_taken;
 use am_base::outcome::Outcome;
 use am_base::taken::{EntryRoom, TakenEntry};
 use am_node_parts::parts::Parts;
@@ -38,7 +38,7 @@ pub fn on_take<'a>(parts: &mut Parts, spare: Option<EntryRoom>) -> Reply<'a>
         → HasRoomForBody (optional_body_length (log_entry_at parts.old.core.log (parts.old.core.taken + 1))) spare }
     ensures { Replies (take_row (node_of parts.old)) result (node_of parts.new) }
 {
-    if !is_member(parts) {
+    if !parts.is_member() {
         return quiet(Outcome::NotMember);
     }
     let Some((number, entry)) = next(parts, spare) else {

@@ -7,16 +7,12 @@ ghost use Rattle.am_model.specs.Ticks.{tick_of_non_acting_member, tick_of_follow
 ghost use Rattle.am_node_parts.specs.Replies.{Replies, reply_polling_with_view};
 ghost use Rattle.am_node_calls.specs.Forms.{and_poll, again_of, again_of_ballot};
 
-use crate::changing::{is_leaving, status};
-use crate::emitting::{emit, has_waiting, leader, number_send, would_emit};
+use crate::emitting::{emit, number_send, would_emit};
 use crate::joining::ask_to_join;
 use crate::leaving::{go_on_leaving, handing_over};
-use am_base::name::Name;
 use am_base::names::Names;
 use am_base::outcome::Outcome;
 use am_model::status::Status;
-use am_node_parts::asking::{has_room, held_answer, others};
-use am_node_parts::owning::next_send;
 use am_node_parts::parts::Parts;
 use am_node_parts::reply::{Note, OwnLetter, Reply, Telling, note_to, quiet, saying};
 use am_node_storage::log::Log;
@@ -50,28 +46,15 @@ fn again_of_ballot<'a>(parts: &Parts) -> Option<Telling<'a>>
     }
 }
 
-/// Whose stamp the node has promised.
-fn promised_to(parts: &Parts) -> Name
-    ensures { result ≡ parts.now.core.promise.by }
-{
-    parts.core.promise.by
-}
-
-/// Whether the stamp that the node has promised is its own.
-fn has_promised_itself(parts: &Parts) -> bool
-    ensures { result ≡ (parts.now.core.promise.by == parts.now.core.who) }
-{
-    parts.core.promise.by == parts.core.who
-}
-
 /// A member that doesn't act fetches from the name that it promised.
 fn tick_promised<'a>(parts: &Parts) -> Reply<'a>
     ensures { Replies (tick_of_non_acting_member (node_of parts.now)) result (node_of parts.now) }
 {
-    if has_promised_itself(parts) {
+    let by = parts.promise().by;
+    if by == parts.name() {
         return quiet(Outcome::Ticked);
     }
-    saying(Outcome::Ticked, note_to(promised_to(parts), Note::Fetch))
+    saying(Outcome::Ticked, note_to(by, Note::Fetch))
 }
 
 /// Whether the waiting send would go out.
@@ -89,13 +72,13 @@ fn tick_member<'a>(parts: &mut Parts) -> Reply<'a>
     requires { top_of_log parts.old.core.log < greatest_number }
     ensures { Replies (tick_of_follower (node_of parts.old)) result (node_of parts.new) }
 {
-    if is_leaving(parts) {
+    if parts.is_leaving() {
         return go_on_leaving(parts, Outcome::Ticked);
     }
     if would_emit_waiting(parts) {
         return emit(parts, Outcome::Ticked);
     }
-    saying(Outcome::Ticked, note_to(leader(parts), Note::Ack))
+    saying(Outcome::Ticked, note_to(parts.view().by, Note::Ack))
 }
 
 /// An answer of the sequencer, which polls the members, and tells the last View again to those that haven't stored it.
@@ -113,12 +96,12 @@ fn poll_leaving<'a>(parts: &Parts) -> Reply<'a>
     ensures { Replies (plan_of_leaving (and_poll (plan_without_letters (node_of parts.now) said.Ticked))) result
         (node_of parts.now) }
 {
-    let others = others(parts);
+    let others = parts.others();
     if 0 < others.len() {
         return polled(Outcome::Ticked).and(handing_over(others));
     }
-    if !has_room(parts) {
-        return polled(held_answer(parts));
+    if !parts.has_room() {
+        return polled(parts.held_answer());
     }
     let departs = saying(Outcome::Departed, Telling::Departs);
     departs.and(Telling::View).polling().numbering()
@@ -143,16 +126,16 @@ fn tick_sending<'a>(parts: &mut Parts) -> Reply<'a>
     requires number { top_of_log parts.old.core.log < greatest_number }
     ensures { Replies (tick_of_sequencer (node_of parts.old)) result (node_of parts.new) }
 {
-    let Some(send) = next_send(parts) else {
+    let Some(send) = parts.next_send() else {
         return polled(Outcome::Ticked);
     };
     if !would_emit(parts, send.req) {
         return polled(Outcome::Ticked);
     }
-    if !has_room(parts) {
+    if !parts.has_room() {
         return polled(put_off(parts, send.req));
     }
-    let to = others(parts);
+    let to = parts.others();
     let number = number_send(parts, &send);
     let letter = OwnLetter::Bcast { number };
     let sent = saying(Outcome::Ticked, Telling::Own { to, letter });
@@ -165,10 +148,10 @@ fn tick_sequencer<'a>(parts: &mut Parts) -> Reply<'a>
     requires number { top_of_log parts.old.core.log < greatest_number }
     ensures { Replies (tick_of_sequencer (node_of parts.old)) result (node_of parts.new) }
 {
-    if is_leaving(parts) {
+    if parts.is_leaving() {
         return poll_leaving(parts);
     }
-    if !has_waiting(parts) {
+    if !parts.has_waiting() {
         return polled(Outcome::Ticked);
     }
     tick_sending(parts)
@@ -208,7 +191,7 @@ pub fn on_tick<'a>(parts: &mut Parts) -> Reply<'a>
     requires { top_of_log parts.old.core.log < greatest_number }
     ensures { Replies (tick_row (node_of parts.old)) result (node_of parts.new) }
 {
-    match status(parts) {
+    match parts.status() {
         Status::Asking => ask_to_join(parts, Outcome::Ticked),
         Status::Member => tick_with(parts),
         _ => quiet(Outcome::Idle),

@@ -4,13 +4,13 @@ ghost use Rattle.am_model.specs.Node.{set_of_one_name};
 use am_base::name::Name;
 use am_base::names::Names;
 
-/// The packet of a kind that the node with a core sends now: with its name, its promise, and these fields.
+/// The packet of a kind that a node sends now: with its name, its promise, and these fields.
 #[macro_export]
 macro_rules! packet_from {
-    ($core:expr => $kind:ident { $($fields:tt)* }) => {
+    ($parts:expr => $kind:ident { $($fields:tt)* }) => {
         Packet::$kind {
-            sender: $core.who,
-            stamp: $core.promise,
+            sender: $parts.name(),
+            stamp: $parts.promise(),
             $($fields)*
         }
     };

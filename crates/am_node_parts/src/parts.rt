@@ -7,7 +7,6 @@ use am_ballots::ballot::Ballot;
 use am_base::entry::{Entry, EntryRef};
 use am_base::image::Report;
 use am_base::name::Name;
-use am_base::names::Names;
 use am_model::status::Status;
 use am_node_storage::bodies::Pool;
 use am_node_storage::fronts::Fronts;
@@ -49,13 +48,13 @@ fn is_data_of(entry: &Entry, who: Name, sent: u32) -> bool
 }
 
 impl Parts {
-    ghost use Rattle.std.specs.Prelude.{◌≢◌, ◌<◌, ◌+◌, length, option_map, IfSome};
+    ghost use Rattle.std.specs.Prelude.{◌≢◌, false, ◌<◌, ◌+◌, length, option_map, IfSome};
     ghost use Rattle.am_base.specs.Names.{life_of_name};
-    ghost use Rattle.am_base.specs.Limits.{EntryIsInRange};
+    ghost use Rattle.am_base.specs.Limits.{EntryIsInRange, NumberIsInRange};
     ghost use Rattle.am_base.specs.Lists.{log_entry_at, row_at_place, fits};
     ghost use Rattle.am_node_defs.specs.Kept.{IsKept};
-    ghost use Rattle.am_node_defs.specs.Cores.{IsInOrder};
-    ghost use Rattle.am_model.specs.Node.{Node, acts_in_its_view, is_sequencer, other_members, push_entry, image_of_node, top, waiting_send_of, node_with_report};
+    ghost use Rattle.am_node_defs.specs.Cores.{CoreFrontsAreInOrder};
+    ghost use Rattle.am_model.specs.Node.{Node, acts_in_its_view, has_log_by_status, is_member, is_sequencer, push_entry, image_of_node, top, waiting_send_of, node_with_report};
     ghost use Rattle.am_model.specs.Sequencing.{take_report};
     ghost use Rattle.am_model.specs.Refresh.{refresh, settle_waiting_send, refresh_at_end};
     ghost use Rattle.am_model.specs.Ends.{TellsAlike, ChangesAllAlike, IsEndOf};
@@ -65,28 +64,26 @@ impl Parts {
     /// Up to where the node knows the list to be accepted.
     pub fn accept_front(&self) -> u32
         ensures value { result ≡ self.now.core.acc }
-        ensures order { IsInOrder self.now.core }
+        ensures within { NumberIsInRange result }
+        ensures order { CoreFrontsAreInOrder self.now.core }
         ensures kept { IsKept self.now.core.log (self.now.core.rules.window + 15) }
     {
-        let _top = self.core.log.top();
+        let _top = self.core.log.top(); // for what it keeps
         self.core.acc
     }
 
     /// Whether the node is a member that has promised nothing above its view.
     pub fn acts(&self) -> bool
         ensures value { result ≡ acts_in_its_view (node_of self.now) }
-        ensures order { IsInOrder self.now.core }
+        ensures order { CoreFrontsAreInOrder self.now.core }
     {
-        let view = self.core.log.view();
-        self.status == Status::Member
-            && self.core.promise.round == view.round
-            && self.core.promise.by == view.by
+        self.status.is_member() && self.core.promise == self.core.log.view()
     }
 
     /// Whether the node acts in a view of its own, for this value of it alone.
     fn leads(&self) -> bool
         ensures value { result ≡ is_sequencer (node_of self.now) }
-        ensures order { IsInOrder self.now.core }
+        ensures order { CoreFrontsAreInOrder self.now.core }
     {
         self.acts() && self.core.log.view().by == self.core.who
     }
@@ -95,19 +92,9 @@ impl Parts {
     pub fn is_sequencer(&self) -> bool
         ensures value { result ≡ is_sequencer (node_of self.now) }
         ensures tells { TellsAlike is_sequencer (node_of self.now) result }
-        ensures order { IsInOrder self.now.core }
+        ensures order { CoreFrontsAreInOrder self.now.core }
     {
         self.leads()
-    }
-
-    /// The members without the node itself.
-    pub fn others(&self) -> Names
-        ensures { TellsAlike other_members (node_of self.now) result }
-    {
-        self.core
-            .log
-            .members_after(self.core.log.top())
-            .without(self.core.who)
     }
 
     /// Takes in what the node knows by now: the sequencer all of it, another node what it was told.
@@ -121,6 +108,15 @@ impl Parts {
         } else {
             self.core.advance();
         }
+    }
+
+    /// The node stands to its group in another way, in which it is no member.
+    pub fn set_status(&mut self, status: Status)
+        requires outside { is_member status ≡ false }
+        requires log { has_log_by_status status ≡ false → has_log_by_status self.old.status ≡ false }
+        ensures { node_of self.new ≡ record (node_of self.old) { status = status } }
+    {
+        self.status = status;
     }
 
     /// Takes a report of another name.
@@ -137,12 +133,12 @@ impl Parts {
         ensures end { IsEndOf (take_report (node_of self.old) from report) (node_of self.new) }
         ensures again { refresh (node_of self.new) ≡ node_of self.new }
         ensures steady { IsSteady (node_of self.old) (node_of self.new) }
-        ensures order { IsInOrder self.new.core }
+        ensures order { CoreFrontsAreInOrder self.new.core }
     {
         self.report(from, report);
-        let _before = self.accept_front();
+        let _before = self.accept_front(); // for its order
         self.refresh();
-        let _after = self.accept_front();
+        let _after = self.accept_front(); // for its order
     }
 
     /// Adds an entry at the end of the list.
@@ -153,7 +149,7 @@ impl Parts {
         requires number { top (node_of self.old) < greatest_number }
         requires keeps { NodeKeeps (push_entry (node_of self.old) entry.now) }
         ensures node { node_of self.new ≡ push_entry (node_of self.old) entry.now }
-        ensures order { IsInOrder self.new.core }
+        ensures order { CoreFrontsAreInOrder self.new.core }
     {
         self.core.push(entry);
     }

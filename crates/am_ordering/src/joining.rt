@@ -1,5 +1,5 @@
 ghost use Rattle.std.specs.Prelude.{◌≡◌, ◌≢◌, ◌<◌, ◌+◌, length, true};
-ghost use Rattle.am_node_parts.specs.Prelude.{RowIsInRange, row_at_place, fits, is_sequencer, image_of_node, node_of, HasRoomLeft, MayServe};
+ghost use Rattle.am_node_parts.specs.Prelude.{RowIsInRange, fits, is_sequencer, image_of_node, node_of, HasRoomLeft, MayServe};
 ghost use Rattle.am_base.specs.declared.entry.Entry.TheVariants.{Join};
 ghost use Rattle.am_model.specs.Joining.{node_with_joiner_reports, number_join_and_welcome, join_ask_row};
 ghost use Rattle.am_node_parts.specs.Replies.{Replies};
@@ -9,18 +9,8 @@ use am_base::entry::EntryRef;
 use am_base::image::Row;
 use am_base::name::Name;
 use am_base::outcome::Outcome;
-use am_node_parts::asking::{has_room, held_answer, next_number, others};
 use am_node_parts::parts::Parts;
 use am_node_parts::reply::{Note, Reply, Telling, note_to, numbered, polling, quiet, saying};
-use am_node_storage::log::Log;
-
-/// The row of a name's place.
-fn at_place(parts: &Parts, name: Name) -> Row
-    ensures value { result ≡ row_at_place (image_of_node (node_of parts.now)) name }
-    ensures within { RowIsInRange result }
-{
-    parts.core.log.at_place(name)
-}
 
 /// Why a name may not join, where the row of its place is this and so much is accepted; None where it may.
 fn refusal_of(accepted: u32, name: Name, row: Row) -> Option<Outcome>
@@ -40,18 +30,11 @@ fn refusal_of(accepted: u32, name: Name, row: Row) -> Option<Outcome>
     None
 }
 
-/// Whether a Join of a name fits behind the last entry.
+/// Whether a Join of a name fits after the last entry.
 fn may_join(parts: &Parts, name: Name) -> bool
     ensures { result ≡ fits (image_of_node (node_of parts.now)) (Join name) }
 {
-    parts.core.log.fits(&EntryRef::join(name))
-}
-
-/// Up to where the list is trimmed.
-fn base_of(parts: &Parts) -> u32
-    ensures { result ≡ parts.now.core.base }
-{
-    parts.core.log.base()
+    parts.fits(&EntryRef::join(name))
 }
 
 /// A joiner's reports begin at the base.
@@ -59,7 +42,7 @@ fn admit(parts: &mut Parts, name: Name)
     requires { name ≢ parts.old.core.who }
     ensures { node_of parts.new ≡ node_with_joiner_reports (node_of parts.old) name }
 {
-    let base = base_of(parts);
+    let base = parts.base();
     parts.fronts.admit(name, base);
 }
 
@@ -71,8 +54,8 @@ fn number_join<'a>(parts: &mut Parts, from: Name) -> Reply<'a>
     requires room { HasRoomLeft (node_of parts.old) }
     ensures { Replies (number_join_and_welcome (node_of parts.old) from) result (node_of parts.new) }
 {
-    let number = next_number(parts);
-    let others = others(parts);
+    let number = parts.next_number();
+    let others = parts.others();
     admit(parts, from);
     parts.push(&EntryRef::join(from));
     numbered(number, others, EntryRef::join(from)).and(Telling::Welcome { number, to: from })
@@ -104,7 +87,7 @@ pub fn on_join_ask<'a>(parts: &mut Parts, from: Name) -> Reply<'a>
     requires { MayServe (node_of parts.old) from }
     ensures { Replies (join_ask_row (node_of parts.old) from) result (node_of parts.new) }
 {
-    let row = at_place(parts, from);
+    let row = parts.at_place(from);
     let turned = refusal_of(parts.accept_front(), from, row);
     if let Some(answer) = turned {
         return quiet(answer);
@@ -112,8 +95,8 @@ pub fn on_join_ask<'a>(parts: &mut Parts, from: Name) -> Reply<'a>
     if !may_join(parts, from) {
         return welcome_again(parts, from, row.joined);
     }
-    if !has_room(parts) {
-        return polling(held_answer(parts));
+    if !parts.has_room() {
+        return polling(parts.held_answer());
     }
     number_join(parts, from)
 }

@@ -9,19 +9,14 @@ use am_base::entry::EntryRef;
 use am_base::image::Report;
 use am_base::name::{Name, Stamp};
 use am_base::outcome::Outcome;
-use am_node_parts::asking::{
-    has_room, held_answer, is_unknown, next_number, others, report_fits, row,
-};
 use am_node_parts::parts::Parts;
 use am_node_parts::reply::{Reply, StepAnswer, Telling, answering, numbered, polling, quiet};
-use am_node_storage::log::Log;
 
 /// Whether a report is one of this view, and its sender could have made it of the list.
 fn counts_report(parts: &Parts, stamp: Stamp, report: Report) -> bool
     ensures { result ≡ report_counts (node_of parts.now) stamp report }
 {
-    let view = parts.core.log.view();
-    stamp.round == view.round && stamp.by == view.by && report_fits(parts, report)
+    stamp == parts.view() && parts.report_fits(report)
 }
 
 /// Numbers the Leave of a name, and lets it go where it may go at once.
@@ -32,8 +27,8 @@ fn number_leave<'a>(parts: &mut Parts, from: Name) -> Reply<'a>
     requires room { HasRoomLeft (node_of parts.old) }
     ensures { Replies (number_leave (node_of parts.old) from) result (node_of parts.new) }
 {
-    let number = next_number(parts);
-    let others = others(parts);
+    let number = parts.next_number();
+    let others = parts.others();
     parts.push(&EntryRef::leave(from));
     numbered(number, others, EntryRef::leave(from)).and(Telling::Gone { to: from })
 }
@@ -42,7 +37,7 @@ fn number_leave<'a>(parts: &mut Parts, from: Name) -> Reply<'a>
 fn leave_again<'a>(parts: &Parts, from: Name) -> Reply<'a>
     ensures { Replies (leave_again (node_of parts.now) from) result (node_of parts.now) }
 {
-    let number = row(parts, from).left;
+    let number = parts.row(from).left;
     answering(
         StepAnswer::LetGo { to: from, number },
         Telling::Gone { to: from },
@@ -55,12 +50,12 @@ fn asks_to_leave<'a>(parts: &mut Parts, from: Name) -> Reply<'a>
     requires known { has_no_join (node_of parts.old) from ≡ false }
     ensures { Replies (answer_leave_ask (node_of parts.old) from) result (node_of parts.new) }
 {
-    let row = row(parts, from);
+    let row = parts.row(from);
     if 0 < row.left {
         return leave_again(parts, from);
     }
-    if !has_room(parts) {
-        return polling(held_answer(parts));
+    if !parts.has_room() {
+        return polling(parts.held_answer());
     }
     number_leave(parts, from)
 }
@@ -74,7 +69,7 @@ pub fn on_leave_ask<'a>(parts: &mut Parts, from: Name, stamp: Stamp, report: Rep
     ensures { Replies (leave_ask_row (node_of parts.old) from stamp report) result
         (node_of parts.new) }
 {
-    if is_unknown(parts, from) {
+    if parts.is_unknown(from) {
         return quiet(Outcome::Stranger);
     }
     if !counts_report(parts, stamp, report) {

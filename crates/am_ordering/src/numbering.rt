@@ -11,7 +11,6 @@ use am_base::entry::{EntryParts, EntryRef};
 use am_base::image::Row;
 use am_base::name::Name;
 use am_base::outcome::Outcome;
-use am_node_parts::asking::held_answer;
 use am_node_parts::parts::Parts;
 use am_node_parts::reply::{Note, Reply, note_to, saying};
 
@@ -40,7 +39,7 @@ pub fn put_off<'a>(parts: &Parts, to: Name, req: u32) -> Reply<'a>
         (said.Held parts.now.core.base (top (node_of parts.now)))) (set_of_one_name to)
         (λ n. hold_packet_of n req)) result (node_of parts.now) }
 {
-    saying(held_answer(parts), note_to(to, Note::Hold { req })).polling()
+    saying(parts.held_answer(), note_to(to, Note::Hold { req })).polling()
 }
 
 /// What is told of a send that has a number: that alone where its body was spread, else the entry.

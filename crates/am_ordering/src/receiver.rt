@@ -1,6 +1,6 @@
 ghost use Rattle.std.specs.Prelude.{◌≡◌, ◌+◌, ◌≤◌, ◌<◌, Some, false, nat_lt, ◌&&◌, not, IfSome};
 ghost use Rattle.std.specs.Option.{option_copied};
-ghost use Rattle.am_node_parts.specs.Prelude.{NumberIsInRange, EntryIsInRange, IsInOrder, has_own_leave, is_sequencer, top, waiting_send_of, IsEndOf, IsSteady, node_of};
+ghost use Rattle.am_node_parts.specs.Prelude.{NumberIsInRange, EntryIsInRange, CoreFrontsAreInOrder, has_own_leave, is_sequencer, top, waiting_send_of, IsEndOf, IsSteady, node_of};
 ghost use Rattle.am_node_defs.specs.Cores.{CoreChangesAlike};
 ghost use Rattle.am_model.specs.Receiving.{node_with_noted_fronts, accept_row, bcast_row, order_row, receive_entry, body_of_waiting_send, body_of_spread_send, data_entry_of};
 ghost use Rattle.am_node_parts.specs.Replies.{Replies};
@@ -54,18 +54,11 @@ fn note(parts: &mut Parts, base: u32, acc: u32)
     ensures steady { IsSteady (node_of parts.old) (node_of parts.new) }
     ensures status { parts.new.status ≡ parts.old.status }
     ensures leads { is_sequencer (node_of parts.new) ≡ is_sequencer (node_of parts.old) }
-    ensures order { IsInOrder parts.new.core }
+    ensures order { CoreFrontsAreInOrder parts.new.core }
 {
-    let _before = parts.accept_front();
+    let _before = parts.accept_front(); // for its order
     note_fronts(&mut parts.core, base, acc);
-    let _after = parts.accept_front();
-}
-
-/// Whether the node's own Leave stands in its list.
-fn has_left(parts: &Parts) -> bool
-    ensures { result ≡ has_own_leave (node_of parts.now) }
-{
-    0 < parts.core.log.row(parts.core.who).left
+    let _after = parts.accept_front(); // for its order
 }
 
 /// Whether an entry up to a number isn't stored that the node may still store.
@@ -73,7 +66,7 @@ fn is_short_of(parts: &Parts, high: u32) -> bool
     ensures { result ≡ (nat_lt (top (node_of parts.now)) high
         && not (has_own_leave (node_of parts.now))) }
 {
-    parts.core.log.top() < high && !has_left(parts)
+    parts.core.log.top() < high && !parts.has_own_leave()
 }
 
 /// An Ack to a name, where it is due.
@@ -116,7 +109,7 @@ fn receive_entry<'a>(parts: &mut Parts, told: Told, found: Found) -> Reply<'a>
     if told.number <= top {
         return quiet(Outcome::Known);
     }
-    if has_left(parts) {
+    if parts.has_own_leave() {
         return quiet(Outcome::Behind);
     }
     if top + 1 < told.number {

@@ -10,7 +10,6 @@ use am_base::body::BodyRef;
 use am_base::image::Report;
 use am_base::name::Name;
 use am_base::outcome::Outcome;
-use am_node_parts::asking::{has_room, is_unknown, next_number, others, report_fits, row};
 use am_node_parts::parts::Parts;
 use am_node_parts::reply::{Reply, StepAnswer, Telling, answering, quiet, saying};
 
@@ -36,10 +35,10 @@ fn report_refusal(parts: &Parts, from: Name, report: Report) -> Option<Outcome>
     ensures known { IfNone result (has_no_join (node_of parts.now) from ≡ false) }
     ensures stored { IfNone result (report.stored ≤ top (node_of parts.now)) }
 {
-    if is_unknown(parts, from) {
+    if parts.is_unknown(from) {
         return Some(Outcome::Stranger);
     }
-    if !report_fits(parts, report) {
+    if !parts.report_fits(report) {
         return Some(Outcome::Unfit);
     }
     None
@@ -82,15 +81,15 @@ fn answer_request<'a>(parts: &mut Parts, request: &Request<'a>) -> Reply<'a>
     ensures { Replies (answer_request (node_of parts.old) request.now.from request.now.req
         request.now.body request.now.by_order) result (node_of parts.new) }
 {
-    let row = row(parts, request.from);
+    let row = parts.row(request.from);
     if let Some(answer) = request_refusal(row, request.req) {
         return quiet(answer);
     }
-    if !has_room(parts) {
+    if !parts.has_room() {
         return put_off(parts, request.from, request.req);
     }
-    let number = next_number(parts);
-    let to = others(parts);
+    let number = parts.next_number();
+    let to = parts.others();
     parts.push(&data_of(request));
     let note = data_note(number, request);
     saying(Outcome::Numbered { number }, Telling::Note { to, note }).numbering()

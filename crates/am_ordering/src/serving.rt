@@ -7,7 +7,6 @@ use am_base::name::Name;
 use am_base::outcome::Outcome;
 use am_node_parts::parts::Parts;
 use am_node_parts::reply::{Reply, Telling, quiet, saying};
-use am_node_parts::serving::count_above;
 use am_node_storage::log::Log;
 
 /// Answers who stored the list up to a number, and sends it what comes next. Behind where that is trimmed, else Served.
@@ -18,7 +17,7 @@ pub fn serve_again<'a>(parts: &Parts, to: Name, stored: u32) -> Reply<'a>
     if stored < parts.core.log.base() {
         return quiet(Outcome::Behind);
     }
-    let count = count_above(parts, stored);
+    let count = parts.count_above(stored);
     let entries = Telling::Entries {
         to,
         stored,

@@ -3,6 +3,7 @@ ghost use Rattle.std.specs.List.{list_any};
 ghost use Rattle.am_node_parts.specs.Prelude.{NumberIsInRange, EntryIsInRange, fits, IsSetOfNames, names_of, number_is_within_bound, image_of_node, top, node_of};
 ghost use Rattle.am_base.specs.declared.outcome.Outcome.{Outcome};
 ghost use Rattle.am_model.specs.Receiving.{is_view, bodies_after_stored_entry, acknowledges, store_numbered_entry};
+ghost use Rattle.am_node_defs.specs.Kept.{IsKept};
 ghost use Rattle.am_node_parts.specs.Replies.{Replies};
 ghost use Rattle.am_ordering.specs.Receiving.{Follows};
 
@@ -33,11 +34,13 @@ fn is_unfit(parts: &Parts, number: u32, entry: &EntryRef) -> bool
     ensures value { result ≡ (is_view entry.now
         || (not (fits (image_of_node (node_of parts.now)) entry.now)
         || not (number_is_within_bound (node_of parts.now) parts.now.core.base number))) }
-    ensures kept { parts.now.core.base ≡ parts.now.core.log.start }
+    ensures start { parts.now.core.base ≡ parts.now.core.log.start }
+    ensures kept { IsKept parts.now.core.log (parts.now.core.rules.window + 15) }
 {
+    let base = parts.base();
     is_view(entry)
-        || !parts.core.log.fits(entry)
-        || number.saturating_sub(parts.core.log.base()) > u32::from(parts.core.rules.window()) + 15
+        || !parts.fits(entry)
+        || number.saturating_sub(base) > u32::from(parts.core.rules.window()) + 15
 }
 
 /// The bodies that a stored entry leaves.
@@ -107,7 +110,6 @@ pub fn store<'a>(parts: &mut Parts, told: Told, entry: &EntryRef) -> Reply<'a>
     if is_unfit(parts, told.number, entry) {
         return quiet(Outcome::Unfit);
     }
-    let _before = parts.accept_front();
     parts.push(entry);
     drop_bodies(parts, entry);
     let ack = ack_where(acknowledges(parts, told.sender), told.sender);

@@ -1,5 +1,5 @@
 ghost use Rattle.std.specs.Prelude.{◌≡◌, ◌≢◌, ◌||◌, true, false, nat_lt};
-ghost use Rattle.am_node_parts.specs.Prelude.{NumberIsInRange, StampIsInRange, ImageIsInRange, row_of_name, top_of_log, stamps_are_equal, stamp_is_less, is_member, view, node_of};
+ghost use Rattle.am_node_parts.specs.Prelude.{NumberIsInRange, StampIsInRange, ImageIsInRange, row_of_name, top_of_log, stamp_is_less, is_member, node_of};
 ghost use Rattle.am_model.specs.Node.{is_asking_status};
 ghost use Rattle.am_model.specs.Joining.{node_of_welcomed, core_of_welcomed, ask_for_next_entries, welcome_row};
 ghost use Rattle.am_node_parts.specs.Replies.{Replies};
@@ -26,13 +26,6 @@ pub struct Welcome {
     pub base: u32,
     /// The number of the name's Join.
     pub join: u32,
-}
-
-/// Whether the node is a member.
-fn is_member(parts: &Parts) -> bool
-    ensures { result ≡ is_member (node_of parts.now).status }
-{
-    parts.status == Status::Member
 }
 
 /// Whether the node has promised to a greater stamp.
@@ -89,17 +82,9 @@ fn begin(parts: &mut Parts, told: &Welcome, image: &Image)
     ensures { node_of parts.new ≡ node_of_welcomed (node_of parts.old) told.now.stamp told.now.base
         told.now.join image.now }
 {
-    let _before = parts.accept_front();
+    let _before = parts.accept_front(); // for its order
     begin_core(&mut parts.core, told, image);
     parts.status = Status::Member;
-}
-
-/// Whether the node's view is this one.
-fn has_view(parts: &Parts, stamp: Stamp) -> bool
-    ensures { result ≡ stamps_are_equal (view (node_of parts.now)) stamp }
-{
-    let view = parts.core.log.view();
-    view.round == stamp.round && view.by == stamp.by
 }
 
 /// A joiner whose list has begun asks for what comes next.
@@ -108,7 +93,7 @@ fn ask_on<'a>(parts: &Parts, told: &Welcome) -> Reply<'a>
         result (node_of parts.now) }
 {
     let answer = Outcome::Welcomed { number: told.join };
-    if has_view(parts, told.stamp) {
+    if parts.has_view(told.stamp) {
         return saying(answer, note_to(told.sender, Note::Nack));
     }
     saying(answer, note_to(told.sender, Note::Fetch))
@@ -128,7 +113,7 @@ pub fn on_welcome<'a>(parts: &mut Parts, told: &Welcome, image: &ImageRef) -> Re
     ensures { Replies (welcome_row (node_of parts.old) told.now.sender told.now.stamp told.now.base
         told.now.join image.now) result (node_of parts.new) }
 {
-    if is_member(parts) {
+    if parts.is_member() {
         return quiet(Outcome::Known);
     }
     if has_promised_more(parts, told.stamp) {

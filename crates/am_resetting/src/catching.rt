@@ -1,5 +1,5 @@
 ghost use Rattle.std.specs.Prelude.{◌≡◌, ◌≢◌, ◌<◌, ◌≤◌, ◌+◌, ◌==◌, ◌||◌, ◌&&◌, max, not, Option, Some, None, IfNone, IfSome, true, false, []};
-ghost use Rattle.am_node_parts.specs.Prelude.{greatest_number, EntryIsInRange, fits, top_of_log, stamps_are_equal, stamp_is_less, IsInOrder, has_log_by_status, Node, set_of_one_name, push_entry, image_of_node, trim_node_up_to, view, number_is_within_bound, IsOwnBallot, node_of};
+ghost use Rattle.am_node_parts.specs.Prelude.{greatest_number, EntryIsInRange, fits, top_of_log, stamps_are_equal, stamp_is_less, CoreFrontsAreInOrder, has_log_by_status, Node, set_of_one_name, push_entry, image_of_node, trim_node_up_to, view, number_is_within_bound, IsOwnBallot, node_of};
 ghost use Rattle.am_base.specs.declared.entry.Entry.TheVariants.{View};
 ghost use Rattle.am_ballots.specs.Kept.{ballot_of};
 ghost use Rattle.am_model.specs.Node as node;
@@ -11,9 +11,7 @@ ghost use Rattle.am_node_parts.specs.Replies.{Replies, refusal_or_plan};
 
 use crate::deciding::{decide, store};
 use crate::promising::{put_back, raise_promise, take_ballot};
-use crate::reading::{
-    copy_of, has_own_leave, is_beyond, is_same, is_view, last_of, name_of, promise_of, taken_of,
-};
+use crate::stamps::{copy_of_stamp, is_same};
 use am_ballots::ballot::Ballot;
 use am_base::entry::{EntryParts, EntryRef, GroupView};
 use am_base::name::{Name, Stamp};
@@ -21,7 +19,6 @@ use am_base::names::Names;
 use am_base::outcome::Outcome;
 use am_node_parts::parts::Parts;
 use am_node_parts::reply::{Note, Reply, Telling, asking, note_to, quiet, saying};
-use am_node_storage::log::Log;
 
 /// What a packet tells of an entry of a view's list beside the entry.
 #[derive(Clone, Copy)]
@@ -62,7 +59,7 @@ fn is_past(stamp: &Stamp, in_ballot: bool, view: &Stamp) -> bool
     ensures below { in_ballot ≡ true → result ≡ false → stamp_is_less view.now stamp.now ≡ true }
 {
     let same = is_same(view, stamp);
-    copy_of(stamp).is_below(copy_of(view)) || (in_ballot && same)
+    copy_of_stamp(stamp).is_below(copy_of_stamp(view)) || (in_ballot && same)
 }
 
 /// Whether an entry is a View that can't come by fetching: one above the stamp, or in a ballot of it.
@@ -78,13 +75,6 @@ fn is_view_past(stamp: &Stamp, in_ballot: bool, entry: &EntryRef) -> bool
     }
 }
 
-/// Whether an entry fits behind the list.
-fn fits(parts: &Parts, entry: &EntryRef) -> bool
-    ensures { result ≡ fits (image_of_node (node_of parts.now)) entry.now }
-{
-    parts.core.log.fits(entry)
-}
-
 /// Why a fetched entry isn't stored; None where it is the next one and nothing is against it.
 fn refusal(parts: &Parts, arrival: &Arrival, entry: &EntryRef, in_ballot: bool) -> Option<Outcome>
     ensures value { (x : Option node.Ballot) (then_ : Node → Plan)
@@ -96,22 +86,22 @@ fn refusal(parts: &Parts, arrival: &Arrival, entry: &EntryRef, in_ballot: bool) 
     ensures next { IfNone result (CatchesNext (node_of parts.now)
         arrival.now.stamp arrival.now.base arrival.now.number entry.now in_ballot) }
 {
-    let top = last_of(parts);
+    let top = parts.top();
     if arrival.number <= top {
         return Some(Outcome::Known);
     }
-    if has_own_leave(parts) {
+    if parts.has_own_leave() {
         return Some(Outcome::Behind);
     }
     if top + 1 < arrival.number {
         return Some(Outcome::Gap { want: top + 1 });
     }
-    if taken_of(parts) < arrival.base {
+    if parts.taken() < arrival.base {
         return Some(Outcome::Behind);
     }
-    if !fits(parts, entry)
+    if !parts.fits(entry)
         || (is_view_past(&arrival.stamp, in_ballot, entry)
-            || is_beyond(parts, arrival.base, arrival.number))
+            || parts.is_beyond_bound(arrival.base, arrival.number))
     {
         return Some(Outcome::Unfit);
     }
@@ -120,15 +110,16 @@ fn refusal(parts: &Parts, arrival: &Arrival, entry: &EntryRef, in_ballot: bool) 
 
 /// Whether a stamp isn't the promise, or is the view.
 fn is_apart(parts: &Parts, stamp: &Stamp) -> bool
-    ensures { result ≡ (not (stamps_are_equal stamp.now parts.now.core.promise)
+    ensures value { result ≡ (not (stamps_are_equal stamp.now parts.now.core.promise)
         || stamps_are_equal (view (node_of parts.now)) stamp.now) }
+    ensures order { CoreFrontsAreInOrder parts.now.core }
 {
-    !is_same(stamp, &promise_of(parts)) || is_view(parts, stamp)
+    *stamp != parts.promise() || parts.has_view(*stamp)
 }
 
 /// What a node that has no unfinished ballot does with an entry of the view that it has promised.
 fn piece_promised<'a>(parts: &mut Parts, arrival: &Arrival, entry: &EntryRef) -> Reply<'a>
-    requires order { IsInOrder parts.old.core }
+    requires order { CoreFrontsAreInOrder parts.old.core }
     requires logged { has_log_by_status parts.old.status ≡ true }
     requires promise { arrival.now.stamp ≡ parts.old.core.promise }
     requires view { stamps_are_equal (view (node_of parts.old)) arrival.now.stamp ≡ false }
@@ -191,7 +182,7 @@ fn piece_for<'a>(
     entry: &EntryRef,
     ballot: Ballot,
 ) -> Reply<'a>
-    requires order { IsInOrder parts.old.core }
+    requires order { CoreFrontsAreInOrder parts.old.core }
     requires out { (node_of parts.old).ballot ≡ None }
     requires own { IsOwnBallot (node_of parts.old) (ballot_of ballot) }
     requires logged { has_log_by_status parts.old.status ≡ true }
@@ -226,7 +217,6 @@ pub fn on_piece<'a>(parts: &mut Parts, arrival: &Arrival, entry: &EntryRef) -> R
         arrival.now.base arrival.now.number entry.now) result
         (node_of parts.new) }
 {
-    let _front = parts.accept_front();
     if is_apart(parts, &arrival.stamp) {
         return quiet(Outcome::Elsewhere);
     }
@@ -243,12 +233,12 @@ fn view_entry<'a>(view: &GroupView) -> EntryRef<'a>
     EntryRef::of(EntryParts::View(*view))
 }
 
-/// Whether an entry doesn't fit behind the list, or is beyond the bound.
+/// Whether an entry doesn't fit after the list, or is beyond the bound.
 fn is_unfit(parts: &Parts, entry: &EntryRef, base: u32, number: u32) -> bool
     ensures { result ≡ (not (fits (image_of_node (node_of parts.now)) entry.now)
         || not (number_is_within_bound (node_of parts.now) (max parts.now.core.base base) number)) }
 {
-    !fits(parts, entry) || is_beyond(parts, base, number)
+    !parts.fits(entry) || parts.is_beyond_bound(base, number)
 }
 
 /// What is replied where a decided view isn't stored; None where it comes next and nothing is against it.
@@ -263,17 +253,17 @@ fn result_refusal<'a>(parts: &Parts, arrival: &Arrival, view: &GroupView) -> Opt
         arrival.now.base arrival.now.number view.now) }
     ensures plain { IfSome result (λ refusal. IsPlain refusal.telling) }
 {
-    if is_view(parts, &view.stamp) {
+    if parts.has_view(view.stamp) {
         return Some(Denial {
             outcome: Outcome::Known,
             telling: note_to(arrival.from, Note::Ack),
         });
     }
-    let top = last_of(parts);
+    let top = parts.top();
     if arrival.number <= top {
         return Some(Denial::of(Outcome::Unfit));
     }
-    if has_own_leave(parts) {
+    if parts.has_own_leave() {
         return Some(Denial::of(Outcome::Behind));
     }
     if top + 1 < arrival.number {
@@ -282,7 +272,7 @@ fn result_refusal<'a>(parts: &Parts, arrival: &Arrival, view: &GroupView) -> Opt
             telling: note_to(arrival.from, Note::Fetch),
         });
     }
-    if taken_of(parts) < arrival.base {
+    if parts.taken() < arrival.base {
         return Some(Denial::of(Outcome::Behind));
     }
     let entry = view_entry(view);
@@ -294,7 +284,7 @@ fn result_refusal<'a>(parts: &Parts, arrival: &Arrival, view: &GroupView) -> Opt
 
 /// What a node does with a decided view that it has promised.
 fn hears_result<'a>(parts: &mut Parts, arrival: &Arrival, view: &GroupView) -> Reply<'a>
-    requires order { IsInOrder parts.old.core }
+    requires order { CoreFrontsAreInOrder parts.old.core }
     requires logged { has_log_by_status parts.old.status ≡ true }
     requires promise { view.now.stamp ≡ parts.old.core.promise }
     requires other { view.now.stamp.by ≢ parts.old.core.who }
@@ -316,10 +306,11 @@ fn hears_result<'a>(parts: &mut Parts, arrival: &Arrival, view: &GroupView) -> R
 
 /// Whether a stamp is of the node's own, or below its promise.
 fn is_passed(parts: &Parts, stamp: &Stamp) -> bool
-    ensures { result ≡ ((stamp.now.by == parts.now.core.who)
+    ensures value { result ≡ ((stamp.now.by == parts.now.core.who)
         || stamp_is_less stamp.now parts.now.core.promise) }
+    ensures order { CoreFrontsAreInOrder parts.now.core }
 {
-    stamp.by == name_of(parts) || copy_of(stamp).is_below(promise_of(parts))
+    stamp.by == parts.name() || copy_of_stamp(stamp).is_below(parts.promise())
 }
 
 /// A view was decided (docs/PROTOCOL.md, "Ballots and views"). Elsewhere where it is the node's own or below the promise, else it
@@ -333,10 +324,9 @@ pub fn on_result<'a>(parts: &mut Parts, arrival: &Arrival, view: &GroupView) -> 
         arrival.now.base arrival.now.number view.now)
         result (node_of parts.new) }
 {
-    let _front = parts.accept_front();
     if is_passed(parts, &view.stamp) {
         return quiet(Outcome::Elsewhere);
     }
-    raise_promise(parts, copy_of(&view.stamp));
+    raise_promise(parts, copy_of_stamp(&view.stamp));
     hears_result(parts, arrival, view)
 }

@@ -1,6 +1,7 @@
 ghost use Rattle.std.specs.Prelude.{◌≡◌, ◌<◌, ◌≤◌, ◌+◌, ◌-◌, max, nat_lt, Some, true, false, length, unwrap_or};
-ghost use Rattle.am_node_parts.specs.Prelude.{greatest_number, EntryIsInRange, fits, image_of_log, top_of_log, has, names_of, size, IsInOrder, Node, push_entry, trim_node_up_to, ChangesAllAlike, IsEndOf, IsOwnBallot, IsSteady, NodeKeeps, node_of};
+ghost use Rattle.am_node_parts.specs.Prelude.{greatest_number, EntryIsInRange, fits, image_of_log, top_of_log, has, names_of, size, CoreFrontsAreInOrder, Node, push_entry, trim_node_up_to, ChangesAllAlike, IsEndOf, IsOwnBallot, IsSteady, NodeKeeps, node_of};
 ghost use Rattle.am_base.specs.Outcomes.{is_outcome_took};
+ghost use Rattle.am_node_defs.specs.Kept.{IsKept};
 ghost use Rattle.am_base.specs.declared.entry.Entry.TheVariants.{View};
 ghost use Rattle.am_model.specs.Ballots.{ballot_with_end, ballot_with_answer, decide, decided_view, decide_view, trim_to_least_taken_by, taken_number_of_voter};
 ghost use Rattle.am_node_defs.specs.Reports.{reports_beginning_at, least_of_names};
@@ -9,25 +10,23 @@ ghost use Rattle.am_resetting.specs.Deciding.{BallotIsAnswered, IsTakenOut, MayB
 ghost use Rattle.am_node_parts.specs.Verdicts.{VerdictComesTo, IsTold};
 
 use crate::promising::put_back;
-use crate::reading::{base_of, name_of};
 use am_ballots::ballot::Ballot;
 use am_base::entry::{EntryParts, EntryRef, GroupView};
 use am_base::names::Names;
 use am_base::outcome::Outcome;
 use am_node_parts::parts::Parts;
-use am_node_parts::votes::own_vote;
 use am_node_storage::log::Log;
 
 /// Trims the list up to a base, where that is greater.
 pub fn trim(parts: &mut Parts, base: u32)
-    requires order { IsInOrder parts.old.core }
+    requires order { CoreFrontsAreInOrder parts.old.core }
     requires taken { base ≤ parts.old.core.taken }
     ensures changes { ChangesAllAlike (λ m. trim_node_up_to m base) (node_of parts.old) (node_of parts.new) }
     ensures steady { IsSteady (node_of parts.old) (node_of parts.new) }
     ensures base { parts.new.core.base ≡ max parts.old.core.base base }
     ensures rules { parts.new.core.rules ≡ parts.old.core.rules }
     ensures taken { parts.new.core.taken ≡ parts.old.core.taken }
-    ensures order { IsInOrder parts.new.core }
+    ensures order { CoreFrontsAreInOrder parts.new.core }
 {
     parts.core.trim_to(base);
 }
@@ -41,21 +40,21 @@ fn push(parts: &mut Parts, entry: &EntryRef)
     requires keeps { NodeKeeps (push_entry (node_of parts.old) entry.now) }
     ensures value { node_of parts.new ≡ push_entry (node_of parts.old) entry.now }
     ensures changes { ChangesAllAlike (λ m. push_entry m entry.now) (node_of parts.old) (node_of parts.new) }
-    ensures order { IsInOrder parts.new.core }
+    ensures order { CoreFrontsAreInOrder parts.new.core }
 {
     parts.core.push(entry);
 }
 
-/// Trims the list up to a base, where that is greater, and stores an entry behind it.
+/// Trims the list up to a base, where that is greater, and stores an entry after it.
 pub fn store(parts: &mut Parts, base: u32, entry: &EntryRef)
     requires { CatcherMayStore (node_of parts.old) base entry.now }
     ensures changes { ChangesAllAlike (λ m. push_entry (trim_node_up_to m base) entry.now) (node_of parts.old)
         (node_of parts.new) }
     ensures steady { IsSteady (push_entry (node_of parts.old) entry.now) (node_of parts.new) }
-    ensures order { IsInOrder parts.new.core }
+    ensures order { CoreFrontsAreInOrder parts.new.core }
 {
     trim(parts, base);
-    let _before = parts.accept_front();
+    let _before = parts.accept_front(); // for what it keeps
     push(parts, entry);
 }
 
@@ -101,9 +100,10 @@ fn decided_answer(parts: &Parts, names: Names) -> Outcome
     requires { top_of_log parts.now.core.log < greatest_number }
     ensures value { result ≡ Outcome.Decided (top_of_log parts.now.core.log + 1) names }
     ensures told { IsTold result }
+    ensures kept { IsKept parts.now.core.log (parts.now.core.rules.window + 15) }
 {
     Outcome::Decided {
-        number: parts.core.log.top() + 1,
+        number: parts.top() + 1,
         members: names,
     }
 }
@@ -142,9 +142,8 @@ fn push_view(parts: &mut Parts, ballot: &mut Ballot, names: Names) -> Outcome
     ensures told { IsTold result }
     ensures own { IsOwnBallot (node_of parts.new) (ballot_of ballot.new) }
 {
-    let _before = parts.accept_front();
     let answer = decided_answer(parts, names);
-    let base = base_of(parts);
+    let base = parts.base();
     push(parts, &view_of(parts, ballot, names));
     restart(parts, base);
     close(ballot, answer)
@@ -201,8 +200,8 @@ fn look(parts: &mut Parts, ballot: &mut Ballot) -> Outcome
     ensures told { IsTold result }
     ensures own { IsOwnBallot (node_of parts.new) (ballot_of ballot.new) }
 {
-    let own = own_vote(parts);
-    let who = name_of(parts);
+    let own = parts.own_vote();
+    let who = parts.name();
     let best = ballot.best(who, &own);
     let needed = best.members();
     if !needed.has(who) {

@@ -4,6 +4,6 @@
 pub mod catching;
 pub mod deciding;
 pub mod promising;
-pub mod reading;
 pub mod serving;
+pub mod stamps;
 pub mod voting;

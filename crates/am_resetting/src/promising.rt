@@ -3,7 +3,7 @@ ghost use Rattle.am_node_parts.specs.Prelude.{StampIsInRange, stamp_is_less, IsO
 ghost use Rattle.am_ballots.specs.Kept.{ballot_of};
 ghost use Rattle.am_model.specs.Ballots.{node_with_promise, overtake_lower_ballot};
 
-use crate::reading::{is_same, promise_of};
+use crate::stamps::is_same;
 use am_ballots::ballot::Ballot;
 use am_base::name::Stamp;
 use am_node_parts::parts::Parts;
@@ -36,7 +36,7 @@ pub fn raise_promise(parts: &mut Parts, stamp: Stamp)
     requires higher { stamp_is_less stamp parts.old.core.promise ≡ false }
     ensures { node_of parts.new ≡ node_with_promise (node_of parts.old) stamp }
 {
-    if is_same(&stamp, &promise_of(parts)) {
+    if is_same(&stamp, &parts.promise()) {
         return;
     }
     overtake(&mut parts.ballot, &stamp);

@@ -3,20 +3,18 @@ ghost use Rattle.am_node_parts.specs.Prelude.{top_of_log, node_of};
 ghost use Rattle.am_model.specs.Resets.{fetch_row, may_fetch};
 ghost use Rattle.am_node_parts.specs.Replies.{Replies};
 
-use crate::reading::{is_same, is_view, name_of, promise_of};
 use am_base::name::{Name, Stamp};
 use am_base::outcome::Outcome;
 use am_node_parts::parts::Parts;
 use am_node_parts::reply::{Reply, Telling, quiet, saying};
-use am_node_parts::serving::count_above;
 use am_node_storage::log::Log;
 
 /// Whether a name may fetch: the promised one, or in a view of the node's own anybody.
 fn may_fetch(parts: &Parts, from: Name, stamp: &Stamp) -> bool
     ensures { result ≡ may_fetch (node_of parts.now) from stamp.now }
 {
-    is_same(stamp, &promise_of(parts))
-        && (stamp.by == from || (stamp.by == name_of(parts) && is_view(parts, stamp)))
+    *stamp == parts.promise()
+        && (stamp.by == from || (stamp.by == parts.name() && parts.has_view(*stamp)))
 }
 
 /// Whether a number is below the base or above the last entry.
@@ -39,7 +37,7 @@ pub fn on_fetch<'a>(parts: &mut Parts, from: Name, stamp: Stamp, stored: u32) ->
     if is_out_of_reach(parts, stored) {
         return quiet(Outcome::Behind);
     }
-    let count = count_above(parts, stored);
+    let count = parts.count_above(stored);
     let pieces = Telling::Entries {
         to: from,
         stored,

@@ -1,5 +1,5 @@
 ghost use Rattle.std.specs.Prelude.{◌≡◌, ◌≢◌, ◌<◌, ◌+◌, Some, None, true, false, not, ◌&&◌, ◌||◌};
-ghost use Rattle.am_node_parts.specs.Prelude.{image_of_node, greatest_number, StampIsInRange, top_of_log, has, stamp_is_less, IsInOrder, has_log_by_status, is_member, members, other_members, Node, IsOwnBallot, node_of};
+ghost use Rattle.am_node_parts.specs.Prelude.{image_of_node, greatest_number, StampIsInRange, top_of_log, has, stamp_is_less, CoreFrontsAreInOrder, has_log_by_status, is_member, members, Node, IsOwnBallot, node_of};
 ghost use Rattle.am_ballots.specs.Kept.{ballot_of};
 ghost use Rattle.am_model.specs.Emit as emit;
 ghost use Rattle.am_model.specs.Ballots.{keep_vote_in_ballot, give_up_in_ballot, begin_ballot, next_stamp};
@@ -10,33 +10,22 @@ ghost use Rattle.am_node_parts.specs.Replies.{Replies};
 
 use crate::deciding::decide;
 use crate::promising::{put_back, raise_promise, take_ballot};
-use crate::reading::{copy_of, name_of, promise_of};
+use crate::stamps::copy_of_stamp;
 use am_ballots::ballot::Ballot;
 use am_base::image::Vote;
 use am_base::limits::MOST_RESILIENCE;
 use am_base::name::{Name, Stamp};
 use am_base::names::Names;
 use am_base::outcome::Outcome;
-use am_model::status::Status;
 use am_node_parts::parts::Parts;
 use am_node_parts::reply::{Note, Reply, asking, note_to, quiet, saying};
-use am_node_parts::votes::own_vote;
-use am_node_storage::log::Log;
-
-/// The members without the node itself.
-fn others_of(parts: &Parts) -> Names
-    requires { IsInOrder parts.now.core }
-    ensures { result ≡ other_members (node_of parts.now) }
-{
-    parts.others()
-}
 
 /// Whether it is a member by its status and by its list.
 fn is_member(parts: &Parts) -> bool
     ensures { result ≡ (is_member parts.now.status
         && has (members (node_of parts.now)) parts.now.core.who) }
 {
-    parts.status == Status::Member && parts.core.is_member()
+    parts.is_member() && parts.core.is_member()
 }
 
 /// A vote is kept, and the ballot looked at; it was taken out of the parts.
@@ -46,8 +35,8 @@ fn keep_vote<'a>(parts: &mut Parts, from: Name, vote: &Vote, ballot: Ballot) -> 
     ensures { Replies (keep_vote_in_ballot (node_of parts.old) (ballot_of ballot) from vote.now)
         result (node_of parts.new) }
 {
-    let own = own_vote(parts);
-    let who = name_of(parts);
+    let own = parts.own_vote();
+    let who = parts.name();
     let before = ballot.best(who, &own).members();
     let mut ballot = ballot;
     ballot.keep(from, vote);
@@ -74,7 +63,7 @@ fn is_stale(parts: &Parts, stamp: &Stamp, ballot: &Ballot) -> bool
     ensures { result ≡ (stamp_is_less stamp.now parts.now.core.promise
         || not (is_open_ballot stamp.now (ballot_of ballot.now))) }
 {
-    copy_of(stamp).is_below(promise_of(parts)) || !ballot.is_open(copy_of(stamp))
+    copy_of_stamp(stamp).is_below(parts.promise()) || !ballot.is_open(copy_of_stamp(stamp))
 }
 
 /// What a vote does to a ballot that was taken out of the parts.
@@ -85,7 +74,7 @@ fn take_vote<'a>(
     vote: &Vote,
     ballot: Ballot,
 ) -> Reply<'a>
-    requires order { IsInOrder parts.old.core }
+    requires order { CoreFrontsAreInOrder parts.old.core }
     requires out { (node_of parts.old).ballot ≡ None }
     requires own { IsOwnBallot (node_of parts.old) (ballot_of ballot) }
     requires number { top_of_log parts.old.core.log < greatest_number }
@@ -114,8 +103,8 @@ pub fn on_vote<'a>(parts: &mut Parts, from: Name, stamp: Stamp, vote: &Vote) -> 
     requires other { from ≢ parts.old.core.who }
     ensures { Replies (vote_row (node_of parts.old) from stamp vote.now) result (node_of parts.new) }
 {
-    if promise_of(parts).is_below(copy_of(&stamp)) {
-        let by = copy_of(&stamp);
+    if parts.promise().is_below(copy_of_stamp(&stamp)) {
+        let by = copy_of_stamp(&stamp);
         raise_promise(parts, stamp);
         return quiet(Outcome::Overtaken { by });
     }
@@ -131,9 +120,9 @@ pub fn on_invite<'a>(parts: &mut Parts, from: Name, stamp: Stamp) -> Reply<'a>
     requires { StampIsInRange stamp }
     ensures { Replies (invite_row (node_of parts.old) from stamp) result (node_of parts.new) }
 {
-    let promise = promise_of(parts);
+    let promise = parts.promise();
     let vote = note_to(from, Note::Vote);
-    if copy_of(&stamp).is_below(copy_of(&promise)) {
+    if copy_of_stamp(&stamp).is_below(copy_of_stamp(&promise)) {
         return saying(Outcome::Newer { promise }, vote);
     }
     raise_promise(parts, stamp);
@@ -142,7 +131,7 @@ pub fn on_invite<'a>(parts: &mut Parts, from: Name, stamp: Stamp) -> Reply<'a>
 
 /// What giving up a name does to a ballot that was taken out of the parts.
 fn give_up_of<'a>(parts: &mut Parts, name: Name, ballot: Ballot) -> Reply<'a>
-    requires order { IsInOrder parts.old.core }
+    requires order { CoreFrontsAreInOrder parts.old.core }
     requires out { (node_of parts.old).ballot ≡ None }
     requires own { IsOwnBallot (node_of parts.old) (ballot_of ballot) }
     requires number { top_of_log parts.old.core.log < greatest_number }
@@ -153,7 +142,7 @@ fn give_up_of<'a>(parts: &mut Parts, name: Name, ballot: Ballot) -> Reply<'a>
         put_back(parts, ballot);
         return quiet(Outcome::NotCoordinator);
     }
-    if name == name_of(parts) {
+    if name == parts.name() {
         put_back(parts, ballot);
         return quiet(Outcome::Unfit);
     }
@@ -168,7 +157,7 @@ pub fn on_give_up<'a>(parts: &mut Parts, name: Name) -> Reply<'a>
     ensures { Replies (give_up_row (node_of parts.old) name) result
         (node_of parts.new) }
 {
-    let _front = parts.accept_front();
+    let _front = parts.accept_front(); // for its order
     match take_ballot(parts) {
         None => quiet(Outcome::NotCoordinator),
         Some(ballot) => give_up_of(parts, name, ballot),
@@ -182,10 +171,10 @@ fn next_stamp(parts: &Parts) -> Stamp
     ensures within { StampIsInRange result }
     ensures higher { stamp_is_less result parts.now.core.promise ≡ false }
 {
-    let promise = promise_of(parts);
+    let promise = parts.promise();
     Stamp {
         round: promise.round + 1,
-        by: name_of(parts),
+        by: parts.name(),
     }
 }
 
@@ -198,15 +187,19 @@ fn drop_ballot(parts: &mut Parts)
 
 /// A ballot begins in place of the last one.
 fn begin<'a>(parts: &mut Parts, least: u8, resilience: u8) -> Reply<'a>
-    requires order { IsInOrder parts.old.core }
+    requires order { CoreFrontsAreInOrder parts.old.core }
     requires round { parts.old.core.promise.round < greatest_number }
     requires number { top_of_log parts.old.core.log < greatest_number }
     requires logged { has_log_by_status parts.old.status ≡ true }
     ensures { Replies (begin_ballot (node_of parts.old) least resilience) result (node_of parts.new) }
 {
     let stamp = next_stamp(parts);
-    let invited = others_of(parts);
-    let ballot = Ballot::new(copy_of(&stamp), least, resilience.min(MOST_RESILIENCE));
+    let invited = parts.others();
+    let ballot = Ballot::new(
+        copy_of_stamp(&stamp),
+        least,
+        resilience.min(MOST_RESILIENCE),
+    );
     drop_ballot(parts);
     raise_promise(parts, stamp);
     let outcome = decide(parts, ballot);
@@ -219,11 +212,11 @@ pub fn on_reset<'a>(parts: &mut Parts, least: u8, resilience: u8) -> Reply<'a>
     requires number { top_of_log parts.old.core.log < greatest_number }
     ensures { Replies (reset_row (node_of parts.old) least resilience) result (node_of parts.new) }
 {
-    let _front = parts.accept_front();
+    let _front = parts.accept_front(); // for its order
     if !is_member(parts) {
         return quiet(Outcome::NotMember);
     }
-    if parts.leaving {
+    if parts.is_leaving() {
         return quiet(Outcome::Leaving);
     }
     begin(parts, least, resilience)
@@ -261,7 +254,7 @@ pub fn on_hand_over<'a>(parts: &mut Parts) -> Reply<'a>
     ensures { Replies (reset_row (node_of parts.old) 1 (image_of_node (node_of parts.old)).resilience)
         result (node_of parts.new) }
 {
-    let resilience = parts.core.log.resilience();
+    let resilience = parts.resilience();
     on_reset(parts, 1, resilience)
 }
 

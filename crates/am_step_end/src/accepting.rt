@@ -5,7 +5,6 @@ ghost use Rattle.am_model.specs.Emit.{accept_packet_of};
 
 use am_node_parts::packet_from;
 use am_node_parts::parts::Parts;
-use am_node_storage::log::Log;
 use am_packet::packet::Packet;
 use am_packet_writer::out_box::OutBox;
 
@@ -15,10 +14,10 @@ fn accept(parts: &Parts, polls: bool) -> Packet<'_>
     ensures value { TellsAlike (λ n. accept_packet_of n polls) (node_of parts.now) result }
     ensures within { PacketIsWithin result }
 {
-    packet_from!(parts.core => Accept {
-        base: parts.core.log.base(),
-        acc: parts.core.acc,
-        top: parts.core.log.top(),
+    packet_from!(parts => Accept {
+        base: parts.base(),
+        acc: parts.accept_front(),
+        top: parts.top(),
         poll: polls,
     })
 }

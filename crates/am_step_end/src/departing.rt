@@ -6,17 +6,8 @@ ghost use Rattle.am_model.specs.Refresh.{refresh_as_sequencer, refresh_at_end};
 ghost use Rattle.am_node_parts.specs.Replies.{departed_node, LastMayDepart};
 
 use am_base::entry::EntryRef;
-use am_base::name::Name;
 use am_model::status::Status;
-use am_node_parts::departing::set_status;
 use am_node_parts::parts::Parts;
-
-/// The node's name.
-fn who(parts: &Parts) -> Name
-    ensures { result ≡ parts.now.core.who }
-{
-    parts.core.who
-}
 
 /// Leads as the last member does that has departed.
 fn lead(parts: &mut Parts)
@@ -24,7 +15,7 @@ fn lead(parts: &mut Parts)
     requires outside { is_member parts.old.status ≡ false }
     ensures { IsEndOf (refresh_as_sequencer (node_of parts.old)) (node_of parts.new) }
 {
-    let _before = parts.accept_front();
+    let _before = parts.accept_front(); // for its order
     parts.fronts.refresh(&mut parts.core);
 }
 
@@ -36,9 +27,9 @@ pub fn depart(parts: &mut Parts)
     ensures nobody { size (other_members (refresh_at_end
         (push_entry (node_of parts.old) (Leave parts.old.core.who)))) ≡ 0 }
 {
-    set_status(parts, Status::Departed);
-    let _before = parts.accept_front();
-    let who = who(parts);
+    parts.set_status(Status::Departed);
+    let _before = parts.accept_front(); // for what it keeps
+    let who = parts.name();
     parts.push(&EntryRef::leave(who));
     lead(parts);
 }

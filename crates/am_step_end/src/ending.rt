@@ -69,9 +69,9 @@ pub fn finish(parts: &mut Parts, before: u32, reply: Reply, out: &mut OutBox) ->
     ensures { (m : Node) (p : Plan) → m.core.acc ≡ before → Replies p reply.entry (node_of parts.old)
         → ends.StepComesTo (finish m p) result out.new (node_of parts.new) }
 {
-    let _before = parts.accept_front();
+    let _before = parts.accept_front(); // for its order
     end(parts, &reply.first, out);
-    let _after = parts.accept_front();
+    let _after = parts.accept_front(); // for its order
     let outcome = answer(parts, reply.answer);
     tell(parts, &outcome, &reply.first, out);
     tell(parts, &outcome, &reply.second, out);

@@ -6,7 +6,6 @@ ghost use Rattle.am_step_end.specs.Going.{is_stored};
 
 use am_base::name::Name;
 use am_base::names::Names;
-use am_node_parts::asking::row;
 use am_node_parts::parts::Parts;
 use am_node_storage::fronts::Fronts;
 
@@ -27,7 +26,7 @@ fn is_stored(fronts: &Fronts, accepted: u32, left: u32, names: Names) -> bool
 pub fn may_go(parts: &Parts, name: Name) -> bool
     ensures { result ≡ leaver_may_go (node_of parts.now) name }
 {
-    let left = row(parts, name).left;
+    let left = parts.row(name).left;
     let accepted = parts.accept_front();
     let others = parts.core.since_accepted().without(name);
     is_stored(&parts.fronts, accepted, left, others)

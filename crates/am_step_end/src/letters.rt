@@ -11,11 +11,9 @@ use crate::notes::{ack, fetch, gone, packet, result};
 use crate::viewing::tell_view;
 use am_base::name::{Name, Stamp};
 use am_base::outcome::Outcome;
-use am_node_parts::asking::row;
 use am_node_parts::packets::only;
 use am_node_parts::parts::Parts;
 use am_node_parts::reply::{Note, Telling};
-use am_node_storage::log::Log;
 use am_packet_writer::out_box::OutBox;
 
 /// A decided view is told to its other members.
@@ -28,8 +26,8 @@ fn tell_result(parts: &Parts, outcome: &Outcome, out: &mut OutBox)
     match outcome {
         Outcome::Decided { number, members } => {
             out.put(
-                members.without(parts.core.who),
-                &result(parts, *number, *members, parts.core.log.resilience()),
+                members.without(parts.name()),
+                &result(parts, *number, *members, parts.resilience()),
             );
         }
         _ => {}
@@ -55,8 +53,7 @@ fn tell_ack_in(parts: &Parts, view: Stamp, to: Name, out: &mut OutBox)
         out.old }
     ensures few { length out.new ≤ length out.old + 1 }
 {
-    let here = parts.core.log.view();
-    if here.round == view.round && here.by == view.by {
+    if parts.has_view(view) {
         out.put(only(to), &ack(parts));
     }
 }
@@ -80,7 +77,7 @@ fn tell_gone(parts: &Parts, to: Name, out: &mut OutBox)
         out.old }
     ensures few { length out.new ≤ length out.old + 1 }
 {
-    let left = row(parts, to).left;
+    let left = parts.row(to).left;
     if may_go(parts, to) {
         out.put(only(to), &gone(parts, left));
     }

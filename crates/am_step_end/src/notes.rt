@@ -2,37 +2,22 @@
 
 ghost use Rattle.std.specs.Prelude.{◌≡◌, ◌≤◌};
 ghost use Rattle.am_node_parts.specs.Prelude.{NumberIsInRange, EntryIsInRange, PacketIsWithin, node_of};
-ghost use Rattle.am_base.specs.Limits.{ReportIsInRange};
 ghost use Rattle.am_base.specs.declared.entry.Entry.TheVariants.{Data};
-ghost use Rattle.am_model.specs.Node.{own_report_of};
 ghost use Rattle.am_model.specs.Emit.{bcast_packet_of, order_packet_of, ack_packet_of, nack_packet_of, hold_packet_of, join_ask_packet_of, welcome_packet_of, gone_packet_of, leave_ask_packet_of, invite_packet_of, fetch_packet_of, hand_over_packet_of, request_packet_of, spread_packet_of, result_packet_of};
 ghost use Rattle.am_model.specs.Ballots.{vote_packet_of};
 ghost use Rattle.am_node_parts.specs.Replies.{packet_of, own_packet, IsNoteWithin, IsOwnWithin};
 
 use am_base::body::Body;
 use am_base::entry::{EntryParts, EntryRef, GroupView};
-use am_base::image::Report;
 use am_base::name::Name;
 use am_base::names::Names;
 use am_node_parts::owning::WaitingSend;
 use am_node_parts::packet_from;
 use am_node_parts::parts::Parts;
 use am_node_parts::reply::{Note, OwnLetter};
-use am_node_parts::votes::own_vote;
 use am_node_storage::log::Log;
 use am_packet::image_ref::ImageRef;
 use am_packet::packet::Packet;
-
-/// What the node has stored and taken.
-fn report(parts: &Parts) -> Report
-    ensures value { result ≡ own_report_of (node_of parts.now) }
-    ensures within { ReportIsInRange result }
-{
-    Report {
-        stored: parts.core.log.top(),
-        taken: parts.core.taken,
-    }
-}
 
 /// A numbered entry.
 fn bcast<'a>(parts: &Parts, number: u32, entry: &EntryRef<'a>) -> Packet<'a>
@@ -41,9 +26,9 @@ fn bcast<'a>(parts: &Parts, number: u32, entry: &EntryRef<'a>) -> Packet<'a>
     ensures value { result ≡ bcast_packet_of (node_of parts.now) number entry.now }
     ensures within { PacketIsWithin result }
 {
-    packet_from!(parts.core => Bcast {
-        base: parts.core.log.base(),
-        acc: parts.core.acc,
+    packet_from!(parts => Bcast {
+        base: parts.base(),
+        acc: parts.accept_front(),
         number,
         entry: entry.again(),
     })
@@ -56,9 +41,9 @@ fn order<'a>(parts: &Parts, number: u32, from: Name, req: u32) -> Packet<'a>
     ensures value { result ≡ order_packet_of (node_of parts.now) number from req }
     ensures within { PacketIsWithin result }
 {
-    packet_from!(parts.core => Order {
-        base: parts.core.log.base(),
-        acc: parts.core.acc,
+    packet_from!(parts => Order {
+        base: parts.base(),
+        acc: parts.accept_front(),
         number,
         from,
         req,
@@ -70,7 +55,7 @@ pub fn ack<'a>(parts: &Parts) -> Packet<'a>
     ensures value { result ≡ ack_packet_of (node_of parts.now) }
     ensures within { PacketIsWithin result }
 {
-    packet_from!(parts.core => Ack { report: report(parts) })
+    packet_from!(parts => Ack { report: parts.own_report() })
 }
 
 /// A report that asks for what comes next.
@@ -78,7 +63,7 @@ fn nack<'a>(parts: &Parts) -> Packet<'a>
     ensures value { result ≡ nack_packet_of (node_of parts.now) }
     ensures within { PacketIsWithin result }
 {
-    packet_from!(parts.core => Nack { report: report(parts) })
+    packet_from!(parts => Nack { report: parts.own_report() })
 }
 
 /// There is no room for a send.
@@ -87,9 +72,9 @@ fn hold<'a>(parts: &Parts, req: u32) -> Packet<'a>
     ensures value { result ≡ hold_packet_of (node_of parts.now) req }
     ensures within { PacketIsWithin result }
 {
-    packet_from!(parts.core => Hold {
-        base: parts.core.log.base(),
-        top: parts.core.log.top(),
+    packet_from!(parts => Hold {
+        base: parts.base(),
+        top: parts.top(),
         req,
     })
 }
@@ -99,20 +84,21 @@ fn join_ask<'a>(parts: &Parts) -> Packet<'a>
     ensures value { result ≡ join_ask_packet_of (node_of parts.now) }
     ensures within { PacketIsWithin result }
 {
-    let _top = parts.core.log.top();
-    packet_from!(parts.core => JoinAsk {})
+    packet_from!(parts => JoinAsk {})
 }
 
 /// A name is welcomed.
-fn welcome(parts: &Parts, name: Name) -> Packet<'_>
-    ensures value { result ≡ welcome_packet_of (node_of parts.now) name }
+fn welcome(parts: &Parts, joiner: Name) -> Packet<'_>
+    ensures value { result ≡ welcome_packet_of (node_of parts.now) joiner }
     ensures within { PacketIsWithin result }
 {
-    packet_from!(parts.core => Welcome {
-        base: parts.core.log.base(),
-        join: parts.core.log.row(name).joined,
+    Packet::Welcome {
+        sender: parts.name(),
+        stamp: parts.promise(),
+        base: parts.base(),
+        join: parts.row(joiner).joined,
         image: ImageRef::of(parts.core.log.image_at_base()),
-    })
+    }
 }
 
 /// A name may go, by the number of its Leave.
@@ -121,8 +107,7 @@ pub fn gone<'a>(parts: &Parts, number: u32) -> Packet<'a>
     ensures value { result ≡ gone_packet_of (node_of parts.now) number }
     ensures within { PacketIsWithin result }
 {
-    let _top = parts.core.log.top();
-    packet_from!(parts.core => Gone { number })
+    packet_from!(parts => Gone { number })
 }
 
 /// The node would leave.
@@ -130,7 +115,7 @@ fn leave_ask<'a>(parts: &Parts) -> Packet<'a>
     ensures value { result ≡ leave_ask_packet_of (node_of parts.now) }
     ensures within { PacketIsWithin result }
 {
-    packet_from!(parts.core => LeaveAsk { report: report(parts) })
+    packet_from!(parts => LeaveAsk { report: parts.own_report() })
 }
 
 /// An Invite to the ballot that the node has promised.
@@ -138,8 +123,7 @@ fn invite<'a>(parts: &Parts) -> Packet<'a>
     ensures value { result ≡ invite_packet_of (node_of parts.now) }
     ensures within { PacketIsWithin result }
 {
-    let _top = parts.core.log.top();
-    packet_from!(parts.core => Invite {})
+    packet_from!(parts => Invite {})
 }
 
 /// What the node shows in a ballot.
@@ -147,7 +131,7 @@ fn vote<'a>(parts: &Parts) -> Packet<'a>
     ensures value { result ≡ vote_packet_of (node_of parts.now) }
     ensures within { PacketIsWithin result }
 {
-    packet_from!(parts.core => Vote { vote: own_vote(parts) })
+    packet_from!(parts => Vote { vote: parts.own_vote() })
 }
 
 /// A Fetch of what comes next.
@@ -155,7 +139,7 @@ pub fn fetch<'a>(parts: &Parts) -> Packet<'a>
     ensures value { result ≡ fetch_packet_of (node_of parts.now) }
     ensures within { PacketIsWithin result }
 {
-    packet_from!(parts.core => Fetch { stored: parts.core.log.top() })
+    packet_from!(parts => Fetch { stored: parts.top() })
 }
 
 /// The sequencer leaves.
@@ -163,8 +147,7 @@ fn hand_over<'a>(parts: &Parts) -> Packet<'a>
     ensures value { result ≡ hand_over_packet_of (node_of parts.now) }
     ensures within { PacketIsWithin result }
 {
-    let _top = parts.core.log.top();
-    packet_from!(parts.core => HandOver {})
+    packet_from!(parts => HandOver {})
 }
 
 /// The result of a ballot: its View's number, members and resilience.
@@ -175,11 +158,11 @@ pub fn result<'a>(parts: &Parts, number: u32, members: Names, resilience: u8) ->
     ensures within { PacketIsWithin result }
 {
     Packet::Result {
-        sender: parts.core.who,
-        base: parts.core.log.base(),
+        sender: parts.name(),
+        base: parts.base(),
         number,
         view: GroupView {
-            stamp: parts.core.promise,
+            stamp: parts.promise(),
             members,
             resilience,
         },
@@ -192,7 +175,7 @@ fn request<'a>(parts: &Parts, req: u32, body: &'a Body) -> Packet<'a>
     ensures value { result ≡ request_packet_of (node_of parts.now) req body.now }
     ensures within { PacketIsWithin result }
 {
-    packet_from!(parts.core => Request { report: report(parts), req, body: body.as_ref() })
+    packet_from!(parts => Request { report: parts.own_report(), req, body: body.as_ref() })
 }
 
 /// One for everybody.
@@ -201,7 +184,7 @@ fn spread<'a>(parts: &Parts, req: u32, body: &'a Body) -> Packet<'a>
     ensures value { result ≡ spread_packet_of (node_of parts.now) req body.now }
     ensures within { PacketIsWithin result }
 {
-    packet_from!(parts.core => Spread { report: report(parts), req, body: body.as_ref() })
+    packet_from!(parts => Spread { report: parts.own_report(), req, body: body.as_ref() })
 }
 
 /// One that is numbered.
@@ -212,7 +195,7 @@ fn own_bcast<'a>(parts: &Parts, number: u32, req: u32, body: &'a Body) -> Packet
     ensures within { PacketIsWithin result }
 {
     let entry = EntryRef::of(EntryParts::Data {
-        from: parts.core.who,
+        from: parts.name(),
         req,
         body: body.as_ref(),
     });

@@ -6,7 +6,6 @@ ghost use Rattle.am_node_parts.specs.Replies.{own_letters, IsOwnWithin};
 
 use crate::notes::own_packet;
 use am_base::names::Names;
-use am_node_parts::owning::next_send;
 use am_node_parts::parts::Parts;
 use am_node_parts::reply::OwnLetter;
 use am_packet_writer::out_box::OutBox;
@@ -21,7 +20,7 @@ pub fn hand_out(parts: &mut Parts, to: Names, letter: OwnLetter, out: &mut OutBo
         (node_of parts.new) }
     ensures few { length out.new ≤ 8 }
 {
-    let waits = next_send(parts);
+    let waits = parts.next_send();
     parts.end();
     let Some(send) = waits else {
         return;

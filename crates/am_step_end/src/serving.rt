@@ -1,5 +1,5 @@
 ghost use Rattle.std.specs.Prelude.{◌≡◌, ◌<◌, ◌≤◌, ◌+◌, ◌++◌, ◌∷◌, All, Some, [], length};
-ghost use Rattle.am_node_parts.specs.Prelude.{greatest_number, NumberIsInRange, EntryIsInRange, PacketIsWithin, log_entry_at, top_of_log, IsInOrder, set_of_one_name, node_of};
+ghost use Rattle.am_node_parts.specs.Prelude.{greatest_number, NumberIsInRange, EntryIsInRange, PacketIsWithin, log_entry_at, top_of_log, CoreFrontsAreInOrder, set_of_one_name, node_of};
 ghost use Rattle.am_base.specs.declared.entry.Entry.{Entry};
 ghost use Rattle.am_model.specs.Emit.{entries_to_serve, letters_of_entries};
 ghost use Rattle.am_model.specs.Refresh.{refresh_at_end};
@@ -11,7 +11,6 @@ use am_base::name::Name;
 use am_node_parts::packet_from;
 use am_node_parts::packets::only;
 use am_node_parts::parts::Parts;
-use am_node_parts::serving::last_served;
 use am_node_storage::log::Log;
 use am_packet::packet::Packet;
 use am_packet_writer::out_box::OutBox;
@@ -40,7 +39,7 @@ fn copy_entry(parts: &Parts, number: u32, entries: &mut ArrayVec<Entry, 8>)
 
 /// Copies of the entries above a number, eight at most: the list may be trimmed before they are sent.
 fn copies(parts: &Parts, stored: u32) -> ArrayVec<Entry, 8>
-    requires order { IsInOrder parts.now.core }
+    requires order { CoreFrontsAreInOrder parts.now.core }
     requires low { parts.now.core.base ≤ stored }
     requires high { stored ≤ top_of_log parts.now.core.log }
     ensures items { result.items ≡ entries_to_serve (node_of parts.now) stored }
@@ -48,7 +47,7 @@ fn copies(parts: &Parts, stored: u32) -> ArrayVec<Entry, 8>
     ensures numbers { stored + length result.items ≤ greatest_number }
 {
     let mut entries = ArrayVec::new();
-    let last = last_served(parts, stored);
+    let last = parts.last_served(stored);
     for before in stored..last {
         copy_entry(parts, before + 1, &mut entries);
     }
@@ -64,11 +63,11 @@ fn packet_of<'a>(parts: &Parts, pieces: bool, number: u32, entry: EntryRef<'a>) 
     ensures within { PacketIsWithin result }
 {
     if pieces {
-        return packet_from!(parts.core => Piece { base: parts.core.log.base(), number, entry });
+        return packet_from!(parts => Piece { base: parts.base(), number, entry });
     }
-    packet_from!(parts.core => Bcast {
-        base: parts.core.log.base(),
-        acc: parts.core.acc,
+    packet_from!(parts => Bcast {
+        base: parts.base(),
+        acc: parts.accept_front(),
         number,
         entry,
     })
@@ -103,7 +102,7 @@ pub fn serve(parts: &mut Parts, to: Name, stored: u32, pieces: bool, out: &mut O
         (entries_to_serve (node_of parts.old) stored) [] }
     ensures few { length out.new ≤ 8 }
 {
-    let _before = parts.accept_front();
+    let _before = parts.accept_front(); // for its order
     let entries = copies(parts, stored);
     parts.end();
     let served = Served { to, stored, pieces };

@@ -1,6 +1,6 @@
 ghost use Rattle.std.specs.Prelude.{◌≡◌, ◌<◌, ◌≤◌, ◌+◌, nat_lt, length};
 ghost use Rattle.std.specs.Option.{option_copied};
-ghost use Rattle.am_node_parts.specs.Prelude.{greatest_number, log_entry_at, other_members, image_of_node, node_of};
+ghost use Rattle.am_node_parts.specs.Prelude.{log_entry_at, other_members, node_of};
 ghost use Rattle.am_node_defs.specs.Reports.{reports_of};
 ghost use Rattle.am_model.specs.Node.{life_where_name_passes, names_that_pass};
 ghost use Rattle.am_model.specs.Ticks.{members_of_view_entry};
@@ -10,7 +10,6 @@ use crate::notes::result;
 use am_base::entry::Entry;
 use am_base::name::Name;
 use am_base::names::Names;
-use am_node_parts::asking::others;
 use am_node_parts::parts::Parts;
 use am_node_storage::log::Log;
 use am_packet_writer::out_box::OutBox;
@@ -38,7 +37,7 @@ fn behind(parts: &Parts, number: u32) -> Names
     ensures { result ≡ names_that_pass (λ name. nat_lt (reports_of parts.now.fronts name).stored number)
         (other_members (node_of parts.now)) }
 {
-    let lives = others(parts).each_life();
+    let lives = parts.others().each_life();
     let mut behind = [0; 16];
     for place in 0..16u8 {
         behind[usize::from(place)] = behind_life(parts, number, place, lives[usize::from(place)]);
@@ -68,30 +67,6 @@ fn viewed_at(parts: &Parts, number: u32) -> Names
     viewed_by(parts.core.log.entry(number))
 }
 
-/// The number of the last View.
-fn view_number(parts: &Parts) -> u32
-    ensures value { result ≡ (image_of_node (node_of parts.now)).view_number }
-    ensures within { result ≤ greatest_number }
-{
-    parts.core.log.view_number()
-}
-
-/// The resilience of the last View.
-fn resilience(parts: &Parts) -> u8
-    ensures value { result ≡ (image_of_node (node_of parts.now)).resilience }
-    ensures within { result ≤ 15 }
-{
-    parts.core.log.resilience()
-}
-
-/// Up to where the list is trimmed.
-fn base(parts: &Parts) -> u32
-    ensures value { result ≡ parts.now.core.base }
-    ensures kept { parts.now.core.base ≡ parts.now.core.log.start }
-{
-    parts.core.log.base()
-}
-
 /// Tells the last View again to the other members that haven't stored it, as long as it isn't trimmed.
 #[tactic(auto, using(am_model::proofs::Letters::with_letter_adds_one))]
 pub fn tell_view(parts: &Parts, out: &mut OutBox)
@@ -99,12 +74,12 @@ pub fn tell_view(parts: &Parts, out: &mut OutBox)
     ensures letters { out.new ≡ letters_with_view out.old (node_of parts.now) }
     ensures few { length out.new ≤ length out.old + 1 }
 {
-    let number = view_number(parts);
-    if number <= base(parts) {
+    let number = parts.view_number();
+    if number <= parts.base() {
         return;
     }
     let to = behind(parts, number);
     let members = viewed_at(parts, number);
-    let result = result(parts, number, members, resilience(parts));
+    let result = result(parts, number, members, parts.resilience());
     out.put(to, &result);
 }

@@ -4,7 +4,6 @@ ghost use Rattle.am_base.specs.Most.{most_events_of_run};
 ghost use Rattle.am_base.specs.Founding.{MayFound};
 ghost use Rattle.am_base.specs.Names.{has, name_of_place_and_life, life_of_name};
 ghost use Rattle.am_group_defs.specs.World.{first_node, start};
-ghost use Rattle.am_model.specs.Node.{has_departed};
 ghost use Rattle.am_model.specs.Ends.{IsEndOf};
 ghost use Rattle.am_node.specs.Stands.{state_of};
 ghost use Rattle.am_group.specs.Journals.{record_without_caller};
@@ -23,7 +22,6 @@ use am_group::event::{Event, Record};
 use am_journal::addressed::is_for;
 use am_journal::asked::{Asked, call_or_answer, first_bytes, heard_by, is_stopped};
 use am_journal::journal::{Journal, record_of};
-use am_model::status::Status;
 use am_node::founding::{Room, founders_view};
 use am_node::node::Node;
 use am_packet::letter::Letter;
@@ -64,15 +62,6 @@ fn new_life(
     let room = Room::new(alloc, journal.founding())?;
     let record = journal.record_for(alloc, event, name.life(), Outcome::Returned { life })?;
     Ok((record, room))
-}
-
-fn has_departed(status: Status) -> bool
-    ensures { result ≡ has_departed status }
-{
-    match status {
-        Status::Departed => true,
-        Status::Stranger | Status::Asking | Status::Member => false,
-    }
 }
 
 /// A run of a group: sixteen places with the node of each one's current life, all packets that were sent, and the one
@@ -274,7 +263,7 @@ impl Run {
     {
         let name = self.name_at(event.node);
         let Some(heard) = heard_by(&event.act) else {
-            let has_departed = has_departed(self.node(event.node).status());
+            let has_departed = self.node(event.node).status().has_departed();
             return call_or_answer(self.alloc, &self.stopped, has_departed, name, &event.act);
         };
         let Some(letter) = self.journal.packet(heard.packet) else {

@@ -15,7 +15,7 @@ use am_base::outcome::Outcome;
 use am_group::event::Event;
 use am_journal::asked::{Asked, keep_room};
 use am_journal::journal::Journal;
-use am_lawful_watch::telling::{has_log, stops_by};
+use am_lawful_watch::telling::stops_by;
 use am_lawful_watch::watcher::Watcher;
 use am_model::info::Info;
 use am_node::node::Node;
@@ -164,7 +164,7 @@ impl World {
     pub fn has_log(&self, name: Name) -> bool
         ensures { result ≡ has_log_by_status ((replay self.now).nodes name).status }
     {
-        has_log(self.watcher.standing(name).status)
+        self.watcher.standing(name).status.has_log()
     }
 
     /// The number of the first event after which the run wasn't lawful; None exactly as long as it is.

@@ -7,7 +7,7 @@ returns c =
     c.store_views.ensures
     ∙ ap (λ k. watching_with_entries k c.args.step.now.name (views_stored_in_step c.args.step.now.name c.args.step.now.before.now c.args.step.now.after.now c.args.step.now.view.now c.args.step.now.what.now)) c.decide.ensures
 
-pub returns-then-is_same_stamp : goal.returns-then-is_same_stamp
-returns-then-is_same_stamp c =
+pub returns-then-eq : goal.returns-then-eq
+returns-then-eq c =
     with_views_of_same_view (watching_of c.args.watcher.now) c.args.step.now.name c.args.step.now.before.now c.args.step.now.after.now c.args.step.now.view.now c.args.step.now.what.now
-    c.requires.before (sym c.is_same_stamp.ensures ∙ c.if-is_same_stamp.true)
+    c.requires.before (sym c.eq.ensures ∙ c.if-eq.true)

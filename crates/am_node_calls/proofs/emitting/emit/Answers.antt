@@ -46,4 +46,4 @@ returns c =
     (sym c.is_sequencer.ensures.value ∙ c.if-not-is_sequencer.false) (sym c.has_room.ensures.value ∙ c.if-not-has_room.false) numbered.node)
     (c.numbering.ensures ∙ ap (λ (r : Reply). let x : Reply = record r { numbers = true } in x) c.saying.ensures)
     (numbering_plan_replies_bcast old mid c.args.answer send.req c.number_send-number.result send.body c.others-to.result waits numbered.node numbered.number numbered.within
-    c.others-to.ensures)
+    c.others-to.ensures.value)

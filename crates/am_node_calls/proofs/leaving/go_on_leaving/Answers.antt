@@ -10,28 +10,28 @@ pub returns-then-not-is_sequencer : goal.returns-then-not-is_sequencer
 returns-then-not-is_sequencer c =
     let m = node_of c.args.parts.now in
     equal_reply_of_equal_plan (go_of_member_asks m c.args.answer (sym c.is_sequencer.ensures.value ∙ c.if-not-is_sequencer.true))
-    (c.saying.ensures ∙ ap (λ set. reply_with_telling c.args.answer (tell.Note set note.LeaveAsk)) c.others-others.ensures)
+    (c.saying.ensures ∙ ap (λ set. reply_with_telling c.args.answer (tell.Note set note.LeaveAsk)) c.others-others.ensures.value)
     (reply_tells_one_note m m c.args.answer (other_members m) note.LeaveAsk tt (untrimmed_node_ends_itself m))
 
 pub returns-then-len-gt0 : goal.returns-then-len-gt0
 returns-then-len-gt0 c =
     let m = node_of c.args.parts.now in
-    let some = others_counted_are_some m c.len.ensures.value c.others-others.ensures c.if-len-gt0.true in
+    let some = others_counted_are_some m c.len.ensures.value c.others-others.ensures.value c.if-len-gt0.true in
     equal_reply_of_equal_plan (go_of_sequencer_hands_over m c.args.answer (sym c.is_sequencer.ensures.value ∙ c.if-not-is_sequencer.false) some)
-    (c.saying-then-len-gt0.ensures ∙ ap (reply_with_telling c.args.answer) (c.handing_over.ensures ∙ ap hands_over c.others-others.ensures))
+    (c.saying-then-len-gt0.ensures ∙ ap (reply_with_telling c.args.answer) (c.handing_over.ensures ∙ ap hands_over c.others-others.ensures.value))
     (reply_tells_one_note m m c.args.answer (set_of_one_name (lowest_name_or_zero (other_members m))) note.HandOver tt (untrimmed_node_ends_itself m))
 
 pub returns-then-not-has_room : goal.returns-then-not-has_room
 returns-then-not-has_room c =
     let m = node_of c.args.parts.now in
-    let none = others_counted_are_none m c.len.ensures.value c.others-others.ensures c.if-len-gt0.false in
+    let none = others_counted_are_none m c.len.ensures.value c.others-others.ensures.value c.if-len-gt0.false in
     equal_reply_of_equal_plan (go_of_last_without_room m c.args.answer (sym c.is_sequencer.ensures.value ∙ c.if-not-is_sequencer.false) none (sym c.has_room.ensures.value
     ∙ c.if-not-has_room.true)) (c.quiet.ensures ∙ ap reply_without_letters c.held_answer.ensures) (reply_quiet_with_outcome m m _ (untrimmed_node_ends_itself m))
 
 pub returns : goal.returns
 returns c =
     let m = node_of c.args.parts.now in
-    let none = others_counted_are_none m c.len.ensures.value c.others-others.ensures c.if-len-gt0.false in
+    let none = others_counted_are_none m c.len.ensures.value c.others-others.ensures.value c.if-len-gt0.false in
     let leads = sym c.is_sequencer.ensures.value ∙ c.if-not-is_sequencer.false in
     let room = sym c.has_room.ensures.value ∙ c.if-not-has_room.false in
     equal_reply_of_equal_plan (go_of_last_departs m c.args.answer leads none room)

@@ -1,4 +1,5 @@
 use Rattle.am_node_calls.proofs.Words.{refl, sym, ap, ◌∙◌, set_of_one_name, view, node_of, untrimmed_node_ends_itself, reply_with_telling, equal_reply_of_equal_plan, reply_tells_one_note}
+use Rattle.am_base.specs.declared.name.Stamp.{Stamp}
 use Rattle.am_base.specs.declared.outcome.Outcome.TheVariants as said
 use Rattle.am_node_parts.specs.declared.reply.Note.TheVariants as note
 use Rattle.am_node_parts.specs.declared.reply.Telling.TheVariants as tell
@@ -25,5 +26,5 @@ returns c =
     let m = node_of c.args.parts.now in
     equal_reply_of_equal_plan
     (ticks.tick_member_that_reports m (sym c.is_leaving.ensures ∙ c.if-is_leaving.false) (sym c.would_emit_waiting.ensures ∙ c.if-would_emit_waiting.false))
-    (c.saying.ensures ∙ ap (reply_with_telling said.Ticked) (c.note_to.ensures ∙ ap (λ k. tell.Note (set_of_one_name k) note.Ack) c.leader.ensures))
+    (c.saying.ensures ∙ ap (reply_with_telling said.Ticked) (c.note_to.ensures ∙ ap (λ (s : Stamp). tell.Note (set_of_one_name s.by) note.Ack) c.view.ensures.value))
     (reply_tells_one_note m m _ (set_of_one_name (view m).by) note.Ack tt (untrimmed_node_ends_itself m))

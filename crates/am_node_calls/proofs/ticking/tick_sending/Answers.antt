@@ -39,4 +39,4 @@ returns c =
     ∙ ap (λ (r : Reply). let x : Reply = record r { polls = true } in x) (c.and.ensures
     ∙ ap (λ (r : Reply). let x : Reply = record r { second = tell.View } in x) c.saying-sent.ensures)))
     (ticks.numbering_tick_replies_bcast old mid send.req c.number_send-number.result send.body c.others-to.result waits numbered.node numbered.number numbered.within
-    c.others-to.ensures)
+    c.others-to.ensures.value)

@@ -29,6 +29,6 @@ returns c =
     let number = c.next_number-number.result in
     equal_reply_of_equal_plan refl
     (c.and.ensures ∙ ap (λ (r : Reply). let x : Reply = record r { second = tell.Welcome number s } in x) (c.numbered.ensures
-    ∙ (λ k. reply_of_numbered_entry number (c.others-others.ensures k) (c.join-2.ensures k))))
+    ∙ (λ k. reply_of_numbered_entry number (c.others-others.ensures.value k) (c.join-2.ensures k))))
     (numbered_join_replies_welcome old (node_of c.push.new.self) s number (c.push.ensures.node ∙ (λ k. push_entry (c.admit.ensures k) (c.join.ensures k)))
     c.next_number-number.ensures.value c.next_number-number.ensures.within tt)

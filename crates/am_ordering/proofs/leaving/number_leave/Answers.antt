@@ -28,6 +28,6 @@ returns c =
     let number = c.next_number-number.result in
     equal_reply_of_equal_plan refl
     (c.and.ensures ∙ ap (λ (r : Reply). let x : Reply = record r { second = tell.Gone c.args.from } in x) (c.numbered.ensures
-    ∙ (λ k. reply_of_numbered_entry number (c.others-others.ensures k) (c.leave-2.ensures k))))
+    ∙ (λ k. reply_of_numbered_entry number (c.others-others.ensures.value k) (c.leave-2.ensures k))))
     (numbered_leave_replies_gone old (node_of c.push.new.self) c.args.from number (c.push.ensures.node ∙ ap (push_entry old) c.leave.ensures)
     c.next_number-number.ensures.value c.next_number-number.ensures.within tt)

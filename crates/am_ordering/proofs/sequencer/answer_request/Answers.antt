@@ -51,6 +51,6 @@ returns c =
     (sym c.in_default.is ∙ c.request_refusal.ensures.value ∙ ap (λ (r : Row). request_refusal r send.req) c.row-row.ensures.value)
     (sym c.has_room.ensures.value ∙ c.if-not-has_room.false))
     (c.numbering.ensures ∙ ap (λ (r : Reply). let x : Reply = record r { numbers = true } in x) (c.saying.ensures
-    ∙ (λ k. reply_with_telling (said.Numbered number) (tell.Note (c.others-to.ensures k) (c.data_note-note.ensures k)))))
+    ∙ (λ k. reply_with_telling (said.Numbered number) (tell.Note (c.others-to.ensures.value k) (c.data_note-note.ensures k)))))
     (numbered_data_replies_note m (node_of c.push.new.self) send.from send.req number send.body send.by_order (c.push.ensures.node ∙ ap (push_entry m) c.data_of.ensures)
     c.next_number-number.ensures.value c.next_number-number.ensures.within c.requires.req)

@@ -25,7 +25,7 @@ push-requires-clause-keeps c =
     let old = node_of c.args.parts.now in
     let fit = entry_is_fit_to_store old c.args.told.number c.args.entry.now (sym c.is_unfit.ensures.value ∙ c.if-is_unfit.false) in
     push_keeps_node_order old c.args.entry.now fit.plain fit.fits
-    (old.core.rules.window + 15) c.accept_front-before.ensures.kept (status_of_member_has_log old.status c.requires.follows.member)
+    (old.core.rules.window + 15) c.is_unfit.ensures.kept (status_of_member_has_log old.status c.requires.follows.member)
     (λ leads. absurd (let no = sym c.requires.follows.follows ∙ leads in cc)) c.args.parts.now.keeps
 
 pub returns : goal.returns

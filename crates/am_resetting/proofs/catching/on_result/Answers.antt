@@ -10,8 +10,8 @@ returns-then-is_passed c =
     let old = node_of c.args.parts.now in
     equal_reply_of_plan (result_row old arrival.from arrival.base arrival.number v) c.quiet.result (reply_without_letters said.Elsewhere) old
     c.quiet.ensures
-    (result_row_is_elsewhere old old arrival.from arrival.base arrival.number v (sym c.is_passed.ensures
-    ∙ c.if-is_passed.true) (untrimmed_node_ends_itself old c.accept_front-front.ensures.order.kept))
+    (result_row_is_elsewhere old old arrival.from arrival.base arrival.number v (sym c.is_passed.ensures.value
+    ∙ c.if-is_passed.true) (untrimmed_node_ends_itself old c.is_passed.ensures.order.kept))
 
 pub returns : goal.returns
 returns c =
@@ -20,5 +20,5 @@ returns c =
     let old = node_of c.args.parts.now in
     let mid = node_of c.raise_promise.new.parts in
     result_row_is_heard old mid (node_of c.hears_result.new.parts) arrival.from arrival.base arrival.number v
-    c.hears_result.result (sym c.is_passed.ensures ∙ c.if-is_passed.false)
-    (c.raise_promise.ensures ∙ ap (node_with_promise old) c.copy_of.ensures) c.hears_result.ensures
+    c.hears_result.result (sym c.is_passed.ensures.value ∙ c.if-is_passed.false)
+    (c.raise_promise.ensures ∙ ap (node_with_promise old) c.copy_of_stamp.ensures) c.hears_result.ensures

@@ -9,7 +9,7 @@ pub returns-then-not-has-clause-comes : goal.returns-then-not-has-clause-comes
 returns-then-not-has-clause-comes c =
     let old = node_of c.args.parts.now in
     let b = ballot_of c.args.ballot.now in
-    let seen = looked_at_ballot_by_values old b c.best-best.result c.name_of-who.ensures c.own_vote-own.ensures.value c.best-best.ensures c.members-needed.ensures in
+    let seen = looked_at_ballot_by_values old b c.best-best.result c.name-who.ensures.value c.own_vote-own.ensures.value c.best-best.ensures c.members-needed.ensures in
     decide_without_own_name_comes (put_back (node_of c.args.parts.now) (ballot_of c.close.new.ballot)) c.close.result seen (best_vote_has_own_name seen c.has.ensures c.if-not-has.true)
     (c.close.ensures.answer ∙ ap said.NotIn c.view.ensures) (node_with_equal_ballot_end old (put_back (node_of c.args.parts.now) (ballot_of c.close.new.ballot)) b c.close.ensures.answer (ap (put_back (node_of c.args.parts.now)) c.close.ensures.ballot))
 
@@ -17,14 +17,14 @@ pub returns-then-len-gt0-clause-comes : goal.returns-then-len-gt0-clause-comes
 returns-then-len-gt0-clause-comes c =
     let old = node_of c.args.parts.now in
     let b = ballot_of c.args.ballot.now in
-    let seen = looked_at_ballot_by_values old b c.best-best.result c.name_of-who.ensures c.own_vote-own.ensures.value c.best-best.ensures c.members-needed.ensures in
+    let seen = looked_at_ballot_by_values old b c.best-best.result c.name-who.ensures.value c.own_vote-own.ensures.value c.best-best.ensures c.members-needed.ensures in
     let waits = ballot_waits_for_names seen c.has.ensures c.if-not-has.false c.waited_for-waited.ensures c.len.ensures.value in
     decide_waiting_comes (put_back (node_of c.args.parts.now) (ballot_of c.keep_on.new.ballot)) c.keep_on.result waits c.if-len-gt0.true c.keep_on.ensures.answer
     (node_with_equal_ballot_answer old (put_back (node_of c.args.parts.now) (ballot_of c.keep_on.new.ballot)) b c.keep_on.ensures.answer (ap (put_back (node_of c.args.parts.now)) c.keep_on.ensures.ballot))
 
 pub returns-then-ne-clause-comes : goal.returns-then-ne-clause-comes
 returns-then-ne-clause-comes c =
-    let seen = looked_at_ballot_by_values (node_of c.args.parts.now) (ballot_of c.args.ballot.now) c.best-best.result c.name_of-who.ensures c.own_vote-own.ensures.value
+    let seen = looked_at_ballot_by_values (node_of c.args.parts.now) (ballot_of c.args.ballot.now) c.best-best.result c.name-who.ensures.value c.own_vote-own.ensures.value
     c.best-best.ensures c.members-needed.ensures in
     decide_fetching_comes (put_back (node_of c.args.parts.now) (ballot_of c.keep_on-then-ne.new.ballot)) c.keep_on-then-ne.result
     (ballot_waits_for_nobody (ballot_waits_for_names seen c.has.ensures c.if-not-has.false c.waited_for-waited.ensures c.len.ensures.value) c.if-len-gt0.false)
@@ -35,7 +35,7 @@ returns-then-ne-clause-comes c =
 
 pub returns-then-got-least-clause-comes : goal.returns-then-got-least-clause-comes
 returns-then-got-least-clause-comes c =
-    let seen = looked_at_ballot_by_values (node_of c.args.parts.now) (ballot_of c.args.ballot.now) c.best-best.result c.name_of-who.ensures c.own_vote-own.ensures.value
+    let seen = looked_at_ballot_by_values (node_of c.args.parts.now) (ballot_of c.args.ballot.now) c.best-best.result c.name-who.ensures.value c.own_vote-own.ensures.value
     c.best-best.ensures c.members-needed.ensures in
     decide_with_too_few_comes (put_back (node_of c.args.parts.now) (ballot_of c.close-then-got-least.new.ballot)) c.close-then-got-least.result
     (ballot_waits_for_nobody (ballot_waits_for_names seen c.has.ensures c.if-not-has.false c.waited_for-waited.ensures c.len.ensures.value) c.if-len-gt0.false)
@@ -47,7 +47,7 @@ returns-then-got-least-clause-comes c =
 
 pub returns-clause-comes : goal.returns-clause-comes
 returns-clause-comes c =
-    let seen = looked_at_ballot_by_values (node_of c.args.parts.now) (ballot_of c.args.ballot.now) c.best-best.result c.name_of-who.ensures c.own_vote-own.ensures.value
+    let seen = looked_at_ballot_by_values (node_of c.args.parts.now) (ballot_of c.args.ballot.now) c.best-best.result c.name-who.ensures.value c.own_vote-own.ensures.value
     c.best-best.ensures c.members-needed.ensures in
     decide_with_enough_comes (put_back (node_of c.trim_and_decide.new.parts) (ballot_of c.trim_and_decide.new.ballot)) c.trim_and_decide.result
     (ballot_waits_for_nobody (ballot_waits_for_names seen c.has.ensures c.if-not-has.false c.waited_for-waited.ensures c.len.ensures.value) c.if-len-gt0.false)
@@ -60,7 +60,7 @@ trim_and_decide-requires-clause-names c =
     let old = node_of c.args.parts.now in
     let b = ballot_of c.args.ballot.now in
     let best = c.best-best.result in
-    let seen = looked_at_ballot_by_values old b best c.name_of-who.ensures c.own_vote-own.ensures.value c.best-best.ensures c.members-needed.ensures in
+    let seen = looked_at_ballot_by_values old b best c.name-who.ensures.value c.own_vote-own.ensures.value c.best-best.ensures c.members-needed.ensures in
     let own : (best.by == old.core.who) ≡ true = best_vote_is_own seen c.by-from.ensures c.ne.ensures c.if-ne.false in
     let left_is = (voters_of_ballot_are_counted seen c.left_in-left.ensures c.len-got.ensures.value (c.from-least.ensures ∙ c.least.ensures)).left_is in
     let by : best.by ≡ old.core.who = grind (arith, nat_tests) in

@@ -38,7 +38,7 @@ push-requires-clause-keeps c =
     let old = node_of c.args.parts.now in
     subst (λ (e : Entry). NodeKeeps (push_entry old e)) (sym c.view_of.ensures.value)
     (own_view_keeps old (ballot_of c.args.ballot.now) c.args.names
-    (old.core.rules.window + 15) c.accept_front-before.ensures.kept c.requires.ballot c.requires.names c.args.parts.now.keeps)
+    (old.core.rules.window + 15) c.decided_answer-answer.ensures.kept c.requires.ballot c.requires.names c.args.parts.now.keeps)
 
 pub returns-clause-comes : goal.returns-clause-comes
 returns-clause-comes c =
@@ -50,7 +50,7 @@ returns-clause-comes c =
     (λ all end. subst (λ (x : Entry). IsEndOf (push_entry all x) mid) c.view_of.ensures.value (c.push.ensures.changes all end))
     (c.close.ensures.answer ∙ c.decided_answer-answer.ensures.value)
     (ap (put_back (node_of c.restart.new.parts)) c.close.ensures.ballot ∙ ap (λ (x : Node). record x { ballot = Some (ballot_with_end b c.decided_answer-answer.result) }) c.restart.ensures
-    ∙ ap (λ k. record mid { reports = reports_beginning_at k; ballot = Some (ballot_with_end b c.decided_answer-answer.result) }) c.base_of-base.ensures
+    ∙ ap (λ k. record mid { reports = reports_beginning_at k; ballot = Some (ballot_with_end b c.decided_answer-answer.result) }) c.base-base.ensures.value
     ∙ ap (λ (o : Outcome). record mid { reports = reports_beginning_at old.core.base; ballot = Some (ballot_with_end b o) }) (sym c.close.ensures.answer))
 
 pub returns-clause-own : goal.returns-clause-own

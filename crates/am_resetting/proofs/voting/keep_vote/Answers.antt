@@ -15,8 +15,8 @@ returns c =
     let old = node_of c.args.parts.now in
     let new = ballot_with_vote (ballot_of c.args.ballot) c.args.from c.args.vote.now in
     let invited : c.newly_needed-invited.result ≡ newly_needed_names old (ballot_of c.args.ballot) new =
-    minus_is_newly_needed old (ballot_of c.args.ballot) new (ballot_of c.keep.new.self) c.name_of-who.result c.own_vote-own.result c.best.result c.best-2.result
-    c.newly_needed-invited.result c.members-before.result c.members-needed.result c.keep.ensures c.name_of-who.ensures c.own_vote-own.ensures.value
+    minus_is_newly_needed old (ballot_of c.args.ballot) new (ballot_of c.keep.new.self) c.name-who.result c.own_vote-own.result c.best.result c.best-2.result
+    c.newly_needed-invited.result c.members-before.result c.members-needed.result c.keep.ensures c.name-who.ensures.value c.own_vote-own.ensures.value
     c.best.ensures c.best-2.ensures c.members-before.ensures c.members-needed.ensures c.newly_needed-invited.ensures in
     let comes : VerdictComesTo (decide old new) c.decide-outcome.result (node_of c.decide-outcome.new.parts) =
     subst (λ (b : Ballot). VerdictComesTo (decide old b) c.decide-outcome.result (node_of c.decide-outcome.new.parts)) c.keep.ensures

@@ -1,9 +1,8 @@
-use Rattle.am_resetting.proofs.VotingWords.{ℕ, ap, ◌∙◌, subst, image_of_log, Parts, node_of, reset_row, Replies}
+use Rattle.am_resetting.proofs.VotingWords.{ℕ, subst, node_of, reset_row, Replies}
 use Rattle.am_resetting.proofs.voting.on_hand_over.Goals as goal
 
 pub returns : goal.returns
 returns c =
     let old = node_of c.args.parts.now in
     let P : ℕ → Type 0 = λ r. Replies (reset_row old 1 r) c.on_reset.result (node_of c.on_reset.new.parts) in
-    let told = c.resilience-resilience.ensures.value ∙ ap (λ (p : Parts). (image_of_log p.core.log).resilience) c.parts.view_is in
-    subst P told c.on_reset.ensures
+    subst P c.resilience-resilience.ensures.value c.on_reset.ensures

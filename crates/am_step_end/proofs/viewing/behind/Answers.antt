@@ -7,4 +7,4 @@ returns c =
     let test : ℕ → Bool = (λ name. nat_lt (reports_of c.args.parts.now.fronts name).stored c.args.number) in
     c.of_lives.ensures
     ∙ names_passing_are_those test c.each_life-lives.result c.loop-place.behind c.loop-place.invariant.long (λ k h. c.loop-place.invariant.filled k (omega arith))
-    ∙ ap (names_that_pass test) (c.each_life-lives.ensures.value ∙ c.others.ensures)
+    ∙ ap (names_that_pass test) (c.each_life-lives.ensures.value ∙ c.others.ensures.value)
