@@ -28,8 +28,9 @@ class Fault:
     killed: set[int] = field(default_factory=set)
     folder: tuple[int, str] | None = None
     flaps: float = NONE
-    # when it began, and when it ended
+    # when it began, when it was there in full, and when it ended
     at: float = 0.0
+    full: float = 0.0
     over: float = 0.0
 
 
@@ -149,6 +150,7 @@ class Faults:
         self.tell(fault.killed)
         if fault.deaf:
             self.connect()
+        fault.full = time.monotonic()
 
     def tell(self, killed: set[int]) -> None:
         """Says who was killed, where nobody finds it out."""
@@ -200,15 +202,13 @@ def spoil(group: Group, place: int, what: str) -> None:
             while True:
                 filler.write(bytes(4096))
         return
-    # one that is mounted over it: the process has a file open for writing there, so the folder's own can't be made read-only
-    subprocess.run(["mount", "--bind", folder, folder], check=True)
-    subprocess.run(["mount", "-o", "remount,bind,ro", folder], check=True)
+    # one that is mounted over it, where the process sees it: it has a file open for writing there, so the folder itself stays writable
+    over = f"mount --bind '{folder}' '{folder}' && mount -o remount,bind,ro '{folder}'"
+    process = str(group.lives[place].process.pid)
+    subprocess.run(["nsenter", "--target", process, "--mount", "sh", "-c", over], check=True)
 
 
 def mend(group: Group, place: int, what: str) -> None:
-    """A place's folder can be written again."""
-    folder = group.state(place)
+    """A place's folder can be written again by its next life."""
     if what == "full disk":
-        (folder / "filler").unlink(missing_ok=True)
-    else:
-        subprocess.run(["umount", folder], check=False)
+        (group.state(place) / "filler").unlink(missing_ok=True)

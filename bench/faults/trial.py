@@ -136,7 +136,7 @@ class Trial:
             status = self.group.status(place)
             if life.process.poll() is None and (status is None or status["failures"]["frozen-for-milliseconds"] is None):
                 self.result.wrong.append(f"{fault.what}: {life.name} isn't frozen: {status}")
-            late = [one for one in answers(life.record) if one > fault.at + 0.1 + kind.thaw()]
+            late = [one for one in answers(life.record) if one > fault.full + 0.2 + kind.thaw()]
             if late:
                 self.result.wrong.append(f"{fault.what}: {life.name} answered {len(late)} messages while it was cut off")
 
