@@ -16,8 +16,10 @@ from group import GIVEN_UP, PATIENCE, Group, Kind, Life, Wrong, wait_for
 from kinds import GONE, KEPT, OF_ANOTHER, OF_ONE, OF_SEQUENCER, Fault, Faults, directed, expected, is_measured_from_end, of_one, seconds_of
 from network import Network
 
-# an operator ends a name that is blocked so many seconds after all faults are over
-OPERATOR = 6 * 1.0
+# an operator looks so many seconds after all faults are over
+OPERATOR = 6.0
+# a fault goes on for so many seconds more at most, until whom it hits is given up
+LATE = 15.0
 KILLED = -9
 
 
@@ -92,7 +94,7 @@ class Trial:
             fault = directed(self.plan.what, self.plan.kind, self.group, self.draw)
             hit = {place: self.group.lives[place] for place in fault.hit}
             self.begin(fault)
-            while time.monotonic() < fault.at + fault.seconds:
+            while not self.is_done(fault, hit):
                 self.faults.go_on()
                 time.sleep(0.01)
             self.look(fault, hit)
@@ -103,6 +105,19 @@ class Trial:
             self.vote_again(fault)
             time.sleep(0.3)
             self.measure(fault)
+
+    def is_done(self, fault: Fault, hit: dict[int, Life]) -> bool:
+        """Whether a fault has gone on for long enough: its time is over, and whoever is to be given up has been, if that comes at all."""
+        now, ends = time.monotonic(), fault.at + fault.seconds
+        kind = self.plan.kind
+        if now < ends or now > ends + LATE:
+            return now >= ends
+        if expected(fault, kind) != GONE or is_measured_from_end(fault, kind):
+            return True
+        time.sleep(0.1)
+        names = {life.name for life in hit.values()}
+        said = (status for place, status in self.group.statuses().items() if status and place not in fault.hit)
+        return any(names <= {*status["failures"]["stopped"]} for status in said)
 
     def vote_again(self, fault: Fault) -> None:
         """A place whose folder couldn't be written votes no more, as its life is told; its next life votes."""
@@ -146,7 +161,7 @@ class Trial:
         for life in hit.values():
             if life.name in self.killed:
                 continue
-            if wanted == GONE and not wait_for(lambda life=life: life.process.poll() is not None, PATIENCE):
+            if wanted == GONE and not wait_for(lambda life=life: life.process.poll() is not None, LATE):
                 self.result.wrong.append(f"{fault.what}: {life.name} isn't given up")
             if wanted == KEPT and life.process.poll() is not None:
                 self.result.wrong.append(f"{fault.what}: {life.name} ended: {self.group.said(life)}")
