@@ -26,7 +26,7 @@ FENCE = """\
 # ends the process of the name which is the one argument, and waits until it is gone
 pid=$(cat '{folder}/pid-'$(echo "$1" | tr / -)) || exit 1
 kill -9 "$pid" 2>/dev/null
-while grep -qs '^State:[[:space:]]*[^ZX]' "/proc/$pid/status"; do sleep 0.01; done
+while grep -qs '^State:[[:space:]]*[^ZX[:space:]]' "/proc/$pid/status"; do sleep 0.01; done
 """
 
 
