@@ -296,6 +296,8 @@ class Trial:
         """Has the journals judged while the members that run stand still: so none of them has stopped, and no journal goes on."""
         for life in self.group.lives.values():
             life.process.send_signal(signal.SIGSTOP)
+        if not wait_for(lambda: all(stands(life) for life in self.group.lives.values()), PATIENCE):
+            self.result.wrong.append("not all members stand still to be judged")
         words = [self.group.judge, "--follow", self.folder / "journals"]
         judge = subprocess.Popen(words, stdout=subprocess.PIPE, stderr=subprocess.PIPE, text=True)
         told = judge.stderr.readline()
@@ -303,8 +305,20 @@ class Trial:
         out, rest = judge.communicate(timeout=600)
         lines = [line for line in (out + told + rest).splitlines() if "so far" not in line]
         self.result.judged = lines[0] if lines else "judge says nothing"
+        went_on = [life.name for life in self.group.lives.values() if not stands(life)]
+        if went_on:
+            self.result.wrong.append(f"{', '.join(went_on)} went on while journals were judged: somebody else continued them")
         if judge.returncode or not self.result.judged.endswith("lawful"):
             self.result.wrong.append(f"judge: {self.result.judged}")
+
+
+def stands(life: Life) -> bool:
+    """Whether a life's process is stopped by a signal, or has ended."""
+    try:
+        stat = pathlib.Path(f"/proc/{life.process.pid}/stat").read_text(encoding="ascii", errors="replace")
+    except OSError:
+        return True
+    return stat.rsplit(")", 1)[1].split()[0] in "TtZX"
 
 
 def answers(record: Record | None) -> Iterable[float]:
