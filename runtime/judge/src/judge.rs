@@ -300,7 +300,12 @@ impl<'a> Court<'a> {
                 return Ok(true);
             }
         }
+        // one whose stop was asked for just now stops in the next turn
+        let stops = |life: &Life| {
+            matches!(life.next, Next::Stop) && order.iter().all(|(_, name)| *name != life.name)
+        };
         match order.first() {
+            Some(_) if self.lives.values().any(stops) => Ok(true),
             Some((_, name)) if waits => Err(self.blocked(*name)),
             _ => Ok(false),
         }
