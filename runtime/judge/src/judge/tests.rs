@@ -12,7 +12,7 @@ fn times(journal: &[u8]) -> Option<(u64, u64)> {
     let text = String::from_utf8_lossy(journal);
     let mut times = text.lines().filter_map(time_of);
     let first = times.next()?;
-    Some((first, times.last().unwrap_or(first)))
+    Some((first, times.next_back().unwrap_or(first)))
 }
 
 /// What stood in a journal at a time; nothing if its life had done nothing yet.
@@ -34,7 +34,7 @@ fn while_a_later_life_ran(seed: u64) -> Option<(Name, BTreeMap<Name, Vec<u8>>)> 
     let mut plan = Plan::of(seed);
     plan.journal = true;
     let all = run(&plan).ok()?.journals;
-    let later = all.iter().filter(|(name, _)| name.life() > 1).last()?;
+    let later = all.iter().rfind(|(name, _)| name.life() > 1)?;
     let (first, last) = times(later.1)?;
     let at = first + (last - first) / 2;
     let then = all
