@@ -48,9 +48,8 @@ fn while_a_later_life_ran(seed: u64) -> Option<(Name, BTreeMap<Name, Vec<u8>>)> 
 #[test]
 fn a_life_that_is_judged_after_the_following_may_still_run() {
     let folder = std::env::temp_dir().join(format!("muoswyld-judge-late-{}", std::process::id()));
-    let runs = (1..=40).filter_map(while_a_later_life_ran).take(3);
     let mut count = 0;
-    for (name, all) in runs {
+    for (name, all) in (1..=60).filter_map(while_a_later_life_ran) {
         // what was there is of another run
         let _ = fs::remove_dir_all(&folder);
         fs::create_dir_all(&folder).expect("a folder");
@@ -61,6 +60,9 @@ fn a_life_that_is_judged_after_the_following_may_still_run() {
         };
         let mut court = Court::new(&asked);
         court.scan().unwrap_or_else(|finding| panic!("{finding}"));
+        if court.lives.contains_key(&name) {
+            continue;
+        }
         asked.over.set();
         court.close();
         while court
@@ -71,5 +73,5 @@ fn a_life_that_is_judged_after_the_following_may_still_run() {
         count += 1;
     }
     let _ = fs::remove_dir_all(&folder);
-    assert_eq!(count, 3);
+    assert!(count >= 3, "{count} lives began later");
 }
