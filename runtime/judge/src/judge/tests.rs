@@ -12,7 +12,7 @@ fn times(journal: &[u8]) -> Option<(u64, u64)> {
     let text = String::from_utf8_lossy(journal);
     let mut times = text.lines().filter_map(time_of);
     let first = times.next()?;
-    Some((first, times.last().unwrap_or(first)))
+    Some((first, times.next_back().unwrap_or(first)))
 }
 
 /// What stood in a journal at a time; nothing if its life had done nothing yet.
@@ -34,7 +34,7 @@ fn while_a_later_life_ran(seed: u64) -> Option<(Name, BTreeMap<Name, Vec<u8>>)> 
     let mut plan = Plan::of(seed);
     plan.journal = true;
     let all = run(&plan).ok()?.journals;
-    let later = all.iter().filter(|(name, _)| name.life() > 1).last()?;
+    let later = all.iter().rfind(|(name, _)| name.life() > 1)?;
     let (first, last) = times(later.1)?;
     let at = first + (last - first) / 2;
     let then = all
@@ -48,9 +48,8 @@ fn while_a_later_life_ran(seed: u64) -> Option<(Name, BTreeMap<Name, Vec<u8>>)> 
 #[test]
 fn a_life_that_is_judged_after_the_following_may_still_run() {
     let folder = std::env::temp_dir().join(format!("muoswyld-judge-late-{}", std::process::id()));
-    let runs = (1..=40).filter_map(while_a_later_life_ran).take(3);
     let mut count = 0;
-    for (name, all) in runs {
+    for (name, all) in (1..=60).filter_map(while_a_later_life_ran) {
         // what was there is of another run
         let _ = fs::remove_dir_all(&folder);
         fs::create_dir_all(&folder).expect("a folder");
@@ -61,6 +60,9 @@ fn a_life_that_is_judged_after_the_following_may_still_run() {
         };
         let mut court = Court::new(&asked);
         court.scan().unwrap_or_else(|finding| panic!("{finding}"));
+        if court.lives.contains_key(&name) {
+            continue;
+        }
         asked.over.set();
         court.close();
         while court
@@ -71,5 +73,5 @@ fn a_life_that_is_judged_after_the_following_may_still_run() {
         count += 1;
     }
     let _ = fs::remove_dir_all(&folder);
-    assert_eq!(count, 3);
+    assert!(count >= 3, "{count} lives began later");
 }
