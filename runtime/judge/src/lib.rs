@@ -15,6 +15,8 @@
 
 #![warn(missing_docs)]
 
+mod court;
+mod ending;
 pub mod feed;
 pub mod finding;
 pub mod judge;

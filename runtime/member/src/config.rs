@@ -98,6 +98,15 @@ pub enum Plant {
     FoundersAtTop,
 }
 
+/// A list that another one follows: the id of its group, and the entry that ended it.
+#[derive(Clone, Copy, Debug, PartialEq, Eq)]
+pub struct Before {
+    /// The id of its group.
+    pub group: u64,
+    /// The number of the entry that ended it.
+    pub number: u32,
+}
+
 /// What a member is told at its start.
 #[derive(Clone, Debug)]
 pub struct Settings {
@@ -109,6 +118,8 @@ pub struct Settings {
     pub generation: u32,
     /// The group's id, if it is known: of a list that follows another one. Else the lowest founder draws it, and the others ask for it.
     pub group: Option<u64>,
+    /// The list that this founding's follows, if that is known. Only the journal says it.
+    pub before: Option<Before>,
     /// A random word of this process. Two processes of one name have different ones.
     pub process: u64,
     /// What chance the member needs, its group's id among it, comes from this alone.
@@ -151,6 +162,7 @@ impl Settings {
             founding,
             generation: 0,
             group: None,
+            before: None,
             process,
             seed: process,
             least: None,

@@ -287,13 +287,15 @@ impl Member {
         self.ending.last = Some(number);
         self.ending.late = u32::from(self.has(Plant::EndsListLate));
         let unsent = self.take_unsent();
-        self.give(Output::Succeeded(Successor {
+        let successor = Successor {
             group,
             founding: ends.founding(),
             members: ends.members,
             at: self.at(number, 0),
             unsent,
-        }));
+        };
+        self.journal.succeed(&successor);
+        self.give(Output::Succeeded(successor));
     }
 
     /// Whether an entry is delivered, by the end of the list.

@@ -134,6 +134,17 @@ pub enum Delivery {
         /// How many of them may stop.
         resilience: u8,
     },
+    /// The list ended, and another one follows it, whose positions are of the next generation. Its founders' view comes next.
+    Succeeded {
+        /// The entry that ended the list.
+        at: Position,
+        /// The members there, by their names in the list that ended.
+        members: Names,
+        /// How the next list is founded. A member's name in it is the first life of its place.
+        founding: Founding,
+        /// The places that vote who has stopped in the next list; nobody if the policy has no voters.
+        voters: Names,
+    },
 }
 
 impl Delivery {
@@ -143,7 +154,8 @@ impl Delivery {
             Delivery::Message { at, .. }
             | Delivery::Joined { at, .. }
             | Delivery::Left { at, .. }
-            | Delivery::View { at, .. } => *at,
+            | Delivery::View { at, .. }
+            | Delivery::Succeeded { at, .. } => *at,
         }
     }
 }
@@ -351,8 +363,12 @@ pub struct Counts {
 /// How a member stands.
 #[derive(Clone, Copy, Debug, PartialEq, Eq)]
 pub struct Info {
-    /// Its name.
+    /// Its name in the latest list of its group.
     pub name: Name,
+    /// How many lists of the group came before that one.
+    pub generation: u32,
+    /// How that list was founded.
+    pub founding: Founding,
     /// Its group's id, once it knows it.
     pub group: Option<u64>,
     /// What it is to its group, the members, and the fronts of its list.

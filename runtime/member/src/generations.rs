@@ -1,6 +1,6 @@
 //! A member of a group without an end: its lists follow one another, and the application sees one.
 
-use crate::config::{Plant, Settings, StartError, Time};
+use crate::config::{Before, Plant, Settings, StartError, Time};
 use crate::event::{HandleError, Input, Output, Successor};
 use crate::frame::group_of;
 use crate::member::Member;
@@ -192,6 +192,11 @@ impl Generations {
         settings.founding = successor.founding;
         settings.generation += 1;
         settings.group = Some(successor.group);
+        let ended = self.current.info().group;
+        settings.before = ended.map(|group| Before {
+            group,
+            number: successor.at.number,
+        });
         settings.seed = settings.seed.rotate_left(17) ^ successor.group;
         let Ok(next) = Member::new(settings.clone(), now) else {
             return false; // there is no memory for its node; the old list goes on without deliveries

@@ -10,6 +10,8 @@ impl Member {
     pub fn info(&self) -> Info {
         Info {
             name: self.me(),
+            generation: self.settings.generation,
+            founding: self.settings.founding,
             group: self.hearing.group,
             standing: self.standing,
             unsettled: self.sending.unsettled(),

@@ -47,7 +47,7 @@ mod sending;
 mod timers;
 
 pub use body::MOST_MESSAGE;
-pub use config::{Founding, Plant, Settings, StartError, Time, MESSAGE_HEAD};
+pub use config::{Before, Founding, Plant, Settings, StartError, Time, MESSAGE_HEAD};
 pub use event::{
     Counts, Delivery, End, HandleError, Info, Input, Next, NotReset, Notice, Output, Position,
     Successor, Unsent,

@@ -47,7 +47,7 @@ pub struct Member {
     pub(crate) counts: Counts,
     pub(crate) ended: Option<End>,
     letter: u32,
-    journal: Journal,
+    pub(crate) journal: Journal,
     outbox: Outbox,
     direct: Vec<(Names, Vec<u8>)>,
     outputs: Vec<Output>,

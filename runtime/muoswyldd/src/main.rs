@@ -31,6 +31,7 @@ fn done(verb: Verb) -> Result<(), Fault> {
         Verb::Send { at, message } => (at, Command::Send(message.into_bytes())),
         Verb::Leave { at } => (at, Command::Leave),
         Verb::Reset { at, least } => (at, Command::Reset(least)),
+        Verb::Succeed { at, next } => (at, Command::Succeed(next.list())),
         Verb::Stopped { at, name } => (at, Command::Stopped(name)),
         Verb::Status { at } => (at, Command::Status),
     };

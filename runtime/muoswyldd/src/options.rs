@@ -5,12 +5,16 @@ use crate::failing::{missing, By};
 use crate::key;
 use crate::show::Form;
 use clap::{Args, Parser, Subcommand, ValueEnum};
-use muoswyld_group::{Config, Name, Names};
+use muoswyld_group::{Config, Limits, Name, Names, NextList};
 use serde::Deserialize;
 use std::collections::BTreeMap;
 use std::net::{SocketAddr, ToSocketAddrs};
 use std::path::{Path, PathBuf};
 use std::time::Duration;
+
+/// With how many lives left the list ends by itself where only the numbers are said, and the other way round.
+const LIVES_LEFT: u8 = 1;
+const NUMBERS_LEFT: u32 = 1_000_000;
 
 /// A member of a group: all members are given the same messages in the same order.
 #[derive(Debug, Parser)]
@@ -55,6 +59,15 @@ pub enum Verb {
         /// The fewest members to go on with
         least: Option<u8>,
     },
+    /// Has a member that runs end its group's list, so that another one follows it; what isn't said stays as it is
+    Succeed {
+        /// The member
+        #[command(flatten)]
+        at: At,
+        /// What the next list has otherwise
+        #[command(flatten)]
+        next: Otherwise,
+    },
     /// Tells a member that runs that another one has stopped for certain
     Stopped {
         /// The member
@@ -77,6 +90,43 @@ pub struct At {
     /// The member's Unix socket
     #[arg(long, value_name = "PATH")]
     pub socket: PathBuf,
+}
+
+/// What the next list of a group has otherwise.
+#[derive(Debug, Args)]
+pub struct Otherwise {
+    /// How many members may stop between two resets, 0 to 15
+    #[arg(long, value_name = "N")]
+    pub resilience: Option<u8>,
+    /// How many entries may wait for the slowest member, 1 to 1008
+    #[arg(long, value_name = "N")]
+    pub window: Option<u16>,
+    /// Up to how many bytes a body goes by the sequencer, 0 to 1024
+    #[arg(long, value_name = "BYTES")]
+    pub pb_up_to: Option<u16>,
+    /// The places that vote who has stopped: members' places, odd in number, as 0,1,2
+    #[arg(long, value_name = "PLACES")]
+    pub voters: Option<Names>,
+}
+
+impl Otherwise {
+    /// The same, for a member.
+    pub fn list(&self) -> NextList {
+        let mut next = NextList::new();
+        if let Some(resilience) = self.resilience {
+            next = next.resilience(resilience);
+        }
+        if let Some(window) = self.window {
+            next = next.window(window);
+        }
+        if let Some(bytes) = self.pb_up_to {
+            next = next.pb_up_to(bytes);
+        }
+        if let Some(voters) = self.voters {
+            next = next.voters(voters);
+        }
+        next
+    }
 }
 
 /// What lines of standard input are.
@@ -214,6 +264,14 @@ pub struct Run {
     /// Milliseconds of silence after which a name is suspected [default: as few as may be]
     #[arg(long, value_name = "MILLISECONDS")]
     pub silence: Option<u64>,
+    /// The list ends by itself, and another one follows it, once a member's place has at most so many lives left, 0 to 15 [default: it
+    /// doesn't; 1 if --succeed-at-numbers is said]
+    #[arg(long, value_name = "N")]
+    pub succeed_at_lives: Option<u8>,
+    /// The list ends by itself, and another one follows it, once at most so many numbers of entries are left [default: it doesn't; 1000000 if
+    /// --succeed-at-lives is said]
+    #[arg(long, value_name = "N")]
+    pub succeed_at_numbers: Option<u32>,
     /// Seconds that the member may take to come into the group [default: without end]
     #[arg(long, value_name = "SECONDS")]
     pub start_within: Option<u64>,
@@ -315,6 +373,8 @@ impl Run {
             heartbeat: self.heartbeat.or(file.heartbeat),
             delay: self.delay.or(file.delay),
             silence: self.silence.or(file.silence),
+            succeed_at_lives: self.succeed_at_lives.or(file.succeed_at_lives),
+            succeed_at_numbers: self.succeed_at_numbers.or(file.succeed_at_numbers),
             start_within: self.start_within.or(file.start_within),
             leave_within: self.leave_within.or(file.leave_within),
         }
@@ -323,7 +383,7 @@ impl Run {
     /// The group's configuration that they say.
     pub fn group(&self) -> Result<Config, Fault> {
         let facts = self.asked()?;
-        let name = self.name_to_run(facts.as_ref())?;
+        let (name, list) = self.name_to_run(facts.as_ref())?;
         let wrong = |error| Fault::of(CONFIG, error);
         let mut config = match (&facts, self.founders) {
             (Some(facts), _) => facts.config(name).map_err(wrong)?,
@@ -344,7 +404,23 @@ impl Run {
             (None, true) => config.insecure(),
             (None, false) => config,
         };
-        self.failing(self.numbers(config), facts.as_ref())
+        let config = self.failing(self.numbers(config), facts.as_ref())?;
+        Ok(match list {
+            // its numbers and voters are those of the list in which it begins
+            Some(list) => config.later(list),
+            None => config,
+        })
+    }
+
+    /// When the list ends by itself, if it does.
+    fn limits(&self) -> Option<Limits> {
+        match (self.succeed_at_lives, self.succeed_at_numbers) {
+            (None, None) => None,
+            (lives, numbers) => Some(Limits {
+                lives: lives.unwrap_or(LIVES_LEFT),
+                numbers: numbers.unwrap_or(NUMBERS_LEFT),
+            }),
+        }
     }
 
     /// With the numbers that are said.
@@ -375,6 +451,9 @@ impl Run {
         }
         if let Some(seconds) = self.start_within {
             config = config.start_within(Duration::from_secs(seconds));
+        }
+        if let Some(limits) = self.limits() {
+            config = config.succeed_at(limits);
         }
         config
     }
@@ -442,6 +521,16 @@ mod tests {
         assert_eq!(run.fence, Some(PathBuf::from("f")));
         assert_eq!(run.fence_within, Some(3));
         assert!(toml::from_str::<Run>("failures = \"guess\"").is_err());
+    }
+
+    #[test]
+    fn a_list_ends_by_itself_if_that_is_said() {
+        assert_eq!(run_of(&[]).limits(), None);
+        let file: Run = toml::from_str("succeed-at-numbers = 7").unwrap();
+        let limits = run_of(&[]).over(file).limits().unwrap();
+        assert_eq!((limits.lives, limits.numbers), (LIVES_LEFT, 7));
+        let limits = run_of(&["--succeed-at-lives", "3"]).limits().unwrap();
+        assert_eq!((limits.lives, limits.numbers), (3, NUMBERS_LEFT));
     }
 
     #[test]
