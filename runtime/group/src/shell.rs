@@ -16,7 +16,7 @@ use crate::socket::Udp;
 use muoswyld::names::{Name, Names};
 use muoswyld_guarded::Guarded;
 use muoswyld_member::{
-    Delivery, HandleError, Info, Input, NotReset, Notice, Output, Position, Time, Unsent,
+    Delivery, HandleError, Info, Input, NotReset, Notice, Output, Position, Released, Time, Unsent,
 };
 use std::collections::HashMap;
 use std::fs::File;
@@ -51,7 +51,7 @@ struct Shell {
     on_notice: Option<Callback<Notice>>,
     on_delivery: Option<Callback<Delivery>>,
     on_arrival: Option<Callback<()>>,
-    outputs: Vec<Output>,
+    outputs: Vec<Released>,
     deliveries: Vec<Delivery>,
     commands: Vec<Command>,
     datagram: Vec<u8>,
@@ -260,9 +260,13 @@ impl Shell {
                 Command::Stopped { name, slot } => slot.fill(self.stopped(name)),
                 Command::Info(slot) => slot.fill(self.info()),
                 Command::Failures(slot) => slot.fill(self.failures()),
-                Command::Written(number) => self.member.written(self.clock.now(), number),
+                Command::Written(number) => {
+                    let generation = self.member.generation();
+                    self.member.written(self.clock.now(), generation, number);
+                }
                 Command::Fenced { name, done } => {
-                    self.member.fenced(self.clock.now(), name, done);
+                    let generation = self.member.generation();
+                    self.member.fenced(self.clock.now(), generation, name, done);
                 }
                 Command::Stop => end = Some(End::Stopped),
                 Command::Reset {
@@ -346,7 +350,7 @@ impl Shell {
         let mut outputs = std::mem::take(&mut self.outputs);
         self.member.batch(self.now(), &mut outputs);
         let mut end = None;
-        for output in outputs.drain(..) {
+        for Released { output, .. } in outputs.drain(..) {
             match output {
                 Output::Journal(line) => {
                     if let Err(error) = self.write(&line) {

@@ -18,21 +18,23 @@ impl Shell {
         let now = self.now();
         for deed in self.member.deeds(now) {
             match deed {
-                Deed::Send { to, payload } => {
+                Deed::Send { to, payload, .. } => {
                     if self.seal.seal(&payload, &mut self.datagram) {
                         let places = (0..16).filter(|place| to >> place & 1 == 1);
                         self.udp.push_known(&self.datagram, places);
                     }
                 }
-                Deed::Write { number, bytes } => self.fencing.write(number, bytes),
-                Deed::Fence { name, until } => {
+                Deed::Write { number, bytes, .. } => self.fencing.write(number, bytes),
+                Deed::Fence { name, until, .. } => {
                     let within = Duration::from_micros(until.since(now));
                     self.fencing.fence(name, within);
                 }
-                Deed::Stopped(name) => tracing::warn!("{name} has stopped for certain"),
+                Deed::Stopped { name, .. } => tracing::warn!("{name} has stopped for certain"),
                 // what is held is dropped
-                Deed::Ended => return Some(End::LeftOut),
-                Deed::Told(notice) => fencing::tell(notice, &self.member.failures()),
+                Deed::Ended { .. } => return Some(End::LeftOut),
+                Deed::Told { notice, .. } => fencing::tell(notice, &self.member.failures()),
+                // nobody ends a list here yet: whoever comes to an end has ended before
+                Deed::Begin { .. } | Deed::Closed { .. } => {}
             }
         }
         None

@@ -10,7 +10,7 @@ use crate::shared::Shared;
 use crate::state::State;
 use muoswyld_failures::Failures;
 use muoswyld_guarded::Guarded;
-use muoswyld_member::{Member, Settings, Time};
+use muoswyld_member::{Generations, Settings, Time};
 use std::fs::{File, OpenOptions};
 use std::io::ErrorKind;
 use std::os::unix::fs::OpenOptionsExt;
@@ -83,7 +83,7 @@ pub(super) fn begun(
     shared: Arc<Shared>,
 ) -> Result<(Guarded, Fencing, Option<File>), CreateError> {
     let core = config.failure_settings(settings.process)?;
-    let member = Member::new(settings.clone(), now)?;
+    let member = Generations::new(settings.clone(), now)?;
     let mut state = match &config.failures.state {
         Some(folder) => Some(State::take(folder, config.name.place())?),
         None => None,
