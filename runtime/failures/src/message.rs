@@ -1,8 +1,8 @@
 //! The messages and their bytes. All numbers are big-endian.
 //!
-//! | kind | behind the kind's byte |
+//! | kind | after the kind's byte |
 //! |---|---|
-//! | `10`, heartbeat | id (16), name (1), process (8), sequence (8), flags (1: bit 0 asks, bit 1 votes, bit 2 frozen), counter (8), frozen for (8), six sets of names (32 each): members, suspects, wants, refuses, ripe, stopped; a count (1) and so many heard; a count (1) and so many counters |
+//! | `10`, heartbeat | id (16), name (1), process (8), sequence (8), flags (1: bit 0 asks, bit 1 votes, bit 2 frozen), counter (8), frozen for (8), seven sets of names (32 each): members, suspects, wants, refuses, ripe, stopped, words; a count (1) and so many heard; a count (1) and so many counters |
 //! | `11`, echo | id (16), the voter's name (1), its counter (8), then one heard |
 //!
 //! A heard is a name (1), its process (8) and a sequence (8). A counter is a place (1) and a counter (8). A set of names has a bit for
@@ -55,6 +55,8 @@ pub struct Heartbeat {
     pub ripe: NameSet,
     /// Who has stopped for certain.
     pub stopped: NameSet,
+    /// Of which names it is known that their processes have ended, not only that this group gave them up.
+    pub words: NameSet,
     /// The echoes: the latest heartbeat of each process that it hasn't refused.
     pub heard: Vec<Heard>,
     /// The greatest counter that it knows of each voter's file.
@@ -145,6 +147,7 @@ impl Bytes<'_> {
             refuses: self.set()?,
             ripe: self.set()?,
             stopped: self.set()?,
+            words: self.set()?,
             heard: self.several(MOST_HEARD, Bytes::heard)?,
             counters: self.several(MOST_COUNTERS, Bytes::counter)?,
         })
@@ -191,7 +194,7 @@ impl Heartbeat {
             self.refuses,
             self.ripe,
         ];
-        for set in sets.iter().chain([&self.stopped]) {
+        for set in sets.iter().chain([&self.stopped, &self.words]) {
             bytes.extend(set.bytes());
         }
         let heard = &self.heard[..self.heard.len().min(MOST_HEARD)];

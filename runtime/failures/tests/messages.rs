@@ -55,6 +55,7 @@ impl Draw {
             refuses: self.set(),
             ripe: self.set(),
             stopped: self.set(),
+            words: self.set(),
             heard: (0..heard).map(|_| self.heard()).collect(),
             counters: (0..counters)
                 .map(|place| (place as u8 % 16, self.word()))
@@ -186,6 +187,7 @@ fn heartbeat_of(id: [u8; 16], name: Name) -> Heartbeat {
         refuses: none,
         ripe: none,
         stopped: none,
+        words: none,
         heard: Vec::new(),
         counters: Vec::new(),
     }

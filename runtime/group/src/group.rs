@@ -234,10 +234,24 @@ impl Group {
 
     /// Tells that a name has stopped for certain: its process has ended, or can't act any more. The group is then reset
     /// without it. A name that still runs must never be given here: two parts of the group could go on with two lists.
+    ///
+    /// The name is one of the latest list that this member knows. Where another list may follow meanwhile, say by [`Group::stopped_in`] which
+    /// list the name is of.
     pub fn stopped(&self, name: Name) -> Result<(), ToldError> {
+        self.tell_stopped(name, None)
+    }
+
+    /// As [`Group::stopped`], for a name of the list of a generation: in another list the same process has another name. If this member hasn't
+    /// come to that list, the word is kept until it has.
+    pub fn stopped_in(&self, generation: u32, name: Name) -> Result<(), ToldError> {
+        self.tell_stopped(name, Some(generation))
+    }
+
+    fn tell_stopped(&self, name: Name, generation: Option<u32>) -> Result<(), ToldError> {
         let slot = Slot::new();
         let command = Command::Stopped {
             name,
+            generation,
             slot: slot.clone(),
         };
         let told = self

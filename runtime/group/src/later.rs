@@ -131,7 +131,12 @@ mod tests {
             let read = LaterList::of(&line[..at], list.founding, list.voters);
             assert_eq!(read, None);
         }
-        for (from, to) in [("3 a7", "0 a7"), (" 17", " +17"), ("a70", "A70"), ("f0f", "g0f")] {
+        for (from, to) in [
+            ("3 a7", "0 a7"),
+            (" 17", " +17"),
+            ("a70", "A70"),
+            ("f0f", "g0f"),
+        ] {
             let other = line.replacen(from, to, 1);
             assert_eq!(LaterList::of(&other, list.founding, list.voters), None);
         }

@@ -52,12 +52,12 @@ pub use error::{
 pub use failures::{Blocked, FailuresInfo, Policy};
 pub use group::Group;
 pub use later::LaterList;
-pub use next::{BadNextList, NextList};
 pub use muoswyld::names::{BadName, Name, Names, Stamp};
 pub use muoswyld_member::{
-    Before, Counts, Delivery, Founding, Info, Limits, NotReset, Notice, Position, Role, StartError,
-    Standing,
+    Before, Counts, Delivery, Founding, Info, Limits, NotReset, Notice, Position, Role, Standing,
+    StartError,
 };
+pub use next::{BadNextList, NextList};
 pub use seal::Key;
 pub use state::{next_life, StateError};
 pub use ticket::Ticket;

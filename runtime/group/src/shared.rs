@@ -36,8 +36,12 @@ pub(crate) enum Command {
         resilience: Option<u8>,
         slot: Arc<Slot<Reset>>,
     },
-    /// This name has stopped for certain.
-    Stopped { name: Name, slot: Arc<Slot<Told>> },
+    /// This name has stopped for certain: of the latest list, or of the one of a generation.
+    Stopped {
+        name: Name,
+        generation: Option<u32>,
+        slot: Arc<Slot<Told>>,
+    },
     /// Tells how the member stands.
     Info(Arc<Slot<Info>>),
     /// Tells who is suspected, refused and given up.

@@ -11,14 +11,14 @@ use crate::config::{Callback, Config};
 use crate::error::{CreateError, End, ResetError, SendError, SucceedError, ToldError};
 use crate::fencing::Fencing;
 use crate::seal::Seal;
-use crate::shared::{is_counted, Command, Reset, Sent, Shared, Told};
+use crate::shared::{is_counted, Command, Reset, Sent, Shared};
 use crate::slot::Slot;
 use crate::socket::Udp;
 use muoswyld::names::{Name, Names};
 use muoswyld_guarded::Guarded;
 use muoswyld_member::{
-    Delivery, HandleError, Info, Input, NotReset, Notice, Output, Position, Released, Successor,
-    Time, Unsent,
+    Counts, Delivery, HandleError, Info, Input, NotReset, Notice, Output, Position, Released,
+    Successor, Time, Unsent,
 };
 use std::collections::{BTreeMap, HashMap};
 use std::fs::File;
@@ -48,6 +48,12 @@ struct Shell {
     successor: Option<Successor>,
     /// Who waits for the end of the list.
     enders: Vec<Ender>,
+    /// The members of ended lists at their ends, the last ones.
+    ended: BTreeMap<u32, Names>,
+    /// What was counted in ended lists.
+    counts: Counts,
+    /// Words that names have stopped, of lists to which this member hasn't come.
+    told_early: Vec<(u32, Name)>,
     udp: Udp,
     seal: Seal,
     shared: Arc<Shared>,
@@ -104,6 +110,9 @@ pub(crate) fn start(config: Config) -> Result<(Arc<Shared>, JoinHandle<()>), Cre
                         known: asking::known(&config),
                         successor: None,
                         enders: Vec::new(),
+                        ended: BTreeMap::new(),
+                        counts: Counts::default(),
+                        told_early: Vec::new(),
                         udp,
                         seal,
                         shared: callers,
@@ -241,7 +250,13 @@ impl Shell {
     /// Tells a place how the group was founded.
     fn answer(&mut self, place: u8, nonce: asking::Nonce) {
         let info = self.info();
-        let answer = asking::answer(&self.known, self.config.founding.founders, &info, place, nonce);
+        let answer = asking::answer(
+            &self.known,
+            self.config.founding.founders,
+            &info,
+            place,
+            nonce,
+        );
         if self.seal.seal(&answer, &mut self.datagram) {
             self.udp.push(&self.datagram, std::iter::once(place));
         }
@@ -250,6 +265,7 @@ impl Shell {
     /// How the member stands, with what its network dropped.
     fn info(&self) -> Info {
         let mut info = self.member.info();
+        info.counts = info.counts.plus(&self.counts);
         info.counts.dropped = self.dropped;
         info
     }
@@ -270,22 +286,23 @@ impl Shell {
             match command {
                 Command::Send { message, slot } => self.send(message, slot),
                 Command::Leave => self.handle(Input::Leave),
-                Command::Stopped { name, slot } => slot.fill(self.stopped(name)),
+                Command::Stopped {
+                    name,
+                    generation,
+                    slot,
+                } => slot.fill(self.stopped(name, generation)),
                 Command::Info(slot) => slot.fill(self.info()),
                 Command::Failures(slot) => slot.fill(self.failures()),
                 Command::Written { generation, number } => {
                     self.member.written(self.clock.now(), generation, number);
                 }
-                Command::Begun { generation, done } => {
-                    self.member.begun(self.clock.now(), generation, done);
-                }
+                Command::Begun { generation, done } => self.begun(generation, done),
                 Command::Fenced {
                     generation,
                     name,
                     done,
                 } => {
-                    self.member
-                        .fenced(self.clock.now(), generation, name, done);
+                    self.member.fenced(self.clock.now(), generation, name, done);
                 }
                 Command::Succeed { next, waits, slot } => self.succeed(next, waits, slot),
                 Command::Stop => end = Some(End::Stopped),
@@ -332,14 +349,6 @@ impl Shell {
                 _ => ResetError::NotReset(NotReset::NotMember),
             };
             self.was_reset(ticket, Err(refusal));
-        }
-    }
-
-    fn stopped(&mut self, name: Name) -> Told {
-        match self.member.told(self.now(), name) {
-            Err(HandleError::Itself) => Err(ToldError::Itself),
-            // nothing else is refused while the member runs
-            _ => Ok(()),
         }
     }
 

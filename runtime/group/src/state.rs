@@ -55,7 +55,9 @@ pub enum StateError {
         next: String,
     },
     /// A list of the group was begun already that follows the one in which a life was to begin.
-    #[error("{folder} says that the list of generation {latest} was begun: --next-life begins there")]
+    #[error(
+        "{folder} says that the list of generation {latest} was begun: --next-life begins there"
+    )]
     Later {
         /// The folder.
         folder: PathBuf,

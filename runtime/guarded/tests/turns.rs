@@ -5,7 +5,7 @@ use muoswyld_failures::{
 };
 use muoswyld_guarded::{Deed, Guarded};
 use muoswyld_member::{
-    Delivery, Founding, HandleError, Input, Member, Name, Output, Settings, Time,
+    Delivery, Founding, Generations, HandleError, Input, Name, Output, Settings, Time,
 };
 
 const ID: [u8; 16] = [4; 16];
@@ -19,12 +19,12 @@ fn guarded(place: u8, policy: Policy) -> Guarded {
         pb_up_to: 1024,
     };
     let settings = Settings::new(name, founding, u64::from(place) + 1);
-    let member = Member::new(settings.clone(), Time(0)).expect("a member");
+    let lists = Generations::new(settings.clone(), Time(0)).expect("a member");
     let own = muoswyld_failures::Name::first(place);
     let core = Core::new(ID, own, settings.process, places_of(0..3), policy);
     let file = new_file(ID, place);
     let failures = Failures::new(core, Some(&file), CoreTime(0)).expect("settings");
-    Guarded::new(member, failures, &settings)
+    Guarded::new(lists, failures, &settings)
 }
 
 /// What a turn of one brought: datagrams with their places, and whether the batch went out.
@@ -33,7 +33,7 @@ fn turn(one: &mut Guarded, now: Time) -> (Vec<(u16, Vec<u8>)>, Vec<Output>) {
     one.fix(now);
     let mut sent = Vec::new();
     for deed in one.deeds(now) {
-        if let Deed::Send { to, payload } = deed {
+        if let Deed::Send { to, payload, .. } = deed {
             sent.push((to, payload));
         }
     }
@@ -42,6 +42,7 @@ fn turn(one: &mut Guarded, now: Time) -> (Vec<(u16, Vec<u8>)>, Vec<Output>) {
         one.batch(now, &mut out);
         one.emitted(now);
     }
+    let out: Vec<Output> = out.into_iter().map(|released| released.output).collect();
     for output in &out {
         if let Output::Datagram { to, payload } = output {
             let places = to.iter().fold(0, |all, name| all | 1 << name.place());

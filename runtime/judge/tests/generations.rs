@@ -255,6 +255,7 @@ fn next(window: u16) -> Next {
         resilience: 1,
         window,
         pb_up_to: 1024,
+        voters: None,
     }
 }
 

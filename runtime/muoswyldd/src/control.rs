@@ -3,9 +3,7 @@
 
 use crate::exit::{Fault, CANT_CREATE, CONFIG, IO, UNAVAILABLE};
 use crate::show::object;
-use muoswyld_group::{
-    Blocked, FailuresInfo, Group, Info, Name, Names, NextList, ReceiveError,
-};
+use muoswyld_group::{Blocked, FailuresInfo, Group, Info, Name, Names, NextList, ReceiveError};
 use serde_json::{json, Value};
 use std::io::{BufRead, BufReader, Read, Write};
 use std::os::unix::net::{UnixListener, UnixStream};
@@ -32,8 +30,8 @@ pub enum Command {
     Reset(Option<u8>),
     /// Ends the list, and has another one follow it.
     Succeed(NextList),
-    /// This name has stopped for certain.
-    Stopped(Name),
+    /// This name has stopped for certain: of the latest list, or of the one of a generation.
+    Stopped(Name, Option<u32>),
     /// Tells how the member stands.
     Status,
     /// Gives this caller all deliveries from here on.
@@ -66,8 +64,9 @@ impl Command {
                     .ok_or("succeed wants resilience N, window N, pb-up-to N or voters PLACES, each once at most")
             }
             (b"stopped", Some(_)) => {
-                let name = text.ok().and_then(|text| text.get(8..)?.parse().ok());
-                name.map(Command::Stopped).ok_or("stopped wants a name: PLACE, or PLACE/LIFE")
+                let rest = text.ok().and_then(|text| text.get(8..));
+                rest.and_then(stopped_of)
+                    .ok_or("stopped wants a name, PLACE or PLACE/LIFE, and may say the generation of its list")
             }
             (b"status", None) => Ok(Command::Status),
             (b"deliveries", None) => Ok(Command::Deliveries),
@@ -83,7 +82,10 @@ impl Command {
             Command::Reset(None) => b"reset".to_vec(),
             Command::Reset(Some(least)) => format!("reset {least}").into_bytes(),
             Command::Succeed(next) => format!("succeed {next}").trim_end().as_bytes().to_vec(),
-            Command::Stopped(name) => format!("stopped {name}").into_bytes(),
+            Command::Stopped(name, None) => format!("stopped {name}").into_bytes(),
+            Command::Stopped(name, Some(generation)) => {
+                format!("stopped {name} {generation}").into_bytes()
+            }
             Command::Status => b"status".to_vec(),
             Command::Deliveries => b"deliveries".to_vec(),
         }
@@ -111,10 +113,16 @@ impl Command {
                 Ok(at) => json!({ "succeeded": at.number, "generation": at.generation }),
                 Err(error) => refused(&error),
             },
-            Command::Stopped(name) => match group.stopped(name) {
-                Ok(()) => json!({ "told": name.to_string() }),
-                Err(error) => refused(&error),
-            },
+            Command::Stopped(name, generation) => {
+                let told = match generation {
+                    Some(generation) => group.stopped_in(generation, name),
+                    None => group.stopped(name),
+                };
+                match told {
+                    Ok(()) => json!({ "told": name.to_string() }),
+                    Err(error) => refused(&error),
+                }
+            }
             Command::Status => match (group.info(), group.failures()) {
                 (Ok(info), Ok(failures)) => status(&info, &failures),
                 (Err(end), _) | (_, Err(end)) => refused(&end),
@@ -124,6 +132,15 @@ impl Command {
             }
         }
     }
+}
+
+/// The command of what stands after the word `stopped`.
+fn stopped_of(rest: &str) -> Option<Command> {
+    let (name, generation) = match rest.split_once(' ') {
+        Some((name, generation)) => (name, Some(generation.parse().ok()?)),
+        None => (rest, None),
+    };
+    Some(Command::Stopped(name.parse().ok()?, generation))
 }
 
 /// How a member stands, as JSON.
@@ -378,7 +395,8 @@ mod tests {
             Command::Reset(Some(2)),
             Command::Succeed(NextList::new()),
             Command::Succeed(NextList::new().window(500)),
-            Command::Stopped(name),
+            Command::Stopped(name, None),
+            Command::Stopped(name, Some(2)),
             Command::Status,
             Command::Deliveries,
         ];
@@ -399,6 +417,7 @@ mod tests {
             b"succeed places 3",
             b"stopped",
             b"stopped 16",
+            b"stopped 1 x",
             b"leave now",
             b"send-hex 1",
             b"\xff",

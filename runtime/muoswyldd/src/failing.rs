@@ -87,11 +87,7 @@ impl Run {
     }
 
     /// Asks members at some addresses how their group was founded.
-    fn ask(
-        &self,
-        seeds: &[SocketAddr],
-        most: Duration,
-    ) -> Result<std::io::Result<Facts>, Fault> {
+    fn ask(&self, seeds: &[SocketAddr], most: Duration) -> Result<std::io::Result<Facts>, Fault> {
         let name = self.name.ok_or_else(|| missing("name"))?;
         let own = self
             .address

@@ -32,7 +32,11 @@ fn done(verb: Verb) -> Result<(), Fault> {
         Verb::Leave { at } => (at, Command::Leave),
         Verb::Reset { at, least } => (at, Command::Reset(least)),
         Verb::Succeed { at, next } => (at, Command::Succeed(next.list())),
-        Verb::Stopped { at, name } => (at, Command::Stopped(name)),
+        Verb::Stopped {
+            at,
+            name,
+            generation,
+        } => (at, Command::Stopped(name, generation)),
         Verb::Status { at } => (at, Command::Status),
     };
     let answer = ask(&at.socket, &command)?;

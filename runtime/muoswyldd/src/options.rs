@@ -75,6 +75,9 @@ pub enum Verb {
         at: At,
         /// The name that has stopped
         name: Name,
+        /// How many lists came before the one that the name is of [default: the latest one]
+        #[arg(long, value_name = "N")]
+        generation: Option<u32>,
     },
     /// Prints how a member that runs stands, as JSON
     Status {

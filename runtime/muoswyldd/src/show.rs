@@ -83,8 +83,7 @@ fn names(names: &Names) -> Value {
 /// A delivery as an object of JSON.
 pub fn object(delivery: &Delivery) -> Value {
     let at = delivery.at();
-    let mut object =
-        json!({ "generation": at.generation, "number": at.number, "index": at.index });
+    let mut object = json!({ "generation": at.generation, "number": at.number, "index": at.index });
     match delivery {
         Delivery::Message { from, message, .. } => {
             let (key, content) = content(message);

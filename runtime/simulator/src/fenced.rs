@@ -271,8 +271,8 @@ impl World<'_> {
         self.may_be_seen(name, fixed, looked)?;
         let most = most.map_or(outputs.len(), |most| most as usize);
         let is_whole = most >= outputs.len();
-        for output in outputs.into_iter().take(most) {
-            self.output(place, output)?;
+        for released in outputs.into_iter().take(most) {
+            self.output(place, released.output)?;
         }
         self.counts.batches += 1;
         if !is_whole {
@@ -315,24 +315,31 @@ impl World<'_> {
         let time = process.clock.time(now);
         for deed in process.member.deeds(time) {
             match deed {
-                Deed::Send { to, payload } => {
+                Deed::Send { to, payload, .. } => {
                     let payload: Rc<[u8]> = payload.into();
                     for other in (0..16).filter(|other| to >> other & 1 == 1) {
                         self.carry_to(place, other, payload.clone());
                     }
                 }
-                Deed::Write { number, bytes } => self.write(place, number, bytes)?,
-                Deed::Stopped(name) => self.note_given_up(name),
-                Deed::Ended => {
+                Deed::Write { number, bytes, .. } => self.write(place, number, bytes)?,
+                Deed::Stopped { name, .. } => self.note_given_up(name),
+                Deed::Ended { .. } => {
                     let name = self.process(place)?.name;
                     self.note_given_up(name);
                     self.counts.ended += 1;
                     self.stop(place, Some(End::LeftOut))?;
                     return Ok(());
                 }
-                Deed::Told(failures::Notice::Frozen) => self.counts.frozen += 1,
-                Deed::Told(failures::Notice::Refuses(_)) => self.counts.refusals += 1,
-                Deed::Fence { .. } | Deed::Told(_) => {}
+                Deed::Told {
+                    notice: failures::Notice::Frozen,
+                    ..
+                } => self.counts.frozen += 1,
+                Deed::Told {
+                    notice: failures::Notice::Refuses(_),
+                    ..
+                } => self.counts.refusals += 1,
+                Deed::Begin { .. } | Deed::Closed { .. } => {}
+                Deed::Fence { .. } | Deed::Told { .. } => {}
             }
         }
         Ok(())
@@ -388,7 +395,9 @@ impl World<'_> {
         let now = self.now;
         let process = self.process(place)?;
         let time = process.clock.time(now);
-        process.member.written(time, Some(write));
+        process
+            .member
+            .written(time, process.member.generation(), Some(write));
         self.plan_release(place);
         Ok(())
     }

@@ -253,8 +253,8 @@ impl World<'_> {
         let now = self.now;
         let outputs = self.process(place)?.release(now);
         let count = self.draw.below(outputs.len() as u64 + 1) as usize;
-        for output in outputs.into_iter().take(count) {
-            self.output(place, output)?;
+        for released in outputs.into_iter().take(count) {
+            self.output(place, released.output)?;
         }
         Ok(())
     }

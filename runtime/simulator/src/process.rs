@@ -6,7 +6,9 @@ use crate::draw::Draw;
 use crate::fenced::{core_of, Batch, Machine};
 use crate::plan::{Plan, Sizes};
 use muoswyld_guarded::Guarded;
-use muoswyld_member::{End, HandleError, Input, Member, Name, Output, Role, Settings, StartError};
+use muoswyld_member::{
+    End, Generations, HandleError, Input, Name, Released, Role, Settings, StartError,
+};
 
 /// An application that takes slowly: so many deliveries in so many microseconds.
 #[derive(Clone, Copy, Debug)]
@@ -73,10 +75,10 @@ impl Process {
         let time = clock.time(now);
         let file = machine.voter.as_deref();
         let core = core_of(plan, name, settings.process, file, time)?;
-        let member = Member::new(settings.clone(), time)?;
+        let lists = Generations::new(settings.clone(), time)?;
         let plant = plan.fenced.as_ref().and_then(|fenced| fenced.plant);
         Ok(Process {
-            member: Guarded::new(member, core, &settings).with_plant(plant),
+            member: Guarded::new(lists, core, &settings).with_plant(plant),
             name,
             clock,
             batch: Batch::default(),
@@ -137,7 +139,7 @@ impl Process {
     }
 
     /// What comes of the inputs so far, where it may go out at once.
-    pub(crate) fn release(&mut self, now: u64) -> Vec<Output> {
+    pub(crate) fn release(&mut self, now: u64) -> Vec<Released> {
         let (mut out, now) = (Vec::new(), self.clock.time(now));
         self.member.fix(now);
         if self.member.look(now) {

@@ -343,8 +343,8 @@ impl<'a> World<'a> {
         let process = self.process(place)?;
         process.release_at = None;
         let outputs = process.release(now);
-        for output in outputs {
-            self.output(place, output)?;
+        for released in outputs {
+            self.output(place, released.output)?;
         }
         self.serve_sends(place)?;
         let process = self.process(place)?;

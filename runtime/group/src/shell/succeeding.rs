@@ -3,15 +3,20 @@
 use super::starting::journal_of;
 use super::Shell;
 use crate::asking;
-use crate::error::{End, SucceedError};
+use crate::error::{End, SucceedError, ToldError};
 use crate::later::LaterList;
 use crate::next::{is_as_asked, NextList};
-use crate::shared::Succeeded;
+use crate::shared::{Succeeded, Told};
 use crate::slot::Slot;
-use muoswyld_member::{Before, Delivery, Input, Next, Successor};
+use muoswyld::names::Name;
+use muoswyld_member::{Before, Delivery, HandleError, Input, Next, Successor};
 use std::collections::btree_map::Entry;
 use std::io::Write;
 use std::sync::Arc;
+
+/// Of how many ended lists the members are kept, and how many words that names have stopped wait for later lists.
+const MOST_ENDED: usize = 256;
+const MOST_WORDS: usize = 256;
 
 /// Somebody who waits for the end of the list.
 pub(super) struct Ender {
@@ -59,6 +64,10 @@ impl Shell {
             founding: next.founding,
             voters: next.voters,
         });
+        self.ended.insert(generation, next.members);
+        if self.ended.len() > MOST_ENDED {
+            self.ended.pop_first();
+        }
         self.successor = Some(next);
     }
 
@@ -85,13 +94,57 @@ impl Shell {
         self.fencing.begin(list, voter);
     }
 
+    /// That the next list begins here is on disk, or can't be written.
+    pub(super) fn begun(&mut self, generation: u32, done: bool) {
+        let counts = self.member.info().counts;
+        self.member.begun(self.clock.now(), generation, done);
+        if self.member.generation() == generation {
+            self.counts = self.counts.plus(&counts);
+        }
+        for (of, name) in std::mem::take(&mut self.told_early) {
+            // a word of this member itself was refused when it was given
+            let _told = self.stopped(name, Some(of));
+        }
+    }
+
+    /// Somebody says that a name of a list has stopped; of the latest one if none is said.
+    pub(super) fn stopped(&mut self, name: Name, generation: Option<u32>) -> Told {
+        let latest = self.member.generation();
+        let of = generation.unwrap_or(latest);
+        if of > latest {
+            if self.told_early.len() < MOST_WORDS {
+                self.told_early.push((of, name));
+            }
+            return Ok(());
+        }
+        let mut name = name;
+        for earlier in of..latest {
+            let members = self.ended.get(&earlier);
+            let Some(first) = Name::first(name.place()) else {
+                return Ok(());
+            };
+            match members {
+                Some(members) if members.has(name) => name = first,
+                // it is none in the lists that follow, or that isn't known here
+                _ => return Ok(()),
+            }
+        }
+        match self.member.told(self.now(), name) {
+            Err(HandleError::Itself) => Err(ToldError::Itself),
+            // nothing else is refused while the member runs
+            _ => Ok(()),
+        }
+    }
+
     /// An ended list isn't served any more: its journal ends, and its files aren't needed. The end, if the journal can't be written.
     pub(super) fn close_list(&mut self, generation: u32) -> Option<End> {
         tracing::info!("all are heard in the list after generation {generation}, or have stopped");
         self.fencing.close(generation);
         match self.end_journal(generation) {
             Ok(()) => None,
-            Err(error) => Some(End::Failed(format!("the journal can't be written: {error}"))),
+            Err(error) => Some(End::Failed(format!(
+                "the journal can't be written: {error}"
+            ))),
         }
     }
 
