@@ -63,9 +63,10 @@ pub(crate) struct Ending {
 
 /// Bytes of so many digits; None if these are none.
 fn bytes_of(digits: &str) -> Option<Vec<u8>> {
-    let pairs = digits.as_bytes().chunks(2);
     let byte = |pair: &[u8]| u8::from_str_radix(std::str::from_utf8(pair).ok()?, 16).ok();
-    pairs.map(byte).collect()
+    let pairs = digits.as_bytes().chunks_exact(2);
+    let is_even = pairs.remainder().is_empty();
+    pairs.map(byte).collect::<Option<_>>().filter(|_| is_even)
 }
 
 /// Takes the first bytes.
