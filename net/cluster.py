@@ -219,36 +219,11 @@ def generation_of(path: pathlib.Path) -> int:
 
 
 def merged_lists(journals: pathlib.Path) -> dict[int, Merged]:
-    """The journals of each list as one script. A founder of a list that follows another one may have stopped before it began: no journal of it is
-    missed."""
+    """The journals of each list as one script."""
     by_list: dict[int, list[str]] = {}
     for path in sorted(journals.glob("journal-*")):
         by_list.setdefault(generation_of(path), []).append(str(path))
-    lists = {}
-    for generation, paths in by_list.items():
-        founders = {name for path in paths for name in founders_of(path)} if generation else set()
-        heads = {name for path in paths if (name := name_in(path))}
-        lists[generation] = Merged([*paths, *[os.devnull] * len(founders - heads)])
-    return dict(sorted(lists.items()))
-
-
-def head_of(path: str) -> list[str]:
-    """The fields of a journal's first line, if that is whole."""
-    with open(path, encoding="utf-8", errors="replace") as file:
-        line = file.readline()
-    return line.rstrip("\n").split("\t") if line.endswith("\n") else []
-
-
-def founders_of(path: str) -> list[str]:
-    """The founders of a journal's list."""
-    fields = head_of(path)
-    return fields[2].split(",") if fields else []
-
-
-def name_in(path: str) -> str:
-    """The name in a journal's first line, if that is whole."""
-    fields = head_of(path)
-    return fields[1] if fields else ""
+    return {generation: Merged(paths) for generation, paths in sorted(by_list.items())}
 
 
 def number_of(kind: Callable[[str], float], least: float, most: float) -> Callable[[str], float]:

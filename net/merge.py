@@ -130,7 +130,7 @@ def given_up(life: Life) -> dict[str, int]:
 
 def with_idle(lives: list[Life], count: int) -> list[Life]:
     """The lives, and those that did nothing and stopped: whose place came back, or who were given up, without a journal. There are as many
-    as empty journals at most."""
+    as empty journals at most; but in a list that follows another one a founder may never have begun, and a place may begin with any life."""
     known = {parts_of(life.name) for life in lives}
     stopped: dict[tuple[int, int], int] = {}
     for life in lives:
@@ -140,7 +140,7 @@ def with_idle(lives: list[Life], count: int) -> list[Life]:
             for name in ((there, each) for each in range(1, last + 1)):
                 stopped[name] = min(time, stopped.get(name, time))
     idle = sorted(stopped.keys() - known)
-    if len(idle) > count:
+    if len(idle) > count and not lives[0].follows:
         wanted = f"{name_of(*idle[count])} stopped, and its journal isn't there"
         raise Unmerged(f"{wanted}; where it was killed before that had a line, name an empty file in its place")
     lives += [Life(name_of(*each), lives[0].founding, [], False, [0] * COUNTS, follows=lives[0].follows) for each in idle]

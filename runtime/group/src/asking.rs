@@ -63,7 +63,9 @@ pub(crate) fn nonce_of(payload: &[u8]) -> Option<Nonce> {
 /// What a member of this configuration tells everybody.
 pub(crate) fn known(config: &Config) -> String {
     let founding = founding_line(&config.founding);
-    let mut text = format!("{founding}\nfailures {} ", config.voting());
+    // a list that follows another one has no voters if the policy has none
+    let voters = config.list.map_or(config.voting(), |list| list.voters);
+    let mut text = format!("{founding}\nfailures {voters} ");
     match config.failures.policy() {
         Policy::Told => text.push_str("told\n"),
         Policy::Command { .. } => text.push_str("command\n"),
@@ -221,8 +223,10 @@ impl Facts {
         let mut config = Config::new(name, self.founding.founders)
             .resilience(self.founding.resilience)
             .window(self.founding.window)
-            .pb_up_to(self.founding.pb_up_to)
-            .voters(self.voters);
+            .pb_up_to(self.founding.pb_up_to);
+        if !self.voters.is_empty() {
+            config = config.voters(self.voters);
+        }
         if let Some(list) = self.later {
             config = config.later(list);
         }

@@ -123,9 +123,7 @@ impl Config {
     /// [`Facts`](crate::Facts) give it: its founders, numbers and voters are those of that list.
     pub fn later(mut self, list: LaterList) -> Config {
         self.founding = list.founding;
-        if !list.voters.is_empty() {
-            self.failures.voters = Some(list.voters);
-        }
+        self.failures.voters = Some(list.voters).filter(|voters| !voters.is_empty());
         self.list = Some(list);
         self
     }

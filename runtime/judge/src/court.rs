@@ -40,7 +40,7 @@ pub(crate) struct Court {
     files: BTreeMap<Name, PathBuf>,
     /// Whether its lives may begin.
     has_begun: bool,
-    /// How many lives have no journal, but for founders of a list that follows another one.
+    /// How many lives of a group's first list have no journal.
     pub(crate) idle: usize,
     /// How many empty files may stand for them.
     pub(crate) spare: usize,
@@ -226,8 +226,8 @@ impl Court {
 
     /// A life without a journal, which `by` needs.
     fn stands_idle(&mut self, name: Name, by: Name) -> Result<(), Finding> {
-        // a founder that stopped before the end of the list before never began this one
-        let never_began = self.group.is_some() && self.founding.founders.has(name);
+        // in a list that follows another one a founder may never have begun, and a place may begin with any life
+        let never_began = self.group.is_some();
         self.idle += usize::from(!never_began);
         if self.idle > self.spare && self.is_over {
             let path = self.heads.get(&by).map(|(path, _)| path.clone());

@@ -342,7 +342,12 @@ fn changed(line: &str, field: usize) -> String {
     let mut fields: Vec<String> = line.split('\t').map(str::to_string).collect();
     let text = &fields[field];
     let last = text.chars().last().expect("a character");
-    let other = if last == '1' { '2' } else { '1' };
+    // of names, the next place
+    let other = match last {
+        '1' => '2',
+        '3' => '4',
+        _ => '3',
+    };
     fields[field] = format!("{}{other}", &text[..text.len() - 1]);
     fields.join("\t")
 }

@@ -69,9 +69,12 @@ impl Run {
             return Ok(None);
         };
         let own = muoswyld_group::next_life(folder, name.place());
-        if matches!(own, Ok((next, None)) if next.life() == 1) {
+        match own {
             // the group is about to be founded
-            return Ok(None);
+            Ok((next, None)) if next.life() == 1 => return Ok(None),
+            Ok(_) | Err(StateError::Begun { .. }) => {}
+            // it is told where the folder is taken
+            Err(_) => return Ok(None),
         }
         let others = self
             .address

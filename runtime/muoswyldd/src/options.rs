@@ -388,16 +388,22 @@ impl Run {
         let facts = self.asked()?;
         let (name, list) = self.name_to_run(facts.as_ref())?;
         let wrong = |error| Fault::of(CONFIG, error);
+        let facts = match facts {
+            Some(mut facts) => {
+                // an address that is said stands over one that is told
+                let is_said = |place: &u8| self.address.iter().any(|(said, _)| said == place);
+                facts.addresses.retain(|(place, _)| !is_said(place));
+                Some(facts)
+            }
+            None => None,
+        };
         let mut config = match (&facts, self.founders) {
-            (Some(facts), _) => facts.config(name).map_err(wrong)?,
-            (None, Some(founders)) => Config::new(name, founders),
+            (_, Some(founders)) => Config::new(name, founders),
+            (Some(facts), None) => facts.config(name).map_err(wrong)?,
             (None, None) => return Err(missing("founders")),
         };
         for (place, text) in &self.address {
-            let known = facts.iter().flat_map(|facts| &facts.addresses);
-            if !known.into_iter().any(|(known, _)| known == place) {
-                config = config.address(*place, resolve(text)?).map_err(wrong)?;
-            }
+            config = config.address(*place, resolve(text)?).map_err(wrong)?;
         }
         if let Some(address) = self.bind {
             config = config.bind(address);
