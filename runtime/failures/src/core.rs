@@ -178,6 +178,11 @@ impl Failures {
             Some(Message::Heartbeat(heartbeat)) => {
                 self.hear_of_another(&heartbeat);
             }
+            Some(Message::Closed { id, to }) if id == self.settings.id => {
+                if to == self.settings.name {
+                    self.stop(to);
+                }
+            }
             Some(Message::Echo(echo)) if self.has(Plant::EchoOfAnyList) => {
                 self.echo_of_another(echo.voter, echo.heard);
             }

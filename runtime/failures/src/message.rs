@@ -4,6 +4,7 @@
 //! |---|---|
 //! | `10`, heartbeat | id (16), name (1), process (8), sequence (8), flags (1: bit 0 asks, bit 1 votes, bit 2 frozen), counter (8), frozen for (8), seven sets of names (32 each): members, suspects, wants, refuses, ripe, stopped, words; a count (1) and so many heard; a count (1) and so many counters |
 //! | `11`, echo | id (16), the voter's name (1), its counter (8), then one heard |
+//! | `12`, closed | id (16), the name that it is for (1) |
 //!
 //! A heard is a name (1), its process (8) and a sequence (8). A counter is a place (1) and a counter (8). A set of names has a bit for
 //! each byte of a name: the first byte has bytes 63 to 56, the most significant bit first, as four words of 64 bits.
@@ -12,6 +13,7 @@ use crate::names::{Name, NameSet};
 
 const HEARTBEAT: u8 = 0x10;
 const ECHO: u8 = 0x11;
+const CLOSED: u8 = 0x12;
 const ASKS: u8 = 1;
 const VOTES: u8 = 2;
 const FROZEN: u8 = 4;
@@ -83,6 +85,13 @@ pub enum Message {
     Heartbeat(Box<Heartbeat>),
     /// An echo, for one.
     Echo(Echo),
+    /// The list of this id has ended, and nobody serves it any more: whoever hasn't come to its end was given up.
+    Closed {
+        /// The list's id.
+        id: [u8; 16],
+        /// Whom it is for.
+        to: Name,
+    },
 }
 
 struct Bytes<'a>(&'a [u8]);
@@ -224,6 +233,11 @@ impl Message {
                 bytes.extend(echo.counter.to_be_bytes());
                 put_heard(&mut bytes, &echo.heard);
             }
+            Message::Closed { id, to } => {
+                bytes.push(CLOSED);
+                bytes.extend(id);
+                bytes.push(to.byte());
+            }
         }
         bytes
     }
@@ -234,6 +248,10 @@ impl Message {
         let message = match bytes.u8()? {
             HEARTBEAT => Message::Heartbeat(Box::new(bytes.heartbeat()?)),
             ECHO => Message::Echo(bytes.echo()?),
+            CLOSED => Message::Closed {
+                id: bytes.take()?,
+                to: Name::of_byte(bytes.u8()?),
+            },
             _ => return None,
         };
         bytes.0.is_empty().then_some(message)

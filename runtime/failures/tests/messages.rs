@@ -34,6 +34,10 @@ impl Draw {
 
     fn message(&mut self) -> Message {
         let id = [self.word() as u8; 16];
+        if self.word().is_multiple_of(5) {
+            let to = Name::of_byte(self.word() as u8);
+            return Message::Closed { id, to };
+        }
         if self.word().is_multiple_of(2) {
             return Message::Echo(Echo {
                 id,

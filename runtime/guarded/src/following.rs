@@ -7,6 +7,9 @@ use crate::waiting::Waiting;
 use muoswyld_failures::{self as failures, new_file, Failures, Message};
 use muoswyld_member::{HandleError, Input, Name, Successor, Time};
 
+/// Of how many lists that aren't served any more the ids are kept.
+const MOST_CLOSED: usize = 64;
+
 /// A list that is about to begin: that its life began is being written.
 #[derive(Debug)]
 pub(crate) struct Follows {
@@ -131,8 +134,12 @@ impl Guarded {
             if !is_old || !(lane.failures.is_ended() || self.lists.is_over(generation)) {
                 return;
             }
-            self.lanes.remove(0);
+            let lane = self.lanes.remove(0);
             self.lists.close(generation);
+            if self.closed.len() == MOST_CLOSED {
+                self.closed.pop_front();
+            }
+            self.closed.push_back(lane.failures.settings().id);
             self.deeds.push(Deed::Closed { generation });
         }
     }
@@ -154,11 +161,43 @@ impl Guarded {
                 self.heed(now, index, failures::Input::Datagram(payload));
             }
         }
+        if found.is_none() && self.answers_closed(payload) {
+            return;
+        }
         let index = found.unwrap_or(self.latest());
         if found.is_some() {
             self.note_sign(now, index, payload);
         }
+        let is_closed = payload.first() == Some(&0x12);
+        if is_closed && index == self.latest() && self.follows.is_some() {
+            // it has come to the list's end
+            return;
+        }
         self.heed(now, index, failures::Input::Datagram(payload));
+    }
+
+    /// Whether a message is of a list that isn't served any more. Whoever still speaks in it is told so: if it hasn't come to the list's end
+    /// it was given up in the next one, and nobody echoes it any more.
+    fn answers_closed(&mut self, payload: &[u8]) -> bool {
+        let Some(id) = self
+            .closed
+            .iter()
+            .find(|id| payload.get(1..17) == Some(id.as_slice()))
+        else {
+            return false;
+        };
+        let Some(Message::Heartbeat(heartbeat)) = Message::read(payload) else {
+            return true;
+        };
+        let to = heartbeat.from.name;
+        let closed = Message::Closed { id: *id, to };
+        let generation = self.lists.generation();
+        self.deeds.push(Deed::Send {
+            generation,
+            to: 1 << to.place(),
+            payload: closed.to_bytes(),
+        });
+        true
     }
 
     /// A heartbeat in an ended list says that its process runs: in the next list that counts against its silence, and as nothing else. It

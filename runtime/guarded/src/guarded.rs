@@ -7,6 +7,7 @@ use muoswyld_member::{
     Generations, HandleError, Info, Input, Member, Name, Names, Next, Output, Released, Settings,
     Successor, Time,
 };
+use std::collections::VecDeque;
 
 /// A defect that a test plants, to see that it is found. A value without one is the only one to use.
 #[doc(hidden)]
@@ -120,6 +121,8 @@ pub struct Guarded {
     pub(crate) lanes: Vec<Lane>,
     /// The list that is about to begin.
     pub(crate) follows: Option<Follows>,
+    /// The failures' ids of lists that aren't served any more.
+    pub(crate) closed: VecDeque<[u8; 16]>,
     pub(crate) policy: Policy,
     pub(crate) least: Option<u8>,
     /// Whether a batch goes out only if a look says so.
@@ -168,6 +171,7 @@ impl Guarded {
             lists,
             lanes: vec![lane],
             follows: None,
+            closed: VecDeque::new(),
             policy,
             least: settings.least,
             is_gated,
@@ -204,7 +208,7 @@ impl Guarded {
     /// Takes a datagram's payload. The time was read after it was received.
     pub fn hear(&mut self, now: Time, payload: &[u8]) {
         if self.policy != Policy::Told {
-            if let Some(0x10 | 0x11) = payload.first() {
+            if let Some(0x10..=0x12) = payload.first() {
                 return self.hear_failures(now, payload);
             }
             self.note_ran(payload);
@@ -524,10 +528,16 @@ impl Guarded {
         self.lists.generation()
     }
 
-    /// The lists that are served, the latest one last: how many came before each, and how many outputs its batch has.
-    pub fn served(&self) -> impl Iterator<Item = (u32, usize)> + '_ {
-        let lanes = self.lanes.iter();
-        lanes.map(|lane| (lane.generation, lane.held.len()))
+    /// The lists that are served, the latest one last: how many came before each.
+    pub fn served(&self) -> impl Iterator<Item = u32> + '_ {
+        self.lanes.iter().map(|lane| lane.generation)
+    }
+
+    /// How many outputs of a list wait to go out.
+    pub fn held_in(&self, generation: u32) -> usize {
+        let held = self.lanes.iter().flat_map(|lane| &lane.held);
+        held.filter(|released| released.generation == generation)
+            .count()
     }
 
     /// How the member of the latest list stands. Its list and its members are those of when a batch went out the last time: of what is

@@ -9,6 +9,7 @@
 pub mod checker;
 mod clock;
 pub mod draw;
+mod ends;
 mod fenced;
 pub mod journals;
 mod lifecycle;

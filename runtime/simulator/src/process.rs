@@ -3,12 +3,14 @@
 use crate::checker::App;
 use crate::clock::Clock;
 use crate::draw::Draw;
+use crate::ends::List;
 use crate::fenced::{core_of, Batch, Machine};
 use crate::plan::{Plan, Sizes};
 use muoswyld_guarded::Guarded;
 use muoswyld_member::{
     End, Generations, HandleError, Input, Name, Released, Role, Settings, StartError,
 };
+use std::collections::BTreeMap;
 
 /// An application that takes slowly: so many deliveries in so many microseconds.
 #[derive(Clone, Copy, Debug)]
@@ -24,7 +26,10 @@ pub(crate) struct Process {
     pub(crate) clock: Clock,
     pub(crate) batch: Batch,
     pub(crate) app: App,
-    pub(crate) journal: Vec<u8>,
+    /// Its journal of each list.
+    pub(crate) journals: BTreeMap<u32, Vec<u8>>,
+    /// The list that is about to begin here, and the voter's file of it.
+    pub(crate) begins: Option<(u32, Option<Vec<u8>>)>,
     /// Which process this is: no two have the same number.
     pub(crate) number: u64,
     pub(crate) paused_until: u64,
@@ -39,9 +44,26 @@ pub(crate) struct Process {
     pub(crate) unsent: Option<Vec<u8>>,
 }
 
+/// Where a process begins: on which machine, when, and in which list.
+pub(crate) struct Begins<'a> {
+    pub(crate) machine: &'a Machine,
+    pub(crate) now: u64,
+    pub(crate) generation: u32,
+    pub(crate) list: &'a List,
+}
+
 /// The settings of a name in a plan.
-fn settings_of(plan: &Plan, name: Name, draw: &mut Draw, slow: Option<Slow>) -> Settings {
-    let mut settings = Settings::new(name, plan.founding, draw.word());
+fn settings_of(
+    plan: &Plan,
+    name: Name,
+    begins: &Begins,
+    draw: &mut Draw,
+    slow: Option<Slow>,
+) -> Settings {
+    let mut settings = Settings::new(name, begins.list.founding, draw.word());
+    settings.generation = begins.generation;
+    settings.group = begins.list.group;
+    settings.succeed_at = plan.succeed_at;
     settings.seed = draw.word();
     settings.least = plan.least;
     settings.most_waiting = 200_000;
@@ -62,19 +84,19 @@ impl Process {
         plan: &Plan,
         app: App,
         number: u64,
-        (machine, now): (&Machine, u64),
+        begins: &Begins,
         draw: &mut Draw,
     ) -> Result<Process, StartError> {
         let name = app.name;
+        let (machine, now) = (begins.machine, begins.now);
         let clock = machine.clock.unwrap_or(Clock::REAL);
         let slow = draw.per_mille(plan.slow).then(|| Slow {
             every: draw.between(1_000, 30_000),
             count: draw.between(1, 10) as usize,
         });
-        let settings = settings_of(plan, name, draw, slow);
+        let settings = settings_of(plan, name, begins, draw, slow);
         let time = clock.time(now);
-        let file = machine.voter.as_deref();
-        let core = core_of(plan, name, settings.process, file, time)?;
+        let core = core_of(plan, begins, name, settings.process, time)?;
         let lists = Generations::new(settings.clone(), time)?;
         let plant = plan.fenced.as_ref().and_then(|fenced| fenced.plant);
         Ok(Process {
@@ -83,7 +105,8 @@ impl Process {
             clock,
             batch: Batch::default(),
             app,
-            journal: Vec::new(),
+            journals: BTreeMap::new(),
+            begins: None,
             number,
             paused_until: 0,
             release_at: None,
