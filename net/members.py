@@ -71,7 +71,7 @@ class Members:
         """The command of the place's process. Where lists end, a place that comes back asks the others which one is the latest."""
         wanted = self.wanted
         words = [*self.program, "run", "--name", self.name(place), "--key", str(self.folder / "key")]
-        asks = wanted.succeed > 0 and self.lives[place] > 1
+        asks = wanted.succeed > 0 and self.lives[place] > 1 and bool(self.running)
         words += [] if asks else ["--founders", self.founders, "--resilience", str(wanted.resilience)]
         for other, home in enumerate(self.homes):
             host, port = home if other == place else (HOST, self.relay.port(place, other))

@@ -155,7 +155,7 @@ impl Facts {
         key: Option<&Key>,
         most: Duration,
     ) -> io::Result<Facts> {
-        let mut seal = match key {
+        let seal = match key {
             Some(key) => Seal::by(key)?,
             None => Seal::none(),
         };
@@ -163,39 +163,17 @@ impl Facts {
         fill(&mut nonce)?;
         let socket = UdpSocket::bind(own)?;
         socket.set_read_timeout(Some(AGAIN / 4))?;
-        let (mut until, mut asked_at) = (Instant::now() + most, None::<Instant>);
-        let mut datagram = Vec::new();
-        let mut bytes = [0; MOST_BYTES];
-        let mut told: BTreeMap<SocketAddr, Facts> = BTreeMap::new();
-        let mut is_other = None;
-        while Instant::now() < until && told.len() < seeds.len() {
-            if asked_at.is_none_or(|at| at.elapsed() >= AGAIN) {
-                asked_at = Some(Instant::now());
-                let question = [&[ASKS][..], &nonce].concat();
-                if seal.seal(&question, &mut datagram) {
-                    for seed in seeds {
-                        // one that can't be reached now may be later
-                        let _sent = socket.send_to(&datagram, seed);
-                    }
-                }
-            }
-            let (length, from) = match socket.recv_from(&mut bytes) {
-                Ok(received) => received,
-                Err(_) => continue,
-            };
-            match opened(&mut seal, &mut bytes[..length], nonce, place) {
-                Some(Said::Facts(facts)) => {
-                    if told.is_empty() {
-                        until = until.min(Instant::now() + OTHERS);
-                    }
-                    told.insert(from, *facts);
-                }
-                Some(Said::OtherVersion) => is_other = Some(from),
-                None => {}
-            }
-        }
-        let latest = told.into_values().max_by_key(Facts::order);
-        latest.ok_or_else(|| match is_other {
+        let mut asker = Asker {
+            socket,
+            seal,
+            nonce,
+            place,
+            told: BTreeMap::new(),
+            is_other: None,
+        };
+        asker.ask(seeds, Instant::now() + most);
+        let latest = asker.told.into_values().max_by_key(Facts::order);
+        latest.ok_or_else(|| match asker.is_other {
             Some(from) => {
                 let line = format!("the member at {from} runs another version of this program");
                 io::Error::new(ErrorKind::InvalidData, line)
@@ -237,6 +215,64 @@ impl Facts {
             config = config.address(*place, *address)?;
         }
         Ok(config)
+    }
+}
+
+/// Who asks members how their group was founded.
+struct Asker {
+    socket: UdpSocket,
+    seal: Seal,
+    nonce: Nonce,
+    place: u8,
+    /// What was told, by whom.
+    told: BTreeMap<SocketAddr, Facts>,
+    /// Who answers in another form.
+    is_other: Option<SocketAddr>,
+}
+
+impl Asker {
+    /// Asks, again and again, until all have answered, some time after the first one has, or it is too late.
+    fn ask(&mut self, seeds: &[SocketAddr], mut until: Instant) {
+        let mut asked_at = None::<Instant>;
+        while Instant::now() < until && self.told.len() < seeds.len() {
+            if asked_at.is_none_or(|at| at.elapsed() >= AGAIN) {
+                asked_at = Some(Instant::now());
+                self.send(seeds);
+            }
+            if self.hear() && self.told.len() == 1 {
+                until = until.min(Instant::now() + OTHERS);
+            }
+        }
+    }
+
+    fn send(&mut self, seeds: &[SocketAddr]) {
+        let question = [&[ASKS][..], &self.nonce].concat();
+        let mut datagram = Vec::new();
+        if self.seal.seal(&question, &mut datagram) {
+            for seed in seeds {
+                // one that can't be reached now may be later
+                let _sent = self.socket.send_to(&datagram, seed);
+            }
+        }
+    }
+
+    /// Hears an answer, if one comes soon; whether it says how the group was founded.
+    fn hear(&mut self) -> bool {
+        let mut bytes = [0; MOST_BYTES];
+        let Ok((length, from)) = self.socket.recv_from(&mut bytes) else {
+            return false;
+        };
+        match opened(&mut self.seal, &mut bytes[..length], self.nonce, self.place) {
+            Some(Said::Facts(facts)) => {
+                self.told.insert(from, *facts);
+                true
+            }
+            Some(Said::OtherVersion) => {
+                self.is_other = Some(from);
+                false
+            }
+            None => false,
+        }
     }
 }
 

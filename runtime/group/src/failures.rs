@@ -119,8 +119,8 @@ impl Config {
         let places = |names: Names| failures::places_of(names.iter().map(|name| name.place()));
         let (founders, voters) = (places(founding.founders), places(self.voting()));
         let id = match (policy, &self.list) {
-            (failures::Policy::Told, _) => [0; 16],
             (_, Some(list)) => list.failures,
+            (failures::Policy::Told, None) => [0; 16],
             (_, None) => self.failure_id(policy)?,
         };
         let name = name_of(self.name);

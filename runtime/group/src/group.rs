@@ -73,7 +73,7 @@ impl Group {
         }
     }
 
-    /// The member's name.
+    /// The member's name in the list in which it began. [`Group::info`] has its name in the latest one.
     pub fn name(&self) -> Name {
         self.name
     }

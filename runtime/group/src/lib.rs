@@ -34,6 +34,7 @@ mod failures;
 mod fencing;
 mod group;
 mod later;
+mod life;
 mod next;
 mod seal;
 mod shared;

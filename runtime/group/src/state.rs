@@ -7,10 +7,10 @@
 //! earlier version of this program has the first two alone. A life's file of a later list says which list that is, too; it is written after
 //! the voter's file, and a list was begun if it is there. The files of an ended list are removed once the place doesn't serve it any more.
 
-use crate::later::{founding_line, founding_of, LaterList};
+use crate::later::LaterList;
+use crate::life::{file_of, generation_of, line_of, Begun, LIFE};
 use muoswyld::names::Name;
 use muoswyld_failures::new_file;
-use ring::digest::{digest, SHA256};
 use std::collections::BTreeMap;
 use std::fs::{self, DirBuilder, File, OpenOptions};
 use std::io::{self, ErrorKind, Read, Write};
@@ -20,7 +20,6 @@ use std::path::{Path, PathBuf};
 use thiserror::Error;
 
 const LOCK: &str = "lock";
-const LIFE: &str = "life";
 const VOTER: &str = "voter";
 /// How many bytes of a file are read: more than each of them has.
 const MOST_BYTES: u64 = 4096;
@@ -109,85 +108,6 @@ fn read(path: &Path) -> Result<Option<Vec<u8>>, StateError> {
         Ok(_) => Ok(Some(bytes)),
         Err(error) if error.kind() == ErrorKind::NotFound => Ok(None),
         Err(error) => Err(cannot(path)(error)),
-    }
-}
-
-/// The line of a life's file: the place, and the last life that was begun, 0 if none was.
-fn line_of(place: u8, life: u8) -> String {
-    format!("place {place} life {life}\n")
-}
-
-/// The place and the life of such a line.
-fn of_line(text: &str) -> Option<(u8, u8)> {
-    let rest = text.strip_prefix("place ")?.strip_suffix('\n')?;
-    let (place, life) = rest.split_once(" life ")?;
-    let (place, life) = (place.parse().ok()?, life.parse().ok()?);
-    (line_of(place, life) == text && place < 16 && life <= 16).then_some((place, life))
-}
-
-/// The name of a file of a list.
-fn file_of(kind: &str, generation: u32) -> String {
-    match generation {
-        0 => kind.to_string(),
-        _ => format!("{kind}.{generation}"),
-    }
-}
-
-/// The list of a life's file, by its name.
-fn generation_of(file: &str) -> Option<u32> {
-    if file == LIFE {
-        return Some(0);
-    }
-    let generation = file.strip_prefix(LIFE)?.strip_prefix('.')?.parse().ok()?;
-    (file_of(LIFE, generation) == file).then_some(generation)
-}
-
-/// What ends a life's file of a later list: eight bytes of a sum of what stands before.
-fn sum_line(text: &str) -> String {
-    let sum = digest(&SHA256, text.as_bytes());
-    let bytes = sum.as_ref().iter().take(8);
-    let sum = bytes.fold(0, |sum: u64, byte| sum << 8 | u64::from(*byte));
-    format!("sum {sum:016x}\n")
-}
-
-/// What a life's file has.
-#[derive(Clone, Copy, Debug, PartialEq, Eq)]
-struct Begun {
-    place: u8,
-    /// The last life that was begun, 0 if none was.
-    life: u8,
-    /// Which list it is; None for the first one.
-    list: Option<LaterList>,
-}
-
-impl Begun {
-    fn text(&self) -> String {
-        let mut text = line_of(self.place, self.life);
-        if let Some(list) = &self.list {
-            let founding = founding_line(&list.founding);
-            text += &format!("{}\n{founding}\nvoters {}\n", list.line(), list.voters);
-            text += &sum_line(&text);
-        }
-        text
-    }
-
-    /// What the bytes of a list's file say; None if it isn't whole, or is another list's.
-    fn of(bytes: &[u8], generation: u32) -> Option<Begun> {
-        let text = std::str::from_utf8(bytes).ok()?;
-        let (first, rest) = text.split_once('\n')?;
-        let (place, life) = of_line(&format!("{first}\n"))?;
-        let lines: Vec<&str> = rest.lines().collect();
-        let list = match lines[..] {
-            [] => None,
-            [list, founding, voters, _] => {
-                let voters = voters.strip_prefix("voters ")?.parse().ok()?;
-                Some(LaterList::of(list, founding_of(founding)?, voters)?)
-            }
-            _ => return None,
-        };
-        let begun = Begun { place, life, list };
-        let its = list.map_or(0, |list| list.generation);
-        (begun.text() == text && its == generation).then_some(begun)
     }
 }
 
@@ -327,6 +247,11 @@ impl State {
         };
         self.write(&begun)?;
         self.lists.insert(generation, begun);
+        // a process that begins serves no earlier list
+        while let Some((&earlier, _)) = self.lists.range(..generation).next() {
+            self.close(earlier)?;
+            self.lists.remove(&earlier);
+        }
         Ok(())
     }
 
@@ -521,12 +446,12 @@ mod tests {
         let again = state.begin(name("1"), Some(&list(1))).unwrap_err();
         assert!(matches!(again, StateError::Begun { .. }), "{again}");
         state.begin(name("1/2"), Some(&list(1))).unwrap();
+        assert_eq!(state.voter(1).unwrap().unwrap(), b"more of 1");
+        assert_eq!(state.voter(0).unwrap(), None);
         // its peers know a later one, in which it doesn't vote
         state.write_voter(3, b"of no list").unwrap();
         state.begin(name("1/4"), Some(&list(3))).unwrap();
         assert_eq!(state.voter(3).unwrap(), None);
-        state.close(0).unwrap();
-        state.close(1).unwrap();
         drop(state);
         let names = fs::read_dir(&folder.0).unwrap();
         let mut names: Vec<_> = names.map(|entry| entry.unwrap().file_name()).collect();

@@ -1,43 +1,33 @@
 //! One list of a group: its lives' journals, judged together.
 
-use crate::ending::{differs, Following};
+use crate::ending::Following;
 use crate::feed::Over;
 use crate::finding::{Cause, Finding};
 use crate::judge::Judged;
 use crate::lawful::Watch;
 use crate::line::{Founding, Head};
+use crate::links::compare;
 use crate::list::{List, Place};
-use crate::merge::{Life, Next, Reading, Said};
-use crate::replay::{Gave, Needs, Step};
+use crate::merge::{Life, Next, Reading};
+use crate::replay::{Needs, Step};
 use crate::script::{Script, MOST};
 use muoswyld::names::Name;
 use std::collections::BTreeMap;
 use std::path::{Path, PathBuf};
 
-/// What the judge of a later list has to know of one.
-#[derive(Clone, Debug)]
-pub(crate) struct Past {
-    /// What follows it, if an entry ended it.
-    pub(crate) end: Option<Following>,
-    /// Whether nothing but the answers is claimed.
-    pub(crate) is_void: bool,
-    /// Its lives, and whether each of them took the entry that ended it.
-    lives: BTreeMap<Name, bool>,
-}
-
 /// A list of a group, as its lives' journals come to be judged.
 pub(crate) struct Court {
     reading: Reading,
-    founding: Founding,
+    pub(crate) founding: Founding,
     /// The group's id, and that of the group whose list this one follows, if the journals say it.
-    group: Option<u64>,
-    before: Option<u64>,
+    pub(crate) group: Option<u64>,
+    pub(crate) before: Option<u64>,
     /// Journals whose lives haven't begun here.
     heads: BTreeMap<Name, (PathBuf, Head)>,
     /// The first lines that weren't compared with the end of the list before.
-    unlinked: Vec<(PathBuf, Head)>,
+    pub(crate) unlinked: Vec<(PathBuf, Head)>,
     /// The journals of this list.
-    files: BTreeMap<Name, PathBuf>,
+    pub(crate) files: BTreeMap<Name, PathBuf>,
     /// Whether its lives may begin.
     has_begun: bool,
     /// How many lives of a group's first list have no journal.
@@ -48,13 +38,13 @@ pub(crate) struct Court {
     is_over: bool,
     /// Whether the members ran when this began.
     has_followed: bool,
-    lives: BTreeMap<Name, Life>,
+    pub(crate) lives: BTreeMap<Name, Life>,
     watch: Option<Watch>,
     list: List,
     script: Option<Script>,
     pub(crate) judged: Judged,
     /// What follows the list, once an entry ended it.
-    end: Option<Following>,
+    pub(crate) end: Option<Following>,
     /// Who could go on, by time.
     order: Vec<(u64, Name)>,
 }
@@ -114,21 +104,6 @@ impl Court {
         }
     }
 
-    /// What the judge of a later list has to know of it.
-    pub(crate) fn past(&self) -> Past {
-        let lives = self.lives.values();
-        Past {
-            end: self.end.clone(),
-            is_void: self.judged.void_from.is_some(),
-            lives: lives.map(|life| (life.name, life.ending.is_over)).collect(),
-        }
-    }
-
-    /// The id of the group whose list it follows, as its first journal says it.
-    pub(crate) fn before(&self) -> Option<u64> {
-        self.before
-    }
-
     /// Whether nothing more can come: an entry ended the list, and all of its lives are over.
     pub(crate) fn is_finished(&self) -> bool {
         let is_over = |life: &Life| matches!(life.next, Next::Nothing { .. });
@@ -138,46 +113,6 @@ impl Court {
     /// A journal of the list.
     pub(crate) fn any_file(&self) -> PathBuf {
         self.files.values().next().cloned().unwrap_or_default()
-    }
-
-    /// Compares the first lines with the end of the list before, if that is known.
-    pub(crate) fn link(&mut self, before: Option<&Following>) -> Result<(), Finding> {
-        for (path, head) in std::mem::take(&mut self.unlinked) {
-            let wanted = before.zip(head.follows).and_then(|(before, follows)| {
-                let own = (follows.group, &head.founding);
-                differs(own, (follows.number, follows.before), before)
-            });
-            if let Some(cause) = wanted {
-                return Err(Finding::at(&path, 1, cause));
-            }
-            if self.founding != head.founding {
-                return Err(Finding::at(&path, 1, Cause::OtherFounding(head.name)));
-            }
-        }
-        Ok(())
-    }
-
-    /// Whether each founder that began came to the end of the list before, and each that didn't was there.
-    pub(crate) fn links_founders(&self, before: &Past) -> Result<(), Finding> {
-        let (Some(following), false) = (&before.end, before.is_void) else {
-            return Ok(());
-        };
-        for founder in self.founding.founders.iter() {
-            let Some(name) = following.members.at(founder.place()) else {
-                continue;
-            };
-            let was_there = before.lives.get(&name);
-            match self.files.get(&founder) {
-                Some(path) if was_there != Some(&true) => {
-                    return Err(Finding::at(path, 1, Cause::NotThere(name)));
-                }
-                None if self.lives.contains_key(&founder) && was_there.is_none() => {
-                    return Err(Finding::at(&self.any_file(), 0, Cause::NoJournal(founder)));
-                }
-                _ => {}
-            }
-        }
-        Ok(())
     }
 
     /// Lets its lives begin.
@@ -438,38 +373,6 @@ impl Court {
         Ok(())
     }
 
-    /// Looks whether an entry that a life took ends the list: for all lives it is the same one.
-    fn take_turn(&mut self, name: Name, step: &Step) -> Result<(), Finding> {
-        let (Some(turn), Gave::Entry { number, .. }) = (&step.turn, step.gave) else {
-            return Ok(());
-        };
-        let Some(life) = self.lives.get_mut(&name) else {
-            return Ok(());
-        };
-        let wrong = |cause| Finding::at(&life.path, step.line, cause);
-        let taken = life.ending.take(number, turn, self.group);
-        let Some(following) = taken.map_err(wrong)? else {
-            return Ok(());
-        };
-        life.owes = Some(number);
-        match &self.end {
-            None => self.end = Some(following),
-            // the entries are one list, and so all lives judge alike
-            Some(there) if *there == following => {}
-            Some(there) => {
-                return Err(Finding::at(
-                    &life.path,
-                    step.line,
-                    Cause::OtherEnd {
-                        number,
-                        other: there.number,
-                    },
-                ));
-            }
-        }
-        Ok(())
-    }
-
     /// Whether a letter was sent as it was heard.
     fn is_letter(
         &self,
@@ -527,19 +430,5 @@ impl Court {
         }
         self.judged.play = Some(says);
         Ok(())
-    }
-}
-
-/// Compares what a life's journal says of the list that follows with the entry that ended its list.
-fn compare(life: &Life, said: &Said, end: Option<&Following>) -> Result<(), Finding> {
-    let wrong = |cause| Finding::at(&life.path, said.line, cause);
-    let (Some(following), true) = (end, life.ending.is_over) else {
-        return Err(wrong(Cause::NoEnd));
-    };
-    let own = (said.group, &said.founding);
-    // a journal says in its first line which group's list it is
-    match differs(own, (said.number, following.before), following) {
-        Some(cause) => Err(wrong(cause)),
-        None => Ok(()),
     }
 }

@@ -1,9 +1,10 @@
 //! Judges the journals of a group: each of its lists by itself, and that each one follows the one before as that ended.
 
-use crate::court::{Court, Past};
+use crate::court::Court;
 use crate::feed::Over;
 use crate::finding::{Cause, Finding};
 use crate::line::Head;
+use crate::links::Past;
 use crate::merge::Reading;
 use std::collections::hash_map::RandomState;
 use std::collections::{BTreeMap, BTreeSet};

@@ -22,6 +22,7 @@ pub mod finding;
 pub mod judge;
 mod lawful;
 mod line;
+mod links;
 mod list;
 mod merge;
 mod replay;

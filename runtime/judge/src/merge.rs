@@ -146,24 +146,25 @@ impl Life {
         if !matches!(self.next, Next::Unknown) {
             return Ok(());
         }
-        let mut told = self.tells(waits);
-        if let Some(Told::Next {
-            line,
-            number,
-            group,
-            founding,
-        }) = told
-        {
-            self.line = line;
-            self.said = Some(Said {
+        let told = match self.tells(waits) {
+            Some(Told::Next {
                 line,
                 number,
                 group,
                 founding,
-            });
-            self.owes = None;
-            told = self.tells(waits);
-        }
+            }) => {
+                self.line = line;
+                self.owes = None;
+                self.said = Some(Said {
+                    line,
+                    number,
+                    group,
+                    founding,
+                });
+                self.tells(waits)
+            }
+            other => other,
+        };
         self.next = match told {
             // it says twice which list follows
             Some(Told::Next { line, .. }) => {

@@ -148,15 +148,12 @@ fn a_member_is_killed_amid_an_end(test: &str, policy: &[&str]) {
         );
         // the files of the lists before go once all are heard in this one
         let state = format!("state{name}");
-        let wanted: &[&str] = match policy == TOLD || name == "0" {
-            true => &["life.2", "lock"],
-            false => &["life.2", "lock", "voter.2"],
+        // of the voters only this one was a member at both ends
+        let wanted: &[&str] = match policy != TOLD && name == "1" {
+            true => &["life.2", "lock", "voter.2"],
+            false => &["life.2", "lock"],
         };
-        let is_voter = files_of(&cluster, &state).contains(&"voter.2".to_string());
-        until(|| {
-            let files = files_of(&cluster, &state);
-            files == wanted || name == "0" && is_voter && files == ["life.2", "lock", "voter.2"]
-        });
+        until(|| files_of(&cluster, &state) == wanted);
     }
     let last = cluster.texts("1");
     assert_eq!(cluster.texts("2"), last);
@@ -192,9 +189,14 @@ fn a_list_ends_by_the_command_and_says_why_not() {
             "3 isn't the first life of a member's place",
         ),
     ] {
-        let refused = ask(&words);
-        let said = String::from_utf8_lossy(&refused.stderr).into_owned();
-        assert_eq!(refused.status.code(), Some(69), "{said}");
+        until(|| {
+            let refused = ask(&words);
+            let said = String::from_utf8_lossy(&refused.stderr).into_owned();
+            assert_eq!(refused.status.code(), Some(69), "{said}");
+            // as long as not all are heard nobody is asked what it wants
+            said.contains(why) || !said.contains("not now")
+        });
+        let said = String::from_utf8_lossy(&ask(&words).stderr).into_owned();
         assert!(said.contains(why), "{said}");
     }
     let mut done = None;

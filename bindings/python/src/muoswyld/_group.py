@@ -152,7 +152,7 @@ class Group:
 
     @property
     def name(self) -> Name:
-        """The member's name."""
+        """The member's name in the list in which it began. `info` has its name in the latest one."""
         return self._name
 
     def fileno(self) -> int:
