@@ -343,13 +343,17 @@ def comparing_lists(_: Tried) -> list[str]:
     """Two lists that follow one another are taken as one, and each thing that can be wrong at the end of the first is found."""
     lives, journals = two_lists()
     wrong = [f"{line}, in what is right" for line in differences(lives, journals)]
-    after_end = {**message(5, 0, "1/2", "b"), "generation": 0}
+    after_end = message(5, 0, "1/2", "b")
+
+    def narrow(life: Seen, place: int) -> None:
+        """Has a life be told another window."""
+        life.log[place] = {**life.log[place], "window": 8}
+
     for what, change, said in (
         ("what stands after the end", lambda seen, _: seen[0].log.insert(4, after_end), "isn't what 1/2 sent"),
         ("an end that isn't told", lambda seen, _: seen[1].log.pop(2), "1/2 wasn't given "),
-        ("other members at the end", lambda seen, _: seen[1].log.__setitem__(2, {**seen[1].log[2], "window": 8}), "1/2 was given "),
-        ("another window everywhere", lambda seen, _: [each.log.__setitem__(k, {**each.log[k], "window": 8}) for k, each in ((3, seen[0]), (2, seen[1]))],
-         "its journal has"),
+        ("another window", lambda seen, _: narrow(seen[1], 2), "1/2 was given "),
+        ("another window everywhere", lambda seen, _: [narrow(seen[0], 3), narrow(seen[1], 2)], "its journal has"),
         ("an end that the journal hasn't", lambda _, journals: journals[0, "0"].next.clear(), "its journal has"),
         ("a message of another name", lambda seen, _: seen[1].names.update({1: "2"}), "stands nowhere"),
         ("an answer in another list", lambda seen, _: seen[1].answers.update(b=Position(0, 2, 0)), "stands at"),

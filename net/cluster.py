@@ -6,10 +6,11 @@
 Members are processes of muoswyldd, and a relay between them makes the faults. They send `--rate` messages a second in all; of a hundred
 datagrams so many are lost, repeated and overtaken by the next one, and each is delayed by up to so many milliseconds. `--kill` times one of
 them is killed by SIGKILL; the others are told once it has ended, and its place comes back as its next life. `--freeze` times one of them is
-stopped by SIGSTOP for a while. `--succeed` times the list ends and another one follows it, while all that goes on. In the end their inputs end; whom that doesn't end within `--patience` seconds, as it has still much to send,
-is killed. After that the journals are merged to one script, `play` runs it, and each answer of each process is compared with its line; the
-program `judge` judges the journals too, however long they are; and what the members printed is compared with each other, with what was sent
-and answered, and with the journals. It ends with 1 if something differs, or if a member ended by itself.
+stopped by SIGSTOP for a while. `--succeed` times the list ends and another one follows it, while all that goes on. In the end their inputs
+end; whom that doesn't end within `--patience` seconds, as it has still much to send, is killed. After that the journals of each list are
+merged to one script, `play` runs it, and each answer of each process is compared with its line; the program `judge` judges the journals too,
+however long they are and of all lists; and what the members printed is compared with each other, with what was sent and answered, and with
+the journals. It ends with 1 if something differs, or if a member ended by itself.
 """
 
 import argparse

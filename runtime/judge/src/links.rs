@@ -76,7 +76,7 @@ impl Court {
     }
 
     /// Looks whether an entry that a life took ends the list: for all lives it is the same one.
-    fn take_turn(&mut self, name: Name, step: &Step) -> Result<(), Finding> {
+    pub(crate) fn take_turn(&mut self, name: Name, step: &Step) -> Result<(), Finding> {
         let (Some(turn), Gave::Entry { number, .. }) = (&step.turn, step.gave) else {
             return Ok(());
         };
@@ -109,7 +109,7 @@ impl Court {
 }
 
 /// Compares what a life's journal says of the list that follows with the entry that ended its list.
-fn compare(life: &Life, said: &Said, end: Option<&Following>) -> Result<(), Finding> {
+pub(crate) fn compare(life: &Life, said: &Said, end: Option<&Following>) -> Result<(), Finding> {
     let wrong = |cause| Finding::at(&life.path, said.line, cause);
     let (Some(following), true) = (end, life.ending.is_over) else {
         return Err(wrong(Cause::NoEnd));

@@ -1,5 +1,6 @@
 //! Processes whose group's list ends, and another one follows it, while they send and one of them is killed.
 
+#[allow(dead_code)] // it is for other tests, too
 mod cluster;
 
 use cluster::{run, until, Cluster};

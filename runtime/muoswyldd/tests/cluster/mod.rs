@@ -228,7 +228,6 @@ pub fn run(words: &[&str]) -> Output {
 }
 
 /// Makes a script of a shell.
-#[allow(dead_code)]
 pub fn script(path: &str, text: &str) {
     fs::write(path, format!("#!/bin/sh\n{text}\n")).unwrap();
     fs::set_permissions(Path::new(path), fs::Permissions::from_mode(0o700)).unwrap();
