@@ -149,8 +149,10 @@ fn a_member_is_killed_amid_an_end(test: &str, policy: &[&str]) {
         );
         // the files of the lists before go once all are heard in this one
         let state = format!("state{name}");
-        // of the voters only this one was a member at both ends
-        let wanted: &[&str] = match policy != TOLD && name == "1" {
+        // who votes depends on who was a member at both ends
+        let votes = cluster.failures(name)["votes"] == true;
+        assert!(policy != TOLD || !votes);
+        let wanted: &[&str] = match votes {
             true => &["life.2", "lock", "voter.2"],
             false => &["life.2", "lock"],
         };
