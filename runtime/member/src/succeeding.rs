@@ -21,7 +21,6 @@ impl Member {
         let heard = self.heard_regularly();
         self.stopped.among(self.standing.members).is_empty()
             && self.silent().is_empty()
-            && self.hearing.silent.iter().all(|is_silent| !is_silent)
             && heard.iter().all(|name| self.hearing.was_heard(name))
             && self.standing.role != Role::Coordinator
             && self.is_member()

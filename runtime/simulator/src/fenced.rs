@@ -554,7 +554,7 @@ impl World<'_> {
             process.is_some_and(|process| process.member.failures().frozen_since.is_some())
         };
         let frozen: Vec<u8> = (0..16).filter(frozen).collect();
-        if !frozen.is_empty() && self.counts.crashes == 0 {
+        if !frozen.is_empty() && self.counts.crashes == 0 && self.has_all_voters() {
             return Err(format!(
                 "places {frozen:?} stay frozen, though nobody crashed:\n{}",
                 self.shown()
