@@ -1,9 +1,10 @@
 //! Lists that follow one another: how each was founded, who has which name in it, and what begins and ends.
 
-use crate::fenced::id_of;
+use crate::happening::Happening;
+use crate::machine::id_of;
 use crate::plan::{Act, NextList, Plan};
 use crate::process::Process;
-use crate::world::{Happening, World};
+use crate::world::World;
 use muoswyld_failures::{places_of, NoVoter, Places};
 use muoswyld_guarded::next_id;
 use muoswyld_member::{Founding, HandleError, Input, Name, Names, Next, Successor};

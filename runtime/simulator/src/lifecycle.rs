@@ -1,11 +1,12 @@
 //! Lives that begin and end, and what else happens to them.
 
 use crate::checker::{self, App};
+use crate::happening::Happening;
 use crate::journals;
 use crate::plan::{Act, Faults};
 use crate::process::{Begins, Process};
 use crate::report::Report;
-use crate::world::{Happening, World, TOLD_WITHIN};
+use crate::world::{World, TOLD_WITHIN};
 use muoswyld_member::{End, Input, Name, Names, Role};
 use std::collections::{BTreeMap, BTreeSet};
 use std::fmt::Write;
