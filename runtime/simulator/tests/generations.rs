@@ -91,19 +91,19 @@ fn many_seeds_by_lease_with_clocks_at_their_bounds() {
     many_seeds("lease, clocks at their bounds", &fenced);
 }
 
-/// How many lists end in a quiet run in which nobody asks for it, before the one that ends at its close.
-fn ends_by_itself(seed: u64, succeed_at: Option<Limits>, acts: &[(u64, u8, Act)]) -> u64 {
+/// How many lists end in a quiet run in which nobody asks for it, before the one that ends at its close; and how often a process crashed.
+fn ends_by_itself(seed: u64, succeed_at: Option<Limits>, acts: &[(u64, u8, Act)]) -> (u64, usize) {
     let mut fenced = FencedPlan::echo();
     (fenced.stalls, fenced.lost_disks) = (0, 0);
     let mut plan = Plan::generations(seed, fenced);
-    (plan.sizes, plan.send_every) = (Sizes::Small, 20_000);
+    (plan.sizes, plan.send_every, plan.most_sends) = (Sizes::Small, 20_000, 80);
     plan.faults.lost = plan.faults.lost.min(10);
     plan.acts = acts.to_vec();
-    plan.ends = 3_500_000;
+    plan.ends = 7_000_000;
     plan.succeed_at = succeed_at;
     let report = run(&plan).unwrap_or_else(|failure| panic!("{failure}"));
     assert!(!report.fenced.is_void);
-    report.fenced.lists - 1
+    (report.fenced.lists - 1, report.crashes.len())
 }
 
 #[test]
@@ -115,14 +115,18 @@ fn a_list_ends_by_itself_before_its_lives_or_numbers_run_out() {
         lives: 0,
         numbers: 2_000_000_000 - 10,
     });
-    for seed in 1..=20 {
-        assert_eq!(ends_by_itself(seed, None, &[crash]), 0);
+    let mut crashed = 0;
+    for seed in 1..=6 {
+        assert_eq!(ends_by_itself(seed, None, &[crash]).0, 0);
         // nobody has a second life, and then one has
-        assert_eq!(ends_by_itself(seed, lives(14), &[]), 0);
-        assert_eq!(ends_by_itself(seed, lives(14), &[crash]), 1);
-        assert_eq!(ends_by_itself(seed, lives(13), &[crash]), 0);
-        assert!(ends_by_itself(seed, numbers, &[]) > 0);
+        assert_eq!(ends_by_itself(seed, lives(14), &[]), (0, 0));
+        assert_eq!(ends_by_itself(seed, lives(13), &[crash]).0, 0);
+        let (lists, crashes) = ends_by_itself(seed, lives(14), &[crash]);
+        assert_eq!(lists > 0, crashes > 0);
+        crashed += crashes;
+        assert!(ends_by_itself(seed, numbers, &[]).0 > 0);
     }
+    assert!(crashed > 0, "nothing happened");
 }
 
 /// Runs the seed that SEED names, by the policy that POLICY names.

@@ -163,12 +163,41 @@ fn about_two_votes(plan: &mut Plan) {
     plan.acts = acts;
 }
 
+/// Of five members 0, 1 and 2 vote in the next list. 4 doesn't come to it, since it hears 3 alone. 3 does, and then it doesn't hear 0 and 1: it is
+/// echoed by a majority in the old list, and given up in the next one.
+fn about_the_old_look(plan: &mut Plan) {
+    about_the_end(plan);
+    let at = 900_000;
+    let next = NextList {
+        window: 64,
+        less: 0,
+        voters: 0b111,
+        tries: 0,
+    };
+    let mut acts = vec![(at, 3, Act::Succeed(next))];
+    let begin = at + 3_000 + (plan.seed * 13) % 60 * 500;
+    let mut cut = |at, one: u8, other: u8| {
+        let micros = 600_000;
+        acts.push((at, one, Act::Cut { to: other, micros }));
+        acts.push((at, other, Act::Cut { to: one, micros }));
+    };
+    for other in 0..3 {
+        cut(at - 500, 4, other);
+    }
+    cut(begin, 3, 0);
+    cut(begin, 3, 1);
+    acts.sort_by_key(|(at, place, _)| (*at, *place));
+    plan.acts = acts;
+    plan.send_every = 5_000;
+    plan.ends = 2_000_000;
+}
+
 #[test]
 fn the_next_list_goes_out_by_the_look_of_the_old_one() {
     found(
         Plant::LooksByOldLane,
         &quiet(FencedPlan::lease(100)),
-        about_two_votes,
+        about_the_old_look,
         SEEN,
     );
 }
