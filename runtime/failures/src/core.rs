@@ -178,16 +178,17 @@ impl Failures {
             Some(Message::Heartbeat(heartbeat)) => {
                 self.hear_of_another(&heartbeat);
             }
-            Some(Message::Closed { id, to }) if id == self.settings.id => {
-                if to == self.settings.name {
-                    self.stop(to);
-                }
-            }
+            Some(Message::Closed { id, to }) if self.is_closed_for(id, to) => self.stop(to),
             Some(Message::Echo(echo)) if self.has(Plant::EchoOfAnyList) => {
                 self.echo_of_another(echo.voter, echo.heard);
             }
             _ => {}
         }
+    }
+
+    /// Whether its list is closed, and this process hasn't come to its end.
+    fn is_closed_for(&self, id: [u8; 16], to: Name) -> bool {
+        id == self.settings.id && to == self.settings.name
     }
 
     /// What has another id counts for nothing. It is told once of each name, but not of a place that also speaks with this id: the group's

@@ -1,6 +1,7 @@
 //! The list that follows another one: it begins, the older ones close, and what holds in all of them is passed on.
 
-use crate::guarded::{core_name, name_of, set_of, Deed, Ending, Guarded, Plant};
+use crate::deed::{Deed, Ending, Plant};
+use crate::guarded::{core_name, name_of, set_of, Guarded};
 use crate::ids::{next_id, next_process};
 use crate::lane::{at, Lane};
 use crate::waiting::Waiting;
@@ -134,12 +135,19 @@ impl Guarded {
             if !is_old || !(lane.failures.is_ended() || self.lists.is_over(generation)) {
                 return;
             }
+            let id = lane.failures.settings().id;
             let lane = self.lanes.remove(0);
             self.lists.close(generation);
+            if self.has(Plant::LooksByOldLane) {
+                // what came of the next list isn't lost with that defect
+                let rest = lane.held.into_iter();
+                let rest = rest.filter(|held| held.generation > generation);
+                self.lanes[0].held.extend(rest);
+            }
             if self.closed.len() == MOST_CLOSED {
                 self.closed.pop_front();
             }
-            self.closed.push_back(lane.failures.settings().id);
+            self.closed.push_back(id);
             self.deeds.push(Deed::Closed { generation });
         }
     }

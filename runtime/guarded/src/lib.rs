@@ -9,11 +9,13 @@
 
 #![warn(missing_docs)]
 
+mod deed;
 mod following;
 mod guarded;
 mod ids;
 mod lane;
 mod waiting;
 
-pub use guarded::{Deed, Ending, Guarded, Plant};
+pub use deed::{Deed, Ending, Plant};
+pub use guarded::Guarded;
 pub use ids::next_id;

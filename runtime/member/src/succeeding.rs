@@ -15,13 +15,42 @@ const LIVES: u8 = 16;
 /// How long after somebody last asked to join it counts as one that asks, in microseconds.
 const ASKS_FOR: u64 = 1_000_000;
 
+/// The voters of the next list: those that are named, or those of this one that are members, without the highest one if they are even.
+fn next_voters(
+    voting: Option<Names>,
+    named: Option<Names>,
+    members: Names,
+) -> Result<Names, HandleError> {
+    let founders = firsts_of(members);
+    match (voting, named) {
+        (None, None) => Ok(Names::nobody()),
+        (None, Some(_)) => Err(HandleError::Unvoted),
+        (Some(_), Some(voters)) => {
+            if let Some(voter) = voters.iter().find(|voter| !founders.has(*voter)) {
+                return Err(HandleError::Voter(voter));
+            }
+            match voters.len() {
+                count if count % 2 == 0 => Err(HandleError::EvenVoters(count)),
+                _ => Ok(voters),
+            }
+        }
+        (Some(voters), None) => {
+            let left: Names = voters.iter().filter(|voter| founders.has(*voter)).collect();
+            let highest = left.iter().last().ok_or(HandleError::NoVoters)?;
+            match left.len() % 2 {
+                0 => Ok(left.without(highest)),
+                _ => Ok(left),
+            }
+        }
+    }
+}
+
 impl Member {
     /// Whether a list may be ended now, as far as this member knows: nobody has stopped, is silent, leaves or asks to join.
     fn is_quiet(&self) -> bool {
         let heard = self.heard_regularly();
         self.stopped.among(self.standing.members).is_empty()
             && self.silent().is_empty()
-            && self.hearing.silent.iter().all(|is_silent| !is_silent)
             && heard.iter().all(|name| self.hearing.was_heard(name))
             && self.standing.role != Role::Coordinator
             && self.is_member()
@@ -59,7 +88,7 @@ impl Member {
             group,
             at: self.standing.taken,
             members,
-            voters: self.next_voters(next.voters, members)?,
+            voters: next_voters(self.settings.voters, next.voters, members)?,
             next: Next {
                 voters: None,
                 ..next
@@ -68,32 +97,6 @@ impl Member {
         ends.founding().check().map_err(HandleError::Founding)?;
         self.sending.control = Some(Load::of_control(ends.body()));
         Ok(())
-    }
-
-    /// The voters of the next list: those that are named, or those of this one that are members, without the highest one if they are even.
-    fn next_voters(&self, named: Option<Names>, members: Names) -> Result<Names, HandleError> {
-        let founders = firsts_of(members);
-        match (self.settings.voters, named) {
-            (None, None) => Ok(Names::nobody()),
-            (None, Some(_)) => Err(HandleError::Unvoted),
-            (Some(_), Some(voters)) => {
-                if let Some(voter) = voters.iter().find(|voter| !founders.has(*voter)) {
-                    return Err(HandleError::Voter(voter));
-                }
-                match voters.len() {
-                    count if count % 2 == 0 => Err(HandleError::EvenVoters(count)),
-                    _ => Ok(voters),
-                }
-            }
-            (Some(voters), None) => {
-                let left: Names = voters.iter().filter(|voter| founders.has(*voter)).collect();
-                let highest = left.iter().last().ok_or(HandleError::NoVoters)?;
-                match left.len() % 2 {
-                    0 => Ok(left.without(highest)),
-                    _ => Ok(left),
-                }
-            }
-        }
     }
 
     /// What is to end the list goes out only if nobody has stopped, become silent or left meanwhile. Else it is dropped.
@@ -147,5 +150,43 @@ impl Member {
         if has_none && !std::mem::replace(&mut self.ending.told_no_voters, true) {
             self.tell(Notice::NoNextVoters);
         }
+    }
+}
+
+#[cfg(test)]
+mod tests {
+    use super::*;
+
+    fn names(text: &str) -> Names {
+        text.parse().expect("names")
+    }
+
+    #[test]
+    fn voters_that_are_not_named_are_those_of_the_list_that_are_members() {
+        let of = |voting: &str, members: &str| {
+            let voters = next_voters(Some(names(voting)), None, names(members));
+            voters.map(|voters| voters.to_string())
+        };
+        assert_eq!(of("0,1,2", "0,1,2,3"), Ok("0,1,2".into()));
+        assert_eq!(of("0,1,2", "0/2,2/3,5"), Ok("0".into()));
+        assert_eq!(of("0,1,2,3,4", "1,2,3/2,4"), Ok("1,2,3".into()));
+        assert_eq!(of("0,1,2", "3,4"), Err(HandleError::NoVoters));
+    }
+
+    #[test]
+    fn voters_that_are_named_are_members_and_odd() {
+        let of = |named: &str| {
+            let named = Some(names(named));
+            next_voters(Some(names("0,1,2")), named, names("0,1/4,3"))
+        };
+        assert_eq!(of("1"), Ok(names("1")));
+        assert_eq!(of("0,1,3"), Ok(names("0,1,3")));
+        assert_eq!(of("0,1"), Err(HandleError::EvenVoters(2)));
+        let no_member = |name: &str| Err(HandleError::Voter(name.parse().expect("a name")));
+        assert_eq!(of("2"), no_member("2"));
+        assert_eq!(of("1/4"), no_member("1/4"));
+        let unvoted = next_voters(None, Some(names("0")), names("0"));
+        assert_eq!(unvoted, Err(HandleError::Unvoted));
+        assert_eq!(next_voters(None, None, names("0")), Ok(Names::nobody()));
     }
 }

@@ -1,9 +1,10 @@
 //! Lists that follow one another: how each was founded, who has which name in it, and what begins and ends.
 
-use crate::fenced::id_of;
-use crate::plan::{NextList, Plan};
+use crate::happening::Happening;
+use crate::machine::id_of;
+use crate::plan::{Act, NextList, Plan};
 use crate::process::Process;
-use crate::world::{Happening, World};
+use crate::world::World;
 use muoswyld_failures::{places_of, NoVoter, Places};
 use muoswyld_guarded::next_id;
 use muoswyld_member::{Founding, HandleError, Input, Name, Names, Next, Successor};
@@ -259,6 +260,7 @@ impl World<'_> {
             window: 16,
             less: 0,
             voters: 0,
+            tries: 0,
         };
         for turn in 1..=200 {
             if turn % 50 == 0 {
@@ -293,6 +295,18 @@ impl World<'_> {
                 self.plan_at(self.now + 1_000, Happening::Starts { place });
             }
         }
+        Ok(())
+    }
+
+    /// A member is asked to end its list, and again a while later if that can't be now.
+    pub(crate) fn try_to_succeed(&mut self, place: u8, next: NextList) -> Result<(), String> {
+        if self.succeed(place, next)? || next.tries == 0 || self.is_calm {
+            return Ok(());
+        }
+        let tries = next.tries - 1;
+        let act = Act::Succeed(NextList { tries, ..next });
+        let at = self.now + self.draw.between(10_000, 100_000);
+        self.plan_at(at, Happening::Acts { place, act });
         Ok(())
     }
 
@@ -464,6 +478,15 @@ impl World<'_> {
         let had = u8::from(generation > 0 && founders.at(place).is_some());
         let last = machine.lives.get(&generation).copied().unwrap_or(had);
         (generation, last.max(had) + 1)
+    }
+
+    /// Whether all that vote in the latest list have their files. A founder that is given up before it begins a list has none there.
+    pub(crate) fn has_all_voters(&self) -> bool {
+        let last = self.last_list();
+        let voters = self.lists.last().map_or(0, |list| list.voters);
+        let machines = (0..16).zip(&self.machines);
+        let mut voting = machines.filter(|(place, _)| voters >> place & 1 == 1);
+        !self.plan.has_ends || voting.all(|(_, machine)| machine.voters.contains_key(&last))
     }
 
     /// Whether too few of the places that vote in the latest list have their files, or will have: the group stands still for good.

@@ -1,11 +1,12 @@
 //! Lives that begin and end, and what else happens to them.
 
 use crate::checker::{self, App};
+use crate::happening::Happening;
 use crate::journals;
 use crate::plan::{Act, Faults};
 use crate::process::{Begins, Process};
 use crate::report::Report;
-use crate::world::{Happening, World, TOLD_WITHIN};
+use crate::world::{World, TOLD_WITHIN};
 use muoswyld_member::{End, Input, Name, Names, Role};
 use std::collections::{BTreeMap, BTreeSet};
 use std::fmt::Write;
@@ -170,7 +171,7 @@ impl World<'_> {
                 self.reset(place, more);
                 Ok(())
             }
-            Act::Succeed(next) => self.succeed(place, next).map(|_| ()),
+            Act::Succeed(next) => self.try_to_succeed(place, next),
             Act::Split { places, micros } => {
                 self.split(
                     |one, other| (places >> one ^ places >> other) & 1 == 1,
@@ -445,7 +446,26 @@ impl World<'_> {
         let mut text = String::new();
         for process in self.places.iter().flatten() {
             let info = process.member.member().info();
+            let lists: Vec<u32> = process.member.served().collect();
             // writing to a string can't fail
+            if self.plan.has_ends {
+                let (standing, failures) = (info.standing, process.member.failures());
+                let _ = writeln!(
+                    text,
+                    "    {} lists {lists:?} between {} {:?} of {} at {} to {}, frozen {}, stopped {:?}, refused {:?}, {:?}",
+                    info.name,
+                    process.member.lists().is_between(),
+                    standing.role,
+                    standing.members,
+                    standing.taken,
+                    standing.top,
+                    failures.frozen_since.is_some(),
+                    failures.stopped,
+                    failures.refused,
+                    failures.no_voter
+                );
+                continue;
+            }
             let _ = writeln!(text, "    leaves {} {info:?}", process.leaves);
             if self.plan.fenced.is_some() {
                 let failures = process.member.failures();

@@ -79,6 +79,8 @@ pub struct NextList {
     pub less: u8,
     /// The places that are to vote, as far as they are members and odd in number; 0: those that vote now.
     pub voters: u16,
+    /// How often it is asked for again if it can't be now.
+    pub tries: u8,
 }
 
 /// A defect that a test plants in what drives the members.
@@ -267,7 +269,7 @@ impl Plan {
         let mut draw = Draw::new(seed ^ 0x6e65_7874);
         plan.has_ends = true;
         let founders = plan.founding.founders.len() as u64;
-        for _ in 0..draw.between(1, 6) {
+        for _ in 0..draw.between(2, 12) {
             let at = draw.between(600_000, plan.ends);
             let place = draw.below(founders + 1) as u8;
             let next = NextList {
@@ -277,6 +279,7 @@ impl Plan {
                     true => draw.word() as u16,
                     false => 0,
                 },
+                tries: 6,
             };
             plan.acts.push((at, place, Act::Succeed(next)));
         }
@@ -286,9 +289,10 @@ impl Plan {
                 lives: 14,
                 numbers: 0,
             }),
-            1 => Some(Limits {
+            // a long message has more parts than such a list has entries
+            1 if plan.sizes != Sizes::Long => Some(Limits {
                 lives: 0,
-                numbers: 2_000_000_000 - 60,
+                numbers: 2_000_000_000 - 100,
             }),
             _ => None,
         };

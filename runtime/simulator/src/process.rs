@@ -4,7 +4,7 @@ use crate::checker::App;
 use crate::clock::Clock;
 use crate::draw::Draw;
 use crate::ends::List;
-use crate::fenced::{core_of, Batch, Machine};
+use crate::machine::{core_of, Batch, Machine};
 use crate::plan::{Plan, Sizes};
 use muoswyld_guarded::Guarded;
 use muoswyld_member::{

@@ -3,8 +3,9 @@
 use crate::checker::App;
 use crate::draw::Draw;
 use crate::ends::List;
-use crate::fenced::Machine;
-use crate::plan::{Act, Faults, Plan};
+use crate::happening::{Happening, Planned};
+use crate::machine::Machine;
+use crate::plan::{Faults, Plan};
 use crate::process::Process;
 use crate::report::{Counts, Failure, Report, SeenView};
 use crate::services::Services;
@@ -21,111 +22,6 @@ const PATIENCE: u64 = 15_000_000;
 const LOOK_EVERY: u64 = 20_000;
 /// Within which time everybody is told that a process has stopped.
 pub(crate) const TOLD_WITHIN: u64 = 500_000;
-
-/// What may happen.
-#[derive(Clone, Debug)]
-pub(crate) enum Happening {
-    Arrives {
-        place: u8,
-        payload: Rc<[u8]>,
-    },
-    Wakes {
-        place: u8,
-        number: u64,
-    },
-    Releases {
-        place: u8,
-        number: u64,
-    },
-    Sends {
-        place: u8,
-        number: u64,
-    },
-    Consumes {
-        place: u8,
-        number: u64,
-    },
-    IsTold {
-        place: u8,
-        number: u64,
-        name: Name,
-    },
-    Looks {
-        place: u8,
-        number: u64,
-    },
-    Emits {
-        place: u8,
-        number: u64,
-    },
-    Synced {
-        place: u8,
-        number: u64,
-    },
-    Written {
-        place: u8,
-        number: u64,
-        list: u32,
-        write: u64,
-    },
-    Begins {
-        place: u8,
-        generation: u32,
-        life: u8,
-    },
-    ListSynced {
-        place: u8,
-        number: u64,
-        generation: u32,
-    },
-    ListBegins {
-        place: u8,
-        number: u64,
-        generation: u32,
-        is_written: bool,
-    },
-    LooksAtAsker {
-        place: u8,
-        number: u64,
-    },
-    Starts {
-        place: u8,
-    },
-    StartsTwin {
-        place: u8,
-    },
-    Acts {
-        place: u8,
-        act: Act,
-    },
-}
-
-/// What happens when; of the same time what was planned first.
-pub(crate) struct Planned {
-    at: u64,
-    order: u64,
-    what: Happening,
-}
-
-impl PartialEq for Planned {
-    fn eq(&self, other: &Planned) -> bool {
-        (self.at, self.order) == (other.at, other.order)
-    }
-}
-
-impl Eq for Planned {}
-
-impl PartialOrd for Planned {
-    fn partial_cmp(&self, other: &Planned) -> Option<std::cmp::Ordering> {
-        Some(self.cmp(other))
-    }
-}
-
-impl Ord for Planned {
-    fn cmp(&self, other: &Planned) -> std::cmp::Ordering {
-        (self.at, self.order).cmp(&(other.at, other.order))
-    }
-}
 
 /// A cluster.
 pub(crate) struct World<'a> {

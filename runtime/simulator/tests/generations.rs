@@ -1,6 +1,7 @@
 //! Groups whose members find out by themselves who has stopped, and whose lists end: amid losses, pauses, splits, crashes and returns.
 
-use muoswyld_simulator::plan::FencedPlan;
+use muoswyld_member::Limits;
+use muoswyld_simulator::plan::{Act, FencedPlan, Sizes};
 use muoswyld_simulator::{run, Failure, Fenced, Plan, Report};
 use std::sync::atomic::{AtomicU64, Ordering};
 use std::thread;
@@ -88,6 +89,44 @@ fn many_seeds_by_lease_with_clocks_at_their_bounds() {
     let mut fenced = FencedPlan::lease(100);
     fenced.at_bounds = true;
     many_seeds("lease, clocks at their bounds", &fenced);
+}
+
+/// How many lists end in a quiet run in which nobody asks for it, before the one that ends at its close; and how often a process crashed.
+fn ends_by_itself(seed: u64, succeed_at: Option<Limits>, acts: &[(u64, u8, Act)]) -> (u64, usize) {
+    let mut fenced = FencedPlan::echo();
+    (fenced.stalls, fenced.lost_disks) = (0, 0);
+    let mut plan = Plan::generations(seed, fenced);
+    (plan.sizes, plan.send_every, plan.most_sends) = (Sizes::Small, 20_000, 80);
+    plan.faults.lost = plan.faults.lost.min(10);
+    plan.acts = acts.to_vec();
+    plan.ends = 7_000_000;
+    plan.succeed_at = succeed_at;
+    let report = run(&plan).unwrap_or_else(|failure| panic!("{failure}"));
+    assert!(!report.fenced.is_void);
+    (report.fenced.lists - 1, report.crashes.len())
+}
+
+#[test]
+fn a_list_ends_by_itself_before_its_lives_or_numbers_run_out() {
+    let back = Some(300_000);
+    let crash = (1_000_000, 1, Act::Crash { back, twin: false });
+    let lives = |lives| Some(Limits { lives, numbers: 0 });
+    let numbers = Some(Limits {
+        lives: 0,
+        numbers: 2_000_000_000 - 10,
+    });
+    let mut crashed = 0;
+    for seed in 1..=6 {
+        assert_eq!(ends_by_itself(seed, None, &[crash]).0, 0);
+        // nobody has a second life, and then one has
+        assert_eq!(ends_by_itself(seed, lives(14), &[]), (0, 0));
+        assert_eq!(ends_by_itself(seed, lives(13), &[crash]).0, 0);
+        let (lists, crashes) = ends_by_itself(seed, lives(14), &[crash]);
+        assert_eq!(lists > 0, crashes > 0);
+        crashed += crashes;
+        assert!(ends_by_itself(seed, numbers, &[]).0 > 0);
+    }
+    assert!(crashed > 0, "nothing happened");
 }
 
 /// Runs the seed that SEED names, by the policy that POLICY names.
