@@ -19,6 +19,8 @@ const SCAN: Duration = Duration::from_millis(200);
 const TELL: Duration = Duration::from_secs(1);
 /// How long to wait where nothing can be judged yet.
 const PAUSE: Duration = Duration::from_millis(5);
+/// How many lists later a list that is over is judged to its end, while the members run: a joiner that was late may have begun in it.
+const KEPT: u32 = 4;
 /// What the names of journals in a folder have in them.
 const JOURNAL: &str = "journal";
 
@@ -246,14 +248,15 @@ impl<'a> Bench<'a> {
             court.spare = spare + court.idle;
             let gone = self.go_on_with(which, &mut court, follows)?;
             has_gone_on |= gone;
-            let has_next = self.courts.keys().any(|other| other.0 > which.0);
+            let latest = self.courts.keys().next_back().map_or(0, |other| other.0);
+            let is_old = latest >= which.0 + KEPT;
             match (follows, gone) {
                 (false, true) => {
                     self.courts.insert(which, court);
                     // one list after the other
                     break;
                 }
-                (true, _) if !(has_next && court.is_finished()) => {
+                (true, _) if !(is_old && court.is_finished()) => {
                     self.courts.insert(which, court);
                 }
                 _ => {

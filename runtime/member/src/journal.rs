@@ -216,6 +216,7 @@ mod tests {
     use crate::config::Before;
     use crate::event::Position;
     use muoswyld::answer::Packet;
+    use muoswyld::names::Names;
     use muoswyld::Node;
     use std::collections::BTreeSet;
 
@@ -298,6 +299,7 @@ mod tests {
         journal.succeed(&Successor {
             group: 7,
             founding,
+            voters: Names::nobody(),
             members: "0,2/3".parse().expect("names"),
             at: Position {
                 generation: 3,
