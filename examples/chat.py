@@ -34,6 +34,8 @@ def line_of(delivery: muoswyld.Delivery) -> str:
             return f"* here are {','.join(map(str, members))}"
         case muoswyld.Joined(_, name) | muoswyld.Left(_, name):
             return f"* {name} {'joins' if isinstance(delivery, muoswyld.Joined) else 'leaves'}"
+        case muoswyld.Succeeded():
+            return "* the list ended, and another one follows it"
 
 
 async def typed() -> AsyncIterator[bytes]:

@@ -289,27 +289,81 @@ def relays(_: Tried) -> list[str]:
 
 def message(number: int, index: int, sender: str, text: str) -> dict[str, Any]:
     """A delivery of a message."""
-    return {"number": number, "index": index, "kind": "message", "from": sender, "text": text}
+    return {"generation": 0, "number": number, "index": index, "kind": "message", "from": sender, "text": text}
 
 
-def three() -> tuple[list[Seen], dict[str, Life]]:
+def three() -> tuple[list[Seen], dict[tuple[int, str], Life]]:
     """What was printed and journaled in a small run: two founders, one of whom comes back, and a message in parts."""
-    view = {"number": 1, "index": 0, "kind": "view", "members": ["0", "1"], "resilience": 1}
+    view = {"generation": 0, "number": 1, "index": 0, "kind": "view", "members": ["0", "1"], "resilience": 1}
     long = "c" * 1100
     log = [view, message(2, 0, "0", "a"), message(2, 1, "0", "b"), message(4, 0, "0", long)]
-    joined = [{"number": 5, "index": 0, "kind": "joined", "name": "1/2"}, message(6, 0, "1/2", "d")]
+    joined = [{"generation": 0, "number": 5, "index": 0, "kind": "joined", "name": "1/2"}, message(6, 0, "1/2", "d")]
     lives = [
-        Seen("0", [["a", long], ["b"]], {"b": Position(2, 1)}, [*log, *joined], True),
-        Seen("1", [], {}, log[:3], False),
-        Seen("1/2", [["d"]], {}, list(joined), True),
+        Seen("0", {0: "0"}, [["a", long], ["b"]], {"b": Position(0, 2, 1)}, [*log, *joined], True),
+        Seen("1", {0: "1"}, [], {}, log[:3], False),
+        Seen("1/2", {0: "1/2"}, [["d"]], {}, list(joined), True),
     ]
     share = long.encode()
     bodies = [b"P\0\1a\0\1b", b"S\0\0\0\2" + share[:1019], b"S\0\1\0\2" + share[1019:]]
     took = ["took 1 view 1.0 0,1", *(f"took {number} data 0 1 {body.hex()}" for number, body in enumerate(bodies, 2))]
     rest = ["took 5 join 1/2", f"took 6 data 1/2 1 {b'P'.hex()}000164"]
     journals = {"0": took + rest, "1": took, "1/2": rest}
-    made = {name: Life(name, [], [Step(0, "take", answer=answer) for answer in said], True, []) for name, said in journals.items()}
+    made = {(0, name): Life(name, [], [Step(0, "take", answer=answer) for answer in said], True, []) for name, said in journals.items()}
     return lives, made
+
+
+def two_lists() -> tuple[list[Seen], dict[tuple[int, str], Life]]:
+    """What was printed and journaled of two lists: a founder that came back as a later life is its place's first life in the second one."""
+    founding = {"founders": ["0", "1"], "resilience": 0, "window": 9, "pb-up-to": 7}
+    end = {"generation": 0, "number": 4, "index": 0, "kind": "succeeded", "members": ["0", "1/2"], **founding, "voters": []}
+    view = {"generation": 1, "number": 1, "index": 0, "kind": "view", "members": ["0", "1"], "resilience": 0}
+    first = [{**view, "generation": 0, "members": ["0"]}, {"generation": 0, "number": 2, "index": 0, "kind": "joined", "name": "1/2"}]
+    rest = [message(3, 0, "1/2", "a"), end, view, {**message(2, 0, "1", "b"), "generation": 1}]
+    lives = [
+        Seen("0", {0: "0", 1: "0"}, [], {}, [*first, *rest], True),
+        Seen("1/2", {0: "1/2", 1: "1"}, [["a", "b"]], {"b": Position(1, 2, 0)}, [*first[1:], *rest], True),
+    ]
+    ends = ["took 3 data 1/2 1 61", "took 4 data 0 1 4381", "took 5 data 1/2 2 62"]
+    later = ["took 1 view 1.0 0,1", "took 2 data 1 1 62"]
+    journals = {
+        (0, "0"): ["took 1 view 1.0 0", "took 2 join 1/2", *ends],
+        (0, "1/2"): ["took 2 join 1/2", *ends],
+        (1, "0"): later,
+        (1, "1"): later,
+    }
+    said = ["4", "f" * 16, "0,1", "0", "9", "7"]
+    made = {
+        (generation, name): Life(name, [], [Step(0, "take", answer=answer) for answer in answers], True, [], next=[] if generation else said)
+        for (generation, name), answers in journals.items()
+    }
+    return lives, made
+
+
+def comparing_lists(_: Tried) -> list[str]:
+    """Two lists that follow one another are taken as one, and each thing that can be wrong at the end of the first is found."""
+    lives, journals = two_lists()
+    wrong = [f"{line}, in what is right" for line in differences(lives, journals)]
+    after_end = message(5, 0, "1/2", "b")
+
+    def narrow(life: Seen, place: int) -> None:
+        """Has a life be told another window."""
+        life.log[place] = {**life.log[place], "window": 8}
+
+    for what, change, said in (
+        ("what stands after the end", lambda seen, _: seen[0].log.insert(4, after_end), "isn't what 1/2 sent"),
+        ("an end that isn't told", lambda seen, _: seen[1].log.pop(2), "1/2 wasn't given "),
+        ("another window", lambda seen, _: narrow(seen[1], 2), "1/2 was given "),
+        ("another window everywhere", lambda seen, _: [narrow(seen[0], 3), narrow(seen[1], 2)], "its journal has"),
+        ("an end that the journal hasn't", lambda _, journals: journals[0, "0"].next.clear(), "its journal has"),
+        ("a message of another name", lambda seen, _: seen[1].names.update({1: "2"}), "stands nowhere"),
+        ("an answer in another list", lambda seen, _: seen[1].answers.update(b=Position(0, 2, 0)), "stands at"),
+    ):
+        lives, journals = copy.deepcopy(two_lists())
+        change(lives, journals)
+        found = differences(lives, journals)
+        if not any(said in line for line in found):
+            wrong.append(f"{what}: {found}")
+    return wrong
 
 
 def comparing(_: Tried) -> list[str]:
@@ -327,8 +381,8 @@ def comparing(_: Tried) -> list[str]:
         ("no join first", lambda seen: seen[2].log.pop(0), " first"),
         ("more than the journal", lambda seen: seen[1].log.extend(seen[0].log[3:]), "and its journal has []"),
         ("less than the journal", lambda seen: seen[2].log.pop(), "1/2 printed 1 deliveries"),
-        ("an answer elsewhere", lambda seen: seen[0].answers.update(b=Position(2, 0)), "stands at"),
-        ("an answer of what stands nowhere", lambda seen: seen[1].answers.update(z=Position(2, 0)), "stands at None"),
+        ("an answer elsewhere", lambda seen: seen[0].answers.update(b=Position(0, 2, 0)), "stands at"),
+        ("an answer of what stands nowhere", lambda seen: seen[1].answers.update(z=Position(0, 2, 0)), "stands at None"),
         ("a message that stands nowhere", lambda seen: seen[0].channels[0].append("e"), "stands nowhere"),
         ("what wasn't sent", lambda seen: seen[2].channels[0].clear(), "isn't what 1/2 sent"),
         ("another order of sends", lambda seen: seen[0].channels[0].reverse(), "in the order in which it was given them"),
@@ -341,17 +395,17 @@ def comparing(_: Tried) -> list[str]:
             wrong.append(f"{what}: {found}")
     lives, journals = three()
     lives[1].log[2] = message(2, 1, "0", "x")
-    claimed = {"0": 6, "1": 2}, {"0": 6, "1": 1}
+    claimed = {(0, "0"): 6, (0, "1"): 2}, {(0, "0"): 6, (0, "1"): 1}
     of_lists = [[line for line in differences(lives, journals, each) if "its journal has" not in line] for each in claimed]
     if not of_lists[0] or of_lists[1]:
         wrong.append("what isn't claimed is compared, or what is isn't")
     lives, journals = three()
     lives[0].log.append(message(7, 0, "0", "a"))
-    journals["0"].steps.append(Step(0, "take", answer="took 7 data 0 9 50000161"))
+    journals[0, "0"].steps.append(Step(0, "take", answer="took 7 data 0 9 50000161"))
     if not any("stands there twice" in line for line in differences(lives, journals)):
         wrong.append("a message that stands there twice isn't found")
     lives, journals = three()
-    journals["1"].steps[1] = Step(0, "take", answer="took 2 data 0 1 50000178000162")
+    journals[0, "1"].steps[1] = Step(0, "take", answer="took 2 data 0 1 50000178000162")
     if not any("1 was given " in line and "its journal has" in line for line in differences(lives, journals)):
         wrong.append("a journal with another body isn't found")
     return wrong
@@ -362,7 +416,7 @@ def main() -> int:
     given = words(__doc__, 0, 2)
     program, member = (shlex.join(judge_of(given[0] if given else None)), shlex.join(member_of(given[1] if given[1:] else None)))
     passed = failed = 0
-    for part in (comparing, relays, merging, in_order, refusals, journals, late, clusters, changes):
+    for part in (comparing, comparing_lists, relays, merging, in_order, refusals, journals, late, clusters, changes):
         with tempfile.TemporaryDirectory() as folder:
             wrong = part(Tried(pathlib.Path(folder), program, member))
         passed, failed = passed + (not wrong), failed + bool(wrong)

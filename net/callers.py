@@ -95,9 +95,11 @@ class Asker(threading.Thread):
 class Running:
     """A life whose process was started: who gives it messages, and what it printed."""
 
-    def __init__(self, name: str, child: subprocess.Popen[bytes], socket_path: pathlib.Path, printed: pathlib.Path) -> None:
+    def __init__(self, name: str, child: subprocess.Popen[bytes], socket_path: pathlib.Path, printed: pathlib.Path, journal: pathlib.Path) -> None:
         assert child.stdin
         self.name, self.child, self.log = name, child, Log(printed)
+        self.socket_path, self.journal = socket_path, journal
+        self.known: dict[int, str] = {}
         self.input = Input(child.stdin)
         self.askers = [Asker(socket_path, child) for _ in range(CALLERS)]
         self.is_killed = self.is_frozen = False
@@ -115,12 +117,23 @@ class Running:
         for asker in self.askers:
             asker.close()
 
+    def names(self) -> dict[int, str]:
+        """Its name in each list that it began, by the first lines of its journals."""
+        for path in self.journal.parent.glob(f"{self.journal.name}*"):
+            suffix = path.name.removeprefix(self.journal.name).removeprefix(".")
+            if (not suffix or suffix.isdigit()) and int(suffix or 0) not in self.known:
+                with open(path, encoding="utf-8", errors="replace") as file:
+                    line = file.readline()
+                if line.endswith("\n"):
+                    self.known[int(suffix or 0)] = line.split("\t")[1]
+        return dict(self.known)
+
     def seen(self) -> Seen:
         """What its application sent and saw."""
         self.log.read()
         channels = [list(self.input.messages), *(list(asker.messages) for asker in self.askers)]
         answers = {message: answer for asker in self.askers for message, answer in list(asker.answers.items())}
-        return Seen(self.name, channels, answers, self.log.deliveries, self.child.poll() in STATUSES and not self.is_killed)
+        return Seen(self.name, self.names(), channels, answers, self.log.deliveries, self.child.poll() in STATUSES and not self.is_killed)
 
     def waits(self) -> bool:
         """Whether it was given messages that it hasn't printed, and that weren't refused."""

@@ -6,10 +6,11 @@
 Members are processes of muoswyldd, and a relay between them makes the faults. They send `--rate` messages a second in all; of a hundred
 datagrams so many are lost, repeated and overtaken by the next one, and each is delayed by up to so many milliseconds. `--kill` times one of
 them is killed by SIGKILL; the others are told once it has ended, and its place comes back as its next life. `--freeze` times one of them is
-stopped by SIGSTOP for a while. In the end their inputs end; whom that doesn't end within `--patience` seconds, as it has still much to send,
-is killed. After that the journals are merged to one script, `play` runs it, and each answer of each process is compared with its line; the
-program `judge` judges the journals too, however long they are; and what the members printed is compared with each other, with what was sent
-and answered, and with the journals. It ends with 1 if something differs, or if a member ended by itself.
+stopped by SIGSTOP for a while. `--succeed` times the list ends and another one follows it, while all that goes on. In the end their inputs
+end; whom that doesn't end within `--patience` seconds, as it has still much to send, is killed. After that the journals of each list are
+merged to one script, `play` runs it, and each answer of each process is compared with its line; the program `judge` judges the journals too,
+however long they are and of all lists; and what the members printed is compared with each other, with what was sent and answered, and with
+the journals. It ends with 1 if something differs, or if a member ended by itself.
 """
 
 import argparse
@@ -20,14 +21,19 @@ import random
 import subprocess
 import sys
 import tempfile
+import threading
 import time
 from collections.abc import Callable, Iterator
 
 from members import START_SECONDS, Failed, Members
 from merge import Life, Merged, Unmerged, write_out
 from programs import judge_of, long_judge_of
+from seen import Claims
 
 MOST_EVENTS = 100_000
+# the windows with which lists begin, and after how long a refused end is tried again
+WINDOWS = (64, 128, 256, 500)
+AGAIN_SECONDS = 0.1
 
 
 def moments(wanted: argparse.Namespace) -> list[tuple[float, str, int]]:
@@ -70,6 +76,31 @@ def do(cluster: Members, what: str, place: int) -> None:
         cluster.thaw(place)
 
 
+class Enders(threading.Thread):
+    """Ends the list so many times, at moments of a seed, each time with another window. What is refused is tried again soon."""
+
+    def __init__(self, cluster: Members) -> None:
+        super().__init__(daemon=True)
+        wanted = cluster.wanted
+        draw = random.Random(f"{wanted.seed} succeed")
+        first, last = wanted.seconds * 0.15, wanted.seconds * 0.75
+        step = (last - first) / max(wanted.succeed, 1)
+        self.cluster, self.done = cluster, 0
+        self.plan = [(first + step * (k + draw.random() * 0.8), draw.choice(WINDOWS)) for k in range(wanted.succeed)]
+        self.is_over = threading.Event()
+        self.began = time.monotonic()
+
+    def run(self) -> None:
+        """Ends lists until all is done, or it is over."""
+        for when, window in self.plan:
+            self.is_over.wait(max(0.0, self.began + when - time.monotonic()))
+            while not self.is_over.is_set():
+                if self.cluster.end_list(window):
+                    self.done += 1
+                    break
+                self.is_over.wait(AGAIN_SECONDS)
+
+
 def act(cluster: Members) -> None:
     """Runs the cluster for its time."""
     wanted = cluster.wanted
@@ -79,6 +110,8 @@ def act(cluster: Members) -> None:
         if not cluster.has_begun(place):
             raise Failed(f"member {cluster.name(place)} hasn't begun within {START_SECONDS} seconds")
     began, plan = time.monotonic(), moments(wanted)
+    enders = Enders(cluster)
+    enders.start()
     sending_ends = began + wanted.seconds * 0.85
     while (now := time.monotonic()) < began + wanted.seconds:
         while plan and began + plan[0][0] <= now:
@@ -91,6 +124,9 @@ def act(cluster: Members) -> None:
     for place, member in cluster.running.items():
         if member.is_frozen:
             cluster.thaw(place)
+    enders.join(wanted.patience / 2)
+    enders.is_over.set()
+    cluster.ends = enders.done
     cluster.end()
 
 
@@ -122,16 +158,16 @@ def times_of(lives: list[Life]) -> tuple[list[int], list[int], int]:
     return answered, [last_take[key] - begun[key] for key in last_take if key in begun], taken
 
 
-def told(merged: Merged, cluster: Members) -> Iterator[str]:
-    """The lines that tell what happened."""
+def told(merged: Merged, cluster: Members, is_last: bool) -> Iterator[str]:
+    """The lines that tell what happened in a list, and with the last one in all."""
     wanted = cluster.wanted
     answered, delivered, taken = times_of(merged.lives)
     datagrams, *more = cluster.told()
     words = [step.line.split(" ")[0] for _, step in merged.steps]
     joined = {step.answer.split(" ")[1] for _, step in merged.steps if step.answer.startswith("took ") and " join " in step.answer}
     letters = sum(len(step.letters) for _, step in merged.steps)
-    yield f"events {len(words)}, letters {letters}, {datagrams}"
-    yield from more
+    yield f"events {len(words)}, letters {letters}" + (f", {datagrams}" if is_last else "")
+    yield from more if is_last else ()
     # a member that asks how its ballot stands is told of its view again
     decided = len({step.answer for _, step in merged.steps if step.answer.startswith("decided")})
     yield f"kills {words.count('stop')}, resets decided {decided}, joins {len(joined)}"
@@ -161,12 +197,34 @@ def judged(merged: Merged, wanted: argparse.Namespace, text: str) -> tuple[list[
     return [*said, f"{play} gives all {len(events)} answers again"], 0
 
 
-def claimed_of(merged: Merged, last: str) -> dict[str, int] | None:
-    """The last number that each life took before the event from which on nothing is claimed; None where all is."""
-    if not last.startswith("void"):
+def claimed_of(lists: dict[int, Merged], lasts: dict[int, str]) -> Claims | None:
+    """The last number of each list that each name took before the event from which on nothing is claimed; None where all is. Of lists after one of
+    which not all is claimed nothing is."""
+    if not any(last.startswith("void") for last in lasts.values()):
         return None
-    before = merged.steps[: int(last.split(" ")[-1]) - 1]
-    return {life.name: int(step.answer.split(" ")[1]) for life, step in before if step.answer.startswith("took ")}
+    claims: Claims = {}
+    for generation, merged in sorted(lists.items()):
+        last = lasts[generation]
+        before = merged.steps[: int(last.split(" ")[-1]) - 1] if last.startswith("void") else merged.steps
+        took = [(life.name, step.answer.split(" ")[1]) for life, step in before if step.answer.startswith("took ")]
+        claims |= {(generation, name): int(number) for name, number in took}
+        if last.startswith("void"):
+            break
+    return claims
+
+
+def generation_of(path: pathlib.Path) -> int:
+    """How many lists came before the one of a journal, by the end of its name."""
+    suffix = path.suffix.removeprefix(".")
+    return int(suffix) if suffix.isdigit() else 0
+
+
+def merged_lists(journals: pathlib.Path) -> dict[int, Merged]:
+    """The journals of each list as one script."""
+    by_list: dict[int, list[str]] = {}
+    for path in sorted(journals.glob("journal-*")):
+        by_list.setdefault(generation_of(path), []).append(str(path))
+    return {generation: Merged(paths) for generation, paths in sorted(by_list.items())}
 
 
 def number_of(kind: Callable[[str], float], least: float, most: float) -> Callable[[str], float]:
@@ -193,6 +251,7 @@ def options() -> argparse.Namespace:
     parser.add_argument("--reorder", type=number_of(float, 0, 100), default=0, help="of a hundred datagrams, overtaken by the next (0)")
     parser.add_argument("--delay", type=number_of(float, 0, 10_000), default=0, help="milliseconds at most (0)")
     parser.add_argument("--kill", type=number_of(int, 0, 15), default=0, help="how many kills (0)")
+    parser.add_argument("--succeed", type=number_of(int, 0, 100), default=0, help="how often the list ends, and another one follows it (0)")
     parser.add_argument("--freeze", type=number_of(int, 0, 15), default=0, help="how often a member is stopped for a while (0)")
     parser.add_argument("--at-once", action="store_true", help="all kills at one moment, of different members")
     parser.add_argument("--resilience", type=number_of(int, 0, 15), default=1, help="how many stops between two resets keep it lawful (1)")
@@ -237,24 +296,52 @@ def ran(wanted: argparse.Namespace, made: pathlib.Path) -> int:
         act(cluster)
     finally:
         cluster.stop()
-    merged = Merged([str(path) for path in sorted(journals.glob("journal-*"))])
-    script = merged.script(MOST_EVENTS)
-    if wanted.keep:
-        (journals / "script.json").write_text(script)
-    write_out("".join(f"{line}\n" for line in told(merged, cluster)))
+    lists = merged_lists(journals)
+    write_out("".join(f"{line}\n" for line in told_of_all(lists, cluster)))
     if cluster.late:
         write_out(f"killed, as they weren't done {wanted.patience:g} seconds after their inputs' end: {', '.join(cluster.late)}\n")
+    status, lasts = 0, {}
+    for generation, merged in lists.items():
+        said, wrong, lasts[generation] = played(judge, merged, wanted, journals if wanted.keep else None, generation)
+        status = max(status, wrong)
+        write_out("".join(f"{line}\n" for line in said))
+    more, is_judged_wrong = judged_whole(long_judge, journals)
+    lives = {(generation, life.name): life for generation, merged in lists.items() for life in merged.lives}
+    seen, is_seen_wrong = cluster.compared(lives, claimed_of(lists, lasts))
+    write_out("".join(f"{line}\n" for line in [*more, *seen]))
+    if len(lists) - 1 < cluster.ends:
+        write_out(f"{cluster.ends} ends of lists were answered, and there are {len(lists)} lists\n")
+        status = 1
+    return max(status, is_judged_wrong, is_seen_wrong)
+
+
+def told_of_all(lists: dict[int, Merged], cluster: Members) -> Iterator[str]:
+    """What happened, list by list where there are more than one."""
+    for generation, merged in lists.items():
+        if len(lists) > 1:
+            yield f"list of generation {generation}: founders {','.join(map(str, merged.founding['founders']))}, window {merged.founding['window']}"
+        yield from told(merged, cluster, generation == max(lists))
+    if cluster.wanted.succeed:
+        yield f"ends of lists {len(lists) - 1} of {cluster.wanted.succeed}; refused {len(cluster.refusals)} times"
+
+
+def played(
+    judge: list[str], merged: Merged, wanted: argparse.Namespace, folder: pathlib.Path | None, generation: int
+) -> tuple[list[str], int, str]:
+    """Has `play` run a list's script, and compares: what to say of it, 1 where something is wrong, and the text's last line. In a folder the script
+    and its text stay."""
+    end = f".{generation}" if generation else ""
+    script = merged.script(MOST_EVENTS)
+    if folder:
+        (folder / f"script{end}.json").write_text(script)
     done = subprocess.run([*judge, "play"], input=script.encode(), capture_output=True, check=False)
     text = done.stdout.decode(errors="replace")
     if done.returncode != 0 or not text:
         raise Failed(f"play ended with {done.returncode}: {done.stderr.decode(errors='replace').strip()}")
-    if wanted.keep:
-        (journals / "script.txt").write_text(text)
+    if folder:
+        (folder / f"script{end}.txt").write_text(text)
     said, status = judged(merged, wanted, text)
-    more, is_judged_wrong = judged_whole(long_judge, journals)
-    seen, is_seen_wrong = cluster.compared(merged.lives, claimed_of(merged, text.splitlines()[-1]))
-    write_out("".join(f"{line}\n" for line in [*said, *more, *seen]))
-    return max(status, is_judged_wrong, is_seen_wrong)
+    return said, status, text.splitlines()[-1]
 
 
 def main() -> int:

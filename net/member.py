@@ -26,14 +26,16 @@ class Ended(Exception):
 
 @dataclass(frozen=True, order=True)
 class Position:
-    """Where something stands in the group's list: the number of the entry, and its index among the messages of that entry."""
+    """Where something stands: how many lists of the group came before, the number of the entry, and its index among the messages of that entry."""
 
+    generation: int
     number: int
     index: int
 
 
 class Delivery(NamedTuple):
-    """What the application is given: a message of a name, a name that joined or left, or a view with its members."""
+    """What the application is given: a message of a name, a name that joined or left, a view with its members, or the end of a list with its
+    members."""
 
     at: Position
     kind: str
@@ -46,7 +48,7 @@ def delivery_of(said: dict[str, Any]) -> Delivery:
     """The delivery that an object of JSON is."""
     message = said["text"].encode() if "text" in said else bytes.fromhex(said.get("hex", ""))
     name = said.get("from", said.get("name", ""))
-    return Delivery(Position(said["number"], said["index"]), said["kind"], name, message, said.get("members", []))
+    return Delivery(Position(said["generation"], said["number"], said["index"]), said["kind"], name, message, said.get("members", []))
 
 
 class Caller:
@@ -87,7 +89,7 @@ class Caller:
     def send(self, message: bytes) -> Position:
         """Sends a message, and waits until it is delivered at this member: where it stands."""
         answer = self.ask(b"send-hex " + message.hex().encode())
-        return Position(answer["sent"], answer["index"])
+        return Position(answer["generation"], answer["sent"], answer["index"])
 
     def deliveries(self) -> Iterator[Delivery]:
         """All deliveries from here on, as they come. At the member's end it raises how that ended."""

@@ -10,17 +10,18 @@ import time
 from collections.abc import Iterator
 
 from callers import STATUSES, Running
+from member import Caller, Ended, Refused
 from merge import Life
 from programs import member_of
 from relay import HOST, Faults, Relay
-from seen import differences
+from seen import Claims, differences
 
 # where place 0 listens, and the others behind it
 FIRST_PORT = 7000
 # how long a member may take to begin
 START_SECONDS = 20
-# the status of a joiner that nobody welcomed, and what it says
-UNWELCOMED = 69, b"nobody welcomed it"
+# how a joiner ends as it should without having been in the group: its status, and what it says
+UNWELCOMED = ((69, b"nobody welcomed it"), (69, b"its list has ended"), (75, b"no member of the group answers"))
 # after the end of their inputs or the word to leave, how long members may take at least
 LAST_SECONDS = 10
 # each of so many messages is long: it goes in parts
@@ -45,9 +46,10 @@ class Members:
         self.lives = [1] * wanted.nodes
         self.running: dict[int, Running] = {}
         self.all: list[Running] = []
-        self.stopped: list[str] = []
+        self.stopped: list[tuple[str, int]] = []
         self.late: list[str] = []
-        self.sent = self.unwelcomed = self.freezes = 0
+        self.refusals: list[str] = []
+        self.sent = self.unwelcomed = self.freezes = self.ends = 0
         self.homes = [(own_host(), FIRST_PORT + place) for place in range(wanted.nodes)]
         self.founders = ",".join(map(str, range(wanted.nodes)))
         key = folder / "key"
@@ -66,13 +68,16 @@ class Members:
         return folder / f"{kind}-{self.name(place).replace('/', '-')}"
 
     def command(self, place: int) -> list[str]:
-        """The command of the place's process."""
+        """The command of the place's process. Where lists end, a place that comes back asks the others which one is the latest."""
         wanted = self.wanted
-        words = [*self.program, "run", "--name", self.name(place), "--founders", self.founders, "--key", str(self.folder / "key")]
+        words = [*self.program, "run", "--name", self.name(place), "--key", str(self.folder / "key")]
+        asks = wanted.succeed > 0 and self.lives[place] > 1 and bool(self.running)
+        words += [] if asks else ["--founders", self.founders, "--resilience", str(wanted.resilience)]
         for other, home in enumerate(self.homes):
             host, port = home if other == place else (HOST, self.relay.port(place, other))
             words += ["--address", f"{other}={host}:{port}"]
-        words += ["--resilience", str(wanted.resilience), "--tick", f"{wanted.tick:.0f}", "--input", "commands", "--output", "json"]
+            words += ["--seed", f"{host}:{port}"] if asks and other in self.running else []
+        words += ["--tick", f"{wanted.tick:.0f}", "--input", "commands", "--output", "json"]
         words += ["--least", str(wanted.least)] if wanted.least else []
         words += ["--journal", str(self.file(self.journals, "journal", place)), "--socket", str(self.file(self.folder, "socket", place))]
         return words
@@ -82,13 +87,13 @@ class Members:
         printed = self.file(self.folder, "out", place)
         with open(self.file(self.folder, "errors", place), "wb") as errors, open(printed, "wb") as out:
             child = subprocess.Popen(self.command(place), bufsize=0, stdin=subprocess.PIPE, stdout=out, stderr=errors)
-        self.running[place] = Running(self.name(place), child, self.file(self.folder, "socket", place), printed)
+        socket, journal = self.file(self.folder, "socket", place), self.file(self.journals, "journal", place)
+        self.running[place] = Running(self.name(place), child, socket, printed, journal)
         self.all.append(self.running[place])
 
     def is_in(self, place: int) -> bool:
         """Whether a founder is in the group, and listens; whether another one has begun its journal."""
-        journal = self.file(self.journals, "journal", place)
-        has_begun = journal.exists() and journal.stat().st_size > 0
+        has_begun = place in self.running and bool(self.running[place].names())
         return has_begun and (self.lives[place] > 1 or self.file(self.folder, "socket", place).exists())
 
     def has_begun(self, place: int) -> bool:
@@ -103,8 +108,9 @@ class Members:
 
     def look(self) -> None:
         """Looks whether each member still runs. A joiner that nobody welcomed has ended as it should, and its place comes back."""
-        for place in [place for place, member in self.running.items() if member.child.poll() == UNWELCOMED[0]]:
-            if UNWELCOMED[1] in self.file(self.folder, "errors", place).read_bytes():
+        for place in [place for place, member in self.running.items() if member.child.poll() not in (None, *STATUSES)]:
+            status, said = self.running[place].child.poll(), self.file(self.folder, "errors", place).read_bytes()
+            if self.lives[place] > 1 and any(status == wanted and text in said for wanted, text in UNWELCOMED):
                 self.unwelcomed += 1
                 self.remove(place)
                 self.back(place)
@@ -130,17 +136,26 @@ class Members:
         member.is_killed = True
         member.child.send_signal(signal.SIGKILL)
         member.child.wait()
-        self.file(self.journals, "journal", place).touch()
+        names = member.names()
+        if not names:
+            member.journal.touch()
+        # a life that began nothing is none in any list
+        last = max(names, default=0)
+        self.stopped.append((names.get(last, member.name), last))
         for other in self.running.values():
-            other.input.give(f"stopped {self.name(place)}")
-        self.stopped.append(self.name(place))
+            self.tell(other, *self.stopped[-1])
+
+    @staticmethod
+    def tell(member: Running, name: str, generation: int) -> None:
+        """Tells a member that a name of a list has stopped."""
+        member.input.give(f"stopped {name} {generation}")
 
     def back(self, place: int) -> None:
         """Lets a killed member's place come back; it is told who stopped before."""
         self.lives[place] += 1
         self.start(place)
-        for name in self.stopped:
-            self.running[place].input.give(f"stopped {name}")
+        for name, generation in self.stopped:
+            self.tell(self.running[place], name, generation)
 
     def freeze(self, place: int) -> None:
         """Has a member do nothing until it is thawed."""
@@ -152,6 +167,26 @@ class Members:
         """Has a frozen member go on."""
         self.running[place].is_frozen = False
         self.running[place].child.send_signal(signal.SIGCONT)
+
+    def end_list(self, window: int) -> bool:
+        """Has a running member end the list, with another window; whether it did."""
+        for place, member in sorted(self.running.items()):
+            if not self.is_in(place) or member.is_frozen:
+                continue
+            try:
+                caller = Caller(member.socket_path)
+            except OSError:
+                continue  # it doesn't listen yet
+            try:
+                caller.ask(f"succeed window {window}")
+                return True
+            except Refused as refused:
+                self.refusals.append(str(refused))
+            except Ended:
+                pass  # it was killed meanwhile, and the list may have ended by it
+            finally:
+                caller.close()
+        return False
 
     def send(self) -> None:
         """Has the members send one message more, in turn; some are long."""
@@ -215,11 +250,11 @@ class Members:
         unwelcomed = f"; joiners that nobody welcomed: {self.unwelcomed}" if self.unwelcomed else ""
         yield f"messages {self.sent}: {answers} answered at a socket{frozen}{unwelcomed}"
 
-    def compared(self, lives: list[Life], claimed: dict[str, int] | None) -> tuple[list[str], int]:
-        """Compares what the applications saw, up to each life's last entry that is claimed where that isn't all: what to say of it, and 1
+    def compared(self, lives: dict[tuple[int, str], Life], claimed: Claims | None) -> tuple[list[str], int]:
+        """Compares what the applications saw, up to the last entry of each name that is claimed where that isn't all: what to say of it, and 1
         where something is wrong."""
         seen = [member.seen() for member in self.all]
-        wrong = differences(seen, {life.name: life for life in lives}, claimed)
+        wrong = differences(seen, lives, claimed)
         if wrong:
             return [f"printed: {line}" for line in wrong[:10]], 1
         until = "" if claimed is None else ", as far as that is claimed"

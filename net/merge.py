@@ -25,8 +25,12 @@ KINDS = (
 NAME = re.compile(r"(?:[0-9]|1[0-5])(?:/(?:[2-9]|1[0-6]))?")
 CALLS = {"take", "join", "leave", "state", "tick"}
 COUNTS = 6
-# the first line of a journal: its name, the founders, and the founding's three numbers
-HEAD = re.compile(rf"node\t{NAME.pattern}\t[0-9]{{1,2}}(,[0-9]{{1,2}})*(\t[0-9]{{1,4}}){{3}}")
+# the first line of a journal: its name, the founders, and the founding's three numbers; of a list that follows another one also how many came
+# before, the group's id, the id of the one before, and the entry that ended that
+FOLLOWS = r"\t[1-9][0-9]*\t[0-9a-f]{16}\t[0-9a-f]{16}\t[0-9]+"
+HEAD = re.compile(rf"node\t{NAME.pattern}\t[0-9]{{1,2}}(,[0-9]{{1,2}})*(\t[0-9]{{1,4}}){{3}}({FOLLOWS})?")
+# how many fields of it are the founding's
+FOUNDING = 4
 
 
 class Unmerged(Exception):
@@ -69,6 +73,8 @@ class Life:
     at: int = 0
     sent: int = 0
     time: int = 0  # where it has no steps, when it stopped
+    follows: list[str] = field(default_factory=list)  # the fields of a list that follows another one
+    next: list[str] = field(default_factory=list)  # what it says of the list that follows: the entry that ended its own, the id, the founding
 
 
 def letter_of(text: str) -> tuple[str, str]:
@@ -100,11 +106,13 @@ def read(path: str) -> Life | None:
     if not HEAD.fullmatch("\t".join(lines[0])):
         raise Unmerged(f"{path} is no journal")
     _, name, *founding = lines[0]
-    life = Life(name, founding, [], False, [0] * COUNTS)
+    life = Life(name, founding[:FOUNDING], [], False, [0] * COUNTS, follows=founding[FOUNDING:])
     for number, fields in enumerate(lines[1:], 2):
         try:
             if fields == ["end"]:
                 life.has_ended = True
+            elif fields[0] == "next" and len(fields) == 3 + FOUNDING:
+                life.next = fields[1:]
             elif fields[0] == "counts" and len(fields) == 1 + COUNTS:
                 life.counts = [int(count) for count in fields[1:]]
             elif not fields[-1].startswith("bad line "):  # which changed nothing
@@ -122,7 +130,7 @@ def given_up(life: Life) -> dict[str, int]:
 
 def with_idle(lives: list[Life], count: int) -> list[Life]:
     """The lives, and those that did nothing and stopped: whose place came back, or who were given up, without a journal. There are as many
-    as empty journals at most."""
+    as empty journals at most; but in a list that follows another one a founder may never have begun, and a place may begin with any life."""
     known = {parts_of(life.name) for life in lives}
     stopped: dict[tuple[int, int], int] = {}
     for life in lives:
@@ -132,10 +140,10 @@ def with_idle(lives: list[Life], count: int) -> list[Life]:
             for name in ((there, each) for each in range(1, last + 1)):
                 stopped[name] = min(time, stopped.get(name, time))
     idle = sorted(stopped.keys() - known)
-    if len(idle) > count:
+    if len(idle) > count and not lives[0].follows:
         wanted = f"{name_of(*idle[count])} stopped, and its journal isn't there"
         raise Unmerged(f"{wanted}; where it was killed before that had a line, name an empty file in its place")
-    lives += [Life(name_of(*each), lives[0].founding, [], False, [0] * COUNTS) for each in idle]
+    lives += [Life(name_of(*each), lives[0].founding, [], False, [0] * COUNTS, follows=lives[0].follows) for each in idle]
     ends = max((life.steps[-1].time for life in lives if life.steps), default=0)
     for life in lives:
         life.time = stopped.get(parts_of(life.name), ends)
@@ -150,6 +158,8 @@ def with_ends(lives: list[Life]) -> list[Life]:
         raise Unmerged("a name has two journals")
     for life in lives:
         place, number = parts_of(life.name)
+        if life.follows != lives[0].follows:
+            raise Unmerged(f"{life.name} is of another list than {lives[0].name}: each list is merged alone")
         if life.founding != lives[0].founding:
             raise Unmerged(f"{life.name} has another founding than {lives[0].name}")
         first, last = (life.steps[0].time, life.steps[-1].time) if life.steps else (life.time, life.time)

@@ -5,7 +5,8 @@
 - A founder's piece begins with the founders' view, a joiner's with its own join.
 - Each message stands in the list once at most, and only where its sender sent it; those that were given by one way stand in their order.
 - A message whose send was answered stands at the position of the answer. Of a life that ended by its input all messages stand there.
-- What a life printed is what its journal says that its node gave it: all of it, or, where it was killed, the beginning.
+- What a life printed is what its journals say that its node gave it: all of it, or, where it was killed, the beginning. Of a list that ended that
+  is all up to its end, and what was printed of that end is what the journal says.
 
 Where more stopped than the resilience, all but the last of these is looked at in what each life was given before that.
 """
@@ -19,6 +20,10 @@ from typing import Any
 from member import Position
 from merge import Life
 
+# of a run of which not all is claimed the last number that is, by list and name
+Claims = dict[tuple[int, str], int]
+# how a body of control begins, which nobody is given
+CONTROL = b"C"
 # the longest message that isn't sent in parts
 MOST_PACKED = 1021
 SHARE = 1019
@@ -50,21 +55,26 @@ class Seen:
     """What a life's application sent, by each way in order, what was answered, and what it was given."""
 
     name: str
+    names: dict[int, str]  # its name in each list that it began
     channels: list[list[str]]
     answers: dict[str, Position | None]  # none where it was refused
     log: list[dict[str, Any]]
     has_ended: bool  # by the end of its input
 
+    def is_own(self, delivery: dict[str, Any]) -> bool:
+        """Whether a message is its own, by its name in that list."""
+        return delivery["kind"] == "message" and bool(delivery["from"] == self.names.get(delivery["generation"]))
+
     def missing(self) -> set[str]:
         """The messages that it was to send, that it wasn't refused, and that it wasn't given itself."""
         refused = {message for message, answer in self.answers.items() if answer is None}
-        own = {delivery["text"] for delivery in self.log if delivery.get("from") == self.name}
+        own = {delivery["text"] for delivery in self.log if self.is_own(delivery)}
         return {message for channel in self.channels for message in channel} - refused - own
 
 
 def at_of(delivery: dict[str, Any]) -> Position:
     """Where a delivery stands."""
-    return Position(delivery["number"], delivery["index"])
+    return Position(delivery["generation"], delivery["number"], delivery["index"])
 
 
 def shown(delivery: dict[str, Any]) -> str:
@@ -105,20 +115,24 @@ def gaps(life: Seen, whole: dict[Position, dict[str, Any]]) -> Iterator[str]:
     for at, delivery in whole.items():
         if not first <= at <= last:
             continue
-        sender = delivery.get("from", "")
-        began_before = "/" in life.name and len(delivery.get("text", "")) > MOST_PACKED and sender not in spoke
+        sender = f"{at.generation} {delivery.get('from', '')}"
+        began_before = "/" in life.name and at.generation == first.generation and len(delivery.get("text", "")) > MOST_PACKED and sender not in spoke
         if at not in had and not began_before:
             yield f"{life.name} wasn't given {shown(delivery)}"
         spoke.add(sender)
 
 
-def of_sender(life: Seen, whole: dict[Position, dict[str, Any]], claimed: int | None) -> Iterator[str]:
-    """What of the list isn't what a life sent, in the order in which it sent it; and what is missing of it, up to the last number that is
-    claimed of what it was given, where that isn't all."""
+def is_claimed_at(life: Seen, at: Position, claimed: "Claims | None") -> bool:
+    """Whether something is claimed of a position in what a life was given."""
+    return claimed is None or at.number <= claimed.get((at.generation, life.names.get(at.generation, "")), 0)
+
+
+def of_sender(life: Seen, whole: dict[Position, dict[str, Any]], claimed: "Claims | None") -> Iterator[str]:
+    """What of the list isn't what a life sent, in the order in which it sent it; and what is missing of it, where that is claimed."""
     places: dict[str, Position] = {}
     given = {message for channel in life.channels for message in channel}
     for at, delivery in whole.items():
-        if delivery.get("from") == life.name:
+        if life.is_own(delivery):
             if delivery.get("text") not in given or delivery["text"] in places:
                 yield f"{shown(delivery)} isn't what {life.name} sent, or stands there twice"
             places[delivery.get("text", "")] = at
@@ -127,8 +141,7 @@ def of_sender(life: Seen, whole: dict[Position, dict[str, Any]], claimed: int | 
         if order != sorted(order):
             yield f"messages of {life.name} don't stand in the order in which it was given them"
     for message, answer in life.answers.items():
-        is_claimed = answer is not None and (claimed is None or answer.number <= claimed)
-        if is_claimed and places.get(message) != answer:
+        if answer is not None and is_claimed_at(life, answer, claimed) and places.get(message) != answer:
             yield f"{message[:20]!r} of {life.name} was answered {answer}, and stands at {places.get(message)}"
     if life.has_ended and claimed is None:
         refused = {message for message, answer in life.answers.items() if answer is None}
@@ -172,21 +185,27 @@ class Parts:
         return []
 
 
-def taken(life: Life) -> Iterator[tuple[Position, str, str]]:
-    """What a life's journal says that its node gave it: where, of what kind, and what."""
+def taken(life: Life, generation: int) -> Iterator[tuple[Position, str, str]]:
+    """What a life's journal of a list says that its node gave it, up to the end of that: where, of what kind, and what."""
     parts = Parts()
     for step in life.steps:
         if not step.answer.startswith("took "):
             continue
         number, kind, *rest = step.answer.split(" ")[1:]
+        at = Position(generation, int(number), 0)
+        if life.next and number == life.next[0]:
+            yield at, "succeeded", " ".join(life.next[2:])
+            return
         if kind == "data":
             body = b"" if rest[2] == "-" else bytes.fromhex(rest[2])
+            if body[:1] == CONTROL:
+                continue
             for index, message in enumerate(parts.messages(rest[0], body)):
-                yield Position(int(number), index), "message", f"{rest[0]} {message.decode(errors='replace')}"
+                yield Position(generation, int(number), index), "message", f"{rest[0]} {message.decode(errors='replace')}"
         elif kind == "view":
-            yield Position(int(number), 0), "view", rest[1]
+            yield at, "view", rest[1]
         else:
-            yield Position(int(number), 0), {"join": "joined", "leave": "left"}[kind], rest[0]
+            yield at, {"join": "joined", "leave": "left"}[kind], rest[0]
 
 
 def printed(delivery: dict[str, Any]) -> tuple[Position, str, str]:
@@ -196,36 +215,38 @@ def printed(delivery: dict[str, Any]) -> tuple[Position, str, str]:
             what = f"{delivery['from']} {delivery['text']}"
         case "view":
             what = ",".join(delivery["members"])
+        case "succeeded":
+            what = f"{','.join(delivery['founders'])} {delivery['resilience']} {delivery['window']} {delivery['pb-up-to']}"
         case _:
             what = delivery["name"]
     return at_of(delivery), delivery["kind"], what
 
 
-def against_journal(seen: Seen, life: Life | None) -> Iterator[str]:
-    """Where what a life printed isn't what its journal says."""
-    wanted = list(taken(life)) if life else []
+def against_journals(seen: Seen, lives: dict[tuple[int, str], Life]) -> Iterator[str]:
+    """Where what a life printed isn't what its journals say."""
+    own = [(generation, lives.get((generation, name))) for generation, name in sorted(seen.names.items())]
+    wanted = [given for generation, life in own if life for given in taken(life, generation)]
     for number, delivery in enumerate(seen.log):
         if number >= len(wanted) or printed(delivery) != wanted[number]:
             yield f"{seen.name} was given {shown(delivery)}, and its journal has {str(wanted[number : number + 1])[:100]}"
             return
     if seen.has_ended and len(wanted) > len(seen.log):
-        yield f"{seen.name} printed {len(seen.log)} deliveries, and its journal has {len(wanted)}"
+        yield f"{seen.name} printed {len(seen.log)} deliveries, and its journals have {len(wanted)}"
 
 
-def differences(lives: list[Seen], journals: dict[str, Life], claimed: dict[str, int] | None = None) -> list[str]:
-    """What is wrong with what the applications saw. Where not all of the run is claimed, each life has a last number that is: the lives are
-    compared with each other up to there, and each with its own journal."""
-    most = {life.name: None if claimed is None else claimed.get(life.name, 0) for life in lives}
+def differences(lives: list[Seen], journals: dict[tuple[int, str], Life], claimed: Claims | None = None) -> list[str]:
+    """What is wrong with what the applications saw. Where not all of the run is claimed, each name has a last number of its list that is: the
+    lives are compared with each other up to there, and each with its own journals."""
     cut = lives
     if claimed is not None:
-        cut = [replace(life, log=[it for it in life.log if it["number"] <= claimed.get(life.name, 0)]) for life in lives]
+        cut = [replace(life, log=[it for it in life.log if is_claimed_at(life, at_of(it), claimed)]) for life in lives]
     whole, wrong = one_list(cut)
     for life in cut:
         if life.log and not begins(life):
             wrong.append(f"{life.name} was given {shown(life.log[0])} first")
         if life.log:
             wrong += gaps(life, whole)
-        wrong += of_sender(life, whole, most[life.name])
+        wrong += of_sender(life, whole, claimed)
     for life in lives:
-        wrong += against_journal(life, journals.get(life.name))
+        wrong += against_journals(life, journals)
     return wrong

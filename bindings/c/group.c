@@ -251,6 +251,39 @@ static void reset_and_return(muoswyld_group *groups[MEMBERS]) {
     knows(groups[1], number);
 }
 
+/* The list ends with another window, and another one follows it: all are told, and a name is the first life of its place there. */
+static void succeed(muoswyld_group *groups[MEMBERS]) {
+    muoswyld_next next = {-1, 99, -1, {{0}}};
+    muoswyld_status status;
+    muoswyld_delivery delivery;
+    muoswyld_position end, sent;
+    muoswyld_info info;
+    int member;
+    next.window = 1009;
+    IS(muoswyld_group_succeed(groups[1], &next, SOON, NULL), MUOSWYLD_STATUS_BAD_VALUE);
+    next.window = 99;
+    do
+        status = muoswyld_group_succeed(groups[1], &next, SOON, &end);
+    while (status == MUOSWYLD_STATUS_NOT_NOW || status == MUOSWYLD_STATUS_NOT_SUCCEEDED);
+    OK(status);
+    OK(muoswyld_group_send(groups[2], (const uint8_t *)"over", 4, SOON, &sent));
+    WANT(end.generation == 0 && sent.generation == 1);
+    for (member = 0; member < MEMBERS; member++) {
+        while ((delivery = next_of(groups[member])).kind != MUOSWYLD_KIND_SUCCEEDED)
+            muoswyld_delivery_clear(&delivery);
+        WANT(delivery.at.number == end.number && delivery.members.lives[2] == 2 && delivery.next.founders.lives[2] == 1);
+        WANT(delivery.next.window == 99 && delivery.next.resilience == 1 && delivery.next.voters.lives[0] == 0);
+        delivery = next_of(groups[member]);
+        WANT(delivery.kind == MUOSWYLD_KIND_VIEW && delivery.at.generation == 1 && delivery.members.lives[2] == 1);
+        while ((delivery = next_of(groups[member])).kind != MUOSWYLD_KIND_MESSAGE)
+            muoswyld_delivery_clear(&delivery);
+        WANT(delivery.name.place == 2 && delivery.name.life == 1 && delivery.length == 4);
+        muoswyld_delivery_clear(&delivery);
+        OK(muoswyld_group_info(groups[member], &info));
+        WANT(info.generation == 1 && info.window == 99 && info.name.life == 1);
+    }
+}
+
 /* One leaves, and the others are told; what was delivered before can still be received. */
 static void leave(muoswyld_group *groups[MEMBERS]) {
     muoswyld_delivery delivery;
@@ -269,7 +302,7 @@ static void leave(muoswyld_group *groups[MEMBERS]) {
     WANT(muoswyld_group_ended(groups[2], 0) == MUOSWYLD_END_LEFT);
     while ((delivery = next_of(groups[0])).kind != MUOSWYLD_KIND_LEFT)
         muoswyld_delivery_clear(&delivery);
-    WANT(delivery.name.place == 2 && delivery.name.life == 2);
+    WANT(delivery.name.place == 2 && delivery.name.life == 1);
 }
 
 /* What is refused before there is a member. */
@@ -311,6 +344,7 @@ int main(int words, char **word) {
     tickets(groups);
     stop(groups);
     reset_and_return(groups);
+    succeed(groups);
     leave(groups);
     for (member = 0; member < MEMBERS; member++)
         muoswyld_group_free(groups[member]);

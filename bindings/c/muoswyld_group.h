@@ -110,6 +110,10 @@ typedef enum {
      The list has something that only a later version of this library understands.
      */
     MUOSWYLD_END_OTHER_VERSION = 9,
+    /*
+     Its list ended, and the next one couldn't be begun here. Its place comes back in that as its next life.
+     */
+    MUOSWYLD_END_NOT_BEGUN = 10,
 } muoswyld_end;
 
 /*
@@ -136,6 +140,10 @@ typedef enum {
      A view begins: these are the members now. A founder's first delivery is one.
      */
     MUOSWYLD_KIND_VIEW = 4,
+    /*
+     The list ended, and another one follows it: its founders' view comes next.
+     */
+    MUOSWYLD_KIND_SUCCEEDED = 5,
 } muoswyld_kind;
 
 /*
@@ -292,6 +300,18 @@ typedef enum {
      Another call uses the service, or its machine calls it. Nothing was done.
      */
     MUOSWYLD_STATUS_BUSY = 29,
+    /*
+     A list can't end now: a member has stopped, is silent, suspected or refused, leaves or joins, or another list just ended.
+     */
+    MUOSWYLD_STATUS_NOT_NOW = 30,
+    /*
+     A list was to end, and goes on: somebody joined, left or stopped meanwhile, or a view began.
+     */
+    MUOSWYLD_STATUS_NOT_SUCCEEDED = 31,
+    /*
+     Another member ended the list, and the next one has other numbers or voters than were asked for.
+     */
+    MUOSWYLD_STATUS_OTHERWISE = 32,
 } muoswyld_status;
 
 /*
@@ -362,6 +382,32 @@ typedef struct {
 } muoswyld_names;
 
 /*
+ How a list of a group is founded.
+ */
+typedef struct {
+    /*
+     Its founders, each the first life of its place.
+     */
+    muoswyld_names founders;
+    /*
+     The places that vote who has stopped, each as the first life; none if the policy has no voters.
+     */
+    muoswyld_names voters;
+    /*
+     How many members may stop between two resets, 0 to 15.
+     */
+    uint8_t resilience;
+    /*
+     How many entries may wait for the slowest member, 1 to 1,008.
+     */
+    uint16_t window;
+    /*
+     Up to how many bytes a body goes by the sequencer, 0 to 1,024.
+     */
+    uint16_t pb_up_to;
+} muoswyld_founding;
+
+/*
  A delivery. muoswyld_delivery_clear frees what it has; the struct itself is the caller's.
  */
 typedef struct {
@@ -374,17 +420,21 @@ typedef struct {
      */
     muoswyld_position at;
     /*
-     Of a message who sent it; else who joined or left. Life 0 in a view.
+     Of a message who sent it; else who joined or left. Life 0 in a view, and at the end of a list.
      */
     muoswyld_name name;
     /*
-     Of a view: its members.
+     Of a view: its members. At the end of a list: the members there, by their names in the list that ended.
      */
     muoswyld_names members;
     /*
      Of a view: how many members may stop until the next one, 0 to 15.
      */
     uint8_t resilience;
+    /*
+     At the end of a list: how the next one is founded. A member's name in that is the first life of its place.
+     */
+    muoswyld_founding next;
     /*
      Of a message: its bytes, which aren't changed. They stay until the delivery is cleared. Not NULL in a message, NULL else.
      */
@@ -398,6 +448,29 @@ typedef struct {
      */
     void *owner;
 } muoswyld_delivery;
+
+/*
+ What the next list of a group has otherwise than the latest one.
+ */
+typedef struct {
+    /*
+     How many members may stop between two resets, 0 to 15; negative: as it is.
+     */
+    int32_t resilience;
+    /*
+     How many entries may wait for the slowest member, 1 to 1,008; negative: as it is.
+     */
+    int32_t window;
+    /*
+     Up to how many bytes a body goes by the sequencer, 0 to 1,024; negative: as it is.
+     */
+    int32_t pb_up_to;
+    /*
+     The places that vote who has stopped, each as the first life of a member's place, odd in number. None: those voters that are members, less the
+     highest one if their number is even.
+     */
+    muoswyld_names voters;
+} muoswyld_next;
 
 /*
  How often something happened since the member began.
@@ -454,9 +527,21 @@ typedef struct {
  */
 typedef struct {
     /*
-     Its name.
+     Its name in the latest list of its group.
      */
     muoswyld_name name;
+    /*
+     How many lists of the group came before that one.
+     */
+    uint32_t generation;
+    /*
+     The window of that list.
+     */
+    uint16_t window;
+    /*
+     Up to how many bytes a body goes by the sequencer in it.
+     */
+    uint16_t pb_up_to;
     /*
      What it is to its group.
      */
@@ -883,6 +968,22 @@ muoswyld_status muoswyld_group_reset(const muoswyld_group *group,
                                      uint8_t least,
                                      int timeout_ms,
                                      uint32_t *number);
+
+/*
+ Ends the group's list, and has another one follow it: before a place's lives run out, or to change the window, the resilience or the voters. It
+ returns once the list has ended at this member, which is a delivery, too. All calls go on over it. NULL for `next` if all is to stay as it is; NULL
+ for `at` if the position of the end isn't wanted.
+
+ MUOSWYLD_STATUS_NOT_NOW if a member has stopped, is silent, suspected or refused, leaves or joins, or if another list just ended; _NOT_SUCCEEDED if
+ that happened meanwhile, and the list goes on; _OTHERWISE if another member ended it with other numbers or voters; _BAD_VALUE if no group can have
+ such numbers or voters; _NOT_MEMBER; _TIMEOUT if it hasn't ended in time, and may later; _ENDED.
+
+ From any thread.
+ */
+muoswyld_status muoswyld_group_succeed(const muoswyld_group *group,
+                                       const muoswyld_next *next,
+                                       int timeout_ms,
+                                       muoswyld_position *at);
 
 /*
  Tells that a name has stopped for certain: its process has ended, or can't act any more. Tell each running member. The group is then reset without

@@ -17,7 +17,7 @@ import unittest
 from collections.abc import Callable
 
 import muoswyld
-from muoswyld import Config, Delivery, End, Ended, Group, Joined, Left, Message, Name, Position, View
+from muoswyld import Config, Delivery, End, Ended, Group, Joined, Left, Message, Name, Position, Succeeded, View
 
 # seconds in which something must come, also where the machine has much else to do
 SOON = 60.0
@@ -108,6 +108,37 @@ class Groups(unittest.TestCase):
             self.assertEqual([delivery.message for delivery in own], [body for body in bodies for _ in range(5)])
         for group in groups:
             group.close()
+
+    def test_a_list_ends_and_the_next_one_goes_on(self) -> None:
+        """A list is ended with another window: what is sent goes on over it, all are told, and the next one has the window."""
+        groups = three(addresses())
+        try:
+            tickets = [groups[0].submit(b"%d" % k) for k in range(50)]
+            end = groups[1].succeed(window=99, timeout=SOON)
+            self.assertEqual(end.generation, 0)
+            tickets += [groups[2].submit(b"after %d" % k) for k in range(10)]
+            positions = [ticket.wait(SOON) for ticket in tickets]
+            self.assertEqual(positions[:50], sorted(positions[:50]))
+            self.assertTrue(all(at.generation == 1 for at in positions[50:]))
+            logs = []
+            for group in groups:
+                log = until(group, Succeeded)
+                while sum(isinstance(delivery, Message) for delivery in log) < 60:
+                    log.append(group.receive(SOON))
+                logs.append(log)
+                self.assertEqual((group.info().generation, group.info().window), (1, 99))
+            self.assertEqual(logs[0], logs[1])
+            self.assertEqual(logs[0], logs[2])
+            said = next(delivery for delivery in logs[0] if isinstance(delivery, Succeeded))
+            self.assertEqual((said.at, said.window, said.resilience), (end, 99, 1))
+            self.assertEqual(said.founders, (Name(0), Name(1), Name(2)))
+            self.assertEqual([delivery.at for delivery in logs[0]], sorted(delivery.at for delivery in logs[0]))
+            for wrong in ({"window": 0}, {"window": 1009}, {"resilience": 16}, {"pb_up_to": -1}, {"pb_up_to": 70_000}):
+                with self.assertRaises(muoswyld.BadValue):
+                    groups[0].succeed(timeout=SOON, **wrong)
+        finally:
+            for group in groups:
+                group.close()
 
     def test_stop_reset_return_leave(self) -> None:
         """A member stops, the others are told and reset; its place comes back, and leaves."""

@@ -70,8 +70,14 @@ pub struct muoswyld_counts {
 #[repr(C)]
 #[derive(Clone, Copy, Debug, PartialEq, Eq)]
 pub struct muoswyld_info {
-    /// Its name.
+    /// Its name in the latest list of its group.
     pub name: muoswyld_name,
+    /// How many lists of the group came before that one.
+    pub generation: u32,
+    /// The window of that list.
+    pub window: u16,
+    /// Up to how many bytes a body goes by the sequencer in it.
+    pub pb_up_to: u16,
     /// What it is to its group.
     pub role: muoswyld_role,
     /// Whether it knows its group's id.
@@ -138,6 +144,9 @@ impl From<Info> for muoswyld_info {
         let (standing, counts) = (info.standing, info.counts);
         muoswyld_info {
             name: info.name.into(),
+            generation: info.generation,
+            window: info.founding.window,
+            pb_up_to: info.founding.pb_up_to,
             role: standing.role.into(),
             knows_group: info.group.is_some(),
             leaves: info.leaves,

@@ -5,8 +5,8 @@ use crate::config::{milliseconds, muoswyld_config, Problem};
 use crate::guard::{bytes, changing, free, guard, guard_or, put, reading};
 use crate::info::muoswyld_info;
 use crate::status::{muoswyld_end, muoswyld_status};
-use crate::types::{muoswyld_delivery, muoswyld_name, muoswyld_position};
-use group::{CreateError, Delivery, End, Group, Notice, ReceiveError, SendError, Ticket};
+use crate::types::{muoswyld_delivery, muoswyld_name, muoswyld_next, muoswyld_position};
+use group::{CreateError, Delivery, End, Group, NextList, Notice, ReceiveError, SendError, Ticket};
 use std::collections::VecDeque;
 use std::ffi::{c_char, c_int, CString};
 use std::sync::{Arc, Mutex, OnceLock, PoisonError};
@@ -318,6 +318,39 @@ pub unsafe extern "C" fn muoswyld_group_reset(
             true => Ok(()),
             // SAFETY: the caller's room for a number
             false => unsafe { put(number, decided) },
+        }
+    })
+}
+
+/// Ends the group's list, and has another one follow it: before a place's lives run out, or to change the window, the resilience or the voters. It
+/// returns once the list has ended at this member, which is a delivery, too. All calls go on over it. NULL for `next` if all is to stay as it is; NULL
+/// for `at` if the position of the end isn't wanted.
+///
+/// MUOSWYLD_STATUS_NOT_NOW if a member has stopped, is silent, suspected or refused, leaves or joins, or if another list just ended; _NOT_SUCCEEDED if
+/// that happened meanwhile, and the list goes on; _OTHERWISE if another member ended it with other numbers or voters; _BAD_VALUE if no group can have
+/// such numbers or voters; _NOT_MEMBER; _TIMEOUT if it hasn't ended in time, and may later; _ENDED.
+///
+/// From any thread.
+#[no_mangle]
+pub unsafe extern "C" fn muoswyld_group_succeed(
+    group: *const muoswyld_group,
+    next: *const muoswyld_next,
+    timeout_ms: c_int,
+    at: *mut muoswyld_position,
+) -> muoswyld_status {
+    guard(|| {
+        // SAFETY: the caller's handle, or NULL
+        let member = unsafe { reading(group) }?;
+        let next = match next.is_null() {
+            true => NextList::new(),
+            // SAFETY: the caller's struct
+            false => unsafe { reading(next) }?.list()?,
+        };
+        let ended = member.group.succeed(next, wait_of(timeout_ms))?;
+        match at.is_null() {
+            true => Ok(()),
+            // SAFETY: the caller's room for a position
+            false => unsafe { put(at, ended.into()) },
         }
     })
 }

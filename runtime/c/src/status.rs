@@ -2,7 +2,8 @@
 
 use crate::guard::{guard_or, nothing};
 use group::{
-    CreateError, End, LeaveError, NotReset, ReceiveError, ResetError, SendError, ToldError,
+    CreateError, End, LeaveError, NotReset, ReceiveError, ResetError, SendError, SucceedError,
+    ToldError,
 };
 use std::ffi::{c_char, c_int};
 
@@ -70,10 +71,16 @@ pub enum muoswyld_status {
     MachineFailed = 28,
     /// Another call uses the service, or its machine calls it. Nothing was done.
     Busy = 29,
+    /// A list can't end now: a member has stopped, is silent, suspected or refused, leaves or joins, or another list just ended.
+    NotNow = 30,
+    /// A list was to end, and goes on: somebody joined, left or stopped meanwhile, or a view began.
+    NotSucceeded = 31,
+    /// Another member ended the list, and the next one has other numbers or voters than were asked for.
+    Otherwise = 32,
 }
 
 /// Each status, in the order of their numbers, with a sentence that ends with a zero.
-const TEXTS: [(muoswyld_status, &str); 30] = {
+const TEXTS: [(muoswyld_status, &str); 33] = {
     use muoswyld_status::*;
     [
         (Ok, "it is done\0"),
@@ -124,6 +131,18 @@ const TEXTS: [(muoswyld_status, &str); 30] = {
             Busy,
             "another call uses the service, or its machine calls it\0",
         ),
+        (
+            NotNow,
+            "the group has members that have stopped, are silent, refused, leave or join, or another list just ended\0",
+        ),
+        (
+            NotSucceeded,
+            "somebody joined, left or stopped meanwhile, or a view began: the list goes on\0",
+        ),
+        (
+            Otherwise,
+            "another member ended the list, with other numbers or voters\0",
+        ),
     ]
 };
 
@@ -151,6 +170,8 @@ pub enum muoswyld_end {
     Superseded = 8,
     /// The list has something that only a later version of this library understands.
     OtherVersion = 9,
+    /// Its list ended, and the next one couldn't be begun here. Its place comes back in that as its next life.
+    NotBegun = 10,
 }
 
 /// A sentence for a status, in English, without a newline and without a full stop. "no such status" for a number that is none.
@@ -178,6 +199,7 @@ impl From<&End> for muoswyld_end {
             End::NoNumbersLeft => muoswyld_end::NoNumbersLeft,
             End::Superseded => muoswyld_end::Superseded,
             End::OtherVersion => muoswyld_end::OtherVersion,
+            End::NotBegun => muoswyld_end::NotBegun,
             _ => muoswyld_end::Failed,
         }
     }
@@ -251,6 +273,25 @@ impl From<ResetError> for muoswyld_status {
     }
 }
 
+impl From<SucceedError> for muoswyld_status {
+    fn from(error: SucceedError) -> muoswyld_status {
+        match error {
+            SucceedError::NotNow => muoswyld_status::NotNow,
+            SucceedError::Founding(_)
+            | SucceedError::Voter(_)
+            | SucceedError::EvenVoters(_)
+            | SucceedError::NoVoters
+            | SucceedError::Unvoted => muoswyld_status::BadValue,
+            SucceedError::NotSucceeded => muoswyld_status::NotSucceeded,
+            SucceedError::Otherwise(_) => muoswyld_status::Otherwise,
+            SucceedError::Timeout => muoswyld_status::Timeout,
+            SucceedError::NotMember => muoswyld_status::NotMember,
+            SucceedError::Ended(_) => muoswyld_status::Ended,
+            _ => muoswyld_status::Other,
+        }
+    }
+}
+
 impl From<ToldError> for muoswyld_status {
     fn from(error: ToldError) -> muoswyld_status {
         match error {
@@ -275,7 +316,7 @@ mod tests {
         }
         for (number, wanted) in [
             (10, "the time passed"),
-            (30, "no such status"),
+            (33, "no such status"),
             (-1, "no such status"),
         ] {
             // SAFETY: the function answers a text that ends with a zero and stays

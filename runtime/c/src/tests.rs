@@ -167,6 +167,10 @@ fn statuses(
                 muoswyld_group_reset(group, 1, 0, null_mut()),
             ),
             (
+                "muoswyld_group_succeed",
+                muoswyld_group_succeed(group, null(), 0, null_mut()),
+            ),
+            (
                 "muoswyld_group_stopped",
                 muoswyld_group_stopped(group, name),
             ),

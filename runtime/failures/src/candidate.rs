@@ -261,6 +261,14 @@ impl Failures {
         }
     }
 
+    /// A name's process has ended for certain, so it has stopped in each list in which it has a name.
+    pub(crate) fn stop_by_word(&mut self, name: Name) {
+        self.stop(name);
+        if self.words.insert(name) {
+            self.outputs.push(Output::Word(name));
+        }
+    }
+
     /// As a defect that a test plants: who is frozen and refused ends its life.
     pub(crate) fn end_if_refused(&mut self) {
         let name = self.settings.name;

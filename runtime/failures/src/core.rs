@@ -19,6 +19,8 @@ pub struct Failures {
     pub(crate) now: Time,
     pub(crate) view: NameSet,
     pub(crate) stopped: NameSet,
+    /// Of which names it is known that their processes have ended.
+    pub(crate) words: NameSet,
     pub(crate) voter: Option<Voter>,
     pub(crate) no_voter: Option<NoVoter>,
     pub(crate) echoes: Echoes,
@@ -51,6 +53,7 @@ impl Failures {
             now,
             view: settings.members,
             stopped: NameSet::default(),
+            words: NameSet::default(),
             voter,
             no_voter,
             echoes: Echoes::new(&settings),
@@ -90,7 +93,7 @@ impl Failures {
                 self.is_urgent = true;
             }
             Input::NotWritten => self.lose_vote(NoVoter::NotWritten),
-            Input::Told(name) => self.stop(name),
+            Input::Told(name) => self.stop_by_word(name),
             Input::Fenced { name, done } => self.fenced(name, done),
             Input::View { members, least } => self.view_stands(members, least),
             Input::Time => {}
@@ -119,6 +122,21 @@ impl Failures {
             .as_ref()
             .map_or(Time::NEVER, |voter| voter.next_ripe(self.now, wait));
         self.next_heartbeat.min(ripe)
+    }
+
+    /// What it was told at the start.
+    pub fn settings(&self) -> &Settings {
+        &self.settings
+    }
+
+    /// Of which names it is known that their processes have ended.
+    pub fn words(&self) -> NameSet {
+        self.words
+    }
+
+    /// The list has ended here: others may be silent in it since they have closed it, so nobody is fenced for that.
+    pub fn note_list_ended(&mut self) {
+        self.fences.is_off = true;
     }
 
     /// Its name.
@@ -157,10 +175,44 @@ impl Failures {
             Some(Message::Echo(echo)) if echo.id == self.settings.id => {
                 self.echoes.hear(echo.voter, echo.heard, self.now);
             }
-            Some(Message::Heartbeat(heartbeat)) if self.other_ids.insert(heartbeat.from.name) => {
-                self.note(Notice::OtherId(heartbeat.from.name));
+            Some(Message::Heartbeat(heartbeat)) => {
+                self.hear_of_another(&heartbeat);
+            }
+            Some(Message::Closed { id, to }) if self.is_closed_for(id, to) => self.stop(to),
+            Some(Message::Echo(echo)) if self.has(Plant::EchoOfAnyList) => {
+                self.echo_of_another(echo.voter, echo.heard);
             }
             _ => {}
+        }
+    }
+
+    /// Whether its list is closed, and this process hasn't come to its end.
+    fn is_closed_for(&self, id: [u8; 16], to: Name) -> bool {
+        id == self.settings.id && to == self.settings.name
+    }
+
+    /// What has another id counts for nothing. It is told once of each name, but not of a place that also speaks with this id: the group's
+    /// lists have different ones.
+    fn hear_of_another(&mut self, heartbeat: &Heartbeat) {
+        let name = heartbeat.from.name;
+        if self.has(Plant::EchoOfAnyList) {
+            for heard in &heartbeat.heard {
+                self.echo_of_another(name, *heard);
+            }
+        }
+        let is_known = self
+            .fresh_peers()
+            .any(|(peer, _)| peer.place() == name.place());
+        if !is_known && self.other_ids.insert(name) {
+            self.note(Notice::OtherId(name));
+        }
+    }
+
+    /// As a defect that a test plants: an echo of another list is one of the latest heartbeat of this one.
+    fn echo_of_another(&mut self, voter: Name, heard: Heard) {
+        if heard.name.place() == self.settings.name.place() {
+            let latest = self.echoes.latest();
+            self.echoes.hear(voter, latest, self.now);
         }
     }
 
@@ -266,6 +318,7 @@ impl Failures {
             refuses: voter.map_or(none, |voter| voter.told()),
             ripe: voter.map_or(none, |voter| voter.ripe(self.now, wait)),
             stopped: self.stopped,
+            words: self.words,
             heard,
             counters: self.peers.counters.iter().map(|(p, c)| (*p, *c)).collect(),
         }

@@ -48,6 +48,11 @@ impl Echoes {
         self.me.sequence
     }
 
+    /// The last heartbeat.
+    pub(crate) fn latest(&self) -> Heard {
+        self.me
+    }
+
     /// A heartbeat is about to be sent. The time is one that was read before the sending: a lease runs from there, and a pause in
     /// between makes it only shorter.
     pub(crate) fn send(&mut self, now: Time) -> Heard {

@@ -58,6 +58,9 @@ pub enum Output {
     },
     /// A name has stopped for certain: tell the member so, as soon as it may be given anything.
     Stopped(Name),
+    /// It is known by somebody's word, by a fence's, or by its place's next life that a name's process has ended. That holds in each list
+    /// of the group in which the process has a name. It may be this name itself.
+    Word(Name),
     /// This life was given up. Nothing more may be let out, and what is held is dropped. It ends. A life ends by itself for no other
     /// cause: who is frozen, or refused by some, may still go on.
     Ended,

@@ -22,13 +22,17 @@ struct Fence {
 
 /// The fences of a process.
 #[derive(Clone, Debug, Default)]
-pub(crate) struct Fences(BTreeMap<Name, Fence>);
+pub(crate) struct Fences {
+    all: BTreeMap<Name, Fence>,
+    /// Whether nobody is fenced any more.
+    pub(crate) is_off: bool,
+}
 
 impl Failures {
     /// Asks for a fence of each name that a majority of the voters suspects: the lowest running member first. If it isn't done it is
     /// tried again, after twice the time each time.
     pub(crate) fn fence(&mut self) {
-        if self.settings.policy != Policy::Command {
+        if self.settings.policy != Policy::Command || self.fences.is_off {
             return;
         }
         for name in self.peers.suspects.iter().collect::<Vec<_>>() {
@@ -49,7 +53,7 @@ impl Failures {
         let usual = silence.saturating_mul(MOST_SILENCES);
         let within = self.settings.fence_within.unwrap_or(usual);
         let now = self.now;
-        let fence = self.fences.0.entry(name).or_insert(first);
+        let fence = self.fences.all.entry(name).or_insert(first);
         // whoever runs it says at its limit that it isn't done, and a silence later nothing is waited for
         if fence.is_running && now >= fence.until.after(silence) {
             fence.is_running = false;
@@ -67,12 +71,12 @@ impl Failures {
     pub(crate) fn fenced(&mut self, name: Name, done: bool) {
         let silence = self.settings.silence;
         let now = self.now;
-        let Some(fence) = self.fences.0.get_mut(&name).filter(|f| f.is_running) else {
+        let Some(fence) = self.fences.all.get_mut(&name).filter(|f| f.is_running) else {
             return;
         };
         fence.is_running = false;
         if done {
-            self.stop(name);
+            self.stop_by_word(name);
             return;
         }
         fence.failed += 1;

@@ -3,6 +3,7 @@
 use crate::core::Failures;
 use crate::event::NoVoter;
 use crate::names::{Name, NameSet, Places};
+use crate::settings::Policy;
 use crate::time::Time;
 
 /// A name that may not act, of which too few voters can say so: an operator ends its process, or resets with a lower `least`.
@@ -48,6 +49,37 @@ impl Failures {
             no_voter: self.no_voter,
             blocked: self.blocked(),
         }
+    }
+
+    /// Whether nothing is wrong with any member of the view, as far as it is known here: each was heard lately, and none is suspected,
+    /// refused, wanted to be, frozen or stopped. Where nobody sends heartbeats nothing is known.
+    pub fn is_quiet(&mut self, now: Time) -> bool {
+        self.now = self.now.max(now);
+        if self.settings.policy == Policy::Told {
+            return true;
+        }
+        let me = self.settings.name;
+        let others = |name: &Name| *name != me;
+        let fresh: NameSet = self.fresh_peers().map(|(name, _)| *name).collect();
+        let is_fit = |name: Name| {
+            let peer = self.peers.all.get(&name);
+            fresh.has(name) && peer.is_some_and(|peer| peer.frozen_since.is_none())
+        };
+        let mut troubled = self.peers.suspects.and(&self.candidate.wants);
+        for (name, peer) in &self.peers.all {
+            troubled = troubled.and(&peer.refuses);
+            if fresh.has(*name) {
+                troubled = troubled.and(&peer.suspects).and(&peer.wants);
+            }
+        }
+        let refused = self.voter.as_ref().map(|voter| voter.refused());
+        let troubled = troubled
+            .and(&refused.unwrap_or_default())
+            .and(&self.stopped);
+        self.view.has(me)
+            && self.frozen_since().is_none()
+            && self.view.among(&troubled).is_empty()
+            && self.view.iter().filter(others).all(is_fit)
     }
 
     fn blocked(&self) -> Vec<Blocked> {

@@ -1,9 +1,10 @@
 //! The messages and their bytes. All numbers are big-endian.
 //!
-//! | kind | behind the kind's byte |
+//! | kind | after the kind's byte |
 //! |---|---|
-//! | `10`, heartbeat | id (16), name (1), process (8), sequence (8), flags (1: bit 0 asks, bit 1 votes, bit 2 frozen), counter (8), frozen for (8), six sets of names (32 each): members, suspects, wants, refuses, ripe, stopped; a count (1) and so many heard; a count (1) and so many counters |
+//! | `10`, heartbeat | id (16), name (1), process (8), sequence (8), flags (1: bit 0 asks, bit 1 votes, bit 2 frozen), counter (8), frozen for (8), seven sets of names (32 each): members, suspects, wants, refuses, ripe, stopped, words; a count (1) and so many heard; a count (1) and so many counters |
 //! | `11`, echo | id (16), the voter's name (1), its counter (8), then one heard |
+//! | `12`, closed | id (16), the name that it is for (1) |
 //!
 //! A heard is a name (1), its process (8) and a sequence (8). A counter is a place (1) and a counter (8). A set of names has a bit for
 //! each byte of a name: the first byte has bytes 63 to 56, the most significant bit first, as four words of 64 bits.
@@ -12,6 +13,7 @@ use crate::names::{Name, NameSet};
 
 const HEARTBEAT: u8 = 0x10;
 const ECHO: u8 = 0x11;
+const CLOSED: u8 = 0x12;
 const ASKS: u8 = 1;
 const VOTES: u8 = 2;
 const FROZEN: u8 = 4;
@@ -55,6 +57,8 @@ pub struct Heartbeat {
     pub ripe: NameSet,
     /// Who has stopped for certain.
     pub stopped: NameSet,
+    /// Of which names it is known that their processes have ended, not only that this group gave them up.
+    pub words: NameSet,
     /// The echoes: the latest heartbeat of each process that it hasn't refused.
     pub heard: Vec<Heard>,
     /// The greatest counter that it knows of each voter's file.
@@ -81,6 +85,13 @@ pub enum Message {
     Heartbeat(Box<Heartbeat>),
     /// An echo, for one.
     Echo(Echo),
+    /// The list of this id has ended, and nobody serves it any more: whoever hasn't come to its end was given up.
+    Closed {
+        /// The list's id.
+        id: [u8; 16],
+        /// Whom it is for.
+        to: Name,
+    },
 }
 
 struct Bytes<'a>(&'a [u8]);
@@ -145,6 +156,7 @@ impl Bytes<'_> {
             refuses: self.set()?,
             ripe: self.set()?,
             stopped: self.set()?,
+            words: self.set()?,
             heard: self.several(MOST_HEARD, Bytes::heard)?,
             counters: self.several(MOST_COUNTERS, Bytes::counter)?,
         })
@@ -191,7 +203,7 @@ impl Heartbeat {
             self.refuses,
             self.ripe,
         ];
-        for set in sets.iter().chain([&self.stopped]) {
+        for set in sets.iter().chain([&self.stopped, &self.words]) {
             bytes.extend(set.bytes());
         }
         let heard = &self.heard[..self.heard.len().min(MOST_HEARD)];
@@ -221,6 +233,11 @@ impl Message {
                 bytes.extend(echo.counter.to_be_bytes());
                 put_heard(&mut bytes, &echo.heard);
             }
+            Message::Closed { id, to } => {
+                bytes.push(CLOSED);
+                bytes.extend(id);
+                bytes.push(to.byte());
+            }
         }
         bytes
     }
@@ -231,6 +248,10 @@ impl Message {
         let message = match bytes.u8()? {
             HEARTBEAT => Message::Heartbeat(Box::new(bytes.heartbeat()?)),
             ECHO => Message::Echo(bytes.echo()?),
+            CLOSED => Message::Closed {
+                id: bytes.take()?,
+                to: Name::of_byte(bytes.u8()?),
+            },
             _ => return None,
         };
         bytes.0.is_empty().then_some(message)

@@ -39,6 +39,8 @@ pub(crate) struct Peers {
     pub(crate) suspects: NameSet,
     /// Since when a member that came later is one.
     pub(crate) came: BTreeMap<Name, Time>,
+    /// When something else last said that a name runs.
+    pub(crate) signs: BTreeMap<Name, Time>,
     /// Who was heard, ever, by this process or by a voter.
     pub(crate) ran: NameSet,
     /// Which voters said, ever, that their refusal of a name is ripe. Old statements are true for ever.
@@ -79,13 +81,23 @@ impl Failures {
             self.peers.ran.insert(heard.name);
         }
         for name in earlier_lives(from.name) {
-            self.stop(name);
+            self.stop_by_word(name);
         }
         self.take_statements(heartbeat);
         self.take_counters(heartbeat);
+        for name in heartbeat.words.iter() {
+            self.stop_by_word(name);
+        }
         for name in heartbeat.stopped.iter() {
             self.stop(name);
         }
+    }
+
+    /// Something else says that a name runs, though it isn't heard here: its heartbeat in the list before this one. It is no echo, and
+    /// it counts only if the name says that it may act there.
+    pub fn note_sign(&mut self, now: Time, name: Name) {
+        self.now = self.now.max(now);
+        self.peers.signs.insert(name, self.now);
     }
 
     fn take_statements(&mut self, heartbeat: &Heartbeat) {
@@ -181,7 +193,10 @@ impl Failures {
     /// Whether a founder hasn't begun yet, as far as a founder knows that has been there from the beginning.
     fn is_awaited(&self, name: Name) -> bool {
         let founders = self.settings.members;
-        founders.has(self.settings.name) && founders.has(name) && !self.peers.ran.has(name)
+        self.settings.awaits_founders
+            && founders.has(self.settings.name)
+            && founders.has(name)
+            && !self.peers.ran.has(name)
     }
 
     fn is_silent(&self, name: Name) -> bool {
@@ -190,9 +205,11 @@ impl Failures {
         }
         let silence = self.settings.silence;
         let came = self.peers.came.get(&name).copied();
+        let sign = self.peers.signs.get(&name).copied();
         let since = self.peers.since.max(came.unwrap_or_default());
         let peer = self.peers.all.get(&name);
         let heard_at = peer.map_or(since, |peer| peer.heard_at.max(since));
+        let heard_at = heard_at.max(sign.unwrap_or_default());
         if self.now.since(heard_at) >= silence {
             return true;
         }

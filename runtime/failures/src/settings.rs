@@ -77,6 +77,7 @@ pub enum Plant {
     FrozenByItsWord,
     LimitCountsAll,
     NoLimit,
+    EchoOfAnyList,
 }
 
 /// What is told at the start.
@@ -104,6 +105,8 @@ pub struct Settings {
     pub silence: u64,
     /// How many microseconds a fence may take; None: twenty silences.
     pub fence_within: Option<u64>,
+    /// Whether a founder that never ran is waited for, as at a group's founding. In a list that follows another one it isn't.
+    pub awaits_founders: bool,
     #[doc(hidden)]
     pub plant: Option<Plant>,
     /// As a test wants it: times and voters of any kind. What is let out is right whatever the times are.
@@ -137,6 +140,7 @@ impl Settings {
             delay: 50_000,
             silence: 0,
             fence_within: None,
+            awaits_founders: true,
             plant: None,
             unchecked: false,
         };

@@ -51,7 +51,8 @@ fn told_holds_nothing_and_passes_on_what_it_is_told() {
     core.emitted();
     core.handle(Time(4), Input::Told(Name::first(1)));
     core.handle(Time(5), Input::Told(Name::first(1)));
-    assert_eq!(core.take(), [Output::Stopped(Name::first(1))]);
+    let one = Name::first(1);
+    assert_eq!(core.take(), [Output::Stopped(one), Output::Word(one)]);
 }
 
 /// Some cores wake and hear each other, and others are silent; who asks for a fence of whom.

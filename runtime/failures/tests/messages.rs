@@ -34,6 +34,10 @@ impl Draw {
 
     fn message(&mut self) -> Message {
         let id = [self.word() as u8; 16];
+        if self.word().is_multiple_of(5) {
+            let to = Name::of_byte(self.word() as u8);
+            return Message::Closed { id, to };
+        }
         if self.word().is_multiple_of(2) {
             return Message::Echo(Echo {
                 id,
@@ -55,6 +59,7 @@ impl Draw {
             refuses: self.set(),
             ripe: self.set(),
             stopped: self.set(),
+            words: self.set(),
             heard: (0..heard).map(|_| self.heard()).collect(),
             counters: (0..counters)
                 .map(|place| (place as u8 % 16, self.word()))
@@ -186,6 +191,7 @@ fn heartbeat_of(id: [u8; 16], name: Name) -> Heartbeat {
         refuses: none,
         ripe: none,
         stopped: none,
+        words: none,
         heard: Vec::new(),
         counters: Vec::new(),
     }

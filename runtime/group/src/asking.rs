@@ -2,14 +2,17 @@
 //!
 //! A question is the byte `20` and a nonce of eight random bytes. Its answer is the byte `21`, the nonce, and lines of text. Both are
 //! sealed as all datagrams are, and a question counts only from an address that a member has for a place. The nonce is drawn for each
-//! question, so a recorded answer counts for nothing.
+//! question, so a recorded answer counts for nothing. The first line of an answer has the version of its form; another one isn't read.
+//! What is told is of the latest list that the member knows.
 
 use crate::addresses::BadAddress;
 use crate::config::Config;
 use crate::failures::Policy;
+use crate::later::{founding_line, founding_of, LaterList};
 use crate::seal::{fill, Key, Seal};
 use muoswyld::names::{Name, Names};
 use muoswyld_member::{Founding, Info};
+use std::collections::BTreeMap;
 use std::fmt::Write;
 use std::io::{self, ErrorKind};
 use std::net::{SocketAddr, UdpSocket};
@@ -21,6 +24,10 @@ const ANSWERS: u8 = 0x21;
 const NONCE: usize = 8;
 /// How often a question is asked again.
 const AGAIN: Duration = Duration::from_millis(200);
+/// How long others are waited for after the first answer: one of them may know a later list.
+const OTHERS: Duration = Duration::from_millis(250);
+/// The first line of an answer: what it is, and the version of its form.
+const FORM: &str = "muoswyld 2";
 /// More bytes than a datagram with an answer has.
 const MOST_BYTES: usize = 4096;
 
@@ -31,8 +38,10 @@ pub(crate) type Nonce = [u8; NONCE];
 #[derive(Clone, Debug, PartialEq, Eq)]
 #[non_exhaustive]
 pub struct Facts {
-    /// Its founding.
+    /// The founding of its latest list.
     pub founding: Founding,
+    /// Which list that is; None if it is the group's first one.
+    pub later: Option<LaterList>,
     /// What makes it certain that a name has stopped. The program of [`Policy::Command`] isn't told.
     pub policy: Policy,
     /// The voters.
@@ -53,15 +62,10 @@ pub(crate) fn nonce_of(payload: &[u8]) -> Option<Nonce> {
 
 /// What a member of this configuration tells everybody.
 pub(crate) fn known(config: &Config) -> String {
-    let founding = &config.founding;
-    let mut text = format!(
-        "founding {} {} {} {}\nfailures {} ",
-        founding.founders,
-        founding.resilience,
-        founding.window,
-        founding.pb_up_to,
-        config.voting(),
-    );
+    let founding = founding_line(&config.founding);
+    // a list that follows another one has no voters if the policy has none
+    let voters = config.list.map_or(config.voting(), |list| list.voters);
+    let mut text = format!("{founding}\nfailures {voters} ");
     match config.failures.policy() {
         Policy::Told => text.push_str("told\n"),
         Policy::Command { .. } => text.push_str("command\n"),
@@ -70,6 +74,9 @@ pub(crate) fn known(config: &Config) -> String {
         Policy::Lease { length, drift } => {
             let _ = writeln!(text, "lease {} {drift}", length.as_micros());
         }
+    }
+    if let Some(list) = &config.list {
+        text += &format!("{}\n", list.line());
     }
     for (place, address) in config.addresses.iter() {
         let _ = writeln!(text, "address {place} {address}");
@@ -90,22 +97,15 @@ pub(crate) fn answer(
     let last = life(founders).max(life(members)).max(life(info.stopped));
     let mut payload = vec![ANSWERS];
     payload.extend(nonce);
-    payload.extend(format!("life {last}\n{known}").bytes());
+    payload.extend(format!("{FORM}\nlife {last}\n{known}").bytes());
     payload
 }
 
 /// Reads an answer's lines for a place.
 fn read(text: &str, place: u8) -> Option<Facts> {
-    let mut lines = text.lines();
+    let mut lines = text.lines().peekable();
     let life: u8 = lines.next()?.strip_prefix("life ")?.parse().ok()?;
-    let founding: Vec<&str> = lines
-        .next()?
-        .strip_prefix("founding ")?
-        .split(' ')
-        .collect();
-    let [founders, resilience, window, pb_up_to] = founding[..] else {
-        return None;
-    };
+    let founding = founding_of(lines.next()?)?;
     let failures: Vec<&str> = lines
         .next()?
         .strip_prefix("failures ")?
@@ -130,30 +130,32 @@ fn read(text: &str, place: u8) -> Option<Facts> {
         let place = place.parse().ok().filter(|place| *place < 16)?;
         Some((place, address.parse().ok()?))
     };
+    let voters = voters.parse().ok()?;
+    let later = match lines.next_if(|line| line.starts_with("list ")) {
+        Some(line) => Some(LaterList::of(line, founding, voters)?),
+        None => None,
+    };
     Some(Facts {
-        founding: Founding {
-            founders: founders.parse().ok()?,
-            resilience: resilience.parse().ok()?,
-            window: window.parse().ok()?,
-            pb_up_to: pb_up_to.parse().ok()?,
-        },
+        founding,
+        later,
         policy,
-        voters: voters.parse().ok()?,
+        voters,
         next: Name::new(place, life.checked_add(1)?),
         addresses: lines.map(address).collect::<Option<_>>()?,
     })
 }
 
 impl Facts {
-    /// Asks members at some addresses, until one answers: from the address that they have for this place. It is an error if none does
-    /// in time, or if the system refuses a socket.
+    /// Asks members at some addresses, from the address that they have for this place, until one answers, and then the others for a moment:
+    /// what is told of the latest list is taken. It is an error if none answers in time, if they run another version of this program, or if
+    /// the system refuses a socket.
     pub fn ask(
         seeds: &[SocketAddr],
         (place, own): (u8, SocketAddr),
         key: Option<&Key>,
         most: Duration,
     ) -> io::Result<Facts> {
-        let mut seal = match key {
+        let seal = match key {
             Some(key) => Seal::by(key)?,
             None => Seal::none(),
         };
@@ -161,31 +163,37 @@ impl Facts {
         fill(&mut nonce)?;
         let socket = UdpSocket::bind(own)?;
         socket.set_read_timeout(Some(AGAIN / 4))?;
-        let (began, mut asked_at) = (Instant::now(), None::<Instant>);
-        let mut datagram = Vec::new();
-        let mut bytes = [0; MOST_BYTES];
-        while began.elapsed() < most {
-            if asked_at.is_none_or(|at| at.elapsed() >= AGAIN) {
-                asked_at = Some(Instant::now());
-                let question = [&[ASKS][..], &nonce].concat();
-                if seal.seal(&question, &mut datagram) {
-                    for seed in seeds {
-                        // one that can't be reached now may be later
-                        let _sent = socket.send_to(&datagram, seed);
-                    }
-                }
+        let mut asker = Asker {
+            socket,
+            seal,
+            nonce,
+            place,
+            told: BTreeMap::new(),
+            is_other: None,
+        };
+        asker.ask(seeds, Instant::now() + most);
+        let latest = asker.told.into_values().max_by_key(Facts::order);
+        latest.ok_or_else(|| match asker.is_other {
+            Some(from) => {
+                let line = format!("the member at {from} runs another version of this program");
+                io::Error::new(ErrorKind::InvalidData, line)
             }
-            let length = match socket.recv_from(&mut bytes) {
-                Ok((length, _)) => length,
-                Err(_) => continue,
-            };
-            if let Some(facts) = opened(&mut seal, &mut bytes[..length], nonce, place) {
-                return Ok(facts);
+            None => {
+                let shown: Vec<String> = seeds.iter().map(SocketAddr::to_string).collect();
+                let line = format!("no member of the group answers at {}", shown.join(", "));
+                io::Error::new(ErrorKind::TimedOut, line)
             }
-        }
-        let shown: Vec<String> = seeds.iter().map(SocketAddr::to_string).collect();
-        let line = format!("no member of the group answers at {}", shown.join(", "));
-        Err(io::Error::new(ErrorKind::TimedOut, line))
+        })
+    }
+
+    /// How many lists came before the latest one that is told.
+    pub fn generation(&self) -> u32 {
+        self.later.map_or(0, |list| list.generation)
+    }
+
+    /// Later lists come after earlier ones, and of one list what knows of later lives; no life left is the last.
+    fn order(&self) -> (u32, u8) {
+        (self.generation(), self.next.map_or(17, |next| next.life()))
     }
 
     /// The configuration of a name in this group, with the addresses of all places. It is an error if two places have one address.
@@ -193,8 +201,13 @@ impl Facts {
         let mut config = Config::new(name, self.founding.founders)
             .resilience(self.founding.resilience)
             .window(self.founding.window)
-            .pb_up_to(self.founding.pb_up_to)
-            .voters(self.voters);
+            .pb_up_to(self.founding.pb_up_to);
+        if !self.voters.is_empty() {
+            config = config.voters(self.voters);
+        }
+        if let Some(list) = self.later {
+            config = config.later(list);
+        }
         if !matches!(self.policy, Policy::Command { .. }) {
             config = config.policy(self.policy.clone());
         }
@@ -205,12 +218,90 @@ impl Facts {
     }
 }
 
+/// Who asks members how their group was founded.
+struct Asker {
+    socket: UdpSocket,
+    seal: Seal,
+    nonce: Nonce,
+    place: u8,
+    /// What was told, by whom.
+    told: BTreeMap<SocketAddr, Facts>,
+    /// Who answers in another form.
+    is_other: Option<SocketAddr>,
+}
+
+impl Asker {
+    /// Asks, again and again, until all have answered, some time after the first one has, or it is too late.
+    fn ask(&mut self, seeds: &[SocketAddr], mut until: Instant) {
+        let mut asked_at = None::<Instant>;
+        while Instant::now() < until && self.told.len() < seeds.len() {
+            if asked_at.is_none_or(|at| at.elapsed() >= AGAIN) {
+                asked_at = Some(Instant::now());
+                self.send(seeds);
+            }
+            if self.hear() && self.told.len() == 1 {
+                until = until.min(Instant::now() + OTHERS);
+            }
+        }
+    }
+
+    fn send(&mut self, seeds: &[SocketAddr]) {
+        let question = [&[ASKS][..], &self.nonce].concat();
+        let mut datagram = Vec::new();
+        if self.seal.seal(&question, &mut datagram) {
+            for seed in seeds {
+                // one that can't be reached now may be later
+                let _sent = self.socket.send_to(&datagram, seed);
+            }
+        }
+    }
+
+    /// Hears an answer, if one comes soon; whether it says how the group was founded.
+    fn hear(&mut self) -> bool {
+        let mut bytes = [0; MOST_BYTES];
+        let Ok((length, from)) = self.socket.recv_from(&mut bytes) else {
+            return false;
+        };
+        match opened(&mut self.seal, &mut bytes[..length], self.nonce, self.place) {
+            Some(Said::Facts(facts)) => {
+                self.told.insert(from, *facts);
+                true
+            }
+            Some(Said::OtherVersion) => {
+                self.is_other = Some(from);
+                false
+            }
+            None => false,
+        }
+    }
+}
+
+/// What an answer says.
+#[derive(Debug, PartialEq, Eq)]
+enum Said {
+    /// How the group was founded.
+    Facts(Box<Facts>),
+    /// Something of another form.
+    OtherVersion,
+}
+
+/// What an answer says by its text.
+fn said(text: &str, place: u8) -> Said {
+    let rest = text
+        .strip_prefix(FORM)
+        .and_then(|rest| rest.strip_prefix('\n'));
+    match rest.and_then(|rest| read(rest, place)) {
+        Some(facts) => Said::Facts(Box::new(facts)),
+        None => Said::OtherVersion,
+    }
+}
+
 /// The answer to a question in a datagram, if it is one.
-fn opened(seal: &mut Seal, datagram: &mut [u8], nonce: Nonce, place: u8) -> Option<Facts> {
+fn opened(seal: &mut Seal, datagram: &mut [u8], nonce: Nonce, place: u8) -> Option<Said> {
     let payload = seal.open(datagram)?;
     let rest = payload.strip_prefix(&[ANSWERS])?;
     let text = rest.strip_prefix(&nonce[..])?;
-    read(std::str::from_utf8(text).ok()?, place)
+    Some(said(std::str::from_utf8(text).ok()?, place))
 }
 
 #[cfg(test)]
@@ -248,6 +339,32 @@ mod tests {
             let made = facts.config("3/3".parse().unwrap()).unwrap();
             assert_eq!(known(&made), known(&config));
         }
+    }
+
+    #[test]
+    fn the_latest_list_is_told() {
+        let list = crate::later::list(2);
+        let config = config().policy(Policy::Told).later(list);
+        let text = format!("life 1\n{}", known(&config));
+        let facts = read(&text, 3).unwrap();
+        assert_eq!((facts.later, facts.generation()), (Some(list), 2));
+        assert_eq!((facts.founding, facts.voters), (list.founding, list.voters));
+        let made = facts.config("3/2".parse().unwrap()).unwrap();
+        assert_eq!(known(&made), known(&config));
+        let other = text.replacen("list 2 a7", "list 2 b", 1);
+        assert_eq!(read(&other, 3), None);
+        let earlier = read(&format!("life 9\n{}", known(&self::config())), 3).unwrap();
+        assert!(facts.order() > earlier.order());
+    }
+
+    #[test]
+    fn another_version_is_known_as_one() {
+        let rest = format!("life 2\n{}", known(&config()));
+        let facts = |text: String| matches!(said(&text, 3), Said::Facts(_));
+        assert!(facts(format!("{FORM}\n{rest}")));
+        // as the version before this one had it, and a later one
+        assert!(!facts(rest.clone()));
+        assert!(!facts(format!("muoswyld 3\n{rest}")));
     }
 
     #[test]

@@ -2,9 +2,10 @@
 
 use crate::addresses::{Addresses, BadAddress};
 use crate::failures::{FailureSettings, Policy};
+use crate::later::LaterList;
 use crate::seal::Key;
 use muoswyld::names::{Name, Names};
-use muoswyld_member::{Delivery, Founding, Notice};
+use muoswyld_member::{Delivery, Founding, Limits, Notice};
 use std::fmt;
 use std::net::SocketAddr;
 use std::path::PathBuf;
@@ -45,6 +46,8 @@ impl<T> fmt::Debug for Callback<T> {
 pub struct Config {
     pub(crate) name: Name,
     pub(crate) founding: Founding,
+    /// Which list of the group it begins in; None: the first one.
+    pub(crate) list: Option<LaterList>,
     pub(crate) addresses: Addresses,
     pub(crate) bind: Option<SocketAddr>,
     pub(crate) key: Option<Key>,
@@ -57,6 +60,7 @@ pub struct Config {
     pub(crate) spin: Duration,
     pub(crate) journal: Option<PathBuf>,
     pub(crate) start_within: Option<Duration>,
+    pub(crate) succeed_at: Option<Limits>,
     pub(crate) failures: FailureSettings,
     pub(crate) on_notice: Option<Callback<Notice>>,
     pub(crate) on_delivery: Option<Callback<Delivery>>,
@@ -75,6 +79,7 @@ impl Config {
                 window: 256,
                 pb_up_to: 1024,
             },
+            list: None,
             addresses: Addresses::new(),
             bind: None,
             key: None,
@@ -87,6 +92,7 @@ impl Config {
             spin: Duration::ZERO,
             journal: None,
             start_within: None,
+            succeed_at: None,
             failures: FailureSettings::default(),
             on_notice: None,
             on_delivery: None,
@@ -111,6 +117,20 @@ impl Config {
     pub fn pb_up_to(mut self, bytes: u16) -> Config {
         self.founding.pb_up_to = bytes;
         self
+    }
+
+    /// Has the member begin in a list of the group that follows another one, as [`next_life`](crate::next_life) and
+    /// [`Facts`](crate::Facts) give it: its founders, numbers and voters are those of that list.
+    pub fn later(mut self, list: LaterList) -> Config {
+        self.founding = list.founding;
+        self.failures.voters = Some(list.voters).filter(|voters| !voters.is_empty());
+        self.list = Some(list);
+        self
+    }
+
+    /// How many lists of the group came before the one in which it begins.
+    pub(crate) fn generation(&self) -> u32 {
+        self.list.map_or(0, |list| list.generation)
     }
 
     /// The address of a place, of IPv4 or IPv6. It is an error if the place or the address has one already.
@@ -174,7 +194,15 @@ impl Config {
         self
     }
 
-    /// A new file in which the member writes what its node was given and what it answered, so that the run can be judged.
+    /// Has the list end by itself, and another one follow it, before a place's lives or the numbers run out. If it isn't set the list ends only
+    /// by [`Group::succeed`](crate::Group::succeed).
+    pub fn succeed_at(mut self, limits: Limits) -> Config {
+        self.succeed_at = Some(limits);
+        self
+    }
+
+    /// A new file in which the member writes what its node was given and what it answered, so that the run can be judged. What it writes of
+    /// the list of generation 1 goes to a file with `.1` after its name, and so on.
     pub fn journal(mut self, file: PathBuf) -> Config {
         self.journal = Some(file);
         self

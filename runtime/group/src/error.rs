@@ -3,7 +3,7 @@
 use crate::addresses::BadAddress;
 use crate::state::StateError;
 use muoswyld::names::Name;
-use muoswyld_member::{NotReset, StartError};
+use muoswyld_member::{HandleError, NotReset, Position, StartError};
 use thiserror::Error;
 
 /// How a member ended. It does nothing any more.
@@ -28,6 +28,9 @@ pub enum End {
     /// The list has something that only a later version of this program understands.
     #[error("the list has something that only a later version of this program understands")]
     OtherVersion,
+    /// Its list ended, and the next one couldn't be begun here. Its place comes back in that as its next life.
+    #[error("the next list couldn't be begun here; its place comes back in that as its next life")]
+    NotBegun,
     /// Its caller ended it, and it hasn't left.
     #[error("it was stopped, and hasn't left")]
     Stopped,
@@ -168,6 +171,60 @@ pub enum ResetError {
     /// The member ended.
     #[error("the member ended: {0}")]
     Ended(End),
+}
+
+/// Why a list didn't end, or isn't known to have.
+#[derive(Clone, Debug, PartialEq, Eq, Error)]
+#[non_exhaustive]
+pub enum SucceedError {
+    /// Somebody has stopped, is silent, suspected or refused, leaves or joins, the member doesn't know yet who was a member before it joined,
+    /// or the list before isn't over for all. Try again later.
+    #[error("the group has members that have stopped, are silent, refused, leave or join, or another list just ended: not now")]
+    NotNow,
+    /// No group can have such a founding.
+    #[error("the next list can't be founded so: {0}")]
+    Founding(StartError),
+    /// A voter of the next list isn't the first life of a member's place.
+    #[error("{0} isn't the first life of a member's place, and can't vote in the next list")]
+    Voter(Name),
+    /// The number of voters is even: half of them could refuse the other half.
+    #[error("the number of voters is odd, and {0} isn't: name one place more or less")]
+    EvenVoters(usize),
+    /// No voter of this list is a member, so the next one's are to be named.
+    #[error("no voter of this list is a member: name the voters of the next one")]
+    NoVoters,
+    /// Voters are named, and the policy has none.
+    #[error("the policy has no voters")]
+    Unvoted,
+    /// Somebody joined, left, stopped or became silent meanwhile, or a view began: the list goes on. Try again.
+    #[error("somebody joined, left or stopped meanwhile, or a view began: the list goes on")]
+    NotSucceeded,
+    /// Another member ended the list, and the next one has other numbers or voters.
+    #[error("another member ended the list at {}, with other numbers or voters", .0.number)]
+    Otherwise(Position),
+    /// The time passed. The list may still end.
+    #[error("the list hasn't ended in time; it may later")]
+    Timeout,
+    /// The member leaves, or is none of its group's members.
+    #[error("the member is none of its group's members, or leaves")]
+    NotMember,
+    /// The member ended.
+    #[error("the member ended: {0}")]
+    Ended(End),
+}
+
+impl From<HandleError> for SucceedError {
+    fn from(refusal: HandleError) -> SucceedError {
+        match refusal {
+            HandleError::NotNow => SucceedError::NotNow,
+            HandleError::Founding(why) => SucceedError::Founding(why),
+            HandleError::Voter(name) => SucceedError::Voter(name),
+            HandleError::EvenVoters(count) => SucceedError::EvenVoters(count),
+            HandleError::NoVoters => SucceedError::NoVoters,
+            HandleError::Unvoted => SucceedError::Unvoted,
+            _ => SucceedError::NotMember,
+        }
+    }
 }
 
 /// Why a word that a name has stopped wasn't taken.

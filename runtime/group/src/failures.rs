@@ -118,9 +118,10 @@ impl Config {
         let policy = set.core_policy();
         let places = |names: Names| failures::places_of(names.iter().map(|name| name.place()));
         let (founders, voters) = (places(founding.founders), places(self.voting()));
-        let id = match policy {
-            failures::Policy::Told => [0; 16],
-            _ => self.failure_id(policy)?,
+        let id = match (policy, &self.list) {
+            (_, Some(list)) => list.failures,
+            (failures::Policy::Told, None) => [0; 16],
+            (_, None) => self.failure_id(policy)?,
         };
         let name = name_of(self.name);
         let mut settings = failures::Settings::new(id, name, process, founders, policy);

@@ -1,6 +1,7 @@
 //! What a member's thread does for what says who has stopped: it has the voter's file written by a thread of its own, runs the program
 //! that ends a name, and tells the log.
 
+use crate::later::LaterList;
 use crate::shared::{Command, Shared};
 use crate::state::State;
 use muoswyld::names::Name;
@@ -19,14 +20,21 @@ const LOOK_EVERY: Duration = Duration::from_millis(10);
 const MOST_LINES: usize = 100;
 const MOST_LINE: u64 = 1000;
 
-/// A write of the voter's file: its number, and the whole file.
-type Write = (u64, Vec<u8>);
+/// What is to be done with the place's folder.
+enum Task {
+    /// The voter's file of a list is to be written: its generation, the write's number, and the whole file.
+    Voter(u32, u64, Vec<u8>),
+    /// The next list begins here, with the voter's file if the place votes there.
+    Begin(Box<LaterList>, Option<Vec<u8>>),
+    /// The list of this generation isn't served any more.
+    Close(u32),
+}
 
 /// What is done beside the member.
 pub(crate) struct Fencing {
     shared: Arc<Shared>,
     program: Option<PathBuf>,
-    writes: Option<Sender<Write>>,
+    tasks: Option<Sender<Task>>,
     /// The place's folder is its own as long as this lives, or a write is under way.
     _state: Option<Arc<State>>,
 }
@@ -39,62 +47,120 @@ impl Fencing {
         program: Option<PathBuf>,
     ) -> std::io::Result<Fencing> {
         let state = state.map(Arc::new);
-        let writes = match &state {
+        let tasks = match &state {
             Some(state) => Some(writer(state.clone(), shared.clone())?),
             None => None,
         };
         Ok(Fencing {
             shared,
             program,
-            writes,
+            tasks,
             _state: state,
         })
     }
 
-    /// Has the voter's file written.
-    pub(crate) fn write(&self, number: u64, bytes: Vec<u8>) {
-        let asked = self.writes.as_ref().map(|to| to.send((number, bytes)));
-        if !matches!(asked, Some(Ok(()))) {
+    /// Has a task done; whether somebody does it.
+    fn give(&self, task: Task) -> bool {
+        let given = self.tasks.as_ref().map(|to| to.send(task));
+        matches!(given, Some(Ok(())))
+    }
+
+    /// Has the voter's file of a list written.
+    pub(crate) fn write(&self, generation: u32, number: u64, bytes: Vec<u8>) {
+        if !self.give(Task::Voter(generation, number, bytes)) {
+            let number = None;
             // a closed member takes nothing more
-            let _told = self.shared.command(Command::Written(None), None);
+            let _told = self
+                .shared
+                .command(Command::Written { generation, number }, None);
         }
     }
 
-    /// Runs the program that ends a name, in a thread of its own.
-    pub(crate) fn fence(&self, name: Name, within: Duration) {
+    /// Has it written that the next list begins here. Without a folder there is nothing to be written.
+    pub(crate) fn begin(&self, list: LaterList, voter: Option<Vec<u8>>) {
+        let generation = list.generation;
+        if !self.give(Task::Begin(Box::new(list), voter)) {
+            let done = self.tasks.is_none();
+            // a closed member takes nothing more
+            let _told = self
+                .shared
+                .command(Command::Begun { generation, done }, None);
+        }
+    }
+
+    /// Has the files of a list removed that isn't served any more.
+    pub(crate) fn close(&self, generation: u32) {
+        // without a folder there are none
+        let _given = self.give(Task::Close(generation));
+    }
+
+    /// Runs the program that ends a name of a list, in a thread of its own.
+    pub(crate) fn fence(&self, generation: u32, name: Name, within: Duration) {
         let (shared, program) = (self.shared.clone(), self.program.clone());
         let run = move || {
             let done = program.is_some_and(|program| is_fenced(&program, name, within));
+            let fenced = Command::Fenced {
+                generation,
+                name,
+                done,
+            };
             // a closed member takes nothing more
-            let _told = shared.command(Command::Fenced { name, done }, None);
+            let _told = shared.command(fenced, None);
         };
         let thread = std::thread::Builder::new().name(format!("fence {name}"));
         if let Err(error) = thread.spawn(run) {
             tracing::error!("no thread to fence {name}: {error}");
-            let done = false;
-            let _told = self.shared.command(Command::Fenced { name, done }, None);
+            let fenced = Command::Fenced {
+                generation,
+                name,
+                done: false,
+            };
+            let _told = self.shared.command(fenced, None);
         }
     }
 }
 
-/// The thread that writes the voter's file. It ends once nothing more is to be written.
-fn writer(state: Arc<State>, shared: Arc<Shared>) -> std::io::Result<Sender<Write>> {
-    let (to, from): (Sender<Write>, Receiver<Write>) = channel();
+/// The thread that writes to the place's folder. It ends once nothing more is to be written.
+fn writer(state: Arc<State>, shared: Arc<Shared>) -> std::io::Result<Sender<Task>> {
+    let (to, from): (Sender<Task>, Receiver<Task>) = channel();
     let run = move || {
-        for (number, bytes) in from {
-            let written = match state.write_voter(&bytes) {
-                Ok(()) => Some(number),
-                Err(error) => {
-                    tracing::error!("the voter's file can't be written: {error}");
-                    None
-                }
-            };
-            // a closed member takes nothing more
-            let _told = shared.command(Command::Written(written), None);
+        for task in from {
+            if let Some(done) = done(&state, task) {
+                // a closed member takes nothing more
+                let _told = shared.command(done, None);
+            }
         }
     };
     let thread = std::thread::Builder::new().name("voter".into());
     thread.spawn(run).map(|_| to)
+}
+
+/// Does a task; what the member is told of it.
+fn done(state: &State, task: Task) -> Option<Command> {
+    match task {
+        Task::Voter(generation, number, bytes) => {
+            let written = state.write_voter(generation, &bytes);
+            if let Err(error) = &written {
+                tracing::error!("the voter's file can't be written: {error}");
+            }
+            let number = written.is_ok().then_some(number);
+            Some(Command::Written { generation, number })
+        }
+        Task::Begin(list, voter) => {
+            let begun = state.succeed(&list, voter.as_deref());
+            if let Err(error) = &begun {
+                tracing::error!("the next list can't be begun: {error}");
+            }
+            let (generation, done) = (list.generation, begun.is_ok());
+            Some(Command::Begun { generation, done })
+        }
+        Task::Close(generation) => {
+            if let Err(error) = state.close(generation) {
+                tracing::error!("files of an ended list can't be removed: {error}");
+            }
+            None
+        }
+    }
 }
 
 /// Runs a program with a name; whether it ended with 0 in time.

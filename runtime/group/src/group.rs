@@ -1,9 +1,12 @@
 //! The seven calls.
 
 use crate::config::Config;
-use crate::error::{CreateError, End, LeaveError, ReceiveError, ResetError, SendError, ToldError};
+use crate::error::{
+    CreateError, End, LeaveError, ReceiveError, ResetError, SendError, SucceedError, ToldError,
+};
 use crate::failures::FailuresInfo;
-use crate::shared::{Command, Shared};
+use crate::next::NextList;
+use crate::shared::{Command, Shared, Succeeded};
 use crate::shell;
 use crate::slot::{deadline, Slot};
 use crate::state::State;
@@ -70,7 +73,7 @@ impl Group {
         }
     }
 
-    /// The member's name.
+    /// The member's name in the list in which it began. [`Group::info`] has its name in the latest one.
     pub fn name(&self) -> Name {
         self.name
     }
@@ -171,12 +174,84 @@ impl Group {
         reset.unwrap_or(Err(ResetError::Timeout))
     }
 
+    /// Ends the group's list, and has another one follow it (docs/MEMBER.md, "Generations"): before a place's lives run out, or to change the
+    /// window, the resilience or the voters. It returns once the list has ended here, with the position of its end; that is a delivery, too.
+    /// All calls go on over it: what wasn't delivered in the old list is sent in the next one.
+    ///
+    /// ```no_run
+    /// # fn main() -> Result<(), Box<dyn std::error::Error>> {
+    /// # let group: muoswyld_group::Group = todo!();
+    /// use muoswyld_group::NextList;
+    /// use std::time::Duration;
+    ///
+    /// let end = group.succeed(NextList::new().window(1000), Duration::from_secs(5))?;
+    /// println!("the list of generation {} ended at {}", end.generation, end.number);
+    /// assert_eq!(group.info()?.founding.window, 1000);
+    /// # Ok(())
+    /// # }
+    /// ```
+    ///
+    /// # Errors
+    ///
+    /// [`SucceedError`] says why the list goes on. After [`SucceedError::Timeout`] it may still end.
+    pub fn succeed(&self, next: NextList, most: Duration) -> Result<Position, SucceedError> {
+        let slot = self.ask_to_succeed(next, true)?;
+        match slot.wait(deadline(Some(most))) {
+            Some(Ok(Some(at))) => Ok(at),
+            Some(Err(error)) => Err(error),
+            Some(Ok(None)) | None => Err(SucceedError::Timeout),
+        }
+    }
+
+    /// As [`Group::succeed`], but it doesn't wait for the end of the list: that is a delivery, if it comes.
+    ///
+    /// # Errors
+    ///
+    /// As [`Group::succeed`], as far as it is known at once. The list may still go on, as somebody joins or stops meanwhile.
+    pub fn try_succeed(&self, next: NextList) -> Result<(), SucceedError> {
+        let slot = self.ask_to_succeed(next, false)?;
+        // a command that is taken is answered, also at the member's end
+        let answer = slot.wait(None);
+        answer.map_or(Err(SucceedError::Ended(End::Stopped)), |it| it.map(|_| ()))
+    }
+
+    fn ask_to_succeed(
+        &self,
+        next: NextList,
+        waits: bool,
+    ) -> Result<Arc<Slot<Succeeded>>, SucceedError> {
+        let slot = Slot::new();
+        let command = Command::Succeed {
+            next,
+            waits,
+            slot: slot.clone(),
+        };
+        match self.shared.command(command, None) {
+            Ok(()) => Ok(slot),
+            Err(_) => Err(SucceedError::Ended(self.wait())),
+        }
+    }
+
     /// Tells that a name has stopped for certain: its process has ended, or can't act any more. The group is then reset
     /// without it. A name that still runs must never be given here: two parts of the group could go on with two lists.
+    ///
+    /// The name is one of the latest list that this member knows. Where another list may follow meanwhile, say by [`Group::stopped_in`] which
+    /// list the name is of.
     pub fn stopped(&self, name: Name) -> Result<(), ToldError> {
+        self.tell_stopped(name, None)
+    }
+
+    /// As [`Group::stopped`], for a name of the list of a generation: in another list the same process has another name. If this member hasn't
+    /// come to that list, the word is kept until it has.
+    pub fn stopped_in(&self, generation: u32, name: Name) -> Result<(), ToldError> {
+        self.tell_stopped(name, Some(generation))
+    }
+
+    fn tell_stopped(&self, name: Name, generation: Option<u32>) -> Result<(), ToldError> {
         let slot = Slot::new();
         let command = Command::Stopped {
             name,
+            generation,
             slot: slot.clone(),
         };
         let told = self

@@ -33,6 +33,9 @@ mod error;
 mod failures;
 mod fencing;
 mod group;
+mod later;
+mod life;
+mod next;
 mod seal;
 mod shared;
 mod shell;
@@ -44,13 +47,18 @@ mod ticket;
 pub use addresses::{Addresses, BadAddress};
 pub use asking::Facts;
 pub use config::Config;
-pub use error::{CreateError, End, LeaveError, ReceiveError, ResetError, SendError, ToldError};
+pub use error::{
+    CreateError, End, LeaveError, ReceiveError, ResetError, SendError, SucceedError, ToldError,
+};
 pub use failures::{Blocked, FailuresInfo, Policy};
 pub use group::Group;
+pub use later::LaterList;
 pub use muoswyld::names::{BadName, Name, Names, Stamp};
 pub use muoswyld_member::{
-    Counts, Delivery, Founding, Info, NotReset, Notice, Position, Role, Standing,
+    Before, Counts, Delivery, Founding, Info, Limits, NotReset, Notice, Position, Role, Standing,
+    StartError,
 };
+pub use next::{BadNextList, NextList};
 pub use seal::Key;
 pub use state::{next_life, StateError};
 pub use ticket::Ticket;

@@ -1,7 +1,8 @@
 //! What a member's thread and its callers share: commands in one direction, deliveries in the other.
 
-use crate::error::{End, ReceiveError, ResetError, SendError, ToldError};
+use crate::error::{End, ReceiveError, ResetError, SendError, SucceedError, ToldError};
 use crate::failures::FailuresInfo;
+use crate::next::NextList;
 use crate::slot::{lock, wait_until, Slot};
 use crate::socket::Bell;
 use muoswyld::names::Name;
@@ -15,6 +16,8 @@ use std::time::Instant;
 pub(crate) type Sent = Result<Position, SendError>;
 /// What becomes of a reset: the number of the new view.
 pub(crate) type Reset = Result<u32, ResetError>;
+/// What becomes of the end of a list: where it ended, or none where that isn't waited for.
+pub(crate) type Succeeded = Result<Option<Position>, SucceedError>;
 /// What becomes of a word that a name has stopped.
 pub(crate) type Told = Result<(), ToldError>;
 
@@ -33,16 +36,35 @@ pub(crate) enum Command {
         resilience: Option<u8>,
         slot: Arc<Slot<Reset>>,
     },
-    /// This name has stopped for certain.
-    Stopped { name: Name, slot: Arc<Slot<Told>> },
+    /// This name has stopped for certain: of the latest list, or of the one of a generation.
+    Stopped {
+        name: Name,
+        generation: Option<u32>,
+        slot: Arc<Slot<Told>>,
+    },
     /// Tells how the member stands.
     Info(Arc<Slot<Info>>),
     /// Tells who is suspected, refused and given up.
     Failures(Arc<Slot<FailuresInfo>>),
-    /// The voter's file with this number is on disk; None: it can't be written.
-    Written(Option<u64>),
-    /// What became of a fence.
-    Fenced { name: Name, done: bool },
+    /// The voter's file of a list is on disk, with this number; None: it can't be written.
+    Written {
+        generation: u32,
+        number: Option<u64>,
+    },
+    /// That the list of a generation begins here is on disk, or can't be written.
+    Begun { generation: u32, done: bool },
+    /// What became of a fence of a list's name.
+    Fenced {
+        generation: u32,
+        name: Name,
+        done: bool,
+    },
+    /// Ends the list, and has another one follow it; once that is done, or at once where only that is asked for.
+    Succeed {
+        next: NextList,
+        waits: bool,
+        slot: Arc<Slot<Succeeded>>,
+    },
     /// Ends the member without leaving.
     Stop,
 }
@@ -76,6 +98,11 @@ impl Commands {
         let next = self.in_order.front();
         !self.urgent.is_empty() || next.is_some_and(|next| next.cost() <= room)
     }
+}
+
+/// Whether a delivery takes room at the member: the end of a list doesn't.
+pub(crate) fn is_counted(delivery: &Delivery) -> bool {
+    !matches!(delivery, Delivery::Succeeded { .. })
 }
 
 /// Where the member's thread is not: what its callers see.
@@ -156,7 +183,7 @@ impl Shared {
         loop {
             if let Some(delivery) = deliveries.pop_front() {
                 drop(deliveries);
-                self.count_received(1);
+                self.count_received(usize::from(is_counted(&delivery)));
                 return Ok(delivery);
             }
             if let Some(end) = self.ended.look() {
@@ -176,8 +203,8 @@ impl Shared {
         match (received.len(), self.ended.look()) {
             (0, Some(end)) => Err(ReceiveError::Ended(end)),
             (0, None) => Ok(received),
-            (count, _) => {
-                self.count_received(count);
+            (_, _) => {
+                self.count_received(received.iter().filter(|it| is_counted(it)).count());
                 Ok(received)
             }
         }

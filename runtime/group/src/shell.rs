@@ -3,27 +3,29 @@
 
 mod guarding;
 mod starting;
+mod succeeding;
 
 use crate::asking;
 use crate::clock::Clock;
 use crate::config::{Callback, Config};
-use crate::error::{CreateError, End, ResetError, SendError, ToldError};
+use crate::error::{CreateError, End, ResetError, SendError, SucceedError, ToldError};
 use crate::fencing::Fencing;
 use crate::seal::Seal;
-use crate::shared::{Command, Reset, Sent, Shared, Told};
+use crate::shared::{is_counted, Command, Reset, Sent, Shared};
 use crate::slot::Slot;
 use crate::socket::Udp;
 use muoswyld::names::{Name, Names};
 use muoswyld_guarded::Guarded;
 use muoswyld_member::{
-    Delivery, HandleError, Info, Input, NotReset, Notice, Output, Position, Time, Unsent,
+    Counts, Delivery, HandleError, Info, Input, NotReset, Notice, Output, Position, Released,
+    Successor, Time, Unsent,
 };
-use std::collections::HashMap;
+use std::collections::{BTreeMap, HashMap};
 use std::fs::File;
-use std::io::Write;
 use std::sync::Arc;
 use std::thread::JoinHandle;
 use std::time::{Duration, Instant};
+use succeeding::Ender;
 
 /// How many batches of datagrams are read before anything else is done: what comes faster is lost, and stops nothing.
 const MOST_BATCHES: usize = 6;
@@ -38,20 +40,32 @@ enum Waiter {
 struct Shell {
     member: Guarded,
     fencing: Fencing,
-    founders: Names,
+    /// What the member was started with, but for the founding, the voters and the list: these are of the latest list.
+    config: Config,
     /// What is told to whoever asks how the group was founded.
     known: String,
+    /// What follows the latest list, once that has ended.
+    successor: Option<Successor>,
+    /// Who waits for the end of the list.
+    enders: Vec<Ender>,
+    /// The members of ended lists at their ends, the last ones.
+    ended: BTreeMap<u32, Names>,
+    /// What was counted in ended lists.
+    counts: Counts,
+    /// Words that names have stopped, of lists to which this member hasn't come.
+    told_early: Vec<(u32, Name)>,
     udp: Udp,
     seal: Seal,
     shared: Arc<Shared>,
     clock: Clock,
     waiters: HashMap<u64, Waiter>,
     tickets: u64,
-    journal: Option<File>,
+    /// The journals of the lists that are served, if they are kept.
+    journals: BTreeMap<u32, File>,
     on_notice: Option<Callback<Notice>>,
     on_delivery: Option<Callback<Delivery>>,
     on_arrival: Option<Callback<()>>,
-    outputs: Vec<Output>,
+    outputs: Vec<Released>,
     deliveries: Vec<Delivery>,
     commands: Vec<Command>,
     datagram: Vec<u8>,
@@ -93,18 +107,25 @@ pub(crate) fn start(config: Config) -> Result<(Arc<Shared>, JoinHandle<()>), Cre
                     let mut shell = Shell {
                         member,
                         fencing,
-                        founders: config.founding.founders,
                         known: asking::known(&config),
+                        successor: None,
+                        enders: Vec::new(),
+                        ended: BTreeMap::new(),
+                        counts: Counts::default(),
+                        told_early: Vec::new(),
                         udp,
                         seal,
                         shared: callers,
                         clock,
                         waiters: HashMap::new(),
                         tickets: 0,
-                        journal,
-                        on_notice: config.on_notice,
-                        on_delivery: config.on_delivery,
-                        on_arrival: config.on_arrival,
+                        journals: journal
+                            .map(|file| (config.generation(), file))
+                            .into_iter()
+                            .collect(),
+                        on_notice: config.on_notice.clone(),
+                        on_delivery: config.on_delivery.clone(),
+                        on_arrival: config.on_arrival.clone(),
                         outputs: Vec::new(),
                         deliveries: Vec::new(),
                         commands: Vec::new(),
@@ -114,6 +135,7 @@ pub(crate) fn start(config: Config) -> Result<(Arc<Shared>, JoinHandle<()>), Cre
                         unsealed: [0; 16],
                         spin: config.spin,
                         busy: Instant::now(),
+                        config,
                     };
                     let end = shell.run();
                     shell.close(&end);
@@ -228,7 +250,13 @@ impl Shell {
     /// Tells a place how the group was founded.
     fn answer(&mut self, place: u8, nonce: asking::Nonce) {
         let info = self.info();
-        let answer = asking::answer(&self.known, self.founders, &info, place, nonce);
+        let answer = asking::answer(
+            &self.known,
+            self.config.founding.founders,
+            &info,
+            place,
+            nonce,
+        );
         if self.seal.seal(&answer, &mut self.datagram) {
             self.udp.push(&self.datagram, std::iter::once(place));
         }
@@ -237,6 +265,7 @@ impl Shell {
     /// How the member stands, with what its network dropped.
     fn info(&self) -> Info {
         let mut info = self.member.info();
+        info.counts = info.counts.plus(&self.counts);
         info.counts.dropped = self.dropped;
         info
     }
@@ -257,13 +286,25 @@ impl Shell {
             match command {
                 Command::Send { message, slot } => self.send(message, slot),
                 Command::Leave => self.handle(Input::Leave),
-                Command::Stopped { name, slot } => slot.fill(self.stopped(name)),
+                Command::Stopped {
+                    name,
+                    generation,
+                    slot,
+                } => slot.fill(self.stopped(name, generation)),
                 Command::Info(slot) => slot.fill(self.info()),
                 Command::Failures(slot) => slot.fill(self.failures()),
-                Command::Written(number) => self.member.written(self.clock.now(), number),
-                Command::Fenced { name, done } => {
-                    self.member.fenced(self.clock.now(), name, done);
+                Command::Written { generation, number } => {
+                    self.member.written(self.clock.now(), generation, number);
                 }
+                Command::Begun { generation, done } => self.begun(generation, done),
+                Command::Fenced {
+                    generation,
+                    name,
+                    done,
+                } => {
+                    self.member.fenced(self.clock.now(), generation, name, done);
+                }
+                Command::Succeed { next, waits, slot } => self.succeed(next, waits, slot),
                 Command::Stop => end = Some(End::Stopped),
                 Command::Reset {
                     least,
@@ -311,14 +352,6 @@ impl Shell {
         }
     }
 
-    fn stopped(&mut self, name: Name) -> Told {
-        match self.member.told(self.now(), name) {
-            Err(HandleError::Itself) => Err(ToldError::Itself),
-            // nothing else is refused while the member runs
-            _ => Ok(()),
-        }
-    }
-
     /// Lets out what came of all that, or holds it: all or nothing. The end, if the member has ended.
     fn let_out(&mut self) -> Option<End> {
         self.member.fix(self.now());
@@ -346,10 +379,10 @@ impl Shell {
         let mut outputs = std::mem::take(&mut self.outputs);
         self.member.batch(self.now(), &mut outputs);
         let mut end = None;
-        for output in outputs.drain(..) {
+        for Released { generation, output } in outputs.drain(..) {
             match output {
                 Output::Journal(line) => {
-                    if let Err(error) = self.write(&line) {
+                    if let Err(error) = self.write(generation, &line) {
                         return Some(End::Failed(format!(
                             "the journal can't be written: {error}"
                         )));
@@ -365,8 +398,13 @@ impl Shell {
                 Output::ResetDone { ticket, result } => {
                     self.was_reset(ticket, result.map_err(ResetError::NotReset));
                 }
-                Output::Told(notice) => self.tell(notice),
-                Output::Succeeded(_) => end = Some(End::Superseded),
+                Output::Told(notice) => {
+                    self.tell(notice);
+                    if notice == Notice::NotSucceeded {
+                        self.not_succeeded();
+                    }
+                }
+                Output::Succeeded(next) => self.succeeded(generation, next),
                 Output::Ended(ended) => end = Some(ended.into()),
             }
         }
@@ -390,8 +428,8 @@ impl Shell {
     fn deliver(&mut self, delivery: Delivery) {
         match &self.on_delivery {
             Some(call) => {
+                self.consumed += usize::from(is_counted(&delivery));
                 (call.0)(delivery);
-                self.consumed += 1;
             }
             None => self.deliveries.push(delivery),
         }
@@ -401,13 +439,6 @@ impl Shell {
         match &self.on_notice {
             Some(call) => (call.0)(notice),
             None => tracing::warn!("{notice}"),
-        }
-    }
-
-    fn write(&mut self, line: &[u8]) -> std::io::Result<()> {
-        match &mut self.journal {
-            Some(file) => file.write_all(line),
-            None => Ok(()),
         }
     }
 
@@ -445,12 +476,10 @@ impl Shell {
 
     /// Ends the journal of a member that its caller stopped, and tells all who wait that the member has ended.
     fn close(&mut self, end: &End) {
-        if *end == End::Stopped {
-            // the line that tells this end from a crash
-            if let Err(error) = self.write(b"end\n") {
-                tracing::error!("the journal's end can't be written: {error}");
-            }
+        if !matches!(end, End::Failed(_)) {
+            self.end_journals(*end == End::Stopped);
         }
+        self.close_enders(end);
         self.shared.deliver(&mut self.deliveries);
         let left = self.shared.close(end);
         for command in left {
@@ -460,7 +489,12 @@ impl Shell {
                 Command::Info(slot) => slot.fill(self.info()),
                 Command::Failures(slot) => slot.fill(self.failures()),
                 Command::Stopped { slot, .. } => slot.fill(Err(ToldError::Ended(end.clone()))),
-                Command::Leave | Command::Stop | Command::Written(_) | Command::Fenced { .. } => {}
+                Command::Succeed { slot, .. } => slot.fill(Err(SucceedError::Ended(end.clone()))),
+                Command::Leave
+                | Command::Stop
+                | Command::Written { .. }
+                | Command::Begun { .. }
+                | Command::Fenced { .. } => {}
             }
         }
         for (_, waiter) in self.waiters.drain() {

@@ -1,10 +1,17 @@
-//! A place's folder of state: its lock, the last life that was begun, and its voter's file.
+//! A place's folder of state: its lock, and for each list of the group that it serves the last life that was begun, and its voter's file.
 //!
 //! What is written is written beside the old file, synced, and renamed, and the folder is synced: so a file is the old one or the new
 //! one, whenever the machine stops. The disk is a local one.
+//!
+//! The files of a group's first list are `life` and `voter`, those of the list of generation 2 are `life.2` and `voter.2`. A folder of an
+//! earlier version of this program has the first two alone. A life's file of a later list says which list that is, too; it is written after
+//! the voter's file, and a list was begun if it is there. The files of an ended list are removed once the place doesn't serve it any more.
 
+use crate::later::LaterList;
+use crate::life::{file_of, generation_of, line_of, Begun, LIFE};
 use muoswyld::names::Name;
 use muoswyld_failures::new_file;
+use std::collections::BTreeMap;
 use std::fs::{self, DirBuilder, File, OpenOptions};
 use std::io::{self, ErrorKind, Read, Write};
 use std::os::fd::AsRawFd;
@@ -13,7 +20,6 @@ use std::path::{Path, PathBuf};
 use thiserror::Error;
 
 const LOCK: &str = "lock";
-const LIFE: &str = "life";
 const VOTER: &str = "voter";
 /// How many bytes of a file are read: more than each of them has.
 const MOST_BYTES: u64 = 4096;
@@ -46,6 +52,16 @@ pub enum StateError {
         name: Name,
         /// The next one, or that there is none.
         next: String,
+    },
+    /// A list of the group was begun already that follows the one in which a life was to begin.
+    #[error(
+        "{folder} says that the list of generation {latest} was begun: --next-life begins there"
+    )]
+    Later {
+        /// The folder.
+        folder: PathBuf,
+        /// The latest list that was begun.
+        latest: u32,
     },
     /// A file isn't what was written.
     #[error("{0} isn't what a member wrote: end the use of this folder, and take a life that was never begun")]
@@ -95,27 +111,31 @@ fn read(path: &Path) -> Result<Option<Vec<u8>>, StateError> {
     }
 }
 
-/// The line of a life's file: the place, and the last life that was begun, 0 if none was.
-fn line_of(place: u8, life: u8) -> String {
-    format!("place {place} life {life}\n")
-}
-
-/// The place and the life of such a line.
-fn of_line(text: &str) -> Option<(u8, u8)> {
-    let rest = text.strip_prefix("place ")?.strip_suffix('\n')?;
-    let (place, life) = rest.split_once(" life ")?;
-    let (place, life) = (place.parse().ok()?, life.parse().ok()?);
-    (line_of(place, life) == text && place < 16 && life <= 16).then_some((place, life))
-}
-
 /// A place's folder of state. While this value lives no other process has it.
 #[derive(Debug)]
 pub(crate) struct State {
     folder: PathBuf,
     place: u8,
-    life: u8,
+    /// The lists that were begun and not closed, one at least.
+    lists: BTreeMap<u32, Begun>,
     /// It holds the lock, which goes with the process however that ends.
     _lock: File,
+}
+
+/// The lists whose lives' files are in a folder.
+fn generations_in(folder: &Path) -> Result<Vec<u32>, StateError> {
+    let mut found = Vec::new();
+    let entries = match fs::read_dir(folder) {
+        Ok(entries) => entries,
+        Err(error) if error.kind() == ErrorKind::NotFound => return Ok(found),
+        Err(error) => return Err(cannot(folder)(error)),
+    };
+    for entry in entries {
+        let name = entry.map_err(cannot(folder))?.file_name();
+        found.extend(name.to_str().and_then(generation_of));
+    }
+    found.sort_unstable();
+    Ok(found)
 }
 
 impl State {
@@ -128,7 +148,7 @@ impl State {
     ) -> Result<(), StateError> {
         let made = DirBuilder::new().recursive(true).mode(0o700).create(folder);
         made.map_err(cannot(folder))?;
-        if folder.join(LIFE).exists() || folder.join(VOTER).exists() {
+        if !generations_in(folder)?.is_empty() || folder.join(VOTER).exists() {
             return Err(StateError::There(folder.to_path_buf()));
         }
         if let Some(id) = voter.filter(|_| name.life() == 1) {
@@ -144,8 +164,8 @@ impl State {
 
     /// Takes a place's folder, which no other process has.
     pub(crate) fn take(folder: &Path, place: u8) -> Result<State, StateError> {
-        let (life, path) = (folder.join(LIFE), folder.join(LOCK));
-        if !life.exists() {
+        let path = folder.join(LOCK);
+        if generations_in(folder)?.is_empty() {
             return Err(StateError::None(folder.to_path_buf()));
         }
         let mut options = OpenOptions::new();
@@ -160,65 +180,148 @@ impl State {
                 _ => cannot(&path)(error),
             });
         }
-        let bytes = read(&life)?.unwrap_or_default();
-        let text = String::from_utf8_lossy(&bytes);
-        let (its, begun) = of_line(&text).ok_or(StateError::Spoilt(life))?;
-        if its != place {
-            return Err(StateError::OtherPlace {
-                folder: folder.to_path_buf(),
-                place: its,
-            });
+        let mut lists = BTreeMap::new();
+        // read once no other process writes them
+        for generation in generations_in(folder)? {
+            let path = folder.join(file_of(LIFE, generation));
+            let bytes = read(&path)?.unwrap_or_default();
+            let begun = Begun::of(&bytes, generation).ok_or(StateError::Spoilt(path))?;
+            if begun.place != place {
+                return Err(StateError::OtherPlace {
+                    folder: folder.to_path_buf(),
+                    place: begun.place,
+                });
+            }
+            lists.insert(generation, begun);
+        }
+        if lists.is_empty() {
+            return Err(StateError::None(folder.to_path_buf()));
         }
         Ok(State {
             folder: folder.to_path_buf(),
             place,
-            life: begun,
+            lists,
             _lock: lock,
         })
     }
 
-    /// The place's next life; None after life 16.
-    pub(crate) fn next(&self) -> Option<Name> {
-        Name::new(self.place, self.life + 1)
+    /// How many lists came before the latest one that was begun here.
+    pub(crate) fn generation(&self) -> u32 {
+        self.lists.keys().next_back().copied().unwrap_or(0)
     }
 
-    /// Begins a life that was never begun: that is on disk before this returns.
-    pub(crate) fn begin(&mut self, name: Name) -> Result<(), StateError> {
-        if name.life() <= self.life {
-            let next = self.next().map_or("none".into(), |next| next.to_string());
+    /// The latest list that was begun here; None if that is the group's first one.
+    pub(crate) fn list(&self) -> Option<LaterList> {
+        self.lists.get(&self.generation()).and_then(|it| it.list)
+    }
+
+    /// The place's next life in a list; None after life 16.
+    pub(crate) fn next(&self, generation: u32) -> Option<Name> {
+        let last = self.lists.get(&generation).map_or(0, |it| it.life);
+        Name::new(self.place, last + 1)
+    }
+
+    /// Begins a life that was never begun, in a list: that is on disk before this returns. A list that follows the latest one that was begun
+    /// here is begun by this; the place doesn't vote there.
+    pub(crate) fn begin(&mut self, name: Name, list: Option<&LaterList>) -> Result<(), StateError> {
+        let generation = list.map_or(0, |list| list.generation);
+        let latest = self.generation();
+        if generation < latest {
+            let folder = self.folder.clone();
+            return Err(StateError::Later { folder, latest });
+        }
+        let last = self.lists.get(&generation).map_or(0, |it| it.life);
+        if name.life() <= last {
+            let next = self.next(generation);
+            let next = next.map_or("none".into(), |next| next.to_string());
             return Err(StateError::Begun { name, next });
         }
-        let line = line_of(self.place, name.life());
-        let path = self.folder.join(LIFE);
-        replace(&self.folder, LIFE, line.as_bytes()).map_err(cannot(&path))?;
-        self.life = name.life();
+        if generation > latest {
+            // one that was written, and its list not begun
+            self.remove(VOTER, generation)?;
+        }
+        let begun = Begun {
+            place: self.place,
+            life: name.life(),
+            list: list.copied(),
+        };
+        self.write(&begun)?;
+        self.lists.insert(generation, begun);
+        // a process that begins serves no earlier list
+        while let Some((&earlier, _)) = self.lists.range(..generation).next() {
+            self.close(earlier)?;
+            self.lists.remove(&earlier);
+        }
         Ok(())
     }
 
-    /// The bytes of the voter's file, if there is one.
-    pub(crate) fn voter(&self) -> Result<Option<Vec<u8>>, StateError> {
-        read(&self.folder.join(VOTER))
+    /// Begins the next list with the first life of the place, and with its voter's file if it votes there: both are on disk before this
+    /// returns.
+    pub(crate) fn succeed(&self, list: &LaterList, voter: Option<&[u8]>) -> Result<(), StateError> {
+        match voter {
+            Some(bytes) => {
+                let path = self.folder.join(file_of(VOTER, list.generation));
+                let written = self.write_voter(list.generation, bytes);
+                written.map_err(cannot(&path))?;
+            }
+            None => self.remove(VOTER, list.generation)?,
+        }
+        self.write(&Begun {
+            place: self.place,
+            life: 1,
+            list: Some(*list),
+        })
     }
 
-    /// Writes the voter's file: it is on disk, and the folder's entry too, before this returns.
-    pub(crate) fn write_voter(&self, bytes: &[u8]) -> io::Result<()> {
-        replace(&self.folder, VOTER, bytes)
+    fn write(&self, begun: &Begun) -> Result<(), StateError> {
+        let file = file_of(LIFE, begun.list.map_or(0, |list| list.generation));
+        let path = self.folder.join(&file);
+        replace(&self.folder, &file, begun.text().as_bytes()).map_err(cannot(&path))
+    }
+
+    fn remove(&self, kind: &str, generation: u32) -> Result<(), StateError> {
+        let path = self.folder.join(file_of(kind, generation));
+        match fs::remove_file(&path) {
+            Ok(()) => sync_folder(&self.folder).map_err(cannot(&self.folder)),
+            Err(error) if error.kind() == ErrorKind::NotFound => Ok(()),
+            Err(error) => Err(cannot(&path)(error)),
+        }
+    }
+
+    /// Removes the files of a list that the place doesn't serve any more. A later one was begun.
+    pub(crate) fn close(&self, generation: u32) -> Result<(), StateError> {
+        self.remove(VOTER, generation)?;
+        self.remove(LIFE, generation)
+    }
+
+    /// The bytes of the voter's file of a list, if there is one.
+    pub(crate) fn voter(&self, generation: u32) -> Result<Option<Vec<u8>>, StateError> {
+        read(&self.folder.join(file_of(VOTER, generation)))
+    }
+
+    /// Writes the voter's file of a list: it is on disk, and the folder's entry too, before this returns.
+    pub(crate) fn write_voter(&self, generation: u32, bytes: &[u8]) -> io::Result<()> {
+        replace(&self.folder, &file_of(VOTER, generation), bytes)
     }
 }
 
-/// The next life of a place that has this folder of state: one that was never begun. It is an error if it has none left.
-pub fn next_life(folder: &Path, place: u8) -> Result<Name, StateError> {
+/// The next life of a place that has this folder of state, one that was never begun, and the list in which that is; None if it is the group's
+/// first one. It is an error if the place has no life left there.
+pub fn next_life(folder: &Path, place: u8) -> Result<(Name, Option<LaterList>), StateError> {
     let state = State::take(folder, place)?;
-    let last = Name::new(place, state.life);
-    state.next().ok_or_else(|| StateError::Begun {
-        name: last.unwrap_or(Name::of_byte(place)),
+    let generation = state.generation();
+    let last = state.lists.get(&generation).map_or(0, |it| it.life);
+    let next = state.next(generation).ok_or_else(|| StateError::Begun {
+        name: Name::new(place, last).unwrap_or(Name::of_byte(place)),
         next: "none".into(),
-    })
+    })?;
+    Ok((next, state.list()))
 }
 
 #[cfg(test)]
 mod tests {
     use super::*;
+    use crate::later::list;
 
     struct Folder(PathBuf);
 
@@ -252,17 +355,17 @@ mod tests {
             State::make(&folder.0, name("2"), None),
             Err(StateError::There(_))
         ));
-        assert_eq!(next_life(&folder.0, 2).unwrap(), name("2"));
+        assert_eq!(next_life(&folder.0, 2).unwrap(), (name("2"), None));
         let mut state = State::take(&folder.0, 2).unwrap();
-        assert_eq!(state.voter().unwrap().unwrap(), new_file([7; 16], 2));
-        state.begin(name("2")).unwrap();
-        let again = state.begin(name("2")).unwrap_err();
+        assert_eq!(state.voter(0).unwrap().unwrap(), new_file([7; 16], 2));
+        state.begin(name("2"), None).unwrap();
+        let again = state.begin(name("2"), None).unwrap_err();
         assert!(again.to_string().contains("the next one is 2/2"), "{again}");
         drop(state);
         let mut later = State::take(&folder.0, 2).unwrap();
-        assert!(later.begin(name("2")).is_err());
-        later.begin(name("2/16")).unwrap();
-        assert!(later.begin(name("2/16")).is_err());
+        assert!(later.begin(name("2"), None).is_err());
+        later.begin(name("2/16"), None).unwrap();
+        assert!(later.begin(name("2/16"), None).is_err());
         drop(later);
         assert!(next_life(&folder.0, 2).is_err());
     }
@@ -287,9 +390,9 @@ mod tests {
         let folder = Folder::new("disk");
         State::make(&folder.0, name("0/3"), Some([7; 16])).unwrap();
         let mut state = State::take(&folder.0, 0).unwrap();
-        assert_eq!(state.voter().unwrap(), None);
-        assert!(state.begin(name("0/2")).is_err());
-        state.begin(name("0/3")).unwrap();
+        assert_eq!(state.voter(0).unwrap(), None);
+        assert!(state.begin(name("0/2"), None).is_err());
+        state.begin(name("0/3"), None).unwrap();
     }
 
     #[test]
@@ -314,8 +417,89 @@ mod tests {
         let folder = Folder::new("voter");
         State::make(&folder.0, name("0"), Some([1; 16])).unwrap();
         let state = State::take(&folder.0, 0).unwrap();
-        state.write_voter(b"other").unwrap();
-        assert_eq!(state.voter().unwrap().unwrap(), b"other");
+        state.write_voter(0, b"other").unwrap();
+        assert_eq!(state.voter(0).unwrap().unwrap(), b"other");
         assert!(!folder.0.join("voter.new").exists());
+    }
+
+    #[test]
+    fn the_next_list_begins_beside_the_one_that_ends() {
+        let folder = Folder::new("lists");
+        State::make(&folder.0, name("1"), Some([1; 16])).unwrap();
+        let mut state = State::take(&folder.0, 1).unwrap();
+        state.begin(name("1"), None).unwrap();
+        state.succeed(&list(1), Some(b"voter of 1")).unwrap();
+        assert_eq!(state.voter(0).unwrap().unwrap(), new_file([1; 16], 1));
+        assert_eq!(state.voter(1).unwrap().unwrap(), b"voter of 1");
+        state.write_voter(1, b"more of 1").unwrap();
+        drop(state);
+        // a place that comes back begins in the latest one
+        let state = State::take(&folder.0, 1).unwrap();
+        assert_eq!((state.generation(), state.list()), (1, Some(list(1))));
+        assert_eq!(state.voter(1).unwrap().unwrap(), b"more of 1");
+        drop(state);
+        let next = next_life(&folder.0, 1).unwrap();
+        assert_eq!(next, (name("1/2"), Some(list(1))));
+        let mut state = State::take(&folder.0, 1).unwrap();
+        let old = state.begin(name("1/2"), None).unwrap_err();
+        assert!(matches!(old, StateError::Later { latest: 1, .. }), "{old}");
+        let again = state.begin(name("1"), Some(&list(1))).unwrap_err();
+        assert!(matches!(again, StateError::Begun { .. }), "{again}");
+        state.begin(name("1/2"), Some(&list(1))).unwrap();
+        assert_eq!(state.voter(1).unwrap().unwrap(), b"more of 1");
+        assert_eq!(state.voter(0).unwrap(), None);
+        // its peers know a later one, in which it doesn't vote
+        state.write_voter(3, b"of no list").unwrap();
+        state.begin(name("1/4"), Some(&list(3))).unwrap();
+        assert_eq!(state.voter(3).unwrap(), None);
+        drop(state);
+        let names = fs::read_dir(&folder.0).unwrap();
+        let mut names: Vec<_> = names.map(|entry| entry.unwrap().file_name()).collect();
+        names.sort();
+        assert_eq!(names, ["life.3", "lock"]);
+        let next = next_life(&folder.0, 1).unwrap();
+        assert_eq!(next, (name("1/5"), Some(list(3))));
+        let made = State::make(&folder.0, name("1"), None);
+        assert!(matches!(made, Err(StateError::There(_))));
+    }
+
+    #[test]
+    fn a_list_that_was_not_written_whole_did_not_begin() {
+        let folder = Folder::new("cut");
+        State::make(&folder.0, name("1"), None).unwrap();
+        let mut state = State::take(&folder.0, 1).unwrap();
+        state.begin(name("1"), None).unwrap();
+        // the machine stopped after the voter's file
+        state.write_voter(1, b"voter").unwrap();
+        fs::write(folder.0.join("life.1.new"), "place 1").unwrap();
+        drop(state);
+        let next = next_life(&folder.0, 1).unwrap();
+        assert_eq!(next, (name("1/2"), None));
+    }
+
+    #[test]
+    fn each_byte_of_a_later_lists_file_counts() {
+        let folder = Folder::new("bytes");
+        State::make(&folder.0, name("1"), None).unwrap();
+        let state = State::take(&folder.0, 1).unwrap();
+        state.succeed(&list(2), None).unwrap();
+        drop(state);
+        let path = folder.0.join("life.2");
+        let bytes = fs::read(&path).unwrap();
+        for at in 0..bytes.len() {
+            let mut other = bytes.clone();
+            other[at] ^= 1;
+            fs::write(&path, &other).unwrap();
+            let taken = State::take(&folder.0, 1);
+            assert!(matches!(taken, Err(StateError::Spoilt(_))), "byte {at}");
+            fs::write(&path, &bytes[..at]).unwrap();
+            let taken = State::take(&folder.0, 1);
+            assert!(matches!(taken, Err(StateError::Spoilt(_))), "cut at {at}");
+        }
+        // another list's file by another name
+        fs::write(folder.0.join("life.3"), &bytes).unwrap();
+        fs::write(&path, &bytes).unwrap();
+        let taken = State::take(&folder.0, 1);
+        assert!(matches!(taken, Err(StateError::Spoilt(_))));
     }
 }

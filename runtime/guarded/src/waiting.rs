@@ -21,6 +21,34 @@ pub(crate) enum Late {
     Stopped(Name),
 }
 
+impl Late {
+    /// The input.
+    pub(crate) fn input(&self) -> Input<'_> {
+        match self {
+            Late::Datagram(payload) => Input::Datagram(payload),
+            Late::Leave => Input::Leave,
+            Late::Stopped(name) => Input::Stopped(*name),
+            Late::Reset {
+                ticket,
+                least,
+                resilience,
+            } => Input::Reset {
+                ticket: *ticket,
+                least: *least,
+                resilience: *resilience,
+            },
+        }
+    }
+
+    /// The ticket of a reset.
+    pub(crate) fn ticket(&self) -> Option<u64> {
+        match self {
+            Late::Reset { ticket, .. } => Some(*ticket),
+            Late::Datagram(_) | Late::Leave | Late::Stopped(_) => None,
+        }
+    }
+}
+
 /// Inputs that wait, in their order.
 #[derive(Debug, Default)]
 pub(crate) struct Waiting {
@@ -72,6 +100,20 @@ impl Waiting {
             self.bytes += more;
             self.late.push_back(Late::Datagram(payload.into()));
         }
+    }
+
+    /// Takes out what callers ask for: leaves and resets.
+    pub(crate) fn take_calls(&mut self) -> Vec<Late> {
+        let is_call = |late: &Late| matches!(late, Late::Leave | Late::Reset { .. });
+        let late = std::mem::take(&mut self.late);
+        let (calls, rest): (VecDeque<Late>, VecDeque<Late>) = late.into_iter().partition(is_call);
+        self.late = rest;
+        calls.into()
+    }
+
+    /// Adds what waited somewhere else.
+    pub(crate) fn add(&mut self, calls: Vec<Late>) {
+        self.late.extend(calls);
     }
 
     /// The next one.

@@ -3,9 +3,9 @@
 use muoswyld_failures::{
     new_file, places_of, Failures, Policy, Settings as Core, Time as CoreTime,
 };
-use muoswyld_guarded::{Deed, Guarded};
+use muoswyld_guarded::{next_id, Deed, Ending, Guarded};
 use muoswyld_member::{
-    Delivery, Founding, HandleError, Input, Member, Name, Output, Settings, Time,
+    Delivery, Founding, Generations, HandleError, Input, Name, Next, Output, Settings, Time,
 };
 
 const ID: [u8; 16] = [4; 16];
@@ -19,12 +19,12 @@ fn guarded(place: u8, policy: Policy) -> Guarded {
         pb_up_to: 1024,
     };
     let settings = Settings::new(name, founding, u64::from(place) + 1);
-    let member = Member::new(settings.clone(), Time(0)).expect("a member");
+    let lists = Generations::new(settings.clone(), Time(0)).expect("a member");
     let own = muoswyld_failures::Name::first(place);
     let core = Core::new(ID, own, settings.process, places_of(0..3), policy);
     let file = new_file(ID, place);
     let failures = Failures::new(core, Some(&file), CoreTime(0)).expect("settings");
-    Guarded::new(member, failures, &settings)
+    Guarded::new(lists, failures, &settings)
 }
 
 /// What a turn of one brought: datagrams with their places, and whether the batch went out.
@@ -33,7 +33,7 @@ fn turn(one: &mut Guarded, now: Time) -> (Vec<(u16, Vec<u8>)>, Vec<Output>) {
     one.fix(now);
     let mut sent = Vec::new();
     for deed in one.deeds(now) {
-        if let Deed::Send { to, payload } = deed {
+        if let Deed::Send { to, payload, .. } = deed {
             sent.push((to, payload));
         }
     }
@@ -42,6 +42,7 @@ fn turn(one: &mut Guarded, now: Time) -> (Vec<(u16, Vec<u8>)>, Vec<Output>) {
         one.batch(now, &mut out);
         one.emitted(now);
     }
+    let out: Vec<Output> = out.into_iter().map(|released| released.output).collect();
     for output in &out {
         if let Output::Datagram { to, payload } = output {
             let places = to.iter().fold(0, |all, name| all | 1 << name.place());
@@ -128,4 +129,152 @@ fn a_batch_is_held_until_it_is_echoed_and_nobody_is_told_of_it() {
             index: 0
         }),
     }));
+}
+
+// ---- lists that follow one another
+
+/// A turn of one in which deeds are noted, too; a list that is to begin isn't answered.
+fn deeds_of(one: &mut Guarded, now: Time) -> Vec<Deed> {
+    one.tick(now);
+    one.fix(now);
+    let deeds = one.deeds(now);
+    let mut out = Vec::new();
+    if one.look(now) {
+        one.batch(now, &mut out);
+        one.emitted(now);
+    }
+    deeds
+}
+
+fn next_list(voters: Option<&str>) -> Next {
+    Next {
+        resilience: 1,
+        window: 32,
+        pb_up_to: 512,
+        voters: voters.map(|names| names.parse().expect("names")),
+    }
+}
+
+/// All turn and hear each other; what each was asked to begin.
+fn begins(all: &mut [Guarded], (from, to): (u64, u64)) -> Vec<Vec<Deed>> {
+    let mut begun: Vec<Vec<Deed>> = all.iter().map(|_| Vec::new()).collect();
+    for step in from..to {
+        let now = Time(step * 1_000);
+        for place in 0..all.len() {
+            let one = &mut all[place];
+            one.tick(now);
+            one.fix(now);
+            let mut sent = Vec::new();
+            for deed in one.deeds(now) {
+                match deed {
+                    Deed::Send { to, payload, .. } => sent.push((to, payload)),
+                    deed @ (Deed::Begin { .. } | Deed::Closed { .. }) => begun[place].push(deed),
+                    _ => {}
+                }
+            }
+            let mut out = Vec::new();
+            if one.look(now) {
+                one.batch(now, &mut out);
+                one.emitted(now);
+            }
+            for released in out {
+                if let Output::Datagram { to, payload } = released.output {
+                    let places = to.iter().fold(0, |all, name| all | 1 << name.place());
+                    sent.push((places, payload));
+                }
+            }
+            for (places, payload) in sent {
+                for other in (0..all.len()).filter(|other| places >> other & 1 == 1) {
+                    if other != place {
+                        all[other].hear(now, &payload);
+                    }
+                }
+            }
+        }
+    }
+    begun
+}
+
+#[test]
+fn the_next_list_begins_once_that_is_on_disk_with_voters_of_its_own() {
+    let mut all = three(Policy::Echo);
+    let now = Time(400_000);
+    let voters = |names| Input::Succeed(next_list(Some(names)));
+    assert_eq!(
+        all[0].handle(now, voters("0,1")),
+        Err(HandleError::EvenVoters(2))
+    );
+    let four = Name::first(4).expect("a name");
+    assert_eq!(
+        all[0].handle(now, voters("4")),
+        Err(HandleError::Voter(four))
+    );
+    assert_eq!(all[0].handle(now, Input::Succeed(next_list(None))), Ok(()));
+    let begun = begins(&mut all, (401, 460));
+    for (place, (one, begun)) in all.iter_mut().zip(&begun).enumerate() {
+        let [Deed::Begin {
+            generation: 1,
+            group,
+            id,
+            name,
+            voter,
+        }] = begun.as_slice()
+        else {
+            panic!("{begun:?}");
+        };
+        assert_eq!(Some(*name), Name::first(place as u8));
+        assert_eq!(*id, next_id(ID, *group));
+        assert_eq!(*voter, Some(new_file(*id, place as u8)));
+        // nothing of the next list goes out, and nothing is taken for it
+        assert_eq!((one.generation(), one.free()), (0, 0));
+        let again = one.handle(Time(460_000), Input::Succeed(next_list(None)));
+        assert_eq!(again, Err(HandleError::NotNow));
+        one.begun(Time(460_000), 1, true);
+        assert_eq!(one.generation(), 1);
+    }
+    let closed = begins(&mut all, (461, 700));
+    for (one, closed) in all.iter().zip(closed) {
+        assert_eq!(closed, [Deed::Closed { generation: 0 }]);
+        let standing = one.info().standing;
+        assert_eq!((standing.members.len(), one.lists().ended_lists()), (3, 0));
+        assert_eq!(one.no_voter(), None);
+    }
+}
+
+#[test]
+fn a_life_whose_next_beginning_is_not_written_ends() {
+    let mut all = three(Policy::Echo);
+    let now = Time(400_000);
+    assert_eq!(all[0].handle(now, Input::Succeed(next_list(None))), Ok(()));
+    begins(&mut all, (401, 460));
+    all[2].begun(Time(460_000), 1, false);
+    let ended = Deed::Ended {
+        generation: 1,
+        why: Ending::NotBegun,
+    };
+    assert!(deeds_of(&mut all[2], Time(460_000)).contains(&ended));
+    assert!(!all[2].look(Time(461_000)));
+}
+
+#[test]
+fn a_word_holds_in_both_lists_and_a_silence_is_found_in_each() {
+    let mut all = three(Policy::Echo);
+    let now = Time(400_000);
+    assert_eq!(all[0].handle(now, Input::Succeed(next_list(None))), Ok(()));
+    begins(&mut all, (401, 460));
+    // 2 never begins the next list, so the old one is served
+    for one in &mut all[..2] {
+        one.begun(Time(460_000), 1, true);
+    }
+    let gone = Name::first(2).expect("a name");
+    assert_eq!(all[0].told(Time(461_000), gone), Ok(()));
+    let stopped: Vec<u32> = deeds_of(&mut all[0], Time(461_000))
+        .into_iter()
+        .filter_map(|deed| match deed {
+            Deed::Stopped { generation, name } if name == gone => Some(generation),
+            _ => None,
+        })
+        .collect();
+    // it is told in the latest one, and passed on
+    assert_eq!(stopped, [1, 0]);
 }

@@ -1,6 +1,6 @@
 //! What a judge finds: the first thing that isn't as it should be, with its file and line.
 
-use muoswyld::names::Name;
+use muoswyld::names::{Name, Names};
 use std::fmt;
 use std::path::PathBuf;
 
@@ -110,6 +110,58 @@ pub enum Cause {
         /// The number of the answer.
         number: u64,
     },
+    /// A list follows another one, of which there is no journal.
+    #[error("this list follows {0} others, and the one before it has no journal")]
+    NoListBefore(u32),
+    /// A list follows another one, in which no entry ended it.
+    #[error("this list follows one in which no entry that was taken ended it")]
+    NotEnded,
+    /// What is said of the list that follows isn't what the entry says that ended the list.
+    #[error(
+        "the journal has {has} as the {what}, and by the entry that ended the list it is {wanted}"
+    )]
+    OtherList {
+        /// What it is about.
+        what: &'static str,
+        /// What the journal says.
+        has: String,
+        /// What the entry says.
+        wanted: String,
+    },
+    /// The entry that ends a list names others than its members.
+    #[error(
+        "entry {number} ends the list, and says that its members are {said}; they are {members}"
+    )]
+    OtherMembers {
+        /// The entry.
+        number: u64,
+        /// The members that it names.
+        said: Names,
+        /// The members there.
+        members: Names,
+    },
+    /// A life says that its list ended, and took no entry that ended it.
+    #[error("the list is said to end, and no entry ended it before")]
+    NoEnd,
+    /// A life took the entry that ended its list, and didn't say so.
+    #[error("entry {0} ended the list before this, and the journal doesn't say which one follows")]
+    NoNext(u64),
+    /// The end of a list isn't where it was for another life.
+    #[error("entry {number} ended the list here, and for another life entry {other} did")]
+    OtherEnd {
+        /// The entry.
+        number: u64,
+        /// The other life's.
+        other: u64,
+    },
+    /// A journal comes after its list was judged to its end.
+    #[error("this journal comes after all lives of its list were over")]
+    Late,
+    /// A founder of a list didn't come to the end of the one before.
+    #[error(
+        "this list was begun, and the journal of {0} doesn't come to the end of the one before"
+    )]
+    NotThere(Name),
     /// `play` ended badly.
     #[error("play gives no text: {0}")]
     NoText(String),

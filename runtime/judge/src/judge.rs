@@ -1,14 +1,11 @@
-//! Judges the journals of a group.
+//! Judges the journals of a group: each of its lists by itself, and that each one follows the one before as that ended.
 
+use crate::court::Court;
 use crate::feed::Over;
 use crate::finding::{Cause, Finding};
-use crate::lawful::Watch;
-use crate::line::{Founding, Head};
-use crate::list::{List, Place};
-use crate::merge::{Life, Next, Reading};
-use crate::replay::{Needs, Step};
-use crate::script::{Script, MOST};
-use muoswyld::names::Name;
+use crate::line::Head;
+use crate::links::Past;
+use crate::merge::Reading;
 use std::collections::hash_map::RandomState;
 use std::collections::{BTreeMap, BTreeSet};
 use std::fs::{self, File};
@@ -22,6 +19,8 @@ const SCAN: Duration = Duration::from_millis(200);
 const TELL: Duration = Duration::from_secs(1);
 /// How long to wait where nothing can be judged yet.
 const PAUSE: Duration = Duration::from_millis(5);
+/// How many lists later a list that is over is judged to its end, while the members run: a joiner that was late may have begun in it.
+const KEPT: u32 = 4;
 /// What the names of journals in a folder have in them.
 const JOURNAL: &str = "journal";
 
@@ -39,18 +38,41 @@ pub struct Asked {
 /// What was judged.
 #[derive(Clone, Debug, Default, PartialEq, Eq)]
 pub struct Judged {
-    /// How many lives have a journal.
+    /// How many lists the group had: one, and one more for each end of a list.
+    pub lists: u64,
+    /// How many lives have a journal, in all lists.
     pub lives: u64,
     /// How many events they did, with stops and returns.
     pub events: u64,
     /// How many letters they sent.
     pub letters: u64,
-    /// How many entries of the one list were taken.
+    /// How many entries of the lists were taken.
     pub entries: u64,
-    /// The event from which on nothing but the answers is claimed.
+    /// The event from which on nothing but the answers is claimed, in the first list of which that is so.
     pub void_from: Option<u64>,
-    /// What `play` says, if it was asked: `lawful`, or `void from` an event.
+    /// How many lists came before that one.
+    pub void_in: u32,
+    /// What `play` says of that list, if it was asked of all: `lawful`, or `void from` an event.
     pub play: Option<String>,
+}
+
+impl Judged {
+    /// Adds another list to what was judged before it.
+    fn add(&mut self, generation: u32, other: &Judged) {
+        if self.lists == 0 || self.play.is_some() && other.play.is_none() {
+            self.play.clone_from(&other.play);
+        } else if self.play.is_some() && self.void_from.is_none() {
+            self.play.clone_from(&other.play);
+        }
+        if let (None, Some(event)) = (self.void_from, other.void_from) {
+            (self.void_from, self.void_in) = (Some(event), generation);
+        }
+        self.lists += other.lists;
+        self.lives += other.lives;
+        self.events += other.events;
+        self.letters += other.letters;
+        self.entries += other.entries;
+    }
 }
 
 /// Judges journals. `tell` is told what was judged so far, once a second.
@@ -59,56 +81,57 @@ pub struct Judged {
 ///
 /// The first thing that isn't as it should be.
 pub fn judge(asked: &Asked, tell: &mut dyn FnMut(&Judged)) -> Result<Judged, Finding> {
-    let mut court = Court::new(asked);
-    court.scan()?;
+    let mut bench = Bench::new(asked);
+    bench.scan()?;
     let mut told = Instant::now();
     let mut scanned = told;
     loop {
         let follows = !asked.over.is_set();
         if !follows {
-            court.close();
+            bench.close();
         }
-        let has_gone_on = court.go_on(!follows)?;
+        let has_gone_on = bench.go_on(follows)?;
         let now = Instant::now();
         if now - told >= TELL {
             told = now;
-            tell(&court.judged);
+            tell(&bench.judged());
         }
         if follows && now - scanned >= SCAN {
             scanned = now;
-            court.scan()?;
+            bench.scan()?;
         }
         if has_gone_on {
             continue;
         }
         if !follows {
-            return court.ends();
+            return bench.ends();
         }
         thread::sleep(PAUSE);
     }
 }
 
-struct Court<'a> {
+/// A list: how many came before, and its group's id, 0 for the first one, whose journals don't say it.
+type Which = (u32, u64);
+
+/// The lists of a group.
+struct Bench<'a> {
     asked: &'a Asked,
     reading: Reading,
-    founding: Option<Founding>,
-    /// Journals whose lives haven't begun here.
-    heads: BTreeMap<Name, (PathBuf, Head)>,
+    /// Lists that aren't judged to their ends.
+    courts: BTreeMap<Which, Court>,
+    /// What later lists have to know of those that are.
+    pasts: BTreeMap<Which, Past>,
+    /// The first list of which there is a journal.
+    lowest: Option<u32>,
     /// Files that were looked at.
     seen: BTreeSet<PathBuf>,
     /// Files without a whole line.
     empty: BTreeSet<PathBuf>,
-    /// How many lives have no journal.
-    idle: usize,
     /// Whether the members ran when this began.
     has_followed: bool,
-    lives: BTreeMap<Name, Life>,
-    watch: Option<Watch>,
-    list: List,
-    script: Option<Script>,
-    judged: Judged,
-    /// Who could go on, by time.
-    order: Vec<(u64, Name)>,
+    /// What was judged of lists that are judged to their ends, and how many of their lives have no journal.
+    done: Judged,
+    idle: usize,
 }
 
 /// The first line of a file; None as long as it isn't whole.
@@ -125,26 +148,22 @@ fn first_line(path: &Path) -> Result<Option<String>, Finding> {
     Ok(is_whole.then(|| String::from_utf8_lossy(&line).into_owned()))
 }
 
-impl<'a> Court<'a> {
-    fn new(asked: &'a Asked) -> Court<'a> {
-        Court {
+impl<'a> Bench<'a> {
+    fn new(asked: &'a Asked) -> Bench<'a> {
+        Bench {
             asked,
             reading: Reading {
                 sums: RandomState::new(),
                 keeps_text: asked.play.is_some(),
             },
-            founding: None,
-            heads: BTreeMap::new(),
+            courts: BTreeMap::new(),
+            pasts: BTreeMap::new(),
+            lowest: None,
             seen: BTreeSet::new(),
             empty: BTreeSet::new(),
-            idle: 0,
             has_followed: !asked.over.is_set(),
-            lives: BTreeMap::new(),
-            watch: None,
-            list: List::default(),
-            script: None,
-            judged: Judged::default(),
-            order: Vec::new(),
+            done: Judged::default(),
+            idle: 0,
         }
     }
 
@@ -180,341 +199,141 @@ impl<'a> Court<'a> {
                 self.empty.insert(path);
                 continue;
             };
-            let wrong = |cause| Finding::at(&path, 1, cause);
-            let head = Head::of(&line).ok_or_else(|| wrong(Cause::NoHead))?;
-            let name = head.name;
-            if self.heads.contains_key(&name) || self.lives.contains_key(&name) {
-                return Err(wrong(Cause::Twice(name)));
-            }
-            match &self.founding {
-                Some(founding) if *founding != head.founding => {
-                    return Err(wrong(Cause::OtherFounding(name)));
-                }
-                Some(_) => (),
-                None => self.founded(&head.founding),
-            }
+            let head = Head::of(&line).ok_or_else(|| Finding::at(&path, 1, Cause::NoHead))?;
+            let which = (
+                head.generation(),
+                head.follows.map_or(0, |follows| follows.group),
+            );
             self.empty.remove(&path);
             self.seen.insert(path.clone());
-            self.judged.lives += 1;
-            self.heads.insert(name, (path, head));
-        }
-        self.begin()
-    }
-
-    fn founded(&mut self, founding: &Founding) {
-        self.founding = Some(founding.clone());
-        self.watch = Watch::new(founding);
-        self.script = self.asked.play.is_some().then(|| Script::new(founding));
-    }
-
-    /// Begins the next life of each place that has none which runs.
-    fn begin(&mut self) -> Result<(), Finding> {
-        let next: BTreeMap<u8, Name> = self
-            .heads
-            .keys()
-            .rev()
-            .map(|name| (name.place(), *name))
-            .collect();
-        for name in next.into_values() {
-            let lower = (1..name.life()).filter_map(|life| Name::new(name.place(), life));
-            let mut runs = false;
-            for other in lower {
-                match self.lives.get(&other) {
-                    Some(life) => {
-                        // its place came back, so it has stopped
-                        life.over.set();
-                        runs = runs || !matches!(life.next, Next::Nothing { .. });
-                    }
-                    None => self.stands_idle(other, name)?,
-                }
+            if self.pasts.contains_key(&which) {
+                return Err(Finding::at(&path, 1, Cause::Late));
             }
-            if runs {
-                continue;
-            }
-            if let Some((path, head)) = self.heads.remove(&name) {
-                let is_over = self.asked.over.is_set();
-                let over = Over::new(is_over);
-                let mut life = Life::of(&path, head, over, self.reading.clone());
-                // one that begins here after the end of the following may still run, as those may that began before
-                life.may_run = self.has_followed && is_over;
-                self.lives.insert(name, life);
-            }
+            self.lowest = Some(self.lowest.map_or(which.0, |lowest| lowest.min(which.0)));
+            let (reading, has_followed) = (&self.reading, self.has_followed);
+            let new = || Court::new(&head, reading.clone(), has_followed);
+            self.courts
+                .entry(which)
+                .or_insert_with(new)
+                .admit(&path, head)?;
         }
         Ok(())
     }
 
-    /// A life without a journal, which `by` needs.
-    fn stands_idle(&mut self, name: Name, by: Name) -> Result<(), Finding> {
-        self.idle += 1;
-        if self.idle > self.empty.len() && self.asked.over.is_set() {
-            let path = self.heads.get(&by).map(|(path, _)| path.clone());
-            let path = path.or_else(|| self.lives.get(&by).map(|life| life.path.clone()));
-            return Err(Finding::at(
-                &path.unwrap_or_default(),
-                0,
-                Cause::NoJournal(name),
-            ));
-        }
-        self.lives.insert(name, Life::idle(name));
-        Ok(())
-    }
-
-    /// Nothing is added any more. A life that was followed up to now may still run.
+    /// Nothing is added any more.
     fn close(&mut self) {
-        for life in self.lives.values_mut() {
-            life.may_run = life.may_run || self.has_followed && !life.over.is_set();
-            life.over.set();
+        for court in self.courts.values_mut() {
+            court.close();
         }
     }
 
-    /// Takes in the step that is next; whether there was one.
-    fn go_on(&mut self, waits: bool) -> Result<bool, Finding> {
-        let mut is_over = false;
-        for life in self.lives.values_mut() {
-            let was_known = !matches!(life.next, Next::Unknown);
-            life.look(waits)?;
-            is_over = is_over || !was_known && matches!(life.next, Next::Nothing { .. });
+    /// What was judged up to now.
+    fn judged(&self) -> Judged {
+        let mut judged = self.done.clone();
+        for ((generation, _), court) in &self.courts {
+            judged.add(*generation, &court.judged);
         }
-        if is_over {
-            self.begin()?;
-            return Ok(true);
-        }
-        let mut order = std::mem::take(&mut self.order);
-        order.clear();
-        order.extend(
-            self.lives
-                .values()
-                .filter_map(|life| Some((life.when()?, life.name))),
-        );
-        order.sort_unstable();
-        let gone = self.first_ready(&order, waits);
-        self.order = order;
-        gone
+        judged
     }
 
-    /// Has the first of these that may go on do so; whether there was one.
-    fn first_ready(&mut self, order: &[(u64, Name)], waits: bool) -> Result<bool, Finding> {
-        for (_, name) in order {
-            if self.is_ready(*name)? {
-                self.does(*name)?;
-                return Ok(true);
-            }
-        }
-        // one whose stop was asked for just now stops in the next turn
-        let stops = |life: &Life| {
-            matches!(life.next, Next::Stop) && order.iter().all(|(_, name)| *name != life.name)
-        };
-        match order.first() {
-            Some(_) if self.lives.values().any(stops) => Ok(true),
-            Some((_, name)) if waits => Err(self.blocked(*name)),
-            _ => Ok(false),
-        }
-    }
-
-    /// Whether a life may do what is next; what it needs that only has to be said is said.
-    fn is_ready(&mut self, name: Name) -> Result<bool, Finding> {
-        let Some(life) = self.lives.get(&name) else {
-            return Ok(false);
-        };
-        let (needs, time, returns) = (life.needs(), life.when().unwrap_or(0), life.returns);
-        if returns {
-            return Ok(match Name::new(name.place(), name.life() - 1) {
-                Some(before) => self.has_stopped(before, time),
-                None => true,
-            });
-        }
-        match needs {
-            Needs::Nothing => Ok(true),
-            Needs::Letter { from, number, .. } => Ok(self
-                .lives
-                .get(&from)
-                .is_some_and(|sender| number <= sender.sent.len())),
-            Needs::Stop(other) => {
-                if !self.lives.contains_key(&other) && !self.heads.contains_key(&other) {
-                    for life in (1..=other.life()).filter_map(|life| Name::new(other.place(), life))
-                    {
-                        if !self.lives.contains_key(&life) && !self.heads.contains_key(&life) {
-                            self.stands_idle(life, name)?;
-                        }
-                    }
-                }
-                Ok(self.has_stopped(other, time))
-            }
-        }
-    }
-
-    /// Whether a name stopped; one that is over stops now.
-    fn has_stopped(&mut self, name: Name, time: u64) -> bool {
-        let Some(life) = self.lives.get_mut(&name) else {
-            return false;
-        };
-        // whoever needs its stop knows that it can't act any more
-        life.over.set();
-        life.stop(time);
-        life.has_stopped()
-    }
-
-    /// Why a life can't do what is next.
-    fn blocked(&self, name: Name) -> Finding {
-        let Some(life) = self.lives.get(&name) else {
-            return Finding::of(Cause::NoJournals);
-        };
-        let before = Name::new(name.place(), name.life() - 1);
-        let cause = match (life.needs(), before) {
-            (_, Some(before)) if life.returns => Cause::NotReturned(before),
-            (Needs::Letter { from, number, .. }, _) if !self.lives.contains_key(&from) => {
-                Cause::NoSender { from, number }
-            }
-            (Needs::Letter { from, number, .. }, _) => Cause::NoLetter { from, number },
-            (Needs::Stop(other), _) => Cause::NotStopped(other),
-            (Needs::Nothing, _) => Cause::NotReturned(name),
-        };
-        life.blocked(cause)
-    }
-
-    /// A life does what is next.
-    fn does(&mut self, name: Name) -> Result<(), Finding> {
-        let event = self.judged.events + 1;
-        let Some(life) = self.lives.get_mut(&name) else {
-            return Ok(());
-        };
-        if life.returns {
-            life.returns = false;
-            self.note(name, "return", None, &format!("returned {}", name.life()));
-            return Ok(());
-        }
-        match life.goes_on() {
-            Next::Step(step) => self.step(event, name, *step)?,
-            Next::Stop => {
-                self.note(name, "stop", None, "stopped");
-                if let Some(watch) = &mut self.watch {
-                    watch.stops(event, name);
-                }
-                self.begin()?;
-            }
-            Next::Unknown | Next::Nothing { .. } => (),
-        }
-        self.judged.void_from = self.watch.as_ref().and_then(Watch::broken);
-        Ok(())
-    }
-
-    /// Counts an event, and adds it to the script.
-    fn note(&mut self, name: Name, asked: &str, heard: Option<(Name, u64)>, answer: &str) {
-        self.judged.events += 1;
-        if self.judged.events > MOST {
-            self.script = None;
-        }
-        if let Some(script) = &mut self.script {
-            if script.add(name, asked, heard, answer).is_none() {
-                self.script = None;
-            }
-        }
-    }
-
-    fn step(&mut self, event: u64, name: Name, step: Step) -> Result<(), Finding> {
-        let mut heard = None;
-        if let Needs::Letter { from, number, sum } = step.needs {
-            heard = Some((from, number));
-            self.is_letter(name, &step, from, number, sum)?;
-        }
-        let (asked, answer) = step.text.clone().unwrap_or_default();
-        self.note(name, &asked, heard, &answer);
-        self.judged.letters += step.letters.len() as u64;
-        let is_claimed = self.judged.void_from.is_none();
-        let Some(life) = self.lives.get_mut(&name) else {
-            return Ok(());
-        };
-        let path = life.path.clone();
-        let unread =
-            |error: std::io::Error| Finding::at(&path, step.line, Cause::Unread(error.to_string()));
-        for sum in &step.letters {
-            life.sent.push(*sum).map_err(unread)?;
-        }
-        if is_claimed {
-            let place = Place {
-                name,
-                is_founder: life.is_founder,
-                file: &path,
-                line: step.line,
+    /// Takes in steps that are next, of each list whose beginning is known; whether there were some.
+    fn go_on(&mut self, follows: bool) -> Result<bool, Finding> {
+        let idle: usize = self.courts.values().map(|court| court.idle).sum();
+        let spare = self.empty.len().saturating_sub(self.idle + idle);
+        let mut has_gone_on = false;
+        for which in self.courts.keys().copied().collect::<Vec<_>>() {
+            let Some(mut court) = self.courts.remove(&which) else {
+                continue;
             };
-            let added = self.list.add(&mut life.taken, &step.gave, &place);
-            added.map_err(|(cause, there)| {
-                let (file, line) = there.unwrap_or((path.clone(), step.line));
-                Finding { file, line, cause }
-            })?;
-            self.judged.entries = self.list.len();
-        }
-        if let Some(watch) = &mut self.watch {
-            if let Some(number) = step.welcomed {
-                watch.welcomed(name, number);
+            court.spare = spare + court.idle;
+            let gone = self.go_on_with(which, &mut court, follows)?;
+            has_gone_on |= gone;
+            let latest = self.courts.keys().next_back().map_or(0, |other| other.0);
+            let is_old = latest >= which.0 + KEPT;
+            match (follows, gone) {
+                (false, true) => {
+                    self.courts.insert(which, court);
+                    // one list after the other
+                    break;
+                }
+                (true, _) if !(is_old && court.is_finished()) => {
+                    self.courts.insert(which, court);
+                }
+                _ => {
+                    self.finish(which, court)?;
+                    has_gone_on = true;
+                    break;
+                }
             }
-            if let Some(standing) = &step.standing {
-                watch.shows(event, name, standing);
-            }
         }
+        Ok(has_gone_on)
+    }
+
+    /// Has a list go on; whether it did.
+    fn go_on_with(
+        &self,
+        (generation, _): Which,
+        court: &mut Court,
+        follows: bool,
+    ) -> Result<bool, Finding> {
+        if self.lowest < Some(generation) {
+            let of_before = |which: &Which| which.0 + 1 == generation;
+            let is_its = |which: &Which| court.before().is_none_or(|id| which.1 == id);
+            let mut courts: Vec<_> = self
+                .courts
+                .iter()
+                .filter(|(which, _)| of_before(which))
+                .collect();
+            courts.sort_by_key(|(which, _)| !is_its(which));
+            let past = self.pasts.iter().filter(|(which, _)| of_before(which));
+            let past = past.max_by_key(|(which, _)| is_its(which));
+            let before = match (past, courts.first()) {
+                (Some((_, past)), _) => past.clone(),
+                (None, Some((_, before))) => before.past(),
+                (None, None) => {
+                    let cause = Cause::NoListBefore(generation);
+                    return Err(Finding::at(&court.any_file(), 1, cause));
+                }
+            };
+            match (before.is_void, &before.end, past) {
+                (true, _, _) => court.link(None)?,
+                (false, Some(end), _) => court.link(Some(end))?,
+                (false, None, Some(_)) => {
+                    return Err(Finding::at(&court.any_file(), 1, Cause::NotEnded));
+                }
+                (false, None, None) => return Ok(false),
+            }
+        } else {
+            court.link(None)?;
+        }
+        court.open()?;
+        court.go_on(!follows)
+    }
+
+    /// A list is judged to its end.
+    fn finish(&mut self, which: Which, mut court: Court) -> Result<(), Finding> {
+        court.ends(self.asked.play.as_deref())?;
+        let of_before = |other: &&Which| other.0 + 1 == which.0;
+        let is_its = |other: &Which| court.before().is_none_or(|id| other.1 == id);
+        let before = self.pasts.keys().filter(of_before);
+        let before = before.max_by_key(|other| is_its(other)).copied();
+        if let Some(past) = before.and_then(|before| self.pasts.get(&before)) {
+            court.links_founders(past)?;
+        }
+        self.done.add(which.0, &court.judged);
+        self.idle += court.idle;
+        self.pasts.insert(which, court.past());
+        // a later list has to know the one before it alone
+        self.pasts.retain(|other, _| other.0 + 1 >= which.0);
         Ok(())
     }
 
-    /// Whether a letter was sent as it was heard.
-    fn is_letter(
-        &self,
-        name: Name,
-        step: &Step,
-        from: Name,
-        number: u64,
-        sum: u64,
-    ) -> Result<(), Finding> {
-        let path = self
-            .lives
-            .get(&name)
-            .map(|life| life.path.clone())
-            .unwrap_or_default();
-        let wrong = |cause| Finding::at(&path, step.line, cause);
-        let sender = self
-            .lives
-            .get(&from)
-            .ok_or_else(|| wrong(Cause::NoSender { from, number }))?;
-        let at = number
-            .checked_sub(1)
-            .ok_or_else(|| wrong(Cause::NoLetter { from, number }))?;
-        match sender.sent.get(at) {
-            Ok(sent) if sent == sum => Ok(()),
-            Ok(_) => Err(wrong(Cause::OtherLetter { from, number })),
-            Err(error) => Err(wrong(Cause::Unread(error.to_string()))),
+    /// After the last step.
+    fn ends(&mut self) -> Result<Judged, Finding> {
+        match self.done.lives {
+            0 => Err(Finding::of(Cause::NoJournals)),
+            _ => Ok(self.done.clone()),
         }
-    }
-
-    /// After the last step: the lives that have no step stop, and `play` is asked.
-    fn ends(mut self) -> Result<Judged, Finding> {
-        if self.judged.lives == 0 {
-            return Err(Finding::of(Cause::NoJournals));
-        }
-        let over: Vec<Name> = self
-            .lives
-            .values()
-            .filter(|life| !life.has_ended && !life.may_run)
-            .map(|life| life.name)
-            .collect();
-        for name in over {
-            if let Some(life) = self.lives.get_mut(&name) {
-                life.stop(u64::MAX);
-            }
-        }
-        while self.go_on(true)? {}
-        let (Some(program), Some(script)) = (&self.asked.play, &self.script) else {
-            return Ok(self.judged);
-        };
-        let says = script.played(program)?;
-        let reckoned = self
-            .judged
-            .void_from
-            .map_or("lawful".to_string(), |event| format!("void from {event}"));
-        if says != reckoned {
-            let (play, judge) = (says, reckoned);
-            return Err(Finding::of(Cause::OtherVerdict { play, judge }));
-        }
-        self.judged.play = Some(says);
-        Ok(self.judged)
     }
 }
 

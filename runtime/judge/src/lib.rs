@@ -15,11 +15,14 @@
 
 #![warn(missing_docs)]
 
+mod court;
+mod ending;
 pub mod feed;
 pub mod finding;
 pub mod judge;
 mod lawful;
 mod line;
+mod links;
 mod list;
 mod merge;
 mod replay;

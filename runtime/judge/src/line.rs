@@ -7,6 +7,21 @@ use muoswyld::names::{Name, Names};
 pub(crate) struct Head {
     pub(crate) name: Name,
     pub(crate) founding: Founding,
+    /// Which list it follows; None if it is a group's first one.
+    pub(crate) follows: Option<Follows>,
+}
+
+/// Which list a list follows.
+#[derive(Clone, Copy, Debug, PartialEq, Eq)]
+pub(crate) struct Follows {
+    /// How many lists of the group came before.
+    pub(crate) generation: u32,
+    /// The id of its group.
+    pub(crate) group: u64,
+    /// The id of the group whose list it follows.
+    pub(crate) before: u64,
+    /// The number of the entry that ended that.
+    pub(crate) number: u64,
 }
 
 /// A founding, as the first line has it.
@@ -22,18 +37,29 @@ impl Head {
     /// The head of a first line without its end; None if it is none.
     pub(crate) fn of(line: &str) -> Option<Head> {
         let fields: Vec<&str> = line.split('\t').collect();
-        let ["node", name, founders, resilience, window, pb_up_to] = fields[..] else {
+        let (["node", name, rest @ ..], Some(numbers)) = (&fields[..], fields.get(2..6)) else {
             return None;
+        };
+        let follows = match rest.get(4..)? {
+            [] => None,
+            [generation, group, before, entry] => Some(Follows {
+                generation: generation.parse().ok().filter(|it| *it > 0)?,
+                group: id(group)?,
+                before: id(before)?,
+                number: number(entry)?,
+            }),
+            _ => return None,
         };
         Some(Head {
             name: name.parse().ok()?,
-            founding: Founding {
-                founders: founders.parse().ok()?,
-                resilience: resilience.parse().ok()?,
-                window: window.parse().ok()?,
-                pb_up_to: pb_up_to.parse().ok()?,
-            },
+            founding: Founding::of(numbers)?,
+            follows,
         })
+    }
+
+    /// How many lists of its group came before its own one.
+    pub(crate) fn generation(&self) -> u32 {
+        self.follows.map_or(0, |follows| follows.generation)
     }
 
     /// The words by which its node is opened.
@@ -51,6 +77,27 @@ impl Head {
     }
 }
 
+impl Founding {
+    /// A founding of four fields.
+    fn of(fields: &[&str]) -> Option<Founding> {
+        let [founders, resilience, window, pb_up_to] = fields else {
+            return None;
+        };
+        Some(Founding {
+            founders: founders.parse().ok()?,
+            resilience: resilience.parse().ok()?,
+            window: window.parse().ok()?,
+            pb_up_to: pb_up_to.parse().ok()?,
+        })
+    }
+}
+
+/// An id of a group: sixteen lower-case digits.
+fn id(text: &str) -> Option<u64> {
+    let group = u64::from_str_radix(text, 16).ok()?;
+    (format!("{group:016x}") == text).then_some(group)
+}
+
 /// A later line.
 #[derive(Debug, PartialEq, Eq)]
 pub(crate) enum Line<'a> {
@@ -60,6 +107,12 @@ pub(crate) enum Line<'a> {
         asked: &'a str,
         heard: Option<(Name, u64)>,
         answer: &'a str,
+    },
+    /// The list ended at an entry, and this one follows it.
+    Next {
+        number: u64,
+        group: u64,
+        founding: Founding,
     },
     /// The node departed, and its process ended.
     End,
@@ -76,6 +129,9 @@ impl Line<'_> {
     pub(crate) fn of(line: &str) -> Result<Line<'_>, &'static str> {
         if line == "end" {
             return Ok(Line::End);
+        }
+        if let Some(rest) = line.strip_prefix("next\t") {
+            return Line::next(rest).ok_or("it doesn't say which list follows");
         }
         let mut fields = line.split('\t');
         let (Some(time), Some(asked), Some(heard), Some(answer), None) = (
@@ -105,6 +161,17 @@ impl Line<'_> {
             answer,
         })
     }
+
+    /// What stands after the word of a line that says which list follows.
+    fn next(rest: &str) -> Option<Line<'_>> {
+        let fields: Vec<&str> = rest.split('\t').collect();
+        let (number_there, group) = (number(fields.first()?)?, id(fields.get(1)?)?);
+        Some(Line::Next {
+            number: number_there,
+            group,
+            founding: Founding::of(fields.get(2..)?)?,
+        })
+    }
 }
 
 #[cfg(test)]
@@ -124,8 +191,45 @@ mod tests {
             "node\t1",
             "node\t16\t0,1\t0\t16\t256",
             "node\t1\t0,1\t0\t16\t256\t",
+            "node\t1\t0,1\t0\t16\t256\t0\t0000000000000007\t0000000000000001\t9",
+            "node\t1\t0,1\t0\t16\t256\t1\t7\t0000000000000001\t9",
+            "node\t1\t0,1\t0\t16\t256\t1\t0000000000000007\t0000000000000001",
+            "node\t1\t0,1\t0\t16\t256\t1\t0000000000000007\t0000000000000001\t9\t9",
         ] {
             assert_eq!(Head::of(line), None, "{line}");
+        }
+    }
+
+    #[test]
+    fn lists_that_follow_others() {
+        let line = "node\t1\t0,1\t0\t16\t256\t2\t00000000000000a7\tf000000000000001\t9";
+        let head = Head::of(line).expect("a head");
+        let follows = Follows {
+            generation: 2,
+            group: 0xa7,
+            before: 0xf000_0000_0000_0001,
+            number: 9,
+        };
+        assert_eq!(head.follows, Some(follows));
+        assert!(head.is_founder() && head.generation() == 2);
+        let said = Line::of("next\t9\t00000000000000a7\t0,1\t0\t16\t256").expect("a line");
+        let (number, group, founding) = (9, 0xa7, head.founding);
+        assert_eq!(
+            said,
+            Line::Next {
+                number,
+                group,
+                founding
+            }
+        );
+        for line in [
+            "next",
+            "next\t9",
+            "next\t9\ta7\t0,1\t0\t16\t256",
+            "next\t9\t00000000000000a7\t0,1\t0\t16",
+            "next\t9\t00000000000000a7\t0,1\t0\t16\t256\t1",
+        ] {
+            assert!(Line::of(line).is_err(), "{line}");
         }
     }
 

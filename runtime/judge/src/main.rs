@@ -33,21 +33,32 @@ struct Words {
 
 fn shown(judged: &Judged) -> String {
     let Judged {
+        lists,
         lives,
         events,
         letters,
         entries,
         ..
     } = judged;
+    let of_list = match judged.void_in {
+        0 => String::new(),
+        before => format!(" of the list of generation {before}"),
+    };
     let verdict = match judged.void_from {
         None => "lawful".to_string(),
-        Some(event) => format!("void from event {event}: more stopped than the resilience allows"),
+        Some(event) => {
+            format!("void from event {event}{of_list}: more stopped than the resilience allows")
+        }
     };
     let play = judged
         .play
         .as_ref()
         .map_or("", |_| "; play prints the same");
-    format!("{lives} lives, {events} events, {letters} letters, a list of {entries} entries: {verdict}{play}")
+    let list = match lists {
+        0 | 1 => "a list".to_string(),
+        lists => format!("{lists} lists"),
+    };
+    format!("{lives} lives, {events} events, {letters} letters, {list} of {entries} entries: {verdict}{play}")
 }
 
 fn status_of(finding: &Finding) -> u8 {

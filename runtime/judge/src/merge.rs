@@ -1,8 +1,9 @@
 //! The lives that run, each with its next step; which of them may go on, and in which order.
 
+use crate::ending::Ending;
 use crate::feed::Over;
 use crate::finding::{Cause, Finding};
-use crate::line::Head;
+use crate::line::{Founding, Head};
 use crate::list::Taken;
 use crate::replay::{Needs, Replay, Step, Told};
 use crate::sums::Sums;
@@ -37,6 +38,11 @@ pub(crate) struct Life {
     /// The sums of the letters that it sent.
     pub(crate) sent: Sums,
     pub(crate) taken: Taken,
+    pub(crate) ending: Ending,
+    /// What it says of the list that follows, where that isn't compared yet.
+    pub(crate) said: Option<Said>,
+    /// The entry that ended its list, as long as it hasn't said so.
+    pub(crate) owes: Option<u64>,
     pub(crate) next: Next,
     pub(crate) over: Over,
     /// Whether it still has to come back, after the life before it.
@@ -49,6 +55,15 @@ pub(crate) struct Life {
     line: u64,
     time: u64,
     told: Receiver<Told>,
+}
+
+/// What a journal says of the list that follows, and where.
+#[derive(Clone, Debug, PartialEq, Eq)]
+pub(crate) struct Said {
+    pub(crate) line: u64,
+    pub(crate) number: u64,
+    pub(crate) group: u64,
+    pub(crate) founding: Founding,
 }
 
 /// How journals are read.
@@ -69,7 +84,7 @@ fn replay(path: &Path, head: Head, over: Over, reading: Reading, told: &SyncSend
     };
     loop {
         let next = replay.next();
-        let goes_on = matches!(next, Told::Step(_));
+        let goes_on = matches!(next, Told::Step(_) | Told::Next { .. });
         if told.send(next).is_err() || !goes_on {
             return;
         }
@@ -89,6 +104,9 @@ impl Life {
             is_founder,
             sent: Sums::default(),
             taken: Taken::default(),
+            ending: Ending::default(),
+            said: None,
+            owes: None,
             next: Next::Unknown,
             over,
             returns: name.life() > 1,
@@ -109,6 +127,9 @@ impl Life {
             is_founder: false,
             sent: Sums::default(),
             taken: Taken::default(),
+            ending: Ending::default(),
+            said: None,
+            owes: None,
             next: Next::Nothing { has_stopped: false },
             over: Over::new(true),
             returns: name.life() > 1,
@@ -125,12 +146,30 @@ impl Life {
         if !matches!(self.next, Next::Unknown) {
             return Ok(());
         }
-        let told = if waits {
-            self.told.recv().ok()
-        } else {
-            self.told.try_recv().ok()
+        let told = match self.tells(waits) {
+            Some(Told::Next {
+                line,
+                number,
+                group,
+                founding,
+            }) => {
+                self.line = line;
+                self.owes = None;
+                self.said = Some(Said {
+                    line,
+                    number,
+                    group,
+                    founding,
+                });
+                self.tells(waits)
+            }
+            other => other,
         };
         self.next = match told {
+            // it says twice which list follows
+            Some(Told::Next { line, .. }) => {
+                return Err(Finding::at(&self.path, line, Cause::NoEnd));
+            }
             None => return Ok(()),
             Some(Told::Wrong(finding)) => return Err(finding),
             Some(Told::Over { has_ended }) => {
@@ -142,11 +181,23 @@ impl Life {
                 }
             }
             Some(Told::Step(step)) => {
+                if let Some(number) = self.owes {
+                    let cause = Cause::NoNext(number);
+                    return Err(Finding::at(&self.path, step.line, cause));
+                }
                 (self.line, self.time) = (step.line, step.time);
                 Next::Step(step)
             }
         };
         Ok(())
+    }
+
+    /// What its journal tells next.
+    fn tells(&self, waits: bool) -> Option<Told> {
+        match waits {
+            true => self.told.recv().ok(),
+            false => self.told.try_recv().ok(),
+        }
     }
 
     /// When it does what it does next, as far as that is known.

@@ -1,8 +1,9 @@
 //! A life's journal, given to a node again: each answer is compared, and what others have to know of the line is kept.
 
+use crate::ending::Turn;
 use crate::feed::{Feed, Over};
 use crate::finding::{Cause, Finding};
-use crate::line::{Head, Line};
+use crate::line::{Founding, Head, Line};
 use muoswyld::names::{Name, Names, Stamp};
 use muoswyld::Node;
 use std::collections::hash_map::RandomState;
@@ -57,6 +58,8 @@ pub(crate) struct Step {
     pub(crate) gave: Gave,
     /// The number of the Join by which it was welcomed.
     pub(crate) welcomed: Option<u64>,
+    /// What an entry that it gave is to the end of the list.
+    pub(crate) turn: Option<Turn>,
     /// What it shows, if that changed.
     pub(crate) standing: Option<Standing>,
     /// What it was given and what it answered.
@@ -68,6 +71,13 @@ pub(crate) struct Step {
 pub(crate) enum Told {
     /// A line's step.
     Step(Box<Step>),
+    /// The list is said to end at an entry, and which one follows it.
+    Next {
+        line: u64,
+        number: u64,
+        group: u64,
+        founding: Founding,
+    },
     /// There are no more lines; whether the last one says that the life departed and ended.
     Over { has_ended: bool },
     /// What isn't as it should be.
@@ -181,6 +191,16 @@ impl Replay {
                 self.has_ended = true;
                 self.tell()
             }
+            Line::Next {
+                number,
+                group,
+                founding,
+            } => Ok(Told::Next {
+                line: self.line,
+                number,
+                group,
+                founding,
+            }),
             Line::Step { time, .. } if time < self.time => Err(Cause::Backwards),
             Line::Step {
                 time,
@@ -240,6 +260,9 @@ impl Replay {
             welcomed: said
                 .strip_prefix("welcomed ")
                 .and_then(|number| number.parse().ok()),
+            turn: said
+                .strip_prefix("took ")
+                .and_then(|took| Turn::of(took.split_once(' ')?.1)),
             standing: self.look(asked)?,
             text: self
                 .keeps_text

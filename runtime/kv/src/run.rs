@@ -26,6 +26,9 @@ const LEAVE_WITHIN: Duration = Duration::from_secs(10);
 fn does(command: Command, group: &Group) -> Json {
     match command {
         Command::Send(_) => json!({ "error": "a store sends no messages of others" }),
+        Command::Succeed(_) => {
+            json!({ "error": "a store doesn't go on in another list: the list isn't ended" })
+        }
         other => other.done_by(group),
     }
 }
@@ -44,6 +47,10 @@ pub fn run(words: Run) -> Result<(), Fault> {
     let run = words.with_file()?;
     if run.member.input.is_some() || run.member.output.is_some() {
         let line = "a store has no --input and no --output: clients connect at --listen";
+        return Err(Fault::of(CONFIG, line));
+    }
+    if run.member.succeed_at_lives.is_some() || run.member.succeed_at_numbers.is_some() {
+        let line = "a store doesn't go on in another list: it has no --succeed-at-lives and no --succeed-at-numbers";
         return Err(Fault::of(CONFIG, line));
     }
     let settings = settings_of(&run);
@@ -89,7 +96,7 @@ fn end(group: &Group, stop: &Stop) -> Result<(), Fault> {
         tracing::error!("{error}");
     }
     let status = match ended {
-        Ended::Lost | Ended::HeldTooMuch { .. } => UNAVAILABLE,
+        Ended::Lost | Ended::HeldTooMuch { .. } | Ended::ListEnded { .. } => UNAVAILABLE,
         _ => SOFTWARE,
     };
     Err(Fault::of(status, ended))

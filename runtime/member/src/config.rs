@@ -78,6 +78,15 @@ impl Founding {
     }
 }
 
+/// When a list is to end by itself, so that another one follows it before its lives or its numbers run out.
+#[derive(Clone, Copy, Debug, PartialEq, Eq)]
+pub struct Limits {
+    /// It ends once a member's place has at most so many lives left after the member's own, 0 to 15.
+    pub lives: u8,
+    /// It ends once at most so many numbers of entries are left, of 2,000,000,000.
+    pub numbers: u32,
+}
+
 /// A defect that a test plants, to see that it is found. A member without one is the only one to use.
 #[doc(hidden)]
 #[derive(Clone, Copy, Debug, PartialEq, Eq)]
@@ -98,6 +107,15 @@ pub enum Plant {
     FoundersAtTop,
 }
 
+/// A list that another one follows: the id of its group, and the entry that ended it.
+#[derive(Clone, Copy, Debug, PartialEq, Eq)]
+pub struct Before {
+    /// The id of its group.
+    pub group: u64,
+    /// The number of the entry that ended it.
+    pub number: u32,
+}
+
 /// What a member is told at its start.
 #[derive(Clone, Debug)]
 pub struct Settings {
@@ -109,6 +127,12 @@ pub struct Settings {
     pub generation: u32,
     /// The group's id, if it is known: of a list that follows another one. Else the lowest founder draws it, and the others ask for it.
     pub group: Option<u64>,
+    /// The list that this founding's follows, if that is known. Only the journal says it.
+    pub before: Option<Before>,
+    /// The places that vote who has stopped, each as the first life; None where the policy has no voters.
+    pub voters: Option<Names>,
+    /// When the list ends by itself; None: it doesn't.
+    pub succeed_at: Option<Limits>,
     /// A random word of this process. Two processes of one name have different ones.
     pub process: u64,
     /// What chance the member needs, its group's id among it, comes from this alone.
@@ -151,6 +175,9 @@ impl Settings {
             founding,
             generation: 0,
             group: None,
+            before: None,
+            voters: None,
+            succeed_at: None,
             process,
             seed: process,
             least: None,
@@ -181,6 +208,7 @@ impl Settings {
                 Err(StartError::Least)
             }
             _ if times.contains(&0) => Err(StartError::Period),
+            _ if self.succeed_at.is_some_and(|at| at.lives > 15) => Err(StartError::Limits),
             _ => Ok(()),
         }
     }
@@ -219,6 +247,9 @@ pub enum StartError {
     /// A period of ticks is 0.
     #[error("a tick comes after a microsecond at least")]
     Period,
+    /// A list is to end by itself with more than 15 lives left.
+    #[error("a list ends by itself with 0 to 15 lives left")]
+    Limits,
     /// The node wasn't opened.
     #[error("no node: {0}")]
     Node(#[from] Refusal),

@@ -10,10 +10,9 @@
 
 use crate::body::CONTROL;
 use crate::config::{Founding, Plant, Settings, Time};
-use crate::event::{End, HandleError, Next, Notice, Output, Position, Successor};
+use crate::event::{End, Next, Notice, Output, Position, Successor};
 use crate::frame::{self, Said, Speaker};
 use crate::member::Member;
-use crate::queue::Load;
 use muoswyld::answer::{Entry, Role};
 use muoswyld::names::{Name, Names, PLACES};
 use ring::digest::{Context, SHA256};
@@ -42,6 +41,16 @@ pub(crate) struct EndingList {
     last: Option<u32>,
     /// With the planted defect: how many entries more are delivered.
     late: u32,
+    /// Whether the list mustn't be ended now, by what the member doesn't know itself.
+    pub(crate) is_held_off: bool,
+    /// Until when somebody counts as one that asks to join.
+    pub(crate) asked_until: Time,
+    /// When the member ends the list by itself next, if that is due.
+    pub(crate) by_itself_at: Time,
+    /// Whether it was told that no voter is left for the next list.
+    pub(crate) told_no_voters: bool,
+    /// When an asker of a list that has ended was last told so.
+    told_ended: Time,
 }
 
 impl EndingList {
@@ -57,12 +66,22 @@ impl EndingList {
             greet_at: Time(0),
             last: None,
             late: 0,
+            is_held_off: false,
+            asked_until: Time(0),
+            by_itself_at: Time(0),
+            told_no_voters: false,
+            told_ended: Time(0),
         }
     }
 
     /// Whether the list has ended here.
     pub(crate) fn has_ended(&self) -> bool {
         self.last.is_some() && self.late == 0
+    }
+
+    /// The members after the last entry that was taken, if they are known.
+    pub(crate) fn members(&self) -> Option<Names> {
+        self.members
     }
 
     /// Whether what is accepted may be delivered.
@@ -73,28 +92,31 @@ impl EndingList {
 
 /// What a control body says that ends a list.
 #[derive(Clone, Copy, Debug, PartialEq, Eq)]
-struct Ends {
-    group: u64,
-    at: u32,
-    members: Names,
-    next: Next,
+pub(crate) struct Ends {
+    pub(crate) group: u64,
+    pub(crate) at: u32,
+    pub(crate) members: Names,
+    pub(crate) voters: Names,
+    /// The numbers of the next founding; its voters stand above.
+    pub(crate) next: Next,
 }
 
 impl Ends {
-    fn body(&self) -> Vec<u8> {
+    pub(crate) fn body(&self) -> Vec<u8> {
         let mut body = vec![CONTROL, ENDS_LIST];
         let (mask, lives) = self.members.parts();
         body.extend(self.group.to_be_bytes());
         body.extend(self.at.to_be_bytes());
         body.extend(mask.to_be_bytes());
         body.extend(lives.to_be_bytes());
+        body.extend(self.voters.parts().0.to_be_bytes());
         body.push(self.next.resilience);
         body.extend(self.next.window.to_be_bytes());
         body.extend(self.next.pb_up_to.to_be_bytes());
         body
     }
 
-    /// What stands behind the kind; None if it has another form.
+    /// What stands after the kind; None if it has another form.
     fn read(mut bytes: &[u8]) -> Option<Ends> {
         fn number<const N: usize>(bytes: &mut &[u8]) -> Option<[u8; N]> {
             let (number, rest) = bytes.split_first_chunk::<N>()?;
@@ -105,21 +127,33 @@ impl Ends {
         let at = u32::from_be_bytes(number(&mut bytes)?);
         let mask = u16::from_be_bytes(number(&mut bytes)?);
         let members = Names::of_parts(mask, u64::from_be_bytes(number(&mut bytes)?))?;
+        let voters = Names::of_parts(u16::from_be_bytes(number(&mut bytes)?), 0)?;
         let next = Next {
             resilience: u8::from_be_bytes(number(&mut bytes)?),
             window: u16::from_be_bytes(number(&mut bytes)?),
             pb_up_to: u16::from_be_bytes(number(&mut bytes)?),
+            voters: None,
         };
         bytes.is_empty().then_some(Ends {
             group,
             at,
             members,
+            voters,
             next,
         })
     }
 
+    /// Whether it could be asked for: a founding that a group can have, and voters among its founders, odd in number or none.
+    fn is_sound(&self) -> bool {
+        let founders = firsts_of(self.members);
+        let count = self.voters.len();
+        self.founding().check().is_ok()
+            && self.voters.iter().all(|voter| founders.has(voter))
+            && (count == 0 || count % 2 == 1)
+    }
+
     /// The founding that follows.
-    fn founding(&self) -> Founding {
+    pub(crate) fn founding(&self) -> Founding {
         Founding {
             founders: firsts_of(self.members),
             resilience: self.next.resilience,
@@ -130,7 +164,7 @@ impl Ends {
 }
 
 /// The first lives of the places of some names.
-fn firsts_of(names: Names) -> Names {
+pub(crate) fn firsts_of(names: Names) -> Names {
     let places = (0..PLACES).filter(|place| names.at(*place).is_some());
     places.filter_map(Name::first).collect()
 }
@@ -149,6 +183,42 @@ fn id_after(group: u64, number: u32, body: &[u8]) -> u64 {
     u64::from_be_bytes(*first)
 }
 
+/// A list that isn't served any more: whoever asks to join it is told so.
+#[derive(Debug)]
+pub(crate) struct Closed {
+    pub(crate) group: u64,
+    speaker: Speaker,
+    /// Who is to be told.
+    askers: Names,
+}
+
+impl Closed {
+    /// That of a member, if it knew its group.
+    pub(crate) fn new(member: &Member) -> Option<Closed> {
+        Some(Closed {
+            group: member.hearing.group?,
+            speaker: member.speaker(),
+            askers: Names::nobody(),
+        })
+    }
+
+    /// Letters of this list's group came. Nobody but an asker is behind its end, or heeds the answer.
+    pub(crate) fn asked_by(&mut self, payload: &[u8]) {
+        if let Some(frame::Frame::Letters { from, .. }) = frame::read(payload) {
+            if from.name.place() != self.speaker.name.place() {
+                self.askers = self.askers.with(from.name);
+            }
+        }
+    }
+
+    /// What tells those that asked since the last time.
+    pub(crate) fn answer(&mut self) -> Option<Output> {
+        let to = std::mem::take(&mut self.askers);
+        let payload = frame::entry(self.group, self.speaker, 0, Said::IsAbove);
+        (!to.is_empty()).then_some(Output::Datagram { to, payload })
+    }
+}
+
 impl Member {
     /// A position in this member's list.
     pub(crate) fn at(&self, number: u32, index: u32) -> Position {
@@ -157,6 +227,11 @@ impl Member {
             number,
             index,
         }
+    }
+
+    /// The places that vote in its list.
+    pub(crate) fn set_voters(&mut self, voters: Option<Names>) {
+        self.settings.voters = voters;
     }
 
     /// Whether the list has ended here: nothing more of it is delivered, and nothing more is sent.
@@ -228,35 +303,6 @@ impl Member {
         }
     }
 
-    /// Sends what ends the list.
-    pub(crate) fn succeed(&mut self, next: Next) -> Result<(), HandleError> {
-        let quiet = self.stopped.among(self.standing.members).is_empty()
-            && self.hearing.silent.iter().all(|is_silent| !is_silent)
-            && self.standing.role != Role::Coordinator
-            && self.is_member()
-            && self.ending.is_confirmed
-            && !self.leaving.is_wanted()
-            && !self.another_leaves();
-        let founders = match self.ending.members {
-            _ if self.has(Plant::FoundersAtTop) => Some(self.standing.members),
-            members => members,
-        };
-        let (Some(members), Some(group), true) = (founders, self.hearing.group, quiet) else {
-            return Err(HandleError::NotNow);
-        };
-        let ends = Ends {
-            group,
-            at: self.standing.taken,
-            members,
-            next,
-        };
-        if ends.founding().check().is_err() {
-            return Err(HandleError::OutOfRange);
-        }
-        self.sending.control = Some(Load::of_control(ends.body()));
-        Ok(())
-    }
-
     /// Takes control: what ends the list does so, if it counts.
     pub(crate) fn take_control(&mut self, number: u32, from: Name, body: &[u8]) {
         self.counts.controls += 1;
@@ -275,7 +321,7 @@ impl Member {
         };
         let is_after = ends.at < number && self.ending.changed_at <= ends.at;
         let counts = is_after || self.has(Plant::FoundersAtTop);
-        if Some(ends.group) == self.hearing.group && counts && ends.founding().check().is_ok() {
+        if Some(ends.group) == self.hearing.group && counts && ends.is_sound() {
             self.end_list(number, &ends, body);
         } else if from == self.me() {
             self.tell(Notice::NotSucceeded);
@@ -287,13 +333,16 @@ impl Member {
         self.ending.last = Some(number);
         self.ending.late = u32::from(self.has(Plant::EndsListLate));
         let unsent = self.take_unsent();
-        self.give(Output::Succeeded(Successor {
+        let successor = Successor {
             group,
             founding: ends.founding(),
+            voters: ends.voters,
             members: ends.members,
             at: self.at(number, 0),
             unsent,
-        }));
+        };
+        self.journal.succeed(&successor);
+        self.give(Output::Succeeded(successor));
     }
 
     /// Whether an entry is delivered, by the end of the list.
@@ -350,7 +399,22 @@ impl Member {
             Said::IsAbove if number == self.first_entry() && !self.ending.is_confirmed => {
                 self.end(End::Superseded);
             }
+            Said::IsAbove if number == 0 && self.standing.role == Role::Asking => {
+                self.end(End::Superseded);
+            }
             Said::Stands | Said::IsAbove => {}
+        }
+    }
+
+    /// Tells one that asks to join, and isn't a member, that the list has ended.
+    pub(crate) fn tell_ended(&mut self, asker: Name) {
+        let Some(group) = self.hearing.group else {
+            return;
+        };
+        if self.now >= self.ending.told_ended.after(self.settings.first_resend) {
+            self.ending.told_ended = self.now;
+            let answer = frame::entry(group, self.speaker(), 0, Said::IsAbove);
+            self.send_direct(Names::nobody().with(asker), answer);
         }
     }
 
@@ -388,10 +452,12 @@ mod tests {
             group: 7,
             at: 9,
             members: "0,2/3,15".parse().expect("names"),
+            voters: "2".parse().expect("names"),
             next: Next {
                 resilience: 2,
                 window: 1008,
                 pb_up_to: 0,
+                voters: None,
             },
         };
         let body = ends.body();
@@ -403,6 +469,28 @@ mod tests {
         assert_eq!(ends.founding().founders.to_string(), "0,2,15");
         let longer = [&body[2..], &[0]].concat();
         assert_eq!(Ends::read(&longer), None);
+    }
+
+    #[test]
+    fn voters_are_founders_and_odd_or_none() {
+        let with = |voters: &str| {
+            let next = Next {
+                resilience: 0,
+                window: 16,
+                pb_up_to: 0,
+                voters: None,
+            };
+            let ends = Ends {
+                group: 1,
+                at: 1,
+                members: "0,1,2/3".parse().expect("names"),
+                voters: voters.parse().expect("names"),
+                next,
+            };
+            ends.is_sound()
+        };
+        assert!(with("0") && with("0,1,2") && with("-"));
+        assert!(!with("0,1") && !with("3") && !with("2/3"));
     }
 
     #[test]

@@ -1,6 +1,6 @@
 //! What a member is given, and what it answers.
 
-use crate::config::Founding;
+use crate::config::{Founding, StartError};
 use muoswyld::answer::Standing;
 use muoswyld::names::{Name, Names};
 use thiserror::Error;
@@ -73,10 +73,27 @@ pub enum HandleError {
     /// The name is the member's own.
     #[error("the member itself hasn't stopped")]
     Itself,
-    /// The list can't be followed by another one now: somebody has stopped, is silent, leaves or joins, or the member doesn't know yet who was
-    /// a member before it joined.
-    #[error("the group has members that have stopped, are silent, leave or join: not now")]
+    /// The list can't be followed by another one now: somebody has stopped, is silent, suspected or refused, leaves or joins, the member doesn't
+    /// know yet who was a member before it joined, or the list before isn't over for all.
+    #[error(
+        "the group has members that have stopped, are silent, refused, leave or join: not now"
+    )]
     NotNow,
+    /// The next list's founding isn't one that a group can have.
+    #[error("the next list can't be founded so: {0}")]
+    Founding(StartError),
+    /// A voter of the next list isn't the first life of a member's place.
+    #[error("{0} isn't the first life of a member's place, and can't vote in the next list")]
+    Voter(Name),
+    /// The number of the next list's voters is even: half of them could refuse the other half.
+    #[error("the number of voters is odd, and {0} isn't: name one place more or less")]
+    EvenVoters(usize),
+    /// No voter of this list is a member, so the next one's are to be named.
+    #[error("no voter of this list is a member: name the voters of the next one")]
+    NoVoters,
+    /// Voters are named, and the policy has none.
+    #[error("the policy has no voters")]
+    Unvoted,
     /// The list has ended: the message is to be sent in the one that follows.
     #[error("the list has ended")]
     Succeeded {
@@ -134,6 +151,17 @@ pub enum Delivery {
         /// How many of them may stop.
         resilience: u8,
     },
+    /// The list ended, and another one follows it, whose positions are of the next generation. Its founders' view comes next.
+    Succeeded {
+        /// The entry that ended the list.
+        at: Position,
+        /// The members there, by their names in the list that ended.
+        members: Names,
+        /// How the next list is founded. A member's name in it is the first life of its place.
+        founding: Founding,
+        /// The places that vote who has stopped in the next list; nobody if the policy has no voters.
+        voters: Names,
+    },
 }
 
 impl Delivery {
@@ -143,7 +171,8 @@ impl Delivery {
             Delivery::Message { at, .. }
             | Delivery::Joined { at, .. }
             | Delivery::Left { at, .. }
-            | Delivery::View { at, .. } => *at,
+            | Delivery::View { at, .. }
+            | Delivery::Succeeded { at, .. } => *at,
         }
     }
 }
@@ -157,6 +186,9 @@ pub struct Next {
     pub window: u16,
     /// Up to how many bytes a body goes by the sequencer, 0 to 1,024.
     pub pb_up_to: u16,
+    /// The places that vote who has stopped, each as the first life of a member's place, odd in number. None: those voters of this list that
+    /// are members, less the highest one if their number is even. It is None where the policy has no voters.
+    pub voters: Option<Names>,
 }
 
 /// The list that follows a member's own one.
@@ -166,6 +198,8 @@ pub struct Successor {
     pub group: u64,
     /// Its founding. The member's name in it is the first life of its place.
     pub founding: Founding,
+    /// The places that vote who has stopped in it, each as the first life; nobody if the policy has no voters.
+    pub voters: Names,
     /// The members of the old list at its end, who are its founders.
     pub members: Names,
     /// The last entry of the old list: nothing after it is delivered.
@@ -269,8 +303,10 @@ pub enum Notice {
     OtherKey(u8),
     /// A leave waits: for sends, for a reset, or until another leaver has left.
     LeaveWaits,
-    /// The list was to end at an entry, but somebody joined, left, or a view began meanwhile: it goes on.
+    /// The list was to end, but somebody joined, left, stopped or became silent, or a view began meanwhile: it goes on.
     NotSucceeded,
+    /// The list is to end by itself, but none of its voters is a member: somebody has to end it, and to name the next voters.
+    NoNextVoters,
 }
 
 /// What a member answers.
@@ -348,11 +384,40 @@ pub struct Counts {
     pub resets: u64,
 }
 
+impl Counts {
+    /// These and others together: of lists that follow one another.
+    pub fn plus(&self, other: &Counts) -> Counts {
+        Counts {
+            datagrams_heard: self.datagrams_heard + other.datagrams_heard,
+            datagrams_sent: self.datagrams_sent + other.datagrams_sent,
+            malformed: self.malformed + other.malformed,
+            dropped: self.dropped + other.dropped,
+            other_group: self.other_group + other.other_group,
+            other_process: self.other_process + other.other_process,
+            not_addressed: self.not_addressed + other.not_addressed,
+            askers_put_off: self.askers_put_off + other.askers_put_off,
+            letters_heard: self.letters_heard + other.letters_heard,
+            letters_sent: self.letters_sent + other.letters_sent,
+            steps: self.steps + other.steps,
+            ticks: self.ticks + other.ticks,
+            bodies_sent: self.bodies_sent + other.bodies_sent,
+            messages_sent: self.messages_sent + other.messages_sent,
+            deliveries: self.deliveries + other.deliveries,
+            controls: self.controls + other.controls,
+            resets: self.resets + other.resets,
+        }
+    }
+}
+
 /// How a member stands.
 #[derive(Clone, Copy, Debug, PartialEq, Eq)]
 pub struct Info {
-    /// Its name.
+    /// Its name in the latest list of its group.
     pub name: Name,
+    /// How many lists of the group came before that one.
+    pub generation: u32,
+    /// How that list was founded.
+    pub founding: Founding,
     /// Its group's id, once it knows it.
     pub group: Option<u64>,
     /// What it is to its group, the members, and the fronts of its list.

@@ -253,9 +253,15 @@ impl Member {
         }
         // whoever isn't a member at a list's end joins the next one
         let is_late = self.has_succeeded() && !self.standing.members.has(from);
-        if kind == Some(Kind::JoinAsk) && (is_late || self.puts_off(from)) {
-            self.counts.askers_put_off += 1;
-            return Some(());
+        if kind == Some(Kind::JoinAsk) && is_late {
+            self.tell_ended(from);
+        }
+        if kind == Some(Kind::JoinAsk) {
+            self.is_asked_by(from);
+            if is_late || self.puts_off(from) {
+                self.counts.askers_put_off += 1;
+                return Some(());
+            }
         }
         if kind == Some(Kind::LeaveAsk) {
             self.leaving.heard(self.now);

@@ -10,6 +10,8 @@ impl Member {
     pub fn info(&self) -> Info {
         Info {
             name: self.me(),
+            generation: self.settings.generation,
+            founding: self.settings.founding,
             group: self.hearing.group,
             standing: self.standing,
             unsettled: self.sending.unsettled(),
@@ -25,7 +27,7 @@ impl Member {
     }
 
     /// The members that this one hears regularly: all others, at a sequencer or coordinator; else the sequencer.
-    fn heard_regularly(&self) -> Names {
+    pub(crate) fn heard_regularly(&self) -> Names {
         let standing = &self.standing;
         let others = standing.members.without(self.me());
         match standing.role {
@@ -43,7 +45,7 @@ impl Member {
     }
 
     /// Members that nothing was heard of for a while.
-    fn silent(&self) -> Names {
+    pub(crate) fn silent(&self) -> Names {
         let after = self.settings.silent_after;
         self.heard_regularly()
             .iter()

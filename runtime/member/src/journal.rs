@@ -1,6 +1,7 @@
 //! The lines of a journal, as net/merge.py reads them: what the node was given, what it answered, and its letters.
 
-use crate::config::{Settings, Time};
+use crate::config::{Founding, Settings, Time};
+use crate::event::Successor;
 use muoswyld::answer::{Did, Entry, Outcome};
 use muoswyld::event::Event;
 use muoswyld::names::Name;
@@ -114,6 +115,17 @@ fn word_of(outcome: &Outcome) -> &'static str {
     }
 }
 
+/// A founding, as lines have it.
+fn numbers_of(founding: &Founding) -> String {
+    let Founding {
+        founders,
+        resilience,
+        window,
+        pb_up_to,
+    } = founding;
+    format!("{founders}\t{resilience}\t{window}\t{pb_up_to}")
+}
+
 /// Lines that aren't given out yet.
 #[derive(Debug, Default)]
 pub(crate) struct Journal {
@@ -130,15 +142,17 @@ impl Journal {
             resilience: settings.founding.resilience,
             lines: String::new(),
         };
-        let founding = &settings.founding;
-        journal.push(format_args!(
-            "node\t{}\t{}\t{}\t{}\t{}",
-            settings.name,
-            founding.founders,
-            founding.resilience,
-            founding.window,
-            founding.pb_up_to
-        ));
+        let (name, numbers) = (settings.name, numbers_of(&settings.founding));
+        match (settings.generation, settings.group, settings.before) {
+            (0, _, _) => journal.push(format_args!("node\t{name}\t{numbers}")),
+            (generation, group, before) => {
+                let group = group.unwrap_or_default();
+                let (ended, number) = before.map_or((0, 0), |it| (it.group, it.number));
+                journal.push(format_args!(
+                    "node\t{name}\t{numbers}\t{generation}\t{group:016x}\t{ended:016x}\t{number}"
+                ));
+            }
+        }
         journal
     }
 
@@ -177,6 +191,13 @@ impl Journal {
         }
     }
 
+    /// Adds that the list ended at an entry, and which one follows it.
+    pub(crate) fn succeed(&mut self, next: &Successor) {
+        let numbers = numbers_of(&next.founding);
+        let (number, group) = (next.at.number, next.group);
+        self.push(format_args!("next\t{number}\t{group:016x}\t{numbers}"));
+    }
+
     /// Adds the last line of a life that departed.
     pub(crate) fn end(&mut self) {
         self.push(format_args!("end"));
@@ -192,8 +213,10 @@ impl Journal {
 mod tests {
     use super::*;
     use crate::chance::Chance;
-    use crate::config::Founding;
+    use crate::config::Before;
+    use crate::event::Position;
     use muoswyld::answer::Packet;
+    use muoswyld::names::Names;
     use muoswyld::Node;
     use std::collections::BTreeSet;
 
@@ -252,6 +275,41 @@ mod tests {
                 }
             }
         }
+    }
+
+    #[test]
+    fn a_list_that_follows_another_one_says_so() {
+        let founding = Founding {
+            founders: "0,2".parse().expect("names"),
+            resilience: 1,
+            window: 4,
+            pb_up_to: 20,
+        };
+        let mut settings = Settings::new("2".parse().expect("a name"), founding, 0);
+        settings.journal = true;
+        settings.generation = 3;
+        settings.group = Some(0xa5);
+        settings.before = Some(Before {
+            group: 1 << 63,
+            number: 17,
+        });
+        let mut journal = Journal::new(&settings);
+        let head = "node\t2\t0,2\t1\t4\t20\t3\t00000000000000a5\t8000000000000000\t17\n";
+        assert_eq!(journal.take(), head.as_bytes());
+        journal.succeed(&Successor {
+            group: 7,
+            founding,
+            voters: Names::nobody(),
+            members: "0,2/3".parse().expect("names"),
+            at: Position {
+                generation: 3,
+                number: 9,
+                index: 0,
+            },
+            unsent: Vec::new(),
+        });
+        let line = "next\t9\t0000000000000007\t0,2\t1\t4\t20\n";
+        assert_eq!(journal.take(), line.as_bytes());
     }
 
     #[test]

@@ -44,10 +44,11 @@ mod packet;
 mod queue;
 mod resetting;
 mod sending;
+mod succeeding;
 mod timers;
 
 pub use body::MOST_MESSAGE;
-pub use config::{Founding, Plant, Settings, StartError, Time, MESSAGE_HEAD};
+pub use config::{Before, Founding, Limits, Plant, Settings, StartError, Time, MESSAGE_HEAD};
 pub use event::{
     Counts, Delivery, End, HandleError, Info, Input, Next, NotReset, Notice, Output, Position,
     Successor, Unsent,

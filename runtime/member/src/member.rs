@@ -47,7 +47,7 @@ pub struct Member {
     pub(crate) counts: Counts,
     pub(crate) ended: Option<End>,
     letter: u32,
-    journal: Journal,
+    pub(crate) journal: Journal,
     outbox: Outbox,
     direct: Vec<(Names, Vec<u8>)>,
     outputs: Vec<Output>,
@@ -169,6 +169,7 @@ impl Member {
             .min(self.leave_at())
             .min(self.confirms_at())
             .min(self.greets_at())
+            .min(self.succeeds_at())
             .min(self.paced_until())
     }
 
@@ -278,6 +279,7 @@ impl Member {
         self.find()?;
         self.confirm();
         self.greet();
+        self.succeed_by_itself();
         for _ in 0..MOST_LOOKS {
             let before = self.counts.steps;
             self.collect()?;

@@ -45,8 +45,11 @@ impl fmt::Display for Notice {
                 "what comes of place {place} is dropped: it isn't sealed by this member's key"
             ),
             Notice::NotSucceeded => {
-                write!(f, "the list goes on: somebody joined or left, or a view began, before its end")
+                write!(f, "the list goes on: somebody joined, left or stopped, or a view began, before its end")
             }
+            Notice::NoNextVoters => f.write_str(
+                "the list is to end by itself, and none of its voters is a member: end it, and name the next voters",
+            ),
             Notice::LeaveWaits => {
                 f.write_str("leaving waits for messages on their way, for a reset, or for another member that leaves")
             }

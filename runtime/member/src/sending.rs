@@ -143,6 +143,7 @@ impl Member {
             return Some(());
         }
         if self.sending.ready.is_none() {
+            self.look_at_control();
             if self.sending.is_idle() {
                 return Some(());
             }

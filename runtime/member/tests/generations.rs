@@ -357,6 +357,7 @@ impl World {
                     resilience: self.lists[0].founding.resilience,
                     window: [4, 16, 64][self.draw.below(3) as usize],
                     pb_up_to: 1024,
+                    voters: None,
                 };
                 let _refused = self.processes[k]
                     .member

@@ -3,7 +3,7 @@
 
 use crate::exit::{Fault, CANT_CREATE, CONFIG, IO, UNAVAILABLE};
 use crate::show::object;
-use muoswyld_group::{Blocked, FailuresInfo, Group, Info, Name, Names, ReceiveError};
+use muoswyld_group::{Blocked, FailuresInfo, Group, Info, Name, Names, NextList, ReceiveError};
 use serde_json::{json, Value};
 use std::io::{BufRead, BufReader, Read, Write};
 use std::os::unix::net::{UnixListener, UnixStream};
@@ -16,7 +16,7 @@ use std::time::{Duration, Instant};
 const MOST_COMMAND: u64 = 200_000;
 /// How many callers may be connected at a time.
 const MOST_CALLERS: usize = 64;
-/// How long a caller waits for a leave or a reset.
+/// How long a caller waits for a leave, a reset or the end of a list.
 const PATIENCE: Duration = Duration::from_secs(60);
 
 /// A command to a member that runs.
@@ -28,8 +28,10 @@ pub enum Command {
     Leave,
     /// Resets the group, with at least so many members.
     Reset(Option<u8>),
-    /// This name has stopped for certain.
-    Stopped(Name),
+    /// Ends the list, and has another one follow it.
+    Succeed(NextList),
+    /// This name has stopped for certain: of the latest list, or of the one of a generation.
+    Stopped(Name, Option<u32>),
     /// Tells how the member stands.
     Status,
     /// Gives this caller all deliveries from here on.
@@ -55,13 +57,20 @@ impl Command {
                 let least = text.ok().and_then(|text| text.get(6..)?.parse().ok());
                 least.map(|least| Command::Reset(Some(least))).ok_or("reset wants a least size of 1 to 16")
             }
+            (b"succeed", None) => Ok(Command::Succeed(NextList::new())),
+            (b"succeed", Some(_)) => {
+                let next = text.ok().and_then(|text| text.get(8..)?.parse().ok());
+                next.map(Command::Succeed)
+                    .ok_or("succeed wants resilience N, window N, pb-up-to N or voters PLACES, each once at most")
+            }
             (b"stopped", Some(_)) => {
-                let name = text.ok().and_then(|text| text.get(8..)?.parse().ok());
-                name.map(Command::Stopped).ok_or("stopped wants a name: PLACE, or PLACE/LIFE")
+                let rest = text.ok().and_then(|text| text.get(8..));
+                rest.and_then(stopped_of)
+                    .ok_or("stopped wants a name, PLACE or PLACE/LIFE, and may say the generation of its list")
             }
             (b"status", None) => Ok(Command::Status),
             (b"deliveries", None) => Ok(Command::Deliveries),
-            _ => Err("a command is send MESSAGE, send-hex DIGITS, leave, reset, reset LEAST, stopped NAME, status or deliveries"),
+            _ => Err("a command is send MESSAGE, send-hex DIGITS, leave, reset, reset LEAST, succeed, stopped NAME, status or deliveries"),
         }
     }
 
@@ -72,7 +81,11 @@ impl Command {
             Command::Leave => b"leave".to_vec(),
             Command::Reset(None) => b"reset".to_vec(),
             Command::Reset(Some(least)) => format!("reset {least}").into_bytes(),
-            Command::Stopped(name) => format!("stopped {name}").into_bytes(),
+            Command::Succeed(next) => format!("succeed {next}").trim_end().as_bytes().to_vec(),
+            Command::Stopped(name, None) => format!("stopped {name}").into_bytes(),
+            Command::Stopped(name, Some(generation)) => {
+                format!("stopped {name} {generation}").into_bytes()
+            }
             Command::Status => b"status".to_vec(),
             Command::Deliveries => b"deliveries".to_vec(),
         }
@@ -83,7 +96,9 @@ impl Command {
         let refused = |error: &dyn std::fmt::Display| json!({ "error": error.to_string() });
         match self {
             Command::Send(message) => match group.send(message) {
-                Ok(at) => json!({ "sent": at.number, "index": at.index }),
+                Ok(at) => {
+                    json!({ "sent": at.number, "index": at.index, "generation": at.generation })
+                }
                 Err(error) => refused(&error),
             },
             Command::Leave => match group.leave(PATIENCE) {
@@ -94,10 +109,20 @@ impl Command {
                 Ok(number) => json!({ "reset": number }),
                 Err(error) => refused(&error),
             },
-            Command::Stopped(name) => match group.stopped(name) {
-                Ok(()) => json!({ "told": name.to_string() }),
+            Command::Succeed(next) => match group.succeed(next, PATIENCE) {
+                Ok(at) => json!({ "succeeded": at.number, "generation": at.generation }),
                 Err(error) => refused(&error),
             },
+            Command::Stopped(name, generation) => {
+                let told = match generation {
+                    Some(generation) => group.stopped_in(generation, name),
+                    None => group.stopped(name),
+                };
+                match told {
+                    Ok(()) => json!({ "told": name.to_string() }),
+                    Err(error) => refused(&error),
+                }
+            }
             Command::Status => match (group.info(), group.failures()) {
                 (Ok(info), Ok(failures)) => status(&info, &failures),
                 (Err(end), _) | (_, Err(end)) => refused(&end),
@@ -109,6 +134,15 @@ impl Command {
     }
 }
 
+/// The command of what stands after the word `stopped`.
+fn stopped_of(rest: &str) -> Option<Command> {
+    let (name, generation) = match rest.split_once(' ') {
+        Some((name, generation)) => (name, Some(generation.parse().ok()?)),
+        None => (rest, None),
+    };
+    Some(Command::Stopped(name.parse().ok()?, generation))
+}
+
 /// How a member stands, as JSON.
 fn status(info: &Info, failures: &FailuresInfo) -> Value {
     let names =
@@ -117,7 +151,11 @@ fn status(info: &Info, failures: &FailuresInfo) -> Value {
     json!({
         "name": info.name.to_string(),
         "role": format!("{:?}", standing.role).to_lowercase(),
+        "generation": info.generation,
         "group": info.group.map(|id| format!("{id:016x}")),
+        "founders": names(info.founding.founders),
+        "window": info.founding.window,
+        "pb-up-to": info.founding.pb_up_to,
         "view": standing.view.to_string(),
         "members": names(standing.members),
         "resilience": standing.resilience,
@@ -336,7 +374,7 @@ mod tests {
     proptest::proptest! {
         #[test]
         fn any_line_is_a_command_or_is_refused(
-            word in "(send|send-hex|leave|reset|stopped|status|)",
+            word in "(send|send-hex|leave|reset|succeed|stopped|status|)",
             rest in proptest::collection::vec(proptest::prelude::any::<u8>(), 0..40),
         ) {
             let line = [word.as_bytes(), &rest].concat();
@@ -355,7 +393,10 @@ mod tests {
             Command::Leave,
             Command::Reset(None),
             Command::Reset(Some(2)),
-            Command::Stopped(name),
+            Command::Succeed(NextList::new()),
+            Command::Succeed(NextList::new().window(500)),
+            Command::Stopped(name, None),
+            Command::Stopped(name, Some(2)),
             Command::Status,
             Command::Deliveries,
         ];
@@ -372,8 +413,11 @@ mod tests {
             b"sned x",
             b"reset x",
             b"reset 1 2",
+            b"succeed window",
+            b"succeed places 3",
             b"stopped",
             b"stopped 16",
+            b"stopped 1 x",
             b"leave now",
             b"send-hex 1",
             b"\xff",

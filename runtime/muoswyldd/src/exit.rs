@@ -67,7 +67,7 @@ pub fn by_end(end: &End) -> Result<(), Fault> {
     let status = match end {
         End::Left | End::Closed | End::Stopped => return Ok(()),
         End::LeftOut | End::Unwelcomed | End::Superseded => UNAVAILABLE,
-        End::Failed(_) => IO,
+        End::Failed(_) | End::NotBegun => IO,
         _ => SOFTWARE,
     };
     Err(Fault::of(status, format_args!("the member ended: {end}")))

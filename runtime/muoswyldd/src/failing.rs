@@ -4,9 +4,11 @@ use crate::exit::{Fault, CONFIG, SYSTEM, TRY_AGAIN};
 use crate::key;
 use crate::options::{resolve, Run};
 use clap::ValueEnum;
-use muoswyld_group::{Config, Facts, Group, Name, Policy};
+use muoswyld_group::{Config, Facts, Group, LaterList, Name, Policy, StateError};
 use serde::Deserialize;
+use std::cmp::Ordering;
 use std::io::ErrorKind;
+use std::net::SocketAddr;
 use std::time::Duration;
 
 /// How long a program that ends a name may take where nothing else is said.
@@ -18,6 +20,8 @@ const DRIFT: u64 = 100;
 
 /// How long a member asks at its seeds where nothing is said.
 const ASK_WITHIN: u64 = 10;
+/// How long a place that comes back waits for an answer of the others: which list is the latest.
+const PEERS_WITHIN: Duration = Duration::from_secs(2);
 
 /// A setting isn't said.
 pub(crate) fn missing(what: &str) -> Fault {
@@ -42,11 +46,51 @@ pub enum By {
 }
 
 impl Run {
-    /// What members at the seeds say of their group; None if there is no seed, or the founders are said.
+    /// What members say of their group: those at the seeds if there are some and the founders aren't said; else, for a place that comes back,
+    /// those at the other addresses, if one of them answers soon. None if nobody is asked, or nobody has to answer and nobody does.
     pub(crate) fn asked(&self) -> Result<Option<Facts>, Fault> {
         if self.seed.is_empty() || self.founders.is_some() {
-            return Ok(None);
+            return self.asked_of_peers();
         }
+        let seeds: Result<Vec<_>, _> = self.seed.iter().map(|text| resolve(text)).collect();
+        let most = Duration::from_secs(self.start_within.unwrap_or(ASK_WITHIN));
+        self.ask(&seeds?, most)?
+            .map(Some)
+            .map_err(|error| match error.kind() {
+                ErrorKind::TimedOut => Fault::of(TRY_AGAIN, error),
+                ErrorKind::InvalidData => Fault::of(CONFIG, error),
+                _ => Fault::of(SYSTEM, error),
+            })
+    }
+
+    /// What the other members say, for a place that comes back: they may know a later list than its folder.
+    fn asked_of_peers(&self) -> Result<Option<Facts>, Fault> {
+        let (Some(name), Some(folder), true) = (self.name, &self.state, self.next_life) else {
+            return Ok(None);
+        };
+        let own = muoswyld_group::next_life(folder, name.place());
+        match own {
+            // the group is about to be founded
+            Ok((next, None)) if next.life() == 1 => return Ok(None),
+            Ok(_) | Err(StateError::Begun { .. }) => {}
+            // it is told where the folder is taken
+            Err(_) => return Ok(None),
+        }
+        let others = self
+            .address
+            .iter()
+            .filter(|(place, _)| *place != name.place());
+        let others: Result<Vec<_>, _> = others.map(|(_, text)| resolve(text)).collect();
+        match self.ask(&others?, PEERS_WITHIN)? {
+            Ok(facts) => Ok(Some(facts)),
+            Err(error) if error.kind() == ErrorKind::TimedOut => Ok(None),
+            Err(error) if error.kind() == ErrorKind::InvalidData => Err(Fault::of(CONFIG, error)),
+            Err(error) => Err(Fault::of(SYSTEM, error)),
+        }
+    }
+
+    /// Asks members at some addresses how their group was founded.
+    fn ask(&self, seeds: &[SocketAddr], most: Duration) -> Result<std::io::Result<Facts>, Fault> {
         let name = self.name.ok_or_else(|| missing("name"))?;
         let own = self
             .address
@@ -57,34 +101,49 @@ impl Run {
             (None, Some((_, text))) => resolve(text)?,
             (None, None) => return Err(missing("address")),
         };
-        let seeds: Result<Vec<_>, _> = self.seed.iter().map(|text| resolve(text)).collect();
         let key = match (&self.key, self.insecure) {
             (Some(path), _) => Some(key::read(path)?),
             (None, true) => None,
             (None, false) => return Err(missing("key")),
         };
-        let most = Duration::from_secs(self.start_within.unwrap_or(ASK_WITHIN));
-        let asked = Facts::ask(&seeds?, (name.place(), own), key.as_ref(), most);
-        asked.map(Some).map_err(|error| match error.kind() {
-            ErrorKind::TimedOut => Fault::of(TRY_AGAIN, error),
-            _ => Fault::of(SYSTEM, error),
-        })
+        Ok(Facts::ask(seeds, (name.place(), own), key.as_ref(), most))
     }
 
-    /// The name that is said, or the next life of its place that was never begun: as the folder of state says, and what members know.
-    pub(crate) fn name_to_run(&self, facts: Option<&Facts>) -> Result<Name, Fault> {
+    /// The name that is said, or the next life of its place that was never begun, and the list in which it begins: as the folder of state
+    /// says, and what members know.
+    pub(crate) fn name_to_run(
+        &self,
+        facts: Option<&Facts>,
+    ) -> Result<(Name, Option<LaterList>), Fault> {
         let name = self.name.ok_or_else(|| missing("name"))?;
         if !self.next_life {
-            return Ok(name);
+            return Ok((name, facts.and_then(|facts| facts.later)));
         }
         let folder = self.state.as_ref();
         let folder = folder.ok_or_else(|| Fault::of(CONFIG, "--next-life wants --state, too"))?;
-        let next = muoswyld_group::next_life(folder, name.place());
-        let next = next.map_err(|error| Fault::of(CONFIG, error))?;
-        match facts.map(|facts| facts.next) {
-            None => Ok(next),
-            Some(Some(known)) => Ok(next.max(known)),
-            Some(None) => Err(Fault::of(CONFIG, "the place has no life left")),
+        let own = muoswyld_group::next_life(folder, name.place());
+        let Some(facts) = facts else {
+            return own.map_err(|error| Fault::of(CONFIG, error));
+        };
+        let none_left = || Fault::of(CONFIG, "the place has no life left");
+        let known = facts.next.ok_or_else(none_left);
+        let (next, list) = match own {
+            Ok(own) => own,
+            // a folder whose lives are used up: a later list has others
+            Err(StateError::Begun { .. }) if facts.later.is_some() => {
+                return Ok((known?, facts.later));
+            }
+            Err(error) => return Err(Fault::of(CONFIG, error)),
+        };
+        let generation = list.map_or(0, |list| list.generation);
+        match facts.generation().cmp(&generation) {
+            Ordering::Less => Ok((next, list)),
+            Ordering::Equal if facts.later != list => {
+                let line = "the folder of state has another list than the other members";
+                Err(Fault::of(CONFIG, line))
+            }
+            Ordering::Equal => Ok((next.max(known?), list)),
+            Ordering::Greater => Ok((known?, facts.later)),
         }
     }
 

@@ -10,5 +10,6 @@ pub mod key;
 pub mod log;
 pub mod metrics;
 pub mod options;
+pub mod otherwise;
 pub mod run;
 pub mod show;

@@ -31,7 +31,12 @@ fn done(verb: Verb) -> Result<(), Fault> {
         Verb::Send { at, message } => (at, Command::Send(message.into_bytes())),
         Verb::Leave { at } => (at, Command::Leave),
         Verb::Reset { at, least } => (at, Command::Reset(least)),
-        Verb::Stopped { at, name } => (at, Command::Stopped(name)),
+        Verb::Succeed { at, next } => (at, Command::Succeed(next.list())),
+        Verb::Stopped {
+            at,
+            name,
+            generation,
+        } => (at, Command::Stopped(name, generation)),
         Verb::Status { at } => (at, Command::Status),
     };
     let answer = ask(&at.socket, &command)?;

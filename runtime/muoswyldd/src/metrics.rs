@@ -55,6 +55,11 @@ fn values(info: &Info) -> Vec<Value> {
             u64::from(is_in),
         ),
         (
+            "muoswyld_generation",
+            "how many lists of the group came before the latest one",
+            u64::from(info.generation),
+        ),
+        (
             "muoswyld_members",
             "members of the view",
             standing.members.len() as u64,

@@ -3,14 +3,19 @@
 use crate::exit::{Fault, CONFIG, NO_INPUT};
 use crate::failing::{missing, By};
 use crate::key;
+use crate::otherwise::Otherwise;
 use crate::show::Form;
 use clap::{Args, Parser, Subcommand, ValueEnum};
-use muoswyld_group::{Config, Name, Names};
+use muoswyld_group::{Config, Limits, Name, Names};
 use serde::Deserialize;
 use std::collections::BTreeMap;
 use std::net::{SocketAddr, ToSocketAddrs};
 use std::path::{Path, PathBuf};
 use std::time::Duration;
+
+/// With how many lives left the list ends by itself where only the numbers are said, and the other way round.
+const LIVES_LEFT: u8 = 1;
+const NUMBERS_LEFT: u32 = 1_000_000;
 
 /// A member of a group: all members are given the same messages in the same order.
 #[derive(Debug, Parser)]
@@ -55,6 +60,15 @@ pub enum Verb {
         /// The fewest members to go on with
         least: Option<u8>,
     },
+    /// Has a member that runs end its group's list, so that another one follows it; what isn't said stays as it is
+    Succeed {
+        /// The member
+        #[command(flatten)]
+        at: At,
+        /// What the next list has otherwise
+        #[command(flatten)]
+        next: Otherwise,
+    },
     /// Tells a member that runs that another one has stopped for certain
     Stopped {
         /// The member
@@ -62,6 +76,9 @@ pub enum Verb {
         at: At,
         /// The name that has stopped
         name: Name,
+        /// How many lists came before the one that the name is of [default: the latest one]
+        #[arg(long, value_name = "N")]
+        generation: Option<u32>,
     },
     /// Prints how a member that runs stands, as JSON
     Status {
@@ -214,6 +231,14 @@ pub struct Run {
     /// Milliseconds of silence after which a name is suspected [default: as few as may be]
     #[arg(long, value_name = "MILLISECONDS")]
     pub silence: Option<u64>,
+    /// The list ends by itself, and another one follows it, once a member's place has at most so many lives left, 0 to 15 [default: it
+    /// doesn't; 1 if --succeed-at-numbers is said]
+    #[arg(long, value_name = "N")]
+    pub succeed_at_lives: Option<u8>,
+    /// The list ends by itself, and another one follows it, once at most so many numbers of entries are left [default: it doesn't; 1000000 if
+    /// --succeed-at-lives is said]
+    #[arg(long, value_name = "N")]
+    pub succeed_at_numbers: Option<u32>,
     /// Seconds that the member may take to come into the group [default: without end]
     #[arg(long, value_name = "SECONDS")]
     pub start_within: Option<u64>,
@@ -315,6 +340,8 @@ impl Run {
             heartbeat: self.heartbeat.or(file.heartbeat),
             delay: self.delay.or(file.delay),
             silence: self.silence.or(file.silence),
+            succeed_at_lives: self.succeed_at_lives.or(file.succeed_at_lives),
+            succeed_at_numbers: self.succeed_at_numbers.or(file.succeed_at_numbers),
             start_within: self.start_within.or(file.start_within),
             leave_within: self.leave_within.or(file.leave_within),
         }
@@ -323,18 +350,24 @@ impl Run {
     /// The group's configuration that they say.
     pub fn group(&self) -> Result<Config, Fault> {
         let facts = self.asked()?;
-        let name = self.name_to_run(facts.as_ref())?;
+        let (name, list) = self.name_to_run(facts.as_ref())?;
         let wrong = |error| Fault::of(CONFIG, error);
+        let facts = match facts {
+            Some(mut facts) => {
+                // an address that is said stands over one that is told
+                let is_said = |place: &u8| self.address.iter().any(|(said, _)| said == place);
+                facts.addresses.retain(|(place, _)| !is_said(place));
+                Some(facts)
+            }
+            None => None,
+        };
         let mut config = match (&facts, self.founders) {
-            (Some(facts), _) => facts.config(name).map_err(wrong)?,
-            (None, Some(founders)) => Config::new(name, founders),
+            (_, Some(founders)) => Config::new(name, founders),
+            (Some(facts), None) => facts.config(name).map_err(wrong)?,
             (None, None) => return Err(missing("founders")),
         };
         for (place, text) in &self.address {
-            let known = facts.iter().flat_map(|facts| &facts.addresses);
-            if !known.into_iter().any(|(known, _)| known == place) {
-                config = config.address(*place, resolve(text)?).map_err(wrong)?;
-            }
+            config = config.address(*place, resolve(text)?).map_err(wrong)?;
         }
         if let Some(address) = self.bind {
             config = config.bind(address);
@@ -344,7 +377,23 @@ impl Run {
             (None, true) => config.insecure(),
             (None, false) => config,
         };
-        self.failing(self.numbers(config), facts.as_ref())
+        let config = self.failing(self.numbers(config), facts.as_ref())?;
+        Ok(match list {
+            // its numbers and voters are those of the list in which it begins
+            Some(list) => config.later(list),
+            None => config,
+        })
+    }
+
+    /// When the list ends by itself, if it does.
+    fn limits(&self) -> Option<Limits> {
+        match (self.succeed_at_lives, self.succeed_at_numbers) {
+            (None, None) => None,
+            (lives, numbers) => Some(Limits {
+                lives: lives.unwrap_or(LIVES_LEFT),
+                numbers: numbers.unwrap_or(NUMBERS_LEFT),
+            }),
+        }
     }
 
     /// With the numbers that are said.
@@ -375,6 +424,9 @@ impl Run {
         }
         if let Some(seconds) = self.start_within {
             config = config.start_within(Duration::from_secs(seconds));
+        }
+        if let Some(limits) = self.limits() {
+            config = config.succeed_at(limits);
         }
         config
     }
@@ -442,6 +494,16 @@ mod tests {
         assert_eq!(run.fence, Some(PathBuf::from("f")));
         assert_eq!(run.fence_within, Some(3));
         assert!(toml::from_str::<Run>("failures = \"guess\"").is_err());
+    }
+
+    #[test]
+    fn a_list_ends_by_itself_if_that_is_said() {
+        assert_eq!(run_of(&[]).limits(), None);
+        let file: Run = toml::from_str("succeed-at-numbers = 7").unwrap();
+        let limits = run_of(&[]).over(file).limits().unwrap();
+        assert_eq!((limits.lives, limits.numbers), (LIVES_LEFT, 7));
+        let limits = run_of(&["--succeed-at-lives", "3"]).limits().unwrap();
+        assert_eq!((limits.lives, limits.numbers), (3, NUMBERS_LEFT));
     }
 
     #[test]

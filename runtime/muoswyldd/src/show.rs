@@ -1,7 +1,7 @@
 //! Deliveries and messages as lines of text or of JSON.
 
 use clap::ValueEnum;
-use muoswyld_group::Delivery;
+use muoswyld_group::{Delivery, Founding, Names};
 use serde::Deserialize;
 use serde_json::{json, Value};
 
@@ -9,7 +9,7 @@ use serde_json::{json, Value};
 #[derive(Clone, Copy, Debug, Default, PartialEq, Eq, ValueEnum, Deserialize)]
 #[serde(rename_all = "lowercase")]
 pub enum Form {
-    /// A line each: NUMBER SENDER: TEXT, or NUMBER joined NAME and the like.
+    /// A line each: NUMBER SENDER: TEXT, or NUMBER joined NAME and the like. A number of a later list has its generation before it: 1.17.
     #[default]
     Lines,
     /// An object of JSON a line.
@@ -46,7 +46,11 @@ fn content(message: &[u8]) -> (&'static str, Value) {
 
 /// A delivery as a line of text.
 pub fn line(delivery: &Delivery) -> String {
-    let number = delivery.at().number;
+    let at = delivery.at();
+    let number = match at.generation {
+        0 => at.number.to_string(),
+        generation => format!("{generation}.{}", at.number),
+    };
     match delivery {
         Delivery::Message { from, message, .. } => format!("{number} {from}: {}", shown(message)),
         Delivery::Joined { name, .. } => format!("{number} joined {name}"),
@@ -56,13 +60,30 @@ pub fn line(delivery: &Delivery) -> String {
             resilience,
             ..
         } => format!("{number} view {members} r{resilience}"),
+        Delivery::Succeeded {
+            founding, voters, ..
+        } => {
+            let Founding {
+                founders,
+                resilience,
+                window,
+                pb_up_to,
+            } = founding;
+            format!("{number} succeeded by {founders} r{resilience} window {window} pb-up-to {pb_up_to} voters {voters}")
+        }
     }
+}
+
+/// Names, as JSON.
+fn names(names: &Names) -> Value {
+    let names: Vec<String> = names.iter().map(|name| name.to_string()).collect();
+    json!(names)
 }
 
 /// A delivery as an object of JSON.
 pub fn object(delivery: &Delivery) -> Value {
     let at = delivery.at();
-    let mut object = json!({ "number": at.number, "index": at.index });
+    let mut object = json!({ "generation": at.generation, "number": at.number, "index": at.index });
     match delivery {
         Delivery::Message { from, message, .. } => {
             let (key, content) = content(message);
@@ -83,10 +104,23 @@ pub fn object(delivery: &Delivery) -> Value {
             resilience,
             ..
         } => {
-            let members: Vec<String> = members.iter().map(|name| name.to_string()).collect();
             object["kind"] = json!("view");
-            object["members"] = json!(members);
+            object["members"] = names(members);
             object["resilience"] = json!(resilience);
+        }
+        Delivery::Succeeded {
+            members,
+            founding,
+            voters,
+            ..
+        } => {
+            object["kind"] = json!("succeeded");
+            object["members"] = names(members);
+            object["founders"] = names(&founding.founders);
+            object["resilience"] = json!(founding.resilience);
+            object["window"] = json!(founding.window);
+            object["pb-up-to"] = json!(founding.pb_up_to);
+            object["voters"] = names(voters);
         }
     }
     object
@@ -95,6 +129,7 @@ pub fn object(delivery: &Delivery) -> Value {
 #[cfg(test)]
 mod tests {
     use super::*;
+    use muoswyld_group::Position;
 
     #[test]
     fn controls_are_replaced() {
@@ -105,6 +140,42 @@ mod tests {
         );
         assert_eq!(shown(b"\xff"), "\u{fffd}");
         assert_eq!(shown("äöü".as_bytes()), "äöü");
+    }
+
+    #[test]
+    fn deliveries_of_later_lists_say_so() {
+        let at = |generation| Position {
+            generation,
+            number: 17,
+            index: 2,
+        };
+        let message = |generation| Delivery::Message {
+            at: at(generation),
+            from: "1/2".parse().unwrap(),
+            message: b"x".to_vec(),
+        };
+        assert_eq!(line(&message(0)), "17 1/2: x");
+        assert_eq!(line(&message(3)), "3.17 1/2: x");
+        let said = json!({ "generation": 3, "number": 17, "index": 2, "kind": "message", "from": "1/2", "text": "x" });
+        assert_eq!(object(&message(3)), said);
+        let end = Delivery::Succeeded {
+            at: at(0),
+            members: "0,1/2".parse().unwrap(),
+            founding: Founding {
+                founders: "0,1".parse().unwrap(),
+                resilience: 1,
+                window: 500,
+                pb_up_to: 1024,
+            },
+            voters: Names::nobody(),
+        };
+        let shown = "17 succeeded by 0,1 r1 window 500 pb-up-to 1024 voters -";
+        assert_eq!(line(&end), shown);
+        let said = json!({
+            "generation": 0, "number": 17, "index": 2, "kind": "succeeded", "members": ["0", "1/2"],
+            "founders": ["0", "1"], "resilience": 1, "window": 500, "pb-up-to": 1024, "voters": [],
+        });
+        assert_eq!(object(&end), said);
     }
 
     #[test]

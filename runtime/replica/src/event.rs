@@ -105,6 +105,14 @@ pub enum Ended {
     /// The member's first delivery is neither the founders' view nor its own join.
     #[error("the member's first delivery is neither the founders' view nor its own join")]
     NoBeginning,
+    /// The group's list ended, and another one follows it: the state of a replica is of one list.
+    #[error(
+        "the group's list ended at entry {number}, and a replica doesn't go on in the next one"
+    )]
+    ListEnded {
+        /// The entry that ended the list.
+        number: u32,
+    },
 }
 
 /// What is told for logs.

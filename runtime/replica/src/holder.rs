@@ -93,6 +93,10 @@ impl<S: StateMachine> Holder<S> {
                 None
             }
             Delivery::Message { from, message, .. } => self.message(at, from, &message)?,
+            Delivery::Succeeded { at, .. } => {
+                let number = at.number;
+                return Err(Ended::ListEnded { number });
+            }
         };
         if let (Some(number), true) = (due, is_late) {
             self.check(number);

@@ -63,6 +63,7 @@ impl<S: StateMachine> Waiting<S> {
                 self.members = self.members.map(|members| members.without(*name));
             }
             Delivery::View { members, .. } => self.members = Some(*members),
+            Delivery::Succeeded { .. } => return Err(Ended::ListEnded { number }),
             Delivery::Message { from, message, .. } => {
                 if self.message(*from, message, settings)? {
                     return Ok(true);

@@ -1,7 +1,7 @@
 //! What is checked of what the applications saw.
 //!
-//! - All lives were given pieces of one list: at a position everybody has the same delivery, and nobody misses one between its first
-//!   and its last. (A joiner isn't given a long message that began before its join.)
+//! - All lives were given pieces of one list, over all of a group's lists: at a position everybody has the same delivery, and nobody
+//!   misses one between its first and its last. (A joiner isn't given a long message that began before its join.)
 //! - A founder's piece begins with the founders' view, a joiner's with its own join.
 //! - The messages of a sender stand in the list in the order in which it sent them, each once, and none that it didn't send.
 //! - A message whose ticket was settled stands at the position that was told, and its sender was given it before.
@@ -20,8 +20,10 @@ fn may_go_in_parts(message: &[u8]) -> bool {
 /// What a life's application did and saw.
 #[derive(Clone, Debug)]
 pub struct App {
-    /// The life.
+    /// The life, as it is named where it begins.
     pub name: Name,
+    /// Its name in each list that it has come to.
+    pub names: BTreeMap<u32, Name>,
     /// What it was given, in order.
     pub log: Vec<Delivery>,
     /// What it sent; the index is the ticket.
@@ -33,15 +35,21 @@ pub struct App {
 }
 
 impl App {
-    /// An application that saw nothing yet.
-    pub fn new(name: Name, is_twin: bool) -> App {
+    /// An application that saw nothing yet, of a life that begins after so many lists.
+    pub fn new(name: Name, generation: u32, is_twin: bool) -> App {
         App {
             name,
+            names: BTreeMap::from([(generation, name)]),
             log: Vec::new(),
             sent: Vec::new(),
             settled: BTreeMap::new(),
             is_twin,
         }
+    }
+
+    /// Whether a name is this application's in a list.
+    fn is_named(&self, generation: u32, name: Name) -> bool {
+        self.names.get(&generation) == Some(&name)
     }
 
     /// Takes what became of a ticket.
@@ -62,7 +70,7 @@ impl App {
                 from,
                 message: seen,
                 ..
-            }) if *from == name && seen == message => Ok(()),
+            }) if self.is_named(at.generation, *from) && seen == message => Ok(()),
             _ => Err(format!(
                 "{name}: ticket {ticket} was settled at {at:?}, and its message wasn't delivered there before"
             )),
@@ -151,12 +159,15 @@ fn is_gapless(app: &App, list: &List) -> Result<(), String> {
     let mut spoke = BTreeSet::new();
     for (at, delivery) in list.range(first.at()..=last.at()) {
         let from = match delivery {
-            Delivery::Message { from, message, .. } => Some((*from, may_go_in_parts(message))),
+            Delivery::Message { from, message, .. } => {
+                Some(((at.generation, *from), may_go_in_parts(message)))
+            }
             _ => None,
         };
         if !had.contains(at) {
-            let may_miss = from
-                .is_some_and(|(from, in_parts)| is_joiner && in_parts && !spoke.contains(&from));
+            let is_begun = is_joiner && at.generation == first.at().generation;
+            let may_miss =
+                from.is_some_and(|(from, in_parts)| is_begun && in_parts && !spoke.contains(&from));
             if !may_miss {
                 return Err(format!("{} wasn't given {at:?}", app.name));
             }
@@ -173,7 +184,7 @@ fn is_sent_by(app: &App, list: &List, whole: bool) -> Result<(), String> {
         let Delivery::Message { from, message, .. } = delivery else {
             continue;
         };
-        if *from != app.name {
+        if !app.is_named(at.generation, *from) {
             continue;
         }
         let found = match whole {
@@ -192,7 +203,7 @@ fn is_settled(app: &App, list: &List) -> Result<(), String> {
         let Some(message) = app.sent.get(*ticket as usize) else {
             continue;
         };
-        let is_there = |delivery: &Delivery| matches!(delivery, Delivery::Message { from, message: there, .. } if *from == app.name && there == message);
+        let is_there = |delivery: &Delivery| matches!(delivery, Delivery::Message { at, from, message: there } if app.is_named(at.generation, *from) && there == message);
         match result {
             Ok(at) if !list.get(at).is_some_and(|there| is_there(there)) => {
                 return Err(format!("{}: ticket {ticket} isn't at {at:?}", app.name));
@@ -244,7 +255,7 @@ mod tests {
     }
 
     fn app(text: &str, sent: &[&str], log: Vec<Delivery>) -> App {
-        let mut app = App::new(name(text), false);
+        let mut app = App::new(name(text), 0, false);
         app.sent = sent.iter().map(|text| text.as_bytes().to_vec()).collect();
         for delivery in log {
             app.deliver(delivery).expect("in order");
@@ -296,7 +307,7 @@ mod tests {
         assert!(late.settle(0, Ok(at)).is_err());
         let mut again = app("0", &[], one());
         assert!(again.deliver(message(3, 0, "0", "b")).is_err());
-        assert!(App::new(name("1"), false)
+        assert!(App::new(name("1"), 0, false)
             .deliver(message(2, 0, "0", "a"))
             .is_err());
     }

@@ -4,91 +4,16 @@
 //! when it goes on. What becomes visible is checked: it was complete, and under a lease it was looked at, before anybody gave its name
 //! up.
 
-use crate::clock::Clock;
-use crate::draw::Draw;
-use crate::plan::{DriverPlant, FencedPlan, Plan};
+use crate::happening::Happening;
+use crate::machine::{clock_of, id_of};
+use crate::plan::{DriverPlant, FencedPlan};
 use crate::report::Fenced;
-use crate::world::{Happening, World};
-use muoswyld_failures::{self as failures, places_of, Failures, Policy};
-use muoswyld_guarded::Deed;
-use muoswyld_member::{End, Name, StartError, Time};
-use std::collections::VecDeque;
+use crate::world::World;
+use muoswyld_failures::{self as failures, Policy};
+use muoswyld_guarded::{Deed, Ending};
+use muoswyld_member::{End, Name};
+use std::collections::{BTreeMap, BTreeSet};
 use std::rc::Rc;
-
-/// What a place's disk has synced, and the clock of its machine.
-#[derive(Clone, Debug, Default)]
-pub(crate) struct Machine {
-    pub(crate) voter: Option<Vec<u8>>,
-    /// The last life that was begun, as far as it is synced.
-    pub(crate) life: u8,
-    pub(crate) clock: Option<Clock>,
-    /// The life that is about to begin, and is being written.
-    pub(crate) begins: Option<u8>,
-    /// Whether its disk was lost.
-    pub(crate) is_lost: bool,
-}
-
-/// What is known of a process's batch, by the order of happenings.
-#[derive(Clone, Debug, Default)]
-pub(crate) struct Batch {
-    /// When it was complete.
-    pub(crate) fixed: u64,
-    /// How many outputs it had then.
-    pub(crate) size: usize,
-    /// When a look said that it may go out.
-    pub(crate) looked: Option<u64>,
-    pub(crate) is_look_planned: bool,
-    /// The files that are to be written.
-    pub(crate) writes: VecDeque<(u64, Vec<u8>)>,
-}
-
-/// The id of a plan's founding.
-pub(crate) fn id_of(plan: &Plan) -> [u8; 16] {
-    let mut id = [0; 16];
-    id[..8].copy_from_slice(&plan.seed.to_be_bytes());
-    id
-}
-
-/// What says who has stopped at a name's process.
-pub(crate) fn core_of(
-    plan: &Plan,
-    name: Name,
-    process: u64,
-    file: Option<&[u8]>,
-    now: Time,
-) -> Result<Failures, StartError> {
-    let founders = plan.founding.founders.iter();
-    let founders = places_of(founders.map(|name| name.place()));
-    let name = failures::Name::of_byte(name.byte());
-    let policy = plan.fenced.as_ref().map_or(Policy::Told, |it| it.policy);
-    let mut settings = failures::Settings::new(id_of(plan), name, process, founders, policy);
-    if let Some(fenced) = &plan.fenced {
-        settings.period = 20_000;
-        settings.delay = 10_000;
-        settings.silence = settings.least_silence();
-        settings.plant = fenced.core_plant;
-        settings.voters = fenced.voters.unwrap_or(founders);
-    }
-    settings.least = plan.least.unwrap_or(settings.least);
-    // a plan has an odd number of founders, and times that are long enough
-    Failures::new(settings, file, failures::Time(now.0)).map_err(|_| StartError::Period)
-}
-
-/// The clock of a machine that has begun.
-pub(crate) fn clock_of(plan: &FencedPlan, now: u64, draw: &mut Draw) -> Clock {
-    let most = plan.drift;
-    let rate = match plan.at_bounds || draw.per_mille(500) {
-        true if draw.per_mille(500) => 1000 + most,
-        true => 1000 - most,
-        false => draw.between(1000 - most, 1000 + most),
-    };
-    let base = draw.one_of(&[0, 3_000_000, 9_000_000_000_000]).unwrap_or(0);
-    Clock {
-        base: base + draw.below(1_000_000),
-        began: now,
-        rate,
-    }
-}
 
 impl World<'_> {
     pub(crate) fn fenced(&self) -> Option<&FencedPlan> {
@@ -108,18 +33,20 @@ impl World<'_> {
         }
         for name in self.plan.founding.founders.iter() {
             let file = failures::new_file(id_of(self.plan), name.place());
-            self.machines[usize::from(name.place())].voter = Some(file);
+            let voters = &mut self.machines[usize::from(name.place())].voters;
+            voters.insert(0, file);
         }
     }
 
     /// A place's next life is written to its disk, and begins once that is synced. A machine that began again has another clock.
     pub(crate) fn start_fenced(&mut self, place: u8) -> Result<(), String> {
         let now = self.now;
-        let machine = &mut self.machines[usize::from(place)];
-        if self.places[usize::from(place)].is_some() || machine.begins.is_some() {
+        let is_begun = self.machines[usize::from(place)].begins.is_some();
+        if self.places[usize::from(place)].is_some() || is_begun {
             return Ok(());
         }
-        let life = machine.life + 1;
+        let (generation, life) = self.next_life(place);
+        let machine = &mut self.machines[usize::from(place)];
         let Some(fenced) = &self.plan.fenced else {
             return Ok(());
         };
@@ -129,56 +56,89 @@ impl World<'_> {
         if machine.clock.is_none() || self.draw.per_mille(500) {
             machine.clock = Some(clock_of(fenced, now, &mut self.draw));
         }
-        machine.begins = Some(life);
+        machine.begins = Some((generation, life));
         let took = self.draw.between(200, 20_000);
-        self.plan_at(now + took, Happening::Begins { place, life });
+        self.plan_at(
+            now + took,
+            Happening::Begins {
+                place,
+                generation,
+                life,
+            },
+        );
         match self.drives_with(DriverPlant::BeginsBeforeSync) {
-            true => self.begin_life(place, life),
+            true => self.begin_life(place, generation, life),
             false => Ok(()),
         }
     }
 
     /// A machine crashes: what it didn't sync is lost, and at times all of its disk. Then an operator says which life was never begun.
     pub(crate) fn crash_machine(&mut self, place: u8) {
-        let life = self.lives[usize::from(place)];
+        let begun = self.begun.iter().filter(|(_, name)| name.place() == place);
+        let mut lives = BTreeMap::new();
+        for (generation, name) in begun {
+            let last = lives.entry(*generation).or_insert(0);
+            *last = name.life().max(*last);
+        }
         let has_lost = self.machines.iter().any(|machine| machine.is_lost);
         let Some(lost) = self.fenced().map(|it| it.lost_disks) else {
             return;
         };
-        let is_lost = !has_lost && self.draw.below(100) < lost;
+        let is_lost = !has_lost && self.draw.below(100) < lost && !self.is_vote_needed(place);
         let machine = &mut self.machines[usize::from(place)];
         machine.begins = None;
         if is_lost {
-            (machine.voter, machine.life, machine.is_lost) = (None, life, true);
+            (machine.lives, machine.is_lost) = (lives, true);
+            machine.voters.clear();
             self.counts.lost_disks += 1;
         }
     }
 
+    /// Whether the loss of a place's disk would leave too few voters of a list for good.
+    fn is_vote_needed(&self, place: u8) -> bool {
+        self.plan.has_ends
+            && self.lists.iter().enumerate().any(|(generation, list)| {
+                let generation = generation as u32;
+                let has_file = |other: &u8| {
+                    let machine = &self.machines[usize::from(*other)];
+                    list.voters >> other & 1 == 1 && machine.voters.contains_key(&generation)
+                };
+                let left = (0..16).filter(|other| *other != place).filter(has_file);
+                list.voters >> place & 1 == 1
+                    && left.count() <= list.voters.count_ones() as usize / 2
+            })
+    }
+
     /// A life is on its place's disk, and begins.
-    pub(crate) fn life_is_written(&mut self, place: u8, life: u8) -> Result<(), String> {
+    pub(crate) fn life_is_written(
+        &mut self,
+        place: u8,
+        (generation, life): (u32, u8),
+    ) -> Result<(), String> {
         let machine = &mut self.machines[usize::from(place)];
-        if machine.begins != Some(life) {
+        if machine.begins != Some((generation, life)) {
             // the machine crashed before
             return Ok(());
         }
         machine.begins = None;
-        machine.life = life;
+        machine.lives.insert(generation, life);
         match self.drives_with(DriverPlant::BeginsBeforeSync) {
             true => Ok(()),
-            false => self.begin_life(place, life),
+            false => self.begin_life(place, generation, life),
         }
     }
 
-    fn begin_life(&mut self, place: u8, life: u8) -> Result<(), String> {
+    fn begin_life(&mut self, place: u8, generation: u32, life: u8) -> Result<(), String> {
         let Some(name) = Name::new(place, life) else {
             return Ok(());
         };
-        if !self.begun.insert(name) {
+        if !self.begun.insert((generation, name)) {
             return Err(format!("{name} begins a second time"));
         }
         self.lives[usize::from(place)] = life;
         self.counts.lives += 1;
-        self.start_process(name, false)
+        self.start_process(generation, name, false)?;
+        self.look_at_vote(place, generation)
     }
 
     // ---- batches
@@ -208,12 +168,15 @@ impl World<'_> {
         let process = self.process(place)?;
         process.release_at = None;
         let time = process.clock.time(now);
-        let before = process.member.held();
+        let lists: Vec<u32> = process.member.served().collect();
+        let before = lists.iter().map(|list| process.member.held_in(*list));
+        let before: Vec<usize> = before.collect();
         process.member.fix(time);
-        let size = process.member.held();
-        if size > before {
-            process.batch.fixed = order;
-            process.batch.size = size;
+        for (list, before) in lists.into_iter().zip(before) {
+            let size = process.member.held_in(list);
+            if size > before {
+                process.batch.fixed.insert(list, (order, size));
+            }
         }
         self.do_deeds(place)?;
         let Some(process) = &mut self.places[usize::from(place)] else {
@@ -243,8 +206,12 @@ impl World<'_> {
             return Ok(());
         }
         process.batch.looked = Some(order);
-        let (name, number) = (process.name, process.number);
-        self.counts.late_looks += u64::from(self.given_up.contains_key(&name));
+        let number = process.number;
+        let named = process.app.names.clone();
+        let is_late = named
+            .into_iter()
+            .any(|named| self.given_up.contains_key(&named));
+        self.counts.late_looks += u64::from(is_late);
         let wait = match self.draw.per_mille(950) {
             true => 0,
             false => self.draw.below(2_000),
@@ -264,15 +231,21 @@ impl World<'_> {
         let time = process.clock.time(now);
         let mut outputs = Vec::new();
         process.member.batch(time, &mut outputs);
-        if outputs.len() > process.batch.size {
-            process.batch.fixed = order;
+        let lists: BTreeSet<u32> = outputs.iter().map(|one| one.generation).collect();
+        for list in lists {
+            let size = outputs.iter().filter(|one| one.generation == list).count();
+            let process = self.process(place)?;
+            let fixed = process.batch.fixed.entry(list).or_insert((order, size));
+            if size > fixed.1 {
+                fixed.0 = order;
+            }
+            let fixed = fixed.0;
+            self.may_be_seen(place, list, (fixed, looked))?;
         }
-        let (name, fixed) = (process.name, process.batch.fixed);
-        self.may_be_seen(name, fixed, looked)?;
         let most = most.map_or(outputs.len(), |most| most as usize);
         let is_whole = most >= outputs.len();
-        for output in outputs.into_iter().take(most) {
-            self.output(place, output)?;
+        for released in outputs.into_iter().take(most) {
+            self.output(place, released)?;
         }
         self.counts.batches += 1;
         if !is_whole {
@@ -280,7 +253,9 @@ impl World<'_> {
         }
         let process = self.process(place)?;
         process.member.emitted(time);
-        process.batch.size = process.member.held();
+        for (list, fixed) in &mut process.batch.fixed {
+            fixed.1 = process.member.held_in(*list);
+        }
         let taken = process.take_at_once();
         self.serve_sends(place)?;
         if taken > 0 {
@@ -292,15 +267,25 @@ impl World<'_> {
     }
 
     /// What a name lets out was complete before anybody gave it up, and under a lease it was looked at before, too.
-    fn may_be_seen(&self, name: Name, fixed: u64, looked: u64) -> Result<(), String> {
-        let Some(gone) = self.given_up.get(&name) else {
+    fn may_be_seen(
+        &self,
+        place: u8,
+        generation: u32,
+        (fixed, looked): (u64, u64),
+    ) -> Result<(), String> {
+        let process = self.places[usize::from(place)].as_ref();
+        let name = process.and_then(|process| process.app.names.get(&generation));
+        let Some(name) = name.copied() else {
+            return Err(format!("place {place} has no name in list {generation}"));
+        };
+        let Some(gone) = self.given_up.get(&(generation, name)) else {
             return Ok(());
         };
         let is_lease = matches!(self.fenced().map(|it| it.policy), Some(Policy::Lease(_)));
         let sure = if is_lease { fixed.max(looked) } else { fixed };
         if *gone < sure {
             return Err(format!(
-                "{name} lets out what was sure at happening {sure}, and was given up at {gone}"
+                "{name} lets out in list {generation} what was sure at happening {sure}, and was given up at {gone}"
             ));
         }
         Ok(())
@@ -315,36 +300,65 @@ impl World<'_> {
         let time = process.clock.time(now);
         for deed in process.member.deeds(time) {
             match deed {
-                Deed::Send { to, payload } => {
+                Deed::Send {
+                    generation,
+                    to,
+                    payload,
+                } => {
+                    self.is_on_disk(place, generation)?;
                     let payload: Rc<[u8]> = payload.into();
                     for other in (0..16).filter(|other| to >> other & 1 == 1) {
                         self.carry_to(place, other, payload.clone());
                     }
                 }
-                Deed::Write { number, bytes } => self.write(place, number, bytes)?,
-                Deed::Stopped(name) => self.note_given_up(name),
-                Deed::Ended => {
+                Deed::Write {
+                    generation,
+                    number,
+                    bytes,
+                } => self.write(place, (generation, number), bytes)?,
+                Deed::Stopped { generation, name } => self.note_given_up(generation, name),
+                Deed::Ended { generation, why } => {
                     let name = self.process(place)?.name;
-                    self.note_given_up(name);
+                    if why == Ending::GivenUp {
+                        self.note_given_up(generation, name);
+                    }
                     self.counts.ended += 1;
                     self.stop(place, Some(End::LeftOut))?;
                     return Ok(());
                 }
-                Deed::Told(failures::Notice::Frozen) => self.counts.frozen += 1,
-                Deed::Told(failures::Notice::Refuses(_)) => self.counts.refusals += 1,
-                Deed::Fence { .. } | Deed::Told(_) => {}
+                Deed::Begin {
+                    generation,
+                    id,
+                    voter,
+                    ..
+                } => self.begins_list(place, (generation, id), voter)?,
+                Deed::Closed { generation } => self.closed(place, generation)?,
+                Deed::Told {
+                    notice: failures::Notice::Frozen,
+                    ..
+                } => self.counts.frozen += 1,
+                Deed::Told {
+                    notice: failures::Notice::Refuses(_),
+                    ..
+                } => self.counts.refusals += 1,
+                Deed::Fence { .. } | Deed::Told { .. } => {}
             }
         }
         Ok(())
     }
 
     /// A voter's file is to be written.
-    fn write(&mut self, place: u8, write: u64, bytes: Vec<u8>) -> Result<(), String> {
+    fn write(
+        &mut self,
+        place: u8,
+        (list, write): (u32, u64),
+        bytes: Vec<u8>,
+    ) -> Result<(), String> {
         let now = self.now;
         let slow = self.draw.per_mille(100);
         let took = self.draw.between(200, if slow { 300_000 } else { 10_000 });
         let process = self.process(place)?;
-        process.batch.writes.push_back((write, bytes));
+        process.batch.writes.push_back((list, write, bytes));
         let number = process.number;
         self.plan_at(now + took, Happening::Synced { place, number });
         if self.drives_with(DriverPlant::TellsBeforeSync) {
@@ -353,6 +367,7 @@ impl World<'_> {
                 Happening::Written {
                     place,
                     number,
+                    list,
                     write,
                 },
             );
@@ -366,11 +381,16 @@ impl World<'_> {
         let process = self.places[usize::from(place)].as_mut();
         let process = process.filter(|process| process.number == number);
         // of a process that crashed before it is lost
-        let Some((write, bytes)) = process.and_then(|process| process.batch.writes.pop_front())
+        let Some((list, write, bytes)) =
+            process.and_then(|process| process.batch.writes.pop_front())
         else {
             return;
         };
-        self.machines[usize::from(place)].voter = Some(bytes);
+        // of a list that isn't served any more it is of no use
+        let voters = &mut self.machines[usize::from(place)].voters;
+        if let Some(file) = voters.get_mut(&list) {
+            *file = bytes;
+        }
         if !self.drives_with(DriverPlant::TellsBeforeSync) {
             let at = now + self.draw.below(500);
             self.plan_at(
@@ -378,37 +398,43 @@ impl World<'_> {
                 Happening::Written {
                     place,
                     number,
+                    list,
                     write,
                 },
             );
         }
     }
 
-    pub(crate) fn written(&mut self, place: u8, write: u64) -> Result<(), String> {
+    pub(crate) fn written(&mut self, place: u8, list: u32, write: u64) -> Result<(), String> {
         let now = self.now;
         let process = self.process(place)?;
         let time = process.clock.time(now);
-        process.member.written(time, Some(write));
+        process.member.written(time, list, Some(write));
         self.plan_release(place);
         Ok(())
     }
 
     /// Somebody knows that a name has stopped. If it runs, that is a stop, too: it can't act any more.
-    fn note_given_up(&mut self, name: Name) {
+    fn note_given_up(&mut self, generation: u32, name: Name) {
         let order = self.counts.events;
-        self.given_up.entry(name).or_insert(order);
-        if !self.stopped.insert(name) {
+        let named = (generation, name);
+        self.given_up.entry(named).or_insert(order);
+        if !self.stopped.insert(named) {
             return;
         }
         self.counts.given_up += 1;
+        if self.plan.has_ends {
+            return self.look_whether_lawful();
+        }
         let running = self.places.iter().flatten();
-        let running = running.filter(|process| !self.stopped.contains(&process.name));
+        let running = running.filter(|process| !self.stopped.contains(&(0, process.name)));
         let standings = running.map(|process| process.member.member().info().standing);
         let Some(last) = standings.max_by_key(|standing| standing.view_number) else {
             return;
         };
         let gone = last.members.iter();
-        let gone = gone.filter(|name| self.stopped.contains(name)).count();
+        let gone = gone.filter(|name| self.stopped.contains(&(0, *name)));
+        let gone = gone.count();
         if gone > usize::from(last.resilience) {
             self.is_void_from_here();
         }
@@ -428,6 +454,9 @@ impl World<'_> {
             ended: counts.ended,
             operated: counts.operated,
             lost_disks: counts.lost_disks,
+            asked: counts.asked,
+            lists: counts.lists,
+            closed: counts.closed,
             is_void: self.is_void,
         }
     }
@@ -440,7 +469,7 @@ impl World<'_> {
             process.is_some_and(|process| process.member.failures().frozen_since.is_some())
         };
         let frozen: Vec<u8> = (0..16).filter(frozen).collect();
-        if !frozen.is_empty() && self.counts.crashes == 0 {
+        if !frozen.is_empty() && self.counts.crashes == 0 && self.has_all_voters() {
             return Err(format!(
                 "places {frozen:?} stay frozen, though nobody crashed:\n{}",
                 self.shown()

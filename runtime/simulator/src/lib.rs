@@ -9,9 +9,12 @@
 pub mod checker;
 mod clock;
 pub mod draw;
+mod ends;
 mod fenced;
+mod happening;
 pub mod journals;
 mod lifecycle;
+mod machine;
 pub mod plan;
 mod process;
 mod report;

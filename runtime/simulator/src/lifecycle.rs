@@ -1,13 +1,14 @@
 //! Lives that begin and end, and what else happens to them.
 
 use crate::checker::{self, App};
+use crate::happening::Happening;
 use crate::journals;
 use crate::plan::{Act, Faults};
-use crate::process::Process;
+use crate::process::{Begins, Process};
 use crate::report::Report;
-use crate::world::{Happening, World, TOLD_WITHIN};
+use crate::world::{World, TOLD_WITHIN};
 use muoswyld_member::{End, Input, Name, Names, Role};
-use std::collections::BTreeSet;
+use std::collections::{BTreeMap, BTreeSet};
 use std::fmt::Write;
 
 impl World<'_> {
@@ -26,20 +27,31 @@ impl World<'_> {
         };
         self.lives[usize::from(place)] = life;
         self.counts.lives += 1;
-        self.start_process(name, false)?;
-        for stopped in self.stopped.clone() {
+        self.start_process(0, name, false)?;
+        for (_, stopped) in self.stopped.clone() {
             self.give(place, Input::Stopped(stopped));
         }
         Ok(())
     }
 
-    pub(crate) fn start_process(&mut self, name: Name, is_twin: bool) -> Result<(), String> {
+    pub(crate) fn start_process(
+        &mut self,
+        generation: u32,
+        name: Name,
+        is_twin: bool,
+    ) -> Result<(), String> {
         self.number += 1;
         let number = self.number;
         let place = name.place();
-        let app = App::new(name, is_twin);
-        let machine = (&self.machines[usize::from(place)], self.now);
-        let begun = Process::new(self.plan, app, number, machine, &mut self.draw);
+        let app = App::new(name, generation, is_twin);
+        let list = self.list(generation)?.clone();
+        let begins = Begins {
+            machine: &self.machines[usize::from(place)],
+            now: self.now,
+            generation,
+            list: &list,
+        };
+        let begun = Process::new(self.plan, app, number, &begins, &mut self.draw);
         let process = begun.map_err(|error| format!("{name} doesn't start: {error}"))?;
         let slow = process.slow;
         self.places[usize::from(place)] = Some(process);
@@ -51,6 +63,10 @@ impl World<'_> {
         self.plan_at(next, Happening::Sends { place, number });
         if slow.is_some() {
             self.plan_at(self.now + 1, Happening::Consumes { place, number });
+        }
+        if self.plan.has_ends {
+            let at = self.now + 3_000_000;
+            self.plan_at(at, Happening::LooksAtAsker { place, number });
         }
         Ok(())
     }
@@ -66,7 +82,7 @@ impl World<'_> {
                     && !self.is_calm =>
             {
                 self.counts.twins += 1;
-                self.start_process(name, true)
+                self.start_process(0, name, true)
             }
             _ => Ok(()),
         }
@@ -89,6 +105,12 @@ impl World<'_> {
         let Some(process) = &self.places[usize::from(place)] else {
             return false;
         };
+        if self.plan.has_ends {
+            let is_known = self
+                .others(place)
+                .any(|other| other.member.member().info().group.is_some());
+            return process.counts() && is_known && self.may_crash_in_lists(process);
+        }
         let running: BTreeSet<Name> = self.others(place).map(|other| other.name).collect();
         let views = self.others(place).chain(Some(process));
         let mut members = BTreeSet::new();
@@ -109,7 +131,7 @@ impl World<'_> {
         }
         let stopped = members
             .iter()
-            .filter(|name| self.stopped.contains(name))
+            .filter(|name| self.stopped.contains(&(0, **name)))
             .count();
         let is_known = self
             .others(place)
@@ -149,6 +171,7 @@ impl World<'_> {
                 self.reset(place, more);
                 Ok(())
             }
+            Act::Succeed(next) => self.try_to_succeed(place, next),
             Act::Split { places, micros } => {
                 self.split(
                     |one, other| (places >> one ^ places >> other) & 1 == 1,
@@ -246,15 +269,15 @@ impl World<'_> {
             return Ok(());
         }
         if self.plan.fenced.is_some() {
-            let size = self.process(place)?.batch.size as u64;
+            let size = self.process(place)?.batch.size() as u64;
             let most = self.draw.below(size + 1);
             return self.emit(place, Some(most));
         }
         let now = self.now;
         let outputs = self.process(place)?.release(now);
         let count = self.draw.below(outputs.len() as u64 + 1) as usize;
-        for output in outputs.into_iter().take(count) {
-            self.output(place, output)?;
+        for released in outputs.into_iter().take(count) {
+            self.output(place, released)?;
         }
         Ok(())
     }
@@ -266,17 +289,18 @@ impl World<'_> {
         };
         self.look_at_suspects(&process)?;
         let name = process.name;
-        self.stopped.insert(name);
-        if self.plan.journal {
-            self.journals.insert(name, process.journal);
-        }
+        let named = process.app.names.iter();
+        self.stopped
+            .extend(named.map(|(list, name)| (*list, *name)));
+        self.keep_journals(&process.app, process.journals);
         self.done.push(process.app);
+        self.look_whether_lawful();
         if let Some(services) = &mut self.services {
             services.ended(name);
         }
         self.counts.unwelcomed += u64::from(end == Some(End::Unwelcomed));
         if self.plan.fenced.is_some() {
-            if matches!(end, Some(End::Unwelcomed | End::LeftOut)) {
+            if matches!(end, Some(End::Unwelcomed | End::LeftOut | End::Superseded)) {
                 let back = self.draw.between(1_000, 200_000);
                 self.plan_at(self.now + back, Happening::Starts { place });
             }
@@ -304,10 +328,26 @@ impl World<'_> {
     }
 
     fn look_at_suspects(&self, process: &Process) -> Result<(), String> {
-        let given_up = process.member.member().info().stopped;
-        match given_up.iter().find(|name| !self.stopped.contains(name)) {
-            Some(name) => Err(format!("{} gave up {name}, which runs", process.name)),
-            None => Ok(()),
+        let lists = process.member.lists();
+        for generation in process.member.served() {
+            let member = lists.member_of(generation);
+            let stopped = member.map_or(Names::nobody(), |member| member.info().stopped);
+            let mut stopped = stopped.iter();
+            if let Some(name) = stopped.find(|name| !self.has_stopped(generation, *name)) {
+                return Err(format!("{} gave up {name}, which runs", process.name));
+            }
+        }
+        Ok(())
+    }
+
+    fn keep_journals(&mut self, app: &App, journals: BTreeMap<u32, Vec<u8>>) {
+        if !self.plan.journal {
+            return;
+        }
+        for (generation, name) in &app.names {
+            let journal = journals.get(generation).cloned();
+            let kept = self.journals.entry(*generation).or_default();
+            kept.insert(*name, journal.unwrap_or_default());
         }
     }
 
@@ -327,8 +367,12 @@ impl World<'_> {
         let is_expected = match end {
             End::Left | End::Closed => process.leaves,
             End::Unwelcomed => true,
-            End::LeftOut => self.is_void || self.given_up.contains_key(&name),
-            End::NoNumbersLeft | End::NodeFailed | End::Superseded | End::OtherVersion => false,
+            End::LeftOut => {
+                let named = (process.member.generation(), name);
+                self.is_void || self.given_up.contains_key(&named)
+            }
+            End::Superseded => self.plan.has_ends,
+            End::NoNumbersLeft | End::NodeFailed | End::OtherVersion => false,
         };
         if !is_expected {
             return Err(format!("{name} ended, though it ran: {end:?}"));
@@ -352,23 +396,27 @@ impl World<'_> {
     }
 
     /// Whether fewer of a process's members run than a reset goes on with, so that it waits for good.
-    fn is_too_small(&self, process: &Process, running: &[Name]) -> bool {
+    fn is_too_small(&self, process: &Process) -> bool {
         let members = process.member.member().info().standing.members;
+        let generation = process.member.generation();
+        let others = self.places.iter().flatten();
+        let running = others.filter_map(|other| self.name_in(other, generation));
+        let running: Vec<Name> = running.collect();
         let left = members.iter().filter(|name| running.contains(name)).count();
         left < members.len() && left < self.least(members)
     }
 
     /// The fewest members that a reset of some goes on with.
-    fn least(&self, members: Names) -> usize {
+    pub(crate) fn least(&self, members: Names) -> usize {
         self.plan.least.map_or(members.len() / 2 + 1, usize::from)
     }
 
     /// Whether nothing more comes of the group: it is over, or nobody may reset it.
     pub(crate) fn is_over(&self) -> bool {
-        let running = || self.places.iter().flatten();
-        let names: Vec<Name> = running().map(|process| process.name).collect();
+        let mut running = self.places.iter().flatten();
         // a group is over once nobody has its list
-        running().all(|process| !process.has_list() || self.is_too_small(process, &names))
+        running.all(|process| !process.has_list() || self.is_too_small(process))
+            || self.has_too_few_voters()
     }
 
     /// Whether all that run are members of one view with one list, of which all is taken, and nothing is under way.
@@ -379,7 +427,11 @@ impl World<'_> {
         for process in &running {
             let info = process.member.member().info();
             let standing = info.standing;
-            tops.insert(standing.top);
+            let lists = process.member.lists();
+            tops.insert((lists.generation(), standing.top));
+            if lists.is_between() || lists.ended_lists() > 0 {
+                return false;
+            }
             let is_one = standing.members.iter().eq(names.iter().copied());
             let is_quiet = matches!(standing.role, Role::Member | Role::Sequencer);
             let is_done = info.unsettled == 0 && standing.taken == standing.top;
@@ -394,7 +446,26 @@ impl World<'_> {
         let mut text = String::new();
         for process in self.places.iter().flatten() {
             let info = process.member.member().info();
+            let lists: Vec<u32> = process.member.served().collect();
             // writing to a string can't fail
+            if self.plan.has_ends {
+                let (standing, failures) = (info.standing, process.member.failures());
+                let _ = writeln!(
+                    text,
+                    "    {} lists {lists:?} between {} {:?} of {} at {} to {}, frozen {}, stopped {:?}, refused {:?}, {:?}",
+                    info.name,
+                    process.member.lists().is_between(),
+                    standing.role,
+                    standing.members,
+                    standing.taken,
+                    standing.top,
+                    failures.frozen_since.is_some(),
+                    failures.stopped,
+                    failures.refused,
+                    failures.no_voter
+                );
+                continue;
+            }
             let _ = writeln!(text, "    leaves {} {info:?}", process.leaves);
             if self.plan.fenced.is_some() {
                 let failures = process.member.failures();
@@ -412,9 +483,11 @@ impl World<'_> {
             if !self.is_void {
                 self.look_at_suspects(&process)?;
             }
-            if self.plan.journal && !process.app.is_twin {
-                process.journal.extend(b"end\n");
-                self.journals.insert(process.name, process.journal);
+            if !process.app.is_twin {
+                let latest = process.member.generation();
+                let journal = process.journals.entry(latest).or_default();
+                journal.extend(b"end\n");
+                self.keep_journals(&process.app, process.journals);
             }
             self.done.push(process.app);
         }
@@ -427,7 +500,9 @@ impl World<'_> {
         if let (Some(services), false) = (&mut self.services, self.is_void) {
             services.check(is_over)?;
         }
-        journals::heard_letters_stand(&self.journals)?;
+        for journals in self.journals.values() {
+            journals::heard_letters_stand(journals)?;
+        }
         let delivered = self.done.iter().map(|app| app.log.len()).sum();
         let settled: usize = self.done.iter().map(|app| app.settled.len()).sum();
         let sent: usize = self.done.iter().map(|app: &App| app.sent.len()).sum();
@@ -437,7 +512,7 @@ impl World<'_> {
         );
         Ok(Report {
             text,
-            journals: std::mem::take(&mut self.journals),
+            journals: self.journals.remove(&0).unwrap_or_default(),
             delivered,
             crashes: std::mem::take(&mut self.crashes),
             views: std::mem::take(&mut self.views),

@@ -2,7 +2,7 @@
 
 use crate::draw::Draw;
 use muoswyld_failures::{Lease, Policy};
-use muoswyld_member::{Founding, Name, Names, Plant};
+use muoswyld_member::{Founding, Limits, Name, Names, Plant};
 
 /// What the network does.
 #[derive(Clone, Copy, Debug, PartialEq, Eq)]
@@ -50,6 +50,8 @@ pub enum Act {
     Join,
     /// It resets the group, with so much more resilience.
     Reset(u8),
+    /// It ends the list, and another one follows.
+    Succeed(NextList),
     /// These places and all others don't hear each other for so many microseconds.
     Split {
         /// The places, as bits.
@@ -66,6 +68,19 @@ pub enum Act {
         /// For how long.
         micros: u64,
     },
+}
+
+/// What the next list is to be.
+#[derive(Clone, Copy, Debug, PartialEq, Eq)]
+pub struct NextList {
+    /// Its window.
+    pub window: u16,
+    /// How much less than the most resilience that its members bear, none below 0.
+    pub less: u8,
+    /// The places that are to vote, as far as they are members and odd in number; 0: those that vote now.
+    pub voters: u16,
+    /// How often it is asked for again if it can't be now.
+    pub tries: u8,
 }
 
 /// A defect that a test plants in what drives the members.
@@ -176,6 +191,10 @@ pub struct Plan {
     pub plant: Option<Plant>,
     /// How members find out by themselves who has stopped; None: everybody is told.
     pub fenced: Option<FencedPlan>,
+    /// Whether lists end and others follow them.
+    pub has_ends: bool,
+    /// When a list ends by itself.
+    pub succeed_at: Option<Limits>,
 }
 
 impl Plan {
@@ -210,6 +229,8 @@ impl Plan {
             journal: draw.per_mille(200),
             plant: None,
             fenced: None,
+            has_ends: false,
+            succeed_at: None,
         };
         if plan.sizes == Sizes::Mixed {
             plan.most_sends = 40;
@@ -238,6 +259,43 @@ impl Plan {
         plan.fenced = Some(fenced);
         plan.acts.clear();
         plan.draw_fenced_acts(&mut draw, founders);
+        plan
+    }
+
+    /// The plan of a seed as [`fenced`](Plan::fenced) has it, in which lists end, too: at random times amid all that, and at times by
+    /// themselves.
+    pub fn generations(seed: u64, fenced: FencedPlan) -> Plan {
+        let mut plan = Plan::fenced(seed, fenced);
+        let mut draw = Draw::new(seed ^ 0x6e65_7874);
+        plan.has_ends = true;
+        let founders = plan.founding.founders.len() as u64;
+        for _ in 0..draw.between(2, 12) {
+            let at = draw.between(600_000, plan.ends);
+            let place = draw.below(founders + 1) as u8;
+            let next = NextList {
+                window: draw.one_of(&[4, 16, 64, 256]).unwrap_or(16),
+                less: draw.one_of(&[0, 0, 0, 1]).unwrap_or(0),
+                voters: match draw.per_mille(400) {
+                    true => draw.word() as u16,
+                    false => 0,
+                },
+                tries: 6,
+            };
+            plan.acts.push((at, place, Act::Succeed(next)));
+        }
+        plan.acts.sort_by_key(|(at, place, _)| (*at, *place));
+        plan.succeed_at = match draw.below(10) {
+            0 => Some(Limits {
+                lives: 14,
+                numbers: 0,
+            }),
+            // a long message has more parts than such a list has entries
+            1 if plan.sizes != Sizes::Long => Some(Limits {
+                lives: 0,
+                numbers: 2_000_000_000 - 100,
+            }),
+            _ => None,
+        };
         plan
     }
 

@@ -3,10 +3,14 @@
 use crate::checker::App;
 use crate::clock::Clock;
 use crate::draw::Draw;
-use crate::fenced::{core_of, Batch, Machine};
+use crate::ends::List;
+use crate::machine::{core_of, Batch, Machine};
 use crate::plan::{Plan, Sizes};
 use muoswyld_guarded::Guarded;
-use muoswyld_member::{End, HandleError, Input, Member, Name, Output, Role, Settings, StartError};
+use muoswyld_member::{
+    End, Generations, HandleError, Input, Name, Released, Role, Settings, StartError,
+};
+use std::collections::BTreeMap;
 
 /// An application that takes slowly: so many deliveries in so many microseconds.
 #[derive(Clone, Copy, Debug)]
@@ -22,7 +26,10 @@ pub(crate) struct Process {
     pub(crate) clock: Clock,
     pub(crate) batch: Batch,
     pub(crate) app: App,
-    pub(crate) journal: Vec<u8>,
+    /// Its journal of each list.
+    pub(crate) journals: BTreeMap<u32, Vec<u8>>,
+    /// The list that is about to begin here, and the voter's file of it.
+    pub(crate) begins: Option<(u32, Option<Vec<u8>>)>,
     /// Which process this is: no two have the same number.
     pub(crate) number: u64,
     pub(crate) paused_until: u64,
@@ -37,9 +44,26 @@ pub(crate) struct Process {
     pub(crate) unsent: Option<Vec<u8>>,
 }
 
+/// Where a process begins: on which machine, when, and in which list.
+pub(crate) struct Begins<'a> {
+    pub(crate) machine: &'a Machine,
+    pub(crate) now: u64,
+    pub(crate) generation: u32,
+    pub(crate) list: &'a List,
+}
+
 /// The settings of a name in a plan.
-fn settings_of(plan: &Plan, name: Name, draw: &mut Draw, slow: Option<Slow>) -> Settings {
-    let mut settings = Settings::new(name, plan.founding, draw.word());
+fn settings_of(
+    plan: &Plan,
+    name: Name,
+    begins: &Begins,
+    draw: &mut Draw,
+    slow: Option<Slow>,
+) -> Settings {
+    let mut settings = Settings::new(name, begins.list.founding, draw.word());
+    settings.generation = begins.generation;
+    settings.group = begins.list.group;
+    settings.succeed_at = plan.succeed_at;
     settings.seed = draw.word();
     settings.least = plan.least;
     settings.most_waiting = 200_000;
@@ -60,28 +84,29 @@ impl Process {
         plan: &Plan,
         app: App,
         number: u64,
-        (machine, now): (&Machine, u64),
+        begins: &Begins,
         draw: &mut Draw,
     ) -> Result<Process, StartError> {
         let name = app.name;
+        let (machine, now) = (begins.machine, begins.now);
         let clock = machine.clock.unwrap_or(Clock::REAL);
         let slow = draw.per_mille(plan.slow).then(|| Slow {
             every: draw.between(1_000, 30_000),
             count: draw.between(1, 10) as usize,
         });
-        let settings = settings_of(plan, name, draw, slow);
+        let settings = settings_of(plan, name, begins, draw, slow);
         let time = clock.time(now);
-        let file = machine.voter.as_deref();
-        let core = core_of(plan, name, settings.process, file, time)?;
-        let member = Member::new(settings.clone(), time)?;
+        let core = core_of(plan, begins, name, settings.process, time)?;
+        let lists = Generations::new(settings.clone(), time)?;
         let plant = plan.fenced.as_ref().and_then(|fenced| fenced.plant);
         Ok(Process {
-            member: Guarded::new(member, core, &settings).with_plant(plant),
+            member: Guarded::new(lists, core, &settings).with_plant(plant),
             name,
             clock,
             batch: Batch::default(),
             app,
-            journal: Vec::new(),
+            journals: BTreeMap::new(),
+            begins: None,
             number,
             paused_until: 0,
             release_at: None,
@@ -137,7 +162,7 @@ impl Process {
     }
 
     /// What comes of the inputs so far, where it may go out at once.
-    pub(crate) fn release(&mut self, now: u64) -> Vec<Output> {
+    pub(crate) fn release(&mut self, now: u64) -> Vec<Released> {
         let (mut out, now) = (Vec::new(), self.clock.time(now));
         self.member.fix(now);
         if self.member.look(now) {

@@ -21,7 +21,7 @@ pub struct Failure {
 pub struct Report {
     /// Some lines that tell of it; a run of the same seed has the same ones.
     pub text: String,
-    /// The journals of all lives, if they were kept.
+    /// The journals of all lives in the first list, if they were kept.
     pub journals: BTreeMap<Name, Vec<u8>>,
     /// How many deliveries the applications had.
     pub delivered: usize,
@@ -58,6 +58,12 @@ pub struct Fenced {
     pub operated: u64,
     /// How many machines lost their disks.
     pub lost_disks: u64,
+    /// How often a member was asked to end its list, and took it.
+    pub asked: u64,
+    /// How many lists ended, and another one followed.
+    pub lists: u64,
+    /// How often a place closed a list that had ended.
+    pub closed: u64,
     /// Whether more stopped than the resilience.
     pub is_void: bool,
 }
@@ -96,4 +102,7 @@ pub(crate) struct Counts {
     pub(crate) ended: u64,
     pub(crate) operated: u64,
     pub(crate) lost_disks: u64,
+    pub(crate) asked: u64,
+    pub(crate) lists: u64,
+    pub(crate) closed: u64,
 }

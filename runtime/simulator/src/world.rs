@@ -2,12 +2,14 @@
 
 use crate::checker::App;
 use crate::draw::Draw;
-use crate::fenced::Machine;
-use crate::plan::{Act, Faults, Plan};
+use crate::ends::List;
+use crate::happening::{Happening, Planned};
+use crate::machine::Machine;
+use crate::plan::{Faults, Plan};
 use crate::process::Process;
 use crate::report::{Counts, Failure, Report, SeenView};
 use crate::services::Services;
-use muoswyld_member::{Delivery, Input, Name, Names, Notice, Output};
+use muoswyld_member::{Delivery, Input, Name, Names, Notice, Output, Released};
 use std::cmp::Reverse;
 use std::collections::{BTreeMap, BTreeSet, BinaryHeap};
 use std::rc::Rc;
@@ -20,52 +22,6 @@ const PATIENCE: u64 = 15_000_000;
 const LOOK_EVERY: u64 = 20_000;
 /// Within which time everybody is told that a process has stopped.
 pub(crate) const TOLD_WITHIN: u64 = 500_000;
-
-/// What may happen.
-#[derive(Clone, Debug)]
-pub(crate) enum Happening {
-    Arrives { place: u8, payload: Rc<[u8]> },
-    Wakes { place: u8, number: u64 },
-    Releases { place: u8, number: u64 },
-    Sends { place: u8, number: u64 },
-    Consumes { place: u8, number: u64 },
-    IsTold { place: u8, number: u64, name: Name },
-    Looks { place: u8, number: u64 },
-    Emits { place: u8, number: u64 },
-    Synced { place: u8, number: u64 },
-    Written { place: u8, number: u64, write: u64 },
-    Begins { place: u8, life: u8 },
-    Starts { place: u8 },
-    StartsTwin { place: u8 },
-    Acts { place: u8, act: Act },
-}
-
-/// What happens when; of the same time what was planned first.
-pub(crate) struct Planned {
-    at: u64,
-    order: u64,
-    what: Happening,
-}
-
-impl PartialEq for Planned {
-    fn eq(&self, other: &Planned) -> bool {
-        (self.at, self.order) == (other.at, other.order)
-    }
-}
-
-impl Eq for Planned {}
-
-impl PartialOrd for Planned {
-    fn partial_cmp(&self, other: &Planned) -> Option<std::cmp::Ordering> {
-        Some(self.cmp(other))
-    }
-}
-
-impl Ord for Planned {
-    fn cmp(&self, other: &Planned) -> std::cmp::Ordering {
-        (self.at, self.order).cmp(&(other.at, other.order))
-    }
-}
 
 /// A cluster.
 pub(crate) struct World<'a> {
@@ -84,16 +40,19 @@ pub(crate) struct World<'a> {
     pub(crate) is_calm: bool,
     /// Whether more have stopped than the resilience, or fewer are left than a reset wants.
     pub(crate) is_void: bool,
-    pub(crate) stopped: BTreeSet<Name>,
-    /// At which happening somebody first knew that a name has stopped, where members find it out by themselves.
-    pub(crate) given_up: BTreeMap<Name, u64>,
-    /// The lives that began.
-    pub(crate) begun: BTreeSet<Name>,
+    /// The group's lists.
+    pub(crate) lists: Vec<List>,
+    /// Who has stopped, in which list.
+    pub(crate) stopped: BTreeSet<(u32, Name)>,
+    /// At which happening somebody first knew that a name has stopped in a list, where members find it out by themselves.
+    pub(crate) given_up: BTreeMap<(u32, Name), u64>,
+    /// The lives that began, in which list.
+    pub(crate) begun: BTreeSet<(u32, Name)>,
     pub(crate) machines: [Machine; 16],
     pub(crate) done: Vec<App>,
     /// What the applications had seen when the run was lawful for the last time.
     pub(crate) lawful: Vec<App>,
-    pub(crate) journals: BTreeMap<Name, Vec<u8>>,
+    pub(crate) journals: BTreeMap<u32, BTreeMap<Name, Vec<u8>>>,
     pub(crate) captured: Vec<(u8, Rc<[u8]>)>,
     pub(crate) counts: Counts,
     pub(crate) crashes: Vec<u64>,
@@ -138,6 +97,7 @@ impl<'a> World<'a> {
             cuts: Vec::new(),
             is_calm: false,
             is_void: false,
+            lists: vec![List::first(plan)],
             stopped: BTreeSet::new(),
             given_up: BTreeMap::new(),
             begun: BTreeSet::new(),
@@ -160,6 +120,21 @@ impl<'a> World<'a> {
         self.begin();
         self.run_until(self.plan.ends)?;
         self.calm_down();
+        self.come_to_rest()?;
+        if self.plan.has_ends && !self.is_void && !self.is_over() {
+            // once all is connected a list ends, and all come to the next one
+            let before = self.last_list();
+            self.end_last_list()?;
+            self.come_to_rest()?;
+            if !self.is_void && !self.is_over() && self.last_list() == before {
+                return Err(format!("the list doesn't end:\n{}", self.shown()));
+            }
+        }
+        self.finish()
+    }
+
+    /// Goes on until nothing more is to happen.
+    fn come_to_rest(&mut self) -> Result<(), String> {
         let limit = self.now + REST;
         let mut operates = self.now + PATIENCE;
         while !(self.is_void || self.is_over() || self.is_at_rest() && self.services_rest()) {
@@ -172,7 +147,7 @@ impl<'a> World<'a> {
             }
             self.run_until(self.now + LOOK_EVERY)?;
         }
-        self.finish()
+        Ok(())
     }
 
     /// Has datagrams of an earlier run come, whose founding is the same.
@@ -218,7 +193,7 @@ impl<'a> World<'a> {
         self.queue.push(Reverse(Planned { at, order, what }));
     }
 
-    fn run_until(&mut self, until: u64) -> Result<(), String> {
+    pub(crate) fn run_until(&mut self, until: u64) -> Result<(), String> {
         while let Some(Reverse(next)) = self.queue.peek() {
             if next.at > until {
                 break;
@@ -243,6 +218,8 @@ impl<'a> World<'a> {
             | Happening::Looks { place, number }
             | Happening::Emits { place, number }
             | Happening::Written { place, number, .. }
+            | Happening::ListBegins { place, number, .. }
+            | Happening::LooksAtAsker { place, number }
             | Happening::Sends { place, number }
             | Happening::Consumes { place, number }
             | Happening::IsTold { place, number, .. } => (*place, Some(*number)),
@@ -265,7 +242,19 @@ impl<'a> World<'a> {
             Happening::Starts { place } => return self.start(place),
             Happening::StartsTwin { place } => return self.start_twin(place),
             Happening::Acts { place, act } => return self.act(place, act),
-            Happening::Begins { place, life } => return self.life_is_written(place, life),
+            Happening::Begins {
+                place,
+                generation,
+                life,
+            } => return self.life_is_written(place, (generation, life)),
+            Happening::ListSynced {
+                place,
+                number,
+                generation,
+            } => {
+                self.list_is_synced(place, number, generation);
+                return Ok(());
+            }
             Happening::Synced { place, number } => {
                 self.sync(place, number);
                 return Ok(());
@@ -280,7 +269,13 @@ impl<'a> World<'a> {
             Happening::Wakes { .. } => self.tick(place)?,
             Happening::Looks { .. } => self.look(place)?,
             Happening::Emits { .. } => self.emit(place, None)?,
-            Happening::Written { write, .. } => self.written(place, write)?,
+            Happening::Written { list, write, .. } => self.written(place, list, write)?,
+            Happening::ListBegins {
+                generation,
+                is_written,
+                ..
+            } => self.begin_list(place, generation, is_written)?,
+            Happening::LooksAtAsker { .. } => self.look_at_asker(place)?,
             Happening::Releases { .. } => self.release(place)?,
             Happening::Sends { .. } => self.send(place)?,
             Happening::Consumes { .. } => self.consume(place)?,
@@ -343,8 +338,8 @@ impl<'a> World<'a> {
         let process = self.process(place)?;
         process.release_at = None;
         let outputs = process.release(now);
-        for output in outputs {
-            self.output(place, output)?;
+        for released in outputs {
+            self.output(place, released)?;
         }
         self.serve_sends(place)?;
         let process = self.process(place)?;
@@ -375,15 +370,23 @@ impl<'a> World<'a> {
         }
     }
 
-    pub(crate) fn output(&mut self, place: u8, output: Output) -> Result<(), String> {
-        match output {
+    pub(crate) fn output(&mut self, place: u8, released: Released) -> Result<(), String> {
+        let generation = released.generation;
+        self.is_on_disk(place, generation)?;
+        match released.output {
             Output::Datagram { to, payload } => {
                 self.fold(&payload);
                 self.carry(place, to, payload.into());
             }
-            Output::Journal(lines) => self.process(place)?.journal.extend(lines),
+            Output::Journal(lines) => {
+                let journals = &mut self.process(place)?.journals;
+                journals.entry(generation).or_default().extend(lines);
+            }
             Output::Deliver(delivery) => {
                 let at = delivery.at();
+                if at.generation != generation {
+                    return Err(format!("{at:?} is delivered in list {generation}"));
+                }
                 self.fold(&[at.number.to_be_bytes(), at.index.to_be_bytes()].concat());
                 self.see(place, &delivery);
                 let process = self.process(place)?;
@@ -396,7 +399,7 @@ impl<'a> World<'a> {
                 self.process(place)?.app.settle(ticket, result)?;
             }
             Output::Ended(end) => self.process(place)?.ended = Some(end),
-            Output::Succeeded(_) => return Err("a list ended, which nobody asked for".into()),
+            Output::Succeeded(next) => self.succeeded(generation, next)?,
             Output::Told(Notice::ResetsStuck) => self.counts.stuck_resets += 1,
             Output::ResetDone { .. } | Output::Told(_) => {}
         }
@@ -406,7 +409,8 @@ impl<'a> World<'a> {
     /// Remembers a view that an application is given.
     fn see(&mut self, place: u8, delivery: &Delivery) {
         let at = self.now;
-        let name = Name::new(place, self.lives[usize::from(place)]);
+        let process = self.places[usize::from(place)].as_ref();
+        let name = process.map(|process| process.name);
         if let (Some(name), Delivery::View { members, .. }) = (name, delivery) {
             let members = *members;
             self.views.push(SeenView { at, name, members });

@@ -41,7 +41,10 @@ from ._errors import (
     NoKey,
     NotIn,
     NotMember,
+    NotNow,
     NotSent,
+    NotSucceeded,
+    Otherwise,
     Overtaken,
     Panicked,
     ServiceEnded,
@@ -52,7 +55,7 @@ from ._errors import (
 )
 from ._group import Group, Ticket
 from ._service import Machine, Service, ServiceInfo
-from ._types import Delivery, End, Info, Joined, Left, Message, Name, Position, Role, View
+from ._types import Delivery, End, Info, Joined, Left, Message, Name, Position, Role, Succeeded, View
 
 __all__ = [
     "BadAddress",
@@ -83,7 +86,10 @@ __all__ = [
     "NoKey",
     "NotIn",
     "NotMember",
+    "NotNow",
     "NotSent",
+    "NotSucceeded",
+    "Otherwise",
     "Overtaken",
     "Panicked",
     "Position",
@@ -91,6 +97,7 @@ __all__ = [
     "Service",
     "ServiceEnded",
     "ServiceInfo",
+    "Succeeded",
     "SystemRefused",
     "Ticket",
     "Timeout",

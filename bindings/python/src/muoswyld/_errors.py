@@ -162,6 +162,24 @@ class Busy(MuoswyldError):
     status = 29
 
 
+class NotNow(MuoswyldError):
+    """A list can't end now: a member has stopped, is silent, suspected or refused, leaves or joins, or another list just ended. Try again later."""
+
+    status = 30
+
+
+class NotSucceeded(MuoswyldError):
+    """A list was to end, and goes on: somebody joined, left or stopped meanwhile, or a view began. Try again."""
+
+    status = 31
+
+
+class Otherwise(MuoswyldError):
+    """Another member ended the list, and the next one has other numbers or voters than were asked for."""
+
+    status = 32
+
+
 # numbers of statuses that are no errors of Python callers
 OK, NULL_POINTER, TIMEOUT, EMPTY, FULL, ENDED = 0, 1, 10, 11, 12, 17
 

@@ -8,14 +8,14 @@ import threading
 import time
 import warnings
 from collections import deque
-from collections.abc import AsyncIterator, Callable, Iterator
+from collections.abc import AsyncIterator, Callable, Iterable, Iterator
 from types import TracebackType
 from typing import Self, TypeVar
 
 from ._away import SLICE, wait_for, wait_in_loop, wait_readable
 from ._config import Config, milliseconds, opened, said_of
 from ._errors import EMPTY, ENDED, FULL, OK, TIMEOUT, Ended, Timeout, check, error_of
-from ._library import LIBRARY, CDelivery, CInfo, CName, CPosition
+from ._library import LIBRARY, CDelivery, CInfo, CName, CNext, CPosition
 from ._types import Delivery, End, Info, Name, Position, delivery_of, info_of, position_of
 from ._waiting import Waiting
 
@@ -53,6 +53,15 @@ class Ticket:
 
     def __del__(self) -> None:
         LIBRARY.muoswyld_ticket_free(self._handle)
+
+
+def _next_of(resilience: int | None, window: int | None, pb_up_to: int | None, voters: Iterable[Name | str | int]) -> CNext:
+    """What the next list has otherwise, as the library has it. A number below 0, or above all that may be, is out of its range there."""
+    numbers = [-1 if number is None else 65_536 if number < 0 else min(number, 65_536) for number in (resilience, window, pb_up_to)]
+    asked = CNext(*numbers)
+    for name in map(Name.of, voters):
+        asked.voters.lives[name.place] = name.life
+    return asked
 
 
 def _until(timeout: float | None, attempt: Callable[[float], _T | None]) -> _T:
@@ -143,7 +152,7 @@ class Group:
 
     @property
     def name(self) -> Name:
-        """The member's name."""
+        """The member's name in the list in which it began. `info` has its name in the latest one."""
         return self._name
 
     def fileno(self) -> int:
@@ -266,6 +275,27 @@ class Group:
             number = ctypes.c_uint32()
             self._check(handle, LIBRARY.muoswyld_group_reset(handle, fewest, milliseconds(timeout), ctypes.byref(number)))
             return number.value
+
+    def succeed(
+        self,
+        resilience: int | None = None,
+        window: int | None = None,
+        pb_up_to: int | None = None,
+        voters: Iterable[Name | str | int] = (),
+        timeout: float | None = None,
+    ) -> Position:
+        """Ends the group's list, and has another one follow it: before a place's lives run out, or to change these numbers, or who votes. What isn't
+        said stays as it is; `voters` are places of members, odd in number, or those that vote now. It returns once the list has ended at this member,
+        with the position of its end, which is a delivery, too. All calls go on over it. It raises NotNow, NotSucceeded, Otherwise, BadValue,
+        NotMember, Timeout if the list hasn't ended in time, and may later, or Ended."""
+        asked = _next_of(resilience, window, pb_up_to, voters)
+        return wait_for(lambda: self._succeed(asked, timeout))
+
+    def _succeed(self, asked: CNext, timeout: float | None) -> Position:
+        with self._used() as handle:
+            at = CPosition()
+            self._check(handle, LIBRARY.muoswyld_group_succeed(handle, ctypes.byref(asked), milliseconds(timeout), ctypes.byref(at)))
+            return position_of(at)
 
     def stopped(self, name: Name | str) -> None:
         """Tells that a name has stopped for certain: its process has ended, or can't act any more. Tell each running member: the group is then reset
@@ -393,6 +423,18 @@ class Group:
     async def reset_async(self, least: int | None = None, timeout: float | None = None) -> int:
         """As `reset`."""
         return await wait_in_loop(lambda: self._reset(least, timeout))
+
+    async def succeed_async(
+        self,
+        resilience: int | None = None,
+        window: int | None = None,
+        pb_up_to: int | None = None,
+        voters: Iterable[Name | str | int] = (),
+        timeout: float | None = None,
+    ) -> Position:
+        """As `succeed`."""
+        asked = _next_of(resilience, window, pb_up_to, voters)
+        return await wait_in_loop(lambda: self._succeed(asked, timeout))
 
     async def leave_async(self, timeout: float | None = None) -> None:
         """As `leave`."""

@@ -3,7 +3,7 @@
 import ctypes
 import os
 import pathlib
-from ctypes import POINTER, Structure, c_bool, c_char_p, c_int, c_size_t, c_uint8, c_uint16, c_uint32, c_uint64, c_void_p
+from ctypes import POINTER, Structure, c_bool, c_char_p, c_int, c_int32, c_size_t, c_uint8, c_uint16, c_uint32, c_uint64, c_void_p
 
 _FILE = "libmuoswyld_group.so"
 
@@ -26,6 +26,18 @@ class CPosition(Structure):
     _fields_ = [("generation", c_uint32), ("number", c_uint32), ("index", c_uint32)]
 
 
+class CFounding(Structure):
+    """`muoswyld_founding`."""
+
+    _fields_ = [("founders", CNames), ("voters", CNames), ("resilience", c_uint8), ("window", c_uint16), ("pb_up_to", c_uint16)]
+
+
+class CNext(Structure):
+    """`muoswyld_next`."""
+
+    _fields_ = [("resilience", c_int32), ("window", c_int32), ("pb_up_to", c_int32), ("voters", CNames)]
+
+
 class CDelivery(Structure):
     """`muoswyld_delivery`."""
 
@@ -35,6 +47,7 @@ class CDelivery(Structure):
         ("name", CName),
         ("members", CNames),
         ("resilience", c_uint8),
+        ("next", CFounding),
         ("message", c_void_p),
         ("length", c_size_t),
         ("owner", c_void_p),
@@ -67,6 +80,9 @@ class CInfo(Structure):
 
     _fields_ = [
         ("name", CName),
+        ("generation", c_uint32),
+        ("window", c_uint16),
+        ("pb_up_to", c_uint16),
         ("role", c_int),
         ("knows_group", c_bool),
         ("leaves", c_bool),
@@ -145,6 +161,7 @@ _CALLS = {
     "group_receive": (c_int, c_void_p, c_int, POINTER(CDelivery)),
     "group_descriptor": (c_int, c_void_p),
     "group_reset": (c_int, c_void_p, c_uint8, c_int, POINTER(c_uint32)),
+    "group_succeed": (c_int, c_void_p, POINTER(CNext), c_int, POINTER(CPosition)),
     "group_stopped": (c_int, c_void_p, CName),
     "group_leave": (c_int, c_void_p, c_int),
     "group_info": (c_int, c_void_p, POINTER(CInfo)),

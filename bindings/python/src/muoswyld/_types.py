@@ -83,7 +83,27 @@ class View:
     resilience: int
 
 
-Delivery = Message | Joined | Left | View
+@dataclass(frozen=True)
+class Succeeded:
+    """The list ended, and another one follows it, whose positions are of the next generation. Its founders' view comes next."""
+
+    at: Position
+    """The entry that ended the list."""
+    members: tuple[Name, ...]
+    """The members there, by their names in the list that ended."""
+    founders: tuple[Name, ...]
+    """The founders of the next list: a member's name in it is the first life of its place."""
+    resilience: int
+    """How many of them may stop between two resets."""
+    window: int
+    """How many entries may wait for the slowest member."""
+    pb_up_to: int
+    """Up to how many bytes a body goes by the sequencer."""
+    voters: tuple[Name, ...]
+    """The places that vote who has stopped in it; none if the policy has no voters."""
+
+
+Delivery = Message | Joined | Left | View | Succeeded
 """What a member is given. All members are given the same deliveries in the same order."""
 
 
@@ -108,6 +128,8 @@ class End(enum.Enum):
     """It joined after the end of its list, which another one follows. Its place can come back in that one."""
     OTHER_VERSION = 9
     """The list has something that only a later version of this library understands."""
+    NOT_BEGUN = 10
+    """Its list ended, and the next one couldn't be begun here. Its place comes back in that as its next life."""
 
 
 class Role(enum.Enum):
@@ -126,6 +148,13 @@ class Info:
     """What a member knows of itself and of its group."""
 
     name: Name
+    """Its name in the latest list of its group."""
+    generation: int
+    """How many lists of the group came before that one."""
+    window: int
+    """How many entries of that list may wait for the slowest member."""
+    pb_up_to: int
+    """Up to how many bytes a body goes by the sequencer in it."""
     role: Role
     """What it is to its group: the sequencer numbers the group's entries."""
     group: int | None
@@ -193,14 +222,28 @@ def delivery_of(delivery: CDelivery, message: bytes) -> Delivery:
             return Joined(at, name_of(delivery.name))
         case 3:
             return Left(at, name_of(delivery.name))
-        case _:
+        case 4:
             return View(at, names_of(delivery.members), delivery.resilience)
+        case _:
+            following = delivery.next
+            return Succeeded(
+                at,
+                members=names_of(delivery.members),
+                founders=names_of(following.founders),
+                resilience=following.resilience,
+                window=following.window,
+                pb_up_to=following.pb_up_to,
+                voters=names_of(following.voters),
+            )
 
 
 def info_of(info: CInfo) -> Info:
     """What the library told of a member."""
     return Info(
         name=name_of(info.name),
+        generation=info.generation,
+        window=info.window,
+        pb_up_to=info.pb_up_to,
         role=Role(info.role),
         group=info.group if info.knows_group else None,
         members=names_of(info.members),

@@ -264,7 +264,7 @@ impl World {
                     process.ended = true;
                     self.given_up.entry(process.name).or_insert(real);
                 }
-                Output::Notice(_) => {}
+                Output::Word(_) | Output::Notice(_) => {}
             }
         }
     }

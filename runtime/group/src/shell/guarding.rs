@@ -4,7 +4,7 @@ use super::Shell;
 use crate::error::End;
 use crate::failures::FailuresInfo;
 use crate::fencing;
-use muoswyld_guarded::Deed;
+use muoswyld_guarded::{Deed, Ending};
 use std::time::Duration;
 
 impl Shell {
@@ -18,23 +18,58 @@ impl Shell {
         let now = self.now();
         for deed in self.member.deeds(now) {
             match deed {
-                Deed::Send { to, payload } => {
+                Deed::Send { to, payload, .. } => {
                     if self.seal.seal(&payload, &mut self.datagram) {
                         let places = (0..16).filter(|place| to >> place & 1 == 1);
                         self.udp.push_known(&self.datagram, places);
                     }
                 }
-                Deed::Write { number, bytes } => self.fencing.write(number, bytes),
-                Deed::Fence { name, until } => {
+                Deed::Write {
+                    generation,
+                    number,
+                    bytes,
+                } => self.fencing.write(generation, number, bytes),
+                Deed::Fence {
+                    generation,
+                    name,
+                    until,
+                } => {
                     let within = Duration::from_micros(until.since(now));
-                    self.fencing.fence(name, within);
+                    self.fencing.fence(generation, name, within);
                 }
-                Deed::Stopped(name) => tracing::warn!("{name} has stopped for certain"),
+                Deed::Begin {
+                    generation,
+                    id,
+                    voter,
+                    ..
+                } => self.begin_list(generation, id, voter),
+                Deed::Closed { generation } => {
+                    if let Some(end) = self.close_list(generation) {
+                        return Some(end);
+                    }
+                }
+                Deed::Stopped { generation, name } => {
+                    let list = self.shown_list(generation);
+                    tracing::warn!("{name}{list} has stopped for certain");
+                }
                 // what is held is dropped
-                Deed::Ended => return Some(End::LeftOut),
-                Deed::Told(notice) => fencing::tell(notice, &self.member.failures()),
+                Deed::Ended { why, .. } => {
+                    return Some(match why {
+                        Ending::GivenUp => End::LeftOut,
+                        Ending::NotBegun => End::NotBegun,
+                    })
+                }
+                Deed::Told { notice, .. } => fencing::tell(notice, &self.member.failures()),
             }
         }
         None
+    }
+
+    /// Which list a log's line is about, where that isn't the latest one.
+    fn shown_list(&self, generation: u32) -> String {
+        match generation == self.member.generation() {
+            true => String::new(),
+            false => format!(" of the list of generation {generation}"),
+        }
     }
 }

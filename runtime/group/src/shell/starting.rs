@@ -10,10 +10,11 @@ use crate::shared::Shared;
 use crate::state::State;
 use muoswyld_failures::Failures;
 use muoswyld_guarded::Guarded;
-use muoswyld_member::{Member, Settings, Time};
+use muoswyld_member::{Generations, Settings, Time};
 use std::fs::{File, OpenOptions};
 use std::io::ErrorKind;
 use std::os::unix::fs::OpenOptionsExt;
+use std::path::{Path, PathBuf};
 use std::sync::Arc;
 
 /// The addresses of a member's group, with its own to bind.
@@ -45,26 +46,40 @@ pub(super) fn settings_of(config: &Config) -> std::io::Result<Settings> {
     settings.datagram = config.datagram;
     settings.slow_tick = u64::try_from(config.tick.as_micros()).unwrap_or(u64::MAX);
     settings.journal = config.journal.is_some();
+    settings.succeed_at = config.succeed_at;
+    if let Some(list) = &config.list {
+        settings.generation = list.generation;
+        settings.group = Some(list.group);
+        settings.before = Some(list.before);
+    }
     Ok(settings)
 }
 
-/// A new file that others can't read.
-fn journal_of(config: &Config) -> std::io::Result<Option<File>> {
-    let Some(path) = &config.journal else {
-        return Ok(None);
-    };
+/// The file of a journal for a list: of the first one the path itself.
+fn path_of(path: &Path, generation: u32) -> PathBuf {
+    match generation {
+        0 => path.to_path_buf(),
+        _ => {
+            let mut path = path.as_os_str().to_os_string();
+            path.push(format!(".{generation}"));
+            PathBuf::from(path)
+        }
+    }
+}
+
+/// A new file for the journal of a list, that others can't read.
+pub(super) fn journal_of(path: &Path, generation: u32) -> std::io::Result<File> {
+    let path = &path_of(path, generation);
     let mut options = OpenOptions::new();
     options.write(true).create_new(true).mode(0o600);
     let cannot = |error: std::io::Error| match error.kind() {
         ErrorKind::AlreadyExists => "it is there, and a name never runs twice".to_string(),
         _ => error.to_string(),
     };
-    let opened = options.open(path);
-    let opened = opened.map_err(|error| {
+    options.open(path).map_err(|error| {
         let why = format!("the journal {}: {}", path.display(), cannot(error));
         std::io::Error::other(why)
-    });
-    opened.map(Some)
+    })
 }
 
 pub(super) fn own_address(config: &Config) -> Result<std::net::SocketAddr, CreateError> {
@@ -74,6 +89,9 @@ pub(super) fn own_address(config: &Config) -> Result<std::net::SocketAddr, Creat
     own.ok_or(CreateError::NoAddress(place))
 }
 
+/// What a member begins with: what guards it, what is done beside it, and its journal if it keeps one.
+pub(super) type Begun = (Guarded, Fencing, Option<File>);
+
 /// A member that begins, what guards its place, and its journal. A name that doesn't begin has none. The place's folder is locked, and
 /// that the life begins is on disk, before anything of it can be seen.
 pub(super) fn begun(
@@ -81,20 +99,20 @@ pub(super) fn begun(
     now: Time,
     config: &Config,
     shared: Arc<Shared>,
-) -> Result<(Guarded, Fencing, Option<File>), CreateError> {
+) -> Result<Begun, CreateError> {
     let core = config.failure_settings(settings.process)?;
-    let member = Member::new(settings.clone(), now)?;
+    let member = Generations::new(settings.clone(), now)?;
     let mut state = match &config.failures.state {
         Some(folder) => Some(State::take(folder, config.name.place())?),
         None => None,
     };
     let voter = match &state {
-        Some(state) => state.voter()?,
+        Some(state) => state.voter(config.generation())?,
         None => None,
     };
     let failures = Failures::new(core, voter.as_deref(), muoswyld_failures::Time(now.0))?;
     if let Some(state) = &mut state {
-        state.begin(config.name)?;
+        state.begin(config.name, config.list.as_ref())?;
     }
     fencing::tell_start(&failures);
     let program = match config.failures.policy() {
@@ -103,5 +121,9 @@ pub(super) fn begun(
     };
     let fencing = Fencing::new(shared, state, program)?;
     let guarded = Guarded::new(member, failures, &settings);
-    Ok((guarded, fencing, journal_of(config)?))
+    let journal = match &config.journal {
+        Some(path) => Some(journal_of(path, config.generation())?),
+        None => None,
+    };
+    Ok((guarded, fencing, journal))
 }

@@ -58,8 +58,10 @@ fn a_life_that_is_judged_after_the_following_may_still_run() {
             over: Over::new(false),
             play: None,
         };
-        let mut court = Court::new(&asked);
-        court.scan().unwrap_or_else(|finding| panic!("{finding}"));
+        let mut bench = Bench::new(&asked);
+        bench.scan().unwrap_or_else(|finding| panic!("{finding}"));
+        let court = bench.courts.values_mut().next().expect("a list");
+        court.open().unwrap_or_else(|finding| panic!("{finding}"));
         if court.lives.contains_key(&name) {
             continue;
         }

@@ -1,0 +1,146 @@
+//! Groups whose members find out by themselves who has stopped, and whose lists end: amid losses, pauses, splits, crashes and returns.
+
+use muoswyld_member::Limits;
+use muoswyld_simulator::plan::{Act, FencedPlan, Sizes};
+use muoswyld_simulator::{run, Failure, Fenced, Plan, Report};
+use std::sync::atomic::{AtomicU64, Ordering};
+use std::thread;
+
+/// How many seeds are run of each policy, or as many as SEEDS says; from FROM on.
+fn seeds() -> (u64, u64) {
+    let said = |name| std::env::var(name).ok().and_then(|it| it.parse().ok());
+    let from = said("FROM").unwrap_or(1);
+    (from, from + said("SEEDS").unwrap_or(150))
+}
+
+/// Runs the plans of some seeds, on a thread of its own each.
+fn run_all(plan_of: impl Fn(u64) -> Plan + Sync) -> Vec<Result<Report, Failure>> {
+    let (from, to) = seeds();
+    let next = AtomicU64::new(from);
+    let threads = thread::available_parallelism().map_or(1, |count| count.get().min(4));
+    let run_some = || {
+        let mut ran = Vec::new();
+        loop {
+            let seed = next.fetch_add(1, Ordering::Relaxed);
+            if seed >= to {
+                return ran;
+            }
+            ran.push(run(&plan_of(seed)));
+        }
+    };
+    thread::scope(|scope| {
+        let begun: Vec<_> = (0..threads).map(|_| scope.spawn(run_some)).collect();
+        begun
+            .into_iter()
+            .flat_map(|thread| thread.join().expect("a run panicked"))
+            .collect()
+    })
+}
+
+fn sum(reports: &[Report]) -> Fenced {
+    let mut all = Fenced::default();
+    for one in reports.iter().map(|report| report.fenced) {
+        all.batches += one.batches;
+        all.held += one.held;
+        all.late_looks += one.late_looks;
+        all.frozen += one.frozen;
+        all.refusals += one.refusals;
+        all.given_up += one.given_up;
+        all.ended += one.ended;
+        all.operated += one.operated;
+        all.lost_disks += one.lost_disks;
+        all.asked += one.asked;
+        all.lists += one.lists;
+        all.closed += one.closed;
+    }
+    all
+}
+
+/// Runs seeds of a policy, and looks whether enough happened in them.
+fn many_seeds(what: &str, fenced: &FencedPlan) {
+    let ran = run_all(|seed| Plan::generations(seed, fenced.clone()));
+    let count = ran.len() as u64;
+    let (good, bad): (Vec<_>, Vec<_>) = ran.into_iter().partition(Result::is_ok);
+    for failure in bad.iter().filter_map(|it| it.as_ref().err()) {
+        println!("{what}: {failure}");
+    }
+    let reports: Vec<Report> = good.into_iter().flatten().collect();
+    let void = reports.iter().filter(|it| it.fenced.is_void).count();
+    let delivered: usize = reports.iter().map(|it| it.delivered).sum();
+    let all = sum(&reports);
+    println!("{what}: {count} seeds, {void} void, {delivered} delivered, {all:?}");
+    assert!(bad.is_empty(), "{what}: {} seeds failed", bad.len());
+    assert!(all.lists > count && all.closed > all.lists && all.given_up > count / 4);
+    assert!((void as u64) < count / 3 && delivered as u64 > count * 50);
+}
+
+#[test]
+fn many_seeds_by_echo() {
+    many_seeds("echo", &FencedPlan::echo());
+}
+
+#[test]
+fn many_seeds_by_lease() {
+    many_seeds("lease", &FencedPlan::lease(100));
+}
+
+#[test]
+fn many_seeds_by_lease_with_clocks_at_their_bounds() {
+    let mut fenced = FencedPlan::lease(100);
+    fenced.at_bounds = true;
+    many_seeds("lease, clocks at their bounds", &fenced);
+}
+
+/// How many lists end in a quiet run in which nobody asks for it, before the one that ends at its close; and how often a process crashed.
+fn ends_by_itself(seed: u64, succeed_at: Option<Limits>, acts: &[(u64, u8, Act)]) -> (u64, usize) {
+    let mut fenced = FencedPlan::echo();
+    (fenced.stalls, fenced.lost_disks) = (0, 0);
+    let mut plan = Plan::generations(seed, fenced);
+    (plan.sizes, plan.send_every, plan.most_sends) = (Sizes::Small, 20_000, 80);
+    plan.faults.lost = plan.faults.lost.min(10);
+    plan.acts = acts.to_vec();
+    plan.ends = 7_000_000;
+    plan.succeed_at = succeed_at;
+    let report = run(&plan).unwrap_or_else(|failure| panic!("{failure}"));
+    assert!(!report.fenced.is_void);
+    (report.fenced.lists - 1, report.crashes.len())
+}
+
+#[test]
+fn a_list_ends_by_itself_before_its_lives_or_numbers_run_out() {
+    let back = Some(300_000);
+    let crash = (1_000_000, 1, Act::Crash { back, twin: false });
+    let lives = |lives| Some(Limits { lives, numbers: 0 });
+    let numbers = Some(Limits {
+        lives: 0,
+        numbers: 2_000_000_000 - 10,
+    });
+    let mut crashed = 0;
+    for seed in 1..=6 {
+        assert_eq!(ends_by_itself(seed, None, &[crash]).0, 0);
+        // nobody has a second life, and then one has
+        assert_eq!(ends_by_itself(seed, lives(14), &[]), (0, 0));
+        assert_eq!(ends_by_itself(seed, lives(13), &[crash]).0, 0);
+        let (lists, crashes) = ends_by_itself(seed, lives(14), &[crash]);
+        assert_eq!(lists > 0, crashes > 0);
+        crashed += crashes;
+        assert!(ends_by_itself(seed, numbers, &[]).0 > 0);
+    }
+    assert!(crashed > 0, "nothing happened");
+}
+
+/// Runs the seed that SEED names, by the policy that POLICY names.
+#[test]
+fn one_seed_of_generations() {
+    let seed = std::env::var("SEED").ok().and_then(|it| it.parse().ok());
+    let mut fenced = match std::env::var("POLICY").as_deref() {
+        Ok("lease" | "bounds") => FencedPlan::lease(100),
+        _ => FencedPlan::echo(),
+    };
+    fenced.at_bounds = std::env::var("POLICY").as_deref() == Ok("bounds");
+    let plan = Plan::generations(seed.unwrap_or(1), fenced);
+    match run(&plan) {
+        Ok(report) => println!("{:?}\n{}", plan.acts, report.text),
+        Err(failure) => panic!("{:?}\n{failure}", plan.acts),
+    }
+}

@@ -1,0 +1,214 @@
+//! Defects that are planted in how the lists of a group are guarded are found: tests of the test.
+
+use muoswyld_guarded::Plant;
+use muoswyld_simulator::plan::{Act, FencedPlan, NextList};
+use muoswyld_simulator::{run, Plan};
+
+/// Within how many seeds a defect must be found.
+const SEEDS: u64 = 1000;
+
+/// The first seed that finds a defect, and what it finds, with plans that are changed so that they are about it.
+fn found_with(
+    what: &str,
+    fenced: &FencedPlan,
+    plant: impl Fn(&mut FencedPlan),
+    change: impl Fn(&mut Plan),
+    expected: &str,
+) {
+    for seed in 1..=SEEDS {
+        let mut plan = Plan::generations(seed, fenced.clone());
+        plan.journal = false;
+        change(&mut plan);
+        let right = plan.clone();
+        plan.fenced.iter_mut().for_each(&plant);
+        if let Err(failure) = run(&plan) {
+            println!("{what} is found by seed {seed}: {:.300}", failure.what);
+            assert!(failure.what.contains(expected), "{}", failure.what);
+            run(&right).expect("without the defect it runs");
+            return;
+        }
+    }
+    panic!("{what} isn't found by {SEEDS} seeds");
+}
+
+fn found(plant: Plant, fenced: &FencedPlan, change: impl Fn(&mut Plan), expected: &str) {
+    let what = format!("{plant:?}");
+    let set = |fenced: &mut FencedPlan| fenced.plant = Some(plant);
+    found_with(&what, fenced, set, change, expected);
+}
+
+#[test]
+fn the_next_list_speaks_before_its_beginning_is_on_disk() {
+    let expected = "which didn't begin on its disk";
+    found(
+        Plant::BeginsBeforeDisk,
+        &FencedPlan::echo(),
+        |_| (),
+        expected,
+    );
+}
+
+#[test]
+fn the_next_list_has_the_voters_file_of_the_old_one() {
+    let expected = "doesn't vote";
+    found(
+        Plant::UsesOldFile,
+        &FencedPlan::lease(100),
+        |_| (),
+        expected,
+    );
+}
+
+#[test]
+fn a_list_is_ended_while_somebody_is_refused() {
+    let expected = "while somebody is suspected or refused";
+    found(
+        Plant::EndsWhileRefused,
+        &FencedPlan::echo(),
+        |_| (),
+        expected,
+    );
+}
+
+/// Lists of five end at a time, and at about that time one member is cut off for a while that is longer than a silence.
+fn about_the_end(plan: &mut Plan) {
+    plan.founding.founders = "0,1,2,3,4".parse().expect("names");
+    plan.founding.resilience = 2;
+    plan.founding.window = 64;
+    plan.succeed_at = None;
+    plan.faults.lost = plan.faults.lost.min(10);
+    let next = NextList {
+        window: 64,
+        less: 0,
+        voters: 0,
+        tries: 0,
+    };
+    let mut acts = Vec::new();
+    for turn in 0..3u64 {
+        let at = 900_000 + turn * 1_500_000;
+        let gone = ((plan.seed + turn) % 5) as u8;
+        let asked = if plan.seed.is_multiple_of(2) {
+            gone
+        } else {
+            (gone + 1) % 5
+        };
+        let begin = at + (plan.seed * 13 + turn * 7) % 60 * 500;
+        let micros = 250_000 + (plan.seed * 7 + turn) % 30 * 15_000;
+        acts.push((at, asked, Act::Succeed(next)));
+        let places = 1 << gone;
+        acts.push((begin, 0, Act::Split { places, micros }));
+    }
+    acts.sort_by_key(|(at, place, _)| (*at, *place));
+    plan.acts = acts;
+    plan.ends = 5_500_000;
+}
+
+fn quiet(mut fenced: FencedPlan) -> FencedPlan {
+    fenced.stalls = 0;
+    fenced
+}
+
+const SEEN: &str = "was given up at";
+
+#[test]
+fn a_give_up_is_carried_over_to_the_next_list() {
+    found(
+        Plant::CarriesGiveUps,
+        &quiet(FencedPlan::lease(100)),
+        about_the_end,
+        SEEN,
+    );
+}
+
+#[test]
+fn an_old_list_goes_out_by_the_look_of_the_next_one() {
+    found(
+        Plant::LooksByNextLane,
+        &quiet(FencedPlan::lease(100)),
+        about_the_end,
+        SEEN,
+    );
+}
+
+/// Of five members three vote in the next list, of which two don't hear one member for a while, and all others do. A founder never comes to
+/// it, so that the old list is served for long.
+fn about_two_votes(plan: &mut Plan) {
+    about_the_end(plan);
+    let founders = 5;
+    let mut acts = Vec::new();
+    for turn in 0..3u64 {
+        let at = 900_000 + turn * 1_500_000;
+        let gone = ((plan.seed + turn) % founders) as u8;
+        let dead = (gone + 1) % 5;
+        let others = [(gone + 2) % 5, (gone + 3) % 5];
+        let third = (gone + 4) % 5;
+        let voters = 1 << others[0] | 1 << others[1] | 1 << third;
+        let next = NextList {
+            window: 64,
+            less: 0,
+            voters,
+            tries: 0,
+        };
+        acts.push((at, gone, Act::Succeed(next)));
+        let begin = at + (plan.seed * 13 + turn * 7) % 80 * 500;
+        acts.push((begin, dead, Act::Pause(600_000)));
+        for other in others {
+            for (from, to) in [(gone, other), (other, gone)] {
+                let micros = 500_000;
+                acts.push((begin + 500, from, Act::Cut { to, micros }));
+            }
+        }
+    }
+    acts.sort_by_key(|(at, place, _)| (*at, *place));
+    plan.acts = acts;
+}
+
+/// Of five members 0, 1 and 2 vote in the next list. 4 doesn't come to it, since it hears 3 alone. 3 does, and then it doesn't hear 0 and 1: it is
+/// echoed by a majority in the old list, and given up in the next one.
+fn about_the_old_look(plan: &mut Plan) {
+    about_the_end(plan);
+    let at = 900_000;
+    let next = NextList {
+        window: 64,
+        less: 0,
+        voters: 0b111,
+        tries: 0,
+    };
+    let mut acts = vec![(at, 3, Act::Succeed(next))];
+    let begin = at + 3_000 + (plan.seed * 13) % 60 * 500;
+    let mut cut = |at, one: u8, other: u8| {
+        let micros = 600_000;
+        acts.push((at, one, Act::Cut { to: other, micros }));
+        acts.push((at, other, Act::Cut { to: one, micros }));
+    };
+    for other in 0..3 {
+        cut(at - 500, 4, other);
+    }
+    cut(begin, 3, 0);
+    cut(begin, 3, 1);
+    acts.sort_by_key(|(at, place, _)| (*at, *place));
+    plan.acts = acts;
+    plan.send_every = 5_000;
+    plan.ends = 2_000_000;
+}
+
+#[test]
+fn the_next_list_goes_out_by_the_look_of_the_old_one() {
+    found(
+        Plant::LooksByOldLane,
+        &quiet(FencedPlan::lease(100)),
+        about_the_old_look,
+        SEEN,
+    );
+}
+
+#[test]
+fn an_echo_of_the_old_list_counts_in_the_next_one() {
+    found_with(
+        "EchoOfAnyList",
+        &quiet(FencedPlan::lease(100)),
+        |fenced| fenced.core_plant = Some(muoswyld_failures::Plant::EchoOfAnyList),
+        about_two_votes,
+        SEEN,
+    );
+}
