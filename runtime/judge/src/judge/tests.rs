@@ -1,4 +1,5 @@
 use super::*;
+use muoswyld::names::Name;
 use muoswyld_simulator::{journals, run, Plan};
 use std::collections::BTreeMap;
 
