@@ -87,6 +87,7 @@ fn shown(delivery: &Delivery) -> Vec<u8> {
             resilience,
             ..
         } => format!("view {members} {resilience}").into(),
+        Delivery::Succeeded { members, .. } => format!("succeeded {members}").into(),
     }
 }
 
