@@ -374,7 +374,11 @@ fn each_field_of_a_first_line_that_is_changed_is_found() {
         for field in 2..10 {
             // a generation that isn't the next one, but not the first one of the three
             let other = match field {
-                6 => head.replacen(&format!("\t{}\t", which.0), "\t7\t", 1),
+                6 => {
+                    let mut fields: Vec<&str> = head.split('\t').collect();
+                    fields[field] = "7";
+                    fields.join("\t")
+                }
                 _ => changed(head, field),
             };
             let tampered = with_line(&all, which, 0, &other);
