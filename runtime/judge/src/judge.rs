@@ -88,7 +88,7 @@ pub fn judge(asked: &Asked, tell: &mut dyn FnMut(&Judged)) -> Result<Judged, Fin
     loop {
         let follows = !asked.over.is_set();
         if !follows {
-            bench.close();
+            bench.close()?;
         }
         let has_gone_on = bench.go_on(follows)?;
         let now = Instant::now();
@@ -220,11 +220,20 @@ impl<'a> Bench<'a> {
         Ok(())
     }
 
-    /// Nothing is added any more.
-    fn close(&mut self) {
+    /// Nothing is added any more. It is an error if there is no journal of the list before one.
+    fn close(&mut self) -> Result<(), Finding> {
+        for ((generation, _), court) in &self.courts {
+            let of_before = |which: &Which| which.0 + 1 == *generation;
+            let mut known = self.courts.keys().chain(self.pasts.keys());
+            if self.lowest < Some(*generation) && !known.any(of_before) {
+                let cause = Cause::NoListBefore(*generation);
+                return Err(Finding::at(&court.any_file(), 1, cause));
+            }
+        }
         for court in self.courts.values_mut() {
             court.close();
         }
+        Ok(())
     }
 
     /// What was judged up to now.
