@@ -247,6 +247,7 @@ impl<'a> Bench<'a> {
 
     /// Takes in steps that are next, of each list whose beginning is known; whether there were some.
     fn go_on(&mut self, follows: bool) -> Result<bool, Finding> {
+        self.link_all()?;
         let idle: usize = self.courts.values().map(|court| court.idle).sum();
         let spare = self.empty.len().saturating_sub(self.idle + idle);
         let mut has_gone_on = false;
@@ -278,13 +279,8 @@ impl<'a> Bench<'a> {
         Ok(has_gone_on)
     }
 
-    /// Has a list go on; whether it did.
-    fn go_on_with(
-        &self,
-        (generation, _): Which,
-        court: &mut Court,
-        follows: bool,
-    ) -> Result<bool, Finding> {
+    /// Compares the first lines of a list's journals with the end of the list before; whether that is known, so that the list may go on.
+    fn link(&self, (generation, _): Which, court: &mut Court) -> Result<bool, Finding> {
         if self.lowest < Some(generation) {
             let of_before = |which: &Which| which.0 + 1 == generation;
             let is_its = |which: &Which| court.before().is_none_or(|id| which.1 == id);
@@ -314,6 +310,28 @@ impl<'a> Bench<'a> {
             }
         } else {
             court.link(None)?;
+        }
+        Ok(true)
+    }
+
+    /// Compares the first lines of all lists, so that a journal that names another list is found before it is missed in its own.
+    fn link_all(&mut self) -> Result<(), Finding> {
+        if self.courts.values().all(|court| court.unlinked.is_empty()) {
+            return Ok(());
+        }
+        for which in self.courts.keys().copied().collect::<Vec<_>>() {
+            if let Some(mut court) = self.courts.remove(&which) {
+                self.link(which, &mut court)?;
+                self.courts.insert(which, court);
+            }
+        }
+        Ok(())
+    }
+
+    /// Has a list go on; whether it did.
+    fn go_on_with(&self, which: Which, court: &mut Court, follows: bool) -> Result<bool, Finding> {
+        if !self.link(which, court)? {
+            return Ok(false);
         }
         court.open()?;
         court.go_on(!follows)
