@@ -6,6 +6,7 @@ use crate::outcomes::ballot_answer;
 use am_base::outcome::Outcome;
 use am_group::event::Act;
 use am_model::info::BallotEnd;
+use am_model::status::Status;
 use am_node::node::Node;
 use am_packet::letter::Letter;
 use am_packet::packet::Packet;
