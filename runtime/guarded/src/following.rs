@@ -258,18 +258,17 @@ impl Guarded {
 
     /// A process has stopped, as the member is told without its failures: in ended lists too, where its place may have had another name.
     pub(crate) fn stopped(&mut self, now: Time, name: Name) -> Result<(), HandleError> {
+        self.give(now, Input::Stopped(name))?;
         let mut name = Some(name);
-        for index in (0..self.lanes.len()).rev() {
-            let lane = &mut self.lanes[index];
-            if let Some(name) = name {
-                lane.handle(&mut self.lists, now, Input::Stopped(name))?;
-            }
-            let Some(before) = index.checked_sub(1) else {
-                break;
-            };
-            let members = self.lists.members_at_end(self.lanes[before].generation);
+        for index in (0..self.latest()).rev() {
+            let members = self.lists.members_at_end(self.lanes[index].generation);
             name = name.filter(|name| name.life() == 1);
             name = name.and_then(|name| members?.at(name.place()));
+            if let Some(name) = name {
+                let lane = &mut self.lanes[index];
+                // it isn't this member, since the latest one isn't
+                let _taken = lane.handle(&mut self.lists, now, Input::Stopped(name));
+            }
         }
         Ok(())
     }

@@ -66,7 +66,9 @@ impl Guarded {
         let policy = failures.policy();
         let is_gated = matches!(policy, Policy::Echo | Policy::Lease(_));
         let voters = firsts_of(failures.settings().voters);
-        lists.set_voters(is_gated.then_some(voters));
+        // under `command` they say whom a majority doesn't hear, without files
+        let has_voters = policy != Policy::Told && !voters.is_empty();
+        lists.set_voters(has_voters.then_some(voters));
         let shown = Some(lists.current().info());
         let lane = Lane::new(lists.generation(), failures, is_gated, shown);
         Guarded {
@@ -140,10 +142,12 @@ impl Guarded {
             Input::Datagram(payload) => self.hear_member(now, payload),
             Input::Stopped(name) => self.stopped(now, name),
             Input::Time => {
-                for lane in &mut self.lanes {
-                    lane.handle(&mut self.lists, now, Input::Time)?;
+                let latest = self.latest();
+                for lane in &mut self.lanes[..latest] {
+                    // one that has ended is taken away later
+                    let _taken = lane.handle(&mut self.lists, now, Input::Time);
                 }
-                Ok(())
+                self.give(now, Input::Time)
             }
             Input::Consumed(count) => {
                 let count = self.lists.consumed(count);

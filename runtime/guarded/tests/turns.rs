@@ -257,6 +257,46 @@ fn a_life_whose_next_beginning_is_not_written_ends() {
 }
 
 #[test]
+fn a_fence_asks_a_majority_in_the_next_list_too() {
+    let mut all = three(Policy::Command);
+    assert_eq!(
+        all[0].handle(Time(400_000), Input::Succeed(next_list(None))),
+        Ok(())
+    );
+    begins(&mut all, (401, 460));
+    for one in &mut all {
+        one.begun(Time(460_000), 1, true);
+    }
+    begins(&mut all, (461, 700));
+    // 0 hears nobody, and fences nobody: it is no majority
+    let mut alone = Vec::new();
+    for step in 700..4_000 {
+        alone.extend(deeds_of(&mut all[0], Time(step * 1_000)));
+    }
+    let is_fence = |deed: &&Deed| matches!(deed, Deed::Fence { .. });
+    assert_eq!(alone.iter().find(is_fence), None);
+    // 1 and 2 hear each other, and fence it
+    let (from, to) = (4_000, 8_000);
+    let rest = &mut all[1..];
+    let mut asked = Vec::new();
+    for step in from..to {
+        let now = Time(step * 1_000);
+        for place in 0..2 {
+            for deed in deeds_of(&mut rest[place], now) {
+                match deed {
+                    Deed::Send { payload, .. } => rest[1 - place].hear(now, &payload),
+                    Deed::Fence {
+                        generation, name, ..
+                    } => asked.push((generation, name)),
+                    _ => {}
+                }
+            }
+        }
+    }
+    assert_eq!(asked.first().copied(), Name::first(0).map(|name| (1, name)));
+}
+
+#[test]
 fn a_word_holds_in_both_lists_and_a_silence_is_found_in_each() {
     let mut all = three(Policy::Echo);
     let now = Time(400_000);

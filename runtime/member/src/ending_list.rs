@@ -31,6 +31,8 @@ pub(crate) struct EndingList {
     begins_at: Option<u32>,
     /// Whether it is known that its first entry stands.
     is_confirmed: bool,
+    /// For which first entry that was confirmed: for another one it isn't.
+    confirmed_for: Option<u32>,
     /// When it asks for that next.
     ask_at: Time,
     /// When it first asked for that.
@@ -61,6 +63,7 @@ impl EndingList {
             changed_at: 0,
             begins_at: is_founder.then_some(1),
             is_confirmed: is_founder || settings.plant == Some(Plant::TakesUnconfirmed),
+            confirmed_for: None,
             ask_at: Time(0),
             asked_since: None,
             greet_at: Time(0),
@@ -82,6 +85,12 @@ impl EndingList {
     /// The members after the last entry that was taken, if they are known.
     pub(crate) fn members(&self) -> Option<Names> {
         self.members
+    }
+
+    /// Whether a joiner's first entry is another one than was confirmed.
+    pub(crate) fn is_confirmed_for_another(&self, number: u32) -> bool {
+        let is_other = self.confirmed_for.is_some_and(|known| known != number);
+        self.begins_at.is_none() && is_other
     }
 
     /// Whether what is accepted may be delivered.
@@ -386,6 +395,19 @@ impl Member {
         self.send_direct(self.standing.members.without(self.me()), ask);
     }
 
+    /// Looks whether the first entry that a joiner is given is the one that was confirmed. If its node begins somewhere else by now, that
+    /// is confirmed anew before anything is taken.
+    pub(crate) fn look_at_first_entry(&mut self) {
+        let ending = &self.ending;
+        let is_other = ending
+            .confirmed_for
+            .is_some_and(|number| number != self.standing.taken + 1);
+        if ending.begins_at.is_none() && is_other {
+            self.ending.is_confirmed = false;
+            self.ending.confirmed_for = None;
+        }
+    }
+
     /// The first entry that this member is given.
     fn first_entry(&self) -> u32 {
         self.ending.begins_at.unwrap_or(self.standing.taken + 1)
@@ -395,7 +417,10 @@ impl Member {
     pub(crate) fn hear_entry(&mut self, from: Speaker, number: u32, said: Said) {
         match said {
             Said::Asked => self.answer_entry(from, number),
-            Said::Stands if number == self.first_entry() => self.ending.is_confirmed = true,
+            Said::Stands if number == self.first_entry() => {
+                self.ending.is_confirmed = true;
+                self.ending.confirmed_for.get_or_insert(number);
+            }
             Said::IsAbove if number == self.first_entry() && !self.ending.is_confirmed => {
                 self.end(End::Superseded);
             }

@@ -169,7 +169,12 @@ fn is_gapless(app: &App, list: &List) -> Result<(), String> {
             let may_miss =
                 from.is_some_and(|(from, in_parts)| is_begun && in_parts && !spoke.contains(&from));
             if !may_miss {
-                return Err(format!("{} wasn't given {at:?}", app.name));
+                let text = format!("{delivery:?}");
+                let (first, last) = (first.at(), last.at());
+                return Err(format!(
+                    "{} wasn't given {at:?}, of {first:?} to {last:?}: {text:.100}",
+                    app.name
+                ));
             }
         }
         spoke.extend(from.map(|(from, _)| from));
