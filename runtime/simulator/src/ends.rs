@@ -7,7 +7,7 @@ use crate::process::Process;
 use crate::world::World;
 use muoswyld_failures::{places_of, NoVoter, Places};
 use muoswyld_guarded::next_id;
-use muoswyld_member::{Founding, HandleError, Input, Name, Names, Next, Successor};
+use muoswyld_member::{Founding, HandleError, Input, Name, Names, Next, Standing, Successor};
 
 /// A list of the group.
 #[derive(Clone, Debug)]
@@ -115,6 +115,16 @@ impl World<'_> {
         latest.all(|latest| latest > generation)
     }
 
+    /// How a process stands in a list, as far as it has let out: a view that it decides in the turn in which it learns of a stop comes after
+    /// that stop.
+    fn standing_in(&self, process: &Process, generation: u32) -> Option<Standing> {
+        let lists = process.member.lists();
+        match lists.generation() == generation {
+            true => Some(process.member.info().standing),
+            false => lists.member_of(generation).map(|it| it.info().standing),
+        }
+    }
+
     /// The views of a list that running processes have, each with its members and its resilience, the one of the latest view last; its
     /// founding where nobody has begun it.
     fn views_of(&self, generation: u32) -> Vec<(Names, u8)> {
@@ -128,8 +138,7 @@ impl World<'_> {
                 let name = self.name_in(process, generation);
                 name.is_some_and(|name| !self.stopped.contains(&(generation, name)))
             })
-            .filter_map(|process| process.member.lists().member_of(generation))
-            .map(|member| member.info().standing)
+            .filter_map(|process| self.standing_in(process, generation))
             .filter(|standing| !standing.members.is_empty())
             .map(|standing| (standing.view_number, standing.members, standing.resilience))
             .collect();
