@@ -209,6 +209,11 @@ fn why_a_list_does_not_end_is_said() {
     assert!(matches!(error, SucceedError::Founding(_)), "{error}");
     let voters = NextList::new().voters("0".parse().unwrap());
     assert_eq!(refused(voters), SucceedError::Unvoted);
+    // a stop that the group can't get over: another member, which would have to vote for the next view, has ended, and isn't said to
+    for group in &groups[1..] {
+        group.stop();
+        group.wait();
+    }
     groups[0].stopped(name("2")).unwrap();
     let error = groups[0].try_succeed(NextList::new()).unwrap_err();
     assert_eq!(error, SucceedError::NotNow);
