@@ -66,7 +66,7 @@ next_by group start k lines taken None run all is =
     let past : length lines ≤ k = none_past lines k is in
     sym (ap (λ b. b && ((taken.number == start + k) && is_text (item_at group taken.number) taken.text)) (le-ltb k (length lines) past))
 
--- a take is what a log has behind so many lines, or isn't, by the log's first number and length
+-- a take is what a log has after so many lines, or isn't, by the log's first number and length
 next_is : (group : List (List ℕ)) (logs : List Line) (k : ℕ) (taken : Line) → first_fault [] logs ≡ None → first_astray group logs ≡ None
     → is_line (slice_get (lines_of taken.name logs) k) taken ≡ is_next group (first_number taken.name logs) (count_of taken.name logs) k taken
 next_is group logs k taken faultless listed =

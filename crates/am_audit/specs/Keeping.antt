@@ -69,6 +69,6 @@ abbrev pub first_number : ℕ → List Line → ℕ
 first_number name [] = 0
 first_number name (line ∷ lines) = if line.name == name then line.number else first_number name lines
 
--- a take is the entry behind so many of a log, which has this first number and length, where the list has it at its number
+-- a take is the entry after so many of a log, which has this first number and length, where the list has it at its number
 abbrev pub is_next : List (List ℕ) → ℕ → ℕ → ℕ → Line → Bool
 is_next group first count before taken = nat_lt before count && ((taken.number == first + before) && is_text (item_at group taken.number) taken.text)

@@ -14,7 +14,7 @@ use am_base::name::Name;
 use std::alloc::Global;
 use std::collections::BTreeMap;
 
-/// Whether a line's number isn't the one behind its name's last.
+/// Whether a line's number isn't the one after its name's last.
 fn gap_at(last: Option<u32>, line: &TextLine) -> Option<Verdict>
     ensures { result ≡ gap_at last (line_seen line.now) }
 {

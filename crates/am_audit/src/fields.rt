@@ -15,7 +15,7 @@ use am_text_reader::cut::cut;
 use am_text_reader::name::{name, names, place, stamp};
 use am_text_reader::number::{number, number_up_to, resilience};
 
-/// What stands before the first blank, and what behind it.
+/// What stands before the first blank, and what after it.
 pub fn two(text: &[u8]) -> Result<(&[u8], &[u8]), FieldFault>
     ensures { GivesWhatIsRead (λ x. (x.0.now, x.1.now)) result (two_of text.entry.now) }
 {
@@ -36,7 +36,7 @@ pub fn expect(text: &[u8], word: &[u8]) -> Result<(), FieldFault>
     Err(FieldFault::Form)
 }
 
-/// The sender, the request and the body of what stands behind the word data.
+/// The sender, the request and the body of what stands after the word data.
 #[tactic(auto, unfolding(am_audit_defs::specs::Fields::data_parts))]
 fn data_parts(text: &[u8]) -> Result<(Name, u32, &[u8]), FieldFault>
     ensures { GivesWhatIsRead (λ x. (x.0, x.1, x.2.now)) result (data_parts text.entry.now) }
@@ -48,7 +48,7 @@ fn data_parts(text: &[u8]) -> Result<(Name, u32, &[u8]), FieldFault>
     Ok((from, req, body))
 }
 
-/// Data, behind that word.
+/// Data, after that word.
 #[tactic(auto, unfolding(am_audit_defs::specs::Fields::data_of))]
 fn data(text: &[u8]) -> Result<Outline, FieldFault>
     ensures { result ≡ data_of text.now }
@@ -62,7 +62,7 @@ fn data(text: &[u8]) -> Result<Outline, FieldFault>
     }
 }
 
-/// A resilience behind its letter, which isn't 0.
+/// A resilience after its letter, which isn't 0.
 #[tactic(auto, unfolding(am_audit_defs::specs::Fields::resilience_in_text))]
 fn lettered_resilience(word: &[u8]) -> Result<u8, FieldFault>
     ensures { result ≡ resilience_in_text word.now }
@@ -77,7 +77,7 @@ fn lettered_resilience(word: &[u8]) -> Result<u8, FieldFault>
     Ok(resilience)
 }
 
-/// A view, behind that word.
+/// A view, after that word.
 #[tactic(auto, unfolding(am_audit_defs::specs::Fields::view_in_text))]
 fn view(text: &[u8]) -> Result<Outline, FieldFault>
     ensures { result ≡ view_in_text text.now }

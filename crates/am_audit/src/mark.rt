@@ -9,7 +9,7 @@ fn is_mark(text: &[u8], at: usize, mark: u8) -> bool
     text.len() - at > 2 && text[at] == b' ' && text[at + 1] == mark && text[at + 2] == b' '
 }
 
-/// What stands before the first mark between blanks, and what behind it.
+/// What stands before the first mark between blanks, and what after it.
 pub fn mark_cut(text: &[u8], mark: u8) -> (&[u8], Option<&[u8]>)
     requires { (0 < mark) × (mark < 128) }
     ensures first { result.0.now ≡ (mark_cut mark text.entry.now).0 }

@@ -158,7 +158,7 @@ impl<'a> Lines<'a> {
         Ok(())
     }
 
-    /// Takes an event's line: its number, and what stands behind that.
+    /// Takes an event's line: its number, and what stands after that.
     #[tactic(auto, unfolding(am_audit_defs::specs::Lines::add_event))]
     fn add_event(&mut self, number_text: &[u8], rest: &'a [u8]) -> Result<(), LineFault>
         ensures { Takes result (reading_told self.new)
@@ -178,7 +178,7 @@ impl<'a> Lines<'a> {
         Ok(())
     }
 
-    /// Takes a line of the group list, behind its word.
+    /// Takes a line of the group list, after its word.
     #[tactic(auto, unfolding(am_audit_defs::specs::Lines::add_entry))]
     fn add_entry(&mut self, rest: &'a [u8]) -> Result<(), LineFault>
         ensures { Takes result (reading_told self.new) (add_entry (reading_told self.old) rest.entry.now) }
@@ -194,7 +194,7 @@ impl<'a> Lines<'a> {
         Ok(())
     }
 
-    /// Takes a log's line, behind its name.
+    /// Takes a log's line, after its name.
     #[tactic(auto, unfolding(am_audit_defs::specs::Lines::logged))]
     fn logged(&mut self, name: Name, rest: &'a [u8]) -> Result<(), LineFault>
         ensures { Takes result (reading_told self.new) (logged (reading_told self.old) name rest.entry.now) }
@@ -215,7 +215,7 @@ impl<'a> Lines<'a> {
         Ok(())
     }
 
-    /// Takes a log's line, behind its word.
+    /// Takes a log's line, after its word.
     #[tactic(auto, unfolding(am_audit_defs::specs::Lines::add_log))]
     fn add_log(&mut self, rest: &'a [u8]) -> Result<(), LineFault>
         ensures { Takes result (reading_told self.new) (add_log (reading_told self.old) rest.entry.now) }
@@ -240,7 +240,7 @@ impl<'a> Lines<'a> {
         Ok(())
     }
 
-    /// Takes the last line of a text that is void, behind its first word.
+    /// Takes the last line of a text that is void, after its first word.
     #[tactic(auto, unfolding(am_audit_defs::specs::Lines::add_void))]
     fn add_void(&mut self, rest: &[u8]) -> Result<(), LineFault>
         ensures { Takes result (reading_told self.new) (add_void (reading_told self.old) rest.now) }

@@ -16,14 +16,14 @@ use am_base::name::Name;
 use std::alloc::Global;
 use std::collections::BTreeMap;
 
-/// The first send whose request isn't the one behind its name's last.
+/// The first send whose request isn't the one after its name's last.
 pub fn first_skipped(sends: &[TextLine]) -> Option<Verdict>
     ensures { result ≡ first_skipped [] (lines_in sends.now) }
 {
     first_found::<Requests>(sends)
 }
 
-/// Whether a send's request isn't the one behind its name's last.
+/// Whether a send's request isn't the one after its name's last.
 struct Requests;
 
 impl Check for Requests {

@@ -36,7 +36,7 @@ fn firsts(lines: &[TextLine]) -> [u32; 256]
     firsts
 }
 
-/// Whether a take is the entry behind so many of a log, which has this first number and length.
+/// Whether a take is the entry after so many of a log, which has this first number and length.
 fn is_next(group: &[Piece], first: u32, count: usize, before: usize, taken: &TextLine) -> bool
     ensures { result ≡ is_next (texts_in group.now) first count before (line_seen taken.now) }
 {

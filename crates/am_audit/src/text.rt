@@ -19,7 +19,7 @@ fn add<'a>(lines: &mut Lines<'a>, number: u32, line: &'a [u8]) -> Result<(), Tex
     }
 }
 
-/// The first line, and what stands behind it; None where there is no newline.
+/// The first line, and what stands after it; None where there is no newline.
 fn whole_line(text: &[u8]) -> Option<(&[u8], &[u8])>
     ensures { MatchOption result ((cut_of 10 text.entry.now).1 ≡ None)
         (λ x. (cut_of 10 text.entry.now ≡ (x.0.now, Some x.1.now))
@@ -32,7 +32,7 @@ fn whole_line(text: &[u8]) -> Option<(&[u8], &[u8])>
     }
 }
 
-/// What was read, where it ends behind the last newline.
+/// What was read, where it ends after the last newline.
 fn finish<'a>(number: u32, lines: Lines<'a>, rest: &[u8]) -> Result<Lines<'a>, TextRefusal>
     ensures { IsReadingOf result (finish_text number (reading_told lines.entry) rest.now) }
 {

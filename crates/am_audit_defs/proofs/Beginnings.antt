@@ -1,4 +1,4 @@
--- A bad line stays bad, whatever stands behind it.
+-- A bad line stays bad, whatever stands after it.
 use Rattle.std.proofs.Common.{◌≡◌, ℕ, ◌+◌, ◌<◌, ◌≤◌, ◌==◌, ◌&&◌, not, List, [], ◌∷◌, ◌++◌, length}
 use Rattle.std.proofs.Common.{Option, Some, Result, Ok, Err, IsErr, Bool, true, false, cond}
 use Rattle.std.proofs.Common.{refl, sym, subst, ap, ◌∙◌, arith}

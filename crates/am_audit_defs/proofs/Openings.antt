@@ -65,7 +65,7 @@ event_fresh s t act (Some behind) is fresh =
     let same_as : counted more (two_of act) (mark_cut 124 behind).0 ≡ t = same_result_same_value _ t (Ok (counted more (two_of act) (mark_cut 124 behind).0)) refl is in
     subst IsFresh same_as (fresh_kept more (counted more (two_of act) (mark_cut 124 behind).0) (counted_keeps more (two_of act) (mark_cut 124 behind).0) fresh)
 
--- a line behind the events leaves none to come
+-- a line after the events leaves none to come
 abbrev IsPast : Reading → Type 0
 IsPast t = t.stage ≡ stages.Events → ⊥
 

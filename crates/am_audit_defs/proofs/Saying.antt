@@ -210,7 +210,7 @@ both : (a b : Bool) → a ≡ true → b ≡ true → (a && b) ≡ true
 both true b one two = two
 both false b one two = cc
 
--- what may stand behind others fits there
+-- what may stand after others fits there
 may_fit : (n : ℕ) (before : List Outline) (image : Image) (outline : Outline) → n ≡ length before → image_after_entries blank 1 (map bare_entry before) ≡ image
     → MayStand before outline → fits_at (n + 1) image (Ok outline) ≡ true
 may_fit n [] image (outlines.Data from req) is told may = absurd may

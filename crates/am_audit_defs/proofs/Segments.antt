@@ -17,7 +17,7 @@ abbrev pub AllLinesAreInGroup : List (List ℕ) → List Line → Type 0
 AllLinesAreInGroup group [] = Unit {0}
 AllLinesAreInGroup group (line ∷ lines) = (is_text (item_at group line.number) line.text ≡ true) × AllLinesAreInGroup group lines
 
--- lines go on behind a last one
+-- lines go on after a last one
 abbrev Follows : Option ℕ → List Line → Type 0
 Follows (Some last) lines = LinesRunFromNumber (last + 1) lines
 Follows None [] = Unit {0}

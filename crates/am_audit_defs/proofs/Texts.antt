@@ -15,7 +15,7 @@ cut_whole : (separator : ℕ) (text : List ℕ) → (cut_of separator text).1 �
 cut_whole separator [] none = refl
 cut_whole separator (c ∷ cs) none = whole_on c (c == separator) cs (cut_of separator cs) (cut_whole separator cs) none
 
--- where it is, the parts go on behind the first
+-- where it is, the parts go on after the first
 parts_on : (text line behind : List ℕ) → cut_of 10 text ≡ (line, Some behind)
     → split_text 10 text ≡ line ∷ (cut_of 10 behind).0 ∷ parts_of_rest_of_cut 10 (cut_of 10 behind).1
 parts_on text line behind cut =
@@ -40,7 +40,7 @@ read_lines_at_bad_line number s text line behind cut bad =
     ap (read_lines number s) (parts_on text line behind cut)
     ∙ bad_read number (add_line s line) (λ u. read_lines (number + 1) u ((cut_of 10 behind).0 ∷ parts_of_rest_of_cut 10 (cut_of 10 behind).1)) bad
 
--- behind the last newline
+-- after the last newline
 pub read_lines_at_last_line : (number : ℕ) (s : Reading) (text : List ℕ) → (cut_of 10 text).1 ≡ None → read_lines number s (split_text 10 text) ≡ finish_text number s text
 read_lines_at_last_line number s text none =
     ap (read_lines number s) (parts_of_by_first_cut 10 text ∙ ap (λ (o : Option (List ℕ)). (cut_of 10 text).0 ∷ parts_of_rest_of_cut 10 o) none)

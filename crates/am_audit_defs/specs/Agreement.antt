@@ -49,7 +49,7 @@ pub record IsFounding (v : GroupView) : Type 0 where
 abbrev pub IsFounded : List (List ℕ) → Type 0
 IsFounded group = (text : List ℕ) → item_at group 1 ≡ Some text → (view : GroupView) × (outline_of text ≡ Ok (outlines.View view)) × IsFounding view
 
--- each entry behind the first fits those before it
+-- each entry after the first fits those before it
 abbrev pub FitBehind : List Outline → Type 0
 FitBehind [] = Unit {0}
 FitBehind (first ∷ others) = AllEntriesFit (after blank 1 (bare_entry first)) 2 (map bare_entry others)
@@ -81,7 +81,7 @@ ListsAgreeMeans = (s : Reading) → verdict_of s ≡ verdicts.ListsAgree → Lis
 
 -- ---- bad lines
 
--- whole lines, each behind the one before, and what stands behind them
+-- whole lines, each after the one before, and what stands after them
 abbrev pub lines_before_rest : List (List ℕ) → List ℕ → List ℕ
 lines_before_rest [] more = more
 lines_before_rest (line ∷ lines) more = line ++ 10 ∷ lines_before_rest lines more

@@ -15,7 +15,7 @@ abbrev pub with_rest : List ℕ → Option (List ℕ) → Result (List ℕ × Li
 with_rest first None = Err Form
 with_rest first (Some rest) = Ok (first, rest)
 
--- what stands before the first blank, and what behind it
+-- what stands before the first blank, and what after it
 abbrev pub two_of : List ℕ → Result (List ℕ × List ℕ) FieldFault
 two_of text = with_rest (cut_of 32 text).0 (cut_of 32 text).1
 
@@ -29,7 +29,7 @@ is_body word = and_then (bytes_of most_bytes_of_body word) (λ bytes. Ok tt)
 
 -- ---- entries
 
--- the sender, the request and the body of what stands behind the word data
+-- the sender, the request and the body of what stands after the word data
 unfoldable pub data_parts : List ℕ → Result (ℕ × ℕ × List ℕ) FieldFault
 data_parts text = and_then (two_of text) (λ first. and_then (name_in_text first.0) (λ from.
     and_then (two_of first.1) (λ second. and_then (number_in_text second.0) (λ req. Ok (from, req, second.1)))))
@@ -37,7 +37,7 @@ data_parts text = and_then (two_of text) (λ first. and_then (name_in_text first
 unfoldable pub data_of : List ℕ → Result Outline FieldFault
 data_of text = and_then (data_parts text) (λ parts. and_then (is_body parts.2) (λ checked. Ok (outlines.Data parts.0 parts.1)))
 
--- a resilience behind its letter, which isn't 0
+-- a resilience after its letter, which isn't 0
 unfoldable pub resilience_in_text : List ℕ → Result ℕ FieldFault
 resilience_in_text word = if (length word == 0) || not (slice_index word 0 == 114) then Err Form
     else and_then (number_up_to 15 (drop 1 word)) (λ resilience. if resilience == 0 then Err Form else Ok resilience)

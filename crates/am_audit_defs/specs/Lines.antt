@@ -66,7 +66,7 @@ is_text_end _ = false
 abbrev pub begins_mark : ℕ → List ℕ → Bool
 begins_mark mark text = (slice_index text 0 == 32) && ((slice_index text 1 == mark) && (slice_index text 2 == 32))
 
--- what stands before the first mark between blanks, and what behind it
+-- what stands before the first mark between blanks, and what after it
 abbrev pub mark_cut : ℕ → List ℕ → (List ℕ × Option (List ℕ))
 mark_cut mark [] = ([], None)
 mark_cut mark (c ∷ cs) = if begins_mark mark (c ∷ cs) then ([], Some (drop 2 cs)) else onto_cut c (mark_cut mark cs)
@@ -87,7 +87,7 @@ abbrev pub with_return : Reading → Result (ℕ × ℕ) FieldFault → Reading
 with_return s (Ok found) = record s { names = slice_set s.names found.0 found.1 }
 with_return s (Err fault) = s
 
--- with an event, where it is of a kind that counts: its act's word, what stands behind it, and its outcome
+-- with an event, where it is of a kind that counts: its act's word, what stands after it, and its outcome
 unfoldable pub counted : Reading → Result (List ℕ × List ℕ) FieldFault → List ℕ → Reading
 counted s (Err fault) outcome = s
 counted s (Ok act) outcome =
@@ -97,7 +97,7 @@ counted s (Ok act) outcome =
     else if same act.0 (codes "return") then with_return s (return_of act.1 outcome)
     else s
 
--- with an event's line behind its number: its act, and what stands behind the first mark
+-- with an event's line after its number: its act, and what stands after the first mark
 abbrev pub with_event : Reading → List ℕ → Option (List ℕ) → Result Reading FieldFault
 with_event s act None = Err Form
 with_event s act (Some behind) = Ok (counted (record s { events = s.events + 1 }) (two_of act) (mark_cut 124 behind).0)
@@ -112,7 +112,7 @@ unfoldable pub add_entry : Reading → List ℕ → Result Reading FieldFault
 add_entry s rest = and_then (two_of rest) (λ first. and_then (number_in_text first.0) (λ n. if may_list s.stage && (n == length s.group + 1)
     then and_then (outline_of first.1) (λ entry. Ok (record s { stage = stages.List; group = s.group ++ first.1 ∷ [] })) else Err Form))
 
--- a log's entry, behind its name
+-- a log's entry, after its name
 unfoldable pub logged : Reading → ℕ → List ℕ → Result Reading FieldFault
 logged s name rest = if same rest (codes "empty") then Ok (record s { stage = stages.Logs })
     else and_then (two_of rest) (λ first. and_then (number_in_text first.0) (λ n. and_then (outline_of first.1) (λ entry.
@@ -138,7 +138,7 @@ add_line s line = if same line (codes "lawful") then add_end s None else and_the
 
 -- ---- a text
 
--- behind the last newline nothing may stand
+-- after the last newline nothing may stand
 abbrev pub finish_text : ℕ → Reading → List ℕ → Result Reading ℕ
 finish_text number s rest = if (length rest == 0) && is_text_end s.stage then Ok s else Err number
 
@@ -147,13 +147,13 @@ abbrev pub read_on : ℕ → Result Reading FieldFault → (Reading → Result R
 read_on number (Ok s) next = next s
 read_on number (Err fault) next = Err number
 
--- lines from this number on, the last of which is what stands behind the last newline; or the number of the first bad line
+-- lines from this number on, the last of which is what stands after the last newline; or the number of the first bad line
 abbrev pub read_lines : ℕ → Reading → List (List ℕ) → Result Reading ℕ
 read_lines number s [] = Err number
 read_lines number s (rest ∷ []) = finish_text number s rest
 read_lines number s (line ∷ next ∷ lines) = read_on number (add_line s line) (λ t. read_lines (number + 1) t (next ∷ lines))
 
--- a text behind its first line
+-- a text after its first line
 abbrev pub read_behind : Option (List ℕ) → Result Reading ℕ
 read_behind None = Err 1
 read_behind (Some text) = read_lines 2 nothing_read (split_text 10 text)

@@ -49,7 +49,7 @@ LineHasSend from req line = (body : List ℕ) × (data_in line.text ≡ Ok (from
 
 -- ---- entries
 
--- an entry may stand behind these in a list
+-- an entry may stand after these in a list
 abbrev pub MayStand : List Outline → Outline → Type 0
 MayStand [] (outlines.View v) = IsFounding v
 MayStand [] _ = ⊥

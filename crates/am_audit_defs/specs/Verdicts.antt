@@ -32,7 +32,7 @@ abbrev pub last_of : ℕ → List Line → Option ℕ
 last_of name [] = None
 last_of name (line ∷ before) = if line.name == name then Some line.number else last_of name before
 
--- what is found first in lines, behind those before, at each by the number of its name's last one
+-- what is found first in lines, after those before, at each by the number of its name's last one
 abbrev pub first_found : (Option ℕ → Line → Option Verdict) → List Line → List Line → Option Verdict
 first_found found before [] = None
 first_found found before (line ∷ lines) = or_else (found (last_of line.name before) line) (first_found found (line ∷ before) lines)

@@ -13,7 +13,7 @@ pub fn verdicts_mean()
 {}
 
 /// BadLine is the first line up to which the lines begin no text. Where one of some whole lines is bad, it is the bad line whatever
-/// stands behind them; and whole lines of which none is bad go on to a text.
+/// stands after them; and whole lines of which none is bad go on to a text.
 pub fn first_bad_lines()
     ensures stay { BadLinesStay }
     ensures begin { GoodLinesGoOn }

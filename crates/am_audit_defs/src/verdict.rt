@@ -6,7 +6,7 @@ use am_base::name::Name;
 /// What an audit of a text comes to (docs/AUDIT.md, "Verdicts").
 #[derive(Clone, Copy)]
 pub enum Verdict {
-    /// A log line's number isn't the one behind its name's last.
+    /// A log line's number isn't the one after its name's last.
     Gap {
         node: Name,
         number: u32,
@@ -43,7 +43,7 @@ pub enum Verdict {
     },
     /// The list and the logs are right, and there are no events.
     ListsAgree,
-    /// A send's request isn't the one behind its name's last.
+    /// A send's request isn't the one after its name's last.
     Skipped {
         node: Name,
         req: u32,

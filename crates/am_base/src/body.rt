@@ -224,7 +224,7 @@ impl PacketBytes {
         let _ = self.0.extend_from_slice(bytes);
     }
 
-    /// The bytes alone, without the room behind them.
+    /// The bytes alone, without the room after them.
     pub fn into_bytes(self) -> Vec<u8>
         ensures { result.items ≡ self }
     {

@@ -254,7 +254,7 @@ impl Ready {
     }
 }
 
-/// Does each of some works so many times, and prints what came of it; behind how many nanoseconds a call took, where it is timed.
+/// Does each of some works so many times, and prints what came of it; after how many nanoseconds a call took, where it is timed.
 pub fn time(
     rt: &(impl Clock + Print + AllocGlobal),
     works: &[Work],

@@ -133,7 +133,7 @@ entry_answer_bytes (entries.Join name) = 2 ∷ name ∷ []
 entry_answer_bytes (entries.Leave name) = 3 ∷ name ∷ []
 entry_answer_bytes (entries.View v) = 4 ∷ [] ++ stamp_bytes v.stamp ++ set_bytes v.members ++ v.resilience ∷ []
 
--- what stands behind an outcome's kind
+-- what stands after an outcome's kind
 unfoldable pub outcome_fields : Outcome → List ℕ
 outcome_fields (said.Queued req) = big_bytes 4 req
 outcome_fields (said.Busy queued) = big_bytes 4 queued

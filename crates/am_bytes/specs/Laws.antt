@@ -116,7 +116,7 @@ pub record FitsStanding (s : NodeStanding) : Type 0 where
   pub top : IsWord s.top
   pub waits_for : IsSetOfNames s.waits_for
 
--- what an answer spells is read as that answer, whatever stands behind it
+-- what an answer spells is read as that answer, whatever stands after it
 abbrev pub AnswersAreRead : Type 0
 AnswersAreRead = (standing : NodeStanding) (told : LineReply) (more : List ℕ) → FitsStanding standing → FitsReply told
     → answer_from (answer_bytes standing told ++ more) ≡ found (standing, told) more

@@ -19,11 +19,11 @@ use Rattle.am_node_lines.specs.declared.reply.LineReply.{LineReply}
 use Rattle.am_node_lines.specs.declared.reply.LineReply.TheVariants as replies
 use Rattle.am_bytes.specs.declared.standing.NodeStanding.{NodeStanding}
 
--- something that stands at the front of bytes, and the bytes behind it
+-- something that stands at the front of bytes, and the bytes after it
 abbrev pub ReadFront : Type 0 → Type 0
 ReadFront A = Option (A × List ℕ)
 
--- what is read behind it
+-- what is read after it
 abbrev pub read_then : {A B : Type 0} → ReadFront A → (A → List ℕ → ReadFront B) → ReadFront B
 read_then None next = None
 read_then (Some read) next = next read.0 read.1
@@ -212,7 +212,7 @@ cause_at number =
     else if number == 4 then Some TooLong
     else None
 
--- no letters stand behind it
+-- no letters stand after it
 abbrev pub without_letters : LineReply → List ℕ → ReadFront LineReply
 without_letters told bytes = read_then (byte_from bytes) (λ count rest. if count == 0 then found told rest else None)
 

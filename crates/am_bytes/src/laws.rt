@@ -7,7 +7,7 @@ pub fn events_are_read()
     ensures { EventsAreRead }
 {}
 
-/// The bytes of an answer are read as how the node stands and what came of the event, whatever stands behind them.
+/// The bytes of an answer are read as how the node stands and what came of the event, whatever stands after them.
 pub fn answers_are_read()
     ensures { AnswersAreRead }
 {}

@@ -132,7 +132,7 @@ fn put_decided(out: &mut Vec<u8>, number: u32, members: Names) -> Result<(), NoM
     put_set(out, members)
 }
 
-/// Adds what stands behind an outcome's kind.
+/// Adds what stands after an outcome's kind.
 #[tactic(auto, using(crate::proofs::Puts::bytes_with_nothing_put), unfolding(crate::specs::Answers::outcome_fields))]
 pub(crate) fn put_fields(out: &mut Vec<u8>, outcome: &Outcome) -> Result<(), NoMemory>
     ensures { OnOk result (out.new.items ≡ out.old.items ++ outcome_fields outcome.now) }

@@ -1,4 +1,4 @@
--- What a session stands for: a node behind the lines and events that have their answers.
+-- What a session stands for: a node after the lines and events that have their answers.
 use Rattle.std.specs.Prelude.{◌≡◌, ◌≢◌, ◌<◌, ◌≤◌, ℕ, List, ◌++◌, ◌∷◌, [], take, drop, length, Option, Some, None, codes, string_bytes}
 use Rattle.am_base.specs.Founding.{Rules}
 use Rattle.am_model.specs.Node.{Node}
@@ -47,7 +47,7 @@ session_answer Event rules m bytes = event_answer m bytes
 abbrev pub answer_for : Rules → Node → AskedOfNode → Answer
 answer_for rules m asked = session_answer asked.form rules m asked.bytes
 
--- the node behind what was asked
+-- the node after what was asked
 unfoldable pub node_behind : Rules → Node → List AskedOfNode → Node
 node_behind rules m [] = m
 node_behind rules m (first ∷ later) = node_behind rules (answer_for rules m first).node later
@@ -58,7 +58,7 @@ node_behind rules m (first ∷ later) = node_behind rules (answer_for rules m fi
 abbrev pub kept : List ℕ → List ℕ
 kept bytes = take 4097 bytes
 
--- the answer to what is asked, of a name's node behind what was asked before it
+-- the answer to what is asked, of a name's node after what was asked before it
 abbrev pub answer_behind : Rules → ℕ → List AskedOfNode → AskedOfNode → Answer
 answer_behind rules name before asked = answer_for rules (node_behind rules (first_node rules name) before) asked
 
@@ -76,13 +76,13 @@ pub record MadeBy (made : List ℕ) (node : Node) (answer : Answer) : Type 0 whe
   pub text : made ≡ answer.text
   pub end : IsEndOf answer.node node
 
--- all that was asked has its answer: the node is a name's behind it
+-- all that was asked has its answer: the node is a name's after it
 pub record SessionIsReady (s : Session) (rules : Rules) (name : ℕ) (before : List AskedOfNode) : Type 0 where
   pub stage : s.stage ≡ Ready
   pub founded : (speaking s.speaker).rules ≡ rules
   pub node : IsEndOf (node_behind rules (first_node rules name) before) (speaking s.speaker).node
 
--- behind that one thing more was asked, and its answer waits for room
+-- after that one thing more was asked, and its answer waits for room
 pub record IsWaiting (s : Session) (rules : Rules) (name : ℕ) (before : List AskedOfNode) (asked : AskedOfNode) : Type 0 where
   pub stage : s.stage ≡ Waits
   pub form : s.form ≡ asked.form
@@ -104,7 +104,7 @@ pub record IsWritten (text room room' : List ℕ) (said : ℕ) : Type 0 where
   pub long : said ≡ length text
   pub fits : length text ≤ length room
 
--- what was asked has its answer, and the node is behind it
+-- what was asked has its answer, and the node is after it
 abbrev pub Told : Session → AskedOfNode → Session → List ℕ → List ℕ → ℕ → Type 0
 Told old asked new room room' said = (rules : Rules) (name : ℕ) (before : List AskedOfNode) (waiting : Option AskedOfNode) → IsBehind old rules name before waiting
     → IsBehind new rules name (before ++ asked ∷ []) None × IsWritten (answer_behind rules name before asked).text room room' said

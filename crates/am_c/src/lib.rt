@@ -119,7 +119,7 @@ pub extern "C" fn muoswyld_step(
 }
 
 /// Gives an event as bytes its answer as bytes (docs/EMBEDDING.md, "The binary call"), with the numbers of `muoswyld_step`. It is the
-/// same node: behind all lines and events that have their answers.
+/// same node: after all lines and events that have their answers.
 #[unsafe(no_mangle)]
 pub extern "C" fn muoswyld_do(
     alloc: Global,

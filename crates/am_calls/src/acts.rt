@@ -6,7 +6,7 @@ ghost use Rattle.am_group_defs.specs.Claims.{packet_heard_by_act};
 ghost use Rattle.am_group.specs.declared.event.Record.{Record};
 ghost use Rattle.am_shared_journal_defs.specs.Stops.{is_stop};
 ghost use Rattle.am_race_laws.specs.Boxes.{what_of, IsLeastOf, InBoth};
-ghost use Rattle.am_race_laws.specs.Turns.{lost_by, unless_nought, or_nought};
+ghost use Rattle.am_race_laws.specs.Turns.{letter_lost_by_part, unless_nought, or_nought};
 
 use am_base::NoMemory;
 use am_base::body::SentBody;
@@ -67,8 +67,8 @@ pub fn heard_by(act: &Act) -> u32
 }
 
 /// The number of the letter that a turn lost, or 0.
-pub fn lost_by(part: Part) -> u32
-    ensures { result ≡ lost_by part }
+pub fn letter_lost_by_part(part: Part) -> u32
+    ensures { result ≡ letter_lost_by_part part }
 {
     match part {
         Part::Turn(lost) => lost,
@@ -76,7 +76,7 @@ pub fn lost_by(part: Part) -> u32
     }
 }
 
-/// Whether a name has stopped, behind an act of its own.
+/// Whether a name has stopped, after an act of its own.
 pub fn stops_by(stopped: bool, act: &Act) -> bool
     ensures { result ≡ (stopped || is_stop act.now) }
 {
@@ -86,14 +86,14 @@ pub fn stops_by(stopped: bool, act: &Act) -> bool
     stopped
 }
 
-/// How far a place has come, behind a letter that was heard and one that was lost.
+/// How far a place has come, after a letter that was heard and one that was lost.
 pub fn cursor_after(cursor: u32, heard: u32, lost: u32) -> u32
     ensures { result ≡ max (max cursor heard) lost }
 {
     cursor.max(heard).max(lost)
 }
 
-/// The last letter that was heard, behind one more, or none where the number is 0.
+/// The last letter that was heard, after one more, or none where the number is 0.
 pub fn last_after(last: Option<u32>, heard: u32) -> Option<u32>
     ensures { result ≡ unless_nought (max (or_nought last) heard) }
 {

@@ -13,7 +13,7 @@ use am_shared_journal::wire::Share;
 use am_turn_chooser::chooser::Chooser;
 use std::marker::{Model, PhantomData};
 
-/// What a caller acts with: its share, and its chooser, which stands behind the words that its turns drew.
+/// What a caller acts with: its share, and its chooser, which stands after the words that its turns drew.
 #[derive(Drop)]
 pub struct Hand {
     pub share: Share,

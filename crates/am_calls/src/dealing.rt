@@ -13,7 +13,7 @@ use am_base::founding::Founding;
 use am_base::name::Name;
 use am_group::plan::RacePlan;
 use am_node::node::Node;
-use am_shared_journal::wire::{Pass, Share, Wire};
+use am_shared_journal::wire::{Pass, Share, SharedJournal};
 use std::alloc::Global;
 use std::sync::{Mutex, Wait};
 
@@ -86,7 +86,7 @@ fn pass_of<R: Wait, N: Racing>(rt: &R, node_box: NodeBox<N>, place: u8) -> Pass
 /// The passes of all boxes, joined.
 pub fn all_places<R: Wait, N: Racing>(
     rt: &R,
-    wire: &Wire<RaceLaw>,
+    wire: &SharedJournal<RaceLaw>,
     boxes: Vec<Mutex<NodeBox<N>>>,
 ) -> Pass
     requires own { wire.now.id ≡ N.wire }
@@ -109,7 +109,7 @@ pub fn all_places<R: Wait, N: Racing>(
 
 /// The pass with the keys of the callers, too.
 pub fn with_callers<N: Racing>(
-    wire: &Wire<RaceLaw>,
+    wire: &SharedJournal<RaceLaw>,
     mut pass: Pass,
     callers: Vec<Caller<N>>,
 ) -> Pass

@@ -38,7 +38,7 @@ use am_model::info::Info;
 use am_node::node::Node;
 use am_race_laws::answer::CallAnswer;
 use am_race_laws::call::{Came, Looked, Tag};
-use am_shared_journal::wire::Wire;
+use am_shared_journal::wire::SharedJournal;
 use am_shared_journal_defs::terms::WireRefusal;
 use std::alloc::Global;
 use std::sync::{Mutex, MutexGuard, Wait};
@@ -58,7 +58,7 @@ struct Call<'a> {
 #[derive(Drop)]
 pub struct Kernels<'g, N: Racing, G: TestHook> {
     alloc: Global,
-    wire: Wire<RaceLaw>,
+    wire: SharedJournal<RaceLaw>,
     boxes: Vec<Mutex<NodeBox<N>>>,
     gate: &'g G,
     pub(crate) crowd: Crowd,

@@ -12,7 +12,7 @@ ghost use Rattle.am_shared_journal_defs.specs.Passes.{Sees, fresh};
 ghost use Rattle.am_shared_journal_defs.specs.Stops.{has_stopped};
 ghost use Rattle.am_race_laws.specs.Boxes.{what_of, MayAct, IsShareOf, IsTimely, Acted, IsRefused, BoxLooks, refusal_answer, node_by};
 ghost use Rattle.am_race_laws.specs.Callings.{IsHand};
-ghost use Rattle.am_race_laws.specs.Going.{end_act, end_part, is_asked, ToldBy, OwnActIsDone, IsCame, EndTells, Began, HasSpent, HasEnded, HasLooked, WasRefused, Meets};
+ghost use Rattle.am_race_laws.specs.Going.{end_act, end_part, is_asked, ToldBy, OwnActIsDone, IsCame, EndTells, Began, HasSpent, HasEnded, HasLooked, WasRefused, HandIsAtOpenBox};
 ghost use Rattle.am_race_laws.specs.Plans.{is_call};
 ghost use Rattle.am_race_laws.specs.Ready.{is_ready};
 ghost use Rattle.am_race_laws.specs.Tags.{of_call, own_of, is_turn_part};
@@ -24,7 +24,8 @@ ghost use Rattle.am_calls.specs.Looks.{CallerMayLook};
 mod finding;
 
 use crate::acts::{
-    ActRoom, blank, copy_into, cursor_after, heard_by, last_after, lost_by, room_for, stops_by,
+    ActRoom, blank, copy_into, cursor_after, heard_by, last_after, letter_lost_by_part, room_for,
+    stops_by,
 };
 use crate::caller::Hand;
 use crate::gate::TestHook;
@@ -41,7 +42,7 @@ use am_packet::letter::LetterCopy;
 use am_packet_writer::out_box::Rooms;
 use am_race_laws::answer::CallAnswer;
 use am_race_laws::call::{Came, Looked, Tag};
-use am_shared_journal::wire::{Pass, Share, Wire};
+use am_shared_journal::wire::{Pass, Share, SharedJournal};
 use am_shared_journal_defs::terms::WireRefusal;
 use finding::FoundTurn;
 use std::alloc::Global;
@@ -82,7 +83,7 @@ impl<N: Racing> Model for NodeBox<N> {
 pub struct Visit<'a, R, G> {
     pub rt: &'a R,
     pub alloc: Global,
-    pub wire: &'a Wire<RaceLaw>,
+    pub wire: &'a SharedJournal<RaceLaw>,
     pub gate: &'a G,
     pub tag: Tag,
     pub act: &'a Act,
@@ -160,7 +161,7 @@ impl<N: Racing> NodeBox<N> {
     }
 
     /// The box and a caller see what either has seen. It is an error where the box does nothing more.
-    fn meet(&mut self, wire: &Wire<RaceLaw>, share: &mut Share) -> Result<(), CallAnswer>
+    fn meet(&mut self, wire: &SharedJournal<RaceLaw>, share: &mut Share) -> Result<(), CallAnswer>
         requires own { (wire.now.id ≡ N.wire) × (share.old.wire ≡ N.wire) }
         requires terms { share.old.terms ≡ terms_of N.plan }
         requires one { length share.old.keys ≡ 1 }
@@ -183,7 +184,11 @@ impl<N: Racing> NodeBox<N> {
     }
 
     /// What its node knows, by what the box and the caller have then seen. It is an error where the box does nothing more.
-    pub fn info(&mut self, wire: &Wire<RaceLaw>, hand: &mut Hand) -> Result<Info, WireRefusal>
+    pub fn info(
+        &mut self,
+        wire: &SharedJournal<RaceLaw>,
+        hand: &mut Hand,
+    ) -> Result<Info, WireRefusal>
         requires own { (wire.now.id ≡ N.wire) × (hand.old.share.wire ≡ N.wire) }
         requires terms { hand.old.share.terms ≡ terms_of N.plan }
         requires one { length hand.old.share.keys ≡ 1 }
@@ -204,7 +209,7 @@ impl<N: Racing> NodeBox<N> {
         Ok(self.node.info())
     }
 
-    /// Its node does an act of a caller, which both have then seen in the journal. Behind what both have seen it may do it, a turn
+    /// Its node does an act of a caller, which both have then seen in the journal. After what both have seen it may do it, a turn
     /// is one of its call, and a call may end there that it ends. After a refusal of the journal the box is closed; where there was no memory for the record, all is
     /// as it was.
     pub fn act<R: Wait, G: TestHook>(
@@ -258,7 +263,7 @@ impl<N: Racing> NodeBox<N> {
             Ok(_number) => {
                 let heard = heard_by(&act);
                 self.last = last_after(self.last, heard);
-                self.cursor = cursor_after(self.cursor, heard, lost_by(by.part));
+                self.cursor = cursor_after(self.cursor, heard, letter_lost_by_part(by.part));
                 self.is_stopped = stops_by(self.is_stopped, &act);
                 Ok(Came { outcome, round })
             }
@@ -286,7 +291,7 @@ impl<N: Racing> NodeBox<N> {
     /// The box and a caller see what either has seen. It is an error where the box does nothing more.
     fn meet_caller(
         &mut self,
-        wire: &Wire<RaceLaw>,
+        wire: &SharedJournal<RaceLaw>,
         hand: &mut Hand,
         tag: Tag,
     ) -> Result<(), CallAnswer>
@@ -295,7 +300,7 @@ impl<N: Racing> NodeBox<N> {
         ensures hand { IsHand N.wire N.plan tag.caller hand.new.share hand.new.chooser }
         ensures name { self.new.name ≡ self.old.name }
         ensures goes { GoesOn (CallerKey tag.caller ∷ []) hand.old.share.seen hand.new.share.seen }
-        ensures ok { OnOk result (Meets N.wire N.plan tag.caller self.new hand.new.share
+        ensures ok { OnOk result (HandIsAtOpenBox N.wire N.plan tag.caller self.new hand.new.share
             hand.new.chooser) }
         ensures err { IfErr result (WasRefused self.old.name tag.caller hand.old.share.seen
             hand.new.share.seen) }
@@ -310,7 +315,7 @@ impl<N: Racing> NodeBox<N> {
         hand: &mut Hand,
     ) -> Result<Looked, CallAnswer>
         requires own { visit.now.wire.now.id ≡ N.wire }
-        requires met { Meets N.wire N.plan visit.now.tag.caller self.old hand.old.share
+        requires met { HandIsAtOpenBox N.wire N.plan visit.now.tag.caller self.old hand.old.share
             hand.old.chooser }
         requires unready { is_ready (node_by N.plan self.old.seen self.old.name)
             (own_of (of_call visit.now.tag.caller visit.now.tag.call self.old.seen)) ≡ false }
@@ -346,7 +351,7 @@ impl<N: Racing> NodeBox<N> {
         by: By,
     ) -> Result<Came, CallAnswer>
         requires own { visit.now.wire.now.id ≡ N.wire }
-        requires met { Meets N.wire N.plan by.caller self.old hand.old.share hand.old.chooser }
+        requires met { HandIsAtOpenBox N.wire N.plan by.caller self.old hand.old.share hand.old.chooser }
         requires asks { is_asked act ≡ true }
         requires no_turn { is_turn_part by.part ≡ false }
         requires due { is_end_of by.part act ≡ true
@@ -374,7 +379,7 @@ impl<N: Racing> NodeBox<N> {
         came: &Option<Came>,
     ) -> Result<Looked, CallAnswer>
         requires own { visit.now.wire.now.id ≡ N.wire }
-        requires met { Meets N.wire N.plan visit.now.tag.caller self.old hand.old.share
+        requires met { HandIsAtOpenBox N.wire N.plan visit.now.tag.caller self.old hand.old.share
             hand.old.chooser }
         requires due { is_due N.plan (node_by N.plan self.old.seen self.old.name)
             (of_call visit.now.tag.caller visit.now.tag.call self.old.seen) ≡ true }

@@ -194,7 +194,7 @@ fn put_off_in(request: Option<u32>, outcome: &Outcome) -> Option<CallAnswer>
     }
 }
 
-/// What a call that used its turns answers, behind one record more.
+/// What a call that used its turns answers, after one record more.
 pub fn late_after(request: Option<u32>, late: CallAnswer, outcome: &Outcome) -> CallAnswer
     ensures { result ≡ late_after request late outcome.now }
 {

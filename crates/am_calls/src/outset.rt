@@ -6,7 +6,7 @@ ghost use Rattle.am_race_laws.specs.Lawful.{terms_of};
 use crate::naming::RaceLaw;
 use am_base::NoMemory;
 use am_group::plan::RacePlan;
-use am_shared_journal::wire::{Pass, Share, Wire};
+use am_shared_journal::wire::{Pass, Share, SharedJournal};
 use am_shared_journal_defs::terms::Terms;
 use std::alloc::Global;
 
@@ -14,7 +14,7 @@ use std::alloc::Global;
 #[derive(Drop)]
 pub struct Outset<'p> {
     pub(crate) plan: &'p RacePlan,
-    pub(crate) wire: Wire<RaceLaw>,
+    pub(crate) wire: SharedJournal<RaceLaw>,
     pub(crate) passes: Vec<Pass>,
     pub(crate) shares: Vec<Share>,
     ghost few: { length plan.now.threads ≤ 16 },
@@ -29,7 +29,7 @@ impl<'p> Outset<'p> {
         requires { length plan.now.threads ≤ 16 }
         ensures { IfOk result (λ outset. outset.plan.now ≡ plan.now) }
     {
-        let (wire, passes, shares) = Wire::<RaceLaw>::start(alloc, &terms_of(plan))?;
+        let (wire, passes, shares) = SharedJournal::<RaceLaw>::start(alloc, &terms_of(plan))?;
         Ok(Outset {
             plan,
             wire,

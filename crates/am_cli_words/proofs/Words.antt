@@ -167,7 +167,7 @@ pub form_of_gen_words : (words : List (List ℕ)) (numbers : SeedAndCount) → I
 unfolding form_of
 form_of_gen_words words numbers is some = numbers_by (is_node words) words (node_words_in (drop 1 words)) numbers is some
 
--- ---- words behind the first
+-- ---- words after the first
 
 texts_behind : (words : List (Bor (List ℕ))) (n : ℕ) → texts_of_borrowed_words (drop n words) ≡ drop n (texts_of_borrowed_words words)
 texts_behind words zero = refl

@@ -66,7 +66,7 @@ unfoldable pub one_form : List ℕ → Option Form
 one_form word = if same_word word (codes "race") then Some form.Race else (if same_word word (codes "audit") then Some form.Audit
     else (if same_word word (codes "parts") then Some form.Parts else option_map form.Play (shown_by_word word)))
 
--- five of six words: all but --script, which stands before, between or behind the two options
+-- five of six words: all but --script, which stands before, between or after the two options
 abbrev pub unscripted : List (List ℕ) → List (List ℕ)
 unscripted (word ∷ a ∷ b ∷ c ∷ d ∷ e ∷ []) =
     if same_word a (codes "--script") then word ∷ b ∷ c ∷ d ∷ e ∷ []

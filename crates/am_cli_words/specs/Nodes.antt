@@ -49,7 +49,7 @@ put_option options option value =
     else if same_text option (codes "--pb-up-to") then put_pb_up_to options value
     else None
 
--- ---- options in turn, each with its value behind it
+-- ---- options in turn, each with its value after it
 
 unfoldable pub options_from : Options → List (List ℕ) → Option Options
 options_from options [] = Some options
@@ -79,6 +79,6 @@ abbrev pub node_words_with : Options → Option NodeWords
 node_words_with options = node_words_of options.name
     (option_and_then (λ founders. founding_of founders (unwrap_or options.resilience 0) (unwrap_or options.window 64) (unwrap_or options.pb_up_to 256)) options.founders)
 
--- what the words behind node ask for
+-- what the words after node ask for
 unfoldable pub node_words_in : List (List ℕ) → Option NodeWords
 node_words_in words = option_and_then node_words_with (options_from no_options words)

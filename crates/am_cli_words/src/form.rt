@@ -107,7 +107,7 @@ fn numbers_of_five(
     None
 }
 
-/// The form of six words: `gen` with its two options, before, between or behind which `--script` stands.
+/// The form of six words: `gen` with its two options, before, between or after which `--script` stands.
 fn form_of_six(words: &[&str]) -> Option<Form>
     requires { length words.now ≡ 6 }
     ensures value { result ≡ other_form (map (λ word. word.now) words.now) }

@@ -44,7 +44,7 @@ fn put_option(options: Options, option: &str, value: &str) -> Option<Options>
     Some(new)
 }
 
-/// With what options in turn say, each a word with its value behind it.
+/// With what options in turn say, each a word with its value after it.
 fn options_from(options: Options, words: &[&str]) -> Option<Options>
     ensures { result ≡ options_from options (map (λ word. word.now) words.now) }
 {
@@ -89,7 +89,7 @@ fn node_with(options: Options) -> Option<NodeWords>
 }
 
 #[tactic(auto, unfolding(crate::specs::Nodes::node_words_in))]
-/// What the words behind `node` ask for: `--name` and `--founders`, and maybe `--resilience`, `--window` and `--pb-up-to`, each at most
+/// What the words after `node` ask for: `--name` and `--founders`, and maybe `--resilience`, `--window` and `--pb-up-to`, each at most
 /// once, in any order. None where they are none of these, or a value is none.
 pub(crate) fn node_of(words: &[&str]) -> Option<NodeWords>
     ensures { result ≡ node_words_in (map (λ word. word.now) words.now) }

@@ -1,6 +1,7 @@
 pub mod Scripts
-pub mod Worked
+pub mod WorkedMembers
 pub mod WorkedResets
+pub mod WorkedSends
 pub mod StopTable
 pub mod Asked
 pub mod Directed

@@ -18,6 +18,6 @@ rules_with founders resilience window pb_up_to = record { founders = set_of foun
 abbrev pub on : ℕ → Act → Event
 on place act = record { node = place; act = act }
 
--- lines, each with a newline byte behind it
+-- lines, each with a newline byte after it
 abbrev pub lines : List (List ℕ) → List ℕ
 lines texts = flat_map (λ text. text ++ 10 ∷ []) texts

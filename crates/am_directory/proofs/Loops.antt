@@ -87,7 +87,7 @@ snapshot_is_all_written bytes whole w = sym (append-nil bytes) ∙ w.text
 
 -- ---- a snapshot is read
 
--- so many keys are read, and go on to all of them; a key that may follow is behind them all
+-- so many keys are read, and go on to all of them; a key that may follow is after them all
 pub record SettingsAreRestoredUpTo (count : ℕ) (bytes : List ℕ) (read : ℕ) (last : Option (List ℕ)) (rest : List ℕ) (contents : Contents) : Type 0 where
   pub whole : option_map (λ others. contents ++ others) (settings_in (count - read) last rest) ≡ settings_in count None bytes
   pub many : length contents ≡ read

@@ -11,18 +11,25 @@ use am_base::NoMemory;
 use am_base::body::SentBody;
 use am_base::entry::Entry;
 use am_long_messages::assembler::Assembler;
-use am_service_defs::step::Step;
+use am_service_defs::step::ReplicaStep;
 use std::alloc::Global;
 
 /// Applies an entry, of which the body counts where it is a send.
-pub fn apply_entry(directory: &mut Directory, number: u32, entry: &Entry) -> Result<Step, NoMemory>
+pub fn apply_entry(
+    directory: &mut Directory,
+    number: u32,
+    entry: &Entry,
+) -> Result<ReplicaStep, NoMemory>
     ensures step { IfOk result (λ step. step ≡ step_ready directory.old entry.now) }
     ensures applied { OnOk result (directory.new ≡ contents_with directory.old (number, entry.now)) }
     ensures err { OnErr result (directory.new ≡ directory.old) }
 {
     match entry {
-        Entry::Data { body, .. } => Ok(Step::Applied(directory.apply(number, body.bytes())?)),
-        Entry::Join(_) | Entry::Leave(_) | Entry::View(_) => Ok(Step::Noted),
+        Entry::Data { body, .. } => Ok(ReplicaStep::Applied(directory.apply(
+            number,
+            body.bytes(),
+        )?)),
+        Entry::Join(_) | Entry::Leave(_) | Entry::View(_) => Ok(ReplicaStep::Noted),
     }
 }
 
@@ -109,7 +116,7 @@ impl Backlog {
     }
 
     /// Holds the body of an entry of a number, where it is a command.
-    fn hold(&mut self, alloc: Global, number: u32, entry: &Entry) -> Result<Step, NoMemory>
+    fn hold(&mut self, alloc: Global, number: u32, entry: &Entry) -> Result<ReplicaStep, NoMemory>
         ensures step { IfOk result (λ step. step ≡ step_held entry.now) }
         ensures held { OnOk result ((waiting_in self.new).held
             ≡ held_with (waiting_in self.old).held number entry.now) }
@@ -120,14 +127,19 @@ impl Backlog {
             Entry::Data { body, .. } if Command::read(body.bytes()).is_some() => {
                 let body = SentBody::of(alloc, body)?;
                 self.held.push(HeldCommand { number, body })?;
-                Ok(Step::Held)
+                Ok(ReplicaStep::Held)
             }
-            _ => Ok(Step::Noted),
+            _ => Ok(ReplicaStep::Noted),
         }
     }
 
     /// Takes the next entry, which ends no snapshot for the replica.
-    pub fn take(&mut self, alloc: Global, number: u32, entry: &Entry) -> Result<Step, NoMemory>
+    pub fn take(
+        &mut self,
+        alloc: Global,
+        number: u32,
+        entry: &Entry,
+    ) -> Result<ReplicaStep, NoMemory>
         ensures step { IfOk result (λ step. step ≡ step_held entry.now) }
         ensures taken { OnOk result (waiting_in self.new
             ≡ waiting_with (waiting_in self.old) number entry.now) }

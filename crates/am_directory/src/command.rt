@@ -25,7 +25,7 @@ pub enum Command<'a> {
     Claim { key: &'a [u8], value: &'a [u8] },
 }
 
-/// A value with nothing behind it; None where there is none.
+/// A value with nothing after it; None where there is none.
 #[tactic(auto, unfolding(am_service_defs::specs::Commands::value_in_body))]
 fn value_in(bytes: &[u8]) -> Option<&[u8]>
     ensures { option_copied result ≡ value_in_body bytes.entry.now }
@@ -38,7 +38,7 @@ fn value_in(bytes: &[u8]) -> Option<&[u8]>
     }
 }
 
-/// The command of a kind, a key and the bytes behind that; None where there is none.
+/// The command of a kind, a key and the bytes after that; None where there is none.
 #[tactic(auto, unfolding(am_service_defs::specs::Commands::of_kind))]
 fn of_kind(kind: u8, key: Cut<'_>) -> Option<Command<'_>>
     ensures { option_map command_from result ≡ of_kind kind (cut_read key.entry) }

@@ -5,7 +5,7 @@ ghost use Rattle.am_directory.specs.Reading.{cut_read, number_read};
 
 use byteorder::{BigEndian, ByteOrder};
 
-/// Bytes, and those behind them.
+/// Bytes, and those after them.
 #[derive(Clone, Copy)]
 pub struct Cut<'a> {
     pub field: &'a [u8],
@@ -42,7 +42,7 @@ pub fn field_in(bytes: &[u8], least: u8, most: u8) -> Option<Cut<'_>>
     }
 }
 
-/// A number, and the bytes behind it.
+/// A number, and the bytes after it.
 #[derive(Clone, Copy)]
 pub struct Numbered<'a> {
     pub number: u32,

@@ -5,7 +5,7 @@ use crate::backlog::{Backlog, apply_entry};
 use crate::directory::Directory;
 use am_base::NoMemory;
 use am_base::entry::Entry;
-use am_service_defs::step::Step;
+use am_service_defs::step::ReplicaStep;
 use std::alloc::Global;
 use std::marker::Model;
 
@@ -63,7 +63,7 @@ impl Replica {
 
     /// Takes the next entry, with its number. It is an error where there is no memory for what it asks; then nothing has changed, and
     /// the same entry may be fed again.
-    pub fn feed(&mut self, number: u32, entry: &Entry) -> Result<Step, NoMemory>
+    pub fn feed(&mut self, number: u32, entry: &Entry) -> Result<ReplicaStep, NoMemory>
         ensures step { IfOk result (λ step. step ≡ step_of self.old entry.now) }
         ensures fed { OnOk result (self.new ≡ fed self.old number entry.now) }
         ensures err { OnErr result (self.new ≡ self.old) }
@@ -76,7 +76,7 @@ impl Replica {
             Some(directory) => {
                 self.directory = directory;
                 self.backlog = None;
-                Ok(Step::Restored)
+                Ok(ReplicaStep::Restored)
             }
         }
     }

@@ -20,7 +20,7 @@ fn limited_in(bytes: &[u8]) -> Option<Numbered<'_>>
     }
 }
 
-/// Whether a key may stand behind another, or first.
+/// Whether a key may stand after another, or first.
 fn may_follow<'a>(last: Option<&'a [u8]>, key: &'a [u8]) -> bool
     ensures { result ≡ may_follow (option_copied last.entry) key.now }
 {
@@ -30,7 +30,7 @@ fn may_follow<'a>(last: Option<&'a [u8]>, key: &'a [u8]) -> bool
     }
 }
 
-/// A key with what it has, and the bytes behind it in a snapshot.
+/// A key with what it has, and the bytes after it in a snapshot.
 #[derive(Drop)]
 pub struct SettingRef<'a> {
     pub key: &'a [u8],
@@ -38,7 +38,7 @@ pub struct SettingRef<'a> {
     pub rest: &'a [u8],
 }
 
-/// What a key has, behind it; None where there is nothing such.
+/// What a key has, after it; None where there is nothing such.
 #[tactic(auto, using(am_service_defs::proofs::Limits::field_read_is_value), unfolding(am_service_defs::specs::Snapshots::setting_behind))]
 fn setting_behind(key: Cut<'_>) -> Option<SettingRef<'_>>
     ensures { option_map setting_read result ≡ setting_behind (cut_read key.entry) }
@@ -55,7 +55,7 @@ fn setting_behind(key: Cut<'_>) -> Option<SettingRef<'_>>
     })
 }
 
-/// The first key with what it has, behind the last key; None where there is none.
+/// The first key with what it has, after the last key; None where there is none.
 #[tactic(auto, unfolding(am_service_defs::specs::Snapshots::setting_in))]
 pub fn setting_in<'a>(last: Option<&'a [u8]>, bytes: &'a [u8]) -> Option<SettingRef<'a>>
     ensures { option_map setting_read result
@@ -69,7 +69,7 @@ pub fn setting_in<'a>(last: Option<&'a [u8]>, bytes: &'a [u8]) -> Option<Setting
     }
 }
 
-/// What stands in a snapshot before its keys: the number of the Join, how many keys there are, and the bytes behind that.
+/// What stands in a snapshot before its keys: the number of the Join, how many keys there are, and the bytes after that.
 #[derive(Clone, Copy)]
 pub struct HeadRef<'a> {
     pub join: u32,
@@ -77,7 +77,7 @@ pub struct HeadRef<'a> {
     pub rest: &'a [u8],
 }
 
-/// The head of a snapshot, behind its first byte; None where there is none.
+/// The head of a snapshot, after its first byte; None where there is none.
 #[tactic(auto, unfolding(am_service_defs::specs::Snapshots::head_behind))]
 fn head_behind(bytes: &[u8]) -> Option<HeadRef<'_>>
     ensures { option_map head_read result ≡ head_behind bytes.entry.now }

@@ -22,7 +22,7 @@ impl Directory {
         Ok(bytes)
     }
 
-    /// The directory of so many keys, with nothing behind them; None where there is none.
+    /// The directory of so many keys, with nothing after them; None where there is none.
     fn restore_keys(alloc: Global, count: u32, bytes: &[u8]) -> Result<Option<Directory>, NoMemory>
         requires { count ≤ most_keys }
         ensures { IfOk result (λ found. found ≡ settings_in count None bytes.now) }

@@ -240,7 +240,7 @@ heard_letter_spells_packet letters number letter there is = λ h other heard at.
     found_letter_is_packet (letter_at letters number) letter other there is
     (ap (λ (x : Heard). letter_at letters x.packet) (same_Some (record { packet = number; keep = None }) h heard) ∙ at)
 
--- ---- what a node shows behind its step
+-- ---- what a node shows after its step
 
 pub group_length_le_events : (p : Play) (e : Event) (outcome : Outcome) (letters : List Letter) (new : Places) → CourseGoneByEvent p e outcome letters new
     → length new.group.items ≤ 2 + length p.events

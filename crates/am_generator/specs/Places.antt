@@ -16,7 +16,7 @@ pub record ArePlacesAtStart (rules : Rules) (places : Places) : Type 0 where
   pub letters : places.letters.items ≡ []
   pub group : places.group.items ≡ founders_entry rules ∷ []
 
--- the node of a place does a step of the table, and what it sends stands behind all letters
+-- the node of a place does a step of the table, and what it sends stands after all letters
 pub record PlaceMoves (old new : Places) (place : ℕ) (what : NodeEvent) (outcome : Outcome) : Type 0 where
   pub sent : List Letter
   pub few : length sent ≤ 9

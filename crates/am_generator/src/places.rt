@@ -72,7 +72,7 @@ impl Places {
         &self.nodes[usize::from(name.place())]
     }
 
-    /// The node of a name's place does a step, behind so many events. Where there is no memory for it all stays as it was.
+    /// The node of a name's place does a step, after so many events. Where there is no memory for it all stays as it was.
     pub fn act(&mut self, name: Name, what: &NodeEvent, events: usize) -> Result<Outcome, NoMemory>
         requires places { length self.old.nodes.items ≡ 16 }
         requires few { events < most_events_of_run }

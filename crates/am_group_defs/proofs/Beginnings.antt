@@ -12,7 +12,7 @@ use Rattle.am_base.proofs.Greatest.{split_on_bool}
 use Rattle.am_group_defs.proofs.Events.{holds_after_event}
 use Rattle.am_group_defs.proofs.Runs.{runs_go_on}
 
--- more stands behind a list
+-- more stands after a list
 abbrev Longer : {A : Type 0} → List A → List A → Type 0
 Longer {A} xs ys = (rest : List A) × (ys ≡ xs ++ rest)
 

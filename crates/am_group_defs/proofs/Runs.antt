@@ -5,7 +5,7 @@ use Rattle.std.proofs.lemmas.List.{length-append}
 use Rattle.am_base.specs.Founding.{Rules}
 use Rattle.am_group.specs.declared.event.Event.{Event}
 use Rattle.am_group_defs.specs.World.{World, start, world_with_record, world_with_step, happens, world_after_events}
-use Rattle.am_group_defs.specs.Lawful.{Watch, watch_start, watch_event, watch_events, greatest_complete, is_lawful, broken_now, broken_at, events_before_break}
+use Rattle.am_group_defs.specs.Lawful.{Watch, watch_start, watch_event, watch_events, greatest_complete, is_lawful, first_unlawful_event_so_far, broken_at, events_before_break}
 use Rattle.am_group_defs.specs.Running.{RunsGoOn, WatchedIsRun, OneRecordEach, FrontIsLawful}
 use Rattle.am_base.proofs.Greatest.{split_on_bool}
 use Rattle.am_group_defs.proofs.Events.{holds_after_event}
@@ -59,8 +59,8 @@ breaks_or_not s e h =
     let w = happens s.world e in
     let best = greatest_complete w s.complete w.views in
     split_on_bool (is_lawful w best)
-    (λ t. inr (ap (broken_now w best (s.count + 1)) h ∙ ap (λ b. if b then None else Some (s.count + 1)) t))
-    (λ f. inl (ap (broken_now w best (s.count + 1)) h ∙ ap (λ b. if b then None else Some (s.count + 1)) f))
+    (λ t. inr (ap (first_unlawful_event_so_far w best (s.count + 1)) h ∙ ap (λ b. if b then None else Some (s.count + 1)) t))
+    (λ f. inl (ap (first_unlawful_event_so_far w best (s.count + 1)) h ∙ ap (λ b. if b then None else Some (s.count + 1)) f))
 
 some_number : (a b : ℕ) → Some a ≡ Some b → a ≡ b
 some_number a b h = cc

@@ -70,13 +70,13 @@ unfoldable pub greatest_complete : World → Decided → List Decided → Decide
 greatest_complete w best [] = best
 greatest_complete w best (v ∷ vs) = greatest_complete w (greater_complete w best v) vs
 
-abbrev pub broken_now : World → Decided → ℕ → Option ℕ → Option ℕ
-broken_now w v count (Some k) = Some k
-broken_now w v count None = if is_lawful w v then None else Some count
+abbrev pub first_unlawful_event_so_far : World → Decided → ℕ → Option ℕ → Option ℕ
+first_unlawful_event_so_far w v count (Some k) = Some k
+first_unlawful_event_so_far w v count None = if is_lawful w v then None else Some count
 
 -- the world after an event, where this view is the greatest complete one
 abbrev pub watch_of_world : Watch → World → Decided → Watch
-watch_of_world s w best = record { world = w; complete = best; count = s.count + 1; broken = broken_now w best (s.count + 1) s.broken }
+watch_of_world s w best = record { world = w; complete = best; count = s.count + 1; broken = first_unlawful_event_so_far w best (s.count + 1) s.broken }
 
 unfoldable pub watch_event : Watch → Event → Watch
 watch_event s e = let w = happens s.world e in watch_of_world s w (greatest_complete w s.complete w.views)

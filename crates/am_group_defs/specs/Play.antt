@@ -18,7 +18,7 @@ text_of_watch rules s = play_text rules s.world.records s.world.group (logs s.wo
 abbrev pub play_text_of : Rules → List Event → List ℕ
 play_text_of rules events = text_of_watch rules (watch_run rules events)
 
--- a run that is settled behind its own events
+-- a run that is settled after its own events
 abbrev pub settle_run : Rules → Watch → Watch
 settle_run rules s = watch_events s (settle_events rules s.world)
 

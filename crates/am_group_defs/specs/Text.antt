@@ -22,7 +22,7 @@ use Rattle.am_group.specs.declared.event.Record.{Record}
 abbrev pub newline : List ℕ
 newline = 10 ∷ []
 
--- a name: its place, and a life other than the first behind a slash
+-- a name: its place, and a life other than the first after a slash
 unfoldable pub name_text : ℕ → List ℕ
 name_text name = if life_of_name name == 1 then decimal (place_of_name name) else decimal (place_of_name name) ++ (codes "/" ++ decimal (life_of_name name))
 
@@ -147,7 +147,7 @@ outcome_numbers (said.Running life) = life ∷ []
 outcome_numbers (said.Returned life) = life ∷ []
 outcome_numbers _ = []
 
--- what stands behind an outcome's word, with a blank before each part
+-- what stands after an outcome's word, with a blank before each part
 unfoldable pub outcome_parts : Rules → Outcome → List ℕ
 outcome_parts rules (said.Took number entry) = codes " " ++ (decimal number ++ (codes " " ++ entry_text rules entry))
 outcome_parts rules (said.NoBody from req) = codes " " ++ (name_text from ++ (codes " " ++ decimal req))
@@ -180,7 +180,7 @@ act_word (acts.Hear packet) = codes "hear"
 act_word (acts.Cut packet keep) = codes "cut"
 act_word acts.Return = codes "return"
 
--- what stands behind an act's node, with a blank before each part
+-- what stands after an act's node, with a blank before each part
 unfoldable pub act_parts : Rules → Act → List ℕ
 act_parts rules (acts.Send body) = codes " " ++ body_text body
 act_parts rules (acts.Done req) = codes " " ++ decimal req
@@ -213,7 +213,7 @@ is_everybody_else place set = (size set == 15) && (list_all (λ life. nat_le lif
 unfoldable pub addressees_text : ℕ → Letter → List ℕ
 addressees_text place letter = if letter.any || is_everybody_else place letter.to then codes "all" else names_text letter.to
 
--- a letter behind its event: its number, its kind and for whom it is
+-- a letter after its event: its number, its kind and for whom it is
 unfoldable pub letter_text : ℕ → ℕ → Letter → List ℕ
 letter_text place number letter = codes " | " ++ (decimal number ++ (codes " " ++ (kind_word letter.packet ++ (codes " to " ++ addressees_text place letter))))
 

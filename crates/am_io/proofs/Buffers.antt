@@ -75,7 +75,7 @@ module _ {K : Type 0} (contents : K → Option (List ℕ)) (count : K → ℕ) w
   pub buffer_wrote_in_calls : (p q : Buffered K) (text : List ℕ) → WritesInCalls (Goes contents count) p text q → Goes contents count p text q
   buffer_wrote_in_calls p q text calls = subst (λ (l : List ℕ). Goes contents count p l q) calls.whole (goes_by p q calls.parts calls.calls)
 
-  -- a write that failed behind the first so many bytes of what was to go
+  -- a write that failed after the first so many bytes of what was to go
   pub buffer_failed_at_write : (p q : Buffered K) (bytes sent : List ℕ) (written : ℕ) → p.failed ≡ false → q.failed ≡ true → p.room.items ++ bytes ≡ sent
       → q.sink.ghost_name ≡ p.sink.ghost_name → Appends (contents p.sink.now) (contents q.sink.now) (take written sent)
       → count q.sink.now ≡ next (count p.sink.now) → Goes contents count p bytes q

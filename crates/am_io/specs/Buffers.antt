@@ -8,7 +8,7 @@ use Rattle.am_io.specs.declared.buffered.Buffered.{Buffered}
 abbrev pub IsEmpty : {K : Type 0} → Buffered K → Type 0
 IsEmpty out = (out.failed ≡ false) × (out.room.items ≡ [])
 
--- The sink took a beginning of what the room held and of what was written behind that. The room holds the rest; but where a write failed, that is lost,
+-- The sink took a beginning of what the room held and of what was written after that. The room holds the rest; but where a write failed, that is lost,
 -- and one fault more is counted.
 pub record Moves {K : Type 0} (contents : K → Option (List ℕ)) (count : K → ℕ) (before : Buffered K) (bytes : List ℕ) (after : Buffered K) : Type 0 where
   pub taken : List ℕ
@@ -18,7 +18,7 @@ pub record Moves {K : Type 0} (contents : K → Option (List ℕ)) (count : K �
   pub held : after.failed ≡ false → after.room.items ≡ rest
   pub counted : count after.sink.now ≡ (if after.failed then next (count before.sink.now) else count before.sink.now)
 
--- behind a fault the sink is let alone
+-- after a fault the sink is let alone
 pub record Rests {K : Type 0} (before after : Buffered K) : Type 0 where
   pub failed : after.failed ≡ true
   pub same : after.sink.now ≡ before.sink.now

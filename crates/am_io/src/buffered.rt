@@ -63,7 +63,7 @@ impl<'a, K: Sink> Buffered<'a, K> {
         Ok(())
     }
 
-    // Lets bytes go to the sink at once, behind what the room held and holds no more.
+    // Lets bytes go to the sink at once, after what the room held and holds no more.
     fn pass(&mut self, bytes: &[u8])
         requires { (self.old.failed ≡ true) ⊎ (self.old.room.items ≡ []) }
         ensures { Goes K.contents K.count self.old bytes.now self.new }
@@ -88,7 +88,7 @@ impl<'a, K: Sink> Buffered<'a, K> {
         }
     }
 
-    /// Writes bytes behind those before.
+    /// Writes bytes after those before.
     pub fn write(&mut self, bytes: &[u8])
         ensures { Goes K.contents K.count self.old bytes.now self.new }
     {

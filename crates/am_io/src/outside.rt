@@ -4,7 +4,7 @@ ghost use Rattle.am_io.specs.Outside.{ReadToEnd, IfTook, OnEnd, OnFailed, IfPut,
 
 /// What a read gave.
 #[derive(Clone, Copy)]
-pub enum Got {
+pub enum ReadResult {
     /// The next bytes, so many.
     Took(usize),
     /// Nothing is left.
@@ -15,7 +15,7 @@ pub enum Got {
 
 /// What a write did.
 #[derive(Clone, Copy)]
-pub enum Put {
+pub enum WriteResult {
     /// It appended so many bytes of the piece's front.
     Took(usize),
     /// A fault; nothing was appended.
@@ -35,7 +35,7 @@ pub trait Source {
         ensures { result ≡ count self.now };
 
     /// Reads the next bytes into the front of a place that isn't empty.
-    fn read(&mut self, into: &mut [u8]) -> Got
+    fn read(&mut self, into: &mut [u8]) -> ReadResult
         requires { 0 < length into.old }
         ensures some { IfTook result (λ n. (0 < n) × (n ≤ length into.new)) }
         ensures took { IfTook result (λ n. Consumes (left self.old) (left self.new)
@@ -58,7 +58,7 @@ pub trait Sink {
         ensures { result ≡ count self.now };
 
     /// Appends the first bytes of a piece that isn't empty.
-    fn write(&mut self, piece: &[u8]) -> Put
+    fn write(&mut self, piece: &[u8]) -> WriteResult
         requires { 0 < length piece.now }
         ensures some { IfPut result (λ n. (0 < n) × (n ≤ length piece.now)) }
         ensures took { IfPut result (λ n. Appends (contents self.old) (contents self.new)

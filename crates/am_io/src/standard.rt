@@ -1,6 +1,6 @@
 ghost use Rattle.std.specs.Prelude.{◌≡◌};
 
-use crate::outside::{Got, Put, Sink, Source};
+use crate::outside::{ReadResult, Sink, Source, WriteResult};
 use std::io::{Read, Write};
 
 /// A reader of std's as a source, which tells of its bytes what the reader tells. Each error counts as a fault.
@@ -29,13 +29,13 @@ impl<R: Read + Drop> Source for StdSource<R> {
         self.faults
     }
 
-    fn read(&mut self, into: &mut [u8]) -> Got {
+    fn read(&mut self, into: &mut [u8]) -> ReadResult {
         match self.reader.read(into) {
-            Ok(0) => Got::End,
-            Ok(n) => Got::Took(n),
+            Ok(0) => ReadResult::End,
+            Ok(n) => ReadResult::Took(n),
             Err(_) => {
                 self.faults = self.faults.saturating_add(1);
-                Got::Failed
+                ReadResult::Failed
             }
         }
     }
@@ -68,12 +68,12 @@ impl<W: Write + Drop> Sink for StdSink<W> {
         self.faults
     }
 
-    fn write(&mut self, piece: &[u8]) -> Put {
+    fn write(&mut self, piece: &[u8]) -> WriteResult {
         match self.writer.write(piece) {
-            Ok(n) if 0 < n => Put::Took(n),
+            Ok(n) if 0 < n => WriteResult::Took(n),
             _ => {
                 self.faults = self.faults.saturating_add(1);
-                Put::Failed
+                WriteResult::Failed
             }
         }
     }

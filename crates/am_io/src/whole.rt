@@ -3,7 +3,7 @@ ghost use Rattle.std.specs.Io.KnownBytes.{Appends};
 ghost use Rattle.am_io.specs.Outside.{ReadToEnd, GaveMore, GaveAtMost};
 ghost use Rattle.am_io.specs.Faults.{faults_of_reading, faults_of_writing};
 
-use crate::outside::{Got, Put, Sink, Source};
+use crate::outside::{ReadResult, Sink, Source, WriteResult};
 use std::alloc::Global;
 
 /// The most bytes that are read at once.
@@ -49,9 +49,9 @@ pub fn read_all<S: Source>(
     let mut chunk = [0u8; CHUNK];
     loop {
         match source.read(&mut chunk) {
-            Got::End => return Ok(bytes),
-            Got::Failed => return Err(ReadRefusal::Fault),
-            Got::Took(n) => {
+            ReadResult::End => return Ok(bytes),
+            ReadResult::Failed => return Err(ReadRefusal::Fault),
+            ReadResult::Took(n) => {
                 if limit as usize - bytes.len() < n {
                     return Err(ReadRefusal::TooLong);
                 }
@@ -74,8 +74,8 @@ pub fn write_all<K: Sink>(sink: &mut K, bytes: &[u8]) -> Result<(), WriteFault>
     let mut written = 0;
     while written < bytes.len() {
         match sink.write(&bytes[written..]) {
-            Put::Took(n) => written += n,
-            Put::Failed => {
+            WriteResult::Took(n) => written += n,
+            WriteResult::Failed => {
                 return Err(WriteFault {
                     written: written as u64,
                 });

@@ -40,7 +40,7 @@ best_is group k s w r =
 -- ---- whether it broke
 
 broken_cases : (k : Watching) (w : World) (v : DecidedView) (count : ℕ) (broken : Option ℕ) → k.count ≡ count
-    → kept.watch_is_lawful k v ≡ law.is_lawful w (decided_of_view v) → kept.watch_broken_now k v broken ≡ law.broken_now w (decided_of_view v) (count + 1) broken
+    → kept.watch_is_lawful k v ≡ law.is_lawful w (decided_of_view v) → kept.watch_first_unlawful_event_so_far k v broken ≡ law.first_unlawful_event_so_far w (decided_of_view v) (count + 1) broken
 broken_cases k w v count (Some at) h g = refl
 broken_cases k w v count None h g = ap (λ b. if b then None else Some (k.count + 1)) g
     ∙ ap (λ c. if law.is_lawful w (decided_of_view v) then None else Some (c + 1)) h
@@ -48,7 +48,7 @@ broken_cases k w v count None h g = ap (λ b. if b then None else Some (k.count 
 some_none : {G : Type 0} (n : ℕ) → Some n ≡ None → G
 some_none n h = absurd (cc)
 
-lawful_cases : (k : Watching) (v : DecidedView) (broken : Option ℕ) → kept.watch_broken_now k v broken ≡ None → kept.watch_is_lawful k v ≡ true
+lawful_cases : (k : Watching) (v : DecidedView) (broken : Option ℕ) → kept.watch_first_unlawful_event_so_far k v broken ≡ None → kept.watch_is_lawful k v ≡ true
 lawful_cases k v (Some at) h = some_none at h
 lawful_cases k v None h = split_on_bool (kept.watch_is_lawful k v)
     (λ t. t)
@@ -82,8 +82,8 @@ look_follows_world group k s w r =
           ∙ h.0.waits h.1) _ (each_of_filtered_passes (PendingIsLeftIncomplete k best.view.stamp) (comes_after_view best.view.stamp) k.pending (each_pending_left_is_incomplete k k.complete k.pending));
       complete = is;
       count = ap (λ c. c + 1) r.count;
-      broken = ap (kept.watch_broken_now k best) r.broken ∙ broken_cases k w best s.count s.broken r.count (kept_is_lawful_of_world k w group best r.sees)
-          ∙ ap (λ v. law.broken_now w v (s.count + 1) s.broken) is;
+      broken = ap (kept.watch_first_unlawful_event_so_far k best) r.broken ∙ broken_cases k w best s.count s.broken r.count (kept_is_lawful_of_world k w group best r.sees)
+          ∙ ap (λ v. law.first_unlawful_event_so_far w v (s.count + 1) s.broken) is;
       lawful = λ h. refl ∙ lawful_cases k best k.broken h;
     }
 
@@ -100,7 +100,7 @@ stays k best (v ∷ vs) (h, hs) =
     either true b x y h = rw h refl
     either false b x y h = refl
 
-unbroken : (w : World) (v : Decided) (count : ℕ) (broken : Option ℕ) → (broken ≡ None → law.is_lawful w v ≡ true) → broken ≡ law.broken_now w v count broken
+unbroken : (w : World) (v : Decided) (count : ℕ) (broken : Option ℕ) → (broken ≡ None → law.is_lawful w v ≡ true) → broken ≡ law.first_unlawful_event_so_far w v count broken
 unbroken w v count (Some at) h = refl
 unbroken w v count None h = let t = h refl in rw t refl
 

@@ -74,9 +74,9 @@ watch_is_lost k v name = (has v.view.members name || nat_lt v.number (standing k
 unfoldable pub watch_is_lawful : Watching → DecidedView → Bool
 watch_is_lawful k v = nat_le (count_by (watch_is_lost k v) k.stopped) v.view.resilience
 
-abbrev pub watch_broken_now : Watching → DecidedView → Option ℕ → Option ℕ
-watch_broken_now k best (Some count) = Some count
-watch_broken_now k best None = if watch_is_lawful k best then None else Some (k.count + 1)
+abbrev pub watch_first_unlawful_event_so_far : Watching → DecidedView → Option ℕ → Option ℕ
+watch_first_unlawful_event_so_far k best (Some count) = Some count
+watch_first_unlawful_event_so_far k best None = if watch_is_lawful k best then None else Some (k.count + 1)
 
 -- ---- after an event
 
@@ -92,7 +92,7 @@ end_event k best = record k {
   complete = best;
   count = k.count + 1;
   broken =
-      watch_broken_now k best k.broken;
+      watch_first_unlawful_event_so_far k best k.broken;
 }
 
 -- an event is over after which a view may have become complete, or somebody was lost

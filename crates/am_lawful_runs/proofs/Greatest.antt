@@ -1,7 +1,7 @@
 -- The greatest complete view of a watched run, and the marks of the group.
 use Rattle.am_lawful_runs.proofs.Words.{◌≡◌, ◌⊎◌, either, inl, inr, ℕ, zero, suc, ◌+◌, ◌<◌, ◌≤◌, Bool, true, false, List, [], ◌∷◌, Option, Some, None, slice_get}
 use Rattle.am_lawful_runs.proofs.Words.{refl, sym, ap, ◌∙◌, subst, arith, list_any, stamp_is_less, Event, key_of_stamp, key_is_less_for_lesser_stamp, stamp_lt_of_key_lt, Decided, World, happens, is_complete}
-use Rattle.am_lawful_runs.proofs.Words.{is_lawful, Watch, watch_event, greater_complete, greatest_complete, broken_now, split_on_bool, le_or_gt}
+use Rattle.am_lawful_runs.proofs.Words.{is_lawful, Watch, watch_event, greater_complete, greatest_complete, first_unlawful_event_so_far, split_on_bool, le_or_gt}
 
 -- ---- one item that passes
 
@@ -113,11 +113,11 @@ watch_unbroken_before_event s e h =
     let best = greatest_complete w s.complete w.views in
     record { before = was_none w best s.count s.broken h; now = by_broken w best s.count s.broken h }
   where
-    was_none : (w : World) (best : Decided) (n : ℕ) (o : Option ℕ) → broken_now w best (n + 1) o ≡ None → o ≡ None
+    was_none : (w : World) (best : Decided) (n : ℕ) (o : Option ℕ) → first_unlawful_event_so_far w best (n + 1) o ≡ None → o ≡ None
     was_none w best n (Some k) h = absurd (cc)
     was_none w best n None h = refl
 
-    by_broken : (w : World) (best : Decided) (n : ℕ) (o : Option ℕ) → broken_now w best (n + 1) o ≡ None → is_lawful w best ≡ true
+    by_broken : (w : World) (best : Decided) (n : ℕ) (o : Option ℕ) → first_unlawful_event_so_far w best (n + 1) o ≡ None → is_lawful w best ≡ true
     by_broken w best n (Some k) h = absurd (cc)
     by_broken w best n None h = split_on_bool (is_lawful w best) (λ t. t) (λ f. absurd (let z = rw f at h in cc))
 

@@ -48,7 +48,7 @@ pub use Rattle.am_model.specs.{Receiving.receive_entry, Receiving.data_entry_of}
 pub use Rattle.am_model.specs.Resets.{push_fetched, catch_up, look_at_ballot_anew, fetches_from, piece_promised, piece_for}
 unfoldable pub use Rattle.am_model.specs.{Ballots.decide, Receiving.bcast_row, Receiving.order_row, Resets.piece_row, Resets.result_row}
 unfoldable pub use Rattle.am_group_defs.specs.{World.world_after_events, Lawful.watch_events, Lawful.is_complete, Lawful.is_lawful, Lawful.greatest_complete, Lawful.watch_event}
-pub use Rattle.am_group_defs.specs.Lawful.{Watch, watch_run, watch_start, broken_at, lawful_front, greater_complete, broken_now, counts_for_view, is_counted_loss, has_stored, lags_behind_view}
+pub use Rattle.am_group_defs.specs.Lawful.{Watch, watch_run, watch_start, broken_at, lawful_front, greater_complete, first_unlawful_event_so_far, counts_for_view, is_counted_loss, has_stored, lags_behind_view}
 pub use Rattle.am_group_defs.specs.Claims.{BecameComplete, FitsView, ViewsFit, Segment, KeepsView, Holds, HeadlineHolds}
 pub use Rattle.am_group_defs.proofs.{Runs.front_is_lawful, Runs.watched_is_run, Runs.one_record_each, Runs.runs_go_on, Beginnings.run_begins_longer_run}
 pub use Rattle.am_base.proofs.{Rows.member_row_has_view_life, Order.stamp_lt_of_key_lt}

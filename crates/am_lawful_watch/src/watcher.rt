@@ -2,7 +2,7 @@ ghost use Rattle.std.specs.Prelude.{◌≡◌, ◌&&◌, ◌||◌, ◌+◌, ◌<
 ghost use Rattle.std.specs.List.{list_any, range_with_len};
 ghost use Rattle.am_base.specs.Names.{names_of};
 ghost use Rattle.am_base.specs.Most.{greatest_word};
-ghost use Rattle.am_lawful_defs.specs.Watching.{watching_at_start, blank_standing, standing_at_start, standing, watch_has_stopped, is_there_and_at_most, watch_has_stored, watch_lags, watch_is_complete, greater_if_complete, watch_greatest, watch_is_lost, watch_is_lawful, watch_broken_now, look_for_complete_view, pass_event, note_stop, standings_are_alike, watching_with_standing, watching_with_decided, watch_with_entry, watch_finish, watch_accepts, comes_after_view, store_view, place_view};
+ghost use Rattle.am_lawful_defs.specs.Watching.{watching_at_start, blank_standing, standing_at_start, standing, watch_has_stopped, is_there_and_at_most, watch_has_stored, watch_lags, watch_is_complete, greater_if_complete, watch_greatest, watch_is_lost, watch_is_lawful, watch_first_unlawful_event_so_far, look_for_complete_view, pass_event, note_stop, standings_are_alike, watching_with_standing, watching_with_decided, watch_with_entry, watch_finish, watch_accepts, comes_after_view, store_view, place_view};
 ghost use Rattle.am_lawful_watch.specs.Watchers.{watching_of, HasWatchRoom};
 
 use crate::views::{
@@ -235,7 +235,7 @@ impl Watcher {
 
     fn broken_after(&self, best: &DecidedView) -> Option<u32>
         requires { (watching_of self.now).count < greatest_word }
-        ensures { result ≡ watch_broken_now (watching_of self.now) best.now
+        ensures { result ≡ watch_first_unlawful_event_so_far (watching_of self.now) best.now
             (watching_of self.now).broken }
     {
         match self.broken {

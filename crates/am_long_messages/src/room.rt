@@ -59,7 +59,7 @@ impl MessageRoom {
         }
     }
 
-    /// Takes a part behind the bytes that are there.
+    /// Takes a part after the bytes that are there.
     fn put(&mut self, from: Name, part: &PartRef) -> Fed
         requires fits { fits_message (part_read part.now) ≡ true }
         requires so_far { length self.old.bytes.items ≡ 1019 * part.now.index }

@@ -12,7 +12,7 @@ pub use Rattle.am_base.specs.Lists.{Log, members_of_image, log_with_entry, row_o
 pub use Rattle.am_packet.specs.{Boxes.Letter, Boxes.with_letter, declared.packet.Packet.Packet}
 pub use Rattle.am_packet.specs.Reading.{Read, reading}
 pub use Rattle.am_node_defs.proofs.{Folds.split_on_bool_of_log, Ends.log_is_own_end, Ends.top_of_end_is_top, Ends.end_has_image_of_whole_log, Ends.image_at_end_is_image, Ends.entry_at_end_is_entry, Ends.end_stays_by_push, CoreLaws.since_accepted_reads_kept_end}
-pub use Rattle.am_node_defs.specs.{Kept.IsEndOfLog, Cores.IsInOrder, Cores.CoreState, Cores.core_with_log, Cores.members_since_accepted}
+pub use Rattle.am_node_defs.specs.{Kept.IsEndOfLog, Cores.CoreFrontsAreInOrder, Cores.CoreState, Cores.core_with_log, Cores.members_since_accepted}
 unfoldable pub use Rattle.am_node_defs.specs.Cores.{raise_accepted_to_told, pass_over_below_join}
 pub use Rattle.am_node_defs.specs.{Reports.least_of_names, Reports.least_taken_of_names, Refresh.CoreWithReports, Refresh.base_after_trim, Refresh.raise_accepted_by_reports, Refresh.reports_with_log}
 unfoldable pub use Rattle.am_node_defs.specs.Refresh.{raise_own_report, tell_accept_front, advance_with_reports, trim_to_least_taken}

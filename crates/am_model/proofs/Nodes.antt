@@ -1,6 +1,6 @@
 -- A node and the same node with all of a list: what they tell, and what the refresh makes of them.
 use Rattle.am_model.proofs.EndWords.{[], ◌≡◌, ℕ, ◌+◌, ◌-◌, ◌<◌, ◌≤◌, List, ◌∷◌, length-append, drop, take, position, refl, sym, ◌∙◌, ap, arith, Option, Some, None}
-use Rattle.am_model.proofs.EndWords.{true, false, ◌&&◌, ◌==◌, drop-drop, Entry, Image, Log, image_of_log, log_image_at, log_entry_at, log_with_entry, stamps_are_equal, IsEndOfLog, IsInOrder}
+use Rattle.am_model.proofs.EndWords.{true, false, ◌&&◌, ◌==◌, drop-drop, Entry, Image, Log, image_of_log, log_image_at, log_entry_at, log_with_entry, stamps_are_equal, IsEndOfLog, CoreFrontsAreInOrder}
 use Rattle.am_model.proofs.EndWords.{CoreState, core_with_log, raise_accepted_to_told, pass_over_below_join, members_since_accepted, split_on_bool_of_log, top_of_end_is_top, end_has_image_of_whole_log, image_at_end_is_image, entry_at_end_is_entry, end_stays_by_push, since_accepted_reads_kept_end}
 use Rattle.am_model.proofs.EndWords.{least_taken_of_names, CoreWithReports, raise_own_report, tell_accept_front, advance_with_reports, trim_to_least_taken, base_after_trim, raise_accepted_by_reports, reports_with_log, go_up_on_whole_log, OwnSend, Node, is_member}
 use Rattle.am_model.proofs.EndWords.{top, image_of_node, is_sequencer, waiting_send_of, entries_above, push_entry, trim_node_up_to, advance_node, refresh_as_sequencer, refresh, core_with_reports_of, is_data_of}
@@ -180,7 +180,7 @@ unfolding refresh_at_end settle_waiting_send
 keeps_log_by_end_refresh all m h = keeps_settled all (refresh m) (waiting_send_of (refresh m)) (keeps_log_by_refresh all m h)
 
 -- a node and the end of it
-pub end_of_node_keeps_log : (all m : Node) → IsEndOf all m → IsInOrder m.core → KeepsEndOfLog all.core.log m
+pub end_of_node_keeps_log : (all m : Node) → IsEndOf all m → CoreFrontsAreInOrder m.core → KeepsEndOfLog all.core.log m
 end_of_node_keeps_log all m end order =
     let base = end.stands.base in
     let given = order.given in

@@ -1,5 +1,5 @@
 -- What the kept end of a node tells of the node, and what its steps are.
-use Rattle.am_model.proofs.EndWords.{◌≡◌, List, refl, sym, ◌∙◌, Outcome, NodeEvent, Letter, IsInOrder, log_is_own_end, top_of_end_is_top, top, step, row, IsEndOf, StepComesTo, DoesRow}
+use Rattle.am_model.proofs.EndWords.{◌≡◌, List, refl, sym, ◌∙◌, Outcome, NodeEvent, Letter, CoreFrontsAreInOrder, log_is_own_end, top_of_end_is_top, top, step, row, IsEndOf, StepComesTo, DoesRow}
 use Rattle.am_model.specs.Node as protocol
 use Rattle.am_model.proofs.Hearing.{ends_step_alike}
 
@@ -11,7 +11,7 @@ pub node_end_has_same_top : (all m : protocol.Node) → IsEndOf all m → top m 
 node_end_has_same_top all m is = top_of_end_is_top all.core.log m.core.log is.stands.kept
 
 -- what the end does, all of it does
-pub whole_step_comes_to_end : (all m n : protocol.Node) (what : NodeEvent) (outcome : Outcome) (letters : List Letter) → IsEndOf all m → IsInOrder m.core
+pub whole_step_comes_to_end : (all m n : protocol.Node) (what : NodeEvent) (outcome : Outcome) (letters : List Letter) → IsEndOf all m → CoreFrontsAreInOrder m.core
     → DoesRow (λ k. row k what) m outcome letters n → StepComesTo (step all what) outcome letters n
 unfolding step
 whole_step_comes_to_end all m n what outcome letters is order does =

@@ -4,7 +4,7 @@ use Rattle.am_base.specs.declared.outcome.Outcome.{Outcome}
 use Rattle.am_base.specs.Lists.{Log}
 use Rattle.am_base.specs.declared.event.NodeEvent.{NodeEvent}
 use Rattle.am_packet.specs.Boxes.{Letter}
-use Rattle.am_node_defs.specs.Cores.{CoreKeepsEndOf, IsInOrder, core_with_log}
+use Rattle.am_node_defs.specs.Cores.{CoreKeepsEndOf, CoreFrontsAreInOrder, core_with_log}
 use Rattle.am_model.specs.Node.{Node}
 use Rattle.am_model.specs.Emit.{Plan, StepResult, finish}
 use Rattle.am_model.specs.Step.{step}
@@ -46,4 +46,4 @@ pub record StepsAlike (s t : StepResult) : Type 0 where
 
 -- whatever a node does, the end of it does, as long as its numbers stand in their order
 abbrev pub EndsStepAlike : Type 0
-EndsStepAlike = (all m : Node) (event : NodeEvent) → IsEndOf all m → IsInOrder m.core → StepsAlike (step all event) (step m event)
+EndsStepAlike = (all m : Node) (event : NodeEvent) → IsEndOf all m → CoreFrontsAreInOrder m.core → StepsAlike (step all event) (step m event)

@@ -68,7 +68,7 @@ held_request m n s report req body by_order h =
 
 -- ---- heard
 
--- behind the gate it is the row of a request
+-- after the gate it is the row of a request
 heard_row : (m : Node) (s : ℕ) (v : Stamp) (report : Report) (req : ℕ) (body : List ℕ) (spread : Bool) → sequencer_hears_packet m s v ≡ true
     → hear_row m (send_packet spread s v report req body) ≡ request_row m s report req body spread
 unfolding hear_row

@@ -33,7 +33,7 @@ pub struct Node {
 impl Node {
     ghost use Rattle.std.specs.Prelude.{◌≡◌, ◌==◌, ◌≤◌, ◌↔◌, [], length, nat_lt, not, true, IfOk, OnErr, IsTrue, if◌then◌else◌};
     ghost use Rattle.std.specs.Option.{option_copied};
-    ghost use Rattle.am_node_parts.specs.Prelude.{log_entry_at, has, IsInOrder, members, image_of_node, top, view, DoesRow, TellsAlike};
+    ghost use Rattle.am_node_parts.specs.Prelude.{log_entry_at, has, CoreFrontsAreInOrder, members, image_of_node, top, view, DoesRow, TellsAlike};
     ghost use Rattle.am_model.specs.Node.{founder, stranger_node, node_unsettled_count};
     ghost use Rattle.am_model.specs.Step.{row};
     ghost use Rattle.am_node_defs.specs.Sends.{has_settled_send};
@@ -80,7 +80,7 @@ impl Node {
         ensures does { IfOk result (λ did. DoesRow (λ m. row m event.now) (state_of self.old) did.0 did.1
             (state_of self.new)) }
         ensures few { IfOk result (λ did. length did.1 ≤ 9) }
-        ensures order { IsInOrder (state_of self.old).core × IsInOrder (state_of self.new).core }
+        ensures order { CoreFrontsAreInOrder (state_of self.old).core × CoreFrontsAreInOrder (state_of self.new).core }
         ensures err { OnErr result (self.new ≡ self.old) }
     {
         let (outcome, out) = self.act_in_box(alloc, event, rooms)?;
@@ -100,7 +100,7 @@ impl Node {
         ensures does { IfOk result (λ did. DoesRow (λ m. row m event.now) (state_of self.old) did.0 did.1
             (state_of self.new)) }
         ensures few { IfOk result (λ did. length did.1 ≤ 9) }
-        ensures order { IsInOrder (state_of self.old).core × IsInOrder (state_of self.new).core }
+        ensures order { CoreFrontsAreInOrder (state_of self.old).core × CoreFrontsAreInOrder (state_of self.new).core }
         ensures err { OnErr result (self.new ≡ self.old) }
     {
         let _before = self.accept_front();
@@ -253,7 +253,7 @@ impl Node {
     /// Up to where it knows the list to be accepted.
     pub fn accept_front(&self) -> u32
         ensures value { result ≡ (state_of self.now).core.acc }
-        ensures order { IsInOrder (state_of self.now).core }
+        ensures order { CoreFrontsAreInOrder (state_of self.now).core }
     {
         self.parts.accept_front()
     }

@@ -37,7 +37,7 @@ go_of_last_departs m answer leads none room =
     let test : nat_lt 0 (size (other_members m)) ≡ false = grind (arith, nat_tests) in
     rw (leads, test, room) refl
 
--- what is replied of it, and told behind it: of nobody
+-- what is replied of it, and told after it: of nobody
 pub departing_plan_replies : (m : Node) (answer : Outcome) → LastMayDepart m
     → Replies (leaving_last m answer) (record (reply_with_telling said.Departed tell.Departs) { numbers = true }) m
 departing_plan_replies m answer may = record {

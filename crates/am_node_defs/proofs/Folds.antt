@@ -27,7 +27,7 @@ pub all_fit_after_push : (image : Image) (number : ℕ) (xs : List Entry) (e : E
 unfolding image_after_entries AllEntriesFit
 all_fit_after_push image number xs e a f = AllFit-append image number xs (e ∷ []) a (f, tt)
 
--- what is left of a list that fits, behind so many of its entries
+-- what is left of a list that fits, after so many of its entries
 pub all_fit_after_drop : (image : Image) (number k : ℕ) (xs : List Entry) → k ≤ length xs → AllEntriesFit image number xs
     → AllEntriesFit (image_after_entries image number (take k xs)) (number + k) (drop k xs)
 unfolding image_after_entries AllEntriesFit

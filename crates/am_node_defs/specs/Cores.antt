@@ -30,7 +30,7 @@ pub record CoreIsWithinLimits (log : Log) (capacity : ℕ) (rules : Rules) (prom
   pub accepted : acc ≤ top_of_log log
 
 -- the numbers of a core stand in their order
-pub record IsInOrder (c : CoreState) : Type 0 where
+pub record CoreFrontsAreInOrder (c : CoreState) : Type 0 where
   pub kept : c.base ≡ c.log.start
   pub let_go : c.base ≤ c.taken
   pub given : c.taken ≤ c.acc

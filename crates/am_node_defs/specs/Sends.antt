@@ -77,7 +77,7 @@ abbrev pub next_unsettled_request : ℕ → List OwnSend → ℕ
 next_unsettled_request last [] = last + 1
 next_unsettled_request last (send ∷ sends) = if is_unsettled send then send.req else next_unsettled_request last sends
 
--- those that aren't settled stand behind the settled ones, with requests that follow one another up to the last
+-- those that aren't settled stand after the settled ones, with requests that follow one another up to the last
 abbrev pub unsettled_sends_are_in_line : ℕ → List OwnSend → Bool
 unsettled_sends_are_in_line last [] = true
 unsettled_sends_are_in_line last (send ∷ sends) = (if is_unsettled send then (send.req + 1 == next_unsettled_request last sends)

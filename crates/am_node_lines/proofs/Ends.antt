@@ -8,7 +8,7 @@ use Rattle.am_base.specs.declared.event.NodeEvent.{NodeEvent}
 use Rattle.am_base.specs.declared.name.Stamp.{Stamp}
 use Rattle.am_base.specs.declared.image.Image.{Image}
 use Rattle.am_base.specs.declared.outcome.Outcome.{Outcome}
-use Rattle.am_node_defs.specs.Cores.{IsInOrder}
+use Rattle.am_node_defs.specs.Cores.{CoreFrontsAreInOrder}
 use Rattle.am_packet.specs.Boxes.{Letter}
 use Rattle.am_node_defs.specs.Sends.{Sends}
 use Rattle.am_model.specs.Node.{Node, top, image_of_node}
@@ -92,7 +92,7 @@ numbers_left_of_node b m says = tested b (has_numbers_left m) (λ is. numbers_to
 
 -- ---- steps
 
-step_replies : (m new : Node) (event : NodeEvent) (outcome : Outcome) (letters shown : List Letter) → IsInOrder m.core
+step_replies : (m new : Node) (event : NodeEvent) (outcome : Outcome) (letters shown : List Letter) → CoreFrontsAreInOrder m.core
     → DoesRow (λ n. row n event) m outcome letters new → shown ≡ letters → RepliesBy (λ n. stepped (step n event)) m (replies.Did outcome shown) new
 unfolding step
 step_replies m new event outcome letters shown order does are = λ all end.
@@ -102,7 +102,7 @@ step_replies m new event outcome letters shown order does are = λ all end.
     )
 
 -- the same of the node that stands apart, behind a box
-pub kept_end_step_replies_did : (m kept new : Node) (event : NodeEvent) (outcome : Outcome) (letters shown : List Letter) → kept ≡ m → IsInOrder kept.core
+pub kept_end_step_replies_did : (m kept new : Node) (event : NodeEvent) (outcome : Outcome) (letters shown : List Letter) → kept ≡ m → CoreFrontsAreInOrder kept.core
     → DoesRow (λ n. row n event) kept outcome letters new → shown ≡ letters → RepliesBy (λ n. stepped (step n event)) m (replies.Did outcome shown) new
 kept_end_step_replies_did m kept new event outcome letters shown same order does are =
     subst (λ (n : Node). RepliesBy (λ a. stepped (step a event)) n (replies.Did outcome shown) new) same

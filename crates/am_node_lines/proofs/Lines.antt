@@ -125,7 +125,7 @@ part_by start held text more count part (inl beyond) = (
 pub wrote_part_of_longer_text : (start held : Option (List ℕ)) (text more : List ℕ) → WrotePart start held text → WrotePart start held (text ++ more)
 wrote_part_of_longer_text start held text more part = part_by start held text more part.0 part.1 (cases_lt (length text) part.0)
 
--- a beginning of what comes behind a text
+-- a beginning of what comes after a text
 pub wrote_part_after_first_text : (start held after : Option (List ℕ)) (text more : List ℕ) (n : ℕ) → Appends start held text → Appends held after (take n more)
     → WrotePart start after (text ++ more)
 wrote_part_after_first_text start held after text more n before part =

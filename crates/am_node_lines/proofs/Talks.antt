@@ -169,7 +169,7 @@ talk_broke_on_in_bytes rules first start held given bytes i within part =
     let all : (given ++ take i bytes) ++ drop i bytes ≡ given ++ bytes = append_assoc given (take i bytes) (drop i bytes) ∙ ap (λ (xs : List ℕ). given ++ xs) (take-append-drop i bytes) in
     subst (λ (xs : List ℕ). WrotePart start held (answers_of rules first (whole_lines xs))) all (part_on rules first start held (given ++ take i bytes) (drop i bytes) part)
 
--- a newline behind the end makes the rest a line
+-- a newline after the end makes the rest a line
 ended_is : (given : List ℕ) → whole_lines (given ++ 10 ∷ []) ≡ spoken_lines given
 ended_is given = whole_lines_after_newline given ∙ sym (lines_from_by_whole_lines [] given)
 

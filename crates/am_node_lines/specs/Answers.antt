@@ -27,7 +27,7 @@ use Rattle.am_node_lines.specs.Lines.{node_line_of, bad_line_number}
 unfoldable pub to_text : Letter → List ℕ
 to_text letter = if letter.any then codes "*" ++ names_text letter.to else names_text letter.to
 
--- a letter behind an answer: its addressees and its bytes
+-- a letter after an answer: its addressees and its bytes
 unfoldable pub answer_letter_text : Letter → List ℕ
 answer_letter_text letter = codes " | " ++ (to_text letter ++ (codes " " ++ flat_map hex_byte (spelling letter.packet)))
 

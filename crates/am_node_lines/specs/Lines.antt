@@ -63,7 +63,7 @@ only_word word.Tick = line.Does does.Tick
 only_word word.Info = line.Info
 only_word _ = line.Bad Form
 
--- ---- what stands behind a word
+-- ---- what stands after a word
 
 -- the number of a request or a round: 1 to 2,000,000,000
 abbrev pub request_number_of : List ℕ → Result ℕ FieldFault
@@ -73,7 +73,7 @@ request_number_of text = and_then (number_in_text text) (λ n. if n == 0 then Er
 abbrev pub reset_least_of : List ℕ → Result ℕ FieldFault
 reset_least_of text = and_then (number_up_to 16 text) (λ n. if n == 0 then Err faults.Limit else Ok n)
 
--- a resilience behind its letter, or the founding's where none is said
+-- a resilience after its letter, or the founding's where none is said
 abbrev pub line_resilience : Rules → Option (List ℕ) → Result ℕ FieldFault
 line_resilience rules None = Ok rules.resilience
 line_resilience rules (Some text) = if slice_index text 0 == 114 then number_up_to 15 (drop 1 text) else Err faults.Form
@@ -100,7 +100,7 @@ hear_line rest = line_from (addressees_of (cut_of 32 rest).0) (λ to. letter_lin
 
 -- ---- lines
 
--- a word with something behind it
+-- a word with something after it
 abbrev pub more_line : Rules → Word → List ℕ → Line
 more_line rules word.Send rest = line_from (bytes_of most_bytes_of_body rest) (λ body. line.Does (does.Send body))
 more_line rules word.Done rest = line_from (request_number_of rest) (λ req. line.Does (does.Done req))

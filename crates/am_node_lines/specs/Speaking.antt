@@ -21,7 +21,7 @@ abbrev pub with_spoken_line : List ℕ → List (List ℕ) → List (List ℕ)
 with_spoken_line [] lines = lines
 with_spoken_line (byte ∷ bytes) lines = (byte ∷ bytes) ∷ lines
 
--- the lines of bytes behind those with which a line has begun: a newline ends one, and so does the end
+-- the lines of bytes after those with which a line has begun: a newline ends one, and so does the end
 unfoldable pub spoken_lines_from : List ℕ → List ℕ → List (List ℕ)
 spoken_lines_from begun [] = with_spoken_line begun []
 spoken_lines_from begun (byte ∷ bytes) = if byte == 10 then with_spoken_line begun (spoken_lines_from [] bytes) else spoken_lines_from (begun ++ byte ∷ []) bytes
@@ -37,7 +37,7 @@ whole_from begun (byte ∷ bytes) = if byte == 10 then with_spoken_line begun (w
 abbrev pub whole_lines : List ℕ → List (List ℕ)
 whole_lines bytes = whole_from [] bytes
 
--- what stands behind them
+-- what stands after them
 unfoldable pub rest_from : List ℕ → List ℕ → List ℕ
 rest_from begun [] = begun
 rest_from begun (byte ∷ bytes) = if byte == 10 then rest_from [] bytes else rest_from (begun ++ byte ∷ []) bytes
@@ -49,7 +49,7 @@ unfoldable pub answers_of : Rules → Node → List (List ℕ) → List ℕ
 answers_of rules m [] = []
 answers_of rules m (line ∷ lines) = ((line_answer rules m line).text ++ newline) ++ answers_of rules (line_answer rules m line).node lines
 
--- the node behind them
+-- the node after them
 unfoldable pub node_after : Rules → Node → List (List ℕ) → Node
 node_after rules m [] = m
 node_after rules m (line ∷ lines) = node_after rules (line_answer rules m line).node lines

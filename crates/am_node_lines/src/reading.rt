@@ -88,7 +88,7 @@ fn least(text: &[u8]) -> Result<u8, FieldFault>
     Ok(number as u8)
 }
 
-/// A resilience behind its letter, or the founding's where none is said.
+/// A resilience after its letter, or the founding's where none is said.
 fn resilience_or(founding: &Founding, text: Option<&[u8]>) -> Result<u8, FieldFault>
     ensures { result ≡ line_resilience founding.now (option_map (λ t. t.now) text.entry) }
 {
@@ -203,7 +203,7 @@ fn give_up_line(rest: &[u8]) -> Line
     }
 }
 
-/// The line of a word with something behind it.
+/// The line of a word with something after it.
 fn more_line(alloc: Global, founding: &Founding, word: Word, rest: &[u8]) -> Result<Line, NoMemory>
     ensures { IfOk result (λ line. line ≡ more_line founding.now word rest.now) }
 {
@@ -237,7 +237,7 @@ fn only_word(word: Word) -> Line
     }
 }
 
-/// The line of a word and of what stands behind it.
+/// The line of a word and of what stands after it.
 fn line_by(
     alloc: Global,
     founding: &Founding,

@@ -12,7 +12,7 @@ use crate::speaker::Speaker;
 use am_base::NoMemory;
 use am_base::founding::Founding;
 use am_base::name::Name;
-use am_io::outside::{Got, Sink, Source};
+use am_io::outside::{ReadResult, Sink, Source};
 use am_io::whole::write_all;
 use std::alloc::Global;
 use std::sync::Wait;
@@ -121,7 +121,7 @@ impl Talk {
     }
 }
 
-/// A name's node answers the lines of a source to its end, each before more is read. Bytes behind the last newline are a line
+/// A name's node answers the lines of a source to its end, each before more is read. Bytes after the last newline are a line
 /// too, and an empty line is none. A line above its limit is passed over to its end.
 pub fn speak<R: Wait, S: Source, K: Sink>(
     rt: &R,
@@ -143,14 +143,14 @@ pub fn speak<R: Wait, S: Source, K: Sink>(
     // It goes on as long as there are lines: whoever speaks to the node ends the source.
     'reads: for _ in rt.forever() {
         match source.read(&mut chunk) {
-            Got::End => {
+            ReadResult::End => {
                 return match talk.end_line(alloc, sink) {
                     Ok(()) => SpokenEnd::Done,
                     Err(fault) => fault.end(),
                 };
             }
-            Got::Failed => return SpokenEnd::ReadFault,
-            Got::Took(n) => {
+            ReadResult::Failed => return SpokenEnd::ReadFault,
+            ReadResult::Took(n) => {
                 if let Err(fault) = talk.take_all(alloc, &chunk[..n], sink) {
                     return fault.end();
                 }

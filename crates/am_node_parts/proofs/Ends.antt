@@ -1,6 +1,6 @@
 -- What the end of a node tells, and how it changes, is what the whole node does.
 use Rattle.am_node_parts.proofs.Words.{◌≡◌, ℕ, ◌-◌, max, min, nat_lt, if◌then◌else◌, arith, List, Bool, true, false, ◌&&◌, ◌==◌, refl, sym, ◌∙◌, ap, subst}
-use Rattle.am_node_parts.proofs.Words.{Image, stamps_are_equal, without_name, Log, top_of_log, image_of_log, members_of_image, log_members_at, CoreState, CoreKeepsEndOf, IsInOrder, raise_accepted_to_told}
+use Rattle.am_node_parts.proofs.Words.{Image, stamps_are_equal, without_name, Log, top_of_log, image_of_log, members_of_image, log_members_at, CoreState, CoreKeepsEndOf, CoreFrontsAreInOrder, raise_accepted_to_told}
 use Rattle.am_node_parts.proofs.Words.{pass_over_below_join, top_of_end_is_top, end_has_image_of_whole_log, image_at_top_is_told, untrimmed_core_keeps_own_log, CoreWithReports, RefreshesAlike, SecondChangesNothing, reports_with_log, raise_own_report, tell_accept_front, advance_with_reports, trim_to_least_taken}
 use Rattle.am_node_parts.proofs.Words.{nat_tests, split_on_bool_of_log, end_of_node_keeps_log, refresh_on_whole_log, Node, other_members, is_member, is_sequencer, refresh, refresh_as_sequencer, advance_node}
 use Rattle.am_node_parts.proofs.Words.{core_with_reports_of, node_with_core_and_reports, node_with_log, IsEndOf, TellsAlike, ChangesAllAlike}
@@ -113,7 +113,7 @@ unfolding refresh refresh_as_sequencer raise_own_report tell_accept_front advanc
 refresh_log m = split_on_bool_of_log (is_sequencer m) (λ t. rw t refl) (λ f. rw f refl)
 
 -- a node whose end a refresh leaves, it leaves too
-pub end_of_refreshed_is_refreshed : (x m : Node) → IsEndOf (refresh x) m → IsInOrder m.core → refresh (refresh x) ≡ refresh x → refresh m ≡ m
+pub end_of_refreshed_is_refreshed : (x m : Node) → IsEndOf (refresh x) m → CoreFrontsAreInOrder m.core → refresh (refresh x) ≡ refresh x → refresh m ≡ m
 end_of_refreshed_is_refreshed x m end order again =
     let all = (refresh x).core.log in
     let keeps = end_of_node_keeps_log (refresh x) m end order in

@@ -1,7 +1,7 @@
 -- The parts of a node keep what they keep.
 use Rattle.am_node_parts.proofs.Words.{left_of_and, ◌≡◌, ◌≢◌, ◌<◌, inl, ℕ, ◌+◌, [], ◌∷◌, length, ◌-◌, ◌≤◌, nat_lt, List, Bool, true, false, ◌&&◌, ◌==◌, Option, Some}
 use Rattle.am_node_parts.proofs.Words.{None, option_map, refl, sym, ◌∙◌, ap, subst, arith, Image, Stamp, Report, Row, Entry, Data, Join, Leave, View, nat_tests}
-use Rattle.am_node_parts.proofs.Words.{has, life_of_name, stamps_are_equal, stamp_is_less, members_of_image, row_at_place, after, fits, image_after_entries, CoreState, IsInOrder, raise_accepted_to_told, pass_over_below_join, IsKept}
+use Rattle.am_node_parts.proofs.Words.{has, life_of_name, stamps_are_equal, stamp_is_less, members_of_image, row_at_place, after, fits, image_after_entries, CoreState, CoreFrontsAreInOrder, raise_accepted_to_told, pass_over_below_join, IsKept}
 use Rattle.am_node_parts.proofs.Words.{split_on_bool_of_log, top_of_end_is_top, end_has_image_of_whole_log, told_by_pushed_entry, untrimmed_core_keeps_own_log, CoreWithReports, RefreshesAlike, IsMemberOrLastLeaver, raise_own_report, tell_accept_front, advance_with_reports, trim_to_least_taken, KeptBody}
 use Rattle.am_node_parts.proofs.Words.{OwnSend, Sends, next_request, has_log_by_status, Node, Ballot, top, image_of_node, view, members, acts_in_its_view, waiting_send_of, is_member, is_sequencer}
 use Rattle.am_node_parts.proofs.Words.{push_entry, node_with_report, reports_after_report, Status, Member, is_view, refresh, refresh_as_sequencer, core_with_reports_of, node_with_core_and_reports, accepted_number_of_send, settle_send_at}
@@ -73,7 +73,7 @@ sequencer_may_lead m keeps is = inl (keeps.leads is)
 
 -- ---- the refresh
 
-pub lead_is_steady : (m : Node) (new : CoreWithReports) → IsInOrder m.core → RefreshesAlike fronts.refresh_with_reports (core_with_reports_of m) new → IsSteady m (node_with_core_and_reports m new)
+pub lead_is_steady : (m : Node) (new : CoreWithReports) → CoreFrontsAreInOrder m.core → RefreshesAlike fronts.refresh_with_reports (core_with_reports_of m) new → IsSteady m (node_with_core_and_reports m new)
 unfolding raise_own_report tell_accept_front advance_with_reports trim_to_least_taken raise_accepted_to_told pass_over_below_join
 lead_is_steady m new order by =
     let is = by m.core.log (untrimmed_core_keeps_own_log m.core order.kept) in

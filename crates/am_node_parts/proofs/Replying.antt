@@ -12,7 +12,7 @@ use Rattle.am_base.specs.declared.outcome.Outcome.TheVariants as said
 use Rattle.am_base.specs.Lists.{Log, log_image_at, row_of_name, image_of_log}
 use Rattle.am_base.specs.Names.{empty_set_of_names, without_name, size}
 use Rattle.am_base.specs.Stamps.{stamps_are_equal}
-use Rattle.am_node_defs.specs.Cores.{CoreKeepsEndOf, IsInOrder}
+use Rattle.am_node_defs.specs.Cores.{CoreKeepsEndOf, CoreFrontsAreInOrder}
 use Rattle.am_node_defs.proofs.Ends.{image_at_end_is_image}
 use Rattle.am_node_defs.proofs.CoreLaws.{since_accepted_reads_kept_end}
 use Rattle.am_packet.specs.declared.packet.Packet.{Packet}
@@ -147,23 +147,23 @@ letters_log r old m all s low =
     ∙ ap (letters_with_told o r.second m) (told_log o r.first m all was s low)
 
 -- the node's base isn't above what is accepted
-accepted_low : (m : Node) → IsInOrder m.core → m.core.base ≤ m.core.acc
+accepted_low : (m : Node) → CoreFrontsAreInOrder m.core → m.core.base ≤ m.core.acc
 accepted_low m order =
     let taken = order.let_go in
     let given = order.given in
     omega arith
 
-answer_end : (a : StepAnswer) (all m : Node) → IsEndOf all m → IsInOrder m.core → outcome_of_answer a all ≡ outcome_of_answer a m
+answer_end : (a : StepAnswer) (all m : Node) → IsEndOf all m → CoreFrontsAreInOrder m.core → outcome_of_answer a all ≡ outcome_of_answer a m
 answer_end a all m e order = ap (outcome_of_answer a) (sym e.same) ∙ answer_log a m all.core.log e.stands (accepted_low m order)
 
-letters_end : (r : Reply) (old all m : Node) → IsEndOf all m → IsInOrder m.core → reply_letters r old all ≡ reply_letters r old m
+letters_end : (r : Reply) (old all m : Node) → IsEndOf all m → CoreFrontsAreInOrder m.core → reply_letters r old all ≡ reply_letters r old m
 letters_end r old all m e order = ap (reply_letters r old) (sym e.same) ∙ letters_log r old m all.core.log e.stands (accepted_low m order)
 
 -- ---- the end of the step
 
 -- a node that stays
 stays_end : (m : Node) (p : Plan) (r : Reply) (old new : Node) (o : Outcome) (letters sent : List Letter) → IsEndOf p.node old → p.departs ≡ false
-    → IsInOrder new.core → Replied p r old → ChangesAllAlike refresh_at_end old new → o ≡ outcome_of_answer r.answer new → letters ≡ reply_letters r old new
+    → CoreFrontsAreInOrder new.core → Replied p r old → ChangesAllAlike refresh_at_end old new → o ≡ outcome_of_answer r.answer new → letters ≡ reply_letters r old new
     → TellsAlike (letters_with_accept_front m.core.acc r.polls r.numbers letters) new sent → ends.StepComesTo (finish m p) o sent new
 unfolding finish
 stays_end m p r old new o letters sent is stays order replied end answers are tells =
@@ -201,7 +201,7 @@ none_told p m n letters alone =
 
 -- it tells the others nothing, since there is nobody
 leaves_end : (m : Node) (p : Plan) (r : Reply) (old new : Node) (o : Outcome) (letters sent : List Letter) → r.first ≡ tell.Departs
-    → LastMemberLeaves p r old → Replied p r old → IsInOrder new.core → IsEndOf (departed_node (refresh_at_end (push_entry old (Leave old.core.who)))) new
+    → LastMemberLeaves p r old → Replied p r old → CoreFrontsAreInOrder new.core → IsEndOf (departed_node (refresh_at_end (push_entry old (Leave old.core.who)))) new
     → size (other_members (refresh_at_end (push_entry old (Leave old.core.who)))) ≡ 0 → o ≡ outcome_of_answer r.answer new → letters ≡ reply_letters r old new
     → TellsAlike (letters_with_accept_front m.core.acc r.polls r.numbers letters) new sent → ends.StepComesTo (finish m p) o sent new
 unfolding finish
@@ -234,7 +234,7 @@ departs_first tell.Departs is = refl
 departs_first _ is = absurd (cc)
 
 said_end : (m : Node) (p : Plan) (r : Reply) (old new : Node) (o : Outcome) (letters sent : List Letter) (last : Bool) → is_departure r.first ≡ last
-    → old.core.base ≡ old.core.log.start → PlanReaches last p r old → Replied p r old → IsInOrder new.core → EndsOrDeparts last old new
+    → old.core.base ≡ old.core.log.start → PlanReaches last p r old → Replied p r old → CoreFrontsAreInOrder new.core → EndsOrDeparts last old new
     → o ≡ outcome_of_answer r.answer new → letters ≡ reply_letters r old new → TellsAlike (letters_with_accept_front m.core.acc r.polls r.numbers letters) new sent
     → ends.StepComesTo (finish m p) o sent new
 said_end m p r old new o letters sent false is kept reaches replied order ended answers are tells =
@@ -243,7 +243,7 @@ said_end m p r old new o letters sent true is kept reaches replied order ended a
     leaves_end m p r old new o letters sent (departs_first r.first is) reaches replied order ended.0 ended.1 answers are tells
 
 pub reply_comes_to_finished_step : (m : Node) (p : Plan) (r : Reply) (old new : Node) (o : Outcome) (letters sent : List Letter) → old.core.base ≡ old.core.log.start
-    → IsInOrder new.core → Replies p r old → EndsOrDeparts (is_departure r.first) old new → o ≡ outcome_of_answer r.answer new → letters ≡ reply_letters r old new
+    → CoreFrontsAreInOrder new.core → Replies p r old → EndsOrDeparts (is_departure r.first) old new → o ≡ outcome_of_answer r.answer new → letters ≡ reply_letters r old new
     → TellsAlike (letters_with_accept_front m.core.acc r.polls r.numbers letters) new sent → ends.StepComesTo (finish m p) o sent new
 reply_comes_to_finished_step m p r old new o letters sent kept order replies ended answers are tells =
     step_comes_to_whole_node (finish m p) (finish m replies.plan) o sent new (replies.same m)
@@ -258,7 +258,7 @@ then_same : (s t u : StepResult) → StepsAlike s t → StepsAlike t u → Steps
 then_same s t u a b = record { answer = a.answer ∙ b.answer; sent = a.sent ∙ b.sent; node = λ n e. a.node n (b.node n e) }
 
 -- what the end of a node replies, the node does
-pub reply_on_whole_log : (rest : Node → Plan) (x mid new : Node) (r : Reply) → IsEndOf x mid → IsInOrder mid.core
+pub reply_on_whole_log : (rest : Node → Plan) (x mid new : Node) (r : Reply) → IsEndOf x mid → CoreFrontsAreInOrder mid.core
     → ((all : Log) → KeepsEndOfLog all mid → PlansAreAlike (rest (node_with_log mid all)) (rest mid)) → Replies (rest mid) r new → Replies (rest x) r new
 reply_on_whole_log rest x mid new r end order alike replies =
     let whole = rest (node_with_log mid x.core.log) in

@@ -28,7 +28,7 @@ pub put_all_of_no_entry : (f : ℕ → Entry → Packet) (to : List ℕ) (number
 unfolding letters_of_entries
 put_all_of_no_entry f to number i es z = ap (λ k. letters_of_entries f to number (take k es) []) z
 
--- the entry behind a number
+-- the entry after a number
 pub entry_below_top_is_there : (log : Log) (number : ℕ) → log.start ≤ number → number < top_of_log log
     → log_entry_at log (number + 1) ≡ Some (slice_index_or log.entries (number - log.start) (Join 0))
 entry_below_top_is_there log number low high =

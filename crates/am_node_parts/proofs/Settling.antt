@@ -1,7 +1,7 @@
 -- Where a send of the node's own is accepted.
 use Rattle.am_node_parts.proofs.Words.{◌≡◌, ℕ, suc, ◌+◌, ◌-◌, ◌<◌, ◌≤◌, List, ◌∷◌, [], length, take, drop, get_or, Bool, true, false, nat_lt, nat_le, Option}
 use Rattle.am_node_parts.proofs.Words.{Some, None, refl, sym, ◌∙◌, ap, option_map, arith, slice_get, position, position_or_len, nat_tests, slice_get-get_or}
-use Rattle.am_node_parts.proofs.Words.{get_or-take, length-take, position_or_len_is, Entry, Log, log_entry_at, CoreState, CoreKeepsEndOf, IsInOrder, OwnSend, Node, waiting_send_of}
+use Rattle.am_node_parts.proofs.Words.{get_or-take, length-take, position_or_len_is, Entry, Log, log_entry_at, CoreState, CoreKeepsEndOf, CoreFrontsAreInOrder, OwnSend, Node, waiting_send_of}
 use Rattle.am_node_parts.proofs.Words.{is_data_of, accepted_number_of_send, settle_send_at, settle_send_where_accepted, settle_waiting_send, node_with_log, TellsAlike, ChangesAllAlike, some_passes, accepted_number}
 use Rattle.am_node_defs.specs.Sends as own
 use Rattle.am_node_parts.proofs.Ends.{reading_of_end_tells_node, change_of_end_changes_node}
@@ -69,7 +69,7 @@ pub passing_entry_is_some : (p : Entry → Bool) (x : Option Entry) → some_pas
 passing_entry_is_some p None at = absurd (cc)
 passing_entry_is_some p (Some e) at = (e, refl)
 
-pub accepted_number_is_found : (m : Node) (req before : ℕ) → IsInOrder m.core → m.core.base ≤ before → before < m.core.acc
+pub accepted_number_is_found : (m : Node) (req before : ℕ) → CoreFrontsAreInOrder m.core → m.core.base ≤ before → before < m.core.acc
     → some_passes (is_data_of m.core.who req) (log_entry_at m.core.log (before + 1)) ≡ true → NoneUpTo m.core req before
     → TellsAlike (λ n. accepted_number n req) m (Some (before + 1))
 accepted_number_is_found m req before order low high at none =
@@ -89,7 +89,7 @@ accepted_number_is_found m req before order low high at none =
     reading_of_end_tells_node (λ n. accepted_number n req) m (Some (before + 1)) (λ all s. ap Some (sym sum) ∙ ap (option_map (λ k. m.core.base + 1 + k)) (sym first)
     ∙ sym (kept_entries m req all s))
 
-pub accepted_number_is_none : (m : Node) (req : ℕ) → IsInOrder m.core → NoneUpTo m.core req m.core.acc → TellsAlike (λ n. accepted_number n req) m None
+pub accepted_number_is_none : (m : Node) (req : ℕ) → CoreFrontsAreInOrder m.core → NoneUpTo m.core req m.core.acc → TellsAlike (λ n. accepted_number n req) m None
 accepted_number_is_none m req order none =
     let kept = order.kept in
     let p = is_data_of m.core.who req in

@@ -2,7 +2,7 @@
 pub use Rattle.am_model.proofs.EndWords.{◌≡◌, List, false, sym, ◌∙◌, ap, subst, ℕ, ◌+◌, ◌-◌, ◌<◌, ◌≤◌, [], ◌∷◌, length, true, ◌==◌, nat_lt, Some, refl, arith}
 pub use Rattle.am_model.proofs.EndWords.{max, min, if◌then◌else◌, Bool, ◌&&◌, Option, None, take, drop, nat_le, nat_tests, Outcome, Image, Row, Entry, Data, Join}
 pub use Rattle.am_model.proofs.EndWords.{Leave, View, life_of_name, without_name, has, Log, log_entry_at, image_of_log, row_at_place, fits, members_of_image, row_of_name, log_image_at, stamps_are_equal}
-pub use Rattle.am_model.proofs.EndWords.{stamp_is_less, Stamp, Report, Letter, with_letter, Packet, CoreState, IsInOrder, split_on_bool_of_log, top_of_end_is_top, end_has_image_of_whole_log, CoreWithReports, reports_with_log}
+pub use Rattle.am_model.proofs.EndWords.{stamp_is_less, Stamp, Report, Letter, with_letter, Packet, CoreState, CoreFrontsAreInOrder, split_on_bool_of_log, top_of_end_is_top, end_has_image_of_whole_log, CoreWithReports, reports_with_log}
 pub use Rattle.am_model.proofs.EndWords.{OwnSend, Node, other_members, is_member, is_sequencer, Ballot, top, image_of_node, view, acts_in_its_view, waiting_send_of, push_entry, node_with_report}
 pub use Rattle.am_model.proofs.EndWords.{set_of_one_name, Plan, hold_packet_of, welcome_packet_of, plan_with_poll, plan_without_letters, plan_with_letter, is_data_of, advance_node, core_with_reports_of, accepted_number_of_send, settle_send_at}
 pub use Rattle.am_model.proofs.EndWords.{settle_send_where_accepted, IsEndOf, StepComesTo, DoesRow, node_with_log, is_view}

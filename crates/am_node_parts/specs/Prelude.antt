@@ -4,7 +4,7 @@ pub use Rattle.am_base.specs.Limits.{NumberIsInRange, EntryIsInRange, RowIsInRan
 pub use Rattle.am_base.specs.Lists.{row_at_place, log_entry_at, fits, members_of_image, row_of_name, image_of_log, top_of_log}
 pub use Rattle.am_base.specs.Names.{IsSetOfNames, has, names_of, size}
 pub use Rattle.am_base.specs.Stamps.{stamps_are_equal, stamp_is_less}
-pub use Rattle.am_node_defs.specs.Cores.{IsInOrder}
+pub use Rattle.am_node_defs.specs.Cores.{CoreFrontsAreInOrder}
 pub use Rattle.am_packet.specs.Boxes.{with_letter}
 pub use Rattle.am_packet.specs.Limits.{PacketIsWithin}
 pub use Rattle.am_model.specs.Node.{has_log_by_status}

@@ -1,5 +1,5 @@
 ghost use Rattle.std.specs.Prelude.{◌≡◌, ◌==◌, ◌≤◌, ◌<◌, ◌+◌, length, IsTrue};
-ghost use Rattle.am_node_parts.specs.Prelude.{greatest_number, NumberIsInRange, RowIsInRange, IsInOrder, top, node_of};
+ghost use Rattle.am_node_parts.specs.Prelude.{greatest_number, NumberIsInRange, RowIsInRange, CoreFrontsAreInOrder, top, node_of};
 ghost use Rattle.am_base.specs.declared.outcome.Outcome.TheVariants as said;
 ghost use Rattle.am_node_defs.specs.Kept.{IsKept};
 ghost use Rattle.am_model.specs.Node.{has_room, other_members, report_fits};
@@ -36,7 +36,7 @@ pub fn next_number(parts: &Parts) -> u32
     requires { top (node_of parts.now) < greatest_number }
     ensures value { result ≡ top (node_of parts.now) + 1 }
     ensures within { NumberIsInRange result }
-    ensures order { IsInOrder parts.now.core }
+    ensures order { CoreFrontsAreInOrder parts.now.core }
     ensures kept { IsKept parts.now.core.log (parts.now.core.rules.window + 15) }
 {
     parts.core.log.top() + 1

@@ -54,7 +54,7 @@ impl Parts {
     ghost use Rattle.am_base.specs.Limits.{EntryIsInRange};
     ghost use Rattle.am_base.specs.Lists.{log_entry_at, row_at_place, fits};
     ghost use Rattle.am_node_defs.specs.Kept.{IsKept};
-    ghost use Rattle.am_node_defs.specs.Cores.{IsInOrder};
+    ghost use Rattle.am_node_defs.specs.Cores.{CoreFrontsAreInOrder};
     ghost use Rattle.am_model.specs.Node.{Node, acts_in_its_view, is_sequencer, other_members, push_entry, image_of_node, top, waiting_send_of, node_with_report};
     ghost use Rattle.am_model.specs.Sequencing.{take_report};
     ghost use Rattle.am_model.specs.Refresh.{refresh, settle_waiting_send, refresh_at_end};
@@ -65,7 +65,7 @@ impl Parts {
     /// Up to where the node knows the list to be accepted.
     pub fn accept_front(&self) -> u32
         ensures value { result ≡ self.now.core.acc }
-        ensures order { IsInOrder self.now.core }
+        ensures order { CoreFrontsAreInOrder self.now.core }
         ensures kept { IsKept self.now.core.log (self.now.core.rules.window + 15) }
     {
         let _top = self.core.log.top();
@@ -75,7 +75,7 @@ impl Parts {
     /// Whether the node is a member that has promised nothing above its view.
     pub fn acts(&self) -> bool
         ensures value { result ≡ acts_in_its_view (node_of self.now) }
-        ensures order { IsInOrder self.now.core }
+        ensures order { CoreFrontsAreInOrder self.now.core }
     {
         let view = self.core.log.view();
         self.status == Status::Member
@@ -86,7 +86,7 @@ impl Parts {
     /// Whether the node acts in a view of its own, for this value of it alone.
     fn leads(&self) -> bool
         ensures value { result ≡ is_sequencer (node_of self.now) }
-        ensures order { IsInOrder self.now.core }
+        ensures order { CoreFrontsAreInOrder self.now.core }
     {
         self.acts() && self.core.log.view().by == self.core.who
     }
@@ -95,7 +95,7 @@ impl Parts {
     pub fn is_sequencer(&self) -> bool
         ensures value { result ≡ is_sequencer (node_of self.now) }
         ensures tells { TellsAlike is_sequencer (node_of self.now) result }
-        ensures order { IsInOrder self.now.core }
+        ensures order { CoreFrontsAreInOrder self.now.core }
     {
         self.leads()
     }
@@ -137,7 +137,7 @@ impl Parts {
         ensures end { IsEndOf (take_report (node_of self.old) from report) (node_of self.new) }
         ensures again { refresh (node_of self.new) ≡ node_of self.new }
         ensures steady { IsSteady (node_of self.old) (node_of self.new) }
-        ensures order { IsInOrder self.new.core }
+        ensures order { CoreFrontsAreInOrder self.new.core }
     {
         self.report(from, report);
         let _before = self.accept_front();
@@ -153,7 +153,7 @@ impl Parts {
         requires number { top (node_of self.old) < greatest_number }
         requires keeps { NodeKeeps (push_entry (node_of self.old) entry.now) }
         ensures node { node_of self.new ≡ push_entry (node_of self.old) entry.now }
-        ensures order { IsInOrder self.new.core }
+        ensures order { CoreFrontsAreInOrder self.new.core }
     {
         self.core.push(entry);
     }

@@ -93,7 +93,7 @@ pub struct Reply<'a> {
     pub answer: StepAnswer,
     /// What goes out first.
     pub first: Telling<'a>,
-    /// What goes out behind it.
+    /// What goes out after it.
     pub second: Telling<'a>,
     /// Whether the members are polled.
     pub polls: bool,
@@ -153,7 +153,7 @@ pub fn numbered<'a>(number: u32, to: Names, entry: EntryRef<'a>) -> Reply<'a>
     saying(Outcome::Numbered { number }, Telling::Note { to, note }).numbering()
 }
 
-/// What a ballot came to: an Invite to names, and behind it what the answer asks for.
+/// What a ballot came to: an Invite to names, and after it what the answer asks for.
 pub fn asking<'a>(outcome: Outcome, invited: Names, fetches: bool) -> Reply<'a>
     ensures { result ≡ reply_asking_names outcome invited fetches }
 {
@@ -165,7 +165,7 @@ pub fn asking<'a>(outcome: Outcome, invited: Names, fetches: bool) -> Reply<'a>
 }
 
 impl<'a> Reply<'a> {
-    /// The same, with something behind what goes out.
+    /// The same, with something after what goes out.
     pub fn and(self, second: Telling<'a>) -> Reply<'a>
         ensures { result ≡ record self.entry { second = second.entry } }
     {

@@ -1,5 +1,5 @@
 ghost use Rattle.std.specs.Prelude.{◌≡◌};
-ghost use Rattle.am_node_parts.specs.Prelude.{VoteIsInRange, IsInOrder, node_of};
+ghost use Rattle.am_node_parts.specs.Prelude.{VoteIsInRange, CoreFrontsAreInOrder, node_of};
 ghost use Rattle.am_model.specs.Ballots.{own_vote};
 
 use crate::parts::Parts;
@@ -10,7 +10,7 @@ use am_node_storage::log::Log;
 pub fn own_vote(parts: &Parts) -> Vote
     ensures value { result ≡ own_vote (node_of parts.now) }
     ensures within { VoteIsInRange result }
-    ensures order { IsInOrder parts.now.core }
+    ensures order { CoreFrontsAreInOrder parts.now.core }
 {
     Vote {
         view: parts.core.log.view(),

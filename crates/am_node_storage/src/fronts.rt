@@ -83,7 +83,7 @@ fn counted_at<L: Log>(log: &L, number: u32) -> Names
 
 impl Fronts {
     ghost use Rattle.am_node_defs.specs.Kept.{IsKept};
-    ghost use Rattle.am_node_defs.specs.Cores.{IsInOrder};
+    ghost use Rattle.am_node_defs.specs.Cores.{CoreFrontsAreInOrder};
     ghost use Rattle.am_node_defs.specs.Refresh.{core_and_reports, raise_own_report, raise_accepted_by_reports, refresh_with_reports, RefreshesAlike, SecondChangesNothing, IsMemberOrLastLeaver};
 
     /// Nobody has reported anything.
@@ -270,8 +270,8 @@ impl Fronts {
     fn go_up<L: Log>(&mut self, core: &mut Core<L>)
         ensures value { core_and_reports core.new self.new
             ≡ raise_accepted_by_reports (core_and_reports core.old self.old) }
-        ensures was { IsInOrder core.old }
-        ensures order { IsInOrder core.new }
+        ensures was { CoreFrontsAreInOrder core.old }
+        ensures order { CoreFrontsAreInOrder core.new }
         ensures kept { IsKept core.new.log (core.new.rules.window + 15) }
     {
         self.report_own(core);
@@ -290,7 +290,7 @@ impl Fronts {
             (core_and_reports core.new self.new) }
         ensures again { SecondChangesNothing refresh_with_reports (core_and_reports core.old self.old)
             (core_and_reports core.new self.new) }
-        ensures order { IsInOrder core.new }
+        ensures order { CoreFrontsAreInOrder core.new }
         ensures own { (reports_of self.new core.new.who).taken ≡ core.new.taken }
         ensures leads { IsMemberOrLastLeaver core.new }
     {

@@ -69,7 +69,7 @@ pub trait Log {
         ensures value { result.now ≡ (list self.now).image }
         ensures within { ImageIsInRange result.now };
 
-    /// Whether an entry fits behind the last one.
+    /// Whether an entry fits after the last one.
     fn fits(&self, entry: &EntryRef) -> bool
         ensures { result ≡ fits (image_of_log (list self.now)) entry.now };
 
@@ -89,7 +89,7 @@ pub trait Log {
         ensures list { list self.new ≡ log_above (list self.old) to }
         ensures capacity { capacity self.new ≡ capacity self.old };
 
-    /// Begins a blank log behind a number, with what is told up to there.
+    /// Begins a blank log after a number, with what is told up to there.
     fn begin(&mut self, base: u32, image: &Image)
         requires blank { top_of_log (list self.old) ≡ 0 }
         requires base { NumberIsInRange base }

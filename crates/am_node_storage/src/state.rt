@@ -68,7 +68,7 @@ impl<L: Log> Core<L> {
     ghost use Rattle.am_base.specs.Names.{has};
     ghost use Rattle.am_base.specs.Limits.{EntryIsInRange};
     ghost use Rattle.am_base.specs.Lists.{image_of_log, members_of_image, fits, log_with_entry};
-    ghost use Rattle.am_node_defs.specs.Cores.{CoreChangesAlike, CoreAddsEntry, CoreTellsAlike, advance_core, members_since_accepted, trim_core_to, trim_core_list, IsInOrder};
+    ghost use Rattle.am_node_defs.specs.Cores.{CoreChangesAlike, CoreAddsEntry, CoreTellsAlike, advance_core, members_since_accepted, trim_core_to, trim_core_list, CoreFrontsAreInOrder};
 
     /// What is accepted goes on to what is told, as far as the list is stored; and who joined passes over what is
     /// accepted below its Join.
@@ -76,7 +76,7 @@ impl<L: Log> Core<L> {
     pub fn advance(&mut self)
         ensures value { self.new ≡ advance_core self.old }
         ensures keeps { CoreChangesAlike advance_core self.old self.new }
-        ensures order { IsInOrder self.new }
+        ensures order { CoreFrontsAreInOrder self.new }
     {
         let most = self.told.min(self.log.top());
         self.acc = self.acc.max(most);
@@ -91,7 +91,7 @@ impl<L: Log> Core<L> {
         requires { base ≤ self.old.taken }
         ensures value { self.new ≡ trim_core_list base self.old }
         ensures keeps { CoreChangesAlike (trim_core_to base) self.old self.new }
-        ensures order { IsInOrder self.new }
+        ensures order { CoreFrontsAreInOrder self.new }
     {
         if self.log.base() < base {
             self.log.trim(base);
@@ -107,7 +107,7 @@ impl<L: Log> Core<L> {
         requires number { top_of_log self.old.log < greatest_number }
         ensures value { self.new ≡ record self.old { log = log_with_entry self.old.log entry.now } }
         ensures adds { CoreAddsEntry entry.now self.old self.new }
-        ensures order { IsInOrder self.new }
+        ensures order { CoreFrontsAreInOrder self.new }
     {
         self.log.push(entry);
     }

@@ -75,7 +75,7 @@ fn members_of(rows: &[Row; 16]) -> Names
     Names::of_lives(lives)
 }
 
-/// A place's row behind a View: who is new in the first one joins there, and a member that it leaves out has left.
+/// A place's row after a View: who is new in the first one joins there, and a member that it leaves out has left.
 #[tactic(auto, using(crate::proofs::Rows::row_after_view_is_row))]
 fn row_after_view(first: bool, number: u32, life: u8, row: &Row) -> Row
     requires number { NumberIsInRange number }

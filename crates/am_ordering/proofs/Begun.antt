@@ -1,6 +1,6 @@
 -- A node whose list begins with a Welcome.
 use Rattle.am_ordering.proofs.JoiningWords.{◌≡◌, ◌≢◌, ℕ, Bool, true, false, not, ◌&&◌, ◌||◌, ◌==◌, nat_lt, nat_le, refl, sym, ◌∙◌, arith, nat_tests, Stamp, Image}
-use Rattle.am_ordering.proofs.JoiningWords.{stamp_is_less, stamps_are_equal, image_after_entries, row_of_name, IsInOrder, Status, Asking, has_log_by_status, Node, view, is_asking_status, is_member, set_of_one_name}
+use Rattle.am_ordering.proofs.JoiningWords.{stamp_is_less, stamps_are_equal, image_after_entries, row_of_name, CoreFrontsAreInOrder, Status, Asking, has_log_by_status, Node, view, is_asking_status, is_member, set_of_one_name}
 use Rattle.am_ordering.proofs.JoiningWords.{number_is_within_bound, plan_without_letters, plan_with_letter, nack_packet_of, fetch_packet_of, node_of_welcomed, ask_for_next_entries, welcome_row, NodeKeeps, is_unfit}
 use Rattle.am_base.specs.declared.outcome.Outcome.TheVariants as said
 
@@ -18,7 +18,7 @@ third false false true d h = absurd (cc)
 third false false false d h = refl
 
 pub begun_list_keeps_node : (m : Node) (v : Stamp) (base join : ℕ) (image : Image) → is_asking_status m.status ≡ true → v.by ≢ m.core.who → is_unfit m v base join image ≡ false
-    → IsInOrder m.core → NodeKeeps m → NodeKeeps (node_of_welcomed m v base join image)
+    → CoreFrontsAreInOrder m.core → NodeKeeps m → NodeKeeps (node_of_welcomed m v base join image)
 unfolding image_after_entries
 begun_list_keeps_node m v base join image asking other fit order keeps =
     let none = asker_status_has_no_log m.status asking in

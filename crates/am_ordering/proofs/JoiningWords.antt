@@ -1,7 +1,7 @@
 -- The words of this crate's proofs, of the crates and definitions that they come from.
 pub use Rattle.am_model.proofs.EndWords.{◌≡◌, ℕ, Bool, true, false, not, ◌&&◌, ◌||◌, ◌==◌, nat_lt, nat_le, refl, sym, ◌∙◌, arith, ◌+◌, List, if◌then◌else◌}
 pub use Rattle.am_model.proofs.EndWords.{Option, Some, None, ap, ◌<◌, ◌≤◌, subst, nat_tests, Stamp, Image, stamp_is_less, stamps_are_equal, row_of_name, row_at_place, members_of_image, Row}
-pub use Rattle.am_model.proofs.EndWords.{Report, Outcome, Join, Leave, life_of_name, has, IsInOrder}
+pub use Rattle.am_model.proofs.EndWords.{Report, Outcome, Join, Leave, life_of_name, has, CoreFrontsAreInOrder}
 pub use Rattle.am_model.proofs.EndWords.{CoreState, split_on_bool_of_log, Node, view, is_member, set_of_one_name, number_is_within_bound, top, image_of_node, other_members, has_room, push_entry}
 pub use Rattle.am_model.specs.declared.status.Status.{Status}
 pub use Rattle.am_model.proofs.EndWords.{plan_without_letters, plan_with_letter, nack_packet_of, fetch_packet_of, Plan, plan_with_poll, welcome_packet_of, node_of_welcomed, ask_for_next_entries, answer_join_ask}

@@ -1,5 +1,5 @@
 -- What a member notes of the sequencer's fronts, and what stays.
-use Rattle.am_ordering.proofs.ReceivingWords.{◌≡◌, ℕ, Option, refl, Entry, Outcome, receive_entry_is_alike, Reply, Replies, reply_on_whole_log, CoreState, CoreChangesAlike, IsInOrder, Node}
+use Rattle.am_ordering.proofs.ReceivingWords.{◌≡◌, ℕ, Option, refl, Entry, Outcome, receive_entry_is_alike, Reply, Replies, reply_on_whole_log, CoreState, CoreChangesAlike, CoreFrontsAreInOrder, Node}
 use Rattle.am_ordering.proofs.ReceivingWords.{node_with_noted_fronts, receive_entry, IsEndOf, NodeKeeps, IsSteady, change_of_core_changes_node, untrimmed_node_ends_itself, steady_node_keeps_order, end_of_node_is_steady, end_keeps_node_order}
 use Rattle.am_ordering.proofs.ReceivingWords.{steady_nodes_follow_each_other, note}
 
@@ -19,7 +19,7 @@ end_with_noted_keeps_node m n base acc end keeps = end_keeps_node_order (node_wi
 
 -- what is replied to an entry with the noted fronts, the whole node replies
 pub receive_entry_with_noted_replies : (m mid new : Node) (base acc from number : ℕ) (found : Option Entry) (missing : Outcome) (r : Reply)
-    → IsEndOf (node_with_noted_fronts m base acc) mid → IsInOrder mid.core → Replies (receive_entry mid from base number found missing) r new
+    → IsEndOf (node_with_noted_fronts m base acc) mid → CoreFrontsAreInOrder mid.core → Replies (receive_entry mid from base number found missing) r new
     → Replies (receive_entry (node_with_noted_fronts m base acc) from base number found missing) r new
 receive_entry_with_noted_replies m mid new base acc from number found missing r end order replies =
     reply_on_whole_log (λ n. receive_entry n from base number found missing) (node_with_noted_fronts m base acc) mid new r end order

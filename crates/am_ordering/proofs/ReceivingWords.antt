@@ -5,7 +5,7 @@ pub use Rattle.std.proofs.Common.{true, false, ◌&&◌, nat_lt, count_by, arith
 pub use Rattle.am_base.specs.{declared.entry.Entry.Entry, declared.outcome.Outcome.Outcome, Lists.fits, Lists.top_of_log}
 pub use Rattle.am_base.specs.Names.{names_of, without_name, IsSetOfNames, has, place_of_name, life_of_name, name_of_place_and_life, names_from}
 pub use Rattle.am_packet.specs.{Boxes.Letter, Boxes.with_letter}
-pub use Rattle.am_node_defs.specs.Cores.{CoreState, CoreChangesAlike, IsInOrder}
+pub use Rattle.am_node_defs.specs.Cores.{CoreState, CoreChangesAlike, CoreFrontsAreInOrder}
 pub use Rattle.am_node_defs.proofs.ReportLaws.{count_by_of_cons}
 pub use Rattle.am_node_defs.specs.declared.bodies.KeptBody.{KeptBody}
 pub use Rattle.am_model.specs.{Emit.ack_packet_of, Emit.plan_without_letters, Emit.plan_with_letter, Emit.nack_packet_of, Emit.Plan, Refresh.refresh_at_end, Ends.IsEndOf}

@@ -1,7 +1,7 @@
 -- The rows of the sequencer, by what their tests say.
 use Rattle.am_ordering.proofs.SequencingWords.{◌≡◌, ℕ, ◌+◌, ◌<◌, ◌≤◌, List, Bool, true, false, not, nat_lt, nat_le, if◌then◌else◌, Option, Some, None, refl, ◌∙◌}
 use Rattle.am_ordering.proofs.SequencingWords.{sym, ap, subst, arith, nat_tests, Report, Outcome, Data, Node, top, other_members, set_of_one_name, has_room, report_fits, node_with_report}
-use Rattle.am_ordering.proofs.SequencingWords.{push_entry, Plan, plan_without_letters, plan_with_poll, with_one_more_letter, hold_packet_of, IsInOrder, answer_request_is_alike, IsEndOf, row_of_name_in_list, has_no_join}
+use Rattle.am_ordering.proofs.SequencingWords.{push_entry, Plan, plan_without_letters, plan_with_poll, with_one_more_letter, hold_packet_of, CoreFrontsAreInOrder, answer_request_is_alike, IsEndOf, row_of_name_in_list, has_no_join}
 use Rattle.am_ordering.proofs.SequencingWords.{take_report, ack_row, serve_again, serve_entries_above, nack_row, answer_request, number_send_of_member, request_row, untrimmed_node_ends_itself}
 use Rattle.am_ordering.proofs.SequencingWords.{refusal_or_plan, report_refusal, request_refusal, data_note, Reply, Replies, Ends, reply_with_telling, reply_with_answer, reply_letters}
 use Rattle.am_ordering.proofs.SequencingWords.{equal_reply_of_equal_plan, reply_on_whole_log, reply_without_departure, node_ends_as_itself}
@@ -75,7 +75,7 @@ serve_again_from_base m to stored low =
 
 -- once the report is taken, what is replied is what the row asks for
 pub request_row_after_report : (old mid new : Node) (from : ℕ) (report : Report) (req : ℕ) (body : List ℕ) (by_order : Bool) (r : Reply)
-    → None ≡ report_refusal old from report → IsEndOf (take_report old from report) mid → IsInOrder mid.core
+    → None ≡ report_refusal old from report → IsEndOf (take_report old from report) mid → CoreFrontsAreInOrder mid.core
     → Replies (answer_request mid from req body by_order) r new → Replies (request_row old from report req body by_order) r new
 request_row_after_report old mid new from report req body by_order r none end order replies =
     equal_reply_of_equal_plan (request_row_by_refusal old from report req body by_order None none) refl

@@ -2,7 +2,7 @@
 pub use Rattle.am_model.proofs.EndWords.{◌≡◌, ℕ, ◌+◌, ◌≤◌, List, sym, ap, ◌∙◌, true, false, ◌==◌, nat_lt, arith, ◌<◌, Bool, not, nat_le}
 pub use Rattle.am_model.proofs.EndWords.{if◌then◌else◌, Option, Some, None, refl, subst, nat_tests, Entry, Row, Image, Data}
 pub use Rattle.am_model.proofs.EndWords.{life_of_name, has, row_at_place, row_of_name, members_of_image, Report, Outcome}
-pub use Rattle.am_model.proofs.EndWords.{IsInOrder, split_on_bool_of_log, Node, set_of_one_name, top, has_room, report_fits, node_with_report, image_of_node, other_members, push_entry}
+pub use Rattle.am_model.proofs.EndWords.{CoreFrontsAreInOrder, split_on_bool_of_log, Node, set_of_one_name, top, has_room, report_fits, node_with_report, image_of_node, other_members, push_entry}
 pub use Rattle.am_model.proofs.EndWords.{Plan, plan_without_letters, plan_with_poll, with_one_more_letter, hold_packet_of, IsEndOf, row_of_name_in_list, has_no_join, take_report}
 pub use Rattle.am_model.proofs.EndWords.{serve_again, serve_entries_above, answer_request, number_send_of_member}
 unfoldable pub use Rattle.am_model.proofs.EndWords.{ack_row, nack_row, request_row}

@@ -40,7 +40,7 @@ fn refusal_of(accepted: u32, name: Name, row: Row) -> Option<Outcome>
     None
 }
 
-/// Whether a Join of a name fits behind the last entry.
+/// Whether a Join of a name fits after the last entry.
 fn may_join(parts: &Parts, name: Name) -> bool
     ensures { result ≡ fits (image_of_node (node_of parts.now)) (Join name) }
 {

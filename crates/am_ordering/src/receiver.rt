@@ -1,6 +1,6 @@
 ghost use Rattle.std.specs.Prelude.{◌≡◌, ◌+◌, ◌≤◌, ◌<◌, Some, false, nat_lt, ◌&&◌, not, IfSome};
 ghost use Rattle.std.specs.Option.{option_copied};
-ghost use Rattle.am_node_parts.specs.Prelude.{NumberIsInRange, EntryIsInRange, IsInOrder, has_own_leave, is_sequencer, top, waiting_send_of, IsEndOf, IsSteady, node_of};
+ghost use Rattle.am_node_parts.specs.Prelude.{NumberIsInRange, EntryIsInRange, CoreFrontsAreInOrder, has_own_leave, is_sequencer, top, waiting_send_of, IsEndOf, IsSteady, node_of};
 ghost use Rattle.am_node_defs.specs.Cores.{CoreChangesAlike};
 ghost use Rattle.am_model.specs.Receiving.{node_with_noted_fronts, accept_row, bcast_row, order_row, receive_entry, body_of_waiting_send, body_of_spread_send, data_entry_of};
 ghost use Rattle.am_node_parts.specs.Replies.{Replies};
@@ -54,7 +54,7 @@ fn note(parts: &mut Parts, base: u32, acc: u32)
     ensures steady { IsSteady (node_of parts.old) (node_of parts.new) }
     ensures status { parts.new.status ≡ parts.old.status }
     ensures leads { is_sequencer (node_of parts.new) ≡ is_sequencer (node_of parts.old) }
-    ensures order { IsInOrder parts.new.core }
+    ensures order { CoreFrontsAreInOrder parts.new.core }
 {
     let _before = parts.accept_front();
     note_fronts(&mut parts.core, base, acc);

@@ -10,7 +10,7 @@ use Rattle.am_packet.specs.declared.packet.Packet.{Packet}
 use Rattle.am_packet.specs.declared.packet.Packet.TheVariants as packets
 use Rattle.am_packet.specs.declared.kind.PacketKind.{PacketKind}
 use Rattle.am_packet.specs.declared.kind.PacketKind.TheVariants as kinds
-use Rattle.am_packet.specs.Kinds.{head_of, packet_kind_number, kind_at, is_total, most_request, most_counted, most_entry}
+use Rattle.am_packet.specs.Kinds.{head_of, packet_kind_number, kind_at, is_total, most_request, greatest_two_byte_count, most_entry}
 use Rattle.am_base.specs.Limits.{NumberIsInRange}
 use Rattle.am_packet.specs.Limits.{PacketIsWithin, HasParts, HasEntryParts, IsPacket}
 use Rattle.am_packet.specs.Spelling.{spelling, fields_of, sender_of, stamp_of, entry_bytes}
@@ -54,13 +54,13 @@ total_fits (packets.Request sender stamp report req body) parts =
 total_fits (packets.Spread sender stamp report req body) parts =
     within_total (12 + length (fields_of (packets.Spread sender stamp report req body))) 24 most_request (omega arith) (omega (arith, parts))
 total_fits (packets.Bcast sender stamp base acc number entry) parts =
-    within_total (12 + length (fields_of (packets.Bcast sender stamp base acc number entry))) 25 most_counted (omega (arith, entry_some entry))
+    within_total (12 + length (fields_of (packets.Bcast sender stamp base acc number entry))) 25 greatest_two_byte_count (omega (arith, entry_some entry))
     (omega (arith, entry_short entry parts))
 total_fits (packets.Welcome sender stamp base join image) parts =
     within_total (12 + length (fields_of (packets.Welcome sender stamp base join image))) 238 238 (omega (arith, length-rows_bytes image.rows, parts))
     (omega (arith, length-rows_bytes image.rows, parts))
 total_fits (packets.Piece sender stamp base number entry) parts =
-    within_total (12 + length (fields_of (packets.Piece sender stamp base number entry))) 21 most_counted (omega (arith, entry_some entry))
+    within_total (12 + length (fields_of (packets.Piece sender stamp base number entry))) 21 greatest_two_byte_count (omega (arith, entry_some entry))
     (omega (arith, entry_short entry parts))
 total_fits _ parts = refl
 

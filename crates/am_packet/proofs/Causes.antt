@@ -70,7 +70,7 @@ pub reading_without_mark : (bytes : List ℕ) → 12 ≤ length bytes → has_ma
 unfolding reading
 reading_without_mark bytes long none = rw (le-ltb _ _ long, none) refl
 
--- what is read behind the mark and the version
+-- what is read after the mark and the version
 marked : (bytes : List ℕ) → HasVersion bytes → reading bytes ≡ of_kind_at (kind_at (kind_in bytes)) bytes
 unfolding reading
 marked bytes has = rw (le-ltb _ _ has.0.0, has.0.1, has.1) refl
@@ -103,7 +103,7 @@ wrong_is (Err e) fs at fails wrong =
     let at-is : fails.0 ≡ at = cc in
     rw (fails.1, at-is) refl
 
--- what is read behind the header
+-- what is read after the header
 pub reading_after_header : (bytes : List ℕ) (kind : PacketKind) → HasTotal bytes → kind_at (kind_in bytes) ≡ Some kind → reading bytes ≡ fields_at kind bytes
 unfolding of_kind_at
 reading_after_header bytes kind has is = marked bytes has.0.0 ∙ rw (is, eq-eqb _ _ has.1) refl

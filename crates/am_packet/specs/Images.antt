@@ -17,7 +17,7 @@ row_in bytes at = record {
   last = number_in_bytes bytes (at + 9);
 }
 
--- so many rows, one behind the other
+-- so many rows, one after the other
 unfoldable pub rows_in : ℕ → List ℕ → ℕ → List Row
 rows_in zero bytes at = []
 rows_in (suc more) bytes at = row_in bytes at ∷ rows_in more bytes (at + 13)

@@ -16,8 +16,8 @@ most_request = 1048
 abbrev pub most_entry : ℕ
 most_entry = 1030
 
-abbrev pub most_counted : ℕ
-most_counted = 65535
+abbrev pub greatest_two_byte_count : ℕ
+greatest_two_byte_count = 65535
 
 -- a kind: the number in a packet's fourth byte, its name in texts, the least and the greatest number of bytes of its packets, and who hears them
 pub record KindRow : Type 0 where
@@ -33,7 +33,7 @@ kind_row number word least most gate = record { number = number; word = word; le
 abbrev pub table : PacketKind → KindRow
 table kinds.Request = kind_row 1 (codes "Request") 24 most_request gates.AsSequencer
 table kinds.Spread = kind_row 2 (codes "Spread") 24 most_request gates.InView
-table kinds.Bcast = kind_row 3 (codes "Bcast") 25 most_counted gates.OfSequencer
+table kinds.Bcast = kind_row 3 (codes "Bcast") 25 greatest_two_byte_count gates.OfSequencer
 table kinds.Order = kind_row 4 (codes "Order") 29 29 gates.OfSequencer
 table kinds.Accept = kind_row 5 (codes "Accept") 25 25 gates.OfSequencer
 table kinds.Ack = kind_row 6 (codes "Ack") 20 20 gates.AsSequencer
@@ -48,7 +48,7 @@ table kinds.Gone = kind_row 12 (codes "Gone") 16 16 gates.Member
 table kinds.Invite = kind_row 13 (codes "Invite") 12 12 gates.Early
 table kinds.Vote = kind_row 14 (codes "Vote") 35 35 gates.Member
 table kinds.Fetch = kind_row 15 (codes "Fetch") 16 16 gates.Member
-table kinds.Piece = kind_row 16 (codes "Piece") 21 most_counted gates.Member
+table kinds.Piece = kind_row 16 (codes "Piece") 21 greatest_two_byte_count gates.Member
 table kinds.Result = kind_row 17 (codes "Result") 31 31 gates.OfBeginner
 table kinds.HandOver = kind_row 18 (codes "HandOver") 12 12 gates.OfSequencer
 

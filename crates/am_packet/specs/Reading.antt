@@ -130,7 +130,7 @@ read_entry_at bytes at =
     else if slice_index bytes at == 4 then view_at bytes at
     else Err (BadField at)
 
--- what comes of the two numbers behind the header
+-- what comes of the two numbers after the header
 abbrev pub two_at : List ℕ → (ℕ → ℕ → Read Packet) → Read Packet
 two_at bytes make = number_at bytes 12 >>= λ first. number_at bytes 16 >>= λ second. make first second
 

@@ -192,7 +192,7 @@ fn data(bytes: &[u8], at: u32) -> Result<EntryRef<'_>, PacketRefusal>
     Ok(EntryRef::of(EntryParts::Data { from, req, body }))
 }
 
-/// The name behind the tag of an entry that has nothing else.
+/// The name after the tag of an entry that has nothing else.
 fn named(bytes: &[u8], at: u32) -> Result<Name, PacketRefusal>
     requires { at < 100 }
     ensures ok { IfOk result (λ name. ((length bytes.now == at + 2) ≡ true)
@@ -206,7 +206,7 @@ fn named(bytes: &[u8], at: u32) -> Result<Name, PacketRefusal>
     Err(PacketRefusal::BadField { at: 10 })
 }
 
-/// What stands behind the tag of a View.
+/// What stands after the tag of a View.
 #[tactic(auto, unfolding(am_packet::specs::Reading::view_fields_at))]
 fn view_fields(bytes: &[u8], at: u32) -> Result<EntryRef<'_>, PacketRefusal>
     requires long { at + 17 ≤ length bytes.now }
@@ -223,7 +223,7 @@ fn view_fields(bytes: &[u8], at: u32) -> Result<EntryRef<'_>, PacketRefusal>
     })))
 }
 
-/// A View, where the bytes end behind it.
+/// A View, where the bytes end after it.
 #[tactic(auto, unfolding(am_packet::specs::Reading::view_at))]
 fn view(bytes: &[u8], at: u32) -> Result<EntryRef<'_>, PacketRefusal>
     requires { at < 100 }

@@ -16,7 +16,7 @@ use am_packet::PacketRefusal;
 use am_packet::kind::PacketKind;
 use am_packet::packet::Packet;
 
-/// The three numbers behind the header, of kinds that have so many there.
+/// The three numbers after the header, of kinds that have so many there.
 #[derive(Clone, Copy)]
 struct ThreeNumbers {
     first: u32,

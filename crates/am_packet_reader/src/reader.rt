@@ -36,7 +36,7 @@ fn begin(kind: PacketKind, bytes: &[u8]) -> Result<Stamp, PacketRefusal>
     Err(PacketRefusal::BadField { at: 10 })
 }
 
-/// The kind behind a mark and a version, where the header says how many bytes there are.
+/// The kind after a mark and a version, where the header says how many bytes there are.
 #[tactic(auto, unfolding(am_packet::specs::Reading::of_kind_at))]
 fn kind_of(bytes: &[u8]) -> Result<PacketKind, PacketRefusal>
     requires { 12 ≤ length bytes.now }

@@ -171,7 +171,7 @@ impl OutBox {
             .count()
     }
 
-    /// Adds a letter behind those of its own kind and of lower ones; nothing where it is for nobody. Where there is no memory for its
+    /// Adds a letter after those of its own kind and of lower ones; nothing where it is for nobody. Where there is no memory for its
     /// bytes, it takes room that is there.
     #[tactic(auto, using(am_packet::proofs::Read::spelled_packet_rules))]
     pub fn put(&mut self, to: Names, packet: &Packet)

@@ -97,7 +97,7 @@ fn put_row(into: &mut PacketBytes, row: Row)
     put_numbers(into, row.joined, row.left, row.last);
 }
 
-/// Writes the sixteen rows one behind the other.
+/// Writes the sixteen rows one after the other.
 fn put_rows(into: &mut PacketBytes, rows: &[Row; 16])
     requires { length into.old + rows_length ≤ most_bytes_of_packet }
     ensures { into.new ≡ into.old ++ rows_bytes rows.now }
@@ -292,7 +292,7 @@ fn put_welcome(into: &mut PacketBytes, base: u32, join: u32, image: &ImageRef)
     put_image(into, &image.to_image());
 }
 
-/// Writes what stands behind a packet's header.
+/// Writes what stands after a packet's header.
 #[tactic(auto, using(crate::proofs::Pieces::bytes_after_no_piece), unfolding(am_packet::specs::Spelling::fields_of))]
 fn put_fields(into: &mut PacketBytes, packet: &Packet)
     requires { length into.old ≤ 12 }

@@ -19,7 +19,7 @@ use Rattle.am_script_defs.specs.Limits.{ScriptWithin}
 use Rattle.am_player.specs.Runs.{done_of, run_watch, IsRunText}
 use Rattle.am_player.specs.Plays.{KeepsRun, Repaired, SendsAreAnswered, PlayedBy, IsText}
 
--- ---- a run that is settled behind its own events
+-- ---- a run that is settled after its own events
 
 watched_then : (s : Watch) (xs ys : List Event) → watch_events s (xs ++ ys) ≡ watch_events (watch_events s xs) ys
 unfolding watch_events

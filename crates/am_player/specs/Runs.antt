@@ -14,7 +14,7 @@ use Rattle.am_group_defs.specs.Play.{settle_run}
 abbrev pub done_of : Rules → List Event → Bool → List Event
 done_of rules events settles = if settles then events ++ settle_events rules (run rules events) else events
 
--- a script's run as it is watched, and settled behind its own events where that is asked for
+-- a script's run as it is watched, and settled after its own events where that is asked for
 abbrev pub run_watch : Rules → List Event → Bool → Watch
 run_watch rules events settles = if settles then settle_run rules (watch_run rules events) else watch_run rules events
 

@@ -1,7 +1,7 @@
 -- What a node's step comes to in the world of which the records tell.
 use Rattle.am_race_laws.proofs.Words.{◌≡◌, ℕ, ◌<◌, ◌≤◌, List, [], ◌∷◌, ◌++◌, length, map, true, false, true≢false, Option, Some, sym, refl, ap, ◌∙◌, subst, arith}
 use Rattle.am_race_laws.proofs.Words.{◌==◌, nat_tests, length-map, none-some, most_events_of_run, NodeEvent, Rules, place_of_name, name_of_place_and_life, IsPacket, spelling}
-use Rattle.am_race_laws.proofs.Words.{IsInOrder, Letter, Act, Event, Record, is_for, letters_of_records, letter_at, StepResult, step, hear_packet, row, World, is_stopped, world_with_step}
+use Rattle.am_race_laws.proofs.Words.{CoreFrontsAreInOrder, Letter, Act, Event, Record, is_for, letters_of_records, letter_at, StepResult, step, hear_packet, row, World, is_stopped, world_with_step}
 use Rattle.am_race_laws.proofs.Words.{world_after_node_event, world_after_hearing, world_after_act, happens, record_of, current, no_caller, start, run, world_after_events, Node, with_tag, IsEndOf, DoesRow}
 use Rattle.am_race_laws.proofs.Words.{spelled_packet_is_heard, HasNumbersLeft, whole_step_comes_to_end, node_end_has_same_top, runs_go_on, number_bounds_hold_in_runs, Terms, EachComesNext, has_stopped, world_after}
 use Rattle.am_race_laws.proofs.Words.{IsNext, IsLawfulRecord, what_of, MayAct}
@@ -100,7 +100,7 @@ stepped_adds w e name s = refl
 pub record_comes_of_each_step : (terms : Terms) (before : List Record) (name : ℕ) (m n : Node) (l : Option Letter) (what : NodeEvent) (item : Record)
     → EachComesNext (IsLawfulRecord terms) before → name < 16
     → item.event.node ≡ name → item.life ≡ 1 → MayAct before name item.event.act l → what_of item.event.act l ≡ Some what
-    → IsEndOf ((world_after terms.founding before).nodes name) m → IsInOrder m.core → DoesRow (λ k. row k what) m item.outcome item.packets n
+    → IsEndOf ((world_after terms.founding before).nodes name) m → CoreFrontsAreInOrder m.core → DoesRow (λ k. row k what) m item.outcome item.packets n
     → RecordComesOfStep terms.founding before name n item
 unfolding happens
 record_comes_of_each_step terms before name m n l what item follows low_name node life may is end order does =

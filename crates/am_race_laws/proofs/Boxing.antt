@@ -1,12 +1,12 @@
--- What an act of a box leaves: its record comes next, whatever others added, and the box stands behind it.
+-- What an act of a box leaves: its record comes next, whatever others added, and the box stands after it.
 use Rattle.am_race_laws.proofs.Words.{◌≡◌, ◌≢◌, ℕ, zero, suc, ◌<◌, ◌≤◌, List, [], ◌∷◌, ◌++◌, length, drop, map, get_or, max, Bool, true, false, true≢false}
 use Rattle.am_race_laws.proofs.Words.{Option, Some, None, cond, sym, refl, ap, ◌∙◌, subst, arith, append-nil, length-append, eq-eqb, if◌then◌else◌, ◌==◌}
 use Rattle.am_race_laws.proofs.Words.{◌||◌, All, drop-append_seam, filter-append, none-some, fold-append, most_events_of_run, TableId, Outcome, NodeEvent, place_of_name}
-use Rattle.am_race_laws.proofs.Words.{name_of_place_and_life, IsInOrder, Letter, Act, By, Event, Record, RacePlan, is_for, acting_name_of_record, letters_of_records, letter_at, flat_map-append}
+use Rattle.am_race_laws.proofs.Words.{name_of_place_and_life, CoreFrontsAreInOrder, Letter, Act, By, Event, Record, RacePlan, is_for, acting_name_of_record, letters_of_records, letter_at, flat_map-append}
 use Rattle.am_race_laws.proofs.Words.{packet_heard_by_act, Node, HasNumbersLeft, World, is_stopped, world_with_record, world_after_act, happens, current, no_caller, record_of, with_tag}
 use Rattle.am_race_laws.proofs.Words.{IsEndOf, SharerKey, Place, Caller, Terms, WireRefusal, is_of, of_key, times, same_key, Known, IsReady, Committed, Sees, EachComesNext}
 use Rattle.am_race_laws.proofs.Words.{GoesOn, is_stop, has_stopped, log_is_start_and_rest, times_of_cons, world_after, IsNext, of_place, is_turn, may_end, greatest_number}
-use Rattle.am_race_laws.proofs.Words.{passed_number, cursor, last_heard, lost_by, unless_nought, or_nought, RecordIsApart, plan_by, terms_of, IsLawfulRecord, what_of, Steps}
+use Rattle.am_race_laws.proofs.Words.{passed_number, cursor, last_heard, letter_lost_by_part, unless_nought, or_nought, RecordIsApart, threadless_plan_of_terms, terms_of, IsLawfulRecord, what_of, Steps}
 use Rattle.am_race_laws.proofs.Words.{MayAct, Boxed, BoxKeepsNode, IsBox, IsShareOf, IsTimely, Acted, BoxLooks, IsRefused, refusal_answer, Came, round_in}
 use Rattle.am_race_laws.proofs.Nexts.{nodes_stay_through_others_records, has_stopped_in_longer_records, others_records_stop_no_name, or_with_second_false, item_at_in_longer_list, later_records_have_first_lives, all_of_cons_records}
 use Rattle.am_race_laws.proofs.{Knows.lawful_journal_knows_its_world, Knows.current_name_has_first_life, Knows.world_after_one_more_record, Knows.has_stopped_after_record, Legality.told_record_is_its_event, Stays.turn_stays_through_others, Stays.end_stays_through_others}
@@ -35,7 +35,7 @@ none_kept key (r ∷ rest) e =
     let b = kept_or_not r (of_key key rest) (is_of key r) e in
     all_of_cons_records (λ (q : Record). is_of key q ≡ false) r rest b.0 (none_kept key rest b.1)
 
--- what came behind what was seen has no record of the key
+-- what came after what was seen has no record of the key
 pub later_records_lack_key : (key : SharerKey) (seen more : List Record) → of_key key (seen ++ more) ≡ of_key key seen → All (λ r. is_of key r ≡ false) more
 later_records_lack_key key seen more e = none_kept key more (empty_rest (of_key key seen) (of_key key more) (sym (filter-append (is_of key) seen more) ∙ e))
 
@@ -169,13 +169,13 @@ stop_comes terms before name by m follows low runs end =
 record Lands (terms : Terms) (before : List Record) (name : ℕ) (n : Node) (item : Record) : Type 0 where
   pub lawful : IsLawfulRecord terms before item
   pub node : IsEndOf ((world_after terms.founding (before ++ item ∷ [])).nodes name) n
-  pub order : IsInOrder n.core
+  pub order : CoreFrontsAreInOrder n.core
 
 comes : (terms : Terms) (before : List Record) (name : ℕ) (m n : Node) (a : Act) (by : By) (l : Option Letter) (what : Option NodeEvent) (outcome : Outcome)
     (letters : List Letter)
     → EachComesNext (IsLawfulRecord terms) before → name < 16 → MayAct before name a l → what ≡ what_of a l → IsEndOf ((world_after terms.founding before).nodes name) m
-    → IsInOrder m.core
-    → Steps what m outcome letters n → RecordComesOfStep terms.founding before name n (record_of_act name a by outcome letters) × IsInOrder n.core
+    → CoreFrontsAreInOrder m.core
+    → Steps what m outcome letters n → RecordComesOfStep terms.founding before name n (record_of_act name a by outcome letters) × CoreFrontsAreInOrder n.core
 comes terms before name m n a by l (Some what) outcome letters follows low may is end order steps =
     (record_comes_of_each_step terms before name m n l what (record_of_act name a by outcome letters) follows low refl refl may (sym is) end order steps.0, steps.1)
 comes terms before name m n a by l None outcome letters follows low may is end order steps =
@@ -185,7 +185,7 @@ comes terms before name m n a by l None outcome letters follows low may is end o
     (stop_comes terms before name by m follows low may.runs end)
     in (
       subst (RecordComesOfStep terms.founding before name n) (λ i. record_of_act name (sym stop i) by (sym steps.1 i) (sym steps.2 i)) c,
-      subst (λ (k : Node). IsInOrder k.core) (sym steps.0) order,
+      subst (λ (k : Node). CoreFrontsAreInOrder k.core) (sym steps.0) order,
     )
 
 lands : (plan : RacePlan) (name : ℕ) (seen before : List Record) (m n : Node) (a : Act) (by : By) (l : Option Letter) (what : Option NodeEvent)
@@ -214,10 +214,10 @@ lands plan name seen before m n a by l what outcome letters low beyond_ follows 
         life = refl;
         act_ = may.race;
         next = c.0.next;
-        turn = λ part. subst (λ (rs : List Record). is_turn (plan_by terms) rs item.event by
-            ≡ true) (sym beyond_.is) (turn_stays_through_others (plan_by terms) seen more item.event by apart (turn.turn part));
-        end_ = λ ends. subst (λ (rs : List Record). may_end (plan_by terms) rs item.event by
-            ≡ true) (sym beyond_.is) (end_stays_through_others (plan_by terms) seen more item.event by apart (turn.end_ ends));
+        turn = λ part. subst (λ (rs : List Record). is_turn (threadless_plan_of_terms terms) rs item.event by
+            ≡ true) (sym beyond_.is) (turn_stays_through_others (threadless_plan_of_terms terms) seen more item.event by apart (turn.turn part));
+        end_ = λ ends. subst (λ (rs : List Record). may_end (threadless_plan_of_terms terms) rs item.event by
+            ≡ true) (sym beyond_.is) (end_stays_through_others (threadless_plan_of_terms terms) seen more item.event by apart (turn.end_ ends));
         stop = ap (has_stopped before) (first_name name low) ∙ still.runs;
         hears = λ number e.
             let h = still.hears number e in record {
@@ -235,7 +235,7 @@ lands plan name seen before m n a by l what outcome letters low beyond_ follows 
 fold_last : (numbers : List ℕ) (n : ℕ) → greatest_number (numbers ++ n ∷ []) ≡ max (greatest_number numbers) n
 fold_last numbers n = fold-append max 0 numbers (n ∷ [])
 
--- the greatest of what the records of a place say, behind one of its records
+-- the greatest of what the records of a place say, after one of its records
 pub greatest_of_place_with_last : (f : Record → ℕ) (place : ℕ) (before : List Record) (r : Record) → (place_of_name r.event.node == place) ≡ true
     → greatest_number (map f (of_place place (before ++ r ∷ []))) ≡ max (greatest_number (map f (of_place place before))) (f r)
 greatest_of_place_with_last f place before r its =
@@ -324,7 +324,7 @@ module _ (wire : TableId) (plan : RacePlan) (name : ℕ) (pass share : Known) (m
   })
 
   pub box_after_committed_act : (item : Record) (count : ℕ) (pass' share' : Known) (far' : ℕ) (last' : Option ℕ) (stopped' : Bool) → item ≡ record_of_act name a by outcome letters
-      → Committed (IsLawfulRecord pass.terms) pass share item count pass' share' → far' ≡ max (max far (packet_heard_by_act a)) (lost_by by.part)
+      → Committed (IsLawfulRecord pass.terms) pass share item count pass' share' → far' ≡ max (max far (packet_heard_by_act a)) (letter_lost_by_part by.part)
       → last' ≡ unless_nought (max (or_nought last) (packet_heard_by_act a))
       → stopped' ≡ (stopped || is_stop a) → EachComesNext (IsLawfulRecord pass.terms) pass'.seen → IsBox wire plan name pass' n far' last' stopped' closed
   box_after_committed_act item count pass' share' far' last' stopped' is done far_is last_is stopped_is lawful =
@@ -349,7 +349,7 @@ module _ (wire : TableId) (plan : RacePlan) (name : ℕ) (pass share : Known) (m
               (sym seen) both.1.node;
           order = both.1.order;
         };
-        cursor_ = λ _. far_is ∙ max_thrice far (packet_heard_by_act a) (lost_by by.part) ∙ ap (λ (k : ℕ). max k (passed_number r)) (d.box.cursor_ d.runs)
+        cursor_ = λ _. far_is ∙ max_thrice far (packet_heard_by_act a) (letter_lost_by_part by.part) ∙ ap (λ (k : ℕ). max k (passed_number r)) (d.box.cursor_ d.runs)
             ∙ ap (λ (rs : List Record). max (greatest_number (map passed_number rs)) (passed_number r)) (sym same_place)
             ∙ sym (greatest_of_place_with_last passed_number name before r here) ∙ ap (cursor name) (sym seen);
         last_ = λ _.

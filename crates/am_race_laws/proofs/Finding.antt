@@ -5,7 +5,7 @@ use Rattle.am_race_laws.proofs.Words.{All, count_by, nat_lt, is_none, list_any, 
 use Rattle.am_race_laws.proofs.Words.{By, Event, Turn, Record, RacePlan, next_for, letters_of_records, Node, World, current, names_waited_for, Choice, Luck, again, choice_of}
 use Rattle.am_race_laws.proofs.Words.{act_of, Terms, EachComesNext, has_stopped, world_after, of_place, of_call, own_of, is_turn_part, up_to_last, is_either, is_ready}
 use Rattle.am_race_laws.proofs.Words.{cursor, last_heard, words_drawn, choice_after, follows, is_waited, is_least, waits_in_vain, is_choice, is_turn_of}
-use Rattle.am_race_laws.proofs.Words.{turns_at, is_turn, greatest_number, passed_number, unless_nought, packet_heard_by_act, RecordIsApart, KnowledgeIsSame, IsLawfulRecord, plan_by, terms_of}
+use Rattle.am_race_laws.proofs.Words.{turns_at, is_turn, greatest_number, passed_number, unless_nought, packet_heard_by_act, RecordIsApart, KnowledgeIsSame, IsLawfulRecord, threadless_plan_of_terms, terms_of}
 use Rattle.am_race_laws.proofs.Words.{caller_luck_after, node_by, lost_in, Gave, Found, turn_event_at, turn_by, Boxed, IsBox, IsShareOf, BoxLooks, TableId, Known, Sees, SharerKey}
 use Rattle.am_race_laws.proofs.Words.{WireRefusal, Place, Caller, of_key, GoesOn, log_is_start_and_rest, records_go_on_through_both}
 use Rattle.am_race_laws.proofs.{Apart.records_of_others_are_apart, Knows.lawful_journal_knows_its_world, Knows.current_name_has_first_life, Nexts.nodes_stay_through_others_records, Nexts.has_stopped_in_longer_records, Stays.next_letter_stays_among_more}
@@ -143,8 +143,8 @@ module _ (plan : RacePlan) (name caller call : ℕ) (seen one two three : List R
   node_one = ap (λ (rs : List Record). node_by plan rs name) to_three ∙ nodes_stay_through_others_records plan.founding one past_one name far_one
 
   -- in the terms of a turn at this name
-  turn_at : (a : Act) (lost : ℕ) → is_turn_of (plan_by (terms_of plan)) three knew (node_by plan three name) name caller a lost ≡ true
-      → is_turn (plan_by (terms_of plan)) three (record { node = name; act = a }) (record { caller = caller; call = call; part = Turn lost }) ≡ true
+  turn_at : (a : Act) (lost : ℕ) → is_turn_of (threadless_plan_of_terms (terms_of plan)) three knew (node_by plan three name) name caller a lost ≡ true
+      → is_turn (threadless_plan_of_terms (terms_of plan)) three (record { node = name; act = a }) (record { caller = caller; call = call; part = Turn lost }) ≡ true
   unfolding is_turn
   turn_at a lost is =
       let w : World = world_after plan.founding three in
@@ -156,13 +156,13 @@ module _ (plan : RacePlan) (name caller call : ℕ) (seen one two three : List R
       ap (λ (m : Node). not (is_ready m (own_of (of_call caller call three)))) node_seen
       ∙ ap (λ (rs : List Record). not (is_ready (node_by plan seen name) (own_of rs))) left.call ∙ ap not unready
       in
-      let turn : is_turn_of (plan_by (terms_of plan)) three (up_to_last (place_of_name name) caller three) (w.nodes name) name caller a lost ≡ true =
-      ap (λ (p : ℕ). is_turn_of (plan_by (terms_of plan)) three (up_to_last p caller three) (w.nodes name) name caller a lost) place_same ∙ is
+      let turn : is_turn_of (threadless_plan_of_terms (terms_of plan)) three (up_to_last (place_of_name name) caller three) (w.nodes name) name caller a lost ≡ true =
+      ap (λ (p : ℕ). is_turn_of (threadless_plan_of_terms (terms_of plan)) three (up_to_last p caller three) (w.nodes name) name caller a lost) place_same ∙ is
       in
-      subst (λ (k : ℕ). turns_at (plan_by (terms_of plan)) three w k e by ≡ true) (sym here) (and_from _ _ ready turn)
+      subst (λ (k : ℕ). turns_at (threadless_plan_of_terms (terms_of plan)) three w k e by ≡ true) (sym here) (and_from _ _ ready turn)
 
   given_turn : (a : Act) (lost : ℕ) → Gave plan name one a lost
-      → is_turn (plan_by (terms_of plan)) three (record { node = name; act = a }) (record { caller = caller; call = call; part = Turn lost }) ≡ true
+      → is_turn (threadless_plan_of_terms (terms_of plan)) three (record { node = name; act = a }) (record { caller = caller; call = call; part = Turn lost }) ≡ true
   given_turn a lost given =
       let m : Node = node_by plan one name in
       let waited : is_waited (node_by plan three name) three given.other ≡ true =
@@ -173,8 +173,8 @@ module _ (plan : RacePlan) (name caller call : ℕ) (seen one two three : List R
       ap (λ (n : Node). is_least n knew given.other) node_one
       ∙ least_fewer m knew (knew_in.0 ++ from_one) given.other (ap (λ (rs : List Record). is_least m rs given.other) (sym in_one) ∙ given.gives.1)
       in
-      turn_at a lost (ap (λ (x : Act). is_turn_of (plan_by (terms_of plan)) three knew (node_by plan three name) name caller x lost) given.act_
-      ∙ ap (λ (l : ℕ). is_turn_of (plan_by (terms_of plan)) three knew (node_by plan three name) name caller (act.GiveUp given.other) l) given.lost_
+      turn_at a lost (ap (λ (x : Act). is_turn_of (threadless_plan_of_terms (terms_of plan)) three knew (node_by plan three name) name caller x lost) given.act_
+      ∙ ap (λ (l : ℕ). is_turn_of (threadless_plan_of_terms (terms_of plan)) three knew (node_by plan three name) name caller (act.GiveUp given.other) l) given.lost_
       ∙ and_from _ _ waited least)
 
   same_cursor : cursor (place_of_name name) three ≡ cursor name seen
@@ -193,10 +193,10 @@ module _ (plan : RacePlan) (name caller call : ℕ) (seen one two three : List R
       (ap (λ (rs : List Record). waits_in_vain (node_by plan one name) rs) (sym in_one) ∙ none))
 
   chosen_turn : (a : Act) (lost : ℕ) (said : Choice) → Chosen plan name caller seen one two a lost said
-      → is_turn (plan_by (terms_of plan)) three (record { node = name; act = a }) (record { caller = caller; call = call; part = Turn lost }) ≡ true
+      → is_turn (threadless_plan_of_terms (terms_of plan)) three (record { node = name; act = a }) (record { caller = caller; call = call; part = Turn lost }) ≡ true
   unfolding is_tick
   chosen_turn a lost said c =
-      turn_at a lost (subst (λ (t : Act × ℕ). is_turn_of (plan_by (terms_of plan)) three knew (node_by plan three name) name caller t.0 t.1
+      turn_at a lost (subst (λ (t : Act × ℕ). is_turn_of (threadless_plan_of_terms (terms_of plan)) three knew (node_by plan three name) name caller t.0 t.1
       ≡ true) (λ i. (sym c.act_ i, sym c.lost_ i))
       (by_ahead (next_for (letters_of_records two) name (cursor name seen)) refl said c.is))
     where
@@ -208,16 +208,16 @@ module _ (plan : RacePlan) (name caller call : ℕ) (seen one two three : List R
 
       -- the choice is that by all letters
       by_all : (n : ℕ) → next_for (letters_of_records two) name (cursor name seen) ≡ Some n → (x : Choice) → x ≡ choice_of luck (Some n) (last_heard name seen)
-          → is_choice (plan_by (terms_of plan)) three (place_of_name name) name caller (act_of x) (lost_in x) ≡ true
+          → is_choice (threadless_plan_of_terms (terms_of plan)) three (place_of_name name) name caller (act_of x) (lost_in x) ≡ true
       by_all n e x is =
           let there : next_for (letters_of_records three) name (cursor (place_of_name name) three) ≡ Some n =
           ap (next_for (letters_of_records three) name) same_cursor ∙ ap (λ (ls : List Letter). next_for ls name (cursor name seen)) (ap letters_of_records two_three
           ∙ letters_more two past_two)
           ∙ next_letter_stays_among_more (letters_of_records two) (letters_of_records past_two) name (cursor name seen) n e
           in
-          let said_ : choice_after (plan_by (terms_of plan)) caller (words_drawn caller three) (next_for (letters_of_records three) name (cursor (place_of_name name) three))
+          let said_ : choice_after (threadless_plan_of_terms (terms_of plan)) caller (words_drawn caller three) (next_for (letters_of_records three) name (cursor (place_of_name name) three))
           (last_heard (place_of_name name) three) ≡ x =
-          ap (λ (k : ℕ). choice_after (plan_by (terms_of plan)) caller k (next_for (letters_of_records three) name (cursor (place_of_name name) three))
+          ap (λ (k : ℕ). choice_after (threadless_plan_of_terms (terms_of plan)) caller k (next_for (letters_of_records three) name (cursor (place_of_name name) three))
           (last_heard (place_of_name name) three)) same_words
           ∙ ap (λ (o : Option ℕ). choice_of luck o (last_heard (place_of_name name) three)) there ∙ ap (choice_of luck (Some n)) same_last ∙ sym is
           in
@@ -225,7 +225,7 @@ module _ (plan : RacePlan) (name caller call : ℕ) (seen one two three : List R
 
       by_choice : (n : ℕ) → next_for (letters_of_records two) name (cursor name seen) ≡ Some n → 0 < n → (x : Choice)
           → x ≡ choice_of luck (Some n) (last_heard name seen) → is_tick x ≡ false
-          → is_turn_of (plan_by (terms_of plan)) three knew (node_by plan three name) name caller (act_of x) (lost_in x) ≡ true
+          → is_turn_of (threadless_plan_of_terms (terms_of plan)) three knew (node_by plan three name) name caller (act_of x) (lost_in x) ≡ true
       by_choice n e some choice.Tick is ticks = absurd (true≢false ticks)
       by_choice n e some (choice.Lose zero) is ticks = let z = lose_only _ _ n 0 (last_heard name seen) (sym is) in absurd (omega arith)
       by_choice n e some (choice.Lose (suc k)) is ticks = and_from _ _ nobody (by_all n e (choice.Lose (suc k)) is)
@@ -234,7 +234,7 @@ module _ (plan : RacePlan) (name caller call : ℕ) (seen one two three : List R
 
       by_ahead : (o : Option ℕ) → next_for (letters_of_records two) name (cursor name seen) ≡ o → (x : Choice)
           → x ≡ choice_of luck (next_for (letters_of_records two) name (cursor name seen)) (last_heard name seen)
-          → is_turn_of (plan_by (terms_of plan)) three knew (node_by plan three name) name caller (act_of x) (lost_in x) ≡ true
+          → is_turn_of (threadless_plan_of_terms (terms_of plan)) three knew (node_by plan three name) name caller (act_of x) (lost_in x) ≡ true
       by_ahead None e x is =
           let tick : x ≡ choice.Tick = is ∙ ap (λ (p : Option ℕ). choice_of luck p (last_heard name seen)) e in
           let none : is_none (next_for (letters_of_records knew) name (cursor (place_of_name name) three)) ≡ true =
@@ -242,7 +242,7 @@ module _ (plan : RacePlan) (name caller call : ℕ) (seen one two three : List R
           ∙ ap is_none (ahead_fewer knew (knew_in.0 ++ from_two) name (cursor name seen)
           (ap (λ (rs : List Record). next_for (letters_of_records rs) name (cursor name seen)) (sym in_two) ∙ e))
           in
-          subst (λ (y : Choice). is_turn_of (plan_by (terms_of plan)) three knew (node_by plan three name) name caller (act_of y) (lost_in y)
+          subst (λ (y : Choice). is_turn_of (threadless_plan_of_terms (terms_of plan)) three knew (node_by plan three name) name caller (act_of y) (lost_in y)
           ≡ true) (sym tick) (and_from _ _ nobody none)
       by_ahead (Some n) e x is =
           let its : x ≡ choice_of luck (Some n) (last_heard name seen) = is ∙ ap (λ (p : Option ℕ). choice_of luck p (last_heard name seen)) e in
@@ -268,7 +268,7 @@ turn_found : (plan : RacePlan) (luck : Luck) (name caller call : ℕ) (seen last
     → GoesBeyondWhatWasSeen seen three name caller → GoesOn (Place name ∷ []) seen last → GoesOn (Place name ∷ []) last three
     → luck ≡ caller_luck_after plan caller (words_drawn caller seen)
     → is_ready (node_by plan seen name) (own_of (of_call caller call seen)) ≡ false → Found plan luck name seen last a lost
-    → is_turn (plan_by (terms_of plan)) three (turn_event_at name a) (turn_by caller call lost) ≡ true
+    → is_turn (threadless_plan_of_terms (terms_of plan)) three (turn_event_at name a) (turn_by caller call lost) ≡ true
 turn_found plan luck name caller call seen last three a lost low whole far first then_ is unready (inl gave) =
     given_turn plan name caller call seen last last three low whole far (drop (length seen) last) (drop (length last) three) (log_is_start_and_rest last seen first.begins)
     (log_is_start_and_rest three last then_.begins)
@@ -303,7 +303,7 @@ pub box_turn_is_turn : (wire : TableId) (plan : RacePlan) (name : ℕ) (pass pas
     → IsShareOf wire plan caller share
     → share.seen ≡ b0.seen → Sees share share' → share'.seen ≡ pass'.seen → luck ≡ caller_luck_after plan caller (words_drawn caller b0.seen)
     → is_ready (node_by plan b0.seen b0.name) (own_of (of_call caller call b0.seen)) ≡ false → Found plan luck b0.name b0.seen b1.seen a lost
-    → is_turn (plan_by (terms_of plan)) pass'.seen (turn_event_at b0.name a) (turn_by caller call lost) ≡ true
+    → is_turn (threadless_plan_of_terms (terms_of plan)) pass'.seen (turn_event_at b0.name a) (turn_by caller call lost) ≡ true
 box_turn_is_turn wire plan name pass pass' m reach latest stopped closed b0 b1 share share' luck caller call a lost is box looks sees lawful its met shows both_
     lucky unready found =
     let three : List Record = pass'.seen in

@@ -1,11 +1,11 @@
--- What a caller's hand is behind a record, when its call is ready, and which acts it may do.
+-- What a caller's hand is after a record, when its call is ready, and which acts it may do.
 use Rattle.am_race_laws.proofs.Words.{◌≡◌, ℕ, zero, suc, ◌+◌, ◌<◌, ◌≤◌, List, [], ◌∷◌, ◌++◌, cond, max, Bool, true, false, true≢false, Option, Some, None, sym}
 use Rattle.am_race_laws.proofs.Words.{refl, ap, ◌∙◌, subst, arith, nat_lt, count_by, sum_by, ◌==◌, ◌&&◌, if◌then◌else◌, not, and_parts, lt-ltb, le-leb}
 use Rattle.am_race_laws.proofs.Words.{sum_by-cons, sum_by-append, none-some, TableId, Outcome, NodeEvent, place_of_name, name_of_place_and_life, Letter, Act, By, Part, Turn, Record}
 use Rattle.am_race_laws.proofs.Words.{RacePlan, packet_heard_by_act, Node, World, current, IsEndOf, Choice, Luck, again, draw, after_draw, choice_of, act_of, whole_step_comes_to_end, Caller}
 use Rattle.am_race_laws.proofs.Words.{WireRefusal, Known, GoesOn, has_stopped, Tag, Came, world_after, of_caller, of_call, own_of, is_turn_part, up_to_last}
-use Rattle.am_race_laws.proofs.Words.{is_take, is_end_of, passed_number, lost_by, words_drawn, later, is_waited, is_least, is_turn_of, is_turn, unless_nought}
-use Rattle.am_race_laws.proofs.Words.{is_due, may_end, is_ready, is_ready_after, may_take, is_of_race, plan_by, terms_of, IsHand, caller_luck_after, is_call, Steps}
+use Rattle.am_race_laws.proofs.Words.{is_take, is_end_of, passed_number, letter_lost_by_part, words_drawn, later, is_waited, is_least, is_turn_of, is_turn, unless_nought}
+use Rattle.am_race_laws.proofs.Words.{is_due, may_end, is_ready, is_ready_after, may_take, is_of_race, threadless_plan_of_terms, terms_of, IsHand, caller_luck_after, is_call, Steps}
 use Rattle.am_race_laws.proofs.Words.{MayAct, Hears, Boxed, BoxKeepsNode, IsBox, IsShareOf, IsTimely, node_by, lost_in, turn_event_at, by_of, end_act, end_part, IsOwn, IsCame}
 use Rattle.am_race_laws.proofs.Words.{luck_behind, is_asked, ToldBy, EndTells, Grown, CallerHasSeenMore, split_on_bool, append-nil}
 use Rattle.am_group.specs.declared.event.Act.TheVariants as act
@@ -82,7 +82,7 @@ hand_stays_as_others_add wire plan caller share share' luck hand its goes = reco
       (no_growth_without_own_record 0 (record { caller = caller; call = 0 }) share.seen share'.seen goes)));
 }
 
--- behind a record that isn't a turn
+-- after a record that isn't a turn
 pub hand_stays_after_asking_record : (wire : TableId) (plan : RacePlan) (by : By) (share share' : Known) (luck : Luck) (item : Record) → IsHand wire plan by.caller share luck
     → IsShareOf wire plan by.caller share'
     → Grown by.caller share.seen share'.seen item → item.by ≡ by → is_turn_part by.part ≡ false → IsHand wire plan by.caller share' luck
@@ -101,7 +101,7 @@ next_word : (plan : RacePlan) (caller count : ℕ) → record (caller_luck_after
 unfolding later
 next_word plan caller count = refl
 
--- behind a turn
+-- after a turn
 pub hand_moves_on_after_turn : (wire : TableId) (plan : RacePlan) (by : By) (share share' : Known) (luck luck' : Luck) (a : Act) (lost : ℕ) (item : Record)
     → IsHand wire plan by.caller share luck
     → IsShareOf wire plan by.caller share' → Grown by.caller share.seen share'.seen item → item.by ≡ by → by.part ≡ Turn lost → item.event.act ≡ a
@@ -114,7 +114,7 @@ hand_moves_on_after_turn wire plan by share share' luck luck' a lost item hand i
     let more = words_more (place_of_name item.event.node) tag share.seen share'.seen item grows in
     let part_ : item.by.part ≡ Turn lost = ap (λ (b : By). b.part) is ∙ part in
     let counted : counts_word item ≡ nat_lt 0 (max (packet_heard_by_act a) lost) =
-    ap (λ (p : Part). is_turn_part p && nat_lt 0 (max (packet_heard_by_act item.event.act) (lost_by p))) part_ ∙ ap (λ (x : Act). nat_lt 0 (max (packet_heard_by_act x) lost)) did
+    ap (λ (p : Part). is_turn_part p && nat_lt 0 (max (packet_heard_by_act item.event.act) (letter_lost_by_part p))) part_ ∙ ap (λ (x : Act). nat_lt 0 (max (packet_heard_by_act x) lost)) did
     in
     record {
       own = its.own;
@@ -212,7 +212,7 @@ unfolding is_turn
 found_turn_may_be_done plan seen name a by heard runs turn hears =
     let w : World = world_after plan.founding seen in
     let k : ℕ = current w (place_of_name name) in
-    let its = turn_may plan seen k 0 (w.nodes k) by.caller a (lost_by by.part) (up_to_last (place_of_name k) by.caller seen)
+    let its = turn_may plan seen k 0 (w.nodes k) by.caller a (letter_lost_by_part by.part) (up_to_last (place_of_name k) by.caller seen)
     (and_parts (not (is_ready (w.nodes k) (own_of (of_call by.caller by.call seen)))) _ turn).1 in
     record { race = its.0; runs = runs; hears = hears; given = its.1 }
 
@@ -249,10 +249,10 @@ asked_act_is_timely wire plan name pass m far last stopped closed b a by is box 
 
 -- a turn is no end
 pub turn_of_call_is_timely : (plan : RacePlan) (seen : List Record) (name name' : ℕ) (a : Act) (by : By) (tag : Tag) (lost : ℕ) → name' ≡ name → by ≡ by_of tag (Turn lost)
-    → is_turn (plan_by (terms_of plan)) seen (turn_event_at name a) (by_of tag (Turn lost)) ≡ true → IsTimely plan seen (record { node = name'; act = a }) by
+    → is_turn (threadless_plan_of_terms (terms_of plan)) seen (turn_event_at name a) (by_of tag (Turn lost)) ≡ true → IsTimely plan seen (record { node = name'; act = a }) by
 turn_of_call_is_timely plan seen name name' a by tag lost same is turn = record {
-  turn = λ _part. subst (λ (b : By). is_turn (plan_by (terms_of plan)) seen (turn_event_at name' a) b ≡ true) (sym is)
-      (subst (λ (n : ℕ). is_turn (plan_by (terms_of plan)) seen (turn_event_at n a) (by_of tag (Turn lost)) ≡ true) (sym same) turn);
+  turn = λ _part. subst (λ (b : By). is_turn (threadless_plan_of_terms (terms_of plan)) seen (turn_event_at name' a) b ≡ true) (sym is)
+      (subst (λ (n : ℕ). is_turn (threadless_plan_of_terms (terms_of plan)) seen (turn_event_at n a) (by_of tag (Turn lost)) ≡ true) (sym same) turn);
   end_ = λ end. absurd (true≢false (sym end ∙ ap (λ (b : By). is_end_of b.part a) is));
 }
 

@@ -78,7 +78,7 @@ pub told_record_is_its_event : (rules : Rules) (before : List Record) (r : Recor
 unfolding NextAt
 told_record_is_its_event rules before r next = same_world (world_after rules before) r next
 
--- the first record, and those behind it
+-- the first record, and those after it
 first_next : (w : World) (r : Record) (rest : List Record) → LegalFrom w (r ∷ rest) → NextAt w r × LegalFrom (happens w r.event) rest
 unfolding LegalFrom NextAt world_after_events
 first_next w r rest legal =

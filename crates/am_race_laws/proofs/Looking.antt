@@ -2,9 +2,9 @@
 use Rattle.am_race_laws.proofs.Words.{◌≡◌, ℕ, ◌≤◌, List, [], ◌∷◌, length, Bool, true, false, true≢false, Option, None, Result, Ok, Err, IfOk, IfErr, OnOk, sym}
 use Rattle.am_race_laws.proofs.Words.{refl, ap, ◌∙◌, subst, append-nil, count_by, TableId, most_events_of_run, Outcome, Letter, Act, By, Call, Turn, Record, RacePlan}
 use Rattle.am_race_laws.proofs.Words.{Node, Luck, SharerKey, Caller, WireRefusal, Known, Sees, GoesOn, has_stopped, records_go_on_through_both, records_go_on_to_themselves, CallAnswer, Tag, Looked, Came}
-use Rattle.am_race_laws.proofs.Words.{of_call, own_of, is_own, is_turn_part, is_turn, is_due, plan_by, terms_of, IsHand, what_of, MayAct, Hears, Boxed}
+use Rattle.am_race_laws.proofs.Words.{of_call, own_of, is_own, is_turn_part, is_turn, is_due, threadless_plan_of_terms, terms_of, IsHand, what_of, MayAct, Hears, Boxed}
 use Rattle.am_race_laws.proofs.Words.{IsShareOf, Acted, IsRefused, refusal_answer, BoxLooks, node_by, turn_event_at, by_of, end_act, end_part, IsCame, luck_behind}
-use Rattle.am_race_laws.proofs.Words.{ToldBy, EndTells, Grown, OwnActIsDone, Began, TurnIsMade, EndIsMade, HasSpent, HasEnded, HasLooked, WasRefused, Meets}
+use Rattle.am_race_laws.proofs.Words.{ToldBy, EndTells, Grown, OwnActIsDone, Began, TurnIsMade, EndIsMade, HasSpent, HasEnded, HasLooked, WasRefused, HandIsAtOpenBox}
 use Rattle.am_race_laws.proofs.{Growing.no_growth_without_own_record, Growing.records_of_call_grow, Hands.hand_has_its_share, Hands.hand_stays_as_others_add, Hands.hand_stays_after_asking_record, Hands.hand_moves_on_after_turn, Hands.found_turn_may_be_done}
 use Rattle.am_race_laws.proofs.{Hands.used_up_call_is_due}
 use Rattle.am_group.specs.declared.event.Act.TheVariants as act
@@ -61,12 +61,12 @@ caller_records_go_on_unchanged caller seen = records_go_on_to_themselves (Caller
 -- a turn of a call, which its box found, may be done
 pub box_turn_may_be_done : (plan : RacePlan) (old new : Boxed) (a : Act) (by : By) (heard heard' : Option Letter) → BoxLooks old new → heard' ≡ heard
     → has_stopped new.seen new.name ≡ false
-    → is_turn (plan_by (terms_of plan)) new.seen (turn_event_at old.name a) by ≡ true → ((number : ℕ) → a ≡ act.Hear number → Hears new.seen new.name number heard)
+    → is_turn (threadless_plan_of_terms (terms_of plan)) new.seen (turn_event_at old.name a) by ≡ true → ((number : ℕ) → a ≡ act.Hear number → Hears new.seen new.name number heard)
     → MayAct new.seen new.name a heard'
 box_turn_may_be_done plan old new a by heard heard' looks same runs turn hears =
     subst (MayAct new.seen new.name a) (sym same)
-    (found_turn_may_be_done (plan_by (terms_of plan)) new.seen new.name a by heard runs
-    (subst (λ (n : ℕ). is_turn (plan_by (terms_of plan)) new.seen (turn_event_at n a) by ≡ true) (sym looks.name) turn) hears)
+    (found_turn_may_be_done (threadless_plan_of_terms (terms_of plan)) new.seen new.name a by heard runs
+    (subst (λ (n : ℕ). is_turn (threadless_plan_of_terms (terms_of plan)) new.seen (turn_event_at n a) by ≡ true) (sym looks.name) turn) hears)
 
 module _ (wire : TableId) (plan : RacePlan) (tag : Tag) (old middle new : Boxed) (share between share' : Known) (luck luck' : Luck) (a : Act) (lost : ℕ)
     (by : By)
@@ -147,7 +147,7 @@ hand_stays_at_meeting wire plan caller share share' luck hand sees =
 -- where its box does more, the hand meets it
 pub box_meets_the_hand : (wire : TableId) (plan : RacePlan) (caller : ℕ) (box : Boxed) (share : Known) (luck : Luck) (r : Result (Unit {0}) CallAnswer)
     → IsHand wire plan caller share luck → length box.seen ≤ most_events_of_run → share.seen ≡ box.seen → OnOk r (box.closed ≡ None)
-    → OnOk r (has_stopped box.seen box.name ≡ false) → OnOk r (Meets wire plan caller box share luck)
+    → OnOk r (has_stopped box.seen box.name ≡ false) → OnOk r (HandIsAtOpenBox wire plan caller box share luck)
 box_meets_the_hand wire plan caller box share luck (Err its) hand few same open_ runs = tt
 box_meets_the_hand wire plan caller box share luck (Ok x) hand few same open_ runs = record { hand = hand; open_ = open_; runs = runs; few = few; same = same }
 

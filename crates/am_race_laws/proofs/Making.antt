@@ -75,7 +75,7 @@ first_few : (a : Act) (came : Option Came) (first : List Record) → CallHasBegu
 first_few a None first begun = let e : length first ≡ length {A = Record} [] = ap length begun.1 in omega arith
 first_few a (Some came) first begun = let e : length first ≡ length (begun.2.0 ∷ []) = ap length begun.2.1 in omega arith
 
--- what came of its own act is what its records say, also behind turns
+-- what came of its own act is what its records say, also after turns
 none_own : (ts : List Record) → RecordsAreTurns ts → own_of ts ≡ None
 none_own [] all = refl
 none_own (t ∷ ts) all = rw (turn_part_is_not_own t.by.part (head_of_turns_is_turn t ts all)) (none_own ts (tail_of_turns_is_turns t ts all))
@@ -221,7 +221,7 @@ checks_then (act.Reset least resilience) outcome call no_ stops none = refl
 checks_then act.Stop outcome call no_ stops none = absurd (none-some answer.StopDone (sym none ∙ ap (own_answer act.Stop) (stops refl)))
 checks_then _ outcome call no_ stops none = absurd (true≢false (sym call))
 
--- it goes on behind its own act
+-- it goes on after its own act
 pub call_begins_by_own_act : (node : ℕ) (tag : Tag) (a : Act) (came : Came) (old new : List Record) → is_call a ≡ true → is_take a ≡ false
     → of_call tag.caller tag.call old ≡ []
     → Began (place_of_name node) tag a came old new → own_answer a came.outcome ≡ None → CallHasBegun a (Some came) (of_call tag.caller tag.call new)
@@ -253,7 +253,7 @@ continued_call_is_made plan node tag a came old middle new its fresh began made 
       answer_ = subst (λ (l : List Record). IsAnswerOfCall plan.turns l new node its) same made.answer_;
     }
 
--- ---- one call behind the others
+-- ---- one call after the others
 
 -- a record of an earlier call is of none from here on
 stuck : (turns n : ℕ) (calls : List Act) (r : Record) (rs : List Record) → r.by.call < n → are_calls turns n calls (r ∷ rs) ≡ true → ⊥
@@ -285,7 +285,7 @@ first_whole call mine own = ap (λ (n : ℕ). take n mine) (whole_prefix call mi
 behind_whole : (call : ℕ) (mine : List Record) → AreOf call mine → records_behind call mine ≡ []
 behind_whole call mine own = ap (λ (l : List Record). drop (length l) mine) (first_whole call mine own) ∙ drop_all (length mine) mine (omega arith)
 
--- records of another call behind leave the first call
+-- records of another call after leave the first call
 prefix_apart : (n call : ℕ) (xs mine : List Record) → n < call → AreOf call mine
     → prefix_len (λ (r : Record). r.by.call == n) (xs ++ mine) ≡ prefix_len (λ (r : Record). r.by.call == n) xs
 unfolding AreOf
@@ -308,7 +308,7 @@ behind_apart n call xs mine low own =
     ap (λ (l : List Record). drop (length l) (xs ++ mine)) (first_apart n call xs mine low own)
     ∙ drop-append-le (length (first_call n xs)) xs mine (first_short n xs)
 
--- the records of the next call come behind those of the calls before
+-- the records of the next call come after those of the calls before
 calls_more : (turns n call : ℕ) (calls : List Act) (a : Act) (done mine : List Record) → n ≤ call → slice_get calls (call - n) ≡ Some a
     → are_calls turns n calls done ≡ true
     → All (λ r. r.by.call < call) done → AreOf call mine → is_one_call turns a mine ≡ true → at_one_place mine ≡ true
@@ -340,7 +340,7 @@ calls_more turns n call (b ∷ calls) a done mine le there is low own one at =
         rw (behind_apart n call done mine further own, first_apart n call done mine further own, p.0, q.0)
         (deeper (omega arith) (ap (slice_get calls) next ∙ at_) q.1)
 
--- ---- the caller behind a call
+-- ---- the caller after a call
 
 one_place : (place : ℕ) (mine : List Record) → list_all (λ r. place_of_name r.event.node == place) mine ≡ true → at_one_place mine ≡ true
 one_place place [] all = refl
@@ -355,7 +355,7 @@ all_low call (r ∷ rs) own zero d h =
     let e : r.by.call ≡ call = eqb-true r.by.call call (and_parts (r.by.call == call) (list_all (λ q. q.by.call == call) rs) own).0 in omega arith
 all_low call (r ∷ rs) own (suc k) d h = all_low call rs (and_parts (r.by.call == call) (list_all (λ q. q.by.call == call) rs) own).1 k d (omega arith)
 
--- further calls may be made behind these records
+-- further calls may be made after these records
 pub records_fit_longer_calls : (turns n : ℕ) (calls more : List Act) (records : List Record) → are_calls turns n calls records ≡ true
     → are_calls turns n (calls ++ more) records ≡ true
 unfolding are_calls
@@ -384,7 +384,7 @@ has_made_more plan node number calls a old new its has made = record {
       omega arith) (all_low (length calls) made.mine made.grows.call)));
 }
 
--- behind records of others
+-- after records of others
 pub made_calls_stay_through_others : (plan : RacePlan) (number : ℕ) (calls : List Act) (old new : List Record) → HasMade plan number calls old → GoesOn (Caller number ∷ []) old new
     → HasMade plan number calls new
 made_calls_stay_through_others plan number calls old new has goes =

@@ -44,7 +44,7 @@ first_is call mine more own later = ap (λ (n : ℕ). take n (mine ++ more)) (pr
 behind_is : (call : ℕ) (mine more : List Record) → IsOf call mine → All (λ r. call + 1 ≤ r.by.call) more → records_behind call (mine ++ more) ≡ more
 behind_is call mine more own later = ap (λ (l : List Record). drop (length l) (mine ++ more)) (first_is call mine more own later) ∙ drop-append_seam mine more
 
--- whether its records and those behind are of finished calls
+-- whether its records and those after are of finished calls
 one_more : (turns call : ℕ) (stopped : Bool) (a : Act) (calls : List Act) (mine more : List Record) → IsOf call mine → All (λ r. call + 1 ≤ r.by.call) more
     → are_finished turns stopped call (a ∷ calls) (mine ++ more)
     ≡ caller_goes_on stopped (list_any is_end mine) (answer_of turns mine) (are_finished turns stopped (call + 1) calls more) more
@@ -86,7 +86,7 @@ thread_has_played_no_calls plan thread c fresh =
 room_for : (i each old mine whole : ℕ) → old ≤ i * each → mine ≤ each → whole ≡ old + mine → whole ≤ (i + 1) * each
 room_for i each old mine whole before this is = omega (arith, add-mul i 1 each)
 
--- what the records are behind one call more
+-- what the records are after one call more
 record Grows (plan : RacePlan) (thread : ThreadPlan) (number i : ℕ) (old new : Calling) (mine : List Record) : Type 0 where
   own : IsOf i mine
   number_ : new.number ≡ number

@@ -92,7 +92,7 @@ no_receive _ e = absurd (true≢false (sym e))
 pub call_without_take_is_other : (turns : ℕ) (a : Act) (records : List Record) → is_take a ≡ false → is_one_call turns a records ≡ is_other turns a records
 call_without_take_is_other turns a records no_ = ap (λ (b : Bool). if b then is_receive turns records else is_other turns a records) no_
 
--- behind an own act without an answer
+-- after an own act without an answer
 other_goes : (turns : ℕ) (a : Act) (own : Record) (rest : List Record) → is_own own.by.part ≡ true → same_act a own.event.act ≡ true
     → own_answer a own.outcome ≡ None
     → is_followed turns own rest ≡ true → is_other turns a (own ∷ rest) ≡ true
@@ -222,7 +222,7 @@ own_puts_nothing_off (act.Send body) o its = by_outcome o
     by_outcome _ = refl
 own_puts_nothing_off _ o its = refl
 
--- behind turns and an end: its answer, or late where all turns are used
+-- after turns and an end: its answer, or late where all turns are used
 abbrev pub answer_of_ended_call : ℕ → Act → Option ℕ → List Record → Record → Option CallAnswer
 answer_of_ended_call turns a request ts e = answer_or_else (told_at_end a e.outcome)
     (if nat_le turns (length ts) then Some (late_after request (late turns request ts) e.outcome) else None)
@@ -312,7 +312,7 @@ alone_tell_nothing : (own : Act) (ts : List Record) → RecordsAreTurns ts → f
 alone_tell_nothing own [] all = refl
 alone_tell_nothing own (t ∷ ts) all = rw (nothing_told own t (head_of_turns_is_turn t ts all)) (alone_tell_nothing own ts (tail_of_turns_is_turns t ts all))
 
--- a call's own act without an answer, and turns behind it
+-- a call's own act without an answer, and turns after it
 pub call_without_end_is_unanswered : (turns : ℕ) (a : Act) (came : Option Came) (first ts : List Record) → CallHasBegun a came first → RecordsAreTurns ts → IsUnanswered turns (first ++ ts)
 call_without_end_is_unanswered turns a None first ts begun all =
     rw begun.1 (tells_none turns ts (alone_tell_nothing (act_of_call (own_of ts)) ts all) (turns_end_nothing ts all))

@@ -1,12 +1,12 @@
 -- A box of a node to which nothing has happened.
 use Rattle.am_race_laws.proofs.Words.{◌≡◌, ℕ, ◌<◌, List, [], ◌∷◌, ◌++◌, length, Bool, true, false, None, if◌then◌else◌, sym, refl, ap, subst, arith}
-use Rattle.am_race_laws.proofs.Words.{length-append, none-some, TableId, Rules, has, IsInOrder, Record, RacePlan, Node, founder, stranger_node, first_node, IsEndOf}
+use Rattle.am_race_laws.proofs.Words.{length-append, none-some, TableId, Rules, has, CoreFrontsAreInOrder, Record, RacePlan, Node, founder, stranger_node, first_node, IsEndOf}
 use Rattle.am_race_laws.proofs.Words.{untrimmed_node_is_own_end, Place, Known, fresh, EachComesNext, world_after, IsLawfulRecord, terms_of, BoxKeepsNode, IsBox}
 
 -- a node that nothing has happened to is its own end
 record Begins (n : Node) : Type 0 where
   end : IsEndOf n n
-  order : IsInOrder n.core
+  order : CoreFrontsAreInOrder n.core
 
 by_case : (rules : Rules) (name : ℕ) (b : Bool) → Begins (if b then founder rules name else stranger_node rules name)
 by_case rules name true = record {

@@ -4,7 +4,7 @@ use Rattle.am_race_laws.proofs.Words.{subst, arith, append_assoc, append-nil, no
 use Rattle.am_race_laws.proofs.Words.{list_any-append, place_of_name, name_of_place_and_life, Letter, Act, By, Event, Record, RacePlan, is_for, first_for, next_for, letters_of_records}
 use Rattle.am_race_laws.proofs.Words.{packet_heard_by_act, Node, World, current, has_stopped, world_after, of_place, of_caller, of_call, own_of, is_turn_part, up_to_last}
 use Rattle.am_race_laws.proofs.Words.{is_ready, cursor, last_heard, words_drawn, unless_nought, choice_after, follows, is_waited, is_choice, is_turn_of, turns_at}
-use Rattle.am_race_laws.proofs.Words.{is_turn, lost_by, is_due, may_end, greatest_number, passed_number, RecordIsApart, KnowledgeIsSame, and_parts, none-some, split_on_bool}
+use Rattle.am_race_laws.proofs.Words.{is_turn, letter_lost_by_part, is_due, may_end, greatest_number, passed_number, RecordIsApart, KnowledgeIsSame, and_parts, none-some, split_on_bool}
 use Rattle.am_group.specs.declared.event.Act.TheVariants as act
 use Rattle.std.proofs.lemmas.Bool.{and_from, or_left}
 use Rattle.am_group.proofs.Places.{letters_of_pushed_record}
@@ -99,7 +99,7 @@ place_of_place n = omega arith
 place_of_life : (n life : ℕ) → place_of_name (name_of_place_and_life (place_of_name n) life) ≡ place_of_name n
 place_of_life n life = omega arith
 
--- behind one record of another place and another caller
+-- after one record of another place and another caller
 module _ (plan : RacePlan) (before : List Record) (r : Record) (e : Event) (by : By) (apart : RecordIsApart (place_of_name e.node) by.caller r) where
   abbrev old : World
   old = world_after plan.founding before
@@ -139,8 +139,8 @@ module _ (plan : RacePlan) (before : List Record) (r : Record) (e : Event) (by :
       ∙ left.known ∙ ap (λ (k : ℕ). up_to_last k by.caller before) (sym its) in
       let both = and_parts _ _ is in
       let ready : not (is_ready (new.nodes name) (own_of (of_call by.caller by.call more))) ≡ true = rw (node, left.call) both.0 in
-      let turn : is_turn_of plan more (up_to_last (place_of_name name) by.caller more) (new.nodes name) name by.caller e.act (lost_by by.part) ≡ true =
-      rw (node, knew) (turn_of_stays plan before (up_to_last (place_of_name name) by.caller before) r (old.nodes name) name by.caller e.act (lost_by by.part)
+      let turn : is_turn_of plan more (up_to_last (place_of_name name) by.caller more) (new.nodes name) name by.caller e.act (letter_lost_by_part by.part) ≡ true =
+      rw (node, knew) (turn_of_stays plan before (up_to_last (place_of_name name) by.caller before) r (old.nodes name) name by.caller e.act (letter_lost_by_part by.part)
       its_place left.caller both.1) in
       subst (λ (k : ℕ). turns_at plan more new k e by ≡ true) (sym here) (and_from _ _ ready turn)
 
@@ -154,7 +154,7 @@ module _ (plan : RacePlan) (before : List Record) (r : Record) (e : Event) (by :
 pub all_of_cons_gives_both : (P : Record → Type 0) (r : Record) (rest : List Record) → All P (r ∷ rest) → P r × All P rest
 all_of_cons_gives_both P r rest all = (all 0 r (omega arith), λ k d h. all (suc k) d (omega arith))
 
--- behind several of them
+-- after several of them
 stays_through : (P : List Record → Type 0) (Q : Record → Type 0) → ((before : List Record) (r : Record) → Q r → P before → P (before ++ r ∷ []))
     → (before more : List Record) → All Q more → P before → P (before ++ more)
 stays_through P Q stays before [] apart is = subst P (sym (append-nil before)) is

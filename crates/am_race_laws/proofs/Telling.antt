@@ -1,7 +1,7 @@
 -- Where a call is ready, its end tells its answer.
 use Rattle.am_race_laws.proofs.Words.{◌≡◌, ℕ, ◌+◌, ◌-◌, ◌<◌, ◌==◌, Bool, true, false, true≢false, List, [], ◌∷◌, length, get_or, Option, Some, None, is_some}
 use Rattle.am_race_laws.proofs.Words.{nat_lt, refl, sym, ap, ◌∙◌, subst, arith, if◌then◌else◌, ltb-true, ne_eqb, slice_get-get_or, Entry, Outcome, NodeEvent}
-use Rattle.am_race_laws.proofs.Words.{log_entry_at, IsInOrder, entry_at_end_is_entry, entry_at_number_of_log, Sends, outcome_of_collecting, outcome_of_done, collect_outcome, has_settled_send, Act, Status, Node}
+use Rattle.am_race_laws.proofs.Words.{log_entry_at, CoreFrontsAreInOrder, entry_at_end_is_entry, entry_at_number_of_log, Sends, outcome_of_collecting, outcome_of_done, collect_outcome, has_settled_send, Act, Status, Node}
 use Rattle.am_race_laws.proofs.Words.{Ballot, is_member, has_log_by_status, has_departed, plan_without_letters, finish, refresh_at_end, row, step, IsEndOf, both_of_and, end_of_ballot_of_round, end_of_ballot}
 use Rattle.am_race_laws.proofs.Words.{Came, own_answer, end_answer, ballot_answer, sent_request, is_take, send_is_settled, is_ended, is_ready_after, may_take}
 use Rattle.am_race_laws.proofs.Words.{told_at_end, EndTells}
@@ -20,7 +20,7 @@ answered all what o is = is (refresh_at_end (row all what).node)
 
 -- ---- a receive
 
-entry_there : (all m : Node) → IsEndOf all m → IsInOrder m.core → m.core.taken < m.core.acc → (e : Entry)
+entry_there : (all m : Node) → IsEndOf all m → CoreFrontsAreInOrder m.core → m.core.taken < m.core.acc → (e : Entry)
     × (log_entry_at all.core.log (all.core.taken + 1) ≡ Some e)
 entry_there all m is order less =
     let kept = order.kept in
@@ -50,7 +50,7 @@ take_told : (all : Node) (e : Entry) → is_member all.status ≡ true → (all.
 unfolding row take_row
 take_told all e member some there n = rw (member, some) (took all e (log_entry_at all.core.log (all.core.taken + 1)) there n)
 
-receive_tells : (all m : Node) → IsEndOf all m → IsInOrder m.core → may_take m ≡ true → EndTells all act.Take None
+receive_tells : (all m : Node) → IsEndOf all m → CoreFrontsAreInOrder m.core → may_take m ≡ true → EndTells all act.Take None
 unfolding own_answer
 receive_tells all m is order may outcome told =
     let t = both_of_and (is_member m.status) (nat_lt m.core.taken m.core.acc) may in
@@ -175,5 +175,5 @@ take_only : (a : Act) → is_take a ≡ true → act.Take ≡ a
 take_only act.Take e = refl
 take_only _ e = absurd (true≢false (sym e))
 
-pub ready_take_tells_its_answer : (all m : Node) (a : Act) → is_take a ≡ true → IsEndOf all m → IsInOrder m.core → may_take m ≡ true → EndTells all a None
+pub ready_take_tells_its_answer : (all m : Node) (a : Act) → is_take a ≡ true → IsEndOf all m → CoreFrontsAreInOrder m.core → may_take m ≡ true → EndTells all a None
 ready_take_tells_its_answer all m a take is order may = subst (λ (x : Act). EndTells all x None) (take_only a take) (receive_tells all m is order may)

@@ -28,7 +28,7 @@ pub use Rattle.am_base.specs.{Founding.Rules, Lists.log_entry_at, Most.most_even
 pub use Rattle.am_base.specs.{declared.event.NodeEvent.NodeEvent, declared.outcome.Outcome.Outcome}
 pub use Rattle.am_packet.specs.{Boxes.Letter, Limits.IsPacket, Spelling.spelling, declared.packet.Packet.Packet}
 pub use Rattle.am_node_defs.proofs.{Ends.entry_at_end_is_entry, Folds.slice_get-drop}
-pub use Rattle.am_node_defs.specs.{Cores.IsInOrder, Sends.Sends, Sends.outcome_of_collecting, Sends.outcome_of_done, Sends.collect_outcome, Sends.has_settled_send}
+pub use Rattle.am_node_defs.specs.{Cores.CoreFrontsAreInOrder, Sends.Sends, Sends.outcome_of_collecting, Sends.outcome_of_done, Sends.collect_outcome, Sends.has_settled_send}
 pub use Rattle.am_node_defs.specs.{declared.sender.OwnSend.OwnSend}
 pub use Rattle.am_group.specs.{Addressed.is_for, Addressed.first_for, Deliveries.acting_name_of_record, Journals.letters_of_records, Journals.letter_at, Journals.item_at}
 pub use Rattle.am_group.specs.{declared.event.Act.Act, declared.event.By.By, declared.event.Event.Event, declared.event.Part.Part}
@@ -58,13 +58,13 @@ pub use Rattle.am_race_laws.specs.Callers.{is_callers, same_act, is_one_call, at
 pub use Rattle.am_race_laws.specs.Callers.{checks, is_other}
 pub use Rattle.am_race_laws.specs.Callings.{caller_luck_after, IsHand, HasMade, Calling, IsUnanswered, IsAnswerOfCall, Called, of_next}
 pub use Rattle.am_race_laws.specs.Going.{Grown, CallerHasSeenMore, by_of, end_act, end_part, IsOwn, IsCame, luck_behind, is_asked, ToldBy, EndTells, OwnActIsDone, Began, TurnIsMade}
-pub use Rattle.am_race_laws.specs.Going.{EndIsMade, HasSpent, HasEnded, HasLooked, WasRefused, Meets, told_at_end, request_in_call, CallHasBegun, Made}
+pub use Rattle.am_race_laws.specs.Going.{EndIsMade, HasSpent, HasEnded, HasLooked, WasRefused, HandIsAtOpenBox, told_at_end, request_in_call, CallHasBegun, Made}
 pub use Rattle.am_race_laws.specs.Ran.{fresh_caller, fresh_callers, caller_numbers, HasPlaces, IsIn, EndsFor, calls_made, calls_by, HasPlayed, HasRun, most_records_of}
 pub use Rattle.am_race_laws.specs.Ran.{refusal_in, ends_thread, IsPlanned, first_refusal}
 pub use Rattle.am_race_laws.specs.Tags.{is_either, of_place, of_caller, of_call, own_of, is_turn_part, is_own, is_check}
-pub use Rattle.am_race_laws.specs.Turns.{greatest_number, passed_number, cursor, last_heard, lost_by, unless_nought, or_nought, words_drawn, choice_after, follows}
+pub use Rattle.am_race_laws.specs.Turns.{greatest_number, passed_number, cursor, last_heard, letter_lost_by_part, unless_nought, or_nought, words_drawn, choice_after, follows}
 pub use Rattle.am_race_laws.specs.Turns.{is_waited, is_least, waits_in_vain, is_choice, is_turn_of, turns_at, is_due}
-pub use Rattle.am_race_laws.specs.{Cases.ReceivesUseTheirTurns, Lawful.IsLawfulRecord, Lawful.plan_by, Lawful.terms_of, Lawful.is_of_race, Lawful.IsSent}
+pub use Rattle.am_race_laws.specs.{Cases.ReceivesUseTheirTurns, Lawful.IsLawfulRecord, Lawful.threadless_plan_of_terms, Lawful.terms_of, Lawful.is_of_race, Lawful.IsSent}
 pub use Rattle.am_race_laws.specs.{Laws.OthersAreApart, Laws.RecordIsApart, Laws.KnowledgeIsSame, Laws.EachIsNext, Laws.OthersStay, Legal.IsLegalWithTags, Legal.is_played}
 pub use Rattle.am_race_laws.specs.{Plans.is_call, Plans.has_check, Plans.calls_in, Plans.MayRace, Plans.ArePlayed, Plans.calls_of, Ready.round_in}
 pub use Rattle.am_race_laws.specs.{Ready.is_ready_after, Ready.may_take, Ready.send_is_settled, Ready.is_ended, Told.IsNext, Told.tells, declared.answer.CallAnswer.CallAnswer}

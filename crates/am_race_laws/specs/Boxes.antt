@@ -2,7 +2,7 @@
 use Rattle.std.specs.Prelude.{◌≡◌, ◌⊎◌, ℕ, ◌<◌, List, [], ◌∷◌, ◌++◌, length, Option, Some, None, Bool, true, false, slice_index}
 use Rattle.am_base.specs.Most.{most_events_of_run}
 use Rattle.atomic_table.specs.Seated.{TableId}
-use Rattle.am_node_defs.specs.Cores.{IsInOrder}
+use Rattle.am_node_defs.specs.Cores.{CoreFrontsAreInOrder}
 use Rattle.am_base.specs.declared.outcome.Outcome.{Outcome}
 use Rattle.am_base.specs.declared.outcome.Outcome.TheVariants as said
 use Rattle.am_base.specs.declared.event.NodeEvent.{NodeEvent}
@@ -35,7 +35,7 @@ use Rattle.am_shared_journal_defs.specs.declared.choice.Choice.{Choice}
 use Rattle.am_shared_journal_defs.specs.declared.choice.Choice.TheVariants as choice
 use Rattle.am_base.specs.Names.{place_of_name, has}
 use Rattle.am_shared_journal_defs.specs.Choices.{Luck, choice_of, act_of}
-use Rattle.am_race_laws.specs.Lawful.{IsLawfulRecord, is_of_race, plan_by, terms_of}
+use Rattle.am_race_laws.specs.Lawful.{IsLawfulRecord, is_of_race, threadless_plan_of_terms, terms_of}
 use Rattle.am_race_laws.specs.Tags.{is_turn_part}
 use Rattle.am_race_laws.specs.declared.call.Came.{Came}
 use Rattle.am_race_laws.specs.declared.answer.CallAnswer.{CallAnswer}
@@ -65,7 +65,7 @@ what_of act.Return letter = None
 -- a node does what was asked, or stops
 abbrev pub Steps : Option NodeEvent → Node → Outcome → List Letter → Node → Type 0
 Steps None m outcome letters n = (n ≡ m) × (outcome ≡ said.Stopped) × (letters ≡ [])
-Steps (Some what) m outcome letters n = DoesRow (λ k. row k what) m outcome letters n × IsInOrder n.core
+Steps (Some what) m outcome letters n = DoesRow (λ k. row k what) m outcome letters n × CoreFrontsAreInOrder n.core
 
 -- the letter that is heard was sent to the name
 pub record Hears (before : List Record) (name number : ℕ) (heard : Option Letter) : Type 0 where
@@ -75,7 +75,7 @@ pub record Hears (before : List Record) (name number : ℕ) (heard : Option Lett
   pub its : is_for letter name ≡ true
   pub packet : IsPacket letter.packet
 
--- behind these records a name may do an act: it runs, and hears what was sent, and gives up who stopped
+-- after these records a name may do an act: it runs, and hears what was sent, and gives up who stopped
 pub record MayAct (before : List Record) (name : ℕ) (a : Act) (heard : Option Letter) : Type 0 where
   pub race : is_of_race a ≡ true
   pub runs : has_stopped before name ≡ false
@@ -93,7 +93,7 @@ pub record Boxed : Type 0 where
 -- the node is that of what its pass has seen
 pub record BoxKeepsNode (plan : RacePlan) (name : ℕ) (seen : List Record) (m : Node) : Type 0 where
   pub end : IsEndOf ((world_after plan.founding seen).nodes name) m
-  pub order : IsInOrder m.core
+  pub order : CoreFrontsAreInOrder m.core
 
 -- how far the place has come, and whether its node stopped, are those of its records
 pub record IsBox (wire : TableId) (plan : RacePlan) (name : ℕ) (pass : Known) (m : Node) (far : ℕ) (last : Option ℕ) (stopped : Bool)
@@ -117,8 +117,8 @@ pub record IsShareOf (wire : TableId) (plan : RacePlan) (caller : ℕ) (share : 
 
 -- by what was seen an act is a turn of its call, where it is one, and may be its end, where it is that
 pub record IsTimely (plan : RacePlan) (seen : List Record) (e : Event) (by : By) : Type 0 where
-  pub turn : is_turn_part by.part ≡ true → is_turn (plan_by (terms_of plan)) seen e by ≡ true
-  pub end_ : is_end_of by.part e.act ≡ true → may_end (plan_by (terms_of plan)) seen e by ≡ true
+  pub turn : is_turn_part by.part ≡ true → is_turn (threadless_plan_of_terms (terms_of plan)) seen e by ≡ true
+  pub end_ : is_end_of by.part e.act ≡ true → may_end (threadless_plan_of_terms (terms_of plan)) seen e by ≡ true
 
 -- the record of an act of a box's name, and what came of it
 pub record IsRecord (name : ℕ) (a : Act) (by : By) (came : Came) (item : Record) : Type 0 where
@@ -129,7 +129,7 @@ pub record IsRecord (name : ℕ) (a : Act) (by : By) (came : Came) (item : Recor
   pub outcome : item.outcome ≡ came.outcome
   pub round : round_in item.packets ≡ came.round
 
--- the act was done: its record stands behind what the box and the caller had seen, and both have seen it
+-- the act was done: its record stands after what the box and the caller had seen, and both have seen it
 pub record Acted (old new : Boxed) (share share' : Known) (a : Act) (by : By) (came : Came) : Type 0 where
   pub before : List Record
   pub item : Record

@@ -1,4 +1,4 @@
--- A caller's records are those of its calls, one behind the other.
+-- A caller's records are those of its calls, one after the other.
 use Rattle.std.specs.Prelude.{ℕ, ◌+◌, ◌-◌, List, [], ◌∷◌, length, drop, take_while, Option, Some, None, is_some, Bool, true, false, not, ◌&&◌, ◌==◌, nat_lt}
 use Rattle.std.specs.Prelude.{if◌then◌else◌}
 use Rattle.std.specs.List.{list_all, list_any}
@@ -46,7 +46,7 @@ asks _ outcome letters _ = false
 abbrev pub checks : Record → Record → Bool
 checks own r = is_check r.by.part && asks own.event.act own.outcome own.packets r.event.act
 
--- behind a call's own act: so many turns at most, and then perhaps its check
+-- after a call's own act: so many turns at most, and then perhaps its check
 unfoldable pub is_followed : ℕ → Record → List Record → Bool
 is_followed turns own [] = true
 is_followed turns own (r ∷ rs) = if is_turn_part r.by.part then nat_lt 0 turns && is_followed (turns - 1) own rs else checks own r && has_no_records rs
@@ -57,7 +57,7 @@ is_receive turns [] = true
 is_receive turns (r ∷ rs) = if is_turn_part r.by.part then nat_lt 0 turns && is_receive (turns - 1) rs else is_own r.by.part
     && (is_take r.event.act && has_no_records rs)
 
--- another call: its own act, and nothing behind it where that has an answer
+-- another call: its own act, and nothing after it where that has an answer
 abbrev pub is_other : ℕ → Act → List Record → Bool
 is_other turns planned [] = true
 is_other turns planned (own ∷ rs) =
@@ -73,14 +73,14 @@ at_one_place (r ∷ rs) = list_all (λ q. place_of_name q.event.node == place_of
 
 -- ---- a caller
 
--- the records of the call of a number, which come first, and those behind them
+-- the records of the call of a number, which come first, and those after them
 abbrev pub first_call : ℕ → List Record → List Record
 first_call number records = take_while (λ r. r.by.call == number) records
 
 abbrev pub records_behind : ℕ → List Record → List Record
 records_behind number records = drop (length (first_call number records)) records
 
--- the records of the calls from a number on, one behind the other
+-- the records of the calls from a number on, one after the other
 unfoldable pub are_calls : ℕ → ℕ → List Act → List Record → Bool
 are_calls turns number [] records = has_no_records records
 are_calls turns number (planned ∷ calls) records =

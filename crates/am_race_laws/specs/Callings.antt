@@ -30,7 +30,7 @@ pub record Calling : Type 0 where
 abbrev pub caller_luck_after : RacePlan → ℕ → ℕ → Luck
 caller_luck_after plan caller count = record { words = later count (words_by_seed plan.seed_number caller); loss = plan.loss; repeat = plan.repeat }
 
--- what a caller acts with: its share, and its chooser, which stands behind the words that its turns drew
+-- what a caller acts with: its share, and its chooser, which stands after the words that its turns drew
 pub record IsHand (wire : TableId) (plan : RacePlan) (number : ℕ) (share : Known) (luck : Luck) : Type 0 where
   pub own : share.wire ≡ wire
   pub terms : share.terms ≡ terms_of plan

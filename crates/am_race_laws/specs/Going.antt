@@ -91,14 +91,14 @@ luck_behind luck a lost = if nat_lt 0 (max (packet_heard_by_act a) lost) then re
 -- ---- one look
 
 -- a caller's hand at an open box that runs, of which it has seen as much as the box
-pub record Meets (wire : TableId) (plan : RacePlan) (caller : ℕ) (box : Boxed) (share : Known) (luck : Luck) : Type 0 where
+pub record HandIsAtOpenBox (wire : TableId) (plan : RacePlan) (caller : ℕ) (box : Boxed) (share : Known) (luck : Luck) : Type 0 where
   pub hand : IsHand wire plan caller share luck
   pub open_ : box.closed ≡ None
   pub runs : has_stopped box.seen box.name ≡ false
   pub few : length box.seen ≤ most_events_of_run
   pub same : share.seen ≡ box.seen
 
--- a record stands behind what a caller had seen and the others' records since, and the caller has seen it
+-- a record stands after what a caller had seen and the others' records since, and the caller has seen it
 pub record Grown (caller : ℕ) (old new : List Record) (item : Record) : Type 0 where
   pub before : List Record
   pub goes : GoesOn (Caller caller ∷ []) old before
@@ -152,7 +152,7 @@ pub record TurnIsMade (name : ℕ) (tag : Tag) (outcome : Outcome) (old new : Li
   pub is : IsTurned name tag outcome item
 
 -- the record of an end
-pub record IsEnded (name : ℕ) (tag : Tag) (a : Act) (came : Option Came) (outcome : Outcome) (item : Record) : Type 0 where
+pub record IsRecordOfEnd (name : ℕ) (tag : Tag) (a : Act) (came : Option Came) (outcome : Outcome) (item : Record) : Type 0 where
   pub node : item.event.node ≡ name
   pub act_ : item.event.act ≡ end_act a came
   pub by_ : item.by ≡ by_of tag (end_part a)
@@ -162,7 +162,7 @@ pub record IsEnded (name : ℕ) (tag : Tag) (a : Act) (came : Option Came) (outc
 pub record EndIsMade (name : ℕ) (tag : Tag) (a : Act) (came : Option Came) (outcome : Outcome) (old new : List Record) : Type 0 where
   pub item : Record
   pub grown : Grown tag.caller old new item
-  pub is : IsEnded name tag a came outcome item
+  pub is : IsRecordOfEnd name tag a came outcome item
 
 -- a look was a turn
 abbrev pub HasSpent : ℕ → Tag → List Record → List Record → Looked → Type 0

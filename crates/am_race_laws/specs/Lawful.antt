@@ -20,8 +20,8 @@ abbrev pub terms_of : RacePlan → Terms
 terms_of plan = record { founding = plan.founding; callers = length plan.threads; seed = plan.seed_number; loss = plan.loss; repeat = plan.repeat; turns = plan.turns }
 
 -- as far as turns and ends go by it, the plan of a wire
-abbrev pub plan_by : Terms → RacePlan
-plan_by terms = record { founding = terms.founding; seed_number = terms.seed; loss = terms.loss; repeat = terms.repeat; turns = terms.turns; threads = [] }
+abbrev pub threadless_plan_of_terms : Terms → RacePlan
+threadless_plan_of_terms terms = record { founding = terms.founding; seed_number = terms.seed; loss = terms.loss; repeat = terms.repeat; turns = terms.turns; threads = [] }
 
 -- packets are heard whole, and nobody returns
 abbrev pub is_of_race : Act → Bool
@@ -42,7 +42,7 @@ pub record IsLawfulRecord (terms : Terms) (before : List Record) (r : Record) : 
   pub life : r.life ≡ 1
   pub act_ : is_of_race r.event.act ≡ true
   pub next : IsNext terms.founding before r
-  pub turn : is_turn_part r.by.part ≡ true → is_turn (plan_by terms) before r.event r.by ≡ true
-  pub end_ : is_end r ≡ true → may_end (plan_by terms) before r.event r.by ≡ true
+  pub turn : is_turn_part r.by.part ≡ true → is_turn (threadless_plan_of_terms terms) before r.event r.by ≡ true
+  pub end_ : is_end r ≡ true → may_end (threadless_plan_of_terms terms) before r.event r.by ≡ true
   pub stop : has_stopped before (acting_name_of_record r) ≡ false
   pub hears : (number : ℕ) → r.event.act ≡ act.Hear number → IsSent before (acting_name_of_record r) number

@@ -17,7 +17,7 @@ use Rattle.am_race_laws.specs.Turns.{is_turn}
 use Rattle.am_race_laws.specs.Lawful.{IsLawfulRecord}
 use Rattle.am_race_laws.specs.Tags.{of_place, of_caller, of_call, up_to_last}
 
--- a journal is legal where each record is what its event gives behind those before it
+-- a journal is legal where each record is what its event gives after those before it
 abbrev pub EachIsNext : Type 0
 EachIsNext = (rules : Rules) (journal : List Record) → IsLegal rules journal
     ↔ ((before rest : List Record) (r : Record) → journal ≡ before ++ r ∷ rest → IsNext rules before r)

@@ -1,4 +1,4 @@
--- The calls that a caller has made, as their type has them: each behind those before it.
+-- The calls that a caller has made, as their type has them: each after those before it.
 use Rattle.std.specs.Prelude.{List, [], ◌∷◌, ◌++◌}
 use Rattle.am_group.specs.declared.event.Act.{Act}
 use Rattle.am_group.specs.declared.event.Act.TheVariants as act

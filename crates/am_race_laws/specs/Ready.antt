@@ -40,7 +40,7 @@ abbrev pub send_is_settled : Node → Outcome → Bool
 send_is_settled m (said.Queued req) = has_settled_send req m.sends
 send_is_settled m _ = false
 
--- behind its own act, of which this came, with a ballot of this round
+-- after its own act, of which this came, with a ballot of this round
 abbrev pub is_ready_after : Node → Act → Outcome → ℕ → Bool
 is_ready_after m (act.Send body) outcome round = send_is_settled m outcome
 is_ready_after m act.Join outcome round = has_log_by_status m.status

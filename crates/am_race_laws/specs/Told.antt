@@ -13,6 +13,6 @@ tells w r = record (happens w r.event) { letters = w.letters ++ r.packets }
 unfoldable pub world_after : Rules → List Record → World
 world_after rules records = fold tells (start rules) records
 
--- a record's life, outcome and letters are what its event gives behind these records
+-- a record's life, outcome and letters are what its event gives after these records
 abbrev pub IsNext : Rules → List Record → Record → Type 0
 IsNext rules before r = (happens (world_after rules before) r.event).records ≡ (world_after rules before).records ++ with_tag no_caller r ∷ []

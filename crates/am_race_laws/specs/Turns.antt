@@ -29,14 +29,14 @@ use Rattle.am_race_laws.specs.Ready.{is_ready}
 -- ---- how far a place has come with its letters
 
 -- the letter that a turn lost, or 0
-abbrev pub lost_by : Part → ℕ
-lost_by Call = 0
-lost_by (Turn lost) = lost
-lost_by Check = 0
+abbrev pub letter_lost_by_part : Part → ℕ
+letter_lost_by_part Call = 0
+letter_lost_by_part (Turn lost) = lost
+letter_lost_by_part Check = 0
 
 -- the letter that a record heard or lost, or 0
 abbrev pub passed_number : Record → ℕ
-passed_number r = max (packet_heard_by_act r.event.act) (lost_by r.by.part)
+passed_number r = max (packet_heard_by_act r.event.act) (letter_lost_by_part r.by.part)
 
 abbrev pub greatest_number : List ℕ → ℕ
 greatest_number numbers = fold max 0 numbers
@@ -113,9 +113,9 @@ is_turn_of plan before knew m name caller _ lost = false
 abbrev pub turns_at : RacePlan → List Record → World → ℕ → Event → By → Bool
 turns_at plan before w name e by =
     not (is_ready (w.nodes name) (own_of (of_call by.caller by.call before)))
-    && is_turn_of plan before (up_to_last (place_of_name name) by.caller before) (w.nodes name) name by.caller e.act (lost_by by.part)
+    && is_turn_of plan before (up_to_last (place_of_name name) by.caller before) (w.nodes name) name by.caller e.act (letter_lost_by_part by.part)
 
--- behind these records, an event with this tag is a turn of its call, which isn't ready
+-- after these records, an event with this tag is a turn of its call, which isn't ready
 unfoldable pub is_turn : RacePlan → List Record → Event → By → Bool
 is_turn plan before e by = turns_at plan before (world_after plan.founding before) (current (world_after plan.founding before) (place_of_name e.node)) e by
 
@@ -125,7 +125,7 @@ is_turn plan before e by = turns_at plan before (world_after plan.founding befor
 abbrev pub is_due : RacePlan → Node → List Record → Bool
 is_due plan m mine = is_ready m (own_of mine) || nat_le plan.turns (count_by (λ r. is_turn_part r.by.part) mine)
 
--- behind these records, an event with this tag may be the end of its call
+-- after these records, an event with this tag may be the end of its call
 unfoldable pub may_end : RacePlan → List Record → Event → By → Bool
 may_end plan before e by =
     is_due plan ((world_after plan.founding before).nodes (current (world_after plan.founding before) (place_of_name e.node)))

@@ -6,7 +6,7 @@ use am_group::event::Act;
 use std::marker::Model;
 use std::snapshot::Snapshot;
 
-/// The last call, behind those before it.
+/// The last call, after those before it.
 #[derive(Drop)]
 #[cycle(calls)]
 enum Link {

@@ -5,7 +5,7 @@ ghost use Rattle.am_group.specs.declared.event.Record.{Record};
 ghost use Rattle.am_race_laws.specs.Cases.{ReceivesUseTheirTurns};
 ghost use Rattle.am_race_laws.specs.Laws.{EachIsNext, OthersAreApart, OthersStay, TurnsStay, StoppedAreKnown, HaveKeys};
 
-/// A journal is legal where each record is what its event gives behind those before it.
+/// A journal is legal where each record is what its event gives after those before it.
 #[tactic(auto, using(crate::proofs::Legality::legal_records_come_next))]
 pub fn legal_journals_go_by_record()
     ensures { EachIsNext }

@@ -1,7 +1,7 @@
 ghost use Rattle.std.specs.Prelude.{◌≡◌, ◌≤◌, ◌<◌, ◌+◌, ◌*◌, ◌^◌, length, IfOk};
 ghost use Rattle.am_script.specs.Seen.{seen, items_seen};
 ghost use Rattle.am_script_defs.specs.Refusals.{Answers};
-ghost use Rattle.am_script_defs.specs.Values.{each_from};
+ghost use Rattle.am_script_defs.specs.Values.{items_read_from};
 ghost use Rattle.am_script_defs.specs.Races.{most_turns, call_from, calls_from, parts_of_thread, thread_from, each_thread, threads_from, calls_in_all, of_right_size, parts_of_race, race_from};
 
 use crate::call::call;
@@ -50,7 +50,7 @@ const MOST_CALLS: u64 = 1_000;
 fn each_call(alloc: Global, list: &[Value], first: u64, founding: u8) -> Read<Items<Act>>
     requires founding { founding ≤ 15 }
     requires first { first ≤ 2 ^ 63 }
-    ensures { Answers (each_from (call_from founding) first (items_seen list.now)) result }
+    ensures { Answers (items_read_from (call_from founding) first (items_seen list.now)) result }
 {
     let mut calls = Items::new(alloc);
     for (before, value) in list.iter().enumerate() {

@@ -4,7 +4,7 @@ use Rattle.am_refinement.proofs.Words.{refl, sym, ap, ◌∙◌, subst, arith, n
 use Rattle.am_refinement.proofs.Words.{stamp_of_list, key_of_stamp, equal_keys_have_equal_names, begins_through_both, front_begins_append, Group, Views, function_with_value, list_with_chosen_view, Move, group_with_node, group_with_line, node_with_entry, put_at_same_index}
 use Rattle.am_refinement.proofs.Words.{Node, view, is_member, acts_in_its_view, is_sequencer, push_entry, has_log_by_status, has_departed, is_unfinished_ballot, is_view, Decided, World}
 use Rattle.am_refinement.proofs.Words.{is_stopped, whole, up_to_next, line_of, split_on_bool, both_of_and, node_of_welcomed, Cause, IsNumberedBy, NameStands, NotedStands, ViewsStand}
-use Rattle.am_refinement.proofs.Words.{StandsBut, within, MoveIsSound, MovesLeadTo, MayMove, NeedsNumber, IsOthers, NeedsEntry, NeedsPiece, NeedsWelcome, FrontsBegin}
+use Rattle.am_refinement.proofs.Words.{StandsBut, within, MoveIsSound, MovesLeadTo, MayMove, MeetsNeedsOfNumbering, IsOthers, NeedsEntry, NeedsPiece, NeedsWelcome, FrontsBegin}
 use Rattle.std.proofs.lemmas.List.{append-nil}
 use Rattle.am_refinement.specs.Steps.{of_line, of_shown}
 use Rattle.am_abstract_group.specs.Group as groups
@@ -203,7 +203,7 @@ numbered_entry_keeps_group_standing w name x e s few leading small plain chain h
     }
 
 pub numbered_entry_stands_as_move : (w : World) (name : ℕ) (c : Cause) (x : Node) (e : Entry) (s : Group) → MayMove w name c x s → is_sequencer x ≡ true → IsNumberedBy c x e
-    → NeedsNumber s name x e → StandsBut name (within w name x) s → MovesOntoStandingGroup name (within w name (push_entry x e)) s
+    → MeetsNeedsOfNumbering s name x e → StandsBut name (within w name x) s → MovesOntoStandingGroup name (within w name (push_entry x e)) s
 numbered_entry_stands_as_move w name c x e s may leads why needs h =
     let y = push_entry x e in
     let a = s.node name in

@@ -4,7 +4,7 @@ use Rattle.am_refinement.proofs.Words.{◌∙◌, subst, arith, nat_tests, Entry
 use Rattle.am_refinement.proofs.Words.{OwnSend, item_at, image_of_list, key_of_stamp, Group, IsUp, MayNumber, GroupKeeps, Node, view, is_member, acts_in_its_view, has_own_leave, body_of_spread_send, Packet}
 use Rattle.am_refinement.proofs.Words.{member_hears_other, hears_packet_of_its_view, hears_packet_of_sequencer, World, is_stopped, both_of_and, Cause, hears, MayStore, IsNumberedBy, asked_send}
 use Rattle.am_refinement.proofs.Words.{own_send, asked_join, asked_leave, known_name_is_member, leave_of_member_fits, NameStands, within, line, IsDecided, EntrySays, OrderSays}
-use Rattle.am_refinement.proofs.Words.{LeaverSays, of_view, before_it, ResultSays, BodiesAsked, SendsOnce, NamesNamed, NeedsNumber, IsOthers, NeedsEntry, ◌-◌, ◌++◌}
+use Rattle.am_refinement.proofs.Words.{LeaverSays, of_view, before_it, ResultSays, BodiesAsked, SendsOnce, NamesNamed, MeetsNeedsOfNumbering, IsOthers, NeedsEntry, ◌-◌, ◌++◌}
 use Rattle.am_refinement.proofs.Words.{map, take, Option, None, flat_map-append, length-append, Row, place_of_name, requests_of_sender, request_of_sender_in_entry, IsBeginningOf, IsGoodList, is_member_at_end, row_of_place}
 use Rattle.am_refinement.proofs.Words.{member_has_member_row, waiting_send_of, accepted_number_of_send, settle_send_at, settle_send_where_accepted, settle_waiting_send, split_on_bool, standing_request_is_within_count, next_request_after_whole_list, accepted_at_gives_found_send, UnsettledSendsAreInTurn, waiting_send_has_next_request}
 use Rattle.am_refinement.proofs.Words.{turn_with_one_more_send, turn_after_settled_send, turn_after_collect, OwnTurn}
@@ -133,7 +133,7 @@ number_named c x e small _ = tt
 pub numbering_gives_its_needs : (w : World) (name : ℕ) (c : Cause) (x : Node) (e : Entry) (s : Group) → GroupKeeps s → x.core.who ≡ name → is_stopped w name ≡ false
     → NameStands (within w name x) name x (s.node name) → StandsForSequencer name x (s.node name) → length (nodes.image_of_node x).rows ≡ 16
     → OwnWaitingSendFits x → ((from : ℕ) (v : Stamp) (report : Report) → c ≡ hears (Packet.LeaveAsk from v report) → LeaverSays s from v report)
-    → ((from : ℕ) (v : Stamp) → c ≡ hears (Packet.JoinAsk from v) → from < 256) → IsNumberedBy c x e → NeedsNumber s name x e
+    → ((from : ℕ) (v : Stamp) → c ≡ hears (Packet.JoinAsk from v) → from < 256) → IsNumberedBy c x e → MeetsNeedsOfNumbering s name x e
 numbering_gives_its_needs w name c x e s k who runs old leading long own asks small why = record {
   chain = line_of_leading_view s name k (record { up = running_member_is_up w name x (s.node name) runs leading.member old; acts = leading.acts_; by = leading.by });
   fit = number_fits c x e long own why;

@@ -3,7 +3,7 @@ use Rattle.am_refinement.proofs.Words.{stamp_eq_of_itself, stamp_eq_gives_equali
 use Rattle.am_refinement.proofs.Words.{list_any, GroupView, Stamp, Entry, View, Image, blank, after, image_after_entries, IsBeginningOf, stamp_of_list, is_view, is_view_of, up_to_view}
 use Rattle.am_refinement.proofs.Words.{up_to_next, split_on_bool, plain_entry_keeps_image_view, image_after_view_has_it}
 
--- ---- a View stands in a list, and another behind it
+-- ---- a View stands in a list, and another after it
 
 -- some View
 abbrev HasView : List Entry → Type 0
@@ -59,7 +59,7 @@ view_stays (x ∷ es) e h = split_on_bool (is_view x)
     (λ t. rw t refl)
     (λ f. rw f (ap (λ l. x ∷ l) (view_stays es e (rw f at h))))
 
--- behind another View it changes nothing of the line
+-- after another View it changes nothing of the line
 pub line_after_passed_view : (v : Stamp) (es : List Entry) (e : Entry) → AnotherViewFollows v es → up_to_next v (es ++ e ∷ []) ≡ up_to_next v es
 unfolding up_to_next view_is_passed_in_list
 line_after_passed_view v [] e h = absurd (cc)

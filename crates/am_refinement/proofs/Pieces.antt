@@ -22,7 +22,7 @@ rises a (View v) h g = subst (λ (u : Stamp). key_of_stamp (stamp_of_list a) < k
     (view_below_pushed_view a v g)
 rises a _ h g = absurd (cc)
 
--- behind the last View there is none
+-- after the last View there is none
 pub no_view_after_last_view : (a es : List Entry) → IsGoodList (a ++ es) → stamp_of_list (a ++ es) ≡ stamp_of_list a → list_any is_view es ≡ false
 no_view_after_last_view a [] g same = refl
 no_view_after_last_view a (e ∷ es) g same =

@@ -94,7 +94,7 @@ pub use Rattle.am_refinement.specs.Accepting.{AcceptsAndLearns, RefreshLearns}
 pub use Rattle.am_refinement.specs.Keeping.{GroupFor, NodeStandsKept, StartKeeps, BallotStands, LastStands, Stepping, Ballots, HeardSo, IsPlainOnEnd, OwnTurn, GroupOk}
 pub use Rattle.am_refinement.specs.Keeping.{OthersKeep, RefreshesKeep, Refreshing, PlainChangesKeepStepping, Next}
 pub use Rattle.am_refinement.specs.Branches.{OnBranch, on_chain, left_out, BranchesAreSound, MovesBranch, DecisionsAreNew, BranchesBegin, MovesNamed}
-pub use Rattle.am_refinement.specs.Steps.{MayMove, NeedsLook, after_look, ChangesStand, NeedsDecision, world_noting, NeedsNumber, IsOthers, NeedsEntry, NeedsPiece}
+pub use Rattle.am_refinement.specs.Steps.{MayMove, NeedsLook, after_look, ChangesStand, NeedsDecision, world_noting, MeetsNeedsOfNumbering, IsOthers, NeedsEntry, NeedsPiece}
 pub use Rattle.am_refinement.specs.Steps.{NeedsWelcome, FrontsBegin, EventsStand, EventStands, no_move, stop, WasBegun, Needs, FrontsStay, of_line as of_its_line}
 pub use Rattle.am_refinement.specs.Steps.{of_shown as of_its_shown, after_change}
 pub use Rattle.am_refinement.specs.Sending.{RowsLive, KeptWhole, ListBegins, as_before, just_begun, Sender, ShowsMore, SaysSo, SentSays, DepartedSilent}

@@ -54,7 +54,7 @@ pub record MayMove (w : World) (name : ℕ) (c : Cause) (x : Node) (s : Group) :
 -- ---- what a change needs of the group besides, by what it makes of a list
 
 -- a sequencer has its view's line, and numbers what fits, and no Leave but of a name that leaves
-pub record NeedsNumber (s : Group) (name : ℕ) (x : Node) (e : Entry) : Type 0 where
+pub record MeetsNeedsOfNumbering (s : Group) (name : ℕ) (x : Node) (e : Entry) : Type 0 where
   pub chain : s.views.line (key_of_stamp (stamp_of_list (s.node name).list)) ≡ (s.node name).list
   pub fit : fits (image_of_node x) e ≡ true
   pub named : NamesNamed e
@@ -109,7 +109,7 @@ NeedsLook s name _ = Unit {0}
 
 -- ⊥: the last member's own Leave ends its step (specs Ends)
 abbrev pub Needs : {c : Cause} {o : Outcome} {m n : Node} → Group → ℕ → Change c o m n → Type 0
-Needs {m = m} s name (numbers e leads room why) = NeedsNumber s name m e
+Needs {m = m} s name (numbers e leads room why) = MeetsNeedsOfNumbering s name m e
 Needs {m = m} s name (stores from v base acc number e by heard plain may) = NeedsEntry s name m e
 Needs {m = m} s name (begins_list from v base join image is o may) = NeedsWelcome s name v base join image
 Needs s name (looks b verdict over why look is) = NeedsLook s name look

@@ -11,7 +11,7 @@ with_letter_contains_letter to p letters some =
     let n = place_for (kind_of p) letters in
     rw some (Contains-append_right (take n letters) (letter_to to p ∷ drop n letters) (letter_to to p) (0, omega arith, refl))
 
--- ---- a letter behind those of its own kind and of lower ones
+-- ---- a letter after those of its own kind and of lower ones
 
 abbrev IsLow : ℕ → Letter → Type 0
 IsLow kind l = nat_le (kind_of l.packet) kind ≡ true
@@ -53,7 +53,7 @@ bcasts_are_low_packets n to number (e ∷ es) = All-cons (IsLow 3) _ _ refl (bca
 lower : (l : Letter) → IsLow 3 l → IsLow 5 l
 lower l h = grind (arith, nat_tests)
 
--- and how far the list is accepted comes behind them
+-- and how far the list is accepted comes after them
 pub with_accept_appends_letters : (m : Node) (p : Plan) (n : Node) (letters : List Letter) → All (IsLow 3) letters
     → (more : List Letter) × (letters_with_accept m p n letters ≡ letters ++ more)
 with_accept_appends_letters m p n letters low = split_on_bool (sends_accept m p n)

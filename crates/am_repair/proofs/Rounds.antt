@@ -58,7 +58,7 @@ long_ticks w = let more = (world_begins_after_events w (ticks_of_places w)).lett
 long_wave : (after : ℕ) (w : World) → length w.letters ≤ length (after_wave after w).letters
 long_wave after w = let more = (world_begins_after_events w (hearings w after)).letters in let long = ap length more.1 ∙ length-append w.letters more.0 in omega arith
 
--- the waves behind the third
+-- the waves after the third
 last_waves : (r : Repair) (P : World → Type 0) → StaysThroughSchedule r P → (w : World) → r.sent ≤ length w.letters → P (after_third w) → P (world_after_waves w)
 last_waves r P s w low h =
     let a = world_after_ticks w in
@@ -72,7 +72,7 @@ last_waves r P s w low h =
     let ld = long_wave (length b.letters) c in
     property_stays_through_wave r P s (length d.letters) (omega arith) e (property_stays_through_wave r P s (length c.letters) (omega arith) d h)
 
--- those behind the first
+-- those after the first
 pub property_stays_through_later_waves : (r : Repair) (P : World → Type 0) → StaysThroughSchedule r P → (w : World) → r.sent ≤ length w.letters
     → (let a = world_after_ticks w in P (after_wave (length w.letters) a) → P (world_after_waves w))
 property_stays_through_later_waves r P s w low h =

@@ -25,7 +25,7 @@ abbrev pub AcceptedAreAnswered : Type 0
 AcceptedAreAnswered = (rules : Rules) (events : List Event) (name : ℕ) → MayFound rules
     → AnswersUpTo ((run rules events).nodes name) ((run rules events).nodes name).core.acc
 
--- and where a group may be repaired, behind a lossless schedule up to where the sequencer stood
+-- and where a group may be repaired, after a lossless schedule up to where the sequencer stood
 abbrev pub RepairedAreAnswered : Type 0
 RepairedAreAnswered = (rules : Rules) (events : List Event) (place : ℕ) → MayFound rules → place < 16 → lawful_front rules events ≡ events
     → MayRepair (run rules events) place
@@ -48,7 +48,7 @@ abbrev pub AcceptedAreGiven : Type 0
 AcceptedAreGiven = (rules : Rules) (events : List Event) (name : ℕ) → MayFound rules → name < 256
     → GivesUpTo ((run rules events).nodes name) ((run rules events).nodes name).core.acc
 
--- and where a group may be repaired, behind a lossless schedule up to where the sequencer stood
+-- and where a group may be repaired, after a lossless schedule up to where the sequencer stood
 abbrev pub RepairedAreGiven : Type 0
 RepairedAreGiven = (rules : Rules) (events : List Event) (place : ℕ) → MayFound rules → place < 16 → lawful_front rules events ≡ events
     → MayRepair (run rules events) place

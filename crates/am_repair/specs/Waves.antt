@@ -75,7 +75,7 @@ pub record IsServed (rules : Rules) (r : Repair) (i letter number : ℕ) (w : Wo
   pub taken : base ≤ (w.nodes i).core.taken
   pub within : number - base ≤ rules.window + 15
 
--- after the second: the entries above what it has stored, eight or as many as there are, one behind the other
+-- after the second: the entries above what it has stored, eight or as many as there are, one after the other
 pub record Served (rules : Rules) (r : Repair) (i after stored : ℕ) (w : World) : Type 0 where
   pub first : ℕ
   pub late : after ≤ first

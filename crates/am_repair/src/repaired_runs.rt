@@ -26,13 +26,13 @@ pub fn lossless_schedules_repair()
 {}
 
 /// And what stands is answered: in every run no own send is pending that stands in a node's list, from where the node joined up to what it has
-/// accepted. So behind that schedule none is of each member of the sequencer's list, up to where the sequencer stood.
+/// accepted. So after that schedule none is of each member of the sequencer's list, up to where the sequencer stood.
 pub fn sends_that_stand_are_answered()
     ensures accepted { AcceptedAreAnswered }
     ensures repaired { RepairedAreAnswered }
 {}
 
-/// And it is given: in every run a member's application can take, one after another, all that its node has accepted; so behind that schedule
+/// And it is given: in every run a member's application can take, one after another, all that its node has accepted; so after that schedule
 /// each member's can, up to where the sequencer stood.
 pub fn entries_that_stand_are_given()
     ensures accepted { AcceptedAreGiven }

@@ -1,4 +1,4 @@
--- What stood is answered behind rounds in which applications take.
+-- What stood is answered after rounds in which applications take.
 use Rattle.am_repair_takes.proofs.Words.{◌≡◌, ℕ, zero, suc, ◌+◌, ◌≤◌, List, [], ◌++◌, length, refl, sym, ap, ◌∙◌, subst, arith, Event, top, Settling}
 use Rattle.am_repair_takes.proofs.Words.{settle_then, ticks_of_places, hearings, settle_waves, World, current, start, run, world_after_events, runs_go_on, takes, taking_round, taking_rounds, after_rounds}
 use Rattle.am_repair_takes.proofs.Words.{round_count, AnsweredByTaking, AnswersUpTo, accepted_are_answered}

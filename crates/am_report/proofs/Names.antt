@@ -5,21 +5,21 @@ use Rattle.std.proofs.lemmas.List.{at_drop_all, drop_more}
 use Rattle.std.proofs.lemmas.List.Folds.{list_all_at}
 use Rattle.std.proofs.lemmas.Bool.Decides.{nat_tests}
 use Rattle.am_base.specs.Names.{names_from}
-use Rattle.am_report.specs.Names.{rest_text, place_text, is_first_behind}
+use Rattle.am_report.specs.Names.{rest_text, place_text, is_next_first}
 
--- behind the last place nobody is left
+-- after the last place nobody is left
 pub names_from_past_last_place : (set : List ℕ) (place : ℕ) → length set ≤ place → names_from place (drop place set) ≡ []
 names_from_past_last_place set place h = at_drop_all (λ lives. names_from place lives) set place h
 
--- the place that comes next, and those behind it
+-- the place that comes next, and those after it
 by_life : (first : Bool) (place life : ℕ) (later : List ℕ) → rest_text first (names_from place (life ∷ later))
-    ≡ place_text first place life ++ rest_text (is_first_behind first life) (names_from (place + 1) later)
+    ≡ place_text first place life ++ rest_text (is_next_first first life) (names_from (place + 1) later)
 by_life true place zero later = refl
 by_life true place (suc before) later = refl
 by_life false place zero later = refl
 by_life false place (suc before) later = refl
 
-pub text_of_places_left : (set : List ℕ) (place : ℕ) (first still : Bool) → place < length set → still ≡ is_first_behind first (slice_index set place)
+pub text_of_places_left : (set : List ℕ) (place : ℕ) (first still : Bool) → place < length set → still ≡ is_next_first first (slice_index set place)
     → rest_text first (names_from place (drop place set))
     ≡ place_text first place (slice_index set place) ++ rest_text still (names_from (place + 1) (drop (place + 1) set))
 text_of_places_left set place first still within is =

@@ -9,7 +9,7 @@ abbrev pub rest_text : Bool → List ℕ → List ℕ
 rest_text true names = list_text names
 rest_text false names = flat_map (λ name. codes "," ++ name_text name) names
 
--- a name, behind a comma where it isn't the first
+-- a name, after a comma where it isn't the first
 abbrev pub listed_text : Bool → ℕ → List ℕ
 listed_text true name = name_text name
 listed_text false name = codes "," ++ name_text name
@@ -20,7 +20,7 @@ place_text first place zero = []
 place_text true place (suc before) = name_text (name_of_place_and_life place (suc before))
 place_text false place (suc before) = codes "," ++ name_text (name_of_place_and_life place (suc before))
 
--- whether the next is the first behind that
-abbrev pub is_first_behind : Bool → ℕ → Bool
-is_first_behind first zero = first
-is_first_behind first (suc before) = false
+-- whether the next is the first after that
+abbrev pub is_next_first : Bool → ℕ → Bool
+is_next_first first zero = first
+is_next_first first (suc before) = false

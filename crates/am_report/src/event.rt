@@ -32,7 +32,7 @@ pub fn act_word(act: &Act) -> &'static str
     }
 }
 
-// Adds what stands behind an act's node, with a blank before each part.
+// Adds what stands after an act's node, with a blank before each part.
 #[tactic(auto, using(am_io::proofs::Writers::two_words_written_in_calls), unfolding(am_group_defs::specs::Text::act_parts))]
 fn push_parts<O: Writer>(out: &mut O, founding: &Founding, act: &Act)
     ensures { WritesInCalls O.writes out.old (act_parts founding.now act.now) out.new }

@@ -34,7 +34,7 @@ pub fn push_record<O: Writer>(
     out.put("\n");
 }
 
-// Adds an entry behind a blank, and the end of its line.
+// Adds an entry after a blank, and the end of its line.
 fn push_entry_end<O: Writer>(out: &mut O, founding: &Founding, entry: &EntryRef<'_>)
     ensures { WritesInCalls O.writes out.old (codes " " ++ (entry_text founding.now entry.now ++ newline)) out.new }
 {

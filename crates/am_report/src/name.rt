@@ -2,14 +2,14 @@ ghost use Rattle.std.specs.Prelude.{◌≡◌, ◌<◌, IfOk, slice_index, nat_l
 ghost use Rattle.std.specs.Fmt.{WritesInCalls};
 ghost use Rattle.std.specs.List.{list_all};
 ghost use Rattle.am_group_defs.specs.Text.{name_text, stamp_text, names_text, is_everybody_else};
-ghost use Rattle.am_report.specs.Names.{listed_text, place_text, is_first_behind};
+ghost use Rattle.am_report.specs.Names.{listed_text, place_text, is_next_first};
 
 use crate::number::{push_behind, push_number};
 use am_base::name::{Name, Stamp};
 use am_base::names::Names;
 use am_io::writer::Writer;
 
-/// Adds a name: its place, and a life other than the first behind a slash.
+/// Adds a name: its place, and a life other than the first after a slash.
 #[tactic(auto, using(am_io::proofs::Writers::two_words_written_in_calls), unfolding(am_group_defs::specs::Text::name_text))]
 pub fn push_name<O: Writer>(out: &mut O, name: Name)
     ensures { WritesInCalls O.writes out.old (name_text name) out.new }
@@ -31,7 +31,7 @@ pub fn push_stamp<O: Writer>(out: &mut O, stamp: Stamp)
     push_name(out, stamp.by);
 }
 
-// Adds a name, behind a comma if it isn't the first.
+// Adds a name, after a comma if it isn't the first.
 fn push_listed<O: Writer>(out: &mut O, first: bool, name: Name)
     ensures { WritesInCalls O.writes out.old (listed_text first name) out.new }
 {
@@ -43,12 +43,12 @@ fn push_listed<O: Writer>(out: &mut O, first: bool, name: Name)
     push_name(out, name);
 }
 
-// Adds the name of a place, where there is one, behind a comma if it isn't the first; whether the next is the first.
+// Adds the name of a place, where there is one, after a comma if it isn't the first; whether the next is the first.
 fn push_place<O: Writer>(out: &mut O, first: bool, names: Names, place: u8) -> bool
     requires { place < 16 }
     ensures text { WritesInCalls O.writes out.old
         (place_text first place (slice_index names place)) out.new }
-    ensures first { result ≡ is_first_behind first (slice_index names place) }
+    ensures first { result ≡ is_next_first first (slice_index names place) }
 {
     let Some(name) = Name::of(place, names.life_at(place)) else {
         return first;

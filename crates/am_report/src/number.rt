@@ -12,7 +12,7 @@ pub fn push_number<O: Writer>(out: &mut O, number: u64)
     out.put(digits.format(number));
 }
 
-/// Adds some words and a number behind them.
+/// Adds some words and a number after them.
 pub fn push_behind<O: Writer>(out: &mut O, words: &str, number: u64)
     ensures { WritesInCalls O.writes out.old (words.now ++ decimal number) out.new }
 {

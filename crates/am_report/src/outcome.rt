@@ -146,7 +146,7 @@ fn push_numbers<O: Writer>(out: &mut O, outcome: &Outcome)
     }
 }
 
-// Adds what stands behind an outcome's word, with a blank before each part.
+// Adds what stands after an outcome's word, with a blank before each part.
 #[tactic(auto, using(am_io::proofs::Writers::two_words_written_in_calls, am_io::proofs::Writers::three_words_written_in_calls), unfolding(am_group_defs::specs::Text::outcome_parts))]
 fn push_parts<O: Writer>(out: &mut O, founding: &Founding, outcome: &Outcome)
     ensures { WritesInCalls O.writes out.old (outcome_parts founding.now outcome.now) out.new }

@@ -1,7 +1,7 @@
 -- A ballot that was taken out, with a vote more or a name given up, and one that begins.
 use Rattle.am_resetting.proofs.VotingWords.{◌≡◌, ◌≢◌, ℕ, ◌+◌, ◌<◌, min, nat_lt, List, Bool, true, false, not, ◌==◌, Option, None, refl, ap, ◌∙◌, arith, greatest_number}
 use Rattle.am_resetting.proofs.VotingWords.{names_without, stamp_is_less, NamedVote, best_vote, split_on_bool_of_log, Node, Ballot, names_that_pass, top, view, has_log_by_status, ballot_with_vote, ballot_without_voter, next_stamp}
-use Rattle.am_resetting.proofs.VotingWords.{new_ballot, keep_vote_in_ballot, give_up_in_ballot, decide, best_vote_for_ballot, own_vote, has_voted, newly_needed_names, IsInOrder, Vote, IsTakenOut, nat_tests}
+use Rattle.am_resetting.proofs.VotingWords.{new_ballot, keep_vote_in_ballot, give_up_in_ballot, decide, best_vote_for_ballot, own_vote, has_voted, newly_needed_names, CoreFrontsAreInOrder, Vote, IsTakenOut, nat_tests}
 use Rattle.am_resetting.proofs.VotingWords.{NodeKeeps, stamp_lt_next_round}
 
 -- ---- a ballot that was taken out, with a vote more or a name given up
@@ -52,7 +52,7 @@ next_stamp_above_promise m =
 abbrev pub node_with_next_stamp : Node → Node
 node_with_next_stamp m = record m { core = record (m.core) { promise = next_stamp m }; ballot = None }
 
-pub new_ballot_is_taken_out : (m : Node) (least resilience : ℕ) → IsInOrder m.core → NodeKeeps m → has_log_by_status m.status ≡ true → top m < greatest_number
+pub new_ballot_is_taken_out : (m : Node) (least resilience : ℕ) → CoreFrontsAreInOrder m.core → NodeKeeps m → has_log_by_status m.status ≡ true → top m < greatest_number
     → IsTakenOut (node_with_next_stamp m) (new_ballot (next_stamp m) least (min resilience 15))
 new_ballot_is_taken_out m least resilience order keeps logged number = record {
   order = record { kept = order.kept; let_go = order.let_go; given = order.given; accepted = order.accepted };

@@ -5,7 +5,7 @@ pub use Rattle.std.proofs.Common.{sym, ap, subst, ◌∙◌, arith, length, nat_
 pub use Rattle.am_base.specs.{Most.greatest_number, declared.name.Stamp.Stamp, declared.entry.Entry.Entry, declared.entry.GroupView.GroupView}
 pub use Rattle.am_base.specs.{declared.image.Image.Image, declared.outcome.Outcome.Outcome, Limits.EntryIsInRange, Names.empty_set_of_names, Stamps.stamp_is_less, Stamps.stamps_are_equal}
 pub use Rattle.am_base.specs.declared.entry.Entry.TheVariants.{Data, Join, Leave, View}
-pub use Rattle.am_node_defs.specs.Cores.{IsInOrder}
+pub use Rattle.am_node_defs.specs.Cores.{CoreFrontsAreInOrder}
 pub use Rattle.am_node_defs.proofs.{Ends.told_by_pushed_entry, Folds.split_on_bool_of_log}
 pub use Rattle.am_model.specs.{Emit.Plan, Emit.plan_without_letters, Emit.entries_to_serve, Emit.plan_with_letter, Emit.ack_packet_of, Ballots.BallotVerdict, Ballots.node_with_promise, Ballots.decide}
 pub use Rattle.am_model.specs.{Ends.IsEndOf}
@@ -21,7 +21,7 @@ pub use Rattle.am_node_parts.proofs.{Keeping.own_ballot_of_steady_node, Ends.unt
 pub use Rattle.am_node_parts.proofs.{Replying.reply_says_and_tells, Replying.reply_of_equal_plan, Replying.equal_reply_of_plan}
 pub use Rattle.am_resetting.proofs.{Plans.branch_of_plan_if_false, Plans.untrimmed_node_has_equal_end, Plans.decide_without_own_ballot}
 pub use Rattle.am_resetting.specs.declared.catching.Denial.{Denial}
-pub use Rattle.am_resetting.specs.Deciding.{IsUpTo, CatcherMayStore, IsTakenOut}
+pub use Rattle.am_resetting.specs.Deciding.{HasNoViewAbove, CatcherMayStore, IsTakenOut}
 pub use Rattle.am_resetting.proofs.{Views.view_after_view_is_stamp, Views.view_stays_after_data, Views.view_stays_after_join, Views.view_stays_after_leave, Orders.stamp_not_lt_itself, Orders.equal_stamps_are_same}
 pub use Rattle.am_resetting.proofs.{Promises.no_ballot_was_taken_out, Promises.one_ballot_was_taken_out, Nodes.node_without_ballot_acts_not, Nodes.top_after_pushed_entry}
 pub use Rattle.am_resetting.specs.Catching.{plan_of, IsPlain, FollowsAsView, CatchesNext, IsBelow, unless_denied, node_with_ballot}

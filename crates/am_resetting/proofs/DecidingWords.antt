@@ -28,4 +28,4 @@ pub use Rattle.am_ballots.specs.Kept.{KeptBallot, ballot_of}
 pub use Rattle.am_node_parts.specs.{Keeps.NodeKeeps, Keeps.IsSteady, Keeps.IsOwnBallot, Verdicts.VerdictComesTo, Parts.node_of}
 pub use Rattle.am_node_parts.proofs.{Keeping.due_request_after_push, Keeping.steady_node_keeps_order, Keeping.ended_ballot_counts_as_own, Keeping.own_ballot_of_same_promise, Keeping.own_ballot_of_steady_node, Ends.told_by_standing_log}
 pub use Rattle.am_node_parts.proofs.{Ends.top_of_standing_log, Shown.own_vote_on_whole_log}
-pub use Rattle.am_resetting.specs.Deciding.{BallotIsAnswered, IsTakenOut, IsUpTo, CatcherMayStore, MayBeView, put_back}
+pub use Rattle.am_resetting.specs.Deciding.{BallotIsAnswered, IsTakenOut, HasNoViewAbove, CatcherMayStore, MayBeView, put_back}

@@ -3,7 +3,7 @@ use Rattle.am_resetting.proofs.DecidingWords.{◌≡◌, ◌⊎◌, ⊎_elim, in
 use Rattle.am_resetting.proofs.DecidingWords.{subst, ◌∙◌, length-append, arith, nat_tests, Image, Stamp, Entry, Data, Join, Leave, View, has, stamp_is_less}
 use Rattle.am_resetting.proofs.DecidingWords.{stamps_are_equal, Log, top_of_log, log_with_entry, after, fits, members_of_image, CoreState, CoreChangesAlike, trim_core_to, top_of_end_is_top, end_has_image_of_whole_log}
 use Rattle.am_resetting.proofs.DecidingWords.{told_by_pushed_entry, untrimmed_core_keeps_own_log, split_on_bool_of_log, has_log_by_status, Node, Ballot, top, image_of_node, view, members, acts_in_its_view, is_member, is_sequencer}
-use Rattle.am_resetting.proofs.DecidingWords.{push_entry, IsKept, next_request, NodeKeeps, IsSteady, due_request_after_push, steady_node_keeps_order, ended_ballot_counts_as_own, IsTakenOut, IsUpTo}
+use Rattle.am_resetting.proofs.DecidingWords.{push_entry, IsKept, next_request, NodeKeeps, IsSteady, due_request_after_push, steady_node_keeps_order, ended_ballot_counts_as_own, IsTakenOut, HasNoViewAbove}
 use Rattle.am_resetting.proofs.DecidingWords.{CatcherMayStore}
 use Rattle.am_node_defs.specs.Reports as reports
 use Rattle.am_resetting.proofs.{Orders.stamp_lt_not_equal, Views.members_after_view_have_by, Views.view_after_view_is_stamp, Views.view_stays_after_data, Views.view_stays_after_join, Views.view_stays_after_leave}
@@ -66,7 +66,7 @@ record HasView (m n : Node) : Type 0 where
   pub up_to : stamp_is_less m.core.promise (view n) ≡ false
   pub own : has (members n) (view n).by ≡ true
 
-view_pushed : (m : Node) (e : Entry) → fits (image_of_node m) e ≡ true → IsUpTo m.core.promise e → (view (push_entry m e) ≡ view m) ⊎ HasView m (push_entry m e)
+view_pushed : (m : Node) (e : Entry) → fits (image_of_node m) e ≡ true → HasNoViewAbove m.core.promise e → (view (push_entry m e) ≡ view m) ⊎ HasView m (push_entry m e)
 view_pushed m (Data from req body) fit up_to = inl (ap (λ (i : Image). i.view) (told_by_pushed_entry m.core.log (Data from req body))
     ∙ view_stays_after_data (image_of_node m) (top m + 1) from req body)
 view_pushed m (Join name) fit up_to = inl (ap (λ (i : Image). i.view) (told_by_pushed_entry m.core.log (Join name)) ∙ view_stays_after_join (image_of_node m) (top m + 1) name)
@@ -80,7 +80,7 @@ view_pushed m (View w) fit up_to =
       own = (λ k. has (members_of_image (same k)) (v k).by) ∙ members_after_view_have_by (image_of_node m) (top m + 1) w fit;
     })
 
-pub node_keeps_by_push : (m : Node) (e : Entry) (capacity : ℕ) → IsKept m.core.log capacity → NodeKeeps m → fits (image_of_node m) e ≡ true → IsUpTo m.core.promise e
+pub node_keeps_by_push : (m : Node) (e : Entry) (capacity : ℕ) → IsKept m.core.log capacity → NodeKeeps m → fits (image_of_node m) e ≡ true → HasNoViewAbove m.core.promise e
     → acts_in_its_view m ≡ false → has_log_by_status m.status ≡ true → ((b : Ballot) → m.ballot ≡ Some b → b.is_over ≡ true) → NodeKeeps (push_entry m e)
 node_keeps_by_push m e capacity kept keeps fit up_to idle logged over = record {
   own = keeps.own;
@@ -115,7 +115,7 @@ pub node_keeps_by_stored_piece : (m n : Node) (base : ℕ) (e : Entry) (capacity
     → NodeKeeps (push_entry n e)
 node_keeps_by_stored_piece m n base e capacity kept may s keeps = node_keeps_by_push n e capacity kept keeps
     (ap (λ (i : Image). fits i e) s.told ∙ may.fits)
-    (subst (λ (p : Stamp). IsUpTo p e) (sym s.promise) may.up_to)
+    (subst (λ (p : Stamp). HasNoViewAbove p e) (sym s.promise) may.up_to)
     (steady_acts m n s ∙ may.idle)
     (ap has_log_by_status s.status ∙ may.logged)
     (λ b there. may.over b (sym s.ballot ∙ there))

@@ -1,10 +1,10 @@
 -- What the rows of pieces and results come to.
 use Rattle.am_resetting.proofs.CatchingWords.{◌≡◌, ◌≢◌, ℕ, ◌+◌, ◌-◌, ◌<◌, ◌≤◌, max, Bool, true, false, not, ◌||◌, ◌&&◌, ◌==◌, if◌then◌else◌, List, Option, Some}
 use Rattle.am_resetting.proofs.CatchingWords.{None, refl, sym, ap, subst, ◌∙◌, arith, nat_tests, greatest_number, Stamp, Entry, GroupView, Data, Join, Leave, View}
-use Rattle.am_resetting.proofs.CatchingWords.{Image, Outcome, EntryIsInRange, empty_set_of_names, stamp_is_less, stamps_are_equal, IsInOrder, told_by_pushed_entry, split_on_bool_of_log, has_log_by_status, Node, Ballot, top}
+use Rattle.am_resetting.proofs.CatchingWords.{Image, Outcome, EntryIsInRange, empty_set_of_names, stamp_is_less, stamps_are_equal, CoreFrontsAreInOrder, told_by_pushed_entry, split_on_bool_of_log, has_log_by_status, Node, Ballot, top}
 use Rattle.am_resetting.proofs.CatchingWords.{image_of_node, view, acts_in_its_view, is_member, push_entry, trim_node_up_to, Plan, plan_without_letters, BallotVerdict, node_with_promise, decide, is_unfetchable_view}
 use Rattle.am_resetting.proofs.CatchingWords.{push_fetched, catch_up, look_at_ballot_anew, fetches_from, piece_promised, piece_for, piece_row, row_of_promised_result, result_row}
-use Rattle.am_resetting.proofs.CatchingWords.{IsEndOf, NodeKeeps, IsOwnBallot, IsSteady, refusal_or_plan, plan_of, FollowsAsView, CatchesNext, IsBelow, IsUpTo, CatcherMayStore}
+use Rattle.am_resetting.proofs.CatchingWords.{IsEndOf, NodeKeeps, IsOwnBallot, IsSteady, refusal_or_plan, plan_of, FollowsAsView, CatchesNext, IsBelow, HasNoViewAbove, CatcherMayStore}
 use Rattle.am_resetting.proofs.CatchingWords.{IsTakenOut, Telling, VerdictComesTo, Reply, Replies, own_ballot_of_steady_node, view_after_view_is_stamp, view_stays_after_data, view_stays_after_join}
 use Rattle.am_resetting.proofs.CatchingWords.{view_stays_after_leave, reply_of_equal_plan, branch_of_plan_if_false, stamp_not_lt_itself, equal_stamps_are_same, not-false, reply_quiet_with_outcome, reply_asks_nobody, reply_tells_one_note}
 use Rattle.am_resetting.proofs.CatchingWords.{reply_says_and_tells, reply_without_letters, reply_with_telling, reply_asking_names, IsPlain, IsTold, decide_without_own_ballot}
@@ -30,12 +30,12 @@ other_view_node_acts_not m v is h =
     both true b h = h
     both false b h = refl
 
-not_past : (v : Stamp) (in_ballot : Bool) (e : Entry) → is_unfetchable_view v in_ballot e ≡ false → IsUpTo v e
+not_past : (v : Stamp) (in_ballot : Bool) (e : Entry) → is_unfetchable_view v in_ballot e ≡ false → HasNoViewAbove v e
 not_past v in_ballot (View w) h = or_left (stamp_is_less v w.stamp) (in_ballot && stamps_are_equal w.stamp v) h
 not_past v in_ballot _ h = tt
 
 -- an entry that comes next may be stored
-pub next_piece_may_be_stored : (m : Node) (v : Stamp) (base number : ℕ) (e : Entry) (in_ballot : Bool) → IsInOrder m.core → has_log_by_status m.status ≡ true → v ≡ m.core.promise
+pub next_piece_may_be_stored : (m : Node) (v : Stamp) (base number : ℕ) (e : Entry) (in_ballot : Bool) → CoreFrontsAreInOrder m.core → has_log_by_status m.status ≡ true → v ≡ m.core.promise
     → acts_in_its_view m ≡ false
     → ((b : Ballot) → m.ballot ≡ Some b → b.is_over ≡ true) → EntryIsInRange e → top m < greatest_number → CatchesNext m v base number e in_ballot → CatcherMayStore m base e
 next_piece_may_be_stored m v base number e in_ballot order logged is idle over within room next = record {
@@ -45,7 +45,7 @@ next_piece_may_be_stored m v base number e in_ballot order logged is idle over w
   over = over;
   taken = next.taken;
   fits = next.fits;
-  up_to = subst (λ (p : Stamp). IsUpTo p e) is (not_past v in_ballot e next.past);
+  up_to = subst (λ (p : Stamp). HasNoViewAbove p e) is (not_past v in_ballot e next.past);
   within = within;
   bound = let at = next.next in let low : number - max m.core.base base ≤ m.core.rules.window + 15 = (let b = next.bound in grind (arith, nat_tests)) in
       omega arith;
@@ -100,7 +100,7 @@ ahead_pushed m v (Leave name) ahead below = ap (λ (i : Image). stamp_is_less i.
     ∙ ap (λ (s : Stamp). stamp_is_less s v) (view_stays_after_leave (image_of_node m) (top m + 1) name) ∙ ahead
 
 -- it is still taken out once the entry is stored
-pub taken_out_ballot_after_push : (m n : Node) (b : Ballot) (v : Stamp) (e : Entry) → v ≡ m.core.promise → IsTakenOut m b → IsBelow v e → IsInOrder n.core
+pub taken_out_ballot_after_push : (m n : Node) (b : Ballot) (v : Stamp) (e : Entry) → v ≡ m.core.promise → IsTakenOut m b → IsBelow v e → CoreFrontsAreInOrder n.core
     → top n < greatest_number → IsSteady (push_entry m e) n → IsTakenOut n b
 taken_out_ballot_after_push m n b v e is taken below order room s =
     let own = taken.own in
@@ -156,7 +156,7 @@ stamp_is_promise_not_view m v h = (
 
 -- ---- results
 
-pub next_view_may_be_stored : (m : Node) (base number : ℕ) (v : GroupView) → IsInOrder m.core → has_log_by_status m.status ≡ true → v.stamp ≡ m.core.promise
+pub next_view_may_be_stored : (m : Node) (base number : ℕ) (v : GroupView) → CoreFrontsAreInOrder m.core → has_log_by_status m.status ≡ true → v.stamp ≡ m.core.promise
     → ((b : Ballot) → m.ballot ≡ Some b → b.is_over ≡ true)
     → EntryIsInRange (View v) → top m < greatest_number → FollowsAsView m base number v → CatcherMayStore m base (View v)
 next_view_may_be_stored m base number v order logged is over within room next = record {

@@ -6,7 +6,7 @@ pub use Rattle.am_base.specs.{Most.greatest_number, Names.names_without, Names.h
 pub use Rattle.am_base.specs.{declared.image.Vote.Vote, declared.name.Stamp.Stamp, declared.outcome.Outcome.Outcome, Lists.image_of_log}
 pub use Rattle.am_base.proofs.Greatest.{both_of_and}
 pub use Rattle.am_node_defs.proofs.Folds.{split_on_bool_of_log}
-pub use Rattle.am_node_defs.specs.Cores.{IsInOrder}
+pub use Rattle.am_node_defs.specs.Cores.{CoreFrontsAreInOrder}
 pub use Rattle.am_model.specs.{Emit.plan_without_letters, Emit.plan_with_letter, Resets.take_vote, Resets.is_open_ballot, Calls.give_up_in_open_ballot, Calls.ask_row, Ends.IsEndOf}
 pub use Rattle.am_model.specs.Node.{Node, Ballot, names_that_pass, top, view, has_log_by_status, set_of_one_name, members, is_member, other_members}
 pub use Rattle.am_model.specs.Ballots.{ballot_with_vote, ballot_without_voter, next_stamp, new_ballot, own_vote, has_voted, newly_needed_names, node_with_promise, vote_packet_of}

@@ -1,5 +1,5 @@
 ghost use Rattle.std.specs.Prelude.{◌≡◌, ◌≢◌, ◌<◌, ◌≤◌, ◌+◌, ◌==◌, ◌||◌, ◌&&◌, max, not, Option, Some, None, IfNone, IfSome, true, false, []};
-ghost use Rattle.am_node_parts.specs.Prelude.{greatest_number, EntryIsInRange, fits, top_of_log, stamps_are_equal, stamp_is_less, IsInOrder, has_log_by_status, Node, set_of_one_name, push_entry, image_of_node, trim_node_up_to, view, number_is_within_bound, IsOwnBallot, node_of};
+ghost use Rattle.am_node_parts.specs.Prelude.{greatest_number, EntryIsInRange, fits, top_of_log, stamps_are_equal, stamp_is_less, CoreFrontsAreInOrder, has_log_by_status, Node, set_of_one_name, push_entry, image_of_node, trim_node_up_to, view, number_is_within_bound, IsOwnBallot, node_of};
 ghost use Rattle.am_base.specs.declared.entry.Entry.TheVariants.{View};
 ghost use Rattle.am_ballots.specs.Kept.{ballot_of};
 ghost use Rattle.am_model.specs.Node as node;
@@ -12,7 +12,8 @@ ghost use Rattle.am_node_parts.specs.Replies.{Replies, refusal_or_plan};
 use crate::deciding::{decide, store};
 use crate::promising::{put_back, raise_promise, take_ballot};
 use crate::reading::{
-    copy_of, has_own_leave, is_beyond, is_same, is_view, last_of, name_of, promise_of, taken_of,
+    copy_of_stamp, has_own_leave, is_beyond_bound, is_same, is_view, last_of, name_of, promise_of,
+    taken_of,
 };
 use am_ballots::ballot::Ballot;
 use am_base::entry::{EntryParts, EntryRef, GroupView};
@@ -62,7 +63,7 @@ fn is_past(stamp: &Stamp, in_ballot: bool, view: &Stamp) -> bool
     ensures below { in_ballot ≡ true → result ≡ false → stamp_is_less view.now stamp.now ≡ true }
 {
     let same = is_same(view, stamp);
-    copy_of(stamp).is_below(copy_of(view)) || (in_ballot && same)
+    copy_of_stamp(stamp).is_below(copy_of_stamp(view)) || (in_ballot && same)
 }
 
 /// Whether an entry is a View that can't come by fetching: one above the stamp, or in a ballot of it.
@@ -78,7 +79,7 @@ fn is_view_past(stamp: &Stamp, in_ballot: bool, entry: &EntryRef) -> bool
     }
 }
 
-/// Whether an entry fits behind the list.
+/// Whether an entry fits after the list.
 fn fits(parts: &Parts, entry: &EntryRef) -> bool
     ensures { result ≡ fits (image_of_node (node_of parts.now)) entry.now }
 {
@@ -111,7 +112,7 @@ fn refusal(parts: &Parts, arrival: &Arrival, entry: &EntryRef, in_ballot: bool) 
     }
     if !fits(parts, entry)
         || (is_view_past(&arrival.stamp, in_ballot, entry)
-            || is_beyond(parts, arrival.base, arrival.number))
+            || is_beyond_bound(parts, arrival.base, arrival.number))
     {
         return Some(Outcome::Unfit);
     }
@@ -128,7 +129,7 @@ fn is_apart(parts: &Parts, stamp: &Stamp) -> bool
 
 /// What a node that has no unfinished ballot does with an entry of the view that it has promised.
 fn piece_promised<'a>(parts: &mut Parts, arrival: &Arrival, entry: &EntryRef) -> Reply<'a>
-    requires order { IsInOrder parts.old.core }
+    requires order { CoreFrontsAreInOrder parts.old.core }
     requires logged { has_log_by_status parts.old.status ≡ true }
     requires promise { arrival.now.stamp ≡ parts.old.core.promise }
     requires view { stamps_are_equal (view (node_of parts.old)) arrival.now.stamp ≡ false }
@@ -191,7 +192,7 @@ fn piece_for<'a>(
     entry: &EntryRef,
     ballot: Ballot,
 ) -> Reply<'a>
-    requires order { IsInOrder parts.old.core }
+    requires order { CoreFrontsAreInOrder parts.old.core }
     requires out { (node_of parts.old).ballot ≡ None }
     requires own { IsOwnBallot (node_of parts.old) (ballot_of ballot) }
     requires logged { has_log_by_status parts.old.status ≡ true }
@@ -243,12 +244,12 @@ fn view_entry<'a>(view: &GroupView) -> EntryRef<'a>
     EntryRef::of(EntryParts::View(*view))
 }
 
-/// Whether an entry doesn't fit behind the list, or is beyond the bound.
+/// Whether an entry doesn't fit after the list, or is beyond the bound.
 fn is_unfit(parts: &Parts, entry: &EntryRef, base: u32, number: u32) -> bool
     ensures { result ≡ (not (fits (image_of_node (node_of parts.now)) entry.now)
         || not (number_is_within_bound (node_of parts.now) (max parts.now.core.base base) number)) }
 {
-    !fits(parts, entry) || is_beyond(parts, base, number)
+    !fits(parts, entry) || is_beyond_bound(parts, base, number)
 }
 
 /// What is replied where a decided view isn't stored; None where it comes next and nothing is against it.
@@ -294,7 +295,7 @@ fn result_refusal<'a>(parts: &Parts, arrival: &Arrival, view: &GroupView) -> Opt
 
 /// What a node does with a decided view that it has promised.
 fn hears_result<'a>(parts: &mut Parts, arrival: &Arrival, view: &GroupView) -> Reply<'a>
-    requires order { IsInOrder parts.old.core }
+    requires order { CoreFrontsAreInOrder parts.old.core }
     requires logged { has_log_by_status parts.old.status ≡ true }
     requires promise { view.now.stamp ≡ parts.old.core.promise }
     requires other { view.now.stamp.by ≢ parts.old.core.who }
@@ -319,7 +320,7 @@ fn is_passed(parts: &Parts, stamp: &Stamp) -> bool
     ensures { result ≡ ((stamp.now.by == parts.now.core.who)
         || stamp_is_less stamp.now parts.now.core.promise) }
 {
-    stamp.by == name_of(parts) || copy_of(stamp).is_below(promise_of(parts))
+    stamp.by == name_of(parts) || copy_of_stamp(stamp).is_below(promise_of(parts))
 }
 
 /// A view was decided (docs/PROTOCOL.md, "Ballots and views"). Elsewhere where it is the node's own or below the promise, else it
@@ -337,6 +338,6 @@ pub fn on_result<'a>(parts: &mut Parts, arrival: &Arrival, view: &GroupView) -> 
     if is_passed(parts, &view.stamp) {
         return quiet(Outcome::Elsewhere);
     }
-    raise_promise(parts, copy_of(&view.stamp));
+    raise_promise(parts, copy_of_stamp(&view.stamp));
     hears_result(parts, arrival, view)
 }

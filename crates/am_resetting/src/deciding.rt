@@ -1,5 +1,5 @@
 ghost use Rattle.std.specs.Prelude.{◌≡◌, ◌<◌, ◌≤◌, ◌+◌, ◌-◌, max, nat_lt, Some, true, false, length, unwrap_or};
-ghost use Rattle.am_node_parts.specs.Prelude.{greatest_number, EntryIsInRange, fits, image_of_log, top_of_log, has, names_of, size, IsInOrder, Node, push_entry, trim_node_up_to, ChangesAllAlike, IsEndOf, IsOwnBallot, IsSteady, NodeKeeps, node_of};
+ghost use Rattle.am_node_parts.specs.Prelude.{greatest_number, EntryIsInRange, fits, image_of_log, top_of_log, has, names_of, size, CoreFrontsAreInOrder, Node, push_entry, trim_node_up_to, ChangesAllAlike, IsEndOf, IsOwnBallot, IsSteady, NodeKeeps, node_of};
 ghost use Rattle.am_base.specs.Outcomes.{is_outcome_took};
 ghost use Rattle.am_base.specs.declared.entry.Entry.TheVariants.{View};
 ghost use Rattle.am_model.specs.Ballots.{ballot_with_end, ballot_with_answer, decide, decided_view, decide_view, trim_to_least_taken_by, taken_number_of_voter};
@@ -20,14 +20,14 @@ use am_node_storage::log::Log;
 
 /// Trims the list up to a base, where that is greater.
 pub fn trim(parts: &mut Parts, base: u32)
-    requires order { IsInOrder parts.old.core }
+    requires order { CoreFrontsAreInOrder parts.old.core }
     requires taken { base ≤ parts.old.core.taken }
     ensures changes { ChangesAllAlike (λ m. trim_node_up_to m base) (node_of parts.old) (node_of parts.new) }
     ensures steady { IsSteady (node_of parts.old) (node_of parts.new) }
     ensures base { parts.new.core.base ≡ max parts.old.core.base base }
     ensures rules { parts.new.core.rules ≡ parts.old.core.rules }
     ensures taken { parts.new.core.taken ≡ parts.old.core.taken }
-    ensures order { IsInOrder parts.new.core }
+    ensures order { CoreFrontsAreInOrder parts.new.core }
 {
     parts.core.trim_to(base);
 }
@@ -41,18 +41,18 @@ fn push(parts: &mut Parts, entry: &EntryRef)
     requires keeps { NodeKeeps (push_entry (node_of parts.old) entry.now) }
     ensures value { node_of parts.new ≡ push_entry (node_of parts.old) entry.now }
     ensures changes { ChangesAllAlike (λ m. push_entry m entry.now) (node_of parts.old) (node_of parts.new) }
-    ensures order { IsInOrder parts.new.core }
+    ensures order { CoreFrontsAreInOrder parts.new.core }
 {
     parts.core.push(entry);
 }
 
-/// Trims the list up to a base, where that is greater, and stores an entry behind it.
+/// Trims the list up to a base, where that is greater, and stores an entry after it.
 pub fn store(parts: &mut Parts, base: u32, entry: &EntryRef)
     requires { CatcherMayStore (node_of parts.old) base entry.now }
     ensures changes { ChangesAllAlike (λ m. push_entry (trim_node_up_to m base) entry.now) (node_of parts.old)
         (node_of parts.new) }
     ensures steady { IsSteady (push_entry (node_of parts.old) entry.now) (node_of parts.new) }
-    ensures order { IsInOrder parts.new.core }
+    ensures order { CoreFrontsAreInOrder parts.new.core }
 {
     trim(parts, base);
     let _before = parts.accept_front();

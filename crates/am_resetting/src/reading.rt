@@ -1,5 +1,5 @@
 ghost use Rattle.std.specs.Prelude.{◌≡◌, ◌<◌, ◌≤◌, max, not};
-ghost use Rattle.am_node_parts.specs.Prelude.{greatest_number, top_of_log, stamps_are_equal, IsInOrder, has_own_leave, number_is_within_bound, view, node_of};
+ghost use Rattle.am_node_parts.specs.Prelude.{greatest_number, top_of_log, stamps_are_equal, CoreFrontsAreInOrder, has_own_leave, number_is_within_bound, view, node_of};
 
 use am_base::name::{Name, Stamp};
 use am_node_parts::parts::Parts;
@@ -15,7 +15,7 @@ pub fn is_same(a: &Stamp, b: &Stamp) -> bool
 }
 
 /// The same stamp.
-pub fn copy_of(stamp: &Stamp) -> Stamp
+pub fn copy_of_stamp(stamp: &Stamp) -> Stamp
     ensures { result ≡ stamp.now }
 {
     Stamp {
@@ -34,7 +34,7 @@ pub fn name_of(parts: &Parts) -> Name
 /// What it has promised.
 pub fn promise_of(parts: &Parts) -> Stamp
     ensures value { result ≡ parts.now.core.promise }
-    ensures order { IsInOrder parts.now.core }
+    ensures order { CoreFrontsAreInOrder parts.now.core }
 {
     parts.core.promise
 }
@@ -57,7 +57,7 @@ pub fn taken_of(parts: &Parts) -> u32
 pub fn last_of(parts: &Parts) -> u32
     ensures value { result ≡ top_of_log parts.now.core.log }
     ensures within { result ≤ greatest_number }
-    ensures order { IsInOrder parts.now.core }
+    ensures order { CoreFrontsAreInOrder parts.now.core }
 {
     parts.core.log.top()
 }
@@ -78,7 +78,7 @@ pub fn has_own_leave(parts: &Parts) -> bool
 }
 
 /// Whether a number is beyond the bound of the greater of two bases.
-pub fn is_beyond(parts: &Parts, base: u32, number: u32) -> bool
+pub fn is_beyond_bound(parts: &Parts, base: u32, number: u32) -> bool
     ensures { result ≡ not (number_is_within_bound (node_of parts.now)
         (max parts.now.core.base base) number) }
 {

@@ -1,5 +1,5 @@
 ghost use Rattle.std.specs.Prelude.{◌≡◌, ◌≢◌, ◌<◌, ◌+◌, Some, None, true, false, not, ◌&&◌, ◌||◌};
-ghost use Rattle.am_node_parts.specs.Prelude.{image_of_node, greatest_number, StampIsInRange, top_of_log, has, stamp_is_less, IsInOrder, has_log_by_status, is_member, members, other_members, Node, IsOwnBallot, node_of};
+ghost use Rattle.am_node_parts.specs.Prelude.{image_of_node, greatest_number, StampIsInRange, top_of_log, has, stamp_is_less, CoreFrontsAreInOrder, has_log_by_status, is_member, members, other_members, Node, IsOwnBallot, node_of};
 ghost use Rattle.am_ballots.specs.Kept.{ballot_of};
 ghost use Rattle.am_model.specs.Emit as emit;
 ghost use Rattle.am_model.specs.Ballots.{keep_vote_in_ballot, give_up_in_ballot, begin_ballot, next_stamp};
@@ -10,7 +10,7 @@ ghost use Rattle.am_node_parts.specs.Replies.{Replies};
 
 use crate::deciding::decide;
 use crate::promising::{put_back, raise_promise, take_ballot};
-use crate::reading::{copy_of, name_of, promise_of};
+use crate::reading::{copy_of_stamp, name_of, promise_of};
 use am_ballots::ballot::Ballot;
 use am_base::image::Vote;
 use am_base::limits::MOST_RESILIENCE;
@@ -25,7 +25,7 @@ use am_node_storage::log::Log;
 
 /// The members without the node itself.
 fn others_of(parts: &Parts) -> Names
-    requires { IsInOrder parts.now.core }
+    requires { CoreFrontsAreInOrder parts.now.core }
     ensures { result ≡ other_members (node_of parts.now) }
 {
     parts.others()
@@ -74,7 +74,7 @@ fn is_stale(parts: &Parts, stamp: &Stamp, ballot: &Ballot) -> bool
     ensures { result ≡ (stamp_is_less stamp.now parts.now.core.promise
         || not (is_open_ballot stamp.now (ballot_of ballot.now))) }
 {
-    copy_of(stamp).is_below(promise_of(parts)) || !ballot.is_open(copy_of(stamp))
+    copy_of_stamp(stamp).is_below(promise_of(parts)) || !ballot.is_open(copy_of_stamp(stamp))
 }
 
 /// What a vote does to a ballot that was taken out of the parts.
@@ -85,7 +85,7 @@ fn take_vote<'a>(
     vote: &Vote,
     ballot: Ballot,
 ) -> Reply<'a>
-    requires order { IsInOrder parts.old.core }
+    requires order { CoreFrontsAreInOrder parts.old.core }
     requires out { (node_of parts.old).ballot ≡ None }
     requires own { IsOwnBallot (node_of parts.old) (ballot_of ballot) }
     requires number { top_of_log parts.old.core.log < greatest_number }
@@ -114,8 +114,8 @@ pub fn on_vote<'a>(parts: &mut Parts, from: Name, stamp: Stamp, vote: &Vote) -> 
     requires other { from ≢ parts.old.core.who }
     ensures { Replies (vote_row (node_of parts.old) from stamp vote.now) result (node_of parts.new) }
 {
-    if promise_of(parts).is_below(copy_of(&stamp)) {
-        let by = copy_of(&stamp);
+    if promise_of(parts).is_below(copy_of_stamp(&stamp)) {
+        let by = copy_of_stamp(&stamp);
         raise_promise(parts, stamp);
         return quiet(Outcome::Overtaken { by });
     }
@@ -133,7 +133,7 @@ pub fn on_invite<'a>(parts: &mut Parts, from: Name, stamp: Stamp) -> Reply<'a>
 {
     let promise = promise_of(parts);
     let vote = note_to(from, Note::Vote);
-    if copy_of(&stamp).is_below(copy_of(&promise)) {
+    if copy_of_stamp(&stamp).is_below(copy_of_stamp(&promise)) {
         return saying(Outcome::Newer { promise }, vote);
     }
     raise_promise(parts, stamp);
@@ -142,7 +142,7 @@ pub fn on_invite<'a>(parts: &mut Parts, from: Name, stamp: Stamp) -> Reply<'a>
 
 /// What giving up a name does to a ballot that was taken out of the parts.
 fn give_up_of<'a>(parts: &mut Parts, name: Name, ballot: Ballot) -> Reply<'a>
-    requires order { IsInOrder parts.old.core }
+    requires order { CoreFrontsAreInOrder parts.old.core }
     requires out { (node_of parts.old).ballot ≡ None }
     requires own { IsOwnBallot (node_of parts.old) (ballot_of ballot) }
     requires number { top_of_log parts.old.core.log < greatest_number }
@@ -198,7 +198,7 @@ fn drop_ballot(parts: &mut Parts)
 
 /// A ballot begins in place of the last one.
 fn begin<'a>(parts: &mut Parts, least: u8, resilience: u8) -> Reply<'a>
-    requires order { IsInOrder parts.old.core }
+    requires order { CoreFrontsAreInOrder parts.old.core }
     requires round { parts.old.core.promise.round < greatest_number }
     requires number { top_of_log parts.old.core.log < greatest_number }
     requires logged { has_log_by_status parts.old.status ≡ true }
@@ -206,7 +206,11 @@ fn begin<'a>(parts: &mut Parts, least: u8, resilience: u8) -> Reply<'a>
 {
     let stamp = next_stamp(parts);
     let invited = others_of(parts);
-    let ballot = Ballot::new(copy_of(&stamp), least, resilience.min(MOST_RESILIENCE));
+    let ballot = Ballot::new(
+        copy_of_stamp(&stamp),
+        least,
+        resilience.min(MOST_RESILIENCE),
+    );
     drop_ballot(parts);
     raise_promise(parts, stamp);
     let outcome = decide(parts, ballot);

@@ -14,7 +14,7 @@ use Rattle.am_base.proofs.Places.{sixteen_items_are_by_place}
 use Rattle.am_model.specs.Node.{map_with_value}
 use Rattle.am_model.specs.Step.{step}
 use Rattle.am_group_defs.specs.World.{world_after_node_event, world_after_give_up, world_after_stop, world_after_return}
-use Rattle.am_safety.specs.Records.{returned_as, names_after, names_told, AreTold, first_names, names_in, LivesTold, LivesAreTold, HasLife, IsBack}
+use Rattle.am_safety.specs.Records.{returned_as, names_after, names_told, AreTold, first_names, names_in, LivesTold, LivesAreTold, HasLife, ReturnAnswerHasLife}
 
 -- ---- one event
 
@@ -33,12 +33,12 @@ pub record EventTellsLife (w : World) (e : Event) (a : Act) (v : World) : Type 0
   pub event : new.event ≡ e
   pub life : new.life ≡ w.lives (place_of_name e.node)
   pub lives : v.lives ≡ lives_after w.lives (place_of_name e.node) a new.outcome
-  pub back : ((place : ℕ) → w.lives place ≤ 16) → IsBack a new.outcome
+  pub back : ((place : ℕ) → w.lives place ≤ 16) → ReturnAnswerHasLife a new.outcome
 
 -- an act that isn't a return
 record Stays (w : World) (e : Event) (a : Act) : Type 0 where
   same : (o : Outcome) → lives_after w.lives (place_of_name e.node) a o ≡ w.lives
-  back : (o : Outcome) → IsBack a o
+  back : (o : Outcome) → ReturnAnswerHasLife a o
 
 record_tells : (w u : World) (e : Event) (a : Act) (o : Outcome) → Stays w e a → u.records ≡ w.records → u.lives ≡ w.lives → EventTellsLife w e a (world_with_record u e o)
 unfolding world_with_record

@@ -148,7 +148,7 @@ acts_at : (rules : Rules) (events : List Event) (place : ℕ) (what : NodeEvent)
     → group.process_has_stopped (here rules events) (group.process_name (here rules events) (place_of_name place)) ≡ false
     → HasNumbersLeft ((run rules events).nodes (group.process_name (here rules events) (place_of_name place)))
     → MayBeGiven (here rules events) (group.process_name (here rules events) (place_of_name place)) what
-    → Follows rules (group.has_done (here rules events) (group.process_name (here rules events) (place_of_name place)) what)
+    → Follows rules (group.processes_after_event (here rules events) (group.process_name (here rules events) (place_of_name place)) what)
 unfolding happens world_with_step
 acts_at rules events place what range runs left may =
     let w = run rules events in
@@ -193,7 +193,7 @@ more : (rules : Rules) (events : List Event) (q : Processes) → StaysInRange ru
 more rules events q range (acts place what low runs left may) =
     let p = here rules events in
     let at : place_of_name place ≡ place = omega arith in
-    subst (λ k. Follows rules (group.has_done p (group.process_name p k) what)) at
+    subst (λ k. Follows rules (group.processes_after_event p (group.process_name p k) what)) at
     (acts_at rules events place what range (subst (λ k. group.process_has_stopped p (group.process_name p k) ≡ false) (sym at) runs)
     (subst (λ k. HasNumbersLeft (p.nodes (group.process_name p k))) (sym at) left) (subst (λ k. MayBeGiven p (group.process_name p k) what) (sym at) may))
 more rules events q range (stops place low runs) =

@@ -11,7 +11,7 @@ use Rattle.am_step_laws.proofs.Words.{end_refresh_rests_with_list, settle_change
 use Rattle.am_refinement.proofs.Words.{either}
 use Rattle.am_step_laws.proofs.ViewSteps.{plain_entry_keeps_image_view, image_after_view_has_it}
 use Rattle.am_step_laws.proofs.ViewChanges.{numbered_entry_is_no_view, welcomed_node_has_no_log, sequencer_is_member, hearing_member_has_log}
-use Rattle.am_safety.specs.Resiliences.{IsRaised, BeginsRaised, FirstIsView, ListRaised, NodeRaised, PacketRaised}
+use Rattle.am_safety.specs.Resiliences.{IsRaised, ListBeginsWithFoundingResilience, FirstIsView, ListRaised, NodeRaised, PacketRaised}
 use Rattle.am_step_laws.proofs.Receiving.{hearing_sequencer_acts}
 
 -- ---- images
@@ -62,7 +62,7 @@ some_taken _ _ some more = absurd (omega arith)
 
 -- what it tells up to a number
 pub image_at_base_is_raised : (rules : Rules) (log : Log) (base : ℕ) → ListRaised rules log → 0 < top_of_log log → log.start ≤ base
-    → BeginsRaised rules base (log_image_at log base)
+    → ListBeginsWithFoundingResilience rules base (log_image_at log base)
 unfolding image_after_entries
 image_at_base_is_raised rules log base h some kept = either h.begins
     (λ fresh. let start = fresh.0 in

@@ -22,7 +22,7 @@ use Rattle.am_step_laws.proofs.Named.{run_has_names}
 use Rattle.am_run_laws.proofs.SentKept.{EntryWasSent}
 use Rattle.am_run_laws.proofs.SentRuns.{WorldBodiesWereSent, events_keep_world_bodies_sent, start_has_all_bodies_sent}
 use Rattle.am_run_laws.specs.Ballots.{BallotsAreSound}
-use Rattle.am_safety.specs.Records.{AsksBytes, IsSayable, IsAnswerOfAct, IsSound, RecordsAreSound, queued_in, queued_by, requests_given, RecordedRequestsInTurn, IsBack}
+use Rattle.am_safety.specs.Records.{AsksBytes, IsSayable, IsAnswerOfAct, IsSound, RecordsAreSound, queued_in, queued_by, requests_given, RecordedRequestsInTurn, ReturnAnswerHasLife}
 use Rattle.am_safety.proofs.Names.{EntryHasSmallNames, run_names_are_small}
 use Rattle.am_safety.specs.Parts.{HasNumbersAt, HaveNumbers, StaysInRange}
 use Rattle.am_safety.proofs.Ranges.{bounds_of_all_numbers, all_bounds_are_numbers, event_stays_within_numbers}
@@ -243,8 +243,8 @@ record_sound rules es e range body numbers asks sound =
     subst (All IsSound) (sym adds.records) (All-append IsSound w.records (adds.new ∷ []) sound (All-cons IsSound adds.new [] (record {
       asks = subst AsksBytes (sym act) asks;
       answer = subst (λ a. IsAnswerOfAct a adds.new.outcome) (sym act) adds.answer;
-      back = subst (λ (r : Record). IsBack r.event.act r.outcome) (sym one)
-          (subst (λ (x : Event). IsBack x.act told.new.outcome) (sym told.event) back);
+      back = subst (λ (r : Record). ReturnAnswerHasLife r.event.act r.outcome) (sym one)
+          (subst (λ (x : Event). ReturnAnswerHasLife x.act told.new.outcome) (sym told.event) back);
     }) (All-nil IsSound)))
   where
     last_same : (xs : List Record) (x y : Record) → xs ++ x ∷ [] ≡ xs ++ y ∷ [] → x ≡ y

@@ -112,7 +112,7 @@ steps_of_records name w (e ∷ es) (happened ∷ later) = part_at name w e happe
 
 -- ---- a node alone
 
--- the node behind its parts
+-- the node after its parts
 unfoldable pub node_after_steps : Node → List NodeStep → Node
 node_after_steps m [] = m
 node_after_steps m (part ∷ parts) = node_after_steps (step m part.event).node parts

@@ -60,8 +60,8 @@ pub data MayBeGiven (p : Processes) (name : ℕ) : NodeEvent → Type 0 where
 abbrev pub process_step : Node → NodeEvent → NodeStep
 process_step m what = record { event = what; outcome = (step m what).outcome; letters = (step m what).letters }
 
-abbrev pub has_done : Processes → ℕ → NodeEvent → Processes
-has_done p name what = record p {
+abbrev pub processes_after_event : Processes → ℕ → NodeEvent → Processes
+processes_after_event p name what = record p {
   nodes = map_with_value p.nodes name (step (p.nodes name) what).node;
   parts = map_with_value p.parts name (p.parts name ++ process_step (p.nodes name) what ∷ []);
   letters = p.letters ++ (step (p.nodes name) what).letters;
@@ -80,7 +80,7 @@ process_lives_on p place = record p {
 pub data Goes (p : Processes) : Processes → Type 0 where
   -- a process that runs, and whose node has numbers left, does what it is given
   acts : (place : ℕ) (what : NodeEvent) → place < 16 → process_has_stopped p (process_name p place) ≡ false → HasNumbersLeft (p.nodes (process_name p place))
-      → MayBeGiven p (process_name p place) what → Goes p (has_done p (process_name p place) what)
+      → MayBeGiven p (process_name p place) what → Goes p (processes_after_event p (process_name p place) what)
   -- a process stops
   stops : (place : ℕ) → place < 16 → process_has_stopped p (process_name p place) ≡ false → Goes p (end_process p (process_name p place))
   -- where it has stopped or departed, its place has one of the next of sixteen lives

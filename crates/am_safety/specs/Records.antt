@@ -80,14 +80,14 @@ abbrev pub HasLife : Outcome → Type 0
 HasLife (said.Returned life) = (0 < life) × (life ≤ 16)
 HasLife _ = Unit {0}
 
-abbrev pub IsBack : Act → Outcome → Type 0
-IsBack acts.Return outcome = HasLife outcome
-IsBack _ outcome = Unit {0}
+abbrev pub ReturnAnswerHasLife : Act → Outcome → Type 0
+ReturnAnswerHasLife acts.Return outcome = HasLife outcome
+ReturnAnswerHasLife _ outcome = Unit {0}
 
 pub record IsSound (r : Record) : Type 0 where
   pub asks : AsksBytes r.event.act
   pub answer : IsAnswerOfAct r.event.act r.outcome
-  pub back : IsBack r.event.act r.outcome
+  pub back : ReturnAnswerHasLife r.event.act r.outcome
 
 pub record RunSound (w : World) : Type 0 where
   pub records : All IsSound w.records

@@ -33,8 +33,8 @@ GaveRaised rules r = GivesRaised rules r.outcome
 -- ---- lists
 
 -- what a list begins with: from nought on it tells nothing, and later no less resilience
-abbrev pub BeginsRaised : Rules → ℕ → Image → Type 0
-BeginsRaised rules start image = ((start ≡ 0) × (image ≡ blank)) ⊎ ((0 < start) × (rules.resilience ≤ image.resilience))
+abbrev pub ListBeginsWithFoundingResilience : Rules → ℕ → Image → Type 0
+ListBeginsWithFoundingResilience rules start image = ((start ≡ 0) × (image ≡ blank)) ⊎ ((0 < start) × (rules.resilience ≤ image.resilience))
 
 abbrev pub FirstIsView : List Entry → Type 0
 FirstIsView [] = Unit {0}
@@ -42,7 +42,7 @@ FirstIsView (e ∷ es) = is_view e ≡ true
 
 -- entry 1 is a View
 pub record ListRaised (rules : Rules) (log : Log) : Type 0 where
-  pub begins : BeginsRaised rules log.start log.image
+  pub begins : ListBeginsWithFoundingResilience rules log.start log.image
   pub first : log.start ≡ 0 → FirstIsView log.entries
   pub entries : All (IsRaised rules) log.entries
 
@@ -56,7 +56,7 @@ pub record NodeRaised (rules : Rules) (m : Node) : Type 0 where
 
 -- what a joiner's list begins with, what is fetched, and the View that a ballot decided
 abbrev pub PacketRaised : Rules → Packet → Type 0
-PacketRaised rules (packet.Welcome s v base join image) = (0 < v.round) × BeginsRaised rules base image
+PacketRaised rules (packet.Welcome s v base join image) = (0 < v.round) × ListBeginsWithFoundingResilience rules base image
 PacketRaised rules (packet.Piece s v base number e) = IsRaised rules e × (number ≡ 1 → is_view e ≡ true)
 PacketRaised rules (packet.Result s base number v) = 0 < number → rules.resilience ≤ v.resilience
 PacketRaised rules _ = Unit {0}

@@ -10,7 +10,7 @@ use Rattle.serde_json.specs.Find.{as_u64}
 use Rattle.serde_json.specs.Read.{is_integer, number_of}
 use Rattle.fast_float.specs.Text.{Parts, digits_of}
 
--- a member goes in behind those before it, so the last value of a key stays
+-- a member goes in after those before it, so the last value of a key stays
 abbrev mutual
   pub data_of : json.Json → Data
   data_of json.null = null

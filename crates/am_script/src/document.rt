@@ -15,7 +15,7 @@ use std::alloc::{AllocError, Global};
 /// How deep arrays and objects may nest.
 const MOST_DEPTH: usize = 127;
 
-/// A number's sign and what stands behind it.
+/// A number's sign and what stands after it.
 #[tactic(auto, unfolding(serde_json::specs::Read::number_of))]
 fn parts(text: &str) -> (bool, Numeral<'_>)
     ensures { number_of text.now ≡ number_from result.0 result.1 }

@@ -46,7 +46,7 @@ pub fn value_in<'v, 'a>(object: &'v Value<'a>, key: ScriptKey, place: u64) -> Re
     }
 }
 
-/// The value behind the key that is asked for, where that is the one key of a document.
+/// The value of the key that is asked for, where that is the one key of a document.
 #[tactic(auto, unfolding(am_script_defs::specs::Scripts::behind))]
 pub fn behind<'v, 'a>(asked: ScriptKey, document: &'v Value<'a>) -> Read<&'v Value<'a>>
     ensures { result_map_both (λ v. seen v.now) (λ e. e) result ≡ behind asked (seen document.now) }

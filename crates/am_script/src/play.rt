@@ -2,7 +2,7 @@ ghost use Rattle.std.specs.Prelude.{◌≡◌, ◌≤◌};
 ghost use Rattle.am_script.specs.Seen.{seen, items_seen};
 ghost use Rattle.am_script_defs.specs.Refusals.{Answers};
 ghost use Rattle.am_script_defs.specs.Events.{event_from, events_from};
-ghost use Rattle.am_script_defs.specs.Values.{each_from};
+ghost use Rattle.am_script_defs.specs.Values.{items_read_from};
 ghost use Rattle.am_script_defs.specs.Scripts.{play_from};
 
 use crate::event::event;
@@ -30,7 +30,7 @@ const PLAY_KEYS: [ScriptKey; 6] = [
 /// The events that values tell, in order, counted from 1.
 fn each_event(alloc: Global, list: &[Value], founding: u8) -> Read<Items<Event>>
     requires { founding ≤ 15 }
-    ensures { Answers (each_from (event_from founding) 1 (items_seen list.now)) result }
+    ensures { Answers (items_read_from (event_from founding) 1 (items_seen list.now)) result }
 {
     let mut events = Items::with_room(alloc, list.len())?;
     for (before, value) in list.iter().enumerate() {

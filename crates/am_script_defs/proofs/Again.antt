@@ -29,7 +29,7 @@ use Rattle.am_script_defs.specs.Events.{kind_of_word, event_kind_in, event_as, e
 use Rattle.am_script_defs.specs.Founders.{each_founder, founders_from, founding_in}
 use Rattle.am_script_defs.specs.Scripts.{script_of, play_from, parts_of_play, behind, document_from, document_in, script_reading}
 use Rattle.am_script_defs.specs.Limits.{ScriptIsWithin, EventWithin, ActWithin}
-use Rattle.am_script_defs.specs.Values.{each_from, number_within, body_from, is_digit}
+use Rattle.am_script_defs.specs.Values.{items_read_from, number_within, body_from, is_digit}
 use Rattle.am_script_defs.proofs.Documents.{number_of_script_as_data, data_of_script_event, items_of_script_events, items_of_script_places, data_of_script_play, document_of_script}
 use Rattle.am_script_defs.specs.Schedules.{IsOfBytes, AreOfBytes, script_text}
 use Rattle.am_script_defs.proofs.Written.{names_from_length_is_size}
@@ -125,7 +125,7 @@ event_again rules number node (acts.Cut packet keep) h w bytes =
 event_again rules number node acts.Return h w bytes = rw (seat_within key.Node number node h) refl
 
 each_again : (rules : Rules) (number : ℕ) (events : List Event) → All EventWithin events → AreOfBytes events
-    → each_from (event_from rules.resilience) number (items_of_script_events rules events) ≡ Ok events
+    → items_read_from (event_from rules.resilience) number (items_of_script_events rules events) ≡ Ok events
 each_again rules number [] w bytes = refl
 each_again rules number (event ∷ events) w bytes =
     let one = All-head EventWithin event events w in

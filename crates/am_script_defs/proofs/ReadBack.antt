@@ -65,7 +65,7 @@ worded word place =
     let p = seat place in
     record { numbers = (tt, (IsNumber-decimal (place % 16) p, tt)); shallow = omega arith; same = rw (number_of-decimal (place % 16) p) refl }
 
--- with a number behind its node
+-- with a number after its node
 numbered : (word : List ℕ) (place n : ℕ) (key : List ℕ) → n < 2 ^ 64
     → ((d : Data) → put key d (member (codes "do") (string word) (member (codes "node") (number_of_script_as_data (place_of_name place)) no_members))
     ≡ member (codes "do") (string word) (member (codes "node") (number_of_script_as_data (place_of_name place)) (member key d no_members)))

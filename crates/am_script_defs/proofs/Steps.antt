@@ -13,7 +13,7 @@ use Rattle.am_script_defs.specs.declared.refusal.ScriptRefusal.TheVariants.{BadV
 use Rattle.am_script_defs.specs.Keys.{has_only, value_at}
 use Rattle.am_script_defs.specs.Refusals.{ReadOrRefused, ◌>>=◌, Answers}
 use Rattle.am_script_defs.specs.Scripts.{behind}
-use Rattle.am_script_defs.specs.Values.{of_object, object_with, each_from, value_in, number_within, number_at_key, number_or}
+use Rattle.am_script_defs.specs.Values.{of_object, object_with, items_read_from, value_in, number_within, number_at_key, number_or}
 
 pub ok_of_read_is_injective : {A : Type 0} (x y : A) → (let r : ReadOrRefused A = Ok x in r) ≡ Ok y → x ≡ y
 ok_of_read_is_injective x y h = cc
@@ -31,7 +31,7 @@ of_object_of_bound_read k place d a f = either (is_some (as_object d))
     either true = refl
     either false = refl
 
--- what holds of all that may be read behind a document's one key holds of the answer
+-- what holds of all that may be read of a document's one key holds of the answer
 pub answer_behind_key_is_ok : {A : Type 0} (P : A → Type 0) (k : ScriptKey) (from : Data → ReadOrRefused A) → ((v : Data) (x : A) → from v ≡ Ok x → P x) → (d : Data)
     (r : Result A ScriptRefusal) → Answers (behind k d >>= from) r → IfOk r P
 answer_behind_key_is_ok P k from holds d (Ok x) is = ok_of_bound_read (behind k d) from x is (λ v there told. holds v x told)
@@ -55,10 +55,10 @@ ok_of_object_with_keys keys k d a y h then = ok_of_read_if_true (is_some (as_obj
 
 -- what holds of each item holds of all
 pub each_read_is_within : {A : Type 0} (P : A → Type 0) (one : ℕ → Data → ReadOrRefused A) → ((place : ℕ) (d : Data) (x : A) → one place d ≡ Ok x → P x)
-    → (place : ℕ) (ds : Items) (xs : List A) → each_from one place ds ≡ Ok xs → All P xs
+    → (place : ℕ) (ds : Items) (xs : List A) → items_read_from one place ds ≡ Ok xs → All P xs
 each_read_is_within P one fits place no_items xs h = subst (λ ys. All P ys) (ok_of_read_is_injective [] xs h) (λ k d lt. absurd (omega arith))
 each_read_is_within P one fits place (item d ds) xs h = ok_of_bound_read (one place d) _ xs h
-    (λ x told rest. ok_of_bound_read (each_from one (place + 1) ds) _ xs rest (λ more others is.
+    (λ x told rest. ok_of_bound_read (items_read_from one (place + 1) ds) _ xs rest (λ more others is.
     subst (λ ys. All P ys) (ok_of_read_is_injective _ xs is) (All-cons P x more (fits place d x told) (each_read_is_within P one fits (place + 1) ds more others))))
 
 pub number_from_is_within : (k : ScriptKey) (place least most : ℕ) (d : Data) (n : ℕ) → number_within k place least most d ≡ Ok n → (least ≤ n) × (n ≤ most)

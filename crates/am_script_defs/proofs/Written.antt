@@ -47,7 +47,7 @@ unfolding json_on_literals
 resilience_behind rules r true = refl
 resilience_behind rules r false = refl
 
--- what stands behind the node's number
+-- what stands after the node's number
 behind : (rules : Rules) (act : Act) → members_text true (members_after_node_of_act rules act) ≡ keys_behind rules act ++ codes "}"
 unfolding keys_behind resilience_json json_on_literals
 behind rules (acts.Done req) = refl
@@ -91,7 +91,7 @@ before acts.Stop rest = refl
 before acts.Tick rest = refl
 before acts.Return rest = refl
 
--- the word and what is behind it, as members and as text
+-- the word and what is after it, as members and as text
 abbrev worded : Act → Members → List ℕ
 worded act rest = quoted (codes "do") ++ 58 ∷ (quoted (act_word act) ++ members_text true (members_before_node_of_act act rest))
 
@@ -112,7 +112,7 @@ said (acts.Hear packet) rest = ap (λ (xs : List ℕ). codes "\"do\":\"hear\"" +
 said (acts.Cut packet keep) rest = ap (λ (xs : List ℕ). codes "\"do\":\"cut\"" ++ xs) (before (acts.Cut packet keep) rest)
 said acts.Return rest = ap (λ (xs : List ℕ). codes "\"do\":\"return\"" ++ xs) (before acts.Return rest)
 
--- the node and what is behind it
+-- the node and what is after it
 node : (rules : Rules) (event : Event) → members_text true (member (codes "node") (number_of_script_as_data (place_of_name event.node)) (members_after_node_of_act rules event.act))
     ≡ codes ",\"node\":" ++ (decimal (place_of_name event.node) ++ (keys_behind rules event.act ++ codes "}"))
 unfolding json_on_literals
@@ -225,7 +225,7 @@ founders_written rules may =
     (first_from 0 rules.founders may.first_lives (omega (arith, may.names.places)))
     (omega (arith, names_from_length_is_size 0 rules.founders, may.somebody))
 
--- behind the events
+-- after the events
 abbrev ending : Rules → List ℕ
 ending rules = codes "," ++ (founders_json rules ++ (codes "," ++ (numbers_json rules ++ codes "}}")))
 

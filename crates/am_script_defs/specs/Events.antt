@@ -15,7 +15,7 @@ use Rattle.am_script_defs.specs.declared.kind.EventKind.TheVariants.{Send, Done,
 use Rattle.am_script_defs.specs.declared.refusal.ScriptRefusal.TheVariants.{Unknown, BadValue}
 use Rattle.am_script_defs.specs.Keys.{has_only}
 use Rattle.am_script_defs.specs.Refusals.{ReadOrRefused, ◌>>=◌}
-use Rattle.am_script_defs.specs.Values.{of_object, each_from, text_in, number_at_key, number_or, body_from}
+use Rattle.am_script_defs.specs.Values.{of_object, items_read_from, text_in, number_at_key, number_or, body_from}
 
 -- the first kind that has this word
 abbrev pub kind_named : List ℕ → List (List ℕ × EventKind) → Option EventKind
@@ -107,4 +107,4 @@ event_from founding place d = of_object key.Events place d (event_kind_in place 
 
 -- an array of any number of events, which are counted from 1
 unfoldable pub events_from : ℕ → Data → ReadOrRefused (List Event)
-events_from founding d = ok_or (as_array d) (BadValue key.Events 0) >>= each_from (event_from founding) 1
+events_from founding d = ok_or (as_array d) (BadValue key.Events 0) >>= items_read_from (event_from founding) 1

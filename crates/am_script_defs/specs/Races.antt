@@ -15,7 +15,7 @@ use Rattle.am_script_defs.specs.declared.kind.EventKind.TheVariants.{Send, Take,
 use Rattle.am_script_defs.specs.declared.refusal.ScriptRefusal.TheVariants.{NotJson, Unknown, BadValue, OutOfRange}
 use Rattle.am_script_defs.specs.Keys.{has_only}
 use Rattle.am_script_defs.specs.Refusals.{ReadOrRefused, ◌>>=◌}
-use Rattle.am_script_defs.specs.Values.{of_object, object_with, each_from, value_in, number_at_key, number_or}
+use Rattle.am_script_defs.specs.Values.{of_object, object_with, items_read_from, value_in, number_at_key, number_or}
 use Rattle.am_script_defs.specs.Events.{event_kind_in, act_in}
 use Rattle.am_script_defs.specs.Founders.{founding_in}
 use Rattle.am_script_defs.specs.Scripts.{behind, document_in}
@@ -70,7 +70,7 @@ call_from founding place d = of_object key.Calls place d (call_kind_in place d >
 
 -- an array of any number of calls
 unfoldable pub calls_from : ℕ → ℕ → Data → ReadOrRefused (List Act)
-calls_from founding place d = ok_or (as_array d) (BadValue key.Calls 0) >>= each_from (call_from founding) place
+calls_from founding place d = ok_or (as_array d) (BadValue key.Calls 0) >>= items_read_from (call_from founding) place
 
 -- ---- threads
 

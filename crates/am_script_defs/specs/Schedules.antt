@@ -29,7 +29,7 @@ keys_before (acts.GiveUp name) = life_json name ++ (codes ",\"name\":" ++ decima
 keys_before (acts.Cut packet keep) = codes ",\"keep\":" ++ decimal keep
 keys_before act = []
 
--- an act's keys behind the node
+-- an act's keys after the node
 unfoldable pub keys_behind : Rules → Act → List ℕ
 keys_behind rules (acts.Done req) = codes ",\"req\":" ++ decimal req
 keys_behind rules (acts.Reset least resilience) = resilience_json rules resilience

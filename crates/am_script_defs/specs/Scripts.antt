@@ -19,7 +19,7 @@ use Rattle.am_script_defs.specs.Events.{events_from}
 abbrev pub play_keys : List ScriptKey
 play_keys = key.Founders ∷ key.Resilience ∷ key.Window ∷ key.PbUpTo ∷ key.Settle ∷ key.Events ∷ []
 
--- the script of a founding and events, settled behind them or not
+-- the script of a founding and events, settled after them or not
 abbrev pub script_of : Rules → List Event → Bool → Script
 script_of founding events settle = record { founding = founding; events = events; settle = settle }
 
@@ -36,7 +36,7 @@ parts_of_play d = do
 unfoldable pub play_from : Data → ReadOrRefused Script
 play_from d = object_with play_keys key.Play d (parts_of_play d)
 
--- the value behind the key that is asked for, which is a document's one key
+-- the value of the key that is asked for, which is a document's one key
 unfoldable pub behind : ScriptKey → Data → ReadOrRefused Data
 behind asked d = of_object key.Top 0 d (value_in asked 0 d >>= λ v. if has_only (asked ∷ []) d then Ok v else Err (Unknown 0))
 

@@ -22,9 +22,9 @@ abbrev pub object_with : {A : Type 0} → List ScriptKey → ScriptKey → Data 
 object_with keys key d inner = of_object key 0 d (if has_only keys d then inner else Err (Unknown 0))
 
 -- the items of an array, each as one is read, by their numbers from this one on
-abbrev pub each_from : {A : Type 0} → (ℕ → Data → ReadOrRefused A) → ℕ → Items → ReadOrRefused (List A)
-each_from one place no_items = Ok []
-each_from one place (item d ds) = one place d >>= λ x. each_from one (place + 1) ds >>= λ xs. Ok (x ∷ xs)
+abbrev pub items_read_from : {A : Type 0} → (ℕ → Data → ReadOrRefused A) → ℕ → Items → ReadOrRefused (List A)
+items_read_from one place no_items = Ok []
+items_read_from one place (item d ds) = one place d >>= λ x. items_read_from one (place + 1) ds >>= λ xs. Ok (x ∷ xs)
 
 -- the value at a key that must be there
 abbrev pub value_in : ScriptKey → ℕ → Data → ReadOrRefused Data

@@ -11,7 +11,7 @@ use Rattle.am_service_defs.specs.Assembling.{Assembly, no_parts, after_entry, as
 use Rattle.am_service_defs.proofs.Fold.{messages_assemble}
 use Rattle.am_service_defs.specs.Commands.{Command, command_of}
 use Rattle.am_service_defs.specs.Contents.{Contents, applied, after_read, contents_with, contents_from}
-use Rattle.am_service_defs.specs.Replicas.{or_else, snapshot_for, first_behind, first_snapshot, replica_contents, ReplicaState}
+use Rattle.am_service_defs.specs.Replicas.{or_else, snapshot_for, first_snapshot_after, first_snapshot, replica_contents, ReplicaState}
 use Rattle.am_service_defs.specs.Replicas.{begin_waiting, shown, held_with, apply_held, arrived, fed, ReplicasShow}
 
 pub fold_of_pushed_item : {A B : Type 0} (f : B → A → B) (b : B) (xs : List A) (x : A) → fold f b (xs ++ x ∷ []) ≡ f (fold f b xs) x
@@ -129,10 +129,10 @@ wait_on start before rest pair h =
 -- what the definition says where an entry is the first that is left
 first_more : (start : ℕ) (before rest : List (ℕ × Entry)) (pair : ℕ × Entry) (o : Option Contents)
     → snapshot_for start (message_at (entries_of (before ++ pair ∷ []))) ≡ o
-    → first_behind start (entries_of before) (entries_of (pair ∷ rest)) ≡ or_else o (first_behind start (entries_of (before ++ pair ∷ [])) (entries_of rest))
+    → first_snapshot_after start (entries_of before) (entries_of (pair ∷ rest)) ≡ or_else o (first_snapshot_after start (entries_of (before ++ pair ∷ [])) (entries_of rest))
 first_more start before rest pair o h =
-    ap (λ (es : List Entry). or_else (snapshot_for start (message_at es)) (first_behind start es (entries_of rest))) (sym (entries_push before pair))
-    ∙ ap (λ (x : Option Contents). or_else x (first_behind start (entries_of (before ++ pair ∷ [])) (entries_of rest))) h
+    ap (λ (es : List Entry). or_else (snapshot_for start (message_at es)) (first_snapshot_after start es (entries_of rest))) (sym (entries_push before pair))
+    ∙ ap (λ (x : Option Contents). or_else x (first_snapshot_after start (entries_of (before ++ pair ∷ [])) (entries_of rest))) h
 
 joined : (before rest : List (ℕ × Entry)) (pair : ℕ × Entry) → before ++ pair ∷ [] ++ rest ≡ before ++ pair ∷ rest
 joined before rest pair = append_assoc before (pair ∷ []) rest
@@ -140,12 +140,12 @@ joined before rest pair = append_assoc before (pair ∷ []) rest
 wait_more : (start : ℕ) (before rest : List (ℕ × Entry)) (pair : ℕ × Entry) (o : Option Contents)
     → snapshot_for start (message_at (entries_of (before ++ pair ∷ []))) ≡ o
     → shown (fold step (so_far start (before ++ pair ∷ [])) rest)
-    ≡ option_map (λ c. contents_from c (before ++ pair ∷ [] ++ rest)) (first_behind start (entries_of (before ++ pair ∷ [])) (entries_of rest))
+    ≡ option_map (λ c. contents_from c (before ++ pair ∷ [] ++ rest)) (first_snapshot_after start (entries_of (before ++ pair ∷ [])) (entries_of rest))
     → shown (fold step (so_far start before) (pair ∷ rest))
-    ≡ option_map (λ c. contents_from c (before ++ pair ∷ rest)) (first_behind start (entries_of before) (entries_of (pair ∷ rest)))
+    ≡ option_map (λ c. contents_from c (before ++ pair ∷ rest)) (first_snapshot_after start (entries_of before) (entries_of (pair ∷ rest)))
 wait_more start before rest pair None h later =
     ap (λ (s : ReplicaState). shown s) (wait_on start before rest pair h) ∙ later
-    ∙ ap (λ (xs : List (ℕ × Entry)). option_map (λ c. contents_from c xs) (first_behind start (entries_of (before ++ pair ∷ [])) (entries_of rest)))
+    ∙ ap (λ (xs : List (ℕ × Entry)). option_map (λ c. contents_from c xs) (first_snapshot_after start (entries_of (before ++ pair ∷ [])) (entries_of rest)))
     (joined before rest pair)
     ∙ ap (λ (x : Option Contents). option_map (λ c. contents_from c (before ++ pair ∷ rest)) x) (sym (first_more start before rest pair None h))
 wait_more start before rest pair (Some contents) h later =
@@ -154,7 +154,7 @@ wait_more start before rest pair (Some contents) h later =
     ∙ ap (λ (x : Option Contents). option_map (λ c. contents_from c (before ++ pair ∷ rest)) x) (sym (first_more start before rest pair (Some contents) h))
 
 wait_all : (start : ℕ) (before rest : List (ℕ × Entry)) → shown (fold step (so_far start before) rest)
-    ≡ option_map (λ c. contents_from c (before ++ rest)) (first_behind start (entries_of before) (entries_of rest))
+    ≡ option_map (λ c. contents_from c (before ++ rest)) (first_snapshot_after start (entries_of before) (entries_of rest))
 wait_all start before [] = refl
 wait_all start before (pair ∷ rest) =
     wait_more start before rest pair (snapshot_for start (message_at (entries_of (before ++ pair ∷ [])))) refl (wait_all start (before ++ pair ∷ []) rest)
@@ -164,7 +164,7 @@ show_by : (start : ℕ) (pairs : List (ℕ × Entry)) (b : Bool) → shown (fold
   waiting = cond b None (Some begin_waiting);
   contents = [];
 }) pairs)
-    ≡ cond b (Some (contents_from [] pairs)) (option_map (λ c. contents_from c pairs) (first_behind start [] (entries_of pairs)))
+    ≡ cond b (Some (contents_from [] pairs)) (option_map (λ c. contents_from c pairs) (first_snapshot_after start [] (entries_of pairs)))
 show_by start pairs true = ap (λ (s : ReplicaState). shown s) (ready_all start [] pairs)
 show_by start pairs false = wait_all start [] pairs
 

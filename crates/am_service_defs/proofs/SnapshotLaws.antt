@@ -40,7 +40,7 @@ ordering_is_less Greater h = cc
 
 -- ---- what is read is spelled so
 
--- what stands in front of bytes, and that those behind are bytes too
+-- what stands in front of bytes, and that those after are bytes too
 record IsNumbered (count : ℕ) (bytes : List ℕ) (n : Numbered) : Type 0 where
   pub same : bytes ≡ big_bytes count n.number ++ n.rest
   pub rest : IsBytes n.rest
@@ -72,7 +72,7 @@ limited_is bytes n fits h =
     let number : NumberIsInRange b.0.number = grind (arith, nat_tests, p.0) in
     subst (λ (m : Numbered). IsLimited bytes m) same (record { numbered = numbered_is 4 bytes b.0 fits b.1; number = number })
 
--- the bytes behind a front of bytes
+-- the bytes after a front of bytes
 behind : (first rest bytes : List ℕ) → bytes ≡ first ++ rest → IsBytes bytes → IsBytes rest
 behind first rest bytes e fits =
     subst (λ (xs : List ℕ). IsBytes xs) (drop_at first rest (length first) refl)
@@ -122,7 +122,7 @@ all_cons P x xs p all (suc k) d below = all k d (omega (arith, below))
 none_has : {X : Type 0} (P : X → Type 0) → All P []
 none_has P k d below = absurd (omega arith)
 
--- settings that are read, from behind a key on
+-- settings that are read, from after a key on
 record AreRead (count : ℕ) (last : Option (List ℕ)) (bytes : List ℕ) (contents : Contents) : Type 0 where
   pub same : bytes ≡ flat_map setting_bytes contents
   pub many : length contents ≡ count

@@ -164,7 +164,7 @@ same_part : (index count other : ℕ) (payload given : List ℕ) → other ≡ c
     → ◌≡◌ {A = Part} (record { index = index; count = count; payload = payload }) (record { index = index; count = other; payload = given })
 same_part index count other payload given c p = cc
 
--- a message with a part at its place, and so many bytes behind it
+-- a message with a part at its place, and so many bytes after it
 around : Part → ℕ → List ℕ
 around p behind = replicate (1019 * p.index) 0 ++ (p.payload ++ replicate behind 0)
 

@@ -25,17 +25,17 @@ abbrev pub is_empty : List ℕ → Bool
 is_empty [] = true
 is_empty (byte ∷ bytes) = false
 
--- a field with nothing behind it
+-- a field with nothing after it
 abbrev pub sole : Cut → Option (List ℕ)
 sole cut = if is_empty cut.rest then Some cut.field else None
 
--- a value with nothing behind it
+-- a value with nothing after it
 unfoldable pub value_in_body : List ℕ → Option (List ℕ)
 value_in_body bytes = do
   value ← field_in 0 most_value bytes
   sole value
 
--- the command of a kind, a key and the bytes behind that
+-- the command of a kind, a key and the bytes after that
 unfoldable pub of_kind : ℕ → Cut → Option Command
 of_kind kind key =
     if kind == 1 then option_map (Put key.field) (value_in_body key.rest)

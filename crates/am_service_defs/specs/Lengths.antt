@@ -1,4 +1,4 @@
--- What commands and snapshots are made of: fields of a length, and numbers, each with the bytes behind it.
+-- What commands and snapshots are made of: fields of a length, and numbers, each with the bytes after it.
 use Rattle.std.specs.Prelude.{ℕ, List, [], ◌∷◌, length, take, drop, ◌&&◌, nat_le, if◌then◌else◌, Option, Some, None}
 use Rattle.byteorder.specs.Endian.{big_number}
 
@@ -7,7 +7,7 @@ abbrev pub ◌>>=◌ : {A B : Type 0} → Option A → (A → Option B) → Opti
 (Some x) >>= f = f x
 None >>= f = None
 
--- bytes, and those behind them
+-- bytes, and those after them
 pub record Cut : Type 0 where
   pub field : List ℕ
   pub rest : List ℕ
@@ -25,7 +25,7 @@ unfoldable pub field_in : ℕ → ℕ → List ℕ → Option Cut
 field_in least most [] = None
 field_in least most (count ∷ bytes) = if nat_le least count && nat_le count most then cut_at count bytes else None
 
--- a number, and the bytes behind it
+-- a number, and the bytes after it
 pub record Numbered : Type 0 where
   pub number : ℕ
   pub rest : List ℕ

@@ -6,8 +6,8 @@ use Rattle.am_base.specs.declared.entry.Entry.{Entry}
 use Rattle.am_base.specs.declared.entry.Entry.TheVariants as entries
 use Rattle.am_service_defs.specs.Messages.{entries_of, message_at}
 use Rattle.am_service_defs.specs.Assembling.{Assembly, no_parts, after_entry}
-use Rattle.am_service_defs.specs.declared.step.Step.{Step}
-use Rattle.am_service_defs.specs.declared.step.Step.TheVariants as steps
+use Rattle.am_service_defs.specs.declared.step.ReplicaStep.{ReplicaStep}
+use Rattle.am_service_defs.specs.declared.step.ReplicaStep.TheVariants as steps
 use Rattle.am_service_defs.specs.Commands.{command_of}
 use Rattle.am_service_defs.specs.Contents.{Contents, applied, body_answer, contents_with, contents_from}
 use Rattle.am_service_defs.specs.Snapshots.{snapshot_in}
@@ -30,14 +30,14 @@ abbrev pub snapshot_for : ℕ → Option (ℕ × List ℕ) → Option Contents
 snapshot_for start None = None
 snapshot_for start (Some message) = for_message start message.1
 
--- the contents of the first message that ends in a list, behind so much of it, and is a snapshot for this Join
-abbrev pub first_behind : ℕ → List Entry → List Entry → Option Contents
-first_behind start before [] = None
-first_behind start before (entry ∷ rest) =
-    or_else (snapshot_for start (message_at (before ++ entry ∷ []))) (first_behind start (before ++ entry ∷ []) rest)
+-- the contents of the first message that ends in a list, after so much of it, and is a snapshot for this Join
+abbrev pub first_snapshot_after : ℕ → List Entry → List Entry → Option Contents
+first_snapshot_after start before [] = None
+first_snapshot_after start before (entry ∷ rest) =
+    or_else (snapshot_for start (message_at (before ++ entry ∷ []))) (first_snapshot_after start (before ++ entry ∷ []) rest)
 
 unfoldable pub first_snapshot : ℕ → List (ℕ × Entry) → Option Contents
-first_snapshot start pairs = first_behind start [] (entries_of pairs)
+first_snapshot start pairs = first_snapshot_after start [] (entries_of pairs)
 
 -- the contents that a name has after these entries, each with its number, of which the first has the start's; None where it waits
 -- for a snapshot of its start. Who was given the list from 1 on needs none. All entries count, also those before the snapshot
@@ -102,27 +102,27 @@ unfoldable pub fed : ReplicaState → ℕ → Entry → ReplicaState
 fed s number entry = fed_waiting s s.waiting number entry
 
 -- what an entry comes to at who is ready, and at who waits
-abbrev pub step_ready : Contents → Entry → Step
+abbrev pub step_ready : Contents → Entry → ReplicaStep
 step_ready contents (entries.Data from req body) = steps.Applied (body_answer contents body)
 step_ready contents (entries.Join name) = steps.Noted
 step_ready contents (entries.Leave name) = steps.Noted
 step_ready contents (entries.View v) = steps.Noted
 
-abbrev pub step_held : Entry → Step
+abbrev pub step_held : Entry → ReplicaStep
 step_held (entries.Data from req body) = if is_some (command_of body) then steps.Held else steps.Noted
 step_held (entries.Join name) = steps.Noted
 step_held (entries.Leave name) = steps.Noted
 step_held (entries.View v) = steps.Noted
 
-abbrev pub step_arrived : Entry → Option Contents → Step
+abbrev pub step_arrived : Entry → Option Contents → ReplicaStep
 step_arrived entry None = step_held entry
 step_arrived entry (Some contents) = steps.Restored
 
-abbrev pub step_waiting : ReplicaState → Option Waiting → Entry → Step
+abbrev pub step_waiting : ReplicaState → Option Waiting → Entry → ReplicaStep
 step_waiting s None entry = step_ready s.contents entry
 step_waiting s (Some w) entry = step_arrived entry (snapshot_for s.start (after_entry w.assembly entry).ended)
 
-unfoldable pub step_of : ReplicaState → Entry → Step
+unfoldable pub step_of : ReplicaState → Entry → ReplicaStep
 step_of s entry = step_waiting s s.waiting entry
 
 -- after all of these entries

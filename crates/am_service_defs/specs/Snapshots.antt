@@ -50,12 +50,12 @@ limited_in bytes = do
   number ← number_in 4 bytes
   if nat_le number.number greatest_number then Some number else None
 
--- a key may stand behind another, or first
+-- a key may stand after another, or first
 abbrev pub may_follow : Option (List ℕ) → List ℕ → Bool
 may_follow None key = true
 may_follow (Some last) key = is_lt (key_cmp last key)
 
--- a key with what it has, and the bytes behind it
+-- a key with what it has, and the bytes after it
 pub record ReadKey : Type 0 where
   pub key : List ℕ
   pub setting : Setting
@@ -67,13 +67,13 @@ setting_behind key = do
   value ← field_in 0 most_value number.rest
   Some (record { key = key.field; setting = record { number = number.number; value = value.field }; rest = value.rest })
 
--- the first of them, behind the last key
+-- the first of them, after the last key
 unfoldable pub setting_in : Option (List ℕ) → List ℕ → Option ReadKey
 setting_in last bytes = do
   key ← field_in 1 most_key bytes
   if may_follow last key.field then setting_behind key else None
 
--- so many settings, the keys ascending from behind the last one on, and nothing behind them
+-- so many settings, the keys ascending from after the last one on, and nothing after them
 unfoldable pub settings_in : ℕ → Option (List ℕ) → List ℕ → Option Contents
 settings_in zero last bytes = if is_empty bytes then Some [] else None
 settings_in (suc more) last bytes =

@@ -2,7 +2,7 @@ use crate::applied::Applied;
 
 /// What an entry came to at a replica (docs/DIRECTORY.md, "Replicas").
 #[derive(Clone, Copy, PartialEq, Eq, Debug)]
-pub enum Step {
+pub enum ReplicaStep {
     /// The replica is ready: the body of a send was applied.
     Applied(Applied),
     /// The entry is no send; or the replica waits, and the body is no command.

@@ -37,7 +37,7 @@ from_place-none place = refl
 
 -- ---- a piece
 
--- what was given stands in the list behind the first entries
+-- what was given stands in the list after the first entries
 record StandsBehind (entries list : List Entry) (before : ℕ) : Type 0 where
   rest : List Entry
   is : entries ++ rest ≡ drop before list

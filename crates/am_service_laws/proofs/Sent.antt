@@ -2,7 +2,7 @@
 use Rattle.am_service_laws.proofs.Words.{◌≡◌, ◌≢◌, ℕ, zero, suc, ◌+◌, ◌-◌, ◌≤◌, ◌<◌, List, [], ◌∷◌, ◌++◌, length, take, Option, Some, None, ap, ◌∙◌, subst}
 use Rattle.am_service_laws.proofs.Words.{arith, append_assoc, enumerate_from, length-take, Entry, greatest_number, NumberIsInRange, deliveries, run, lawful_front}
 use Rattle.am_service_laws.proofs.Words.{entries_of, EndsAt, message_at, messages_end, Whole, Contents, contents_with, contents_from, contents_after, IsContents}
-use Rattle.am_service_laws.proofs.Words.{snapshot_of, or_else, for_join, snapshot_for, first_behind, first_snapshot, empty_contents_are_directory, snapshot_in_of_snapshot_of, contents_stay_within_limits}
+use Rattle.am_service_laws.proofs.Words.{snapshot_of, or_else, for_join, snapshot_for, first_snapshot_after, first_snapshot, empty_contents_are_directory, snapshot_in_of_snapshot_of, contents_stay_within_limits}
 use Rattle.am_service_laws.proofs.Words.{NoneBefore, SentSnapshotsRestore}
 use Rattle.am_service_laws.proofs.{Sends.sent_messages_end_in_list, Sends.whole_messages_of_list_delivered, Waiting.snapshot_for_without_contents, Waiting.for_join_of_its_start, Waiting.length_of_entries_of_given}
 use Rattle.am_service_laws.proofs.{Holding.joiner_replicas_hold, Holding.single_starts_are_equal}
@@ -30,17 +30,17 @@ contents_within list number n = list_within 1 (take number list) [] nothing_is (
 
 first_found : (start : ℕ) (before rest : List Entry) (k : ℕ) (contents : Contents) → k < length rest
     → snapshot_for start (message_at (before ++ take (suc k) rest)) ≡ Some contents
-    → ((j : ℕ) → j < k → snapshot_for start (message_at (before ++ take (suc j) rest)) ≡ None) → first_behind start before rest ≡ Some contents
+    → ((j : ℕ) → j < k → snapshot_for start (message_at (before ++ take (suc j) rest)) ≡ None) → first_snapshot_after start before rest ≡ Some contents
 first_found start before [] k contents below is none = absurd (omega arith)
 first_found start before (e ∷ rest) zero contents below is none =
-    ap (λ (o : Option Contents). or_else o (first_behind start (before ++ e ∷ []) rest)) is
+    ap (λ (o : Option Contents). or_else o (first_snapshot_after start (before ++ e ∷ []) rest)) is
 first_found start before (e ∷ rest) (suc k) contents below is none =
     let first : snapshot_for start (message_at (before ++ e ∷ [])) ≡ None = none 0 (omega arith) in
     let later = first_found start (before ++ e ∷ []) rest k contents (omega (arith, below))
     (ap (λ (es : List Entry). snapshot_for start (message_at es)) (append_assoc before (e ∷ []) (take (suc k) rest)) ∙ is)
     (λ j less. ap (λ (es : List Entry). snapshot_for start (message_at es)) (append_assoc before (e ∷ []) (take (suc j) rest))
     ∙ none (suc j) (omega (arith, less))) in
-    ap (λ (o : Option Contents). or_else o (first_behind start (before ++ e ∷ []) rest)) first ∙ later
+    ap (λ (o : Option Contents). or_else o (first_snapshot_after start (before ++ e ∷ []) rest)) first ∙ later
 
 -- ---- a snapshot that was sent
 

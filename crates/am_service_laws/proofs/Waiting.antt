@@ -1,7 +1,7 @@
 -- A replica waits just as long as no snapshot for its start ended.
 use Rattle.am_service_laws.proofs.Words.{◌≡◌, ℕ, zero, suc, ◌≤◌, ◌<◌, List, [], ◌∷◌, ◌++◌, length, take, Option, Some, None, Bool, true, false, cond, ◌==◌}
 use Rattle.am_service_laws.proofs.Words.{refl, sym, ap, ◌∙◌, arith, append_assoc, option_map, nat_tests, Entry, entries_of, message_at, Contents}
-use Rattle.am_service_laws.proofs.Words.{contents_from, snapshot_in, or_else, for_join, snapshot_for, first_behind, first_snapshot, replica_contents}
+use Rattle.am_service_laws.proofs.Words.{contents_from, snapshot_in, or_else, for_join, snapshot_for, first_snapshot_after, first_snapshot, replica_contents}
 use Rattle.am_service_laws.proofs.Words.{NoSnapshot}
 use Rattle.am_step_laws.proofs.Tests.{number_equals_itself}
 
@@ -36,26 +36,26 @@ or_none None p h = (refl, h)
 or_none (Some x) p h = absurd (cc)
 
 -- where nothing was found, nothing ended
-none_found : (start : ℕ) (before rest : List Entry) → first_behind start before rest ≡ None → (k : ℕ) → k < length rest
+none_found : (start : ℕ) (before rest : List Entry) → first_snapshot_after start before rest ≡ None → (k : ℕ) → k < length rest
     → snapshot_for start (message_at (before ++ take (suc k) rest)) ≡ None
 none_found start before [] h k below = absurd (omega arith)
-none_found start before (e ∷ rest) h zero below = (or_none (snapshot_for start (message_at (before ++ e ∷ []))) (first_behind start (before ++ e ∷ [])
+none_found start before (e ∷ rest) h zero below = (or_none (snapshot_for start (message_at (before ++ e ∷ []))) (first_snapshot_after start (before ++ e ∷ [])
     rest) h).0
 none_found start before (e ∷ rest) h (suc k) below =
-    let o = or_none (snapshot_for start (message_at (before ++ e ∷ []))) (first_behind start (before ++ e ∷ []) rest) h in
+    let o = or_none (snapshot_for start (message_at (before ++ e ∷ []))) (first_snapshot_after start (before ++ e ∷ []) rest) h in
     ap (λ (es : List Entry). snapshot_for start (message_at es)) (sym (append_assoc before (e ∷ []) (take (suc k) rest)))
     ∙ none_found start (before ++ e ∷ []) rest o.1 k (omega (arith, below))
 
 -- where nothing ended, nothing is found
 found_none : (start : ℕ) (before rest : List Entry) → ((k : ℕ) → k < length rest → snapshot_for start (message_at (before ++ take (suc k) rest)) ≡ None)
-    → first_behind start before rest ≡ None
+    → first_snapshot_after start before rest ≡ None
 found_none start before [] none = refl
 found_none start before (e ∷ rest) none =
     let first : snapshot_for start (message_at (before ++ e ∷ [])) ≡ None = none 0 (omega arith) in
     let others = found_none start (before ++ e ∷ []) rest (λ k below.
     ap (λ (es : List Entry). snapshot_for start (message_at es)) (append_assoc before (e ∷ []) (take (suc k) rest))
     ∙ none (suc k) (omega (arith, below))) in
-    ap (λ (o : Option Contents). or_else o (first_behind start (before ++ e ∷ []) rest)) first ∙ others
+    ap (λ (o : Option Contents). or_else o (first_snapshot_after start (before ++ e ∷ []) rest)) first ∙ others
 
 pub length_of_entries_of_given : (given : List (ℕ × Entry)) → length (entries_of given) ≡ length given
 length_of_entries_of_given [] = refl
@@ -65,7 +65,7 @@ at_none : message_at [] ≡ None
 unfolding message_at
 at_none = refl
 
-no_message : (start name k : ℕ) (given : List (ℕ × Entry)) (message : List ℕ) (contents : Contents) → first_behind start [] (entries_of given) ≡ None
+no_message : (start name k : ℕ) (given : List (ℕ × Entry)) (message : List ℕ) (contents : Contents) → first_snapshot_after start [] (entries_of given) ≡ None
     → k ≤ length given
     → message_at (take k (entries_of given)) ≡ Some (name, message) → snapshot_in message ≡ Some (start, contents) → ⊥
 no_message start name zero given message contents none below ends is =
@@ -85,10 +85,10 @@ snapshot_for_without_contents start (Some message) never = by (for_join start (s
     by (Some contents) h = absurd (never message.0 message.1 contents refl (joined_is start (snapshot_in message.1) contents h))
 
 -- nothing is found exactly where no snapshot for the start ended
-nothing_first : (start : ℕ) (given : List (ℕ × Entry)) → first_behind start [] (entries_of given) ≡ None → NoSnapshot start given
+nothing_first : (start : ℕ) (given : List (ℕ × Entry)) → first_snapshot_after start [] (entries_of given) ≡ None → NoSnapshot start given
 nothing_first start given none k name message contents below ends is = no_message start name k given message contents none below ends is
 
-nothing_ended : (start : ℕ) (given : List (ℕ × Entry)) → NoSnapshot start given → first_behind start [] (entries_of given) ≡ None
+nothing_ended : (start : ℕ) (given : List (ℕ × Entry)) → NoSnapshot start given → first_snapshot_after start [] (entries_of given) ≡ None
 nothing_ended start given never = found_none start [] (entries_of given) (λ k below.
     snapshot_for_without_contents start (message_at (take (suc k) (entries_of given))) (λ name message contents ends is.
     never (suc k) name message contents (omega (arith, below, length_of_entries_of_given given)) ends is))

@@ -19,7 +19,7 @@ pub use Rattle.am_service_defs.proofs.{Ends.list_is_front_and_last, Ends.slice_g
 pub use Rattle.am_service_defs.proofs.{Keeping.empty_contents_are_directory, ReplicaLaws.fold_of_pushed_item, SnapshotLaws.snapshot_in_of_snapshot_of, WithinLaws.contents_stay_within_limits}
 pub use Rattle.am_service_defs.specs.{Messages.entries_of, Messages.sent_from, Messages.parts_from, Messages.EndsAt, Parts.part_count, Parts.part_of}
 pub use Rattle.am_service_defs.specs.{Contents.Contents, Contents.contents_with, Contents.contents_from, Contents.contents_after, Replicas.or_else, Replicas.for_join}
-pub use Rattle.am_service_defs.specs.{Replicas.snapshot_for, Replicas.first_behind, Snapshots.IsContents, Snapshots.snapshot_of, Snapshots.snapshot_in}
+pub use Rattle.am_service_defs.specs.{Replicas.snapshot_for, Replicas.first_snapshot_after, Snapshots.IsContents, Snapshots.snapshot_of, Snapshots.snapshot_in}
 pub use Rattle.am_model.specs.{Node.founders_entry, Step.step}
 pub use Rattle.am_group_defs.proofs.{Beginnings.run_begins_longer_run, Runs.front_is_lawful}
 pub use Rattle.am_group_defs.specs.{Claims.IsSegment, Claims.BeginsAt, Claims.Segment, Claims.IsSend, Lawful.lawful_front, World.World, World.start, World.run}

@@ -30,7 +30,7 @@ abbrev pub ended_line : ℕ → ℕ → Option (ℕ × List ℕ) → List ℕ
 ended_line name number None = []
 ended_line name number (Some message) = message_line name number message.0 message.1
 
--- the lines of these entries, each by all that was given up to it, behind what was given before
+-- the lines of these entries, each by all that was given up to it, after what was given before
 abbrev pub lines_behind : (List (ℕ × Entry) → ℕ × Entry → List ℕ) → List (ℕ × Entry) → List (ℕ × Entry) → List ℕ
 lines_behind line before [] = []
 lines_behind line before (pair ∷ rest) = line (before ++ pair ∷ []) pair ++ lines_behind line (before ++ pair ∷ []) rest

@@ -317,7 +317,7 @@ beginning_of_lawful_log_follows next log seen begins each before rest r e =
     each before (rest ++ drop (length seen) log) r
     (log_is_start_and_rest log seen begins ∙ ap (λ (l : List Record). l ++ drop (length seen) log) e ∙ append_assoc before (r ∷ rest) (drop (length seen) log))
 
--- a journal of which each record comes next, and one that comes next behind it
+-- a journal of which each record comes next, and one that comes next after it
 pub log_follows_with_next_record : (next : List Record → Record → Type 0) (log : List Record) (r : Record) → EachComesNext next log → next log r → EachComesNext next (log ++ r ∷ [])
 log_follows_with_next_record next log r each its before others q e = behind others e
   where

@@ -20,7 +20,7 @@ looks_after_one_record_more before item looks are = record {
       (λ look is. letters_seen_of_append (letters_of_records before) item.packets look.name look.after look.seen is) looks are.each);
 }
 
--- a letter for a name is found behind what was looked through for it
+-- a letter for a name is found after what was looked through for it
 pub next_for_from_last_look : (letters : List Letter) (looks : List LetterLook) (place name after : ℕ) (d : LetterLook) → AreLooks letters looks → place < 16
     → (slice_index_or looks place d).name ≡ name → (slice_index_or looks place d).after ≡ after
     → next_for letters name (slice_index_or looks place d).seen ≡ next_for letters name after

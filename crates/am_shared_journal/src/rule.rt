@@ -11,7 +11,7 @@ use atomic_table::{Join, Play, Split, TableRule};
 use std::collections::LinkedList;
 use std::marker::PhantomData;
 
-/// Which record may come next behind others, by the terms of a wire. Each record of the wire's journal does.
+/// Which record may come next after others, by the terms of a wire. Each record of the wire's journal does.
 pub trait Law: Send + Sync {
     ghost use Rattle.std.specs.Prelude.{List};
     ghost use Rattle.am_group.specs.declared.event.Record.{Record};

@@ -53,7 +53,7 @@ fn is_stop(act: &Act) -> bool
     matches!(act, Act::Stop)
 }
 
-/// The stopped names behind a record.
+/// The stopped names after a record.
 fn with_stop(stopped: Names, item: &Record) -> Names
     ensures { result ≡ with_stop stopped item.now }
 {

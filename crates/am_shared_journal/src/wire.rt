@@ -30,14 +30,14 @@ use std::{mem, thread};
 
 type TableSeat = Seat<Sheet, SeatView>;
 
-/// The one journal of a race, of which each pass has seen a beginning. Each of its records comes next behind those before it,
+/// The one journal of a race, of which each pass has seen a beginning. Each of its records comes next after those before it,
 /// by the law `L`. Contracts see it as which wire it is, and its terms.
 #[derive(Drop)]
-pub struct Wire<L: Law> {
+pub struct SharedJournal<L: Law> {
     table: Table<Sheet, SeatView, Terms, OneJournal<L>, Global>,
 }
 
-impl<L: Law> Model for Wire<L> {
+impl<L: Law> Model for SharedJournal<L> {
     ghost use Rattle.std.specs.Prelude.{◌≡◌};
     ghost use Rattle.am_shared_journal.specs.Wires.{WireLine};
 
@@ -92,9 +92,9 @@ impl Pass {
     }
 }
 
-impl<L: Law> Wire<L> {
+impl<L: Law> SharedJournal<L> {
     /// Makes the table. Its first seat has all keys.
-    fn new(alloc: Global, terms: &Terms) -> Result<(Wire<L>, TableSeat), NoMemory>
+    fn new(alloc: Global, terms: &Terms) -> Result<(SharedJournal<L>, TableSeat), NoMemory>
         ensures wire { IfOk result (λ r. r.0.terms ≡ terms.now) }
         ensures seat { IfOk result (λ r. (r.1.table_id ≡ r.0.id)
             × (r.1.me ≡ (seat_view terms.now (all_keys terms.now.callers) [] [] false, []))) }
@@ -102,7 +102,7 @@ impl<L: Law> Wire<L> {
         let mut slots = Vec::new(alloc);
         slots.push(Sheet::new(alloc, &terms.founding))?;
         match Table::new(alloc, &[0, 0], slots, terms) {
-            Ok((table, seat)) => Ok((Wire { table }, seat)),
+            Ok((table, seat)) => Ok((SharedJournal { table }, seat)),
             Err(_) => Err(AllocError),
         }
     }
@@ -216,13 +216,16 @@ impl<L: Law> Wire<L> {
 
     /// The wire of these terms, with a pass for each of the sixteen places and a share for each caller. None has seen a
     /// record.
-    pub fn start(alloc: Global, terms: &Terms) -> Result<(Wire<L>, Vec<Pass>, Vec<Share>), NoMemory>
+    pub fn start(
+        alloc: Global,
+        terms: &Terms,
+    ) -> Result<(SharedJournal<L>, Vec<Pass>, Vec<Share>), NoMemory>
         ensures wire { IfOk result (λ r. r.0.terms ≡ terms.now) }
         ensures passes { IfOk result (λ r. r.1.items ≡ map (fresh r.0.id terms.now) place_keys) }
         ensures shares { IfOk result (λ r. r.2.items
             ≡ map (fresh r.0.id terms.now) (caller_keys terms.now.callers)) }
     {
-        let (wire, mut seat) = Wire::new(alloc, terms)?;
+        let (wire, mut seat) = SharedJournal::new(alloc, terms)?;
         let passes = wire.deal(alloc, &mut seat, 16)?;
         let shares = wire.deal(alloc, &mut seat, terms.callers as usize)?;
         Ok((wire, passes, shares))
@@ -355,7 +358,7 @@ impl<L: Law> Wire<L> {
     {
         let Pass { badge } = pass;
         let seat = badge.into_seat();
-        let Wire { table } = self;
+        let SharedJournal { table } = self;
         let mut closed = table.close_with(seat);
         let sheet: Sheet = closed.take(0);
         closed.free();

@@ -17,6 +17,6 @@ pub record GoesOn (keys : List SharerKey) (seen log : List Record) : Type 0 wher
   pub begins : StartsWith log seen
   pub own : (key : SharerKey) → 0 < times key keys → of_key key log ≡ of_key key seen
 
--- each record comes next behind those before it
+-- each record comes next after those before it
 abbrev pub EachComesNext : (List Record → Record → Type 0) → List Record → Type 0
 EachComesNext next log = (before rest : List Record) (r : Record) → log ≡ before ++ r ∷ rest → next before r

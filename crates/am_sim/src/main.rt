@@ -37,7 +37,7 @@ fn words_of(rt: &HostRuntime) -> Result<Vec<String>, ExitStatus> {
     }
 }
 
-/// Does what the words behind the program's name ask for.
+/// Does what the words after the program's name ask for.
 fn answer<R: Threads + Wait + Sync>(
     rt: &R,
     alloc: Global,

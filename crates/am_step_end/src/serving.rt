@@ -1,5 +1,5 @@
 ghost use Rattle.std.specs.Prelude.{◌≡◌, ◌<◌, ◌≤◌, ◌+◌, ◌++◌, ◌∷◌, All, Some, [], length};
-ghost use Rattle.am_node_parts.specs.Prelude.{greatest_number, NumberIsInRange, EntryIsInRange, PacketIsWithin, log_entry_at, top_of_log, IsInOrder, set_of_one_name, node_of};
+ghost use Rattle.am_node_parts.specs.Prelude.{greatest_number, NumberIsInRange, EntryIsInRange, PacketIsWithin, log_entry_at, top_of_log, CoreFrontsAreInOrder, set_of_one_name, node_of};
 ghost use Rattle.am_base.specs.declared.entry.Entry.{Entry};
 ghost use Rattle.am_model.specs.Emit.{entries_to_serve, letters_of_entries};
 ghost use Rattle.am_model.specs.Refresh.{refresh_at_end};
@@ -40,7 +40,7 @@ fn copy_entry(parts: &Parts, number: u32, entries: &mut ArrayVec<Entry, 8>)
 
 /// Copies of the entries above a number, eight at most: the list may be trimmed before they are sent.
 fn copies(parts: &Parts, stored: u32) -> ArrayVec<Entry, 8>
-    requires order { IsInOrder parts.now.core }
+    requires order { CoreFrontsAreInOrder parts.now.core }
     requires low { parts.now.core.base ≤ stored }
     requires high { stored ≤ top_of_log parts.now.core.log }
     ensures items { result.items ≡ entries_to_serve (node_of parts.now) stored }

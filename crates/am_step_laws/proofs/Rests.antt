@@ -26,7 +26,7 @@ refresh_changes_only_fronts m = split_on_bool (is_sequencer m) (λ t. rw t refl)
 abbrev pub with_sends_of : Node → Node → Node
 with_sends_of m n = record m { sends = record m.sends { queue = n.sends.queue } }
 
--- what holds of a node holds behind that, where it does once the send is settled at a number
+-- what holds of a node holds after that, where it does once the send is settled at a number
 pub settle_keeps_property : (P : Node → Type 0) (m : Node) → P m
     → ((s : OwnSend) (k : ℕ) → waiting_send_of m ≡ Some s → accepted_number_of_send m s.req ≡ Some k → P (settle_send_at m s.req (Some k))) → P (settle_waiting_send m)
 unfolding settle_waiting_send

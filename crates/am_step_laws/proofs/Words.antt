@@ -68,6 +68,6 @@ pub use Rattle.am_base.proofs.{Requests.has_member_is_in_row, Order.same_rank_sa
 pub use Rattle.am_model_laws.proofs.{AcceptFronts.accept_front_is_greatest, Bytes.spelled_packet_is_heard, Bytes.cut_packet_whole_or_refused}
 pub use Rattle.am_step_laws.specs.Changes.{IsNumberedBy, MayPromise, overtaken as overtaken_by, MayStoreFetched, for_ballot}
 pub use Rattle.am_step_laws.specs.Bytes.{BodyIsWithinLimit, IsRunWithinScriptLimits, LettersArePackets, LettersAreRead, acts_by_bytes, RunsAreOfBytes}
-pub use Rattle.am_step_laws.specs.{Letters.MayWelcome, Packets.Bounds, Packets.bounds_one_higher, Packets.PacketIsWithinBounds, Blank.NodesWithoutListAreBlank, Begins.FrontBegins, GivenUp.OnlyStoppedGivenUp}
+pub use Rattle.am_step_laws.specs.{Letters.MayWelcome, Packets.Bounds, Packets.bounds_one_higher, Packets.PacketIsWithinBounds, Blank.NodesWithoutListAreBlank, Begins.LawfulFrontBeginsRun, GivenUp.OnlyStoppedGivenUp}
 pub use Rattle.am_step_laws.specs.{Named.RunsKeepNames, Numbers.NumbersAreBounded, Taken.TrimmedWasTaken, Views.RunsNoteViewsOnce}
 unfoldable pub use Rattle.am_step_laws.specs.{Bytes.happen_by_bytes}

@@ -11,5 +11,5 @@ abbrev pub RunsBegin : Type 0
 RunsBegin = (rules : Rules) (events : List Event) (k : ℕ) → WorldBegins (run rules (take k events)) (run rules events)
 
 -- and so do those of its lawful front
-abbrev pub FrontBegins : Type 0
-FrontBegins = (rules : Rules) (events : List Event) → WorldBegins (run rules (lawful_front rules events)) (run rules events)
+abbrev pub LawfulFrontBeginsRun : Type 0
+LawfulFrontBeginsRun = (rules : Rules) (events : List Event) → WorldBegins (run rules (lawful_front rules events)) (run rules events)

@@ -6,7 +6,7 @@ pub mod bounded_nodes;
 pub mod step_effects;
 pub mod watched_runs;
 
-ghost use Rattle.am_step_laws.specs.Begins.{RunsBegin, FrontBegins};
+ghost use Rattle.am_step_laws.specs.Begins.{RunsBegin, LawfulFrontBeginsRun};
 ghost use Rattle.am_step_laws.specs.Blank.{NodesWithoutListAreBlank};
 ghost use Rattle.am_step_laws.specs.Bytes.{LettersArePackets, LettersAreRead, RunsAreOfBytes};
 ghost use Rattle.am_step_laws.specs.GivenUp.{OnlyStoppedGivenUp};
@@ -19,7 +19,7 @@ ghost use Rattle.am_step_laws.specs.Views.{RunsNoteViewsOnce};
 /// lawful front.
 pub fn runs_begin()
     ensures runs { RunsBegin }
-    ensures front { FrontBegins }
+    ensures front { LawfulFrontBeginsRun }
 {}
 
 /// Each view is noted once, and its View stands at its number in its coordinator's list from then on.

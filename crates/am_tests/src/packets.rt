@@ -14,7 +14,7 @@ use am_packet_writer::letter::letter_of;
 use std::alloc::Global;
 use std::test::*;
 
-/// Each kind and each tag, with the numbers of its packet behind the stamp.
+/// Each kind and each tag, with the numbers of its packet after the stamp.
 const VECTORS: [(&[u8], [u32; 8]); 24] = [
     (REQUEST, [5, 4, 3, 2, 0, 0, 0, 0]),
     (SPREAD, [5, 4, 70009, 0, 0, 0, 0, 0]),
@@ -133,7 +133,7 @@ fn entry_numbers(entry: &EntryRef) -> [u32; 5] {
     }
 }
 
-/// The numbers of a packet behind its stamp, in the order of its bytes: a body by its length, a set by its places and lives.
+/// The numbers of a packet after its stamp, in the order of its bytes: a body by its length, a set by its places and lives.
 fn numbers_of(packet: &Packet) -> [u32; 8] {
     match packet {
         Packet::Request {

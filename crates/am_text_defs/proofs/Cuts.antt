@@ -25,7 +25,7 @@ cut_of_without_separator separator (x ∷ xs) before =
     cut_of_other_first_byte separator x xs (before 0 (omega arith))
     ∙ ap (onto_cut x) (cut_of_without_separator separator xs (λ k h. before (suc k) (omega arith)))
 
--- the parts behind the first
+-- the parts after the first
 abbrev pub parts_of_rest_of_cut : ℕ → Option (List ℕ) → List (List ℕ)
 parts_of_rest_of_cut separator None = []
 parts_of_rest_of_cut separator (Some rest) = split_text separator rest

@@ -17,7 +17,7 @@ use Rattle.am_text_defs.specs.declared.fault.FieldFault.TheVariants.{Form, Limit
 abbrev pub onto_cut : ℕ → (List ℕ × Option (List ℕ)) → (List ℕ × Option (List ℕ))
 onto_cut c cut = (c ∷ cut.0, cut.1)
 
--- what stands before the first separator, and what stands behind it
+-- what stands before the first separator, and what stands after it
 abbrev pub cut_of : ℕ → List ℕ → (List ℕ × Option (List ℕ))
 cut_of separator [] = ([], None)
 cut_of separator (c ∷ cs) = if c == separator then ([], Some cs) else onto_cut c (cut_of separator cs)
@@ -55,7 +55,7 @@ number_in_text word = number_up_to greatest_number word
 
 -- ---- names
 
--- a life that is spelled behind a place is 2 to 16
+-- a life that is spelled after a place is 2 to 16
 abbrev pub life_of_word : List ℕ → Result ℕ FieldFault
 life_of_word word = and_then (number_up_to 16 word) (λ life. if nat_lt life 2 then Err Limit else Ok life)
 
@@ -64,7 +64,7 @@ abbrev pub name_with : ℕ → Option (List ℕ) → Result ℕ FieldFault
 name_with place None = Ok (name_of_place_and_life place 1)
 name_with place (Some life) = and_then (life_of_word life) (λ n. Ok (name_of_place_and_life place n))
 
--- a name: its place, and a life other than the first behind a slash
+-- a name: its place, and a life other than the first after a slash
 unfoldable pub name_in_text : List ℕ → Result ℕ FieldFault
 name_in_text word = and_then (number_up_to 15 (cut_of 47 word).0) (λ place. name_with place (cut_of 47 word).1)
 

@@ -311,7 +311,7 @@ name_short_by false name is low =
           (47 ∷ decimal (life_of_name name)),
     ))
 
--- a name and what stands behind it
+-- a name and what stands after it
 name_and_short : (name : ℕ) (behind : List ℕ) (rest : ℕ) → name < 256 → length behind ≤ rest → length (name_text name ++ behind) ≤ 5 + rest
 name_and_short name behind rest low few = omega (arith, name_short_by (life_of_name name == 1) name refl low, few, length-append (name_text name) behind)
 

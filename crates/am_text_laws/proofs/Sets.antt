@@ -37,7 +37,7 @@ zeros_long : (n : ℕ) → length (zeros n) ≡ n
 zeros_long zero = refl
 zeros_long (suc n) = let more = zeros_long n in omega arith
 
--- the set with a name of a place behind the front
+-- the set with a name of a place after the front
 named : (front : List ℕ) (least name : ℕ) → length front ≡ least → least ≤ place_of_name name
     → with_name (front ++ zeros (16 - least)) name ≡ ((front ++ zeros (place_of_name name - least)) ++ life_of_name name ∷ []) ++ zeros (16 - (place_of_name name + 1))
 named front least name long above =
@@ -65,7 +65,7 @@ listed least name tail above low =
     ∙ ap (λ (life : ℕ). names_from p (life ∷ tail)) (add-one (name / 16))
     ∙ ap (λ (n : ℕ). n ∷ names_from (p + 1) tail) its
 
--- names that were read onto a front are those of what comes behind it
+-- names that were read onto a front are those of what comes after it
 onto_is : (parts : List (List ℕ)) (least : ℕ) (front out : List ℕ) → length front ≡ least → least ≤ 16
     → names_onto least (front ++ zeros (16 - least)) parts ≡ Ok out
     → (tail : List ℕ) × (out ≡ front ++ tail) × (map name_text (names_from least tail) ≡ parts)

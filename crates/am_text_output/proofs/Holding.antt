@@ -1,4 +1,4 @@
--- What stands in a text behind several writes.
+-- What stands in a text after several writes.
 use Rattle.std.proofs.Common.{◌≡◌, ℕ, List, [], ◌∷◌, ◌++◌, refl, sym, ap, ◌∙◌, subst, append_assoc, append-nil, false, String, Global, string_bytes}
 use Rattle.std.specs.Fmt.{WritesInCalls}
 use Rattle.std.specs.List.{FoldsTo, concat}
@@ -22,7 +22,7 @@ writes_by p q (part ∷ parts) calls = writes_on p calls.0 q part (concat parts)
 pub text_written_in_calls : (p q : Held) (text : List ℕ) → WritesInCalls WritesText p text q → WritesText p text q
 text_written_in_calls p q text calls = subst (λ (l : List ℕ). WritesText p l q) calls.whole (writes_by p q calls.parts calls.calls)
 
--- behind what stood there
+-- after what stood there
 pub text_held_after_writes : (before : String Global) (p q : Held) (text : List ℕ) → p.text.now ≡ before → WritesInCalls WritesText p text q → q.failed ≡ false
     → string_bytes q.text.now ≡ string_bytes before ++ text
 text_held_after_writes before p q text is calls sound = (text_written_in_calls p q text calls).text sound ∙ ap (λ t. string_bytes t ++ text) is

@@ -3,7 +3,7 @@ ghost use Rattle.std.specs.Io.KnownBytes.{Consumes, Appends, Keeps};
 ghost use Rattle.am_io.specs.Outside.{ReadToEnd, IfTook, OnEnd, OnFailed, IfPut, OnRefused, next, faults_after, refusals_after};
 ghost use Rattle.am_text_output.specs.Memory.{Supply, Store, new_supply, new_store};
 
-use am_io::outside::{Got, Put, Sink, Source};
+use am_io::outside::{ReadResult, Sink, Source, WriteResult};
 use std::alloc::{AllocError, Global};
 use std::marker::Model;
 
@@ -43,13 +43,13 @@ impl Source for PlainSource<'_> {
         0
     }
 
-    fn read(&mut self, into: &mut [u8]) -> Got {
+    fn read(&mut self, into: &mut [u8]) -> ReadResult {
         if self.bytes.is_empty() {
-            return Got::End;
+            return ReadResult::End;
         }
         let n = self.bytes.len().min(into.len());
         self.bytes = move_front(self.bytes, into, n);
-        Got::Took(n)
+        ReadResult::Took(n)
     }
 }
 
@@ -100,7 +100,7 @@ impl Source for MemSource<'_> {
         self.faults
     }
 
-    fn read(&mut self, into: &mut [u8]) -> Got
+    fn read(&mut self, into: &mut [u8]) -> ReadResult
         requires { 0 < length into.old }
         ensures some { IfTook result (λ n. (0 < n) × (n ≤ length into.new)) }
         ensures took { IfTook result (λ n. Consumes (Some self.old.left) (Some self.new.left)
@@ -110,21 +110,21 @@ impl Source for MemSource<'_> {
         ensures counts { self.new.faults ≡ faults_after result self.old.faults }
         ensures amount { IfTook result (λ n. n
             ≡ min (min (length self.old.left) (length into.new)) self.old.most) }
-        ensures fails { (result ≡ Got.Failed) ↔ Contains self.old.fail (next self.old.calls) }
+        ensures fails { (result ≡ ReadResult.Failed) ↔ Contains self.old.fail (next self.old.calls) }
         ensures plan { self.new ≡ record self.old
             { left = self.new.left; calls = next self.old.calls; faults = self.new.faults } }
     {
         self.calls = self.calls.saturating_add(1);
         if self.fail.contains(&self.calls) {
             self.faults = self.faults.saturating_add(1);
-            return Got::Failed;
+            return ReadResult::Failed;
         }
         let n = self.bytes.len().min(into.len()).min(self.most);
         if n == 0 {
-            return Got::End;
+            return ReadResult::End;
         }
         self.bytes = move_front(self.bytes, into, n);
-        Got::Took(n)
+        ReadResult::Took(n)
     }
 }
 
@@ -190,7 +190,7 @@ impl Sink for MemSink<'_> {
         self.faults
     }
 
-    fn write(&mut self, piece: &[u8]) -> Put
+    fn write(&mut self, piece: &[u8]) -> WriteResult
         requires { 0 < length piece.now }
         ensures some { IfPut result (λ n. (0 < n) × (n ≤ length piece.now)) }
         ensures took { IfPut result (λ n. Appends (Some self.old.held) (Some self.new.held)
@@ -198,7 +198,7 @@ impl Sink for MemSink<'_> {
         ensures untouched { OnRefused result (Keeps (Some self.old.held) (Some self.new.held)) }
         ensures counts { self.new.faults ≡ refusals_after result self.old.faults }
         ensures amount { IfPut result (λ n. n ≡ min (length piece.now) self.old.most) }
-        ensures fails { (result ≡ Put.Failed)
+        ensures fails { (result ≡ WriteResult.Failed)
             ↔ (Contains self.old.fail (next self.old.calls)
             ⊎ (self.old.size < length self.old.held + min (length piece.now) self.old.most)) }
         ensures plan { self.new ≡ record self.old
@@ -208,9 +208,9 @@ impl Sink for MemSink<'_> {
         let n = piece.len().min(self.most);
         if self.fail.contains(&self.calls) || self.size - self.bytes.len() < n {
             self.faults = self.faults.saturating_add(1);
-            return Put::Failed;
+            return WriteResult::Failed;
         }
         self.bytes.extend_from_slice(&piece[..n]).unwrap();
-        Put::Took(n)
+        WriteResult::Took(n)
     }
 }

@@ -77,7 +77,7 @@ fn push_word(out: &mut String, act: &Act) -> Result<(), NoMemory>
     push_before(out, act)
 }
 
-// Adds an act's keys behind the node.
+// Adds an act's keys after the node.
 #[tactic(auto, unfolding(am_script_defs::specs::Schedules::keys_behind))]
 fn push_behind(out: &mut String, founding: &Founding, act: &Act) -> Result<(), NoMemory>
     ensures { OnOk result (string_bytes out.new

@@ -12,7 +12,7 @@ use am_base::names::Names;
 use am_base::outcome::Outcome;
 use am_report::{entry, lines, name, outcome};
 
-/// Adds a name: its place, and a life other than the first behind a slash. After an error a part of it may have been added.
+/// Adds a name: its place, and a life other than the first after a slash. After an error a part of it may have been added.
 pub fn push_name(out: &mut String, name: Name) -> Result<(), NoMemory>
     ensures { OnOk result (string_bytes out.new ≡ string_bytes out.old ++ name_text name) }
 {

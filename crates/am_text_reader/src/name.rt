@@ -17,7 +17,7 @@ pub fn place(word: &[u8]) -> Result<u8, FieldFault>
     Ok(number as u8)
 }
 
-/// A life that is spelled behind a place: 2 to 16.
+/// A life that is spelled after a place: 2 to 16.
 fn life(word: &[u8]) -> Result<u8, FieldFault>
     ensures value { result ≡ life_of_word word.now }
     ensures within { IfOk result (λ life. (0 < life) × (life ≤ 16)) }
@@ -41,7 +41,7 @@ fn name_at(place: u8, life: u8) -> Name
     }
 }
 
-/// A name: its place, and a life other than the first behind a slash.
+/// A name: its place, and a life other than the first after a slash.
 #[tactic(auto, unfolding(am_text_defs::specs::Fields::name_in_text))]
 pub fn name(word: &[u8]) -> Result<Name, FieldFault>
     ensures { result ≡ name_in_text word.now }

@@ -10,7 +10,7 @@ use Rattle.am_trace_laws.proofs.Chars.{outcome_is_word}
 use Rattle.am_base.specs.declared.outcome.Outcome.TheVariants as said
 use Rattle.am_group.specs.declared.event.Act.TheVariants as acts
 
--- ---- words and what stands behind them
+-- ---- words and what stands after them
 
 pub two_of_word_and_rest : (word rest : List ℕ) → TextIsWord word → two_of (word ++ 32 ∷ rest) ≡ Ok (word, rest)
 two_of_word_and_rest word rest is = ap (λ (c : List ℕ × Option (List ℕ)). with_rest c.0 c.1) (cut_of_word_at_blank word rest is)
@@ -72,7 +72,7 @@ other_word {B} word rules outcome next other =
     (subst (λ b. IsErr (and_then (cond b (Ok tt) (Err Form)) (λ checked. next some.0))) (sym other) refl))
     (outcome_words rules outcome)
 
--- another word behind a place fails
+-- another word after a place fails
 other_behind : {B : Type 0} (word : List ℕ) (rules : Rules) (outcome : Outcome) (rest : List ℕ) (next : ℕ → List ℕ → Result B FieldFault)
     → same (outcome_word outcome) word ≡ false → IsErr (and_then (number_up_to 15 rest) (λ place.
     and_then (two_of (outcome_text rules outcome)) (λ told. and_then (expect word told.0) (λ checked. next place told.1))))

@@ -28,7 +28,7 @@ emit_says m (Some s) o n =
 queue_says : (m : Node) (body : List ℕ) (n : Node) → (queue m body).outcome n ≡ said.Queued (m.sends.last + 1)
 queue_says m body n = says_if (is_some (waiting_send_of m)) _ _ n _ refl (emit_says (node_with_queued_send m body) (waiting_send_of (node_with_queued_send m body)) _ n)
 
--- a send that isn't answered has the request behind the last
+-- a send that isn't answered has the request after the last
 pub unanswered_send_has_next_request : (m : Node) (body : List ℕ) → is_some (send_answer (step m (does.Send body)).outcome) ≡ false
     → sent_request (step m (does.Send body)).outcome ≡ m.sends.last + 1
 unfolding step finish row send_row

@@ -1,7 +1,7 @@
 -- The sends of a race have planned bodies.
 use Rattle.am_trace_laws.proofs.ScriptWords.{◌≡◌, ℕ, not, true, List, [], ◌∷◌, ◌++◌, refl, subst, ap, ⊎_elim, All, and_parts, Outcome, place_of_name, Letter, Act, By}
 use Rattle.am_trace_laws.proofs.ScriptWords.{Event, Record, RacePlan, Node, current, same_act, asks, IsLegalWithTags, calls_of, is_ready, of_call, own_of}
-use Rattle.am_trace_laws.proofs.ScriptWords.{up_to_last, world_after, lost_by, is_turn_of, is_turn, HasBody, ThreadHasBodies, RacesHavePlannedBodies}
+use Rattle.am_trace_laws.proofs.ScriptWords.{up_to_last, world_after, letter_lost_by_part, is_turn_of, is_turn, HasBody, ThreadHasBodies, RacesHavePlannedBodies}
 use Rattle.am_trace_laws.proofs.Planned.{same_bytes_gives_equal_lists, all_rest_of_each_record, ActPropertyIsKept, record_is_turn_or_planned}
 use Rattle.am_group.specs.declared.event.Act.TheVariants as act
 
@@ -17,7 +17,7 @@ turn_has plan before e by h =
     let w = world_after plan.founding before in
     let name = current w (place_of_name e.node) in
     let rest = (and_parts (not (is_ready (w.nodes name) (own_of (of_call by.caller by.call before)))) _ h).1 in
-    turn_act plan before (up_to_last (place_of_name name) by.caller before) (w.nodes name) name by.caller e.act (lost_by by.part) rest
+    turn_act plan before (up_to_last (place_of_name name) by.caller before) (w.nodes name) name by.caller e.act (letter_lost_by_part by.part) rest
 
 -- what a call asks at its end isn't a send
 asks_has : (a : Act) (o : Outcome) (letters : List Letter) (b : Act) → asks a o letters b ≡ true → HasBody b

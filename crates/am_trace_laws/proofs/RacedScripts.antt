@@ -5,7 +5,7 @@ use Rattle.am_trace_laws.proofs.ScriptWords.{none-some, slice_get_within, most_e
 use Rattle.am_trace_laws.proofs.ScriptWords.{RacePlan, ThreadPlan, Node, World, current, world_after_act, run, BodyIsWithinLimit, NodeNumbers, number_bounds_hold_in_runs, IsCount, ActWithin}
 use Rattle.am_trace_laws.proofs.ScriptWords.{EventWithin, CallWithin, ThreadWithin, RaceWithin, EachComesNext, has_stopped, own_answer, send_answer, ballot_answer}
 use Rattle.am_trace_laws.proofs.ScriptWords.{sent_request, same_act, asks, IsLawfulRecord, terms_of, IsLegalWithTags, calls_of, is_ready, round_in, is_turn_part, of_call}
-use Rattle.am_trace_laws.proofs.ScriptWords.{own_of, up_to_last, world_after, lost_by, is_waited, is_least, is_turn_of, is_turn, events_of_records, told_world_is_events_run, stopped_names_are_set}
+use Rattle.am_trace_laws.proofs.ScriptWords.{own_of, up_to_last, world_after, letter_lost_by_part, is_waited, is_least, is_turn_of, is_turn, events_of_records, told_world_is_events_run, stopped_names_are_set}
 use Rattle.am_trace_laws.proofs.ScriptWords.{HasBody, ThreadHasBodies, RacesHaveScripts}
 use Rattle.am_race_laws.specs.Plans.{is_call}
 use Rattle.am_trace_laws.proofs.{RacedBodies.race_sends_have_planned_bodies, Letters.record_sends_nine_at_most, Letters.letters_le_nine_each_record, Own.unanswered_send_has_next_request, Own.unanswered_reset_has_next_round}
@@ -183,7 +183,7 @@ module _ (plan : RacePlan) (journal : List Record) (within : RaceWithin plan) (t
         let w = world_after plan.founding before in
         let name = current w (place_of_name r.event.node) in
         let t = (and_parts (not (is_ready (w.nodes name) (own_of (of_call r.by.caller r.by.call before)))) _ (legal.turns before rest r is turn)).1 in
-        by_act (up_to_last (place_of_name name) r.by.caller before) (w.nodes name) name (lost_by r.by.part) r.event.act refl t
+        by_act (up_to_last (place_of_name name) r.by.caller before) (w.nodes name) name (letter_lost_by_part r.by.part) r.event.act refl t
       where
         by_act : (knew : List Record) (m : Node) (name lost : ℕ) (a : Act) → r.event.act ≡ a → is_turn_of plan before knew m name r.by.caller a lost ≡ true
             → ActWithin a

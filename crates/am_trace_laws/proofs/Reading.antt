@@ -48,7 +48,7 @@ abbrev line_of : Rules → ℕ → ℕ → Record → List ℕ
 line_of rules number before r = decimal number ++ (codes " " ++ (event_text rules r.event ++ (codes " : " ++ (outcome_text rules r.outcome
     ++ letters_text (place_of_name r.event.node) (before + 1) r.packets))))
 
--- what stands behind its number
+-- what stands after its number
 abbrev behind_of : Rules → ℕ → Record → List ℕ
 behind_of rules before r = event_text rules r.event ++ (codes " : " ++ (outcome_text rules r.outcome
     ++ letters_text (place_of_name r.event.node) (before + 1) r.packets))

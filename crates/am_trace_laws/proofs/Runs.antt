@@ -2,9 +2,9 @@
 use Rattle.am_trace_laws.proofs.Words.{◌≡◌, ℕ, zero, suc, ◌+◌, ◌*◌, ◌/◌, ◌%◌, ◌≤◌, ◌==◌, if◌then◌else◌, List, [], ◌∷◌, ◌++◌, length, map, refl, sym, ap, ◌∙◌}
 use Rattle.am_trace_laws.proofs.Words.{arith, subst, Ok, Option, Some, None, All, flat_map, range_with_len, All-head, All-tail, greatest_number, Rules, Entry}
 use Rattle.am_trace_laws.proofs.Words.{Outcome, split_on_bool, Act, Event, Record, acting_name_of_record, entry_taken_by_outcome, entries_given_to, deliveries, founders_entry, has_log_by_status, Decided, World}
-use Rattle.am_trace_laws.proofs.Words.{happens, world_after_events, run, logs, Watch, watch_start, watch_event, watch_events, watch_run, greatest_complete, is_lawful, broken_now}
+use Rattle.am_trace_laws.proofs.Words.{happens, world_after_events, run, logs, Watch, watch_start, watch_event, watch_events, watch_run, greatest_complete, is_lawful, first_unlawful_event_so_far}
 use Rattle.am_trace_laws.proofs.Words.{play_text_of, play_text, watched_is_run, one_record_each, run_begins_longer_run, IsOfBytes, Reading, read_text, IsRunWithinScriptLimits, number_bounds_hold_in_runs}
-use Rattle.am_trace_laws.proofs.Words.{IsSayable, AsksBytes, IsAnswerOfAct, IsBack, IsSound, LivesTold, lives_are_told, records_are_sound, short_runs_stay_in_range, IsRaised}
+use Rattle.am_trace_laws.proofs.Words.{IsSayable, AsksBytes, IsAnswerOfAct, ReturnAnswerHasLife, IsSound, LivesTold, lives_are_told, records_are_sound, short_runs_stay_in_range, IsRaised}
 use Rattle.am_trace_laws.proofs.Words.{GivesRaised}
 use Rattle.am_trace_laws.proofs.Words.{GaveRaised, resiliences_hold, reading_of}
 use Rattle.am_trace_laws.proofs.Reading.{RecordIsReadable, RecordsAreReadable, EntryIsReadable, EntriesAreReadable, DeliveriesAreReadable, LogsAreReadable, BreakNumberIsWithinLimits}
@@ -38,7 +38,7 @@ taken : (rules : Rules) (act : Act) (outcome : Outcome) → IsAnswerOfAct act ou
 taken rules act (said.Took number entry) answer raised = (answer.1, printed_entry_is_read rules entry answer.2 raised)
 taken rules act _ answer raised = tt
 
-counted : (rules : Rules) (act : Act) (outcome : Outcome) → AsksBytes act → IsAnswerOfAct act outcome → IsBack act outcome → GivesRaised rules outcome
+counted : (rules : Rules) (act : Act) (outcome : Outcome) → AsksBytes act → IsAnswerOfAct act outcome → ReturnAnswerHasLife act outcome → GivesRaised rules outcome
     → CountedActIsWithinLimits rules act outcome
 counted rules (acts.Send body) outcome asks answer back raised = (asks.0, asks.1, queued (acts.Send body) outcome answer)
 counted rules (acts.Done req) outcome asks answer back raised = answered req outcome answer
@@ -113,7 +113,7 @@ MarkUpTo : ℕ → Option ℕ → Type 0
 MarkUpTo most None = Unit {0}
 MarkUpTo most (Some number) = number ≤ most
 
-marked_now : (w : World) (v : Decided) (count : ℕ) (broken : Option ℕ) → MarkUpTo count broken → MarkUpTo (count + 1) (broken_now w v (count + 1) broken)
+marked_now : (w : World) (v : Decided) (count : ℕ) (broken : Option ℕ) → MarkUpTo count broken → MarkUpTo (count + 1) (first_unlawful_event_so_far w v (count + 1) broken)
 unfolding MarkUpTo
 marked_now w v count (Some k) h = omega arith
 marked_now w v count None h = split_on_bool (is_lawful w v) (λ t. rw t tt) (λ f. rw f (omega arith))

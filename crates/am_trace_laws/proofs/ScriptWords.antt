@@ -40,7 +40,7 @@ pub use Rattle.am_race_laws.specs.Callers.{same_bytes, same_act, has_no_records,
 pub use Rattle.am_race_laws.specs.Tags.{of_caller, is_own, is_turn_part, is_check, of_call, own_of, up_to_last}
 pub use Rattle.am_race_laws.specs.{Answers.send_answer, Answers.ballot_answer, Answers.sent_request, Answers.is_take, Lawful.is_of_race, Lawful.IsLawfulRecord}
 pub use Rattle.am_race_laws.specs.{Lawful.terms_of, Legal.IsLegalWithTags, Plans.calls_of, Plans.calls_in, Ready.invite_round, Ready.or_else_round}
-pub use Rattle.am_race_laws.specs.{Ready.round_in, Ready.is_ready, Told.world_after, Turns.lost_by, Turns.is_turn_of, Turns.is_waited, Turns.is_least}
+pub use Rattle.am_race_laws.specs.{Ready.round_in, Ready.is_ready, Told.world_after, Turns.letter_lost_by_part, Turns.is_turn_of, Turns.is_waited, Turns.is_least}
 pub use Rattle.am_script_defs.specs.{Founders.founding_in, Keys.has_only, Limits.IsCount, Limits.ActWithin, Limits.EventWithin, RaceLimits.CallWithin}
 pub use Rattle.am_script_defs.specs.{RaceLimits.ThreadWithin, RaceLimits.RaceWithin, Refusals.ReadOrRefused, Refusals.◌>>=◌, Schedules.IsOfBytes, Schedules.AreOfBytes}
 pub use Rattle.am_script_defs.specs.{declared.key.ScriptKey.ScriptKey, declared.kind.EventKind.EventKind, declared.refusal.ScriptRefusal.TheVariants.BadValue}

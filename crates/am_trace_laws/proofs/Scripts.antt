@@ -103,7 +103,7 @@ script_line rules events bytes =
     (appended_lines_are_line (founders_json rules) (codes "," ++ (numbers_json rules ++ codes "}}")) (founders_line rules)
     (appended_lines_are_line (numbers_json rules) (codes "}}") (numbers_line rules) refl))
 
--- ---- a text behind its script
+-- ---- a text after its script
 
 -- where lines are read, it doesn't matter which number they have
 finish_at : (a b : ℕ) (s t : Reading) (rest : List ℕ) (whole : Bool) → cond whole (let r : Result Reading ℕ = Ok s in r) (Err a) ≡ Ok t
@@ -127,7 +127,7 @@ begins_brace : (rules : Rules) (events : List Event) (more : List ℕ) → (slic
 unfolding script_text
 begins_brace rules events more = refl
 
--- what is read without a brace is read behind a script
+-- what is read without a brace is read after a script
 behind_script : (rules : Rules) (events : List Event) (text : List ℕ) (t : Reading) → AreOfBytes events → (slice_index text 0 == 123) ≡ false
     → read_text text ≡ Ok t → read_text (script_text rules events ++ (newline ++ text)) ≡ Ok t
 behind_script rules events text t bytes other is =

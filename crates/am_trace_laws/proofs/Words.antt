@@ -21,7 +21,7 @@ pub use Rattle.am_model.proofs.Founders.{lowest_founder_founds}
 pub use Rattle.am_model.specs.Node.{Node, founders_entry, has_log_by_status, lowest_name_or_zero}
 pub use Rattle.am_group_defs.proofs.{Beginnings.run_begins_longer_run, Runs.watched_is_run, Runs.one_record_each}
 pub use Rattle.am_group_defs.specs.Claims.{NoBallot, Segment, Once, Sent, IsSend, BeginsAt, IsSegment, StandsOnce}
-pub use Rattle.am_group_defs.specs.Lawful.{broken_at, watch_run, lawful_front, events_before_break, Watch, watch_start, greatest_complete, is_lawful, broken_now}
+pub use Rattle.am_group_defs.specs.Lawful.{broken_at, watch_run, lawful_front, events_before_break, Watch, watch_start, greatest_complete, is_lawful, first_unlawful_event_so_far}
 pub use Rattle.am_group_defs.specs.Text.{body_text, name_text, stamp_text, names_text, numbers_text, outcome_numbers, is_everybody_else, letters_text, lines_from}
 pub use Rattle.am_group_defs.specs.Text.{group_from, newline, hex_byte}
 pub use Rattle.am_group_defs.specs.{Group.logs, Group.AcceptedSend, Group.accepted_send_of_outcome, Group.accepted_sends, Play.play_text_of, Play.text_of_watch, World.World, World.run}
@@ -42,7 +42,7 @@ pub use Rattle.am_safety.proofs.RaisedRuns.{resiliences_hold}
 pub use Rattle.am_safety.proofs.Sound.{records_are_sound}
 pub use Rattle.am_safety.proofs.Sound.{requests_in_turn}
 pub use Rattle.am_safety.proofs.RangeBytes.{short_runs_stay_in_range}
-pub use Rattle.am_safety.specs.Records.{IsSayable, AsksBytes, returned_as, names_after, HasLife, IsAnswerOfAct, IsBack, IsSound, LivesTold, queued_in, queued_by}
+pub use Rattle.am_safety.specs.Records.{IsSayable, AsksBytes, returned_as, names_after, HasLife, IsAnswerOfAct, ReturnAnswerHasLife, IsSound, LivesTold, queued_in, queued_by}
 pub use Rattle.am_safety.specs.Records.{requests_given, names_told, AreTold, first_names}
 pub use Rattle.am_safety.specs.Resiliences.{IsRaised, GivesRaised, GaveRaised}
 pub use Rattle.am_script_defs.specs.Schedules.{IsOfBytes, AreOfBytes, others_json}

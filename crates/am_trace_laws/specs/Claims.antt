@@ -40,7 +40,7 @@ abbrev pub LawfulTextsAgree : Type 0
 LawfulTextsAgree = (rules : Rules) (events : List Event) → IsRunWithinScriptLimits rules events → AreOfBytes events → IsOfOneList rules events
     → AgreesAs rules events (play_text_of rules events)
 
--- a run's text behind a line that has its events as a script is read as it is without that line
+-- a run's text after a line that has its events as a script is read as it is without that line
 abbrev pub ScriptsArePassedOver : Type 0
 ScriptsArePassedOver = (rules : Rules) (events : List Event) → AreOfBytes events → ReadsAs rules events (play_text_of rules events)
     → ReadsAs rules events (script_text rules events ++ (newline ++ play_text_of rules events))

@@ -10,7 +10,7 @@ pub fn lawful_texts_agree()
     ensures { LawfulTextsAgree }
 {}
 
-/// A run's text behind its events as a script, as a race writes them, is read as it is without that line.
+/// A run's text after its events as a script, as a race writes them, is read as it is without that line.
 pub fn scripts_are_passed_over()
     ensures { ScriptsArePassedOver }
 {}

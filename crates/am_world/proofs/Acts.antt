@@ -1,7 +1,7 @@
 -- A name's node does a step.
 use Rattle.am_world.proofs.Words.{◌≡◌, ℕ, ◌+◌, ◌-◌, ◌<◌, ◌≤◌, ◌==◌, max, Bool, true, false, if◌then◌else◌, List, [], ◌∷◌, ◌++◌, length, take, drop, Some}
 use Rattle.am_world.proofs.Words.{slice_get, slice_set, refl, sym, ap, ◌∙◌, subst, arith, length-append, length-drop, length-take, length-set, drop-drop}
-use Rattle.am_world.proofs.Words.{nat_tests, most_events_of_run, Entry, Image, Stamp, Outcome, NodeEvent, Rules, place_of_name, Letter, CoreState, IsInOrder, end_has_image_of_whole_log}
+use Rattle.am_world.proofs.Words.{nat_tests, most_events_of_run, Entry, Image, Stamp, Outcome, NodeEvent, Rules, place_of_name, Letter, CoreState, CoreFrontsAreInOrder, end_has_image_of_whole_log}
 use Rattle.am_world.proofs.Words.{Event, Record, view, step, happens, current, world_with_step, list_with_accepted, list_after_step, record_of, IsEndOf, Node, state_of}
 use Rattle.am_world.proofs.Words.{HasNumbersLeft, Play, replay, play_after, AreNodes, AreLives, AreFlags, IsRun, play_of, EventIsAnswered, comes, IsReadyAt, StepsAt}
 use Rattle.am_world.proofs.Words.{node_end_has_same_top, whole_step_comes_to_end, NodeNumbers, slice_get_some_below_length}
@@ -76,7 +76,7 @@ numbers_left events accepted all m few lows is =
 
 -- what a step comes to is low, and isn't trimmed beyond the group list
 next_low : (p : Play) (e : Event) (what : NodeEvent) (n : protocol.Node) → happens (replay p) e ≡ world_after_node_event (replay p) e what
-    → IsEndOf (step ((replay p).nodes (current (replay p) (place_of_name e.node))) what).node n → IsInOrder n.core → (n.core.base ≤ length (replay p).group)
+    → IsEndOf (step ((replay p).nodes (current (replay p) (place_of_name e.node))) what).node n → CoreFrontsAreInOrder n.core → (n.core.base ≤ length (replay p).group)
     × (n.core.acc ≤ length p.events + 2)
 next_low p e what n is end order =
     let w = replay p in

@@ -1,19 +1,19 @@
 -- A world begins as its run.
 use Rattle.am_world.proofs.Words.{◌≡◌, ⊎_elim, ℕ, zero, suc, ◌+◌, ◌<◌, Bool, true, false, if◌then◌else◌, List, [], ◌∷◌, ◌++◌, length, replicate, Some}
 use Rattle.am_world.proofs.Words.{slice_get, slice_index, slice_index_or, refl, sym, ap, ◌∙◌, subst, arith, length-append, length-replicate, Rules, MayFound}
-use Rattle.am_world.proofs.Words.{has, name_of_place_and_life, IsInOrder, founder, stranger_node, founders_entry, start, first_node, world_after_events, IsEndOf, untrimmed_node_is_own_end, Node, state_of}
+use Rattle.am_world.proofs.Words.{has, name_of_place_and_life, CoreFrontsAreInOrder, founder, stranger_node, founders_entry, start, first_node, world_after_events, IsEndOf, untrimmed_node_is_own_end, Node, state_of}
 use Rattle.am_world.proofs.Words.{AreNodes, AreFirst, AreLives, AreFlags, IsRun, play_of, slice_get_after_push}
 use Rattle.am_model.specs.Node as protocol
 
-stranger_order : (rules : Rules) (name : ℕ) → IsInOrder (stranger_node rules name).core
+stranger_order : (rules : Rules) (name : ℕ) → CoreFrontsAreInOrder (stranger_node rules name).core
 stranger_order rules name = record { kept = refl; let_go = omega arith; given = omega arith; accepted = omega arith }
 
-founder_order : (rules : Rules) (name : ℕ) → IsInOrder (founder rules name).core
+founder_order : (rules : Rules) (name : ℕ) → CoreFrontsAreInOrder (founder rules name).core
 founder_order rules name = record { kept = refl; let_go = omega arith; given = omega arith; accepted = omega arith }
 
 -- a node of the code that is this one
 abbrev pub NodeKeepsEndInOrder : protocol.Node → protocol.Node → Type 0
-NodeKeepsEndInOrder all m = IsEndOf all m × IsInOrder m.core
+NodeKeepsEndInOrder all m = IsEndOf all m × CoreFrontsAreInOrder m.core
 
 pub stranger_keeps_end_in_order : (rules : Rules) (name : ℕ) (m : protocol.Node) → m ≡ stranger_node rules name → NodeKeepsEndInOrder (stranger_node rules name) m
 stranger_keeps_end_in_order rules name m is = subst (NodeKeepsEndInOrder (stranger_node rules name)) (sym is) (untrimmed_node_is_own_end (stranger_node rules name) refl, stranger_order rules name)

@@ -28,7 +28,7 @@ gives_more p e more name =
     ap (λ rs. deliveries rs name) more.1.1 ∙ flat_map-append (entries_given_to name) old (its p e more ∷ [])
     ∙ ap (λ xs. deliveries old name ++ xs) (append-nil (entries_given_to name (its p e more)))
 
--- so a name was given what a record gives that stands last behind an event
+-- so a name was given what a record gives that stands last after an event
 pub last_record_gives_its_entry : (p : Play) (e : Event) (more : IsOneMore p e) (q : Play) (name : ℕ) (last : Record) → q ≡ play_after p e
     → Some last ≡ slice_get (replay q).records (length (replay q).records - 1)
     → deliveries (replay q).records name ≡ deliveries (replay p).records name ++ entries_given_to name last

@@ -19,7 +19,7 @@ pub use Rattle.std.proofs.lemmas.List.{drop-drop, length-replicate, map_push, ta
 pub use Rattle.std.proofs.lemmas.Option.{slice_get_within, get_or_from_slice_get, none-some, same_Some, slice_get_read}
 pub use Rattle.am_base.specs.Most.{most_events_of_run}
 pub use Rattle.am_packet.specs.{Spelling.spelling}
-pub use Rattle.am_node_defs.specs.Cores.{IsInOrder}
+pub use Rattle.am_node_defs.specs.Cores.{CoreFrontsAreInOrder}
 pub use Rattle.am_node_defs.proofs.{Ends.end_has_image_of_whole_log, Ends.entry_at_is_slice_get, Folds.slice_get-drop}
 pub use Rattle.am_group.specs.{declared.event.Record.Record, Journals.letters_of_records, Journals.record_without_caller}
 pub use Rattle.am_group.proofs.Places.{slice_get_some_below_length, letters_of_pushed_record}

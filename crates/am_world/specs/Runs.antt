@@ -5,7 +5,7 @@ use Rattle.am_base.specs.declared.entry.Entry.{Entry}
 use Rattle.am_base.specs.declared.outcome.Outcome.{Outcome}
 use Rattle.am_base.specs.Founding.{Rules, MayFound}
 use Rattle.am_packet.specs.Boxes.{Letter}
-use Rattle.am_node_defs.specs.Cores.{IsInOrder}
+use Rattle.am_node_defs.specs.Cores.{CoreFrontsAreInOrder}
 use Rattle.am_group.specs.declared.event.Event.{Event}
 use Rattle.am_group.specs.declared.event.Record.{Record}
 use Rattle.am_group.specs.Journals.{letters_of_records}
@@ -30,12 +30,12 @@ play_after p event = record p { events = p.events ++ event ∷ [] }
 -- of each place the node of its current life
 pub record AreNodes (nodes : List Node) (w : model.World) : Type 0 where
   pub count : length nodes ≡ 16
-  pub each : (i : ℕ) (n : Node) → slice_get nodes i ≡ Some n → IsEndOf (w.nodes (current w i)) (state_of n) × IsInOrder (state_of n).core
+  pub each : (i : ℕ) (n : Node) → slice_get nodes i ≡ Some n → IsEndOf (w.nodes (current w i)) (state_of n) × CoreFrontsAreInOrder (state_of n).core
 
 -- these are the first of them
 pub record AreFirst (many : ℕ) (nodes : List Node) (w : model.World) : Type 0 where
   pub count : length nodes ≡ many
-  pub each : (i : ℕ) (n : Node) → slice_get nodes i ≡ Some n → IsEndOf (w.nodes (current w i)) (state_of n) × IsInOrder (state_of n).core
+  pub each : (i : ℕ) (n : Node) → slice_get nodes i ≡ Some n → IsEndOf (w.nodes (current w i)) (state_of n) × CoreFrontsAreInOrder (state_of n).core
 
 -- the life of each place
 pub record AreLives (lives : List ℕ) (w : model.World) : Type 0 where

@@ -8,7 +8,7 @@ ghost use Rattle.am_race_laws.specs.Ready.{is_ready};
 ghost use Rattle.am_race_laws.specs.Tags.{of_call, own_of};
 ghost use Rattle.am_shared_journal_defs.specs.Choices.{act_of};
 ghost use Rattle.am_group.specs.declared.event.Act.TheVariants as acts;
-ghost use Rattle.am_race_laws.specs.Lawful.{IsSent, plan_by, terms_of};
+ghost use Rattle.am_race_laws.specs.Lawful.{IsSent, threadless_plan_of_terms, terms_of};
 ghost use Rattle.am_race_laws.specs.Turns.{waits_in_vain, words_drawn, is_turn};
 
 use super::{NodeBox, Visit};
@@ -18,7 +18,7 @@ use am_base::name::Name;
 use am_group::event::Act;
 use am_packet::letter::LetterCopy;
 use am_race_laws::call::Came;
-use am_shared_journal::wire::{Share, Wire};
+use am_shared_journal::wire::{Share, SharedJournal};
 use am_shared_journal_defs::choice::Choice;
 use am_turn_chooser::chooser::Chooser;
 use std::sync::Wait;
@@ -33,7 +33,7 @@ pub(super) struct FoundTurn {
 
 impl<N: Racing> NodeBox<N> {
     /// The least name that its ballot waits for and that has stopped.
-    fn in_vain<R: Wait>(&mut self, rt: &R, wire: &Wire<RaceLaw>) -> Option<Name>
+    fn in_vain<R: Wait>(&mut self, rt: &R, wire: &SharedJournal<RaceLaw>) -> Option<Name>
         requires own { wire.now.id ≡ N.wire }
         requires open_ { self.old.closed ≡ None }
         ensures looks { BoxLooks self.old self.new }
@@ -48,7 +48,7 @@ impl<N: Racing> NodeBox<N> {
     }
 
     /// A letter that was sent to its node.
-    fn letter<R: Wait>(&mut self, rt: &R, wire: &Wire<RaceLaw>, number: u32) -> LetterCopy
+    fn letter<R: Wait>(&mut self, rt: &R, wire: &SharedJournal<RaceLaw>, number: u32) -> LetterCopy
         requires own { wire.now.id ≡ N.wire }
         requires open_ { self.old.closed ≡ None }
         requires sent { IsSent self.old.seen self.old.name number }
@@ -65,7 +65,12 @@ impl<N: Racing> NodeBox<N> {
     }
 
     /// What a choice does, which hears only what was sent to the node.
-    fn turn_of_choice<R: Wait>(&mut self, rt: &R, wire: &Wire<RaceLaw>, choice: Choice) -> FoundTurn
+    fn turn_of_choice<R: Wait>(
+        &mut self,
+        rt: &R,
+        wire: &SharedJournal<RaceLaw>,
+        choice: Choice,
+    ) -> FoundTurn
         requires own { wire.now.id ≡ N.wire }
         requires open_ { self.old.closed ≡ None }
         requires sent { (number : ℕ) → heard_in choice ≡ Some number
@@ -96,7 +101,12 @@ impl<N: Racing> NodeBox<N> {
     }
 
     /// What the chooser says by the letters for its node.
-    fn choose<R: Wait>(&mut self, rt: &R, wire: &Wire<RaceLaw>, chooser: &mut Chooser) -> FoundTurn
+    fn choose<R: Wait>(
+        &mut self,
+        rt: &R,
+        wire: &SharedJournal<RaceLaw>,
+        chooser: &mut Chooser,
+    ) -> FoundTurn
         requires own { wire.now.id ≡ N.wire }
         requires open_ { self.old.closed ≡ None }
         ensures looks { BoxLooks self.old self.new }
@@ -114,7 +124,12 @@ impl<N: Racing> NodeBox<N> {
 
     /// What its node does at a turn: it gives up the least name that it waits for and that has stopped, or does what the chooser
     /// says.
-    fn find<R: Wait>(&mut self, rt: &R, wire: &Wire<RaceLaw>, chooser: &mut Chooser) -> FoundTurn
+    fn find<R: Wait>(
+        &mut self,
+        rt: &R,
+        wire: &SharedJournal<RaceLaw>,
+        chooser: &mut Chooser,
+    ) -> FoundTurn
         requires own { wire.now.id ≡ N.wire }
         requires open_ { self.old.closed ≡ None }
         ensures looks { BoxLooks self.old self.new }
@@ -153,7 +168,7 @@ impl<N: Racing> NodeBox<N> {
         ensures share { Sees share.old share.new }
         ensures met { share.new.seen ≡ self.new.seen }
         ensures few { length self.new.seen ≤ most_events_of_run }
-        ensures turn { is_turn (plan_by (terms_of N.plan)) self.new.seen
+        ensures turn { is_turn (threadless_plan_of_terms (terms_of N.plan)) self.new.seen
             (turn_event_at self.old.name result.act)
             (turn_by visit.now.tag.caller visit.now.tag.call result.lost) ≡ true }
         ensures hears { (number : ℕ) → result.act ≡ acts.Hear number
@@ -166,7 +181,7 @@ impl<N: Racing> NodeBox<N> {
     }
 
     /// Whether there is a letter for its node that it hasn't come to.
-    fn has_letter<R: Wait>(&mut self, rt: &R, wire: &Wire<RaceLaw>) -> bool
+    fn has_letter<R: Wait>(&mut self, rt: &R, wire: &SharedJournal<RaceLaw>) -> bool
         requires own { wire.now.id ≡ N.wire }
         requires open_ { self.old.closed ≡ None }
         ensures looks { BoxLooks self.old self.new }
@@ -180,7 +195,7 @@ impl<N: Racing> NodeBox<N> {
     pub fn has_to_do<R: Wait>(
         &mut self,
         rt: &R,
-        wire: &Wire<RaceLaw>,
+        wire: &SharedJournal<RaceLaw>,
         act: &Act,
         came: &Option<Came>,
     ) -> bool

@@ -6,7 +6,7 @@ use Rattle.am_refinement.proofs.Words.{lowest_name_or_zero, has_log_by_status, h
 use Rattle.am_refinement.proofs.Words.{both_of_and, Cause, hears, BallotIsLookedAt, LooksAtBallot, decides, with_more, without_one, as_it_is, IsNumberedBy, MayStore, MayBeWelcomed}
 use Rattle.am_refinement.proofs.Words.{MayStoreFetched, MayPromise, invited, overtaken, told_result, CarriesEntry, whole_entry, by_number, Change, begins_list, looks, stores_view}
 use Rattle.am_refinement.proofs.Words.{balloting_has_no_own_vote, told_image_is_used, OpenBallotIsPromised, balloting_looks_at_open_ballot, FoundBodyWasSent, found_body_was_sent, NameStands, within, WasAsked, BodiesAsked, WasBegun}
-use Rattle.am_refinement.proofs.Words.{MayMove, NeedsNumber, NeedsEntry, NeedsWelcome, Needs, NeedsLook, NeedsPiece, KeptWhole, BallotStands, LastStands, Stepping}
+use Rattle.am_refinement.proofs.Words.{MayMove, MeetsNeedsOfNumbering, NeedsEntry, NeedsWelcome, Needs, NeedsLook, NeedsPiece, KeptWhole, BallotStands, LastStands, Stepping}
 use Rattle.am_refinement.proofs.Words.{◌≤◌, take, stamp_is_less, begins_through_both, taken_front_begins_list, beginning_is_no_longer, length_of_taken_list, take_length_of_beginning, key_is_less_for_lesser_stamp, unordered_stamps_are_equal, WelcomeSays}
 use Rattle.am_step_laws.specs.Changes.{numbers, stores, fetches, closes}
 use Rattle.am_packet.specs.declared.packet.Packet.TheVariants as packet
@@ -187,7 +187,7 @@ module _ (rules : Rules) (w : World) (name : ℕ) (c : Cause) (x : Node) (s : Gr
   member_set t = subst (λ (i : Image). IsSetOfNames (members_of_image i)) (image_of_whole_within_step w name name x (s.node name) acting_name_stands_before)
       (named_list_members_are_set (s.node name).list (named_list_has_named_front (s.node name).list (chain_of s.views) ((group_is_kept_at_step.each name).list (acting_member_is_up t)) h.group.named))
 
-  pub numbered_entry_has_its_needs : (e : Entry) → is_sequencer x ≡ true → IsNumberedBy c x e → NeedsNumber s name x e
+  pub numbered_entry_has_its_needs : (e : Entry) → is_sequencer x ≡ true → IsNumberedBy c x e → MeetsNeedsOfNumbering s name x e
   numbered_entry_has_its_needs e t why = numbering_gives_its_needs w name c x e s group_is_kept_at_step h.who h.runs acting_name_stands_before (sequencer_node_stands_for_sequencer w name x (s.node name) h.who t acting_name_stands_before)
       (told_image_is_used x h.along.owned.fronts).places
       (own_waiting_send_fits (within w name x) name x (s.node name) acting_name_stands_before (acting_member_has_good_list (acting_sequencer_is_member t))

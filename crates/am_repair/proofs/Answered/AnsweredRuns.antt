@@ -1,4 +1,4 @@
--- What is answered in every run, and behind a lossless schedule.
+-- What is answered in every run, and after a lossless schedule.
 use Rattle.am_lawful_runs.proofs.Words.{◌≡◌, ℕ, ◌<◌, List, ◌++◌, true, subst, arith, Rules, MayFound, has, Event, top, World, start, current, run}
 use Rattle.am_lawful_runs.proofs.Words.{lawful_front, runs_go_on}
 use Rattle.am_model.specs.Node.{members}

@@ -87,7 +87,7 @@ waiting_request_le_sent m s h w =
     let low = waiting_request_le_last m.sends.last m.sends.queue s h.line w in
     omega arith
 
--- where none waits the next is the one behind the last
+-- where none waits the next is the one after the last
 none_next : (last : ℕ) (q : List OwnSend) → is_some (find is_unsettled q) ≡ false → next_unsettled_request last q ≡ last + 1
 none_next last [] none = refl
 none_next last (s ∷ ss) none = split_on_bool (is_unsettled s)

@@ -1,4 +1,4 @@
--- Whose storage counts behind the last View, where a run may be repaired: each of them is a member still.
+-- Whose storage counts after the last View, where a run may be repaired: each of them is a member still.
 use Rattle.am_lawful_runs.proofs.Words.{image_at_of_whole_list, log_image_at, GroupView}
 use Rattle.am_repair.proofs.Repairable.RepairedWords.{◌≡◌, ◌≢◌, ℕ, zero, suc, ◌+◌, ◌<◌, ◌≤◌, ◌==◌, true, false, List, [], ◌∷◌, ◌++◌, length, slice_index, All, sym, ap}
 use Rattle.am_repair.proofs.Repairable.RepairedWords.{◌∙◌, subst, arith, nat_tests, All-nil, All-cons, Entry, Leave, View, Image, Rules, MayFound, IsSetOfNames}
@@ -17,7 +17,7 @@ use Rattle.am_base.proofs.Prefixes.{take_length_of_beginning}
 
 -- ---- who counts for a number
 
--- ---- how a membership ends behind the last View
+-- ---- how a membership ends after the last View
 
 -- a View in a list is no later than its last one
 viewed_low : (list before : List Entry) (v : GroupView) → IsBeginningOf (before ++ View v ∷ []) list → length before < (image_of_list list).view_number
@@ -45,7 +45,7 @@ leaves_last list before name e good within view_ is none = absurd (let z = membe
 
 -- ---- of a group
 
--- who counts for a number that the sequencer hasn't accepted, behind the last View, is a member at the list's end
+-- who counts for a number that the sequencer hasn't accepted, after the last View, is a member at the list's end
 stays_member : (s : Group) (q : ℕ) (list : List Entry) (n name : ℕ) → GroupKeeps s → AllLeaversAskedAndGone s → Leads q (s.node q) → list ≡ chain_of s.views
     → length s.group < n → n ≤ length list → (image_of_list list).view_number ≤ n
     → ((at : ℕ) → n ≤ at + 1 → at ≤ length list → is_member_at_end (take at list) name ≡ true → (s.node name).leaving ≡ true → (s.node name).departed ≡ true)

@@ -1,4 +1,4 @@
--- What the group accepted behind the last View its coordinator accepted.
+-- What the group accepted after the last View its coordinator accepted.
 use Rattle.am_repair.proofs.Repairable.RepairedWords.{◌≡◌, ◌≢◌, either, ℕ, zero, suc, ◌+◌, ◌-◌, ◌<◌, ◌≤◌, max, ◌==◌, true, false, if◌then◌else◌, List, [], ◌∷◌, Status}
 use Rattle.am_repair.proofs.Repairable.RepairedWords.{◌++◌, length, take, drop, Some, slice_get, refl, sym, ap, ◌∙◌, subst, arith, length-append, append_assoc}
 use Rattle.am_repair.proofs.Repairable.RepairedWords.{nat_tests, take-append-drop, length-take, take_all, take-append-add, Entry, View, Outcome, Rules, MayFound, Event}

@@ -200,7 +200,7 @@ event_keeps_world_numbers_low b w e h = low_event b w e (happens w e) (events_ha
 abbrev pub bounds_after_events : ℕ → Bounds → Bounds
 bounds_after_events many b = record { lists = b.lists + many; rounds = b.rounds + many; requests = b.requests + many }
 
--- what each event keeps, by bounds that are one higher behind it
+-- what each event keeps, by bounds that are one higher after it
 pub events_keep_with_higher_bounds : (P : Bounds → World → Type 0) (Q : Event → Type 0) → ((b : Bounds) (w : World) (e : Event) → Q e → P b w → P (bounds_one_higher b) (happens w e))
     → (b : Bounds) (w : World) (events : List Event) → All Q events → P b w → P (bounds_after_events (length events) b) (world_after_events w events)
 unfolding world_after_events

@@ -15,6 +15,18 @@ pub returns-clause-coordinator_stops_too : goal.returns-clause-coordinator_stops
 unfolding opened
 returns-clause-coordinator_stops_too c = refl
 
+pub returns-clause-crowded : goal.returns-clause-crowded
+unfolding opened
+returns-clause-crowded c = refl
+
+pub returns-clause-crowded_given_up : goal.returns-clause-crowded_given_up
+unfolding opened
+returns-clause-crowded_given_up c = refl
+
+pub returns-clause-crowded_taken : goal.returns-clause-crowded_taken
+unfolding opened
+returns-clause-crowded_taken c = refl
+
 pub returns-clause-leaver_let_go_behind : goal.returns-clause-leaver_let_go_behind
 unfolding opened
 returns-clause-leaver_let_go_behind c = refl
@@ -30,6 +42,10 @@ returns-clause-raised_resilience c = refl
 pub returns-clause-raised_resilience_stays : goal.returns-clause-raised_resilience_stays
 unfolding opened
 returns-clause-raised_resilience_stays c = refl
+
+pub returns-clause-running_member : goal.returns-clause-running_member
+unfolding opened
+returns-clause-running_member c = refl
 
 pub returns-clause-sequencer_leaves : goal.returns-clause-sequencer_leaves
 unfolding opened

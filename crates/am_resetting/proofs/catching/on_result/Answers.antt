@@ -21,4 +21,4 @@ returns c =
     let mid = node_of c.raise_promise.new.parts in
     result_row_is_heard old mid (node_of c.hears_result.new.parts) arrival.from arrival.base arrival.number v
     c.hears_result.result (sym c.is_passed.ensures ∙ c.if-is_passed.false)
-    (c.raise_promise.ensures ∙ ap (node_with_promise old) c.copy_of.ensures) c.hears_result.ensures
+    (c.raise_promise.ensures ∙ ap (node_with_promise old) c.copy_of_stamp.ensures) c.hears_result.ensures

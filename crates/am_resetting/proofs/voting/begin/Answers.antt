@@ -10,7 +10,7 @@ decide-outcome-requires c =
     let stamp : c.next_stamp-stamp.result ≡ next_stamp old = c.next_stamp-stamp.ensures.value in
     let node : mid ≡ node_with_next_stamp old = c.raise_promise.ensures ∙ (λ k. node_with_promise (c.drop_ballot.ensures k) (stamp k)) in
     let ballot : ballot_of c.new-ballot.result ≡ new_ballot (next_stamp old) c.args.least (min c.args.resilience 15) = c.new-ballot.ensures
-    ∙ (λ k. new_ballot ((c.copy_of.ensures ∙ stamp) k) c.args.least (c.min.ensures k)) in
+    ∙ (λ k. new_ballot ((c.copy_of_stamp.ensures ∙ stamp) k) c.args.least (c.min.ensures k)) in
     subst (λ (x : Node). IsTakenOut x (ballot_of c.new-ballot.result)) (sym node)
     (subst (λ (b : Ballot). IsTakenOut (node_with_next_stamp old) b) (sym ballot)
     (new_ballot_is_taken_out old c.args.least c.args.resilience c.requires.order c.args.parts.now.keeps c.requires.logged c.requires.number))
@@ -24,7 +24,7 @@ returns c =
     let stamp : c.next_stamp-stamp.result ≡ next_stamp old = c.next_stamp-stamp.ensures.value in
     let node : mid ≡ node_with_next_stamp old = c.raise_promise.ensures ∙ (λ k. node_with_promise (c.drop_ballot.ensures k) (stamp k)) in
     let b = new_ballot (next_stamp old) c.args.least (min c.args.resilience 15) in
-    let ballot : ballot_of c.new-ballot.result ≡ b = c.new-ballot.ensures ∙ (λ k. new_ballot ((c.copy_of.ensures ∙ stamp) k) c.args.least (c.min.ensures k)) in
+    let ballot : ballot_of c.new-ballot.result ≡ b = c.new-ballot.ensures ∙ (λ k. new_ballot ((c.copy_of_stamp.ensures ∙ stamp) k) c.args.least (c.min.ensures k)) in
     let kept : mid.core.base ≡ mid.core.log.start = subst (λ (x : Node). x.core.base ≡ x.core.log.start) (sym node) c.requires.order.kept in
     let same : decide mid (ballot_of c.new-ballot.result) ≡ decide (node_with_promise old (next_stamp old)) b = (λ k. decide (node k) (ballot k))
     ∙ decide_without_own_ballot (node_with_promise old (next_stamp old)) None b in

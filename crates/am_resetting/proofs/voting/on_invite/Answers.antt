@@ -6,7 +6,7 @@ use Rattle.am_resetting.proofs.voting.on_invite.Goals as goal
 pub returns-then-is_below : goal.returns-then-is_below
 returns-then-is_below c =
     let old = node_of c.args.parts.now in
-    let below : stamp_is_less c.args.stamp c.promise_of-promise.result ≡ true = (λ k. stamp_is_less (sym c.copy_of.ensures k) (sym c.copy_of-2.ensures k))
+    let below : stamp_is_less c.args.stamp c.promise_of-promise.result ≡ true = (λ k. stamp_is_less (sym c.copy_of_stamp.ensures k) (sym c.copy_of_stamp-2.ensures k))
     ∙ sym c.is_below.ensures ∙ c.if-is_below.true in
     equal_reply_of_plan (invite_row old c.args.from c.args.stamp) c.saying.result (reply_with_own_vote (said.Newer c.promise_of-promise.result) c.args.from) old
     (c.saying.ensures ∙ ap (reply_with_telling (said.Newer c.promise_of-promise.result)) c.note_to-vote.ensures)
@@ -16,7 +16,7 @@ returns-then-is_below c =
 pub returns : goal.returns
 returns c =
     let old = node_of c.args.parts.now in
-    let below : stamp_is_less c.args.stamp c.promise_of-promise.result ≡ false = (λ k. stamp_is_less (sym c.copy_of.ensures k) (sym c.copy_of-2.ensures k))
+    let below : stamp_is_less c.args.stamp c.promise_of-promise.result ≡ false = (λ k. stamp_is_less (sym c.copy_of_stamp.ensures k) (sym c.copy_of_stamp-2.ensures k))
     ∙ sym c.is_below.ensures ∙ c.if-is_below.false in
     let new = node_of c.raise_promise.new.parts in
     equal_reply_of_plan (invite_row old c.args.from c.args.stamp) c.saying-2.result (reply_with_own_vote said.Voted c.args.from) new

@@ -2,7 +2,7 @@ use Rattle.std.proofs.Common.{◌≡◌, Option, Some, None, IfOk, sym, ap}
 use Rattle.std.proofs.Common.{◌∙◌, subst}
 use Rattle.am_service_defs.specs.Assembling.{after_entry}
 use Rattle.am_directory.specs.declared.backlog.Backlog.{Backlog}
-use Rattle.am_service_defs.specs.declared.step.Step.{Step}
+use Rattle.am_service_defs.specs.declared.step.ReplicaStep.{ReplicaStep}
 use Rattle.am_service_defs.specs.Contents.{Contents}
 use Rattle.am_service_defs.specs.Replicas.{ReplicaState, Waiting, apply_held, held_with, snapshot_for, fed, step_of, step_held, step_ready}
 use Rattle.am_directory.specs.Holding.{waiting_in, replica_state_of}
@@ -17,7 +17,7 @@ returns-in_default-clause-step c =
     let none : (replica_state_of c.self.inside).waiting ≡ None = ap (λ (b : Option Backlog). option_map waiting_in b) c.in_default.is in
     let e : step_ready c.self.inside.directory c.args.entry.now ≡ step_of c.args.self.now c.args.entry.now
     = sym (step_of_ready_replica (replica_state_of c.self.inside) c.args.entry.now none) ∙ ap (λ (s : ReplicaState). step_of s c.args.entry.now) c.self.view_is in
-    subst (λ (x : Step). IfOk c.apply_entry.result (λ step. step ≡ x)) e c.apply_entry.ensures.step
+    subst (λ (x : ReplicaStep). IfOk c.apply_entry.result (λ step. step ≡ x)) e c.apply_entry.ensures.step
 
 pub returns-in_default-clause-fed : goal.returns-in_default-clause-fed
 returns-in_default-clause-fed c =
@@ -42,7 +42,7 @@ pub returns-in-None-clause-step : goal.returns-in-None-clause-step
 returns-in-None-clause-step c =
     let e : step_held c.args.entry.now ≡ step_of c.args.self.now c.args.entry.now
     = sym (step_of_waiting_replica (replica_state_of c.self.inside) c.args.entry.now (waiting_in c.in-Some.backlog) None (waits c) (none c)) ∙ ap (λ (s : ReplicaState). step_of s c.args.entry.now) c.self.view_is in
-    subst (λ (x : Step). IfOk c.take.result (λ step. step ≡ x)) e c.take.ensures.step
+    subst (λ (x : ReplicaStep). IfOk c.take.result (λ step. step ≡ x)) e c.take.ensures.step
 
 pub returns-in-None-clause-fed : goal.returns-in-None-clause-fed
 returns-in-None-clause-fed c =
