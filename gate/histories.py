@@ -3,6 +3,7 @@
 import random
 import threading
 import time
+from collections.abc import Callable
 
 from linear import Asked, Value, is_linearizable, stale_reads
 from resp import Client, Cut, Reply, Wrong
@@ -23,6 +24,8 @@ class Histories:
         self.lock = threading.Lock()
         self.values = 0
         self.asked: dict[str, list[Asked]] = {key: [] for key in REGISTERS + COUNTERS}
+        # of each question that was answered, the store's place, when it was asked and when it was answered
+        self.answers: list[tuple[int, float, float]] = []
         self.wrong: list[str] = []
         self.is_over = threading.Event()
 
@@ -32,10 +35,12 @@ class Histories:
             self.values += 1
             return self.values
 
-    def note(self, key: str, one: Asked) -> None:
-        """Adds to a history."""
+    def note(self, key: str, one: Asked, place: int) -> None:
+        """Adds to a history what was asked of a place's store."""
         with self.lock:
             self.asked[key].append(one)
+            if one.is_known():
+                self.answers.append((place, one.called, one.answered))
 
     def client(self, k: int) -> None:
         """A client asks until all is over, and goes to another store where its own is gone."""
@@ -43,9 +48,9 @@ class Histories:
         while not self.is_over.is_set():
             place = draw.choice(list(self.stores.running) or [0])
             try:
-                client = Client(self.stores.ports[place], self.stores.patience)
+                client = self.stores.connect(place)
                 while not self.is_over.is_set():
-                    self.ask(client, draw)
+                    self.ask(client, place, draw)
                     time.sleep(draw.random() * PAUSE)
                 client.close()
             except Cut:
@@ -54,8 +59,8 @@ class Histories:
                 self.wrong.append(str(failed))
                 return
 
-    def ask(self, client: Client, draw: random.Random) -> None:
-        """Asks something of a key."""
+    def ask(self, client: Client, place: int, draw: random.Random) -> None:
+        """Asks something of a key, by a client of a place's store."""
         key = draw.choice(REGISTERS + COUNTERS)
         what = draw.choice(["get", "incr" if key in COUNTERS else "set"])
         value = self.value() if what == "set" else None
@@ -63,7 +68,7 @@ class Histories:
         try:
             reply = client.ask(what, key, *([] if value is None else [value]))
         except Cut:
-            self.note(key, Asked(what, value, called))
+            self.note(key, Asked(what, value, called), place)
             raise
         answered = time.monotonic()
         if isinstance(reply, Wrong):
@@ -71,7 +76,7 @@ class Histories:
             if reply.startswith(b"LOADING"):
                 raise Cut(str(reply))
             raise Failed(f"{what} {key}: {reply!r}")
-        self.note(key, Asked(what, value, called, answered, answer_of(what, reply)))
+        self.note(key, Asked(what, value, called, answered, answer_of(what, reply)), place)
 
 
 def answer_of(what: str, reply: Reply) -> Value:
@@ -85,24 +90,29 @@ def answer_of(what: str, reply: Reply) -> Value:
     raise Failed(f"{what} was answered {reply!r}")
 
 
-def kept(stores: Stores, seconds: float, seed: int) -> Histories:
-    """Histories of some seconds in which each store is killed and comes back."""
+def kept(stores: Stores, seed: int, disturb: Callable[[], None]) -> Histories:
+    """Histories up to the end of what disturbs the stores."""
     histories = Histories(stores, seed)
     threads = [threading.Thread(target=histories.client, args=(k,)) for k in range(CLIENTS)]
     for thread in threads:
         thread.start()
     try:
-        for place in (0, 1, 2):
-            time.sleep(seconds / 6)
-            stores.kill(place)
-            time.sleep(seconds / 6)
-            stores.start(place)
-            stores.wait()
+        disturb()
     finally:
         histories.is_over.set()
         for thread in threads:
             thread.join()
     return histories
+
+
+def kills(stores: Stores, seconds: float) -> None:
+    """In some seconds each store is killed and comes back."""
+    for place in (0, 1, 2):
+        time.sleep(seconds / 6)
+        stores.kill(place)
+        time.sleep(seconds / 6)
+        stores.start(place)
+        stores.wait()
 
 
 def faults(histories: Histories) -> list[str]:

@@ -53,17 +53,29 @@ class Stores:
         life = self.lives[place]
         return str(place) if life == 1 else f"{place}/{life}"
 
+    def words(self, place: int) -> list[object]:
+        """The settings of a place's member."""
+        words: list[object] = ["--name", self.name(place), "--founders", "0,1,2", "--resilience", "1", "--key", self.folder / "key"]
+        for other, port in zip(PLACES, self.udp, strict=True):
+            words += ["--address", f"{other}=127.0.0.1:{port}"]
+        return words
+
+    def within(self, place: int) -> list[str]:
+        """The words by which a place's process is begun."""
+        return []
+
     def start(self, place: int, *more: str) -> None:
         """Starts the next life of a place."""
         self.lives[place] += 1
-        words: list[object] = [self.program, "run", "--name", self.name(place), "--founders", "0,1,2", "--resilience", "1"]
-        words += ["--key", self.folder / "key", "--listen", f"127.0.0.1:{self.ports[place]}"]
+        words = [*self.within(place), self.program, "run", *self.words(place), "--listen", f"127.0.0.1:{self.ports[place]}"]
         words += ["--socket", self.folder / f"socket-{place}", "--log", self.folder / f"log-{place}-{self.lives[place]}"]
-        for other, port in zip(PLACES, self.udp, strict=True):
-            words += ["--address", f"{other}=127.0.0.1:{port}"]
         told = (self.folder / f"told-{place}-{self.lives[place]}").open("wb")
         with told:
             self.running[place] = subprocess.Popen([*map(str, words), *more], stdin=subprocess.DEVNULL, stdout=told, stderr=told)
+
+    def connect(self, place: int) -> Client:
+        """A client of a place's store."""
+        return Client(self.ports[place], self.patience)
 
     def kill(self, place: int) -> None:
         """Kills a place's process, and tells the others."""
@@ -76,7 +88,7 @@ class Stores:
 
     def info(self, place: int) -> dict[str, str]:
         """What a store tells of itself."""
-        client = Client(self.ports[place], self.patience)
+        client = self.connect(place)
         text = client.ask("info")
         client.close()
         if not isinstance(text, bytes):
@@ -101,3 +113,33 @@ class Stores:
                 return
             time.sleep(0.1)
         raise Failed(f"the stores aren't ready within {self.patience} seconds: {json.dumps(told)}")
+
+
+def differences(stores: Stores) -> list[str]:
+    """In what stores differ."""
+    wrong = []
+    client = stores.connect(0)
+    client.ask("set", "last", "x")
+    client.close()
+    stores.wait()
+    contents = [contents_of(stores, place) for place in PLACES]
+    if contents[0] != contents[1] or contents[1] != contents[2]:
+        wrong.append(f"stores differ: {[len(one) for one in contents]} keys")
+    digests: dict[str, set[str]] = {}
+    for one in map(stores.info, PLACES):
+        digests.setdefault(one["muoswyld_checked"], set()).add(one["muoswyld_digest"])
+    if any(len(told) > 1 for told in digests.values()):
+        wrong.append(f"digests differ: {digests}")
+    return wrong
+
+
+def contents_of(stores: Stores, place: int) -> list[tuple[bytes, bytes]]:
+    """All keys of a store with their values."""
+    client = stores.connect(place)
+    keys = client.ask("keys", "*")
+    if not isinstance(keys, list):
+        raise Failed(f"KEYS: {keys!r}")
+    keys.sort()
+    values = [client.ask("get", key) for key in keys]
+    client.close()
+    return list(zip(keys, values, strict=True))

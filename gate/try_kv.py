@@ -25,7 +25,7 @@ import histories
 import linear
 from redis_lines import LINES, random_lines
 from resp import Client, Cut, Reply
-from stores import PLACES, Failed, Stores, free_port
+from stores import Failed, Stores, differences, free_port
 from words import end, words
 
 TOP = pathlib.Path(__file__).resolve().parent.parent
@@ -189,32 +189,8 @@ def by_python(stores: Stores, _: int) -> list[str]:
 
 def with_kills(stores: Stores, seed: int, seconds: float) -> list[str]:
     """Histories under kills are linearizable, and the stores are the same at the end."""
-    wrong = histories.faults(histories.kept(stores, seconds, seed))
-    client = Client(stores.ports[0])
-    client.ask("set", "last", "x")
-    client.close()
-    stores.wait()
-    contents = [contents_of(stores.ports[place]) for place in PLACES]
-    if contents[0] != contents[1] or contents[1] != contents[2]:
-        wrong.append(f"stores differ: {[len(one) for one in contents]} keys")
-    digests: dict[str, set[str]] = {}
-    for one in map(stores.info, PLACES):
-        digests.setdefault(one["muoswyld_checked"], set()).add(one["muoswyld_digest"])
-    if any(len(told) > 1 for told in digests.values()):
-        wrong.append(f"digests differ: {digests}")
-    return wrong
-
-
-def contents_of(port: int) -> list[tuple[bytes, bytes]]:
-    """All keys of a store with their values."""
-    client = Client(port)
-    keys = client.ask("keys", "*")
-    if not isinstance(keys, list):
-        raise Failed(f"KEYS: {keys!r}")
-    keys.sort()
-    values = [client.ask("get", key) for key in keys]
-    client.close()
-    return list(zip(keys, values, strict=True))
+    wrong = histories.faults(histories.kept(stores, seed, lambda: histories.kills(stores, seconds)))
+    return wrong + differences(stores)
 
 
 def main() -> str | int:

@@ -34,6 +34,8 @@ class Network:
     def __init__(self, places: int) -> None:
         self.places = places
         self.wire: subprocess.Popen[str] | None = None
+        # the places that have the rules of `deafen`
+        self.can_deafen: set[int] = set()
         self.prefix = f"mw{os.getpid()}-"
         self.has_namespaces = can("ip", "netns", "add", self.prefix + "bridge")
         if self.has_namespaces:
@@ -91,6 +93,22 @@ class Network:
             if percent and not can(*self.within(place), "nft", rule):
                 return False
         return True
+
+    def deafen(self, deaf: dict[int, set[int]]) -> None:
+        """From now on each place hears nothing of those that are named beside it, and all of the others."""
+        rules = "table netdev deaf { set from { type ether_addr; }; chain deaf { type filter hook ingress device eth0 priority 0; ether saddr @from drop; }; }"
+        begun = []
+        for place in range(self.places):
+            elements = ", ".join(self.hardware(other, 0) for other in sorted(deaf.get(place, set())))
+            added = f"add element netdev deaf from {{ {elements} }}\n" if elements else ""
+            script = f"{'' if place in self.can_deafen else rules}\nflush set netdev deaf from\n{added}"
+            self.can_deafen.add(place)
+            child = subprocess.Popen([*self.within(place), "nft", "-f", "-"], stdin=subprocess.PIPE, text=True)
+            begun.append((child, script))
+        for child, script in begun:
+            child.communicate(script)
+            if child.returncode:
+                raise OSError("nft refuses the rules by which packets are lost")
 
     def delay(self, wire: pathlib.Path, microseconds: int) -> bool:
         """From now on each packet takes so long more; False where that can't be had. 0 takes it back."""

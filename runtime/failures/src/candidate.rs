@@ -20,6 +20,8 @@ pub(crate) struct Candidate {
     pub(crate) wants: NameSet,
     /// Since when a majority suspects a name.
     since: BTreeMap<Name, Time>,
+    /// When it saw last that too few members would be left.
+    too_few_at: Option<Time>,
 }
 
 impl Failures {
@@ -83,6 +85,17 @@ impl Failures {
         wants.fold(NameSet::default(), |all, wants| all.and(&wants))
     }
 
+    /// The members that it hasn't heard lately. Without them nobody resets, so they count as gone where it is asked whether enough are
+    /// left: if the network splits and no side can go on, nobody is given up in vain.
+    fn unheard(&self) -> NameSet {
+        let mut unheard = self.view.without(&self.stopped);
+        unheard.remove(self.settings.name);
+        for (name, _) in self.fresh_peers() {
+            unheard.remove(*name);
+        }
+        unheard
+    }
+
     /// Begins and ends attempts. A candidate is a member that may act itself and that hears from a majority of the voters that they
     /// suspect a name. The lowest one begins at once, others a while later each. An attempt ends where the name is heard again, where
     /// no majority suspects it any more; it doesn't begin where too few members would be left.
@@ -93,29 +106,42 @@ impl Failures {
         let may = self.frozen_since().is_none() && self.view.has(self.settings.name);
         let before = self.candidate.wants;
         let mut wants = NameSet::default();
-        let mut turns = NameSet::default();
+        let mut others = NameSet::default();
         for name in self.view.without(&self.stopped).iter() {
             if !may || !self.is_suspected_by_majority(name) {
                 self.candidate.since.remove(&name);
                 continue;
             }
-            let since = *self.candidate.since.entry(name).or_insert(self.now);
-            if before.has(name) {
-                wants.insert(name);
-            } else if self.now >= since.after(self.rank() * 2 * self.fresh()) {
-                turns.insert(name);
-            }
+            self.candidate.since.entry(name).or_insert(self.now);
+            match before.has(name) {
+                true => wants.insert(name),
+                false => others.insert(name),
+            };
         }
-        let others = self.wanted_by_others();
-        for name in turns.iter() {
-            let one: NameSet = [name].into_iter().collect();
-            if self.leaves_enough(&wants.and(&one).and(&others)) {
+        for name in others.iter() {
+            if self.may_want(name, &wants) {
                 wants.insert(name);
                 self.note(Notice::Wants(name));
             }
         }
         self.is_urgent |= wants != before;
         self.candidate.wants = wants;
+    }
+
+    /// Whether it may begin an attempt against a name, beside those that it wants already. Where too few members would be left it waits
+    /// for a while longer than that lasts: when a network is back not all are heard in the same moment.
+    fn may_want(&mut self, name: Name, wants: &NameSet) -> bool {
+        let one: NameSet = [name].into_iter().collect();
+        let others = self.wanted_by_others().and(&self.unheard());
+        if !self.leaves_enough(&wants.and(&one).and(&others)) {
+            self.candidate.too_few_at = Some(self.now);
+            return false;
+        }
+        let turn = self.rank() * 2 * self.fresh();
+        let since = self.candidate.since.get(&name).copied();
+        let too_few_at = self.candidate.too_few_at;
+        let is_turn = since.is_some_and(|since| self.now >= since.after(turn));
+        is_turn && too_few_at.is_none_or(|at| self.now >= at.after(self.fresh()))
     }
 
     /// Refuses, as a voter, what a candidate wants: if it suspects the name itself, and has refused few enough. It needn't be allowed

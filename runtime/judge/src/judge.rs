@@ -232,9 +232,12 @@ impl<'a> Court<'a> {
                 continue;
             }
             if let Some((path, head)) = self.heads.remove(&name) {
-                let over = Over::new(self.asked.over.is_set());
-                self.lives
-                    .insert(name, Life::of(&path, head, over, self.reading.clone()));
+                let is_over = self.asked.over.is_set();
+                let over = Over::new(is_over);
+                let mut life = Life::of(&path, head, over, self.reading.clone());
+                // one that begins here after the end of the following may still run, as those may that began before
+                life.may_run = self.has_followed && is_over;
+                self.lives.insert(name, life);
             }
         }
         Ok(())
@@ -509,3 +512,6 @@ impl<'a> Court<'a> {
         Ok(self.judged)
     }
 }
+
+#[cfg(test)]
+mod tests;

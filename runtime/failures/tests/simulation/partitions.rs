@@ -109,6 +109,30 @@ fn partitions() {
     partition(5, 0b00111, 3, &[0b00111, 0b11000], 0b00111);
 }
 
+/// The network splits so that no side has both a majority of the voters and enough members: all wait, and nobody is refused in vain.
+#[test]
+fn whoever_could_not_go_on_without_them_refuses_nobody() {
+    for seed in 1..=20 {
+        for (places, voters, parts) in [
+            (4, 0b0111, [0b0011, 0b1100]),
+            (4, 0b0111, [0b0101, 0b1010]),
+            (5, 0b00111, [0b00011, 0b11100]),
+            (6, 0b11111, [0b001110, 0b110001]),
+        ] {
+            for shape in shapes(places, voters) {
+                let mut timed = Timed::new(shape, seed);
+                timed.at(SECOND / 2, Event::Links(groups(places, &parts)));
+                timed.at(3 * SECOND, Event::Links(all(places)));
+                timed.run(3 * SECOND);
+                assert_eq!(timed.refusals, 0, "{places} places, seed {seed}");
+                goes_on(&mut timed, seed);
+                assert!(timed.world.given_up.is_empty(), "seed {seed}");
+                assert_eq!(timed.view.len(), usize::from(places), "seed {seed}");
+            }
+        }
+    }
+}
+
 /// Random phases of links without a crash.
 fn phases(shape: Shape, seed: u64, one_way: bool) -> Timed {
     let mut draw = Draw::new(seed ^ 0x5a5a);
