@@ -29,7 +29,7 @@ names_all P set long h = all_from P 0 set (λ k low some.
 
 -- ---- sums
 
-sums_low : (f g : ℕ → ℕ) (xs : List ℕ) → All (λ x. f x ≤ g x) xs → sum_by f xs ≤ sum_by g xs
+pub sums_low : (f g : ℕ → ℕ) (xs : List ℕ) → All (λ x. f x ≤ g x) xs → sum_by f xs ≤ sum_by g xs
 sums_low f g [] h = omega arith
 sums_low f g (x ∷ xs) h =
     let one = All-head (λ x. f x ≤ g x) x xs h in
